@@ -1,0 +1,67 @@
+//! A record batch, which Kafka writes, checks and stores as one.
+
+ghost use Rattle.std.specs.Prelude.{◌≡◌};
+
+use crate::record::Records;
+use std::alloc::AllocError;
+use std::marker::Model;
+
+/// A record batch of magic 2.
+#[derive(Clone, Debug, Drop)]
+pub struct Batch {
+    pub base_offset: i64,
+    pub leader_epoch: i32,
+    pub attributes: i16,
+    pub base_timestamp: i64,
+    pub max_timestamp: i64,
+    pub producer: i64,
+    pub epoch: i16,
+    pub sequence: i32,
+    pub records: Records,
+}
+
+/// Record batches, in order, which contracts see as a list.
+#[derive(Debug, Drop)]
+pub struct Batches {
+    items: Vec<Batch>,
+}
+
+impl Model for Batches {
+    ghost use Rattle.std.specs.Prelude.{List};
+    ghost use Rattle.eos_batch.specs.declared.batch.Batch.{Batch};
+
+    ghost Value = { List Batch };
+
+    ghost view = { λ l. l.items.items };
+}
+
+impl Batches {
+    /// The list of these, in their order. It takes no memory.
+    pub fn new(items: Vec<Batch>) -> Batches
+        ensures { result ≡ items.items }
+    {
+        Batches { items }
+    }
+
+    pub fn as_slice(&self) -> &[Batch]
+        ensures { result.now ≡ self.now }
+    {
+        self.items.as_slice()
+    }
+
+    /// Gives the vector back. It takes no memory.
+    pub fn into_vec(self) -> Vec<Batch>
+        ensures { result.items ≡ self }
+    {
+        self.items
+    }
+}
+
+impl Clone for Batches {
+    ghost is_clone = { λ a b. b ≡ a };
+
+    fn clone(&self) -> Result<Batches, AllocError> {
+        let items = self.items.clone()?;
+        Ok(Batches { items })
+    }
+}

@@ -1,0 +1,12 @@
+//! Kafka's record batches (magic 2), as bytes and as values.
+#![tactic(auto)]
+
+mod batch;
+mod fault;
+mod marker;
+mod record;
+
+pub use batch::{Batch, Batches};
+pub use fault::BatchFault;
+pub use marker::{Kind, Marker};
+pub use record::{Header, Headers, Record, Records};
