@@ -1,0 +1,4 @@
+pub mod Groups
+pub mod NumberTexts
+pub mod Register
+pub mod VarintTexts

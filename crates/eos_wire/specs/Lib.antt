@@ -1,0 +1,4 @@
+pub mod Varint
+pub mod Crc
+pub mod Numbers
+pub mod Fields

@@ -1,0 +1,109 @@
+//! Fields, read one after the other from a slice. A read that finds too few bytes leaves the reader where it was.
+
+ghost use Rattle.std.specs.Prelude.{◌≡◌, length, IfNone};
+ghost use Rattle.std.specs.Option.{option_copied};
+ghost use Rattle.eos_wire.specs.Varint.{uvarint_at};
+ghost use Rattle.eos_wire.specs.Numbers.{bytes_at, i8_at, i16_at, i32_at, i64_at, u32_at};
+ghost use Rattle.eos_wire.specs.Fields.{Reads, with_rest};
+
+use crate::varint::read_uvarint;
+use std::marker::Model;
+
+/// The bytes that are left to read.
+#[derive(Drop)]
+pub struct Fields<'a> {
+    rest: &'a [u8],
+}
+
+impl<'a> Model for Fields<'a> {
+    ghost use Rattle.std.specs.Prelude.{List, ℕ};
+
+    ghost Value = { List ℕ };
+
+    ghost view = { λ f. f.rest.now };
+}
+
+impl<'a> Fields<'a> {
+    pub fn new(bytes: &'a [u8]) -> Fields<'a>
+        ensures { result ≡ bytes.now }
+    {
+        Fields { rest: bytes }
+    }
+
+    /// How many bytes are left.
+    pub fn left(&self) -> usize
+        ensures { result ≡ length self.now }
+    {
+        self.rest.len()
+    }
+
+    /// The next `len` bytes.
+    pub fn take(&mut self, len: usize) -> Option<&'a [u8]>
+        ensures read { Reads (option_copied result) self.new (bytes_at len self.old) }
+        ensures stays { IfNone result (self.new ≡ self.old) }
+    {
+        if self.rest.len() < len {
+            return None;
+        }
+        let (front, rest) = self.rest.split_at(len);
+        self.rest = rest;
+        Some(front)
+    }
+
+    #[tactic(auto, unfolding(crate::specs::Numbers::i8_at))]
+    pub fn i8(&mut self) -> Option<i8>
+        ensures read { Reads result self.new (i8_at self.old) }
+        ensures stays { IfNone result (self.new ≡ self.old) }
+    {
+        let bytes = self.take(1)?;
+        Some(i8::from_be_bytes([bytes[0]]))
+    }
+
+    #[tactic(auto, unfolding(crate::specs::Numbers::i16_at))]
+    pub fn i16(&mut self) -> Option<i16>
+        ensures read { Reads result self.new (i16_at self.old) }
+        ensures stays { IfNone result (self.new ≡ self.old) }
+    {
+        let bytes = self.take(2)?;
+        Some(i16::from_be_bytes([bytes[0], bytes[1]]))
+    }
+
+    #[tactic(auto, unfolding(crate::specs::Numbers::i32_at))]
+    pub fn i32(&mut self) -> Option<i32>
+        ensures read { Reads result self.new (i32_at self.old) }
+        ensures stays { IfNone result (self.new ≡ self.old) }
+    {
+        let bytes = self.take(4)?;
+        Some(i32::from_be_bytes([bytes[0], bytes[1], bytes[2], bytes[3]]))
+    }
+
+    #[tactic(auto, unfolding(crate::specs::Numbers::i64_at))]
+    pub fn i64(&mut self) -> Option<i64>
+        ensures read { Reads result self.new (i64_at self.old) }
+        ensures stays { IfNone result (self.new ≡ self.old) }
+    {
+        let bytes = self.take(8)?;
+        Some(i64::from_be_bytes([
+            bytes[0], bytes[1], bytes[2], bytes[3], bytes[4], bytes[5], bytes[6], bytes[7],
+        ]))
+    }
+
+    #[tactic(auto, unfolding(crate::specs::Numbers::u32_at))]
+    pub fn u32(&mut self) -> Option<u32>
+        ensures read { Reads result self.new (u32_at self.old) }
+        ensures stays { IfNone result (self.new ≡ self.old) }
+    {
+        let bytes = self.take(4)?;
+        Some(u32::from_be_bytes([bytes[0], bytes[1], bytes[2], bytes[3]]))
+    }
+
+    /// An unsigned varint.
+    pub fn uvarint(&mut self) -> Option<u32>
+        ensures read { Reads result self.new (with_rest self.old (uvarint_at self.old)) }
+        ensures stays { IfNone result (self.new ≡ self.old) }
+    {
+        let (number, len) = read_uvarint(self.rest)?;
+        self.take(len)?;
+        Some(number)
+    }
+}

@@ -1,0 +1,11 @@
+//! The numbers and the checksum of Kafka's record formats: variable-length numbers, CRC-32C, and fields read one after
+//! the other. The codecs of record batches and of the internal logs stand on these.
+#![tactic(auto)]
+
+mod crc;
+mod fields;
+mod varint;
+
+pub use crc::crc32c;
+pub use fields::Fields;
+pub use varint::{read_uvarint, read_varint, read_varlong};
