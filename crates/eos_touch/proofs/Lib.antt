@@ -1,0 +1,4 @@
+pub mod TableRows
+pub mod AllTouches
+pub mod CountingUp
+pub mod NeighboursLaw

@@ -1,0 +1,4 @@
+pub mod Pair
+pub mod Rules
+pub mod Neighbours
+pub mod Names
