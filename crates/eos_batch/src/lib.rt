@@ -5,6 +5,7 @@ mod batch;
 mod fault;
 mod marker;
 mod record;
+mod rules;
 
 pub use batch::{Batch, Batches};
 pub use fault::BatchFault;

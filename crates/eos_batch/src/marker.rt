@@ -1,4 +1,21 @@
 //! What a control batch says of a transaction.
+//!
+//! | Field | Width | Meaning |
+//! |---|---|---|
+//! | key: version | i16 | 0 or more |
+//! | key: type | i16 | 0 ABORT, 1 COMMIT, other types mean nothing here |
+//! | value of the two: version | i16 | 0 or more |
+//! | value of the two: coordinatorEpoch | i32 | of the coordinator that wrote it |
+//!
+//! The source is "Control Batches" of the Message Format in Kafka's documentation. Further bytes are ignored.
+
+ghost use Rattle.std.specs.Prelude.{◌≡◌};
+ghost use Rattle.eos_batch.specs.Marker.{kind_of, control_type, coordinator_epoch_of, end_kind, marker_of};
+
+use crate::batch::Batch;
+use crate::rules::is_control;
+use bytes::Bytes;
+use eos_wire::Fields;
 
 /// How a transaction ended.
 #[derive(Clone, Copy, Debug, PartialEq, Eq, PartialOrd, Ord)]
@@ -14,4 +31,73 @@ pub struct Marker {
     pub epoch: i16,
     pub kind: Kind,
     pub coordinator_epoch: i32,
+}
+
+fn kind_of(number: i16) -> Option<Kind>
+    ensures { result ≡ kind_of number }
+{
+    match number {
+        0 => Some(Kind::Abort),
+        1 => Some(Kind::Commit),
+        _ => None,
+    }
+}
+
+/// The type of a control record, by its key.
+pub(crate) fn control_type(key: &Option<Bytes>) -> Option<i16>
+    ensures { result ≡ control_type key.now }
+{
+    let Some(bytes) = key else {
+        return None;
+    };
+    let mut fields = Fields::new(bytes.as_slice());
+    let version = fields.i16()?;
+    if version < 0 {
+        return None;
+    }
+    fields.i16()
+}
+
+/// The coordinator's epoch, by the value of an end marker.
+pub(crate) fn coordinator_epoch(value: &Option<Bytes>) -> Option<i32>
+    ensures { result ≡ coordinator_epoch_of value.now }
+{
+    let Some(bytes) = value else {
+        return None;
+    };
+    let mut fields = Fields::new(bytes.as_slice());
+    let version = fields.i16()?;
+    if version < 0 {
+        return None;
+    }
+    fields.i32()
+}
+
+/// The kind of an end marker, by its key.
+pub(crate) fn end_kind(key: &Option<Bytes>) -> Option<Kind>
+    ensures { result ≡ end_kind key.now }
+{
+    kind_of(control_type(key)?)
+}
+
+impl Batch {
+    /// What this batch says where it is an end marker.
+    pub fn marker(&self) -> Option<Marker>
+        ensures { result ≡ marker_of self.now }
+    {
+        if !is_control(self.attributes) {
+            return None;
+        }
+        let [only] = self.records.as_slice() else {
+            return None;
+        };
+        let kind = end_kind(&only.key)?;
+        let coordinator_epoch = coordinator_epoch(&only.value)?;
+        Some(Marker {
+            producer: self.producer,
+            epoch: self.epoch,
+            kind,
+            coordinator_epoch,
+        })
+    }
 }

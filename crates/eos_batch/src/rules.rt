@@ -1,0 +1,71 @@
+//! What a batch keeps beside its layout, as tests: reading asks them of what was read, and writing before it writes.
+
+ghost use Rattle.std.specs.Prelude.{◌≡◌, IsTrue};
+ghost use Rattle.eos_batch.specs.Attributes.{is_compressed, is_transactional, is_control};
+ghost use Rattle.eos_batch.specs.Marker.{is_control_record, has_right_control};
+ghost use Rattle.eos_batch.specs.Rules.{has_right_producer};
+
+use crate::batch::Batch;
+use crate::marker::{control_type, coordinator_epoch, end_kind};
+use crate::record::Record;
+
+const COMPRESSION: i16 = 0x07;
+
+const TRANSACTIONAL: i16 = 0x10;
+
+const CONTROL: i16 = 0x20;
+
+pub(crate) fn is_compressed(attributes: i16) -> bool
+    ensures { result ≡ is_compressed attributes }
+{
+    attributes & COMPRESSION != 0
+}
+
+pub(crate) fn is_transactional(attributes: i16) -> bool
+    ensures { result ≡ is_transactional attributes }
+{
+    attributes & TRANSACTIONAL != 0
+}
+
+pub(crate) fn is_control(attributes: i16) -> bool
+    ensures { result ≡ is_control attributes }
+{
+    attributes & CONTROL != 0
+}
+
+fn is_control_record(only: &Record) -> bool
+    ensures { result ≡ is_control_record only.now }
+{
+    if end_kind(&only.key).is_some() {
+        coordinator_epoch(&only.value).is_some()
+    } else {
+        control_type(&only.key).is_some()
+    }
+}
+
+/// A control batch is one control record that reads.
+pub(crate) fn has_right_control(batch: &Batch) -> bool
+    ensures { result ≡ has_right_control batch.now }
+{
+    if !is_control(batch.attributes) {
+        return true;
+    }
+    match batch.records.as_slice() {
+        [only] => is_control_record(only),
+        _ => false,
+    }
+}
+
+/// Transactional data and end markers name a producer, and a producer has an epoch.
+pub(crate) fn has_right_producer(batch: &Batch) -> bool
+    ensures { result ≡ has_right_producer batch.now }
+{
+    if batch.producer >= 0 {
+        return batch.epoch >= 0;
+    }
+    if is_control(batch.attributes) {
+        batch.marker().is_none()
+    } else {
+        !is_transactional(batch.attributes)
+    }
+}
