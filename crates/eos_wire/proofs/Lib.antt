@@ -1,4 +1,5 @@
 pub mod Groups
 pub mod NumberTexts
 pub mod Register
+pub mod Spellings
 pub mod VarintTexts

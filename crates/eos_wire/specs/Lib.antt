@@ -1,4 +1,5 @@
-pub mod Varint
 pub mod Crc
-pub mod Numbers
 pub mod Fields
+pub mod Numbers
+pub mod Varint
+pub mod Writing

@@ -5,7 +5,9 @@
 mod crc;
 mod fields;
 mod varint;
+mod writing;
 
 pub use crc::crc32c;
 pub use fields::Fields;
 pub use varint::{read_uvarint, read_varint, read_varlong};
+pub use writing::{write_uvarint, write_varint, write_varlong};
