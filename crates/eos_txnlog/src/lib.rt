@@ -1,0 +1,15 @@
+//! The records of `__transaction_state`, the log in which Kafka's transaction coordinator keeps what it decided: their
+//! keys and values as bytes and as values, and which record of a transactional id may follow which.
+#![tactic(auto)]
+
+mod decision;
+mod fault;
+mod status;
+mod step;
+mod value;
+
+pub use decision::Decision;
+pub use fault::RecordFault;
+pub use status::Status;
+pub use step::{TxnFault, step_ok};
+pub use value::{Numbers, Partitions, TopicPartitions, TxnValue};

@@ -1,0 +1,54 @@
+//! Where a transactional id stands.
+
+ghost use Rattle.std.specs.Prelude.{◌≡◌};
+ghost use Rattle.eos_txnlog.specs.Status.{status_number, status_of};
+
+/// The state of a transactional id, in the order of Kafka's numbers, from 0.
+#[derive(Clone, Copy, Debug, PartialEq, Eq)]
+pub enum Status {
+    Empty,
+    Ongoing,
+    PrepareCommit,
+    PrepareAbort,
+    CompleteCommit,
+    CompleteAbort,
+    /// The id has expired. It means nothing here.
+    Dead,
+    /// An epoch is being fenced. It means nothing here.
+    PrepareEpochFence,
+}
+
+impl Status {
+    /// The status of a number, where it has one.
+    pub(crate) fn from_number(number: i8) -> Option<Status>
+        ensures { result ≡ status_of number }
+    {
+        match number {
+            0 => Some(Status::Empty),
+            1 => Some(Status::Ongoing),
+            2 => Some(Status::PrepareCommit),
+            3 => Some(Status::PrepareAbort),
+            4 => Some(Status::CompleteCommit),
+            5 => Some(Status::CompleteAbort),
+            6 => Some(Status::Dead),
+            7 => Some(Status::PrepareEpochFence),
+            _ => None,
+        }
+    }
+
+    /// Its number.
+    pub(crate) fn number(self) -> i8
+        ensures { result ≡ status_number self }
+    {
+        match self {
+            Status::Empty => 0,
+            Status::Ongoing => 1,
+            Status::PrepareCommit => 2,
+            Status::PrepareAbort => 3,
+            Status::CompleteCommit => 4,
+            Status::CompleteAbort => 5,
+            Status::Dead => 6,
+            Status::PrepareEpochFence => 7,
+        }
+    }
+}
