@@ -4,6 +4,7 @@
 
 mod crc;
 mod fields;
+mod tables;
 mod varint;
 mod writing;
 
