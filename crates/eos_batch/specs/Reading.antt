@@ -11,7 +11,7 @@
 --   Trailing    bytes are left after the last record
 --   Control     a control batch is not one control record that reads
 --   Producer    transactional data or an end marker names no producer, or a producer has no epoch
-use Rattle.std.specs.Prelude.{◌≡◌, ℕ, zero, suc, ◌+◌, ℤ, pos, negsuc, ◌+ℤ◌, List, [], ◌∷◌, length, take, drop, Option, Some, None, Result, Ok, Err, Bool, true, false, nat_lt, ◌==◌, ◌&&◌, ◌^◌, not, int_lt, int_le, if◌then◌else◌, ⊤}
+use Rattle.std.specs.Prelude.{◌≡◌, ℕ, zero, suc, ◌+◌, ◌-◌, ℤ, pos, negsuc, ◌+ℤ◌, List, [], ◌∷◌, length, take, drop, Option, Some, None, Result, Ok, Err, Bool, true, false, nat_lt, ◌==◌, ◌&&◌, ◌^◌, not, int_lt, int_le, if◌then◌else◌, ⊤}
 use Rattle.std.specs.Ordering.{int_eq}
 use Rattle.eos_wire.specs.Varint.{varint_at, varlong_at}
 use Rattle.eos_wire.specs.Numbers.{i8_at, i16_at, i32_at, i64_at, u32_at}
@@ -21,6 +21,7 @@ use Rattle.eos_batch.specs.declared.fault.BatchFault.TheVariants as faults
 use Rattle.eos_batch.specs.declared.record.Header.{Header}
 use Rattle.eos_batch.specs.declared.record.Record.{Record}
 use Rattle.eos_batch.specs.declared.batch.Batch.{Batch}
+use Rattle.eos_batch.specs.declared.decode.Head.{Head}
 use Rattle.eos_batch.specs.Attributes.{is_compressed}
 use Rattle.eos_batch.specs.Marker.{has_right_control}
 use Rattle.eos_batch.specs.Rules.{has_right_producer}
@@ -179,18 +180,9 @@ sealed_at bytes = do
   checksum ← or_fault faults.Truncated (u32_at right.1)
   must (checksum.0 == crc32c_of checksum.1) faults.Crc (leader_epoch.0, checksum.1)
 
--- the count fits the last offset delta, and the offsets lie from 0 to the greatest i64
-abbrev pub counts : ℤ → ℤ → ℤ → Bool
-counts base last count = int_lt (pos 0) count && int_eq count (last +ℤ pos 1) && int_le (pos 0) base && int_le (base +ℤ count) (pos (2 ^ 63))
-
--- the records, whose count says how many
-abbrev pub counted_records_at : ℤ → List ℕ → Result (List Record) BatchFault
-counted_records_at (pos n) bytes = records_at n 0 bytes >>= used_up faults.Trailing
-counted_records_at (negsuc n) bytes = Err faults.Count
-
--- what the checksum covers
-unfoldable pub covered_at : ℤ → ℤ → List ℕ → Result Batch BatchFault
-covered_at base leader_epoch bytes = do
+-- the fields before the records
+unfoldable pub head_at : ℤ → ℤ → List ℕ → Result (Head × List ℕ) BatchFault
+head_at base leader_epoch bytes = do
   attributes ← or_fault faults.Truncated (i16_at bytes)
   last ← or_fault faults.Truncated (i32_at attributes.1)
   base_timestamp ← or_fault faults.Truncated (i64_at last.1)
@@ -199,10 +191,7 @@ covered_at base leader_epoch bytes = do
   epoch ← or_fault faults.Truncated (i16_at producer.1)
   sequence ← or_fault faults.Truncated (i32_at epoch.1)
   count ← or_fault faults.Truncated (i32_at sequence.1)
-  plain ← must (not (is_compressed attributes.0)) faults.Compressed count
-  fitting ← must (counts base last.0 plain.0) faults.Count plain
-  records ← counted_records_at fitting.0 fitting.1
-  Ok (record {
+  Ok (record { last_offset_delta = last.0; count = count.0; batch = record {
     base_offset = base;
     leader_epoch = leader_epoch;
     attributes = attributes.0;
@@ -211,8 +200,34 @@ covered_at base leader_epoch bytes = do
     producer = producer.0;
     epoch = epoch.0;
     sequence = sequence.0;
-    records = records;
-  })
+    records = [];
+  } }, count.1)
+
+-- there is a record, and the count is the last offset delta plus 1
+abbrev pub count_fits : Head → Bool
+count_fits head = int_lt (pos 0) head.count && int_eq head.count (head.last_offset_delta +ℤ pos 1)
+
+-- the offsets lie from 0 to the greatest i64
+abbrev pub offsets_fit : Head → Bool
+offsets_fit head = int_le (pos 0) head.batch.base_offset && int_le (head.batch.base_offset +ℤ head.last_offset_delta) (pos (2 ^ 63 - 1))
+
+-- so many records, which take all bytes
+abbrev pub all_records_at : ℤ → List ℕ → Result (List Record) BatchFault
+all_records_at (pos n) bytes = records_at n 0 bytes >>= used_up faults.Trailing
+all_records_at (negsuc n) bytes = Err faults.Count
+
+abbrev pub with_records : Batch → List Record → Batch
+with_records b rs = record b { records = rs }
+
+-- the batch whose checksum covers these bytes
+unfoldable pub covered_at : ℤ → ℤ → List ℕ → Result Batch BatchFault
+covered_at base leader_epoch bytes = do
+  head ← head_at base leader_epoch bytes
+  plain ← must (not (is_compressed head.0.batch.attributes)) faults.Compressed head
+  counted ← must (count_fits plain.0) faults.Count plain
+  fitting ← must (offsets_fit counted.0) faults.Count counted
+  records ← all_records_at fitting.0.count fitting.1
+  Ok (with_records fitting.0.batch records)
 
 -- The batch at the front and how many bytes it takes, or the first step that fails.
 unfoldable pub batch_at : List ℕ → Result (Batch × ℕ) BatchFault
@@ -221,5 +236,5 @@ batch_at bytes = do
   sealed ← sealed_at frame.1
   batch ← covered_at frame.0 sealed.0 sealed.1
   controlled ← must (has_right_control batch) faults.Control batch
-  produced ← must (has_right_producer controlled) faults.Producer controlled
-  Ok (produced, 12 + length frame.1)
+  right ← must (has_right_producer controlled) faults.Producer controlled
+  Ok (right, 12 + length frame.1)

@@ -2,12 +2,16 @@
 #![tactic(auto)]
 
 mod batch;
+mod cursor;
+mod decode;
 mod fault;
 mod marker;
+mod read_record;
 mod record;
 mod rules;
 
 pub use batch::{Batch, Batches};
+pub use decode::decode_batch;
 pub use fault::BatchFault;
 pub use marker::{Kind, Marker};
 pub use record::{Header, Headers, Record, Records};

@@ -1,0 +1,3 @@
+pub mod BatchFaults
+pub mod CursorParts
+pub mod ReadLoops

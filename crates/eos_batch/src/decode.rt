@@ -1,0 +1,204 @@
+//! Reading a record batch: the tests in their order, each before what stands after it.
+//!
+//! | Field | Width | Meaning |
+//! |---|---|---|
+//! | baseOffset | i64 | the first record's offset |
+//! | batchLength | i32 | of the bytes that follow, at least 49 |
+//! | partitionLeaderEpoch | i32 | not covered by the crc, since a broker sets it |
+//! | magic | i8 | 2 |
+//! | crc | u32 | CRC-32C of the bytes from the attributes to the end |
+//! | attributes | i16 | bits 0 to 2 compression, 4 transactional, 5 control |
+//! | lastOffsetDelta | i32 | one below the number of records |
+//! | baseTimestamp, maxTimestamp | i64 | mean nothing here |
+//! | producerId | i64 | below 0: no idempotence |
+//! | producerEpoch | i16 | |
+//! | baseSequence | i32 | of the first record |
+//! | record count | i32 | at least 1 |
+//! | records | | see the reading of records |
+//!
+//! The source is "Record Batch" of the Message Format in Kafka's documentation. All numbers are big-endian.
+
+ghost use Rattle.std.specs.Prelude.{◌≡◌, ◌≤◌, length, drop};
+ghost use Rattle.eos_batch.specs.Attributes.{is_compressed};
+ghost use Rattle.eos_batch.specs.Reading.{Answers, Gives, count_fits, offsets_fit, frame_at, sealed_at, head_at, covered_at, all_records_at, batch_at};
+
+use crate::batch::Batch;
+use crate::cursor::Cursor;
+use crate::fault::BatchFault;
+use crate::read_record::records_of;
+use crate::record::Records;
+use crate::rules::{has_right_control, has_right_producer, is_compressed};
+use bytes::Bytes;
+use eos_wire::crc32c;
+use std::alloc::Global;
+
+const HEAD: usize = 12;
+const LEAST_LENGTH: i32 = 49;
+const MAGIC: i8 = 2;
+
+/// The fields before the records, in a batch that has none yet.
+#[derive(Drop)]
+struct Head {
+    batch: Batch,
+    last_offset_delta: i32,
+    count: i32,
+}
+
+impl Head {
+    fn is_compressed(&self) -> bool
+        ensures { result ≡ is_compressed self.now.batch.attributes }
+    {
+        is_compressed(self.batch.attributes)
+    }
+
+    /// There is a record, and the count is the last offset delta plus 1.
+    fn count_fits(&self) -> bool
+        ensures { result ≡ count_fits self.now }
+    {
+        self.count > 0 && self.count - 1 == self.last_offset_delta
+    }
+
+    /// No offset is below 0 or past the greatest i64.
+    fn offsets_fit(&self) -> bool
+        ensures { result ≡ offsets_fit self.now }
+    {
+        let base_offset = self.batch.base_offset;
+        base_offset >= 0 && i64::from(self.last_offset_delta) <= i64::MAX - base_offset
+    }
+
+    /// So many records, which take all bytes.
+    fn records(&self, alloc: Global, rest: &mut Cursor) -> Result<Records, BatchFault>
+        ensures { Answers result (all_records_at self.now.count rest.old) }
+    {
+        if self.count < 0 {
+            return Err(BatchFault::Count);
+        }
+        let records = records_of(alloc, rest, self.count as u32)?;
+        if !rest.is_empty() {
+            return Err(BatchFault::Trailing);
+        }
+        Ok(records)
+    }
+}
+
+/// The base offset, and the bytes that the length counts.
+#[tactic(auto, unfolding(crate::specs::Reading::frame_at))]
+fn frame_of<'a>(rest: &mut Cursor<'a>) -> Result<(i64, Cursor<'a>), BatchFault>
+    ensures { Answers result (frame_at rest.old) }
+{
+    let base_offset = rest.i64().ok_or(BatchFault::Truncated)?;
+    let len = rest.i32().ok_or(BatchFault::Truncated)?;
+    if len < LEAST_LENGTH {
+        return Err(BatchFault::Length);
+    }
+    let len = len as usize;
+    if rest.len() < len {
+        return Err(BatchFault::Truncated);
+    }
+    Ok((base_offset, rest.part(len)))
+}
+
+/// The leader epoch of a batch with the right checksum.
+#[tactic(auto, unfolding(crate::specs::Reading::sealed_at))]
+fn sealed_of(rest: &mut Cursor) -> Result<i32, BatchFault>
+    ensures { Gives result rest.new (sealed_at rest.old) }
+{
+    let leader_epoch = rest.i32().ok_or(BatchFault::Truncated)?;
+    let magic = rest.i8().ok_or(BatchFault::Truncated)?;
+    if magic != MAGIC {
+        return Err(BatchFault::Magic);
+    }
+    let checksum = rest.u32().ok_or(BatchFault::Truncated)?;
+    if checksum != crc32c(rest.rest()) {
+        return Err(BatchFault::Crc);
+    }
+    Ok(leader_epoch)
+}
+
+#[tactic(auto, unfolding(crate::specs::Reading::head_at))]
+fn head_of(
+    alloc: Global,
+    rest: &mut Cursor,
+    base_offset: i64,
+    leader_epoch: i32,
+) -> Result<Head, BatchFault>
+    ensures { Gives result rest.new (head_at base_offset leader_epoch rest.old) }
+{
+    let attributes = rest.i16().ok_or(BatchFault::Truncated)?;
+    let last_offset_delta = rest.i32().ok_or(BatchFault::Truncated)?;
+    let base_timestamp = rest.i64().ok_or(BatchFault::Truncated)?;
+    let max_timestamp = rest.i64().ok_or(BatchFault::Truncated)?;
+    let producer = rest.i64().ok_or(BatchFault::Truncated)?;
+    let epoch = rest.i16().ok_or(BatchFault::Truncated)?;
+    let sequence = rest.i32().ok_or(BatchFault::Truncated)?;
+    let count = rest.i32().ok_or(BatchFault::Truncated)?;
+    Ok(Head {
+        batch: Batch {
+            base_offset,
+            leader_epoch,
+            attributes,
+            base_timestamp,
+            max_timestamp,
+            producer,
+            epoch,
+            sequence,
+            records: Records::new(Vec::new(alloc)),
+        },
+        last_offset_delta,
+        count,
+    })
+}
+
+/// The batch whose checksum covers these bytes.
+#[tactic(auto, unfolding(crate::specs::Reading::covered_at))]
+fn covered_of(
+    alloc: Global,
+    rest: &mut Cursor,
+    base_offset: i64,
+    leader_epoch: i32,
+) -> Result<Batch, BatchFault>
+    ensures { Answers result (covered_at base_offset leader_epoch rest.old) }
+{
+    let head = head_of(alloc, rest, base_offset, leader_epoch)?;
+    if head.is_compressed() {
+        return Err(BatchFault::Compressed);
+    }
+    if !head.count_fits() {
+        return Err(BatchFault::Count);
+    }
+    if !head.offsets_fit() {
+        return Err(BatchFault::Count);
+    }
+    let records = head.records(alloc, rest)?;
+    let mut batch = head.batch;
+    batch.records = records;
+    Ok(batch)
+}
+
+/// The record batch at `at`, and how many bytes it takes.
+///
+/// # Errors
+/// The first test that fails, in the order of `BatchFault`, but that bytes which end before the batch does are
+/// `Truncated` also where its length is known to be right. `OutOfMemory` comes where a growth is refused.
+#[tactic(auto, unfolding(crate::specs::Reading::batch_at))]
+pub fn decode_batch(
+    alloc: Global,
+    bytes: &Bytes,
+    at: usize,
+) -> Result<(Batch, usize), BatchFault>
+    requires { at ≤ length bytes.now }
+    ensures steps { Answers result (batch_at (drop at bytes.now)) }
+{
+    let mut rest = Cursor::new(bytes, at);
+    let (base_offset, mut body) = frame_of(&mut rest)?;
+    let taken = HEAD + body.len();
+    let leader_epoch = sealed_of(&mut body)?;
+    let batch = covered_of(alloc, &mut body, base_offset, leader_epoch)?;
+    if !has_right_control(&batch) {
+        return Err(BatchFault::Control);
+    }
+    if !has_right_producer(&batch) {
+        return Err(BatchFault::Producer);
+    }
+    Ok((batch, taken))
+}
