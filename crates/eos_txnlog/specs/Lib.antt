@@ -1,3 +1,5 @@
 pub mod Names
 pub mod Status
 pub mod Steps
+pub mod Text
+pub mod Reading

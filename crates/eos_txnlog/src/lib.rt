@@ -4,12 +4,18 @@
 
 mod decision;
 mod fault;
+mod field;
+mod form;
+mod key;
+mod reading;
 mod status;
 mod step;
 mod value;
 
 pub use decision::Decision;
 pub use fault::RecordFault;
+pub use key::decode_key;
+pub use reading::decode_value;
 pub use status::Status;
 pub use step::{TxnFault, step_ok};
 pub use value::{Numbers, Partitions, TopicPartitions, TxnValue};

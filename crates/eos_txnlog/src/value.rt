@@ -1,6 +1,6 @@
 //! What the coordinator wrote of a transactional id.
 
-ghost use Rattle.std.specs.Prelude.{◌≡◌};
+ghost use Rattle.std.specs.Prelude.{◌≡◌, ◌++◌, ◌∷◌, [], OnOk};
 
 use crate::status::Status;
 use bytes::Bytes;
@@ -27,6 +27,14 @@ impl Numbers {
         ensures { result ≡ items.items }
     {
         Numbers { items }
+    }
+
+    /// Puts a number last.
+    pub(crate) fn push(&mut self, number: i32) -> Result<(), AllocError>
+        ensures { OnOk result (self.new ≡ self.old ++ number ∷ []) }
+    {
+        self.items.push(number)?;
+        Ok(())
     }
 
     pub fn as_slice(&self) -> &[i32]
@@ -80,6 +88,14 @@ impl Partitions {
         ensures { result ≡ items.items }
     {
         Partitions { items }
+    }
+
+    /// Puts a topic last.
+    pub(crate) fn push(&mut self, topic: TopicPartitions) -> Result<(), AllocError>
+        ensures { OnOk result (self.new ≡ self.old ++ topic ∷ []) }
+    {
+        self.items.push(topic)?;
+        Ok(())
     }
 
     pub fn as_slice(&self) -> &[TopicPartitions]

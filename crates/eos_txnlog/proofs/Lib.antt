@@ -1,0 +1,4 @@
+pub mod Loop
+pub mod Takes
+pub mod FieldTexts
+pub mod ValueTexts

@@ -1,0 +1,6 @@
+use Rattle.std.proofs.Common.{◌≡◌, ◌-◌}
+use Rattle.eos_txnlog.specs.Reading.{many_from, tagged_from, skipped}
+use Rattle.eos_txnlog.proofs.field.skip_many_tagged.Given as goal
+
+abbrev pub invariant-loop : goal.invariant-loop
+invariant-loop l = skipped (many_from tagged_from (l.count - l.counter) l.rest) ≡ skipped (many_from tagged_from l.count l.fn.rest)

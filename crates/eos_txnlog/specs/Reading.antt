@@ -1,0 +1,212 @@
+-- Reading a key or a value from left to right, with the first fault that is met: the order of the refusals.
+use Rattle.std.specs.Prelude.{◌≡◌, ℕ, zero, suc, ℤ, pos, negsuc, List, [], ◌∷◌, length, Option, Some, None, unwrap_or, Result, Ok, Err, nat_lt, ◌==◌, if◌then◌else◌, ⊤}
+use Rattle.std.specs.Ordering.{int_eq}
+use Rattle.eos_wire.specs.Numbers.{bytes_at, i8_at, i16_at, i32_at, i64_at}
+use Rattle.eos_wire.specs.Varint.{uvarint_at}
+use Rattle.eos_wire.specs.Fields.{with_rest}
+use Rattle.eos_txnlog.specs.declared.fault.RecordFault.{RecordFault}
+use Rattle.eos_txnlog.specs.declared.fault.RecordFault.TheVariants as faults
+use Rattle.eos_txnlog.specs.declared.form.Form.{Form}
+use Rattle.eos_txnlog.specs.declared.form.Form.TheVariants.{Plain, Flexible}
+use Rattle.eos_txnlog.specs.declared.status.Status.{Status}
+use Rattle.eos_txnlog.specs.declared.value.TopicPartitions.{TopicPartitions}
+use Rattle.eos_txnlog.specs.declared.value.TxnValue.{TxnValue}
+use Rattle.eos_txnlog.specs.Status.{status_of}
+use Rattle.eos_txnlog.specs.Text.{form_of}
+
+infixl 10 ◌>>=◌
+abbrev pub ◌>>=◌ : {A B : Type 0} → Result A RecordFault → (A → Result B RecordFault) → Result B RecordFault
+(Ok x) >>= f = f x
+(Err e) >>= f = Err e
+
+-- ---- what a contract says of reading
+
+-- A fault is the one that reading gives, unless memory ran out.
+abbrev pub Fails : {Y : Type 0} → RecordFault → Result Y RecordFault → Type 0
+Fails faults.OutOfMemory read = ⊤
+Fails faults.Short read = read ≡ Err faults.Short
+Fails faults.Version read = read ≡ Err faults.Version
+Fails faults.Status read = read ≡ Err faults.Status
+Fails faults.Length read = read ≡ Err faults.Length
+Fails faults.Trailing read = read ≡ Err faults.Trailing
+
+-- The answer is what reading gives, unless memory ran out.
+abbrev pub Answers : {X : Type 0} → Result X RecordFault → Result X RecordFault → Type 0
+Answers (Ok x) read = read ≡ Ok x
+Answers (Err e) read = Fails e read
+
+-- The answer and the bytes that are left are what reading gives, unless memory ran out.
+abbrev pub Gives : {X : Type 0} → Result X RecordFault → List ℕ → Result (X × List ℕ) RecordFault → Type 0
+Gives (Ok x) rest read = read ≡ Ok (x, rest)
+Gives (Err e) rest read = Fails e read
+
+-- ---- numbers
+
+-- a value at the front; bytes that run out are Short
+abbrev pub present : {X : Type 0} → Option X → Result X RecordFault
+present None = Err faults.Short
+present (Some x) = Ok x
+
+-- A varint that is not finished within five bytes is too long; where fewer are left, the bytes run out.
+abbrev pub unfinished : List ℕ → RecordFault
+unfinished bytes = if nat_lt (length bytes) 5 then faults.Short else faults.Length
+
+abbrev pub finished : List ℕ → Option (ℕ × List ℕ) → Result (ℕ × List ℕ) RecordFault
+finished bytes None = Err (unfinished bytes)
+finished bytes (Some read) = Ok read
+
+unfoldable pub uvarint_from : List ℕ → Result (ℕ × List ℕ) RecordFault
+uvarint_from bytes = finished bytes (with_rest bytes (uvarint_at bytes))
+
+abbrev pub known_status : Option Status → Result Status RecordFault
+known_status None = Err faults.Status
+known_status (Some status) = Ok status
+
+unfoldable pub status_from : List ℕ → Result (Status × List ℕ) RecordFault
+status_from bytes = do
+  number ← present (i8_at bytes)
+  status ← known_status (status_of number.0)
+  Ok (status, number.1)
+
+-- ---- lengths: null, a length below 0 and a varint that is too long are Length
+
+abbrev pub length_from_signed : ℤ × List ℕ → Result (ℕ × List ℕ) RecordFault
+length_from_signed (pos n, rest) = Ok (n, rest)
+length_from_signed (negsuc n, rest) = Err faults.Length
+
+abbrev pub length_from_unsigned : ℕ × List ℕ → Result (ℕ × List ℕ) RecordFault
+length_from_unsigned (zero, rest) = Err faults.Length
+length_from_unsigned (suc n, rest) = Ok (n, rest)
+
+-- the length of a text
+unfoldable pub length_from : Form → List ℕ → Result (ℕ × List ℕ) RecordFault
+length_from Plain bytes = do
+  number ← present (i16_at bytes)
+  length_from_signed number
+length_from Flexible bytes = do
+  number ← uvarint_from bytes
+  length_from_unsigned number
+
+abbrev pub count_from_signed : ℤ × List ℕ → Result (Option ℕ × List ℕ) RecordFault
+count_from_signed (pos n, rest) = Ok (Some n, rest)
+count_from_signed (negsuc zero, rest) = Ok (None, rest)
+count_from_signed (negsuc (suc n), rest) = Err faults.Length
+
+abbrev pub count_from_unsigned : ℕ × List ℕ → Option ℕ × List ℕ
+count_from_unsigned (zero, rest) = (None, rest)
+count_from_unsigned (suc n, rest) = (Some n, rest)
+
+-- the count of a list, or null
+unfoldable pub count_from : Form → List ℕ → Result (Option ℕ × List ℕ) RecordFault
+count_from Plain bytes = do
+  number ← present (i32_at bytes)
+  count_from_signed number
+count_from Flexible bytes = do
+  number ← uvarint_from bytes
+  Ok (count_from_unsigned number)
+
+-- ---- texts and lists
+
+unfoldable pub string_from : Form → List ℕ → Result (List ℕ × List ℕ) RecordFault
+string_from form bytes = do
+  len ← length_from form bytes
+  present (bytes_at len.0 len.1)
+
+-- so many, one after the other
+unfoldable pub many_from : {X : Type 0} → (List ℕ → Result (X × List ℕ) RecordFault) → ℕ → List ℕ → Result (List X × List ℕ) RecordFault
+many_from read zero bytes = Ok ([], bytes)
+many_from read (suc n) bytes = do
+  first ← read bytes
+  others ← many_from read n first.1
+  Ok (first.0 ∷ others.0, others.1)
+
+abbrev pub number_from : List ℕ → Result (ℤ × List ℕ) RecordFault
+number_from bytes = present (i32_at bytes)
+
+-- a count that may not be null
+abbrev pub not_null : Option ℕ → Result ℕ RecordFault
+not_null None = Err faults.Length
+not_null (Some n) = Ok n
+
+-- the numbers of a topic's partitions
+unfoldable pub numbers_from : Form → List ℕ → Result (List ℤ × List ℕ) RecordFault
+numbers_from form bytes = do
+  count ← count_from form bytes
+  n ← not_null count.0
+  many_from number_from n count.1
+
+-- ---- tagged fields
+
+unfoldable pub tagged_from : List ℕ → Result ((ℕ × List ℕ) × List ℕ) RecordFault
+tagged_from bytes = do
+  tag ← uvarint_from bytes
+  size ← uvarint_from tag.1
+  content ← present (bytes_at size.0 size.1)
+  Ok ((tag.0, content.0), content.1)
+
+-- only what follows is kept
+abbrev pub skipped : {X : Type 0} → Result (X × List ℕ) RecordFault → Result (Unit {0} × List ℕ) RecordFault
+skipped read = read >>= λ x. Ok (tt, x.1)
+
+-- the fields of a section are skipped
+unfoldable pub section_from : Form → List ℕ → Result (Unit {0} × List ℕ) RecordFault
+section_from Plain bytes = Ok (tt, bytes)
+section_from Flexible bytes = do
+  count ← uvarint_from bytes
+  skipped (many_from tagged_from count.0 count.1)
+
+-- ---- values
+
+unfoldable pub topic_from : Form → List ℕ → Result (TopicPartitions × List ℕ) RecordFault
+topic_from form bytes = do
+  topic ← string_from form bytes
+  numbers ← numbers_from form topic.1
+  section ← section_from form numbers.1
+  Ok (record { topic = topic.0; numbers = numbers.0 }, section.1)
+
+-- null is an empty list
+unfoldable pub partitions_from : Form → List ℕ → Result (List TopicPartitions × List ℕ) RecordFault
+partitions_from form bytes = do
+  count ← count_from form bytes
+  many_from (topic_from form) (unwrap_or count.0 0) count.1
+
+unfoldable pub body_from : Form → List ℕ → Result (TxnValue × List ℕ) RecordFault
+body_from form bytes = do
+  producer ← present (i64_at bytes)
+  epoch ← present (i16_at producer.1)
+  timeout ← present (i32_at epoch.1)
+  status ← status_from timeout.1
+  partitions ← partitions_from form status.1
+  last_update ← present (i64_at partitions.1)
+  start ← present (i64_at last_update.1)
+  section ← section_from form start.1
+  Ok (record { producer = producer.0; epoch = epoch.0; timeout = timeout.0; status = status.0; partitions = partitions.0; last_update = last_update.0; start = start.0 }, section.1)
+
+abbrev pub known_form : Option Form → Result Form RecordFault
+known_form None = Err faults.Version
+known_form (Some form) = Ok form
+
+-- nothing is left
+abbrev pub ended : {X : Type 0} → X × List ℕ → Result X RecordFault
+ended read = if length read.1 == 0 then Ok read.0 else Err faults.Trailing
+
+unfoldable pub read_value : List ℕ → Result TxnValue RecordFault
+read_value bytes = do
+  version ← present (i16_at bytes)
+  form ← known_form (form_of version.0)
+  body ← body_from form version.1
+  ended body
+
+-- ---- keys
+
+abbrev pub id_from : List ℕ → Result (Option (List ℕ)) RecordFault
+id_from bytes = do
+  id ← string_from Plain bytes
+  whole ← ended id
+  Ok (Some whole)
+
+-- a key of another version isn't looked into
+unfoldable pub read_key : List ℕ → Result (Option (List ℕ)) RecordFault
+read_key bytes = do
+  version ← present (i16_at bytes)
+  if int_eq version.0 (pos 0) then id_from version.1 else Ok None
