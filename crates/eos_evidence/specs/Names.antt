@@ -1,5 +1,7 @@
 -- The names under which refusals are printed.
 use Rattle.std.specs.Prelude.{ℕ, List, codes}
+use Rattle.eos_evidence.specs.declared.fault.SpecFault.{SpecFault}
+use Rattle.eos_evidence.specs.declared.fault.SpecFault.TheVariants as faults
 use Rattle.eos_evidence.specs.declared.reading.ReadFault.{ReadFault}
 use Rattle.eos_evidence.specs.declared.reading.ReadFault.TheVariants as reading
 
@@ -7,3 +9,10 @@ abbrev pub read_fault_name : ReadFault → List ℕ
 read_fault_name reading.Read = codes "Read"
 read_fault_name reading.Limit = codes "Limit"
 read_fault_name reading.OutOfMemory = codes "OutOfMemory"
+
+abbrev pub spec_fault_name : SpecFault → List ℕ
+spec_fault_name faults.Json = codes "Json"
+spec_fault_name faults.Field = codes "Field"
+spec_fault_name faults.Version = codes "Version"
+spec_fault_name faults.Limit = codes "Limit"
+spec_fault_name faults.OutOfMemory = codes "OutOfMemory"

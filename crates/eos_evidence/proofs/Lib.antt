@@ -1,0 +1,3 @@
+pub mod AcceptedParts
+pub mod EndsInOrder
+pub mod UnequalTopics

@@ -1,0 +1,49 @@
+-- What the checker is told of an application: its consumer group, the topics that it reads, the
+-- topics that it writes (KIP-447), and where each partition ends.
+use Rattle.std.specs.Prelude.{◌≡◌, ℕ, List, ◌++◌, Bool, not, ◌&&◌, if◌then◌else◌, nat_le, length, Result, Ok, Err}
+use Rattle.std.specs.List.{list_all}
+use Rattle.std.specs.List.Sorted.{IsStrictlySortedBy}
+use Rattle.eos_evidence.specs.declared.ends.End.{End}
+use Rattle.eos_evidence.specs.declared.fault.SpecFault.{SpecFault}
+use Rattle.eos_evidence.specs.declared.fault.SpecFault.TheVariants as faults
+use Rattle.eos_evidence.specs.Ends.{end_cmp, is_legal_end, are_apart, ordered}
+use Rattle.eos_evidence.specs.Topics.{is_topic, is_internal, are_unequal}
+
+pub record Parts : Type 0 where
+  pub group : List ℕ
+  pub sources : List (List ℕ)
+  pub outputs : List (List ℕ)
+  pub ends : List End
+
+-- a topic that an application may read or write
+abbrev pub is_own_topic : List ℕ → Bool
+is_own_topic topic = is_topic topic && not (is_internal topic)
+
+-- no topic is illegal or internal, and none stands twice in the two lists together
+abbrev pub are_legal_topics : List (List ℕ) → Bool
+are_legal_topics topics = list_all is_own_topic topics && are_unequal topics
+
+-- no end is illegal, and no partition stands twice
+abbrev pub are_legal_ends : List End → Bool
+are_legal_ends ends = list_all is_legal_end ends && are_apart ends
+
+-- the parts with their ends by topic bytes, then number, or the first refusal
+unfoldable pub accepted : Parts → Result Parts SpecFault
+accepted given =
+    if are_legal_topics (given.sources ++ given.outputs) && are_legal_ends given.ends
+    then (if nat_le (length given.ends) 4096 then Ok (record given { ends = ordered given.ends }) else Err faults.Limit)
+    else Err faults.Field
+
+-- no test refuses the parts, and the ends stand by topic bytes, then number
+pub record IsAccepted (parts : Parts) : Type 0 where
+  pub as_it_is : accepted parts ≡ Ok parts
+  pub ascending : IsStrictlySortedBy end_cmp parts.ends
+
+-- what a call answers is what the tests give, unless memory ran out
+abbrev pub Answers : {X : Type 0} → Result X SpecFault → Result X SpecFault → Type 0
+Answers (Ok x) said = said ≡ Ok x
+Answers (Err faults.OutOfMemory) said = Unit {0}
+Answers (Err faults.Json) said = said ≡ Err faults.Json
+Answers (Err faults.Field) said = said ≡ Err faults.Field
+Answers (Err faults.Version) said = said ≡ Err faults.Version
+Answers (Err faults.Limit) said = said ≡ Err faults.Limit
