@@ -1,0 +1,4 @@
+pub mod FieldTexts
+pub mod KeyTexts
+pub mod ValueTexts
+pub mod WrittenTexts

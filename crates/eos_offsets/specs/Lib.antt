@@ -1,0 +1,4 @@
+pub mod Names
+pub mod Text
+pub mod Reading
+pub mod Writing

@@ -1,0 +1,15 @@
+//! The records of Kafka's internal topic `__consumer_offsets`, in which a consumer group keeps how far it has read: keys
+//! and values as bytes and as values.
+#![tactic(auto)]
+
+mod fault;
+mod key;
+mod laws;
+mod value;
+
+pub use fault::RecordFault;
+pub use key::{OffsetKey, decode_key, encode_key};
+pub use value::{Commit, decode_value, encode_value};
+
+#[cfg(test)]
+mod tests;
