@@ -1,5 +1,5 @@
 -- What fails among the records fails the batch.
-use Rattle.std.proofs.Common.{◌≡◌, ℤ, ℕ, List, true, false, Ok, Err, refl}
+use Rattle.std.proofs.Common.{◌≡◌, ℤ, ℕ, List, true, false, Ok, refl}
 use Rattle.eos_batch.specs.declared.fault.BatchFault.{BatchFault}
 use Rattle.eos_batch.specs.declared.decode.Head.{Head}
 use Rattle.eos_batch.specs.Attributes.{is_compressed}

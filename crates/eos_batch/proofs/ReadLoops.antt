@@ -1,5 +1,5 @@
 -- Reading headers, and records, one after the other, as a loop does.
-use Rattle.std.proofs.Common.{◌≡◌, ℕ, suc, ◌-◌, ◌+◌, ◌≤◌, ◌<◌, List, [], ◌∷◌, ◌++◌, Result, Ok, Err, refl, sym, ap, ◌∙◌, append_assoc, arith}
+use Rattle.std.proofs.Common.{◌≡◌, ◌≢◌, ℕ, suc, ◌-◌, ◌+◌, ◌≤◌, ◌<◌, List, [], ◌∷◌, ◌++◌, Result, Ok, Err, refl, sym, ap, ◌∙◌, append_assoc, arith}
 use Rattle.std.proofs.lemmas.List.{append-nil}
 use Rattle.eos_batch.specs.declared.fault.BatchFault.{BatchFault}
 use Rattle.eos_batch.specs.declared.fault.BatchFault.TheVariants as faults
@@ -22,6 +22,22 @@ fails_through faults.Trailing r s k h = k faults.Trailing h
 fails_through faults.Control r s k h = k faults.Control h
 fails_through faults.Producer r s k h = k faults.Producer h
 fails_through faults.OutOfMemory r s k h = tt
+
+-- a fault that is not want of memory is the one that reading gives
+pub real_fault : {A : Type 0} (e : BatchFault) (r : Result A BatchFault) → e ≢ faults.OutOfMemory → Fails e r → r ≡ Err e
+real_fault faults.Truncated r real h = h
+real_fault faults.Length r real h = h
+real_fault faults.Magic r real h = h
+real_fault faults.Crc r real h = h
+real_fault faults.Compressed r real h = h
+real_fault faults.Count r real h = h
+real_fault faults.Varint r real h = h
+real_fault faults.Record r real h = h
+real_fault faults.Delta r real h = h
+real_fault faults.Trailing r real h = h
+real_fault faults.Control r real h = h
+real_fault faults.Producer r real h = h
+real_fault faults.OutOfMemory r real h = absurd (real refl)
 
 -- what was read before, and what is still read
 abbrev pub with_front : {X : Type 0} → List X → Result (List X × List ℕ) BatchFault → Result (List X × List ℕ) BatchFault

@@ -191,17 +191,24 @@ head_at base leader_epoch bytes = do
   epoch ← or_fault faults.Truncated (i16_at producer.1)
   sequence ← or_fault faults.Truncated (i32_at epoch.1)
   count ← or_fault faults.Truncated (i32_at sequence.1)
-  Ok (record { last_offset_delta = last.0; count = count.0; batch = record {
-    base_offset = base;
-    leader_epoch = leader_epoch;
-    attributes = attributes.0;
-    base_timestamp = base_timestamp.0;
-    max_timestamp = max_timestamp.0;
-    producer = producer.0;
-    epoch = epoch.0;
-    sequence = sequence.0;
-    records = [];
-  } }, count.1)
+  Ok (
+    record {
+      last_offset_delta = last.0;
+      count = count.0;
+      batch = record {
+        base_offset = base;
+        leader_epoch = leader_epoch;
+        attributes = attributes.0;
+        base_timestamp = base_timestamp.0;
+        max_timestamp = max_timestamp.0;
+        producer = producer.0;
+        epoch = epoch.0;
+        sequence = sequence.0;
+        records = [];
+      };
+    },
+    count.1,
+  )
 
 -- there is a record, and the count is the last offset delta plus 1
 abbrev pub count_fits : Head → Bool

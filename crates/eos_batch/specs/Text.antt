@@ -1,6 +1,6 @@
 -- Which bytes are a record batch of magic 2 (Kafka's documentation, "Message Format": record batch, record, header).
 -- The parts stand in the order of the layout.
-use Rattle.std.specs.Prelude.{◌≡◌, ℕ, suc, ◌+◌, ◌-◌, ◌<◌, ◌^◌, pos, negsuc, List, [], ◌∷◌, ◌++◌, length, Option, Some, None, false, FitsSigned}
+use Rattle.std.specs.Prelude.{◌≡◌, ℕ, suc, ◌+◌, ◌-◌, ◌<◌, ◌≤◌, ◌^◌, pos, negsuc, List, [], ◌∷◌, ◌++◌, length, take, drop, Option, Some, None, false, FitsSigned}
 use Rattle.std.specs.Int.{w8}
 use Rattle.eos_wire.specs.Varint.{IsVarint, IsVarlong}
 use Rattle.eos_wire.specs.Numbers.{i8_text, i16_text, i32_text, i64_text, u32_text}
@@ -86,3 +86,7 @@ pub record IsBatchText (text : List ℕ) (b : Batch) : Type 0 where
   pub parts : text
       ≡ i64_text b.base_offset ++ (i32_text (pos (9 + length covered)) ++ (i32_text b.leader_epoch ++ (i8_text (pos 2)
       ++ (u32_text (crc32c_of covered) ++ covered))))
+
+-- the next so many bytes at this place are a text of the batch
+abbrev pub HasTextAt : List ℕ → ℕ → Batch → ℕ → Type 0
+HasTextAt bytes at b k = (at + k ≤ length bytes) × IsBatchText (take k (drop at bytes)) b

@@ -2,7 +2,7 @@
 
 ghost use Rattle.std.specs.Prelude.{◌≡◌, ◌≤◌, ◌<◌, ◌^◌, ◌==◌, length, take, drop, IfOk, OnOk};
 ghost use Rattle.eos_wire.specs.Fields.{Reads};
-ghost use Rattle.eos_wire.specs.Numbers.{i8_at, i16_at, i32_at, i64_at, u32_at};
+ghost use Rattle.eos_wire.specs.Numbers.{IsBytes, i8_at, i16_at, i32_at, i64_at, u32_at};
 ghost use Rattle.eos_batch.specs.Reading.{Gives, int_at, long_at, count_at, take_at, bytes_at, optional_at};
 
 use crate::fault::BatchFault;
@@ -10,6 +10,11 @@ use bytes::Bytes;
 use eos_wire::{Fields, read_varint, read_varlong};
 use std::alloc::AllocError;
 use std::marker::Model;
+
+/// Each item of a slice is a byte, which proofs do not know of `Bytes`.
+pub(crate) fn are_bytes(_bytes: &[u8])
+    ensures { IsBytes _bytes.now }
+{}
 
 /// The bytes from one place to another that are left to read.
 #[derive(Drop)]

@@ -18,12 +18,14 @@
 //!
 //! The source is "Record Batch" of the Message Format in Kafka's documentation. All numbers are big-endian.
 
-ghost use Rattle.std.specs.Prelude.{◌≡◌, ◌≤◌, length, drop};
+ghost use Rattle.std.specs.Prelude.{◌≡◌, ◌≤◌, ℕ, length, drop, Ok, IfOk};
+ghost use Rattle.eos_batch.specs.declared.batch.Batch.{Batch};
+ghost use Rattle.eos_batch.specs.Text.{HasTextAt};
 ghost use Rattle.eos_batch.specs.Attributes.{is_compressed};
 ghost use Rattle.eos_batch.specs.Reading.{Answers, Gives, count_fits, offsets_fit, frame_at, sealed_at, head_at, covered_at, all_records_at, batch_at};
 
 use crate::batch::Batch;
-use crate::cursor::Cursor;
+use crate::cursor::{Cursor, are_bytes};
 use crate::fault::BatchFault;
 use crate::read_record::records_of;
 use crate::record::Records;
@@ -33,7 +35,9 @@ use eos_wire::crc32c;
 use std::alloc::Global;
 
 const HEAD: usize = 12;
+
 const LEAST_LENGTH: i32 = 49;
+
 const MAGIC: i8 = 2;
 
 /// The fields before the records, in a batch that has none yet.
@@ -175,19 +179,11 @@ fn covered_of(
     Ok(batch)
 }
 
-/// The record batch at `at`, and how many bytes it takes.
-///
-/// # Errors
-/// The first test that fails, in the order of `BatchFault`, but that bytes which end before the batch does are
-/// `Truncated` also where its length is known to be right. `OutOfMemory` comes where a growth is refused.
+/// The batch or the first test that fails.
 #[tactic(auto, unfolding(crate::specs::Reading::batch_at))]
-pub fn decode_batch(
-    alloc: Global,
-    bytes: &Bytes,
-    at: usize,
-) -> Result<(Batch, usize), BatchFault>
+fn batch_of(alloc: Global, bytes: &Bytes, at: usize) -> Result<(Batch, usize), BatchFault>
     requires { at ≤ length bytes.now }
-    ensures steps { Answers result (batch_at (drop at bytes.now)) }
+    ensures { Answers result (batch_at (drop at bytes.now)) }
 {
     let mut rest = Cursor::new(bytes, at);
     let (base_offset, mut body) = frame_of(&mut rest)?;
@@ -201,4 +197,22 @@ pub fn decode_batch(
         return Err(BatchFault::Producer);
     }
     Ok((batch, taken))
+}
+
+/// The record batch at `at`, and how many bytes it takes.
+///
+/// # Errors
+/// The first test that fails. The tests stand in the order of `BatchFault`, and bytes that end before the batch does are
+/// found after its length is. `OutOfMemory` comes where a growth is refused.
+pub fn decode_batch(alloc: Global, bytes: &Bytes, at: usize) -> Result<(Batch, usize), BatchFault>
+    requires { at ≤ length bytes.now }
+    // The batch, or the first test that fails.
+    ensures steps { Answers result (batch_at (drop at bytes.now)) }
+
+    // An `Ok` comes exactly where the bytes are a text of the batch, unless memory runs out.
+    ensures text { IfOk result (λ read. HasTextAt bytes.now at read.0 read.1) }
+    ensures whole { (b : Batch) (k : ℕ) → HasTextAt bytes.now at b k → Answers result (Ok (b, k)) }
+{
+    are_bytes(bytes.as_slice());
+    batch_of(alloc, bytes, at)
 }

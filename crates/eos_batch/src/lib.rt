@@ -5,13 +5,16 @@ mod batch;
 mod cursor;
 mod decode;
 mod fault;
+pub mod laws;
 mod marker;
 mod read_record;
 mod record;
 mod rules;
+mod segment;
 
 pub use batch::{Batch, Batches};
 pub use decode::decode_batch;
 pub use fault::BatchFault;
 pub use marker::{Kind, Marker};
 pub use record::{Header, Headers, Record, Records};
+pub use segment::{SegmentText, decode_segment};

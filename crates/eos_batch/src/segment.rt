@@ -1,0 +1,56 @@
+//! Reading a whole segment: record batches one after the other, up to the end or the first fault.
+
+ghost use Rattle.std.specs.Prelude.{◌≤◌, ℕ, List, length, IfOk};
+ghost use Rattle.eos_batch.specs.declared.batch.Batch.{Batch};
+ghost use Rattle.eos_batch.specs.Segment.{Splits, IsSegmentText};
+
+use crate::batch::Batches;
+use crate::cursor::are_bytes;
+use crate::decode::decode_batch;
+use crate::fault::BatchFault;
+use bytes::Bytes;
+use std::alloc::{AllocError, Global};
+
+/// What a segment holds.
+#[derive(Debug, Drop)]
+pub struct SegmentText {
+    /// All batches, or those before the first fault.
+    pub batches: Batches,
+    /// The byte at which the first batch that does not read begins, and why. It is never `OutOfMemory`.
+    pub stop: Option<(usize, BatchFault)>,
+}
+
+/// All batches up to the end or the first fault.
+///
+/// # Errors
+/// Only want of memory.
+pub fn decode_segment(alloc: Global, bytes: &Bytes) -> Result<SegmentText, AllocError>
+    ensures text { IfOk result (λ s. IsSegmentText bytes.now s.batches s.stop) }
+    ensures longest { IfOk result (λ s. (others : List Batch) (rest : List ℕ)
+        → Splits bytes.now others rest → length others ≤ length s.batches) }
+{
+    are_bytes(bytes.as_slice());
+    let mut batches = Vec::new(alloc);
+    let mut at = 0;
+    'texts: while at < bytes.len() {
+        match decode_batch(alloc, bytes, at) {
+            Ok((batch, len)) => {
+                batches.push(batch)?;
+                at += len;
+            }
+            Err(fault) => match fault {
+                BatchFault::OutOfMemory => return Err(AllocError),
+                _ => {
+                    return Ok(SegmentText {
+                        batches: Batches::new(batches),
+                        stop: Some((at, fault)),
+                    });
+                }
+            },
+        }
+    }
+    Ok(SegmentText {
+        batches: Batches::new(batches),
+        stop: None,
+    })
+}
