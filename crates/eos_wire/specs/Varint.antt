@@ -1,6 +1,6 @@
 -- Variable-length numbers, in groups of seven bits, the least group first.
--- Kafka's protocol guide: VARINT and VARLONG "follow the variable-length zig-zag encoding from Google Protocol Buffers"
--- (they stand in the records of Message Format version 2); the unsigned form is KIP-482's, without zigzag.
+-- Kafka's protocol guide, VARINT and VARLONG: the "variable-length zig-zag encoding from Google Protocol Buffers", which
+-- stands in the records of Message Format version 2. The unsigned form, without zigzag, is that of KIP-482.
 use Rattle.std.specs.Prelude.{◌≡◌, ℕ, zero, suc, ◌+◌, ◌-◌, ◌*◌, ◌/◌, ◌%◌, ◌^◌, ◌<◌, ◌≤◌, ◌↔◌, ℤ, pos, negsuc, List, [], ◌∷◌, length, take, Option, Some, None, option_map, nat_lt, ◌==◌, if◌then◌else◌}
 
 -- a last group, or a group that goes on (its high bit is set) and then a spelling

@@ -1,15 +1,15 @@
-//! CRC-32C, the checksum of a record batch.
+//! CRC-32C, the checksum of a record batch (Kafka's Message Format; RFC 3720, appendix B.4).
 //!
-//! A table of 256 words gives what a byte leaves of the register, a byte at a time. Eight such tables give what eight
-//! bytes leave of it at once: each byte is looked up in the table of the bytes that are left from it on, and the words
-//! are added.
+//! The checksum is the remainder of a division of polynomials, whose sum is exclusive or. The remainder of a sum is the
+//! sum of the remainders. So a table of 256 words that says what each byte leaves takes a byte at a time, and eight such
+//! tables, one for each number of bytes that are left from a byte on, take eight.
 
 ghost use Rattle.std.specs.Prelude.{◌≡◌, length};
 ghost use Rattle.eos_wire.specs.Crc.{after_byte, remainder, crc32c_of};
 
 use crate::tables::{AFTER_1, AFTER_2, AFTER_3, AFTER_4, AFTER_5, AFTER_6, AFTER_7, AFTER_8};
 
-/// The register before the first byte, and what is added to it after the last.
+/// The register before the first byte, and what is added to it after the last one.
 const ONES: u32 = 0xffff_ffff;
 
 /// The register after one more byte.
@@ -31,7 +31,7 @@ fn after_each(mut register: u32, bytes: &[u8]) -> u32
     register
 }
 
-/// The register after eight bytes. The last four don't wait for the register, and are added by themselves.
+/// The register after eight bytes. The last four are added by themselves, since they need not wait for the register.
 fn after_eight(register: u32, bytes: &[u8; 8]) -> u32
     ensures { result ≡ remainder register bytes.now }
 {

@@ -1,4 +1,14 @@
 //! Fields, read one after the other from a slice. A read that finds too few bytes leaves the reader where it was.
+//!
+//! | Read | Bytes | Meaning | Kafka protocol guide |
+//! |---|---|---|---|
+//! | `i8` | 1 | two's complement | INT8 |
+//! | `i16` | 2 | two's complement, big-endian | INT16 |
+//! | `i32` | 4 | two's complement, big-endian | INT32 |
+//! | `i64` | 8 | two's complement, big-endian | INT64 |
+//! | `u32` | 4 | big-endian | UINT32 |
+//! | `uvarint` | 1 to 5 | groups of seven bits | KIP-482, unsigned varint |
+//! | `take(n)` | n | the bytes themselves | BYTES and STRING, after their length |
 
 ghost use Rattle.std.specs.Prelude.{◌≡◌, length, IfNone};
 ghost use Rattle.std.specs.Option.{option_copied};
@@ -24,6 +34,7 @@ impl<'a> Model for Fields<'a> {
 }
 
 impl<'a> Fields<'a> {
+    /// A reader at the first of the bytes.
     pub fn new(bytes: &'a [u8]) -> Fields<'a>
         ensures { result ≡ bytes.now }
     {
@@ -37,7 +48,7 @@ impl<'a> Fields<'a> {
         self.rest.len()
     }
 
-    /// The next `len` bytes.
+    /// The next `len` bytes, as a part of the slice.
     pub fn take(&mut self, len: usize) -> Option<&'a [u8]>
         ensures read { Reads (option_copied result) self.new (bytes_at len self.old) }
         ensures stays { IfNone result (self.new ≡ self.old) }

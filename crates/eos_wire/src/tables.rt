@@ -1,4 +1,5 @@
-//! What each byte leaves in a register of 0 after one to eight bytes, its own and the zeros that follow it.
+//! What each byte leaves in a register of 0 after one to eight bytes: itself, and zeros that follow it. The check computes
+//! each table anew from the rule of a single bit.
 
 /// After one byte.
 pub const AFTER_1: [u32; 256] = [

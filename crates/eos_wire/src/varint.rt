@@ -12,14 +12,16 @@
 ghost use Rattle.std.specs.Prelude.{◌≡◌, ◌≤◌, ◌<◌, ◌*◌, ◌^◌, length, IfSome};
 ghost use Rattle.eos_wire.specs.Varint.{groups_at, unzigzag, FitsWord, IsVarint, IsVarlong, IsUvarint, ReadsFront, varint_at, varlong_at, uvarint_at};
 
-/// The most bytes of a number of 32 bits, and the greatest last one.
+/// The most groups of a number of 32 bits.
 const MOST_32: usize = 5;
 
+/// The greatest value of the last of so many groups: 4 bits are left for it.
 const TOP_32: u8 = 0x0f;
 
-/// The same for a number of 64 bits.
+/// The most groups of a number of 64 bits.
 const MOST_64: usize = 10;
 
+/// The greatest value of the last of so many groups: 1 bit is left for it.
 const TOP_64: u8 = 0x01;
 
 /// A group at its place, from the least up.
@@ -69,7 +71,8 @@ fn unzigzag_64(n: u64) -> i64
     if n % 2 == 0 { half } else { -half - 1 }
 }
 
-/// The unsigned varint at the front and the bytes that it takes.
+/// The unsigned varint at the front, and how many bytes it takes. `None` where no bytes at the front are one: the last
+/// group is missing, or the number passes 5 bytes or 32 bits.
 #[tactic(auto, unfolding(crate::specs::Varint::uvarint_at))]
 pub fn read_uvarint(bytes: &[u8]) -> Option<(u32, usize)>
     ensures value { result ≡ uvarint_at bytes.now }
@@ -80,7 +83,8 @@ pub fn read_uvarint(bytes: &[u8]) -> Option<(u32, usize)>
     Some((number as u32, len))
 }
 
-/// The varint at the front and the bytes that it takes.
+/// The varint at the front, and how many bytes it takes. `None` where no bytes at the front are one: the last group is
+/// missing, or the number passes 5 bytes or 32 bits.
 #[tactic(auto, unfolding(crate::specs::Varint::uvarint_at, crate::specs::Varint::varint_at))]
 pub fn read_varint(bytes: &[u8]) -> Option<(i32, usize)>
     ensures value { result ≡ varint_at bytes.now }
@@ -91,7 +95,8 @@ pub fn read_varint(bytes: &[u8]) -> Option<(i32, usize)>
     Some((unzigzag_32(number), len))
 }
 
-/// The varlong at the front and the bytes that it takes.
+/// The varlong at the front, and how many bytes it takes. `None` where no bytes at the front are one: the last group is
+/// missing, or the number passes 10 bytes or 64 bits.
 #[tactic(auto, unfolding(crate::specs::Varint::varlong_at))]
 pub fn read_varlong(bytes: &[u8]) -> Option<(i64, usize)>
     ensures value { result ≡ varlong_at bytes.now }

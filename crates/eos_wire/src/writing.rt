@@ -44,7 +44,7 @@ fn write_groups(out: &mut Vec<u8>, number: u64) -> Result<(), AllocError>
     out.extend_from_slice(&bytes[..len + 1])
 }
 
-/// Appends the value as an unsigned varint.
+/// Appends the value as an unsigned varint, in 1 to 5 bytes.
 pub fn write_uvarint(out: &mut Vec<u8>, value: u32) -> Result<(), AllocError>
     ensures ok { OnOk result (out.new.items ≡ out.old.items ++ uvarint_of value) }
     ensures err { OnErr result (out.new.items ≡ out.old.items) }
@@ -53,7 +53,7 @@ pub fn write_uvarint(out: &mut Vec<u8>, value: u32) -> Result<(), AllocError>
     write_groups(out, u64::from(value))
 }
 
-/// Appends the value as a varint.
+/// Appends the value as a varint, in 1 to 5 bytes.
 #[tactic(auto, unfolding(crate::specs::Writing::uvarint_of, crate::specs::Writing::varint_of))]
 pub fn write_varint(out: &mut Vec<u8>, value: i32) -> Result<(), AllocError>
     ensures ok { OnOk result (out.new.items ≡ out.old.items ++ varint_of value) }
@@ -63,7 +63,7 @@ pub fn write_varint(out: &mut Vec<u8>, value: i32) -> Result<(), AllocError>
     write_uvarint(out, zigzag_32(value))
 }
 
-/// Appends the value as a varlong.
+/// Appends the value as a varlong, in 1 to 10 bytes.
 #[tactic(auto, unfolding(crate::specs::Writing::varlong_of))]
 pub fn write_varlong(out: &mut Vec<u8>, value: i64) -> Result<(), AllocError>
     ensures ok { OnOk result (out.new.items ≡ out.old.items ++ varlong_of value) }
