@@ -164,7 +164,8 @@ body_taken form bytes a b c d p l s g producer epoch timeout status partitions l
       holds = record {
         partitions = partitions.text;
         section = section.text;
-        fits = record { producer = producer.holds.0; epoch = epoch.holds.0; timeout = timeout.holds.0; last_update = last_update.holds.0; start = start.holds.0 };
+        head_fits = record { producer = producer.holds.0; epoch = epoch.holds.0; timeout = timeout.holds.0 };
+        tail_fits = record { last_update = last_update.holds.0; start = start.holds.0 };
         partitions_text = partitions.holds;
         section_text = section.holds;
         parts = parts_again _ _ _ _ _ _ _ _ _ _ _ _ partitions.text section.text producer.holds.1 epoch.holds.1 timeout.holds.1 status.holds last_update.holds.1 start.holds.1;
@@ -205,13 +206,13 @@ body_whole form text v rest h =
     let e : text ++ rest ≡ i64_text v.producer ++ r2 = rw h.parts (simp append_assoc) in
     rw (
       e,
-      i64_whole v.producer r2 h.fits.producer,
-      i16_whole v.epoch r3 h.fits.epoch,
-      i32_whole v.timeout r4 h.fits.timeout,
+      i64_whole v.producer r2 h.head_fits.producer,
+      i16_whole v.epoch r3 h.head_fits.epoch,
+      i32_whole v.timeout r4 h.head_fits.timeout,
       status_whole (i8_text (status_number v.status)) v.status r5 refl,
       partitions_whole form h.partitions v.partitions r6 h.partitions_text,
-      i64_whole v.last_update r7 h.fits.last_update,
-      i64_whole v.start (h.section ++ rest) h.fits.start,
+      i64_whole v.last_update r7 h.tail_fits.last_update,
+      i64_whole v.start (h.section ++ rest) h.tail_fits.start,
       section_whole form h.section tt rest h.section_text,
     )
     refl
@@ -226,7 +227,7 @@ ended_ok {X} read x e = at (eqb (length read.1) 0) refl e
     at true is q = (ok_is read.0 x q, nil_from_length read.1 (eqb-true (length read.1) 0 is))
     at false is q = absurd cc
 
-known_form_ok : (o : Option Form) (form : Form) → known_form o ≡ Ok form → o ≡ Some form
+pub known_form_ok : (o : Option Form) (form : Form) → known_form o ≡ Ok form → o ≡ Some form
 known_form_ok None form e = absurd cc
 known_form_ok (Some f) form e = cc
 

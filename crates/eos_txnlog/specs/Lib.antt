@@ -3,3 +3,4 @@ pub mod Status
 pub mod Steps
 pub mod Text
 pub mod Reading
+pub mod Writing

@@ -1,6 +1,6 @@
 -- Which bytes are a key or a value of `__transaction_state`: Kafka's schemas `TransactionLogKey` (version 0) and
 -- `TransactionLogValue` (version 0, and version 1 in KIP-482's flexible form). Fixed numbers are big-endian.
-use Rattle.std.specs.Prelude.{◌≡◌, ℕ, ◌+◌, ◌^◌, ◌<◌, ℤ, pos, negsuc, List, [], ◌∷◌, ◌++◌, length, Option, Some, None, FitsSigned, ◌⊎◌, if◌then◌else◌}
+use Rattle.std.specs.Prelude.{◌≡◌, ℕ, ◌+◌, ◌^◌, ◌<◌, ℤ, pos, negsuc, List, [], ◌∷◌, ◌++◌, length, Option, Some, None, FitsSigned, All, ◌⊎◌, if◌then◌else◌}
 use Rattle.std.specs.Int.{w16, w32, w64}
 use Rattle.std.specs.Ordering.{int_eq}
 use Rattle.eos_wire.specs.Numbers.{i8_text, i16_text, i32_text, i64_text}
@@ -88,11 +88,13 @@ pub record IsTopicText (form : Form) (text : List ℕ) (value : TopicPartitions)
 abbrev pub IsPartitionsText : Form → List ℕ → List TopicPartitions → Type 0
 IsPartitionsText form text topics = IsListText form (IsTopicText form) text topics ⊎ (IsNullText form text × (topics ≡ []))
 
--- the numbers of a value fit their fields
-pub record FitsFields (value : TxnValue) : Type 0 where
+-- the numbers before and after the partitions fit their fields
+pub record FitsHead (value : TxnValue) : Type 0 where
   pub producer : FitsSigned w64 value.producer
   pub epoch : FitsSigned w16 value.epoch
   pub timeout : FitsSigned w32 value.timeout
+
+pub record FitsTail (value : TxnValue) : Type 0 where
   pub last_update : FitsSigned w64 value.last_update
   pub start : FitsSigned w64 value.start
 
@@ -101,7 +103,8 @@ pub record FitsFields (value : TxnValue) : Type 0 where
 pub record IsBodyText (form : Form) (text : List ℕ) (value : TxnValue) : Type 0 where
   pub partitions : List ℕ
   pub section : List ℕ
-  pub fits : FitsFields value
+  pub head_fits : FitsHead value
+  pub tail_fits : FitsTail value
   pub partitions_text : IsPartitionsText form partitions value.partitions
   pub section_text : IsSectionText form section
   pub parts : text ≡ i64_text value.producer ++ (i16_text value.epoch ++ (i32_text value.timeout ++ (i8_text (status_number value.status)
@@ -116,3 +119,13 @@ pub record IsValueText (text : List ℕ) (value : TxnValue) : Type 0 where
   pub known : form_of version ≡ Some form
   pub body_text : IsBodyText form body value
   pub parts : text ≡ i16_text version ++ body
+
+-- the numbers of a topic's partitions are INT32
+abbrev pub FitNumbers : TopicPartitions → Type 0
+FitNumbers topic = All (FitsSigned w32) topic.numbers
+
+-- each number of a value fits its field
+pub record IsInRange (value : TxnValue) : Type 0 where
+  pub head : FitsHead value
+  pub tail : FitsTail value
+  pub numbers : All FitNumbers value.partitions

@@ -7,13 +7,15 @@
 //!
 //! The source is Kafka's schema `TransactionLogKey`.
 
-ghost use Rattle.std.specs.Prelude.{ℕ, List, Some, Ok, IfSome, IfOk};
+ghost use Rattle.std.specs.Prelude.{◌≡◌, ℕ, List, Some, Ok, IfSome, IfOk};
 ghost use Rattle.eos_txnlog.specs.Text.{IsKeyText};
 ghost use Rattle.eos_txnlog.specs.Reading.{Answers, read_key};
+ghost use Rattle.eos_txnlog.specs.Writing.{write_key};
 
 use crate::fault::RecordFault;
 use crate::field::{are_bytes, read_i16, read_string};
 use crate::form::Form;
+use crate::writing::{write_i16, write_string};
 use bytes::Bytes;
 use std::alloc::Global;
 
@@ -43,4 +45,26 @@ pub fn decode_key(_alloc: Global, bytes: &Bytes) -> Result<Option<Bytes>, Record
 {
     are_bytes(bytes.as_slice());
     read_key(bytes)
+}
+
+#[tactic(auto, unfolding(crate::specs::Writing::write_key))]
+fn write_key(alloc: Global, id: &Bytes) -> Result<Bytes, RecordFault>
+    ensures { Answers result (write_key id.now) }
+{
+    let mut out = Vec::new(alloc);
+    write_i16(&mut out, 0)?;
+    write_string(&mut out, Form::Plain, id)?;
+    Ok(Bytes::from_vec(out)?)
+}
+
+/// Writes the key of a transactional id, in version 0.
+///
+/// A fault is Length where the id has more bytes than its length field can say, and `OutOfMemory` only where a growth
+/// was refused.
+pub fn encode_key(alloc: Global, id: &Bytes) -> Result<Bytes, RecordFault>
+    ensures choices { Answers result (write_key id.now) }
+    ensures text { IfOk result (λ bytes. IsKeyText bytes id.now) }
+    ensures reads_back { IfOk result (λ bytes. read_key bytes ≡ Ok (Some id.now)) }
+{
+    write_key(alloc, id)
 }

@@ -11,11 +11,13 @@ mod reading;
 mod status;
 mod step;
 mod value;
+mod writing;
 
 pub use decision::Decision;
 pub use fault::RecordFault;
-pub use key::decode_key;
+pub use key::{decode_key, encode_key};
 pub use reading::decode_value;
 pub use status::Status;
 pub use step::{TxnFault, step_ok};
 pub use value::{Numbers, Partitions, TopicPartitions, TxnValue};
+pub use writing::encode_value;

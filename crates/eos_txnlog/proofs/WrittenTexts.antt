@@ -1,0 +1,139 @@
+-- What is written is a text of the value.
+use Rattle.std.proofs.Common.{◌≡◌, ℕ, suc, ◌+◌, ◌^◌, Bool, true, false, cond, List, [], ◌∷◌, ◌++◌, length, flat_map, Some, None, Result, Ok, Err, refl, sym, subst, append_assoc, arith, ℤ, pos, inl}
+use Rattle.std.specs.Prelude.{◌&&◌, All, FitsSigned, IfOk, OnOk}
+use Rattle.std.specs.Int.{w16, w32}
+use Rattle.std.specs.List.{list_all}
+use Rattle.std.specs.Ordering.{int_eq}
+use Rattle.std.proofs.lemmas.Bool.{ltb-true}
+use Rattle.std.proofs.lemmas.Bool.Decides.{Decides-int_eq}
+use Rattle.std.proofs.lemmas.List.{append-nil}
+use Rattle.eos_wire.specs.Numbers.{i16_text, i32_text}
+use Rattle.eos_wire.specs.Writing.{uvarint_of}
+use Rattle.eos_wire.proofs.Spellings.{uvarint_shortest}
+use Rattle.eos_txnlog.specs.declared.fault.RecordFault.{RecordFault}
+use Rattle.eos_txnlog.specs.declared.form.Form.{Form}
+use Rattle.eos_txnlog.specs.declared.form.Form.TheVariants.{Plain, Flexible}
+use Rattle.eos_txnlog.specs.declared.value.TopicPartitions.{TopicPartitions}
+use Rattle.eos_txnlog.specs.declared.value.TxnValue.{TxnValue}
+use Rattle.eos_txnlog.specs.Text.{form_of, IsLengthText, IsCountText, IsStringText, AreTexts, IsListText, IsNumberText, IsSectionText, IsKeyText, IsTopicText, IsBodyText, IsValueText, FitNumbers, IsInRange}
+use Rattle.eos_txnlog.specs.Reading.{Answers, known_form, read_value, read_key}
+use Rattle.eos_txnlog.specs.Writing.{fits_length, fits_count, length_text, count_text, section_text, string_text, numbers_text, fits_topic, topic_text, fits_partitions, partitions_text, body_text, fitting, write_value, write_key}
+use Rattle.eos_txnlog.proofs.Takes.{bind_ok, ok_is}
+use Rattle.eos_txnlog.proofs.ValueTexts.{known_form_ok, value_whole, key_whole}
+
+both : (a b : Bool) → (a && b) ≡ true → (a ≡ true) × (b ≡ true)
+both true b e = (refl, e)
+both false b e = absurd cc
+
+-- ---- lengths
+
+length_written : (form : Form) (n : ℕ) → fits_length form n ≡ true → IsLengthText form (length_text form n) n
+length_written Plain n e = (ltb-true n (2 ^ 15) e, refl)
+length_written Flexible n e = (uvarint_shortest (n + 1) (ltb-true (n + 1) (2 ^ 32) e)).0
+
+count_written : (form : Form) (n : ℕ) → fits_count form n ≡ true → IsCountText form (count_text form n) n
+count_written Plain n e = (ltb-true n (2 ^ 31) e, refl)
+count_written Flexible n e = (uvarint_shortest (n + 1) (ltb-true (n + 1) (2 ^ 32) e)).0
+
+section_written : (form : Form) → IsSectionText form (section_text form)
+section_written Plain = refl
+section_written Flexible = ([], uvarint_of 0, [], (uvarint_shortest 0 (omega arith)).0, refl, sym (append-nil (uvarint_of 0)))
+
+-- ---- texts and lists
+
+string_written : (form : Form) (bytes : List ℕ) → fits_length form (length bytes) ≡ true → IsStringText form (string_text form bytes) bytes
+string_written form bytes e = (length_text form (length bytes), length_written form (length bytes) e, refl)
+
+rest_of : {X : Type 0} (P : X → Type 0) (x : X) (xs : List X) → All P (x ∷ xs) → All P xs
+rest_of P x xs all = λ k d lt. all (suc k) d (omega arith)
+
+many_written : (numbers : List ℤ) → All (FitsSigned w32) numbers → AreTexts IsNumberText (flat_map i32_text numbers) numbers
+many_written [] all = refl
+many_written (z ∷ zs) all = (i32_text z, flat_map i32_text zs, (all 0 z (omega arith), refl), many_written zs (rest_of (FitsSigned w32) z zs all), refl)
+
+numbers_written : (form : Form) (numbers : List ℤ) → fits_count form (length numbers) ≡ true → All (FitsSigned w32) numbers → IsListText form IsNumberText (numbers_text form numbers) numbers
+numbers_written form numbers e all = (count_text form (length numbers), flat_map i32_text numbers, count_written form (length numbers) e, many_written numbers all, refl)
+
+topic_written : (form : Form) (topic : TopicPartitions) → fits_topic form topic ≡ true → FitNumbers topic → IsTopicText form (topic_text form topic) topic
+topic_written form topic e all =
+    let b = both (fits_length form (length topic.topic)) (fits_count form (length topic.numbers)) e in
+    record {
+      topic = string_text form topic.topic;
+      numbers = numbers_text form topic.numbers;
+      section = section_text form;
+      topic_text = string_written form topic.topic b.0;
+      numbers_text = numbers_written form topic.numbers b.1 all;
+      section_text = section_written form;
+      parts = refl;
+    }
+
+topics_written : (form : Form) (topics : List TopicPartitions) → list_all (fits_topic form) topics ≡ true → All FitNumbers topics → AreTexts (IsTopicText form) (flat_map (topic_text form) topics) topics
+topics_written form [] e all = refl
+topics_written form (t ∷ ts) e all =
+    let b = both (fits_topic form t) (list_all (fits_topic form) ts) e in
+    (topic_text form t, flat_map (topic_text form) ts, topic_written form t b.0 (all 0 t (omega arith)), topics_written form ts b.1 (rest_of FitNumbers t ts all), refl)
+
+-- ---- values
+
+body_written : (form : Form) (value : TxnValue) → fits_partitions form value.partitions ≡ true → IsInRange value → IsBodyText form (body_text form value) value
+body_written form value e range =
+    let b = both (fits_count form (length value.partitions)) (list_all (fits_topic form) value.partitions) e in
+    record {
+      partitions = partitions_text form value.partitions;
+      section = section_text form;
+      head_fits = range.head;
+      tail_fits = range.tail;
+      partitions_text = inl (count_text form (length value.partitions), flat_map (topic_text form) value.partitions, count_written form (length value.partitions) b.0, topics_written form value.partitions b.1 range.numbers, refl);
+      section_text = section_written form;
+      parts = simp append_assoc;
+    }
+
+fitting_ok : (fits : Bool) (text bytes : List ℕ) → fitting fits text ≡ Ok bytes → (fits ≡ true) × (text ≡ bytes)
+fitting_ok true text bytes e = (refl, ok_is text bytes e)
+fitting_ok false text bytes e = absurd cc
+
+-- a known version is a small number
+known_fits : (version : ℤ) (form : Form) → form_of version ≡ Some form → FitsSigned w16 version
+known_fits version form e = at (int_eq version (pos 0)) refl (int_eq version (pos 1)) refl e
+  where
+    at : (a : Bool) → int_eq version (pos 0) ≡ a → (b : Bool) → int_eq version (pos 1) ≡ b → cond a (Some Plain) (cond b (Some Flexible) None) ≡ Some form → FitsSigned w16 version
+    at true q b r k = subst (FitsSigned w16) (sym ((Decides-int_eq version (pos 0)).0 q)) (record { sfits = omega arith })
+    at false q true r k = subst (FitsSigned w16) (sym ((Decides-int_eq version (pos 1)).0 r)) (record { sfits = omega arith })
+    at false q false r k = absurd cc
+
+value_text : (version : ℤ) (value : TxnValue) (bytes : List ℕ) → IsInRange value → write_value version value ≡ Ok bytes → IsValueText bytes value
+unfolding write_value
+value_text version value bytes range e =
+    let f = bind_ok (known_form (form_of version)) _ bytes e in
+    let known = known_form_ok (form_of version) f.0 f.1 in
+    let w = fitting_ok (fits_partitions f.0 value.partitions) (i16_text version ++ body_text f.0 value) bytes f.2 in
+    record {
+      version = version;
+      form = f.0;
+      body = body_text f.0 value;
+      version_fits = known_fits version f.0 known;
+      known = known;
+      body_text = body_written f.0 value w.0 range;
+      parts = sym w.1;
+    }
+
+pub value_written : (version : ℤ) (value : TxnValue) (result : Result (List ℕ) RecordFault) → (Answers result (write_value version value)) → OnOk result (IsInRange value) → IfOk result (λ bytes. IsValueText bytes value)
+value_written version value (Ok bytes) e range = value_text version value bytes range e
+value_written version value (Err f) e range = tt
+
+pub value_reads_back : (value : TxnValue) (result : Result (List ℕ) RecordFault) → IfOk result (λ bytes. IsValueText bytes value) → IfOk result (λ bytes. read_value bytes ≡ Ok value)
+value_reads_back value (Ok bytes) h = value_whole bytes value h
+value_reads_back value (Err f) h = tt
+
+-- ---- keys
+
+pub key_written : (id : List ℕ) (result : Result (List ℕ) RecordFault) → Answers result (write_key id) → IfOk result (λ bytes. IsKeyText bytes id)
+unfolding write_key
+key_written id (Ok bytes) e =
+    let w = fitting_ok (fits_length Plain (length id)) (i16_text (pos 0) ++ string_text Plain id) bytes e in
+    record { id_part = string_text Plain id; id_text = string_written Plain id w.0; parts = sym w.1 }
+key_written id (Err f) e = tt
+
+pub key_reads_back : (id : List ℕ) (result : Result (List ℕ) RecordFault) → IfOk result (λ bytes. IsKeyText bytes id) → IfOk result (λ bytes. read_key bytes ≡ Ok (Some id))
+key_reads_back id (Ok bytes) h = key_whole bytes id h
+key_reads_back id (Err f) h = tt

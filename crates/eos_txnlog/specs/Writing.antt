@@ -1,0 +1,94 @@
+-- The bytes that are written for a key or a value, and what fits its length fields. The choices of the writer: numbers in
+-- their shortest spelling, an empty list by the count 0, and no tagged fields.
+use Rattle.std.specs.Prelude.{◌≡◌, ℕ, ◌+◌, ◌^◌, ℤ, pos, Bool, true, false, ◌&&◌, List, [], ◌++◌, length, flat_map, Result, Ok, Err, nat_lt, if◌then◌else◌, ⊤}
+use Rattle.std.specs.List.{list_all}
+use Rattle.eos_wire.specs.Numbers.{i8_text, i16_text, i32_text, i64_text}
+use Rattle.eos_wire.specs.Writing.{uvarint_of}
+use Rattle.eos_txnlog.specs.declared.fault.RecordFault.{RecordFault}
+use Rattle.eos_txnlog.specs.declared.fault.RecordFault.TheVariants as faults
+use Rattle.eos_txnlog.specs.declared.form.Form.{Form}
+use Rattle.eos_txnlog.specs.declared.form.Form.TheVariants.{Plain, Flexible}
+use Rattle.eos_txnlog.specs.declared.value.TopicPartitions.{TopicPartitions}
+use Rattle.eos_txnlog.specs.declared.value.TxnValue.{TxnValue}
+use Rattle.eos_txnlog.specs.Status.{status_number}
+use Rattle.eos_txnlog.specs.Text.{form_of}
+use Rattle.eos_txnlog.specs.Reading.{◌>>=◌, known_form}
+
+-- ---- lengths
+
+abbrev pub fits_length : Form → ℕ → Bool
+fits_length Plain n = nat_lt n (2 ^ 15)
+fits_length Flexible n = nat_lt (n + 1) (2 ^ 32)
+
+abbrev pub fits_count : Form → ℕ → Bool
+fits_count Plain n = nat_lt n (2 ^ 31)
+fits_count Flexible n = nat_lt (n + 1) (2 ^ 32)
+
+abbrev pub length_text : Form → ℕ → List ℕ
+length_text Plain n = i16_text (pos n)
+length_text Flexible n = uvarint_of (n + 1)
+
+abbrev pub count_text : Form → ℕ → List ℕ
+count_text Plain n = i32_text (pos n)
+count_text Flexible n = uvarint_of (n + 1)
+
+-- a section without a field
+abbrev pub section_text : Form → List ℕ
+section_text Plain = []
+section_text Flexible = uvarint_of 0
+
+-- ---- texts and lists
+
+abbrev pub string_text : Form → List ℕ → List ℕ
+string_text form bytes = length_text form (length bytes) ++ bytes
+
+abbrev pub numbers_text : Form → List ℤ → List ℕ
+numbers_text form numbers = count_text form (length numbers) ++ flat_map i32_text numbers
+
+abbrev pub fits_topic : Form → TopicPartitions → Bool
+fits_topic form topic = fits_length form (length topic.topic) && fits_count form (length topic.numbers)
+
+abbrev pub topic_text : Form → TopicPartitions → List ℕ
+topic_text form topic = string_text form topic.topic ++ (numbers_text form topic.numbers ++ section_text form)
+
+abbrev pub fits_partitions : Form → List TopicPartitions → Bool
+fits_partitions form topics = fits_count form (length topics) && list_all (fits_topic form) topics
+
+abbrev pub partitions_text : Form → List TopicPartitions → List ℕ
+partitions_text form topics = count_text form (length topics) ++ flat_map (topic_text form) topics
+
+-- ---- keys and values
+
+-- the fields before and after the partitions
+abbrev pub head_text : TxnValue → List ℕ
+head_text value = i64_text value.producer ++ (i16_text value.epoch ++ (i32_text value.timeout ++ i8_text (status_number value.status)))
+
+abbrev pub tail_text : Form → TxnValue → List ℕ
+tail_text form value = i64_text value.last_update ++ (i64_text value.start ++ section_text form)
+
+abbrev pub body_text : Form → TxnValue → List ℕ
+body_text form value = head_text value ++ (partitions_text form value.partitions ++ tail_text form value)
+
+-- what doesn't fit its length field is refused
+abbrev pub fitting : Bool → List ℕ → Result (List ℕ) RecordFault
+fitting fits text = if fits then Ok text else Err faults.Length
+
+unfoldable pub write_value : ℤ → TxnValue → Result (List ℕ) RecordFault
+write_value version value = do
+  form ← known_form (form_of version)
+  fitting (fits_partitions form value.partitions) (i16_text version ++ body_text form value)
+
+unfoldable pub write_key : List ℕ → Result (List ℕ) RecordFault
+write_key id = fitting (fits_length Plain (length id)) (i16_text (pos 0) ++ string_text Plain id)
+
+-- ---- what a contract says of appending
+
+-- The text was appended, and it fits; Length is answered only where it doesn't, and nothing else but want of memory is.
+abbrev pub Writes : Result (Unit {0}) RecordFault → List ℕ → List ℕ → Bool → List ℕ → Type 0
+Writes (Ok u) before after fits text = (fits ≡ true) × (after ≡ before ++ text)
+Writes (Err faults.OutOfMemory) before after fits text = ⊤
+Writes (Err faults.Length) before after fits text = fits ≡ false
+Writes (Err faults.Short) before after fits text = ⊥
+Writes (Err faults.Version) before after fits text = ⊥
+Writes (Err faults.Status) before after fits text = ⊥
+Writes (Err faults.Trailing) before after fits text = ⊥
