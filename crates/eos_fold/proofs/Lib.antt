@@ -1,0 +1,10 @@
+pub mod TouchLists
+pub mod ProducerCounts
+pub mod Following
+pub mod TouchTable
+pub mod Continuity
+pub mod LeastAtBatch
+pub mod BatchReading
+pub mod Beginnings
+pub mod LeastInSegment
+pub mod GoodSegment

@@ -1,0 +1,6 @@
+pub mod Names
+pub mod Touches
+pub mod Front
+pub mod Faults
+pub mod Good
+pub mod Walks

@@ -1,0 +1,16 @@
+//! What a partition's log says of exactly-once delivery, worked out in one pass over its record batches.
+//!
+//! `chain` takes one segment as a whole partition. Its answer is a theorem about all offsets and all pairs of batches; it
+//! looks at each batch once, beside the last touch of its producer id.
+#![tactic(auto)]
+
+mod counts;
+mod fault;
+mod segment;
+mod touches;
+mod walk;
+
+pub use counts::Chain;
+pub use eos_touch::{PairFault, Touch, pair_ok};
+pub use fault::{PartitionFault, PartitionFaultKind};
+pub use segment::chain;
