@@ -7,7 +7,7 @@ use std::alloc::AllocError;
 use std::marker::Model;
 
 /// A record batch of magic 2.
-#[derive(Clone, Debug, Drop)]
+#[derive(Clone, Debug, PartialEq, Eq, Drop)]
 pub struct Batch {
     pub base_offset: i64,
     pub leader_epoch: i32,
@@ -55,6 +55,27 @@ impl Batches {
     {
         self.items
     }
+}
+
+impl PartialEq for Batches {
+    ghost use Rattle.std.specs.Cmp.{partial_equiv_from_equiv};
+    ghost use Rattle.std.specs.Cmp.Lexicographic.{pointwise, lists_equiv};
+    ghost use Rattle.eos_batch.specs.Equality.{batch_eq, batch_equiv};
+
+    ghost eq = { pointwise batch_eq };
+
+    ghost laws = { partial_equiv_from_equiv (lists_equiv batch_equiv) };
+
+    fn eq(&self, other: &Self) -> bool {
+        self.items.as_slice() == other.items.as_slice()
+    }
+}
+
+impl Eq for Batches {
+    ghost use Rattle.std.specs.Cmp.Lexicographic.{lists_equiv};
+    ghost use Rattle.eos_batch.specs.Equality.{batch_equiv};
+
+    ghost laws = { lists_equiv batch_equiv };
 }
 
 impl Clone for Batches {

@@ -18,3 +18,6 @@ pub use fault::BatchFault;
 pub use marker::{Kind, Marker};
 pub use record::{Header, Headers, Record, Records};
 pub use segment::{SegmentText, decode_segment};
+
+#[cfg(test)]
+mod tests;

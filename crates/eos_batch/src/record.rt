@@ -50,6 +50,27 @@ impl Headers {
     }
 }
 
+impl PartialEq for Headers {
+    ghost use Rattle.std.specs.Cmp.{partial_equiv_from_equiv};
+    ghost use Rattle.std.specs.Cmp.Lexicographic.{pointwise, lists_equiv};
+    ghost use Rattle.eos_batch.specs.Equality.{header_eq, header_equiv};
+
+    ghost eq = { pointwise header_eq };
+
+    ghost laws = { partial_equiv_from_equiv (lists_equiv header_equiv) };
+
+    fn eq(&self, other: &Self) -> bool {
+        self.items.as_slice() == other.items.as_slice()
+    }
+}
+
+impl Eq for Headers {
+    ghost use Rattle.std.specs.Cmp.Lexicographic.{lists_equiv};
+    ghost use Rattle.eos_batch.specs.Equality.{header_equiv};
+
+    ghost laws = { lists_equiv header_equiv };
+}
+
 impl Clone for Headers {
     ghost is_clone = { λ a b. b ≡ a };
 
@@ -60,7 +81,7 @@ impl Clone for Headers {
 }
 
 /// A record of a batch. Its offset is the batch's base offset plus its place.
-#[derive(Clone, Debug, Drop)]
+#[derive(Clone, Debug, PartialEq, Eq, Drop)]
 pub struct Record {
     pub attributes: i8,
     pub timestamp_delta: i64,
@@ -104,6 +125,27 @@ impl Records {
     {
         self.items
     }
+}
+
+impl PartialEq for Records {
+    ghost use Rattle.std.specs.Cmp.{partial_equiv_from_equiv};
+    ghost use Rattle.std.specs.Cmp.Lexicographic.{pointwise, lists_equiv};
+    ghost use Rattle.eos_batch.specs.Equality.{record_eq, record_equiv};
+
+    ghost eq = { pointwise record_eq };
+
+    ghost laws = { partial_equiv_from_equiv (lists_equiv record_equiv) };
+
+    fn eq(&self, other: &Self) -> bool {
+        self.items.as_slice() == other.items.as_slice()
+    }
+}
+
+impl Eq for Records {
+    ghost use Rattle.std.specs.Cmp.Lexicographic.{lists_equiv};
+    ghost use Rattle.eos_batch.specs.Equality.{record_equiv};
+
+    ghost laws = { lists_equiv record_equiv };
 }
 
 impl Clone for Records {

@@ -12,7 +12,7 @@ use bytes::Bytes;
 use std::alloc::{AllocError, Global};
 
 /// What a segment holds.
-#[derive(Debug, Drop)]
+#[derive(Debug, PartialEq, Eq, Drop)]
 pub struct SegmentText {
     /// All batches, or those before the first fault.
     pub batches: Batches,
