@@ -1,3 +1,6 @@
 pub mod AcceptedParts
+pub mod AddedSegments
 pub mod EndsInOrder
+pub mod PieceAt
+pub mod SegmentOrder
 pub mod UnequalTopics

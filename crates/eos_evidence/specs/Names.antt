@@ -1,5 +1,7 @@
 -- The names under which refusals are printed.
 use Rattle.std.specs.Prelude.{ℕ, List, codes}
+use Rattle.eos_evidence.specs.declared.fault.AddFault.{AddFault}
+use Rattle.eos_evidence.specs.declared.fault.AddFault.TheVariants as add
 use Rattle.eos_evidence.specs.declared.fault.SpecFault.{SpecFault}
 use Rattle.eos_evidence.specs.declared.fault.SpecFault.TheVariants as faults
 use Rattle.eos_evidence.specs.declared.reading.ReadFault.{ReadFault}
@@ -16,3 +18,9 @@ spec_fault_name faults.Field = codes "Field"
 spec_fault_name faults.Version = codes "Version"
 spec_fault_name faults.Limit = codes "Limit"
 spec_fault_name faults.OutOfMemory = codes "OutOfMemory"
+
+abbrev pub add_fault_name : AddFault → List ℕ
+add_fault_name add.Name = codes "Name"
+add_fault_name add.Limit = codes "Limit"
+add_fault_name add.Duplicate = codes "Duplicate"
+add_fault_name add.OutOfMemory = codes "OutOfMemory"

@@ -1,8 +1,9 @@
-//! Why a manifest is refused.
+//! Why a manifest or a segment is refused.
 
 ghost use Rattle.std.specs.Prelude.{◌≡◌};
 ghost use Rattle.eos_evidence.specs.declared.fault.SpecFault.TheVariants.{OutOfMemory};
-ghost use Rattle.eos_evidence.specs.Names.{spec_fault_name};
+ghost use Rattle.eos_evidence.specs.declared.fault.AddFault.TheVariants as add;
+ghost use Rattle.eos_evidence.specs.Names.{spec_fault_name, add_fault_name};
 
 use std::alloc::{AllocError, AllocFailed};
 use thiserror::Error;
@@ -55,5 +56,52 @@ impl<T: Drop> From<AllocFailed<T>> for SpecFault {
 
     fn from(_e: AllocFailed<T>) -> SpecFault {
         SpecFault::OutOfMemory
+    }
+}
+
+/// Why a segment is refused: the first of its tests that fails.
+#[derive(Clone, Copy, Debug, PartialEq, Eq, Error)]
+pub enum AddFault {
+    /// The manifest has no such partition, or the base is below 0.
+    #[error("Name")]
+    Name,
+    /// The segment is too long, or there are as many segments as evidence may have.
+    #[error("Limit")]
+    Limit,
+    /// There is a segment of this partition and base.
+    #[error("Duplicate")]
+    Duplicate,
+    /// A growth of memory was refused.
+    #[error("OutOfMemory")]
+    OutOfMemory,
+}
+
+impl AddFault {
+    /// The fault's name.
+    pub fn name(self) -> &'static str
+        ensures { result.now ≡ add_fault_name self }
+    {
+        match self {
+            AddFault::Name => "Name",
+            AddFault::Limit => "Limit",
+            AddFault::Duplicate => "Duplicate",
+            AddFault::OutOfMemory => "OutOfMemory",
+        }
+    }
+}
+
+impl From<AllocError> for AddFault {
+    ghost from_gives = { λ _ e. e ≡ add.OutOfMemory };
+
+    fn from(_e: AllocError) -> AddFault {
+        AddFault::OutOfMemory
+    }
+}
+
+impl<T: Drop> From<AllocFailed<T>> for AddFault {
+    ghost from_gives = { λ _ e. e ≡ add.OutOfMemory };
+
+    fn from(_e: AllocFailed<T>) -> AddFault {
+        AddFault::OutOfMemory
     }
 }

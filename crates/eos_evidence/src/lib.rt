@@ -2,13 +2,18 @@
 #![tactic(auto)]
 
 mod ends;
+mod evidence;
 mod fault;
+mod partition;
 mod reading;
+mod segment;
 mod spec;
 mod topics;
 
 pub use ends::{End, Ends};
-pub use fault::SpecFault;
+pub use evidence::{Evidence, EvidenceBuilder, MAX_SEGMENTS};
+pub use fault::{AddFault, SpecFault};
 pub use reading::{MAX_SEGMENT_BYTES, ReadFault, read_segment};
+pub use segment::Segment;
 pub use spec::{MAX_PARTITIONS, Spec};
 pub use topics::Topics;
