@@ -14,7 +14,7 @@ use Rattle.eos_txnlog.specs.declared.form.Form.{Form}
 use Rattle.eos_txnlog.specs.declared.form.Form.TheVariants.{Plain}
 use Rattle.eos_txnlog.specs.declared.status.Status.{Status}
 use Rattle.eos_txnlog.specs.declared.status.Status.TheVariants as statuses
-use Rattle.eos_txnlog.specs.declared.value.TopicPartitions.{TopicPartitions}
+use Rattle.eos_txnlog.specs.declared.partitions.TopicPartitions.{TopicPartitions}
 use Rattle.eos_txnlog.specs.declared.value.TxnValue.{TxnValue}
 use Rattle.eos_txnlog.specs.Status.{status_number, all_statuses, status_of}
 use Rattle.eos_txnlog.specs.Text.{form_of, IsCountText, IsNullText, IsStringText, AreTexts, IsKeyText, IsTopicText, IsPartitionsText, IsBodyText, IsValueText}

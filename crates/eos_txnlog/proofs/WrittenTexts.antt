@@ -13,7 +13,7 @@ use Rattle.eos_wire.proofs.Spellings.{uvarint_shortest}
 use Rattle.eos_txnlog.specs.declared.fault.RecordFault.{RecordFault}
 use Rattle.eos_txnlog.specs.declared.form.Form.{Form}
 use Rattle.eos_txnlog.specs.declared.form.Form.TheVariants.{Plain, Flexible}
-use Rattle.eos_txnlog.specs.declared.value.TopicPartitions.{TopicPartitions}
+use Rattle.eos_txnlog.specs.declared.partitions.TopicPartitions.{TopicPartitions}
 use Rattle.eos_txnlog.specs.declared.value.TxnValue.{TxnValue}
 use Rattle.eos_txnlog.specs.Text.{form_of, IsLengthText, IsCountText, IsStringText, AreTexts, IsListText, IsNumberText, IsSectionText, IsKeyText, IsTopicText, IsBodyText, IsValueText, FitNumbers, IsInRange}
 use Rattle.eos_txnlog.specs.Reading.{Answers, known_form, read_value, read_key}

@@ -9,7 +9,7 @@ use Rattle.eos_txnlog.specs.declared.fault.RecordFault.TheVariants as faults
 use Rattle.eos_txnlog.specs.declared.form.Form.{Form}
 use Rattle.eos_txnlog.specs.declared.form.Form.TheVariants.{Plain, Flexible}
 use Rattle.eos_txnlog.specs.declared.status.Status.{Status}
-use Rattle.eos_txnlog.specs.declared.value.TopicPartitions.{TopicPartitions}
+use Rattle.eos_txnlog.specs.declared.partitions.TopicPartitions.{TopicPartitions}
 use Rattle.eos_txnlog.specs.declared.value.TxnValue.{TxnValue}
 use Rattle.eos_txnlog.specs.Status.{status_of}
 use Rattle.eos_txnlog.specs.Text.{form_of}

@@ -7,7 +7,7 @@ use Rattle.eos_wire.specs.Numbers.{i8_text, i16_text, i32_text, i64_text}
 use Rattle.eos_wire.specs.Varint.{IsUvarint}
 use Rattle.eos_txnlog.specs.declared.form.Form.{Form}
 use Rattle.eos_txnlog.specs.declared.form.Form.TheVariants.{Plain, Flexible}
-use Rattle.eos_txnlog.specs.declared.value.TopicPartitions.{TopicPartitions}
+use Rattle.eos_txnlog.specs.declared.partitions.TopicPartitions.{TopicPartitions}
 use Rattle.eos_txnlog.specs.declared.value.TxnValue.{TxnValue}
 use Rattle.eos_txnlog.specs.Status.{status_number}
 

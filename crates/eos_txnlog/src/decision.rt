@@ -1,6 +1,6 @@
 //! What a transaction came to.
 
-use crate::value::Partitions;
+use crate::partitions::Partitions;
 use bytes::Bytes;
 use eos_batch::Kind;
 

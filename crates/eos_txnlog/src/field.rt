@@ -13,8 +13,8 @@ ghost use Rattle.eos_txnlog.specs.Reading.{Gives, present, uvarint_from, status_
 
 use crate::fault::RecordFault;
 use crate::form::Form;
+use crate::numbers::Numbers;
 use crate::status::Status;
-use crate::value::Numbers;
 use bytes::Bytes;
 use eos_wire::{Fields, read_uvarint};
 use std::alloc::Global;

@@ -7,17 +7,23 @@ mod fault;
 mod field;
 mod form;
 mod key;
+mod numbers;
+mod partitions;
 mod reading;
 mod status;
 mod step;
+#[cfg(test)]
+mod tests;
 mod value;
 mod writing;
 
 pub use decision::Decision;
 pub use fault::RecordFault;
 pub use key::{decode_key, encode_key};
+pub use numbers::Numbers;
+pub use partitions::{Partitions, TopicPartitions};
 pub use reading::decode_value;
 pub use status::Status;
 pub use step::{TxnFault, step_ok};
-pub use value::{Numbers, Partitions, TopicPartitions, TxnValue};
+pub use value::TxnValue;
 pub use writing::encode_value;

@@ -25,7 +25,8 @@ use crate::field::{
     skip_section,
 };
 use crate::form::Form;
-use crate::value::{Partitions, TopicPartitions, TxnValue};
+use crate::partitions::{Partitions, TopicPartitions};
+use crate::value::TxnValue;
 use bytes::Bytes;
 use std::alloc::Global;
 

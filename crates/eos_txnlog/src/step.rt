@@ -118,7 +118,7 @@ pub fn step_ok(prev: Option<&TxnValue>, next: Option<&TxnValue>) -> Result<(), T
 #[cfg(test)]
 mod tests {
     use super::*;
-    use crate::value::Partitions;
+    use crate::partitions::Partitions;
     use std::alloc::Global;
 
     fn value(alloc: Global, status: Status, epoch: i16) -> TxnValue {

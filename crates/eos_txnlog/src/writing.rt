@@ -13,7 +13,8 @@ ghost use Rattle.eos_txnlog.specs.Writing.{Writes, fits_length, length_text, fit
 
 use crate::fault::RecordFault;
 use crate::form::Form;
-use crate::value::{TopicPartitions, TxnValue};
+use crate::partitions::TopicPartitions;
+use crate::value::TxnValue;
 use bytes::Bytes;
 use eos_wire::write_uvarint;
 use std::alloc::Global;

@@ -1,6 +1,6 @@
 use Rattle.std.proofs.Common.{◌≡◌, ℕ, ◌<◌, ◌++◌, true, take, get_or, flat_map}
 use Rattle.std.specs.List.{list_all}
-use Rattle.eos_txnlog.specs.declared.value.TopicPartitions.{TopicPartitions}
+use Rattle.eos_txnlog.specs.declared.partitions.TopicPartitions.{TopicPartitions}
 use Rattle.eos_txnlog.specs.Text.{FitNumbers}
 use Rattle.eos_txnlog.specs.Writing.{fits_topic, topic_text}
 use Rattle.eos_txnlog.proofs.writing.write_many_topics.Given as goal

@@ -1,0 +1,124 @@
+//! Bytes that were put together by hand from Kafka's layouts.
+
+use crate::*;
+use bytes::Bytes;
+use std::alloc::{AllocError, Global};
+use std::test::Fail;
+
+/// The key of `app`.
+static KEY: [u8; 7] = [0x00, 0x00, 0x00, 0x03, 0x61, 0x70, 0x70];
+
+/// Version 0: producer 1000, epoch 0, Empty, null partitions, times 5 and -1.
+static EMPTY: [u8; 37] = [
+    0x00, 0x00, 0x00, 0x00, 0x00, 0x00, 0x00, 0x00, 0x03, 0xe8, 0x00, 0x00, 0x00, 0x00, 0xea, 0x60,
+    0x00, 0xff, 0xff, 0xff, 0xff, 0x00, 0x00, 0x00, 0x00, 0x00, 0x00, 0x00, 0x05, 0xff, 0xff, 0xff,
+    0xff, 0xff, 0xff, 0xff, 0xff,
+];
+
+/// Version 1: the same, but Ongoing with partitions 0 and 1 of `out`, and a tagged field.
+static ONGOING: [u8; 53] = [
+    0x00, 0x01, 0x00, 0x00, 0x00, 0x00, 0x00, 0x00, 0x03, 0xe8, 0x00, 0x00, 0x00, 0x00, 0xea, 0x60,
+    0x01, 0x02, 0x04, 0x6f, 0x75, 0x74, 0x03, 0x00, 0x00, 0x00, 0x00, 0x00, 0x00, 0x00, 0x01, 0x00,
+    0x00, 0x00, 0x00, 0x00, 0x00, 0x00, 0x00, 0x05, 0xff, 0xff, 0xff, 0xff, 0xff, 0xff, 0xff, 0xff,
+    0x01, 0x09, 0x02, 0xaa, 0xbb,
+];
+
+/// What is written for `EMPTY`, in version 0 and in version 1.
+static EMPTY_WRITTEN: [u8; 37] = [
+    0x00, 0x00, 0x00, 0x00, 0x00, 0x00, 0x00, 0x00, 0x03, 0xe8, 0x00, 0x00, 0x00, 0x00, 0xea, 0x60,
+    0x00, 0x00, 0x00, 0x00, 0x00, 0x00, 0x00, 0x00, 0x00, 0x00, 0x00, 0x00, 0x05, 0xff, 0xff, 0xff,
+    0xff, 0xff, 0xff, 0xff, 0xff,
+];
+
+static EMPTY_FLEXIBLE: [u8; 35] = [
+    0x00, 0x01, 0x00, 0x00, 0x00, 0x00, 0x00, 0x00, 0x03, 0xe8, 0x00, 0x00, 0x00, 0x00, 0xea, 0x60,
+    0x00, 0x01, 0x00, 0x00, 0x00, 0x00, 0x00, 0x00, 0x00, 0x05, 0xff, 0xff, 0xff, 0xff, 0xff, 0xff,
+    0xff, 0xff, 0x00,
+];
+
+fn fault_of(alloc: Global, bytes: &[u8]) -> Result<Option<RecordFault>, AllocError> {
+    let bytes = Bytes::copy_from_slice(alloc, bytes)?;
+    Ok(decode_value(alloc, &bytes).err())
+}
+
+#[test]
+fn reads_and_writes_a_key(rt: HostRuntime) -> Result<(), Fail> {
+    let key = Bytes::from_static(&KEY);
+    let id = Bytes::from_static(b"app");
+    assert_eq!(rt; decode_key(rt.alloc(), &key)?, Some(id.clone()?));
+    assert_eq!(rt; encode_key(rt.alloc(), &id)?, key);
+    let other = Bytes::from_static(b"\x00\x01app");
+    assert_eq!(rt; decode_key(rt.alloc(), &other)?, None);
+    Ok(())
+}
+
+#[test]
+fn reads_and_writes_a_plain_value(rt: HostRuntime) -> Result<(), Fail> {
+    let value = decode_value(rt.alloc(), &Bytes::from_static(&EMPTY))?;
+    assert_eq!(rt;
+        (value.producer, value.epoch, value.timeout),
+        (1000, 0, 60000)
+    );
+    assert_eq!(rt; value.status, Status::Empty);
+    assert_eq!(rt; value.partitions.as_slice().len(), 0);
+    assert_eq!(rt; (value.last_update, value.start), (5, -1));
+    assert_eq!(rt;
+        encode_value(rt.alloc(), &value, 0)?.as_slice(),
+        EMPTY_WRITTEN.as_slice()
+    );
+    assert_eq!(rt;
+        encode_value(rt.alloc(), &value, 1)?.as_slice(),
+        EMPTY_FLEXIBLE.as_slice()
+    );
+    assert_eq!(rt;
+        encode_value(rt.alloc(), &value, 2),
+        Err(RecordFault::Version)
+    );
+    Ok(())
+}
+
+#[test]
+fn reads_a_flexible_value(rt: HostRuntime) -> Result<(), Fail> {
+    let value = decode_value(rt.alloc(), &Bytes::from_static(&ONGOING))?;
+    assert_eq!(rt;
+        (value.producer, value.epoch, value.timeout),
+        (1000, 0, 60000)
+    );
+    assert_eq!(rt; value.status, Status::Ongoing);
+    assert_eq!(rt; (value.last_update, value.start), (5, -1));
+    let topics = value.partitions.as_slice();
+    assert_eq!(rt; topics.len(), 1);
+    assert_eq!(rt; topics[0].topic.as_slice(), b"out".as_slice());
+    assert_eq!(rt; topics[0].numbers.as_slice(), [0, 1].as_slice());
+    Ok(())
+}
+
+#[test]
+fn names_the_first_fault(rt: HostRuntime) -> Result<(), Fail> {
+    let alloc = rt.alloc();
+    let mut version = EMPTY;
+    version[1] = 2;
+    assert_eq!(rt; fault_of(alloc, &version)?, Some(RecordFault::Version));
+    let mut status = EMPTY;
+    status[16] = 8;
+    assert_eq!(rt; fault_of(alloc, &status)?, Some(RecordFault::Status));
+    assert_eq!(rt; fault_of(alloc, &EMPTY[..36])?, Some(RecordFault::Short));
+    let mut longer = Vec::from_slice(alloc, &EMPTY)?;
+    longer.push(0)?;
+    assert_eq!(rt;
+        fault_of(alloc, longer.as_slice())?,
+        Some(RecordFault::Trailing)
+    );
+    Ok(())
+}
+
+#[test]
+fn reserves_nothing_by_a_count(rt: HostRuntime) -> Result<(), Fail> {
+    let mut hostile = EMPTY;
+    hostile[17] = 0x7f;
+    assert_eq!(rt;
+        fault_of(rt.alloc(), &hostile[..21])?,
+        Some(RecordFault::Short)
+    );
+    Ok(())
+}
