@@ -2,6 +2,11 @@ pub mod BatchFaults
 pub mod BatchParts
 pub mod BatchTexts
 pub mod CursorParts
+pub mod EncodingLeast
+pub mod EncodingSizes
+pub mod EncodingSteps
+pub mod EncodingTests
+pub mod EncodingTexts
 pub mod ReadLoops
 pub mod RecordTexts
 pub mod SegmentTexts

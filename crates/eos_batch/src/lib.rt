@@ -4,6 +4,10 @@
 mod batch;
 mod cursor;
 mod decode;
+mod encode;
+mod encode_number;
+mod encode_record;
+mod encode_size;
 mod fault;
 pub mod laws;
 mod marker;
@@ -14,6 +18,7 @@ mod segment;
 
 pub use batch::{Batch, Batches};
 pub use decode::decode_batch;
+pub use encode::encode_batch;
 pub use fault::BatchFault;
 pub use marker::{Kind, Marker};
 pub use record::{Header, Headers, Record, Records};
