@@ -1,0 +1,101 @@
+//! `chain`: whether the producers of one segment kept their promises.
+
+ghost use Rattle.std.specs.Prelude.{◌≡◌, ◌++◌, [], ℕ, List, IfOk, OnErr, OnOk, Ok, string_bytes, codes};
+ghost use Rattle.std.specs.Fmt.{decimal};
+ghost use Rattle.std.specs.Io.KnownBytes.{Keeps};
+ghost use Rattle.eoscheck.specs.Adding.{Adds};
+ghost use Rattle.eoscheck.specs.Answer.{IsChainAnswer, good_line, details, fault_line};
+ghost use Rattle.eoscheck.specs.Writing.{Ran, RanInPart, IsOfReading};
+
+use crate::fault::RunFault;
+use crate::lines::{push_text, push_value};
+use crate::output::finish;
+use bytes::Bytes;
+use eos_evidence::read_segment;
+use eos_fold::{Chain, PartitionFault, PartitionFaultKind, chain};
+use std::alloc::{AllocError, Global};
+use std::io::{Read, Write};
+
+/// Reads a segment and writes whether its chain is kept, or the least fault. The status is 0 where it is kept, else 1.
+///
+/// The segment counts as a whole partition that begins at its first batch's base offset. After `Read` and `Limit` nothing
+/// was written, after `Write` and `OutOfMemory` a front of the answer.
+pub fn chain_to<R: Read, W: Write>(
+    alloc: Global,
+    reader: &mut R,
+    writer: &mut W,
+) -> Result<u8, RunFault>
+    ensures ok { IfOk result (λ status. Ran IsChainAnswer (R.remaining reader.old) (W.contents writer.old) (W.contents writer.new) status) }
+    ensures nothing { OnErr result (IsOfReading result → Keeps (W.contents writer.old) (W.contents writer.new)) }
+    ensures front { OnErr result (RanInPart IsChainAnswer (R.remaining reader.old) (W.contents writer.old) (W.contents writer.new)) }
+{
+    let bytes = read_segment(alloc, reader)?;
+    let mut line = String::new(alloc);
+    let status = push_answer(alloc, &mut line, &bytes)?;
+    finish(writer, line.as_bytes())?;
+    Ok(status)
+}
+
+/// Adds the answer for these bytes, and gives the exit status.
+fn push_answer(alloc: Global, out: &mut String, bytes: &Bytes) -> Result<u8, AllocError>
+    ensures { IfOk result (λ status. (text : List ℕ) × IsChainAnswer bytes.now text status × Adds (string_bytes out.old) (string_bytes out.new) text) }
+{
+    match chain(alloc, bytes)? {
+        Ok(kept) => {
+            push_good(out, kept)?;
+            Ok(0)
+        }
+        Err(fault) => {
+            push_broken(out, &fault)?;
+            Ok(1)
+        }
+    }
+}
+
+fn push_good(out: &mut String, kept: Chain) -> Result<(), AllocError>
+    ensures { OnOk result (Adds (string_bytes out.old) (string_bytes out.new) (good_line kept)) }
+{
+    push_value(out, "ok batches=", &kept.batches)?;
+    push_value(out, " producers=", &kept.producers)?;
+    push_text(out, "\n")?;
+    Ok(())
+}
+
+fn push_broken(out: &mut String, fault: &PartitionFault) -> Result<(), AllocError>
+    ensures { OnOk result (Adds (string_bytes out.old) (string_bytes out.new) (fault_line fault.now)) }
+{
+    push_value(out, "no 1.", &fault.kind.number())?;
+    push_value(out, " ", &fault.kind.name())?;
+    push_value(out, " offset=", &fault.offset)?;
+    push_details(out, &fault.kind)?;
+    push_text(out, "\n")?;
+    Ok(())
+}
+
+/// Adds what stood at the fault, by its kind.
+#[tactic(auto, unfolding(crate::specs::Answer::details))]
+fn push_details(out: &mut String, kind: &PartitionFaultKind) -> Result<(), AllocError>
+    ensures { OnOk result (Adds (string_bytes out.old) (string_bytes out.new) (details kind.now)) }
+{
+    match kind {
+        PartitionFaultKind::BadBatch {
+            segment,
+            byte,
+            batch,
+        } => push_refusal(out, segment, byte, batch.name()),
+        PartitionFaultKind::Gap { found } => push_value(out, " found=", found),
+        PartitionFaultKind::Pair { producer, .. } => push_value(out, " producer=", producer),
+        PartitionFaultKind::End { end } => push_value(out, " end=", end),
+        PartitionFaultKind::OpenAtEnd { producer } => push_value(out, " producer=", producer),
+    }
+}
+
+fn push_refusal(out: &mut String, segment: &u64, byte: &u64, name: &str) -> Result<(), AllocError>
+    ensures { OnOk result (Adds (string_bytes out.old) (string_bytes out.new)
+        ((codes " segment=" ++ decimal segment.now) ++ ((codes " byte=" ++ decimal byte.now) ++ (codes " batch=" ++ name.now)))) }
+{
+    push_value(out, " segment=", segment)?;
+    push_value(out, " byte=", byte)?;
+    push_value(out, " batch=", &name)?;
+    Ok(())
+}

@@ -1,0 +1,49 @@
+//! Why a command ended without an answer.
+
+ghost use Rattle.std.specs.Prelude.{◌≡◌};
+ghost use Rattle.eoscheck.specs.declared.fault.RunFault.TheVariants.{OutOfMemory};
+ghost use Rattle.eoscheck.specs.Faults.{run_fault_of};
+
+use eos_evidence::ReadFault;
+use std::alloc::{AllocError, AllocFailed};
+
+/// Why a command ended without an answer.
+#[derive(Clone, Copy, Debug, PartialEq, Eq)]
+pub enum RunFault {
+    /// The input could not be read.
+    Read,
+    /// The input is larger than a segment may be.
+    Limit,
+    /// The output could not be written.
+    Write,
+    /// A growth of memory was refused.
+    OutOfMemory,
+}
+
+impl From<ReadFault> for RunFault {
+    ghost from_gives = { λ e fault. fault ≡ run_fault_of e };
+
+    fn from(e: ReadFault) -> RunFault {
+        match e {
+            ReadFault::Read => RunFault::Read,
+            ReadFault::Limit => RunFault::Limit,
+            ReadFault::OutOfMemory => RunFault::OutOfMemory,
+        }
+    }
+}
+
+impl From<AllocError> for RunFault {
+    ghost from_gives = { λ _ e. e ≡ OutOfMemory };
+
+    fn from(_e: AllocError) -> RunFault {
+        RunFault::OutOfMemory
+    }
+}
+
+impl<T: Drop> From<AllocFailed<T>> for RunFault {
+    ghost from_gives = { λ _ e. e ≡ OutOfMemory };
+
+    fn from(_e: AllocFailed<T>) -> RunFault {
+        RunFault::OutOfMemory
+    }
+}

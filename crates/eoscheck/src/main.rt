@@ -1,0 +1,19 @@
+//! `eoscheck`: reads Kafka log segments and says whether exactly once was kept.
+#![tactic(auto)]
+
+mod chain;
+mod dump;
+mod fault;
+mod lines;
+mod output;
+mod run;
+mod words;
+
+use std::process::ExitCode;
+
+fn main(rt: HostRuntime) -> ExitCode {
+    ExitCode::from(run::run(&rt))
+}
+
+#[cfg(test)]
+mod tests;

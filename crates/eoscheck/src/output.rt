@@ -1,0 +1,58 @@
+//! Writing a text whole, or a front of it.
+
+ghost use Rattle.std.specs.Prelude.{◌≡◌, ◌<◌, ◌≤◌, ℕ, length, take, IfOk, OnOk, OnErr};
+ghost use Rattle.std.specs.Io.KnownBytes.{Appends, Keeps};
+ghost use Rattle.eoscheck.specs.Writing.{WritesFront};
+
+use crate::fault::RunFault;
+use std::io::{ErrorKind, Write};
+
+/// How often in a row an interrupted write is tried.
+const TRIES: u32 = 1000;
+
+/// Writes all bytes. At `Write`, which is its only refusal, a front of them was written.
+pub(crate) fn write_whole<W: Write>(writer: &mut W, bytes: &[u8]) -> Result<(), RunFault>
+    ensures ok { OnOk result (Appends (W.contents writer.old) (W.contents writer.new) bytes.now) }
+    ensures front { OnErr result (WritesFront (W.contents writer.old) (W.contents writer.new) bytes.now) }
+    ensures only { OnErr result (result ≡ Err RunFault.Write) }
+{
+    let mut at = 0usize;
+    while at < bytes.len() {
+        let count = write_some(writer, &bytes[at..])?;
+        at += count;
+    }
+    Ok(())
+}
+
+/// One write, which takes at least a byte. It is tried again where it is interrupted.
+fn write_some<W: Write>(writer: &mut W, bytes: &[u8]) -> Result<usize, RunFault>
+    requires { 0 < length bytes.now }
+    ensures some { IfOk result (λ count. 0 < count) }
+    ensures within { IfOk result (λ count. count ≤ length bytes.now) }
+    ensures ok { IfOk result (λ count. Appends (W.contents writer.old) (W.contents writer.new) (take count bytes.now)) }
+    ensures err { OnErr result (Keeps (W.contents writer.old) (W.contents writer.new)) }
+    ensures only { OnErr result (result ≡ Err RunFault.Write) }
+{
+    for _ in 0..TRIES {
+        match writer.write(bytes) {
+            Ok(0) => return Err(RunFault::Write),
+            Ok(count) => return Ok(count),
+            Err(e) => {
+                if e.kind() != ErrorKind::Interrupted {
+                    return Err(RunFault::Write);
+                }
+            }
+        }
+    }
+    Err(RunFault::Write)
+}
+
+/// Writes all bytes and hands them on, so that nothing is held back.
+pub(crate) fn finish<W: Write>(writer: &mut W, bytes: &[u8]) -> Result<(), RunFault>
+    ensures ok { OnOk result (Appends (W.contents writer.old) (W.contents writer.new) bytes.now) }
+    ensures front { OnErr result (WritesFront (W.contents writer.old) (W.contents writer.new) bytes.now) }
+    ensures only { OnErr result (result ≡ Err RunFault.Write) }
+{
+    write_whole(writer, bytes)?;
+    writer.flush().map_err(|_| RunFault::Write)
+}
