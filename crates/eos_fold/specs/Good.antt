@@ -10,6 +10,8 @@ use Rattle.eos_fold.specs.Touches.{touches_of, IsProducerCount}
 use Rattle.eos_fold.specs.Front.{IsBeginning}
 use Rattle.eos_fold.specs.Faults.{Stands}
 
+-- The bytes are texts of all these batches without a gap, and nothing is left; both counts are right; every producer
+-- id is sequenced and fenced; and so no fault stands.
 pub record IsGood (bytes : List ℕ) (chain : Chain) : Type 0 where
   pub all : List Batch
   pub texts : IsBeginning bytes all []

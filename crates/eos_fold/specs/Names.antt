@@ -1,4 +1,5 @@
--- The numbers and names of a partition's faults. Those of a pair of touches have their own.
+-- The numbers and names of a partition's faults, which are this project's own. Those of a pair of touches have their own
+-- table.
 use Rattle.std.specs.Prelude.{ℕ, List, codes}
 use Rattle.eos_touch.specs.Pair as pair
 use Rattle.eos_touch.specs.Names as pair_names

@@ -1,4 +1,6 @@
--- What a walk along a segment keeps of the batches that it has passed.
+-- What a walk along a segment keeps of the batches that it has passed. It is for the private steps of `chain`; the answer
+-- of `chain` itself speaks of no walk.
+-- Source: KIP-98, where a broker keeps as little of each producer id: its last batches.
 use Rattle.std.specs.Prelude.{◌≡◌, ℕ, ◌≤◌, ℤ, pos, true, List, [], ◌∷◌, ◌++◌, length, Some, ⊤}
 use Rattle.std.specs.Ordering.{int_cmp}
 use Rattle.std.specs.BTreeMap.{BTreeMap, get, btree_map_len}
