@@ -11,7 +11,7 @@ use Rattle.eos_batch.specs.declared.fault.BatchFault.TheVariants as faults
 use Rattle.eos_batch.specs.declared.record.Header.{Header}
 use Rattle.eos_batch.specs.declared.record.Record.{Record}
 use Rattle.eos_batch.specs.Text.{IsHeaderText, AreHeaderTexts, IsBodyText, IsRecordText, AreRecordTexts}
-use Rattle.eos_batch.specs.Reading.{or_fault, int_at, long_at, count_at, bytes_at, optional_at, header_at, headers_at, body_at, used_up, record_at, records_at}
+use Rattle.eos_batch.specs.Reading.{or_fault, int_at, long_at, count_at, bytes_at, optional_at, header_at, headers_at, body_at, used_up, placed_at, record_at, records_at}
 use Rattle.eos_batch.proofs.TextParts.{bind_ok, ok_is, must_ok, or_fault_ok, Taken, IsSound, IsWhole, glue, int_sound, int_whole, long_sound, long_whole, count_sound, count_whole, bytes_sound, bytes_whole, optional_sound, optional_whole}
 
 -- ---- headers
@@ -135,24 +135,30 @@ body_whole place text r rest h =
 
 -- ---- records
 
+placed_sound : (place : ℕ) (bytes : List ℕ) (r : Record) → IsBytes bytes → placed_at place bytes ≡ Ok r → IsBodyText place bytes r
+unfolding placed_at
+placed_sound place bytes r fits e =
+    let b = bind_ok (body_at bytes) _ r e in
+    let w = bind_ok (used_up faults.Record b.0) _ r b.2 in
+    let bs = body_sound bytes b.0 fits b.1 in
+    let g = must_ok (eqb (length b.0.1) 0) faults.Record b.0.0 w.0 w.1 in
+    let none : b.0.1 ≡ [] = nil_from_length b.0.1 (eqb-true (length b.0.1) 0 g.0) in
+    let body_is : bytes ≡ bs.text = bs.parts ∙ (ap (λ (xs : List ℕ). bs.text ++ xs) none ∙ append-nil bs.text) in
+    let q = must_ok (int_eq w.0.0 (pos place)) faults.Delta w.0.1 r w.2 in
+    let at : b.0.0.0 ≡ pos place = ap (λ (y : ℤ × Record). y.0) g.1 ∙ (Decides-int_eq w.0.0 (pos place)).0 q.0 in
+    let is : b.0.0.1 ≡ r = ap (λ (y : ℤ × Record). y.1) g.1 ∙ q.1 in
+    subst (λ (xs : List ℕ). IsBodyText place xs r) (sym body_is) (subst (IsBodyText place bs.text) is (bs.holds place at))
+
 pub record_sound : (place : ℕ) → IsSound (IsRecordText place) (record_at place)
 unfolding record_at
 record_sound place bytes x fits e =
     let t = bind_ok (bytes_at bytes) _ x e in
-    let b = bind_ok (body_at t.0.0) _ x t.2 in
-    let w = bind_ok (used_up faults.Record b.0) _ x b.2 in
+    let r = bind_ok (placed_at place t.0.0) _ x t.2 in
     let ts = bytes_sound bytes t.0 fits t.1 in
     let front : IsBytes (ts.holds.0 ++ t.0.0) = IsBytes-append_left (ts.holds.0 ++ t.0.0) t.0.1 (subst (λ (xs : List ℕ). IsBytes (xs ++ t.0.1)) ts.holds.2 (subst IsBytes ts.parts fits)) in
-    let bs = body_sound t.0.0 b.0 (IsBytes-append_right ts.holds.0 t.0.0 front) b.1 in
-    let g = must_ok (eqb (length b.0.1) 0) faults.Record b.0.0 w.0 w.1 in
-    let none : b.0.1 ≡ [] = nil_from_length b.0.1 (eqb-true (length b.0.1) 0 g.0) in
-    let body_is : t.0.0 ≡ bs.text = bs.parts ∙ (ap (λ (xs : List ℕ). bs.text ++ xs) none ∙ append-nil bs.text) in
-    let made : Record × List ℕ = (w.0.1, t.0.1) in
-    let q = must_ok (int_eq w.0.0 (pos place)) faults.Delta made x w.2 in
-    let at : b.0.0.0 ≡ pos place = ap (λ (y : ℤ × Record). y.0) g.1 ∙ (Decides-int_eq w.0.0 (pos place)).0 q.0 in
-    let is : b.0.0.1 ≡ w.0.1 = ap (λ (y : ℤ × Record). y.1) g.1 in
-    let holds : IsBodyText place t.0.0 w.0.1 = subst (λ (xs : List ℕ). IsBodyText place xs w.0.1) (sym body_is) (subst (IsBodyText place bs.text) is (bs.holds place at)) in
-    subst (Taken (IsRecordText place) bytes) q.1 (record {
+    let holds = placed_sound place t.0.0 r.0 (IsBytes-append_right ts.holds.0 t.0.0 front) r.1 in
+    let made : Record × List ℕ = (r.0, t.0.1) in
+    subst (Taken (IsRecordText place) bytes) (ok_is made x r.2) (record {
       text = ts.text;
       parts = ts.parts;
       holds = record { len = ts.holds.0; body = t.0.0; len_text = ts.holds.1; body_text = holds; parts = ts.holds.2 };
@@ -160,7 +166,7 @@ record_sound place bytes x fits e =
     })
 
 pub record_whole : (place : ℕ) → IsWhole (IsRecordText place) (record_at place)
-unfolding record_at
+unfolding record_at placed_at
 record_whole place text r rest h =
     let b : body_at h.body ≡ Ok ((pos place, r), []) = ap body_at (sym (append-nil h.body)) ∙ body_whole place h.body r [] h.body_text in
     let q : int_eq (pos place) (pos place) ≡ true = (Decides-int_eq (pos place) (pos place)).1 refl in

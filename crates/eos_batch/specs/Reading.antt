@@ -140,13 +140,19 @@ body_at bytes = do
 abbrev pub used_up : {X : Type 0} → BatchFault → X × List ℕ → Result X BatchFault
 used_up fault read = must (length read.1 == 0) fault read.0
 
--- the record at this place of its batch
+-- the same with nothing after it, at this place of its batch
+unfoldable pub placed_at : ℕ → List ℕ → Result Record BatchFault
+placed_at place bytes = do
+  body ← body_at bytes
+  whole ← used_up faults.Record body
+  must (int_eq whole.0 (pos place)) faults.Delta whole.1
+
+-- a length and that many bytes of a record
 unfoldable pub record_at : ℕ → List ℕ → Result (Record × List ℕ) BatchFault
 record_at place bytes = do
   text ← bytes_at bytes
-  body ← body_at text.0
-  whole ← used_up faults.Record body
-  must (int_eq whole.0 (pos place)) faults.Delta (whole.1, text.1)
+  r ← placed_at place text.0
+  Ok (r, text.1)
 
 -- so many records, the first of them at this place
 unfoldable pub records_at : ℕ → ℕ → List ℕ → Result (List Record × List ℕ) BatchFault

@@ -27,9 +27,12 @@ pub enum Kind {
 /// An end marker: the control record with which a transaction ends in a partition.
 #[derive(Clone, Copy, Debug, PartialEq, Eq)]
 pub struct Marker {
+    /// The producer id whose transaction ends.
     pub producer: i64,
+    /// The producer epoch that the marker carries.
     pub epoch: i16,
     pub kind: Kind,
+    /// The epoch of the transaction coordinator that wrote it.
     pub coordinator_epoch: i32,
 }
 

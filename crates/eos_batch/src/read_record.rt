@@ -16,7 +16,7 @@
 //! the bytes that stand there: nothing is reserved for a count.
 
 ghost use Rattle.std.specs.Prelude.{◌≡◌};
-ghost use Rattle.eos_batch.specs.Reading.{Gives, header_at, headers_at, body_at, record_at, records_at};
+ghost use Rattle.eos_batch.specs.Reading.{Answers, Gives, header_at, headers_at, placed_at, record_at, records_at};
 
 use crate::cursor::Cursor;
 use crate::fault::BatchFault;
@@ -43,10 +43,10 @@ fn headers_of(alloc: Global, rest: &mut Cursor, count: u32) -> Result<Headers, B
     Ok(Headers::new(headers))
 }
 
-/// A record without its length, and its offset delta.
-#[tactic(auto, unfolding(crate::specs::Reading::body_at))]
-fn body_of(alloc: Global, rest: &mut Cursor) -> Result<(i32, Record), BatchFault>
-    ensures { Gives result rest.new (body_at rest.old) }
+/// A record without its length, which takes all bytes.
+#[tactic(auto, unfolding(crate::specs::Reading::placed_at, crate::specs::Reading::body_at))]
+fn placed_of(alloc: Global, rest: &mut Cursor, place: u32) -> Result<Record, BatchFault>
+    ensures { Answers result (placed_at place rest.old) }
 {
     let attributes = rest.i8().ok_or(BatchFault::Record)?;
     let timestamp_delta = rest.varlong()?;
@@ -55,16 +55,19 @@ fn body_of(alloc: Global, rest: &mut Cursor) -> Result<(i32, Record), BatchFault
     let value = rest.optional()?;
     let count = rest.count()?;
     let headers = headers_of(alloc, rest, count)?;
-    Ok((
-        delta,
-        Record {
-            attributes,
-            timestamp_delta,
-            key,
-            value,
-            headers,
-        },
-    ))
+    if !rest.is_empty() {
+        return Err(BatchFault::Record);
+    }
+    if i64::from(delta) != i64::from(place) {
+        return Err(BatchFault::Delta);
+    }
+    Ok(Record {
+        attributes,
+        timestamp_delta,
+        key,
+        value,
+        headers,
+    })
 }
 
 /// The record at this place of its batch.
@@ -77,14 +80,7 @@ fn record_of(alloc: Global, rest: &mut Cursor, place: u32) -> Result<Record, Bat
         return Err(BatchFault::Record);
     }
     let mut text = rest.part(len);
-    let (delta, record) = body_of(alloc, &mut text)?;
-    if !text.is_empty() {
-        return Err(BatchFault::Record);
-    }
-    if i64::from(delta) != i64::from(place) {
-        return Err(BatchFault::Delta);
-    }
-    Ok(record)
+    placed_of(alloc, &mut text, place)
 }
 
 /// So many records from the batch's first on.

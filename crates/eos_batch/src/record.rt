@@ -83,7 +83,9 @@ impl Clone for Headers {
 /// A record of a batch. Its offset is the batch's base offset plus its place.
 #[derive(Clone, Debug, PartialEq, Eq, Drop)]
 pub struct Record {
+    /// No bit means anything.
     pub attributes: i8,
+    /// In milliseconds, from the batch's base timestamp.
     pub timestamp_delta: i64,
     pub key: Option<Bytes>,
     pub value: Option<Bytes>,
