@@ -4,6 +4,7 @@ use Rattle.std.proofs.lemmas.List.{append-nil}
 use Rattle.eos_txnlog.specs.declared.fault.RecordFault.{RecordFault}
 use Rattle.eos_txnlog.specs.declared.fault.RecordFault.TheVariants as faults
 use Rattle.eos_txnlog.specs.Reading.{◌>>=◌, Fails, many_from, skipped}
+use Rattle.eos_txnlog.proofs.Takes.{done}
 
 -- what fails is passed on
 pub fails_through : {A B : Type 0} (e : RecordFault) (r : Result A RecordFault) (s : Result B RecordFault) → ((f : RecordFault) → r ≡ Err f → s ≡ Err f) → Fails e r → Fails e s
@@ -51,9 +52,6 @@ starts {X} front (Ok x) none = ap (λ (xs : List X). Ok (xs ++ x.0, x.1)) none
 starts front (Err e) none = refl
 
 -- ---- the same where nothing is kept
-
-abbrev done : {A : Type 0} → A → Result A RecordFault
-done x = Ok x
 
 rest_is : (x y : Unit {0} × List ℕ) → done x ≡ done y → x.1 ≡ y.1
 rest_is x y e = let same : x ≡ y = cc in ap (λ (z : Unit {0} × List ℕ). z.1) same

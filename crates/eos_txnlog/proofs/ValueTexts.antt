@@ -11,13 +11,13 @@ use Rattle.eos_wire.proofs.NumberTexts.{i8_sound, i8_whole, i16_sound, i16_whole
 use Rattle.eos_txnlog.specs.declared.fault.RecordFault.{RecordFault}
 use Rattle.eos_txnlog.specs.declared.fault.RecordFault.TheVariants as faults
 use Rattle.eos_txnlog.specs.declared.form.Form.{Form}
-use Rattle.eos_txnlog.specs.declared.form.Form.TheVariants.{Plain}
+use Rattle.eos_txnlog.specs.declared.form.Form.TheVariants.{Plain, Flexible}
 use Rattle.eos_txnlog.specs.declared.status.Status.{Status}
 use Rattle.eos_txnlog.specs.declared.status.Status.TheVariants as statuses
 use Rattle.eos_txnlog.specs.declared.partitions.TopicPartitions.{TopicPartitions}
 use Rattle.eos_txnlog.specs.declared.value.TxnValue.{TxnValue}
 use Rattle.eos_txnlog.specs.Status.{status_number, all_statuses, status_of}
-use Rattle.eos_txnlog.specs.Text.{form_of, IsCountText, IsNullText, IsStringText, AreTexts, IsKeyText, IsTopicText, IsPartitionsText, IsBodyText, IsValueText}
+use Rattle.eos_txnlog.specs.Text.{form_of, IsCountText, IsNullText, IsStringText, AreTexts, IsKeyText, IsTopicText, IsPartitionsText, IsBodyText, IsValueText, IsListText, IsNumberText}
 use Rattle.eos_txnlog.specs.Reading.{Answers, present, known_status, status_from, count_from, string_from, numbers_from, section_from, topic_from, partitions_from, body_from, known_form, ended, read_value, id_from, read_key}
 use Rattle.eos_txnlog.proofs.Takes.{bind_ok, done, ok_is, glue, Taken, IsSound, IsWhole, many_sound, many_whole}
 use Rattle.eos_txnlog.proofs.FieldTexts.{IsSigned, signed_sound, signed_whole, IsCountOrNull, count_sound, count_whole, string_sound, string_whole, numbers_sound, numbers_whole, IsSection, section_sound, section_whole}
@@ -77,19 +77,14 @@ status_whole text s rest h = rw (signed_whole w8 i8_text i8_at i8_whole text (st
 
 -- ---- topics
 
-topic_sound : (form : Form) → IsSound (IsTopicText form) (topic_from form)
-unfolding topic_from
-topic_sound form bytes x fits e =
-    let t = bind_ok (string_from form bytes) _ x e in
-    let n = bind_ok (numbers_from form t.0.1) _ x t.2 in
-    let s = bind_ok (section_from form n.0.1) _ x n.2 in
-    let topic = string_sound form bytes t.0 fits t.1 in
-    let numbers = numbers_sound form t.0.1 n.0 topic.rest_fits n.1 in
-    let section = section_sound form n.0.1 s.0 numbers.rest_fits s.1 in
-    let made : TopicPartitions × List ℕ = (record { topic = t.0.0; numbers = n.0.0 }, s.0.1) in
-    subst (Taken (IsTopicText form) bytes) (ok_is made x s.2) (record {
+-- the parts that were taken one after the other are a topic
+topic_taken : (form : Form) (bytes : List ℕ) (t : List ℕ × List ℕ) (n : List ℤ × List ℕ) (s : Unit {0} × List ℕ) (x : TopicPartitions × List ℕ)
+    → Taken (IsStringText form) bytes t → Taken (IsListText form IsNumberText) t.1 n → Taken (IsSection form) n.1 s → done (record { topic = t.0; numbers = n.0 }, s.1) ≡ done x → Taken (IsTopicText form) bytes x
+topic_taken form bytes t n s x topic numbers section e =
+    let made : TopicPartitions × List ℕ = (record { topic = t.0; numbers = n.0 }, s.1) in
+    subst (Taken (IsTopicText form) bytes) (ok_is made x e) (record {
       text = topic.text ++ (numbers.text ++ section.text);
-      parts = glue bytes topic.text t.0.1 (numbers.text ++ section.text) s.0.1 topic.parts (glue t.0.1 numbers.text n.0.1 section.text s.0.1 numbers.parts section.parts);
+      parts = glue bytes topic.text t.1 (numbers.text ++ section.text) s.1 topic.parts (glue t.1 numbers.text n.1 section.text s.1 numbers.parts section.parts);
       holds = record {
         topic = topic.text;
         numbers = numbers.text;
@@ -101,6 +96,17 @@ topic_sound form bytes x fits e =
       };
       rest_fits = section.rest_fits;
     })
+
+topic_sound : (form : Form) → IsSound (IsTopicText form) (topic_from form)
+unfolding topic_from
+topic_sound form bytes x fits e =
+    let t = bind_ok (string_from form bytes) _ x e in
+    let n = bind_ok (numbers_from form t.0.1) _ x t.2 in
+    let s = bind_ok (section_from form n.0.1) _ x n.2 in
+    let topic = string_sound form bytes t.0 fits t.1 in
+    let numbers = numbers_sound form t.0.1 n.0 topic.rest_fits n.1 in
+    let section = section_sound form n.0.1 s.0 numbers.rest_fits s.1 in
+    topic_taken form bytes t.0 n.0 s.0 x topic numbers section s.2
 
 topic_whole : (form : Form) → IsWhole (IsTopicText form) (topic_from form)
 unfolding topic_from
@@ -147,18 +153,19 @@ parts_again : (a b c d l s a' b' c' d' l' s' p t : List ℕ) → a ≡ a' → b 
 parts_again a b c d l s a' b' c' d' l' s' p t ea eb ec ed el es = cc
 
 -- the parts that were taken one after the other are a body
-body_taken : (form : Form) (bytes : List ℕ) (a b c : ℤ × List ℕ) (d : Status × List ℕ) (p : List TopicPartitions × List ℕ) (l s : ℤ × List ℕ) (g : Unit {0} × List ℕ)
+body_taken : (form : Form) (bytes : List ℕ) (a b c : ℤ × List ℕ) (d : Status × List ℕ) (p : List TopicPartitions × List ℕ) (l s : ℤ × List ℕ) (g : Unit {0} × List ℕ) (x : TxnValue × List ℕ)
     → Taken (IsSigned w64 i64_text) bytes a → Taken (IsSigned w16 i16_text) a.1 b → Taken (IsSigned w32 i32_text) b.1 c → Taken IsStatus c.1 d → Taken (IsPartitionsText form) d.1 p
     → Taken (IsSigned w64 i64_text) p.1 l → Taken (IsSigned w64 i64_text) l.1 s → Taken (IsSection form) s.1 g
-    → Taken (IsBodyText form) bytes (record { producer = a.0; epoch = b.0; timeout = c.0; status = d.0; partitions = p.0; last_update = l.0; start = s.0 }, g.1)
-body_taken form bytes a b c d p l s g producer epoch timeout status partitions last_update start section =
+    → done (record { producer = a.0; epoch = b.0; timeout = c.0; status = d.0; partitions = p.0; last_update = l.0; start = s.0 }, g.1) ≡ done x → Taken (IsBodyText form) bytes x
+body_taken form bytes a b c d p l s g x producer epoch timeout status partitions last_update start section e =
+    let made : TxnValue × List ℕ = (record { producer = a.0; epoch = b.0; timeout = c.0; status = d.0; partitions = p.0; last_update = l.0; start = s.0 }, g.1) in
     let p7 = glue l.1 start.text s.1 section.text g.1 start.parts section.parts in
     let p6 = glue p.1 last_update.text l.1 (start.text ++ section.text) g.1 last_update.parts p7 in
     let p5 = glue d.1 partitions.text p.1 (last_update.text ++ (start.text ++ section.text)) g.1 partitions.parts p6 in
     let p4 = glue c.1 status.text d.1 (partitions.text ++ (last_update.text ++ (start.text ++ section.text))) g.1 status.parts p5 in
     let p3 = glue b.1 timeout.text c.1 (status.text ++ (partitions.text ++ (last_update.text ++ (start.text ++ section.text)))) g.1 timeout.parts p4 in
     let p2 = glue a.1 epoch.text b.1 (timeout.text ++ (status.text ++ (partitions.text ++ (last_update.text ++ (start.text ++ section.text))))) g.1 epoch.parts p3 in
-    record {
+    subst (Taken (IsBodyText form) bytes) (ok_is made x e) (record {
       text = producer.text ++ (epoch.text ++ (timeout.text ++ (status.text ++ (partitions.text ++ (last_update.text ++ (start.text ++ section.text))))));
       parts = glue bytes producer.text a.1 (epoch.text ++ (timeout.text ++ (status.text ++ (partitions.text ++ (last_update.text ++ (start.text ++ section.text)))))) g.1 producer.parts p2;
       holds = record {
@@ -171,7 +178,7 @@ body_taken form bytes a b c d p l s g producer epoch timeout status partitions l
         parts = parts_again _ _ _ _ _ _ _ _ _ _ _ _ partitions.text section.text producer.holds.1 epoch.holds.1 timeout.holds.1 status.holds last_update.holds.1 start.holds.1;
       };
       rest_fits = section.rest_fits;
-    }
+    })
 
 body_sound : (form : Form) → IsSound (IsBodyText form) (body_from form)
 unfolding body_from
@@ -192,7 +199,7 @@ body_sound form bytes x fits e =
     let last_update = signed_sound w64 i64_text i64_at i64_sound p.0.1 l.0 partitions.rest_fits l.1 in
     let start = signed_sound w64 i64_text i64_at i64_sound l.0.1 s.0 last_update.rest_fits s.1 in
     let section = section_sound form s.0.1 g.0 start.rest_fits g.1 in
-    subst (Taken (IsBodyText form) bytes) (ok_is _ x g.2) (body_taken form bytes a.0 b.0 c.0 d.0 p.0 l.0 s.0 g.0 producer epoch timeout status partitions last_update start section)
+    body_taken form bytes a.0 b.0 c.0 d.0 p.0 l.0 s.0 g.0 x producer epoch timeout status partitions last_update start section g.2
 
 body_whole : (form : Form) → IsWhole (IsBodyText form) (body_from form)
 unfolding body_from
@@ -231,6 +238,15 @@ pub known_form_ok : (o : Option Form) (form : Form) → known_form o ≡ Ok form
 known_form_ok None form e = absurd cc
 known_form_ok (Some f) form e = cc
 
+-- a known version is a small number
+known_fits : (version : ℤ) (form : Form) → form_of version ≡ Some form → FitsSigned w16 version
+known_fits version form e = at (int_eq version (pos 0)) refl (int_eq version (pos 1)) refl e
+  where
+    at : (a : Bool) → int_eq version (pos 0) ≡ a → (b : Bool) → int_eq version (pos 1) ≡ b → cond a (Some Plain) (cond b (Some Flexible) None) ≡ Some form → FitsSigned w16 version
+    at true q b r k = subst (FitsSigned w16) (sym ((Decides-int_eq version (pos 0)).0 q)) (record { sfits = omega arith })
+    at false q true r k = subst (FitsSigned w16) (sym ((Decides-int_eq version (pos 1)).0 r)) (record { sfits = omega arith })
+    at false q false r k = absurd cc
+
 pub value_sound : (bytes : List ℕ) (v : TxnValue) → IsBytes bytes → read_value bytes ≡ Ok v → IsValueText bytes v
 unfolding read_value
 value_sound bytes v fits e =
@@ -245,7 +261,6 @@ value_sound bytes v fits e =
       version = n.0.0;
       form = f.0;
       body = body.text;
-      version_fits = version.holds.0;
       known = known_form_ok (form_of n.0.0) f.0 f.1;
       body_text = subst (IsBodyText f.0 body.text) end.0 body.holds;
       parts = version.parts ∙ (ap (λ (xs : List ℕ). version.text ++ xs) whole ∙ ap (λ (xs : List ℕ). xs ++ body.text) version.holds.1);
@@ -255,7 +270,7 @@ pub value_whole : (bytes : List ℕ) (v : TxnValue) → IsValueText bytes v → 
 unfolding read_value
 value_whole bytes v h =
     let b : body_from h.form h.body ≡ Ok (v, []) = ap (body_from h.form) (sym (append-nil h.body)) ∙ body_whole h.form h.body v [] h.body_text in
-    rw (h.parts, i16_whole h.version h.body h.version_fits, h.known, b) refl
+    rw (h.parts, i16_whole h.version h.body (known_fits h.version h.form h.known), h.known, b) refl
 
 -- ---- keys
 

@@ -1,11 +1,9 @@
 -- What is written is a text of the value.
-use Rattle.std.proofs.Common.{◌≡◌, ℕ, suc, ◌+◌, ◌^◌, Bool, true, false, cond, List, [], ◌∷◌, ◌++◌, length, flat_map, Some, None, Result, Ok, Err, refl, sym, subst, append_assoc, arith, ℤ, pos, inl}
+use Rattle.std.proofs.Common.{◌≡◌, ℕ, suc, ◌+◌, ◌^◌, Bool, true, false, List, [], ◌∷◌, ◌++◌, length, flat_map, Some, Result, Ok, Err, refl, sym, append_assoc, arith, ℤ, pos, inl}
 use Rattle.std.specs.Prelude.{◌&&◌, All, FitsSigned, IfOk, OnOk}
-use Rattle.std.specs.Int.{w16, w32}
+use Rattle.std.specs.Int.{w32}
 use Rattle.std.specs.List.{list_all}
-use Rattle.std.specs.Ordering.{int_eq}
 use Rattle.std.proofs.lemmas.Bool.{ltb-true}
-use Rattle.std.proofs.lemmas.Bool.Decides.{Decides-int_eq}
 use Rattle.std.proofs.lemmas.List.{append-nil}
 use Rattle.eos_wire.specs.Numbers.{i16_text, i32_text}
 use Rattle.eos_wire.specs.Writing.{uvarint_of}
@@ -92,15 +90,6 @@ fitting_ok : (fits : Bool) (text bytes : List ℕ) → fitting fits text ≡ Ok 
 fitting_ok true text bytes e = (refl, ok_is text bytes e)
 fitting_ok false text bytes e = absurd cc
 
--- a known version is a small number
-known_fits : (version : ℤ) (form : Form) → form_of version ≡ Some form → FitsSigned w16 version
-known_fits version form e = at (int_eq version (pos 0)) refl (int_eq version (pos 1)) refl e
-  where
-    at : (a : Bool) → int_eq version (pos 0) ≡ a → (b : Bool) → int_eq version (pos 1) ≡ b → cond a (Some Plain) (cond b (Some Flexible) None) ≡ Some form → FitsSigned w16 version
-    at true q b r k = subst (FitsSigned w16) (sym ((Decides-int_eq version (pos 0)).0 q)) (record { sfits = omega arith })
-    at false q true r k = subst (FitsSigned w16) (sym ((Decides-int_eq version (pos 1)).0 r)) (record { sfits = omega arith })
-    at false q false r k = absurd cc
-
 value_text : (version : ℤ) (value : TxnValue) (bytes : List ℕ) → IsInRange value → write_value version value ≡ Ok bytes → IsValueText bytes value
 unfolding write_value
 value_text version value bytes range e =
@@ -111,7 +100,6 @@ value_text version value bytes range e =
       version = version;
       form = f.0;
       body = body_text f.0 value;
-      version_fits = known_fits version f.0 known;
       known = known;
       body_text = body_written f.0 value w.0 range;
       parts = sym w.1;

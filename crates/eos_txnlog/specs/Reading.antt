@@ -1,4 +1,5 @@
--- Reading a key or a value from left to right, with the first fault that is met: the order of the refusals.
+-- Reading a key or a value of `__transaction_state` (Kafka's schemas `TransactionLogKey` and `TransactionLogValue`; KIP-482
+-- for the flexible form) from left to right, with the first fault that is met: the order of the refusals.
 use Rattle.std.specs.Prelude.{◌≡◌, ℕ, zero, suc, ℤ, pos, negsuc, List, [], ◌∷◌, length, Option, Some, None, unwrap_or, Result, Ok, Err, nat_lt, ◌==◌, if◌then◌else◌, ⊤}
 use Rattle.std.specs.Ordering.{int_eq}
 use Rattle.eos_wire.specs.Numbers.{bytes_at, i8_at, i16_at, i32_at, i64_at}

@@ -115,7 +115,6 @@ pub record IsValueText (text : List ℕ) (value : TxnValue) : Type 0 where
   pub version : ℤ
   pub form : Form
   pub body : List ℕ
-  pub version_fits : FitsSigned w16 version
   pub known : form_of version ≡ Some form
   pub body_text : IsBodyText form body value
   pub parts : text ≡ i16_text version ++ body

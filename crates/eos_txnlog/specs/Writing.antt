@@ -1,5 +1,6 @@
--- The bytes that are written for a key or a value, and what fits its length fields. The choices of the writer: numbers in
--- their shortest spelling, an empty list by the count 0, and no tagged fields.
+-- The bytes that are written for a key or a value of `__transaction_state` (Kafka's schemas `TransactionLogKey` and
+-- `TransactionLogValue`; KIP-482 for the flexible form), and what fits its length fields. The choices of the writer:
+-- numbers in their shortest spelling, an empty list by the count 0, and no tagged fields.
 use Rattle.std.specs.Prelude.{◌≡◌, ℕ, ◌+◌, ◌^◌, ℤ, pos, Bool, true, false, ◌&&◌, List, [], ◌++◌, length, flat_map, Result, Ok, Err, nat_lt, if◌then◌else◌, ⊤}
 use Rattle.std.specs.List.{list_all}
 use Rattle.eos_wire.specs.Numbers.{i8_text, i16_text, i32_text, i64_text}

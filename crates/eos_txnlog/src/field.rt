@@ -19,6 +19,9 @@ use bytes::Bytes;
 use eos_wire::{Fields, read_uvarint};
 use std::alloc::Global;
 
+/// The most bytes of an unsigned varint.
+const VARINT_MOST: usize = 5;
+
 /// Each item of a slice of bytes is a byte.
 pub(crate) fn are_bytes(_bytes: &[u8])
     ensures { IsBytes _bytes.now }
@@ -78,12 +81,10 @@ fn read_unsigned(rest: &mut Bytes) -> Result<u32, RecordFault>
     ensures { Gives result rest.new (uvarint_from rest.old) }
 {
     let Some((number, len)) = read_uvarint(rest.as_slice()) else {
-        let is_short = rest.len() < 5;
-        return Err(if is_short {
-            RecordFault::Short
-        } else {
-            RecordFault::Length
-        });
+        if rest.len() < VARINT_MOST {
+            return Err(RecordFault::Short);
+        }
+        return Err(RecordFault::Length);
     };
     rest.advance(len);
     Ok(number)

@@ -4,8 +4,8 @@ ghost use Rattle.std.specs.Prelude.{◌≡◌};
 ghost use Rattle.eos_txnlog.specs.Text.{form_of};
 
 /// The form of a version's lengths and counts. All else stands alike in both.
-#[derive(Clone, Copy, Debug, PartialEq, Eq)]
-pub enum Form {
+#[derive(Clone, Copy)]
+pub(crate) enum Form {
     /// Version 0: numbers of a fixed width.
     Plain,
     /// Version 1 (KIP-482): unsigned varints of one more, and sections of tagged fields.

@@ -1,6 +1,6 @@
 //! The numbers of a topic's partitions.
 
-ghost use Rattle.std.specs.Prelude.{◌≡◌, ◌++◌, ◌∷◌, [], OnOk};
+ghost use Rattle.std.specs.Prelude.{◌≡◌, ◌++◌, ◌∷◌, [], OnOk, OnErr};
 
 use std::alloc::AllocError;
 use std::marker::Model;
@@ -29,7 +29,8 @@ impl Numbers {
 
     /// Puts a number last.
     pub(crate) fn push(&mut self, number: i32) -> Result<(), AllocError>
-        ensures { OnOk result (self.new ≡ self.old ++ number ∷ []) }
+        ensures ok { OnOk result (self.new ≡ self.old ++ number ∷ []) }
+        ensures err { OnErr result (self.new ≡ self.old) }
     {
         self.items.push(number)?;
         Ok(())

@@ -1,6 +1,6 @@
 //! The partitions that a transaction wrote to.
 
-ghost use Rattle.std.specs.Prelude.{◌≡◌, ◌++◌, ◌∷◌, [], OnOk};
+ghost use Rattle.std.specs.Prelude.{◌≡◌, ◌++◌, ◌∷◌, [], OnOk, OnErr};
 
 use crate::numbers::Numbers;
 use bytes::Bytes;
@@ -39,7 +39,8 @@ impl Partitions {
 
     /// Puts a topic last.
     pub(crate) fn push(&mut self, topic: TopicPartitions) -> Result<(), AllocError>
-        ensures { OnOk result (self.new ≡ self.old ++ topic ∷ []) }
+        ensures ok { OnOk result (self.new ≡ self.old ++ topic ∷ []) }
+        ensures err { OnErr result (self.new ≡ self.old) }
     {
         self.items.push(topic)?;
         Ok(())

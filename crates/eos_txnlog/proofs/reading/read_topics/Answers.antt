@@ -10,7 +10,7 @@ returns-in_err-topic c =
 
 pub loop-preserved : goal.loop-preserved
 loop-preserved c =
-    rw c.in_ok-push.ensures (goes_on (λ xs. xs) (topic_from c.args.form) c.loop.topics c.args.count c.loop.counter c.loop.rest c.in_ok-topic.topic c.read_topic.new.rest (many_from (topic_from c.args.form) c.args.count c.args.rest.now) c.loop-test.true c.in_ok-topic.ensures c.loop.invariant)
+    rw c.in_ok-push.ensures.ok (goes_on (λ xs. xs) (topic_from c.args.form) c.loop.topics c.args.count c.loop.counter c.loop.rest c.in_ok-topic.topic c.read_topic.new.rest (many_from (topic_from c.args.form) c.args.count c.args.rest.now) c.loop-test.true c.in_ok-topic.ensures c.loop.invariant)
 
 pub returns : goal.returns
 returns c = is_done (λ xs. xs) (topic_from c.args.form) c.loop.topics c.args.count c.loop.counter c.loop.rest (many_from (topic_from c.args.form) c.args.count c.args.rest.now) c.loop-test.false c.loop.invariant
