@@ -33,6 +33,22 @@ pub(crate) fn is_control(attributes: i16) -> bool
     attributes & CONTROL != 0
 }
 
+impl Batch {
+    /// Whether its records belong to a transaction (attributes bit 4). The bit means nothing on a control batch.
+    pub fn is_transactional(&self) -> bool
+        ensures { result ≡ is_transactional self.now.attributes }
+    {
+        is_transactional(self.attributes)
+    }
+
+    /// Whether it is a control batch (attributes bit 5), whose record is never delivered.
+    pub fn is_control(&self) -> bool
+        ensures { result ≡ is_control self.now.attributes }
+    {
+        is_control(self.attributes)
+    }
+}
+
 fn is_control_record(only: &Record) -> bool
     ensures { result ≡ is_control_record only.now }
 {

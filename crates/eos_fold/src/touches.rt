@@ -10,27 +10,10 @@
 //! The source is "Record Batch" and "Control Batches" of the Message Format in Kafka's documentation.
 
 ghost use Rattle.std.specs.Prelude.{◌≡◌, ◌<◌, ◌^◌, length};
-ghost use Rattle.eos_batch.specs.Attributes.{is_transactional, is_control};
 ghost use Rattle.eos_fold.specs.Touches.{touch_of, data_touch};
 
 use eos_batch::Batch;
 use eos_touch::Touch;
-
-const TRANSACTIONAL: i16 = 0x10;
-
-const CONTROL: i16 = 0x20;
-
-fn is_transactional(batch: &Batch) -> bool
-    ensures { result ≡ is_transactional batch.now.attributes }
-{
-    batch.attributes & TRANSACTIONAL != 0
-}
-
-fn is_control(batch: &Batch) -> bool
-    ensures { result ≡ is_control batch.now.attributes }
-{
-    batch.attributes & CONTROL != 0
-}
 
 /// What a data batch says, and of which producer id.
 fn data_touch(batch: &Batch) -> Option<(i64, Touch)>
@@ -42,7 +25,7 @@ fn data_touch(batch: &Batch) -> Option<(i64, Touch)>
     }
     let touch = Touch::Data {
         epoch: batch.epoch,
-        transactional: is_transactional(batch),
+        transactional: batch.is_transactional(),
         sequence: batch.sequence,
         count: batch.records.as_slice().len() as u32,
     };
@@ -54,7 +37,7 @@ pub(crate) fn touch_of(batch: &Batch) -> Option<(i64, Touch)>
     requires { length batch.now.records < 2 ^ 32 }
     ensures { result ≡ touch_of batch.now }
 {
-    if !is_control(batch) {
+    if !batch.is_control() {
         return data_touch(batch);
     }
     let marker = batch.marker()?;

@@ -10,10 +10,6 @@ use eos_batch::{Batch, BatchFault, Kind, Record};
 use std::alloc::{AllocError, Global};
 use std::fmt::Display;
 
-const TRANSACTIONAL: i16 = 0x10;
-
-const CONTROL: i16 = 0x20;
-
 /// Adds a text.
 pub(crate) fn push_text(out: &mut String, text: &str) -> Result<(), AllocError>
     ensures { OnOk result (Adds (string_bytes out.old) (string_bytes out.new) text.now) }
@@ -116,7 +112,7 @@ fn push_head(out: &mut String, byte: usize, kind: &str, batch: &Batch) -> Result
 fn kind_word(batch: &Batch) -> &'static str
     ensures { result.now ≡ kind_word batch.now }
 {
-    if batch.attributes & CONTROL != 0 {
+    if batch.is_control() {
         match batch.marker() {
             None => "control",
             Some(marker) => match marker.kind {
@@ -124,7 +120,7 @@ fn kind_word(batch: &Batch) -> &'static str
                 Kind::Abort => "abort",
             },
         }
-    } else if batch.attributes & TRANSACTIONAL != 0 {
+    } else if batch.is_transactional() {
         "txn"
     } else {
         "plain"
