@@ -3,8 +3,13 @@
 use super::chain::chain_to;
 use super::dump::dump_to;
 use super::fault::RunFault;
+use bytes::Bytes;
+use eos_batch::{decode_batch, encode_batch};
+use std::alloc::Global;
 use std::io::{Error, ErrorKind, Read, Write};
+use std::process::Abort;
 use std::test::Fail;
+use std::{env, fs};
 
 /// One plain record with null key and value `a`, without a producer.
 static PLAIN: [u8; 69] = [
@@ -160,5 +165,49 @@ fn streams_fail(rt: HostRuntime) -> Result<(), Fail> {
         assert!(rt; LISTING.as_bytes().starts_with(full.taken.as_slice()));
         assert_eq!(rt; full.taken.len(), room);
     }
+    Ok(())
+}
+
+/// Decodes, encodes and decodes again each batch of a segment, up to the first fault, and counts them.
+fn round_trip<R: Abort + Eprint>(
+    rt: &R,
+    alloc: Global,
+    bytes: &Bytes,
+    is_shortest: bool,
+) -> Result<usize, Fail> {
+    let mut at = 0;
+    for count in 0..bytes.len() {
+        if at >= bytes.len() {
+            return Ok(count);
+        }
+        let Ok((batch, size)) = decode_batch(alloc, bytes, at) else {
+            return Ok(count);
+        };
+        let written = encode_batch(alloc, &batch)?;
+        let (again, length) = decode_batch(alloc, &written, 0)?;
+        assert!(rt; again == batch);
+        assert_eq!(rt; length, written.len());
+        let next = at.saturating_add(size);
+        if is_shortest {
+            assert_eq!(rt; Some(written.as_slice()), bytes.as_slice().get(at..next));
+        }
+        at = next;
+    }
+    Ok(bytes.len())
+}
+
+/// The segment that `EOSCHECK_SEGMENT` names, or a worked one. Where `EOSCHECK_LONGER` is set its numbers may be longer
+/// than they need be.
+#[test]
+fn segments_round_trip(rt: HostRuntime) -> Result<(), Fail> {
+    let alloc = rt.alloc();
+    let bytes = match env::var(&rt, "EOSCHECK_SEGMENT") {
+        Ok(path) => fs::read(&rt, path.as_str())?,
+        Err(_) => Vec::from_slice(alloc, KEPT.as_slice())?,
+    };
+    let is_shortest = env::var(&rt, "EOSCHECK_LONGER").is_err();
+    let is_worked = env::var(&rt, "EOSCHECK_SEGMENT").is_err();
+    let count = round_trip(&rt, alloc, &Bytes::from_vec(bytes)?, is_shortest)?;
+    assert!(rt; !is_worked || count == 2);
     Ok(())
 }
