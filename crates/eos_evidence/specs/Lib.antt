@@ -1,7 +1,9 @@
 pub mod Ends
 pub mod Evidence
+pub mod Manifest
 pub mod Names
 pub mod OrderedEnds
+pub mod PartitionNames
 pub mod Parts
 pub mod Reading
 pub mod SegmentPlaces

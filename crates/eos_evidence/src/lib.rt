@@ -4,7 +4,9 @@
 mod ends;
 mod evidence;
 mod fault;
+mod manifest;
 mod partition;
+mod partition_name;
 mod reading;
 mod segment;
 mod spec;
@@ -13,7 +15,11 @@ mod topics;
 pub use ends::{End, Ends};
 pub use evidence::{Evidence, EvidenceBuilder, MAX_SEGMENTS};
 pub use fault::{AddFault, SpecFault};
+pub use manifest::parse_spec;
 pub use reading::{MAX_SEGMENT_BYTES, ReadFault, read_segment};
 pub use segment::Segment;
 pub use spec::{MAX_PARTITIONS, Spec};
 pub use topics::Topics;
+
+#[cfg(test)]
+mod tests;

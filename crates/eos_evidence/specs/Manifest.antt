@@ -1,0 +1,68 @@
+-- What a manifest says: the JSON value that its text is, and what stands there for a spec.
+use Rattle.std.specs.Prelude.{ℕ, ℤ, pos, List, [], ◌∷◌, Bool, if◌then◌else◌, codes, Option, None, Some, option_map, option_and_then, Result, Ok, Err}
+use Rattle.std.specs.Ordering.{int_eq}
+use Rattle.std.specs.Str.{is_utf8}
+use Rattle.serde_json.specs.Data.{Data, Items, no_items, item, Members, no_members, member}
+use Rattle.serde_json.specs.Find.{get, as_number, as_str, as_array, as_object, as_integer, as_i64}
+use Rattle.serde_json.specs.Read.{read as read_text}
+use Rattle.eos_evidence.specs.declared.ends.End.{End}
+use Rattle.eos_evidence.specs.declared.fault.SpecFault.{SpecFault}
+use Rattle.eos_evidence.specs.declared.fault.SpecFault.TheVariants as faults
+use Rattle.eos_evidence.specs.PartitionNames.{partition_of}
+use Rattle.eos_evidence.specs.Parts.{Parts, accepted}
+
+-- the texts of an array, or nothing where an item is no text
+abbrev pub texts_of : Items → Option (List (List ℕ))
+texts_of no_items = Some []
+texts_of (item d ds) = option_and_then (λ text. option_map (λ texts. text ∷ texts) (texts_of ds)) (as_str d)
+
+-- a member of `ends`: a partition's name, and an integer
+abbrev pub end_of : List ℕ → Data → Option End
+end_of name d =
+    option_and_then (λ partition. option_map (λ end. record { topic = partition.0; partition = partition.1; end = end })
+    (option_and_then as_i64 (as_number d))) (partition_of name)
+
+abbrev pub ends_of : Members → Option (List End)
+ends_of no_members = Some []
+ends_of (member name d ms) = option_and_then (λ e. option_map (λ es. e ∷ es) (ends_of ms)) (end_of name d)
+
+abbrev pub group_in : Data → Option (List ℕ)
+group_in d = option_and_then as_str (get (codes "group") d)
+
+abbrev pub topics_in : List ℕ → Data → Option (List (List ℕ))
+topics_in name d = option_and_then texts_of (option_and_then as_array (get name d))
+
+abbrev pub ends_in : Data → Option (List End)
+ends_in d = option_and_then ends_of (option_and_then as_object (get (codes "ends") d))
+
+-- the version, where it is an integer that 64 bits hold
+abbrev pub version_in : Data → Option ℤ
+version_in d = option_and_then as_integer (option_and_then as_number (get (codes "version") d))
+
+-- what the four parts give, or the refusal where one is absent or of another type
+abbrev pub accepted_parts : Option (List ℕ) → Option (List (List ℕ)) → Option (List (List ℕ)) → Option (List End) → Result Parts SpecFault
+accepted_parts None sources outputs ends = Err faults.Field
+accepted_parts (Some group) None outputs ends = Err faults.Field
+accepted_parts (Some group) (Some sources) None ends = Err faults.Field
+accepted_parts (Some group) (Some sources) (Some outputs) None = Err faults.Field
+accepted_parts (Some group) (Some sources) (Some outputs) (Some ends) = accepted (record { group = group; sources = sources; outputs = outputs; ends = ends })
+
+abbrev pub version_test : Option ℤ → Result (Unit {0}) SpecFault
+version_test None = Err faults.Field
+version_test (Some version) = if int_eq version (pos 1) then Ok tt else Err faults.Version
+
+abbrev pub after_version : Result (Unit {0}) SpecFault → Result Parts SpecFault → Result Parts SpecFault
+after_version (Ok done) said = said
+after_version (Err fault) said = Err fault
+
+-- what a JSON value says: the version is looked at first, then the parts
+unfoldable pub manifest_of : Data → Result Parts SpecFault
+manifest_of d = after_version (version_test (version_in d)) (accepted_parts (group_in d) (topics_in (codes "sources") d) (topics_in (codes "outputs") d) (ends_in d))
+
+-- what bytes say: they have to be UTF-8 and a JSON text
+abbrev pub said_by : Option Data → Result Parts SpecFault
+said_by None = Err faults.Json
+said_by (Some d) = manifest_of d
+
+unfoldable pub spec_said_by : List ℕ → Result Parts SpecFault
+spec_said_by bytes = if is_utf8 bytes then said_by (read_text bytes) else Err faults.Json
