@@ -1,10 +1,10 @@
 -- The sizes of texts, added up.
-use Rattle.std.proofs.Common.{◌≡◌, ℕ, suc, ◌+◌, ◌-◌, ◌*◌, ◌/◌, ◌^◌, ◌<◌, ◌≤◌, min, pos, List, ◌++◌, length, drop, get_or, None, refl, sym, arith}
+use Rattle.std.proofs.Common.{◌≡◌, ℕ, suc, ◌+◌, ◌-◌, ◌*◌, ◌/◌, ◌^◌, ◌<◌, ◌≤◌, min, List, length, drop, get_or, None, refl, sym, arith}
 use Rattle.std.proofs.lemmas.List.{length-append}
 use Rattle.eos_wire.specs.Writing.{groups_of, varint_of}
 use Rattle.eos_batch.specs.declared.record.Header.{Header}
 use Rattle.eos_batch.specs.declared.record.Record.{Record}
-use Rattle.eos_batch.specs.Encoding.{bytes_text, optional_text, header_text, headers_text, record_text, records_text, capped}
+use Rattle.eos_batch.specs.Encoding.{optional_text, header_text, headers_text, record_text, records_text, capped}
 use Rattle.eos_wire.proofs.Spellings.{more, last}
 use Rattle.eos_batch.proofs.EncodingSteps.{headers_next, headers_end, records_next, records_end}
 
@@ -42,19 +42,9 @@ is_spent more size rest number gt le e =
 
 -- ---- sizes that stop at the greatest number
 
-pub bytes_size : (size : ℕ) (bytes : List ℕ) → size ≡ length (varint_of (pos (length bytes))) → min (size + length bytes) (2 ^ 64 - 1) ≡ capped (length (bytes_text bytes))
-unfolding bytes_text
-bytes_size size bytes e = rw (e, length-append (varint_of (pos (length bytes))) bytes) refl
-
 pub null_size : 1 ≡ capped (length (optional_text None))
 unfolding optional_text varint_of groups_of
 null_size = refl
-
-pub capped-capped : (a b m n : ℕ) → a ≡ capped m → b ≡ capped n → min (a + b) (2 ^ 64 - 1) ≡ capped (m + n)
-capped-capped a b m n e f = omega arith
-
-pub capped-append : (a b : ℕ) (xs ys : List ℕ) → a ≡ capped (length xs) → b ≡ capped (length ys) → min (a + b) (2 ^ 64 - 1) ≡ capped (length (xs ++ ys))
-capped-append a b xs ys e f = rw (length-append xs ys) (capped-capped a b (length xs) (length ys) e f)
 
 -- ---- one part more
 

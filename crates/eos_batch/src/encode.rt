@@ -26,6 +26,12 @@ const LIMIT: usize = 1 << 30;
 /// The bytes of a batch before its records.
 const HEADER: usize = 61;
 
+/// Those before what the checksum covers.
+const FRAME: usize = 21;
+
+/// Those of the frame that stand after the length, which counts them: the leader epoch, the magic and the checksum.
+const AFTER_LENGTH: usize = 9;
+
 const MAGIC: i8 = 2;
 
 /// There is a record, the count fits its field, and every offset lies from 0 to the greatest i64.
@@ -46,6 +52,7 @@ fn is_short(batch: &Batch) -> bool
     records_size(batch.records.as_slice()) <= LIMIT - HEADER
 }
 
+/// The tests, in the order of the refusals.
 #[tactic(auto, unfolding(crate::specs::Encoding::tested))]
 fn test(batch: &Batch) -> Result<(), BatchFault>
     ensures { result ≡ tested batch.now }
@@ -99,9 +106,9 @@ fn sealed(alloc: Global, batch: &Batch, covered: &[u8]) -> Result<Vec<u8>, Alloc
     ensures leader_epoch { OnOk result (FitsSigned w32 batch.now.leader_epoch) }
     ensures checksum { OnOk result (crc32c_of covered.now < 2 ^ 32) }
 {
-    let mut out = Vec::with_capacity(alloc, 21 + covered.len())?;
+    let mut out = Vec::with_capacity(alloc, FRAME + covered.len())?;
     write_i64(&mut out, batch.base_offset)?;
-    write_i32(&mut out, (9 + covered.len()) as i32)?;
+    write_i32(&mut out, (AFTER_LENGTH + covered.len()) as i32)?;
     write_i32(&mut out, batch.leader_epoch)?;
     write_i8(&mut out, MAGIC)?;
     write_u32(&mut out, crc32c(covered))?;
@@ -134,3 +141,6 @@ pub fn encode_batch(alloc: Global, batch: &Batch) -> Result<Bytes, BatchFault>
     test(batch)?;
     Ok(write(alloc, batch)?)
 }
+
+#[cfg(test)]
+mod tests;

@@ -36,6 +36,7 @@ fn zigzag_size(more: usize, half: u64) -> usize
     1 + groups_size(more, half / 64)
 }
 
+/// The size of a length, a count or a place.
 #[tactic(auto, unfolding(eos_wire::specs::Writing::varint_of))]
 fn count_size(count: usize) -> usize
     ensures size { result ≡ length (varint_of (pos count)) }
