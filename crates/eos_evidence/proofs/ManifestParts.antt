@@ -1,5 +1,5 @@
 -- What a manifest says, part by part.
-use Rattle.std.proofs.Common.{◌≡◌, List, ℕ, Bool, true, false, Option, None, Some, Result, Ok, Err, IsUtf8, codes, if◌then◌else◌, refl, sym, ◌∙◌, ap, subst}
+use Rattle.std.proofs.Common.{◌≡◌, List, ℕ, Bool, true, false, Option, None, Some, Result, Ok, Err, IsUtf8, codes, if◌then◌else◌, refl, sym, ap}
 use Rattle.std.proofs.lemmas.Str.{IsUtf8-from_is_utf8}
 use Rattle.std.specs.Str.{is_utf8}
 use Rattle.serde_json.specs.Data.{Data}
@@ -7,7 +7,7 @@ use Rattle.serde_json.specs.Read.{read as read_text}
 use Rattle.eos_evidence.specs.declared.ends.End.{End}
 use Rattle.eos_evidence.specs.declared.fault.SpecFault.{SpecFault}
 use Rattle.eos_evidence.specs.declared.fault.SpecFault.TheVariants as faults
-use Rattle.eos_evidence.specs.Parts.{Parts, Answers}
+use Rattle.eos_evidence.specs.Parts.{Answers}
 use Rattle.eos_evidence.specs.Manifest.{group_in, topics_in, ends_in, version_in, version_test, after_version, accepted_parts, manifest_of, said_by, spec_said_by}
 
 pub answers_fault : {X : Type 0} (said : Result X SpecFault) (fault : SpecFault) → said ≡ Err fault → Answers (Err fault) said

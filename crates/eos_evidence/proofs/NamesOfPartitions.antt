@@ -1,10 +1,10 @@
 -- What the name of a partition reads as.
-use Rattle.std.proofs.Common.{◌≡◌, ℕ, suc, ◌+◌, ◌-◌, ◌<◌, ◌≤◌, ◌^◌, List, [], ◌∷◌, ◌++◌, Bool, true, false, cond, ◌||◌, ◌&&◌, nat_lt, ◌==◌, Option, None, Some, length, get_or, take, drop, refl, ap, sym, ◌∙◌, arith, drop-cons, take-append-drop, length-drop}
+use Rattle.std.proofs.Common.{◌≡◌, ℕ, suc, ◌-◌, ◌<◌, ◌≤◌, ◌^◌, List, [], ◌∷◌, ◌++◌, Bool, true, false, ◌||◌, nat_lt, None, Some, length, get_or, take, drop, refl, ap, sym, ◌∙◌, arith, drop-cons, take-append-drop, length-drop}
 use Rattle.std.proofs.lemmas.Bool.Decides.{nat_tests}
 use Rattle.std.proofs.lemmas.List.{take_all}
 use Rattle.std.specs.List.{list_any}
 use Rattle.std.specs.Str.Parse.{digits_value}
-use Rattle.eos_evidence.specs.PartitionNames.{is_hyphen, split_before, last_split, is_numeral, number_of}
+use Rattle.eos_evidence.specs.PartitionNames.{is_hyphen, last_split, is_numeral, number_of}
 
 no_first : (a b : Bool) → (a || b) ≡ false → a ≡ false
 no_first true b h = h

@@ -8,3 +8,4 @@ pub mod Parts
 pub mod Reading
 pub mod SegmentPlaces
 pub mod Topics
+pub mod WrittenEnds

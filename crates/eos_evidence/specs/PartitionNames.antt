@@ -1,6 +1,6 @@
 -- How a partition is named: its topic, a hyphen and its number in decimal, as the folders of Kafka's
 -- logs are. A topic may have hyphens too, so the last one divides.
-use Rattle.std.specs.Prelude.{ℕ, ◌+◌, ◌^◌, ◌&&◌, ◌||◌, ◌==◌, ℤ, pos, List, [], ◌∷◌, Bool, not, nat_lt, nat_le, if◌then◌else◌, length, slice_index, Option, None, Some, option_map, option_and_then}
+use Rattle.std.specs.Prelude.{ℕ, ◌^◌, ◌&&◌, ◌||◌, ◌==◌, ℤ, pos, List, [], ◌∷◌, Bool, not, nat_lt, nat_le, if◌then◌else◌, length, slice_index, Option, None, Some, option_map, option_and_then}
 use Rattle.std.specs.Char.{is_ascii_digit}
 use Rattle.std.specs.List.{list_all}
 use Rattle.std.specs.Str.Parse.{digits_value}

@@ -11,6 +11,7 @@ mod reading;
 mod segment;
 mod spec;
 mod topics;
+mod writing;
 
 pub use ends::{End, Ends};
 pub use evidence::{Evidence, EvidenceBuilder, MAX_SEGMENTS};
@@ -20,6 +21,7 @@ pub use reading::{MAX_SEGMENT_BYTES, ReadFault, read_segment};
 pub use segment::Segment;
 pub use spec::{MAX_PARTITIONS, Spec};
 pub use topics::Topics;
+pub use writing::spec_text;
 
 #[cfg(test)]
 mod tests;

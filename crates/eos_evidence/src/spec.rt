@@ -78,14 +78,16 @@ impl Spec {
 
     /// The topics that the application reads.
     pub fn sources(&self) -> &Topics
-        ensures { result.now ≡ self.now.sources }
+        ensures value { result.now ≡ self.now.sources }
+        ensures accepted { IsAccepted self.now }
     {
         &self.sources
     }
 
     /// The topics that the application writes.
     pub fn outputs(&self) -> &Topics
-        ensures { result.now ≡ self.now.outputs }
+        ensures value { result.now ≡ self.now.outputs }
+        ensures accepted { IsAccepted self.now }
     {
         &self.outputs
     }

@@ -1,4 +1,6 @@
-use crate::{AddFault, End, Ends, EvidenceBuilder, Segment, Spec, SpecFault, Topics, parse_spec};
+use crate::{
+    AddFault, End, Ends, EvidenceBuilder, Segment, Spec, SpecFault, Topics, parse_spec, spec_text,
+};
 use bytes::Bytes;
 use std::alloc::{AllocError, Global};
 use std::test::Fail;
@@ -65,6 +67,18 @@ fn reads_the_example(rt: HostRuntime) -> Result<(), Fail> {
     assert_eq!(rt; spec.sources().as_slice(), made.sources().as_slice());
     assert_eq!(rt; spec.outputs().as_slice(), made.outputs().as_slice());
     assert_eq!(rt; spec.ends().as_slice(), made.ends().as_slice());
+    Ok(())
+}
+
+#[test]
+fn reads_what_it_writes(rt: HostRuntime) -> Result<(), Fail> {
+    let text = spec_text(rt.alloc(), &example(rt.alloc(), b"out")?)?;
+    let spec = parse_spec(rt.alloc(), text.as_slice())?;
+    assert_eq!(rt; spec.group(), "g");
+    assert_eq!(rt;
+        spec.ends().as_slice(),
+        [end_of(b"in", 0, 2), end_of(b"out", 0, 3)].as_slice()
+    );
     Ok(())
 }
 

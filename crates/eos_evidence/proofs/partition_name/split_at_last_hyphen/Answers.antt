@@ -1,4 +1,4 @@
-use Rattle.std.proofs.Common.{rules, ap, sym, ◌∙◌, arith, drop, ◌≡◌, false}
+use Rattle.std.proofs.Common.{rules, sym, arith}
 use Rattle.eos_evidence.proofs.NamesOfPartitions.{split_at, split_none}
 use Rattle.eos_evidence.proofs.partition_name.split_at_last_hyphen.Goals as goal
 

@@ -1,5 +1,5 @@
 -- The digits that are left go on with the number so far, which has as many digits as were read.
-use Rattle.std.proofs.Common.{◌≡◌, ◌<◌, ◌≤◌, ◌^◌, drop, length, true}
+use Rattle.std.proofs.Common.{◌≡◌, ◌<◌, ◌^◌, drop, true}
 use Rattle.std.specs.Char.{is_ascii_digit}
 use Rattle.std.specs.List.{list_all}
 use Rattle.std.specs.Str.Parse.{digits_value, digits_value_after}

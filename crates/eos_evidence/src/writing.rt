@@ -1,0 +1,114 @@
+//! The manifest of a spec, as a text that reads back as the same spec.
+
+ghost use Rattle.std.specs.Prelude.{◌≡◌, ◌≤◌, ◌++◌, ◌∷◌, true, Ok, IfOk, OnOk, FitsSigned, codes, string_bytes};
+ghost use Rattle.std.specs.Int.{w32, w64};
+ghost use Rattle.serde_json.specs.Find.{of_integer};
+ghost use Rattle.std.specs.Fmt.{signed_decimal};
+ghost use Rattle.std.specs.List.{list_all};
+ghost use Rattle.std.specs.List.Sorted.{IsStrictlySortedBy};
+ghost use Rattle.serde_json.specs.Data.{array, object, member, no_members, number, string, unsigned, depth};
+ghost use Rattle.serde_json.specs.Read.{max_depth};
+ghost use Rattle.serde_json.specs.View.{view, items_view, members_view};
+ghost use Rattle.eos_evidence.specs.Topics.{is_topic};
+ghost use Rattle.eos_evidence.specs.Ends.{end_cmp, is_legal_end};
+ghost use Rattle.eos_evidence.specs.Manifest.{manifest_of, spec_said_by};
+ghost use Rattle.eos_evidence.specs.WrittenEnds.{items_of_texts, HoldsEnds};
+
+use crate::ends::End;
+use crate::spec::Spec;
+use bytes::Bytes;
+use serde_json::{Map, Value, json};
+use std::alloc::{AllocError, Global};
+
+/// The manifest of a spec: `parse_spec` reads the same spec from it.
+pub fn spec_text(alloc: Global, spec: &Spec) -> Result<Vec<u8>, AllocError>
+    ensures { IfOk result (λ text. spec_said_by text.items ≡ Ok spec.now) }
+{
+    let value = value_of_spec(alloc, spec)?;
+    let text = value.to_string(alloc)?;
+    Ok(text.into_bytes())
+}
+
+fn value_of_spec(alloc: Global, spec: &Spec) -> Result<Value, AllocError>
+    ensures says { IfOk result (λ v. manifest_of (view v) ≡ Ok spec.now) }
+    ensures shallow { IfOk result (λ v. depth (view v) ≤ max_depth) }
+{
+    let sources = texts_of_topics(alloc, spec.sources().as_slice())?;
+    let outputs = texts_of_topics(alloc, spec.outputs().as_slice())?;
+    let ends = members_of_ends(alloc, spec.ends().as_slice())?;
+    object_of_parts(alloc, spec.group(), sources, outputs, ends)
+}
+
+fn object_of_parts(
+    alloc: Global,
+    group: &str,
+    sources: Vec<Value>,
+    outputs: Vec<Value>,
+    ends: Map<String, Value>,
+) -> Result<Value, AllocError>
+    ensures { IfOk result (λ v. view v ≡ object (member (codes "ends") (object (members_view ends.entries))
+        (member (codes "group") (string group.now) (member (codes "outputs") (array (items_view outputs.items))
+        (member (codes "sources") (array (items_view sources.items)) (member (codes "version") (number (unsigned 1)) no_members)))))) }
+{
+    let sources = Value::Array(sources);
+    let outputs = Value::Array(outputs);
+    let ends = Value::Object(ends);
+    json!(in alloc; {
+        "version": 1,
+        "group": group,
+        "sources": sources,
+        "outputs": outputs,
+        "ends": ends
+    })
+}
+
+fn texts_of_topics(alloc: Global, topics: &[Bytes]) -> Result<Vec<Value>, AllocError>
+    requires { list_all is_topic topics.now ≡ true }
+    ensures { IfOk result (λ texts. items_view texts.items ≡ items_of_texts topics.now) }
+{
+    let mut texts = Vec::new(alloc);
+    for topic in topics {
+        let text = text_of_topic(alloc, topic)?;
+        texts.push(Value::String(text))?;
+    }
+    Ok(texts)
+}
+
+/// A topic's name is ASCII, so nothing of it is lost.
+fn text_of_topic(alloc: Global, topic: &Bytes) -> Result<String, AllocError>
+    requires { is_topic topic.now ≡ true }
+    ensures { IfOk result (λ text. string_bytes text ≡ topic.now) }
+{
+    String::from_utf8_lossy(alloc, topic.as_slice())
+}
+
+fn members_of_ends(alloc: Global, ends: &[End]) -> Result<Map<String, Value>, AllocError>
+    requires legal { list_all is_legal_end ends.now ≡ true }
+    requires ascending { IsStrictlySortedBy end_cmp ends.now }
+    ensures { IfOk result (λ members. HoldsEnds (members_view members.entries) ends.now) }
+{
+    let mut members = Map::new(alloc);
+    for end in ends {
+        let name = partition_text(alloc, end)?;
+        members.insert(name, value_of_end(end))?;
+    }
+    Ok(members)
+}
+
+fn value_of_end(end: &End) -> Value
+    ensures value { view result ≡ number (of_integer end.now.end) }
+    ensures fits { FitsSigned w64 end.now.end }
+{
+    let offset = end.end;
+    Value::from(offset)
+}
+
+fn partition_text(alloc: Global, end: &End) -> Result<String, AllocError>
+    requires { is_legal_end end.now ≡ true }
+    ensures fits { OnOk result (FitsSigned w32 end.now.partition) }
+    ensures text { IfOk result (λ text. string_bytes text ≡ end.now.topic ++ 45 ∷ signed_decimal end.now.partition) }
+{
+    let topic = text_of_topic(alloc, &end.topic)?;
+    let partition = end.partition;
+    format!(in alloc; "{topic}-{partition}")
+}
