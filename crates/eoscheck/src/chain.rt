@@ -1,8 +1,9 @@
 //! `chain`: whether the producers of one segment kept their promises.
 
-ghost use Rattle.std.specs.Prelude.{◌≡◌, ◌++◌, [], ℕ, List, IfOk, OnErr, OnOk, Ok, string_bytes, codes};
+ghost use Rattle.std.specs.Prelude.{◌≡◌, ◌++◌, ◌+◌, ◌^◌, [], Err, ℕ, List, IfOk, OnErr, OnOk, Ok, string_bytes, codes};
 ghost use Rattle.std.specs.Fmt.{decimal};
 ghost use Rattle.std.specs.Io.KnownBytes.{Keeps};
+ghost use Rattle.eos_evidence.specs.Reading.{Takes};
 ghost use Rattle.eoscheck.specs.Adding.{Adds};
 ghost use Rattle.eoscheck.specs.Answer.{IsChainAnswer, good_line, details, fault_line};
 ghost use Rattle.eoscheck.specs.Writing.{Ran, RanInPart, IsOfReading};
@@ -26,6 +27,7 @@ pub fn chain_to<R: Read, W: Write>(
     writer: &mut W,
 ) -> Result<u8, RunFault>
     ensures ok { IfOk result (λ status. Ran IsChainAnswer (R.remaining reader.old) (W.contents writer.old) (W.contents writer.new) status) }
+    ensures limit { result ≡ Err RunFault.Limit → Takes (2 ^ 30 + 1) (R.remaining reader.old) (R.remaining reader.new) }
     ensures nothing { OnErr result (IsOfReading result → Keeps (W.contents writer.old) (W.contents writer.new)) }
     ensures front { OnErr result (RanInPart IsChainAnswer (R.remaining reader.old) (W.contents writer.old) (W.contents writer.new)) }
 {

@@ -1,7 +1,8 @@
 //! `dump`: the batches and records of a segment, line by line.
 
-ghost use Rattle.std.specs.Prelude.{◌≡◌, ◌≤◌, ℕ, List, ◌++◌, IfOk, OnErr, OnOk, string_bytes, slice_index, ◌<◌, [], drop};
+ghost use Rattle.std.specs.Prelude.{◌≡◌, ◌≤◌, ◌+◌, ◌^◌, Err, ℕ, List, ◌++◌, IfOk, OnErr, OnOk, string_bytes, slice_index, ◌<◌, [], drop};
 ghost use Rattle.std.specs.Io.KnownBytes.{Appends, Keeps};
+ghost use Rattle.eos_evidence.specs.Reading.{Takes};
 ghost use Rattle.eoscheck.specs.Listing.{IsListing, HasListed, StopsHere};
 ghost use Rattle.eoscheck.specs.Writing.{Writes, WritesFrontOf, Ran, RanInPart, IsOfReading, WritesFront, Passes};
 
@@ -27,6 +28,7 @@ pub fn dump_to<R: Read, W: Write>(
     writer: &mut W,
 ) -> Result<u8, RunFault>
     ensures ok { IfOk result (λ status. Ran IsListing (R.remaining reader.old) (W.contents writer.old) (W.contents writer.new) status) }
+    ensures limit { result ≡ Err RunFault.Limit → Takes (2 ^ 30 + 1) (R.remaining reader.old) (R.remaining reader.new) }
     ensures nothing { OnErr result (IsOfReading result → Keeps (W.contents writer.old) (W.contents writer.new)) }
     ensures front { OnErr result (RanInPart IsListing (R.remaining reader.old) (W.contents writer.old) (W.contents writer.new)) }
 {

@@ -14,7 +14,8 @@ pub(crate) enum Request<'a> {
 
 const VERSION: &str = "0.1.0";
 
-const ABOUT: &str = "Says whether Kafka's logs kept the promise of exactly once";
+const ABOUT: &str =
+    "Lists the segments of Kafka logs, and checks that their producers kept exactly once";
 
 const STATUSES: &str = "Exit status:
   0  the answer is good: the listing ends at the end, or the chain is kept
