@@ -13,7 +13,7 @@
 --   Producer    transactional data or an end marker names no producer, or a producer has no epoch
 --
 -- A length of 49 or more has all fields of the header, so none of them is ever missing where it is read.
-use Rattle.std.specs.Prelude.{◌≡◌, ℕ, zero, suc, ◌+◌, ◌-◌, ℤ, pos, negsuc, ◌+ℤ◌, List, [], ◌∷◌, length, take, drop, Option, Some, None, Result, Ok, Err, Bool, true, false, nat_lt, ◌==◌, ◌&&◌, ◌^◌, not, int_lt, int_le, if◌then◌else◌, ⊤}
+use Rattle.std.specs.Prelude.{◌≡◌, ℕ, zero, suc, ◌+◌, ◌-◌, ℤ, pos, negsuc, ◌+ℤ◌, List, [], ◌∷◌, ◌++◌, length, take, drop, Option, Some, None, Result, Ok, Err, Bool, true, false, nat_lt, ◌==◌, ◌&&◌, ◌^◌, not, int_lt, int_le, if◌then◌else◌, ⊤}
 use Rattle.std.specs.Ordering.{int_eq}
 use Rattle.eos_wire.specs.Varint.{varint_at, varlong_at}
 use Rattle.eos_wire.specs.Numbers.{i8_at, i16_at, i32_at, i64_at, u32_at}
@@ -58,6 +58,16 @@ Answers (Err e) read = Fails e read
 abbrev pub Gives : {X : Type 0} → Result X BatchFault → List ℕ → Result (X × List ℕ) BatchFault → Type 0
 Gives (Ok x) rest read = read ≡ Ok (x, rest)
 Gives (Err e) rest read = Fails e read
+
+-- A function puts what reading gives at the end of a list.
+abbrev pub Pushes : {X Y : Type 0} → Result Y BatchFault → List X → List X → Result X BatchFault → Type 0
+Pushes {X} (Ok _) before after read = (x : X) × (read ≡ Ok x) × (after ≡ before ++ x ∷ [])
+Pushes (Err e) before after read = Fails e read
+
+-- the same, and these bytes are left
+abbrev pub PushesFrom : {X Y : Type 0} → Result Y BatchFault → List X → List X → List ℕ → Result (X × List ℕ) BatchFault → Type 0
+PushesFrom {X} (Ok _) before after rest read = (x : X) × (read ≡ Ok (x, rest)) × (after ≡ before ++ x ∷ [])
+PushesFrom (Err e) before after rest read = Fails e read
 
 -- a number, or the fault where the bytes have none
 abbrev pub or_fault : {X : Type 0} → BatchFault → Option X → Result X BatchFault

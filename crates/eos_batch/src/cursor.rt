@@ -1,6 +1,7 @@
-//! The varints and texts of records, read one after the other from shared bytes. A text is cut from them, never copied.
+//! The varints and texts of records, read one after the other from shared bytes. A text is a cursor of its own until it is
+//! kept, and then another owner of the bytes, which are never copied.
 
-ghost use Rattle.std.specs.Prelude.{◌≡◌, ◌≤◌, ◌<◌, ◌^◌, ◌==◌, length, take, drop, IfOk, OnOk};
+ghost use Rattle.std.specs.Prelude.{◌≡◌, ◌≤◌, ◌<◌, ◌^◌, ◌==◌, length, take, drop, IfOk};
 ghost use Rattle.eos_wire.specs.Fields.{Reads};
 ghost use Rattle.eos_wire.specs.Numbers.{IsBytes, i8_at, i16_at, i32_at, i64_at, u32_at};
 ghost use Rattle.eos_batch.specs.Reading.{Gives, int_at, long_at, count_at, take_at, bytes_at, optional_at};
@@ -70,17 +71,7 @@ impl<'a> Cursor<'a> {
         self.at += len;
     }
 
-    /// Cuts the next `len` bytes.
-    fn cut(&mut self, len: usize) -> Result<Bytes, AllocError>
-        requires { len ≤ length self.old }
-        ensures front { IfOk result (λ b. b ≡ take len self.old) }
-        ensures rest { OnOk result (self.new ≡ drop len self.old) }
-    {
-        let bytes = self.bytes.slice(self.at..self.at + len)?;
-        self.at += len;
-        Ok(bytes)
-    }
-
+    #[inline(always)]
     #[tactic(auto, unfolding(crate::specs::Reading::int_at))]
     pub(crate) fn varint(&mut self) -> Result<i32, BatchFault>
         ensures { Gives result self.new (int_at self.old) }
@@ -149,6 +140,7 @@ impl<'a> Cursor<'a> {
     }
 
     /// A varint that is not below 0.
+    #[inline(always)]
     #[tactic(auto, unfolding(crate::specs::Reading::count_at))]
     pub(crate) fn count(&mut self) -> Result<u32, BatchFault>
         ensures { Gives result self.new (count_at self.old) }
@@ -160,19 +152,19 @@ impl<'a> Cursor<'a> {
         Ok(count as u32)
     }
 
-    fn take(&mut self, len: u32) -> Result<Bytes, BatchFault>
+    fn take(&mut self, len: u32) -> Result<Cursor<'a>, BatchFault>
         ensures { Gives result self.new (take_at len self.old) }
     {
         let len = len as usize;
         if self.len() < len {
             return Err(BatchFault::Record);
         }
-        Ok(self.cut(len)?)
+        Ok(self.part(len))
     }
 
     /// A length and that many bytes.
     #[tactic(auto, unfolding(crate::specs::Reading::bytes_at))]
-    pub(crate) fn bytes(&mut self) -> Result<Bytes, BatchFault>
+    pub(crate) fn bytes(&mut self) -> Result<Cursor<'a>, BatchFault>
         ensures { Gives result self.new (bytes_at self.old) }
     {
         let len = self.count()?;
@@ -180,8 +172,9 @@ impl<'a> Cursor<'a> {
     }
 
     /// The same, or the length -1 for null.
+    #[inline(always)]
     #[tactic(auto, unfolding(crate::specs::Reading::optional_at))]
-    pub(crate) fn optional(&mut self) -> Result<Option<Bytes>, BatchFault>
+    pub(crate) fn optional(&mut self) -> Result<Option<Cursor<'a>>, BatchFault>
         ensures { Gives result self.new (optional_at self.old) }
     {
         let len = self.varint()?;
@@ -208,5 +201,13 @@ impl<'a> Cursor<'a> {
         };
         self.advance(len);
         part
+    }
+
+    /// Another owner of these bytes, which are not copied.
+    #[inline(always)]
+    pub(crate) fn share(&self) -> Result<Bytes, AllocError>
+        ensures { IfOk result (λ bytes. bytes ≡ self.now) }
+    {
+        self.bytes.slice(self.at..self.end)
     }
 }

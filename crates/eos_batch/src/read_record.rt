@@ -15,13 +15,25 @@
 //! The source is "Record" and "Record Header" of the Message Format in Kafka's documentation. Lengths and counts are of
 //! the bytes that stand there: nothing is reserved for a count.
 
-ghost use Rattle.std.specs.Prelude.{◌≡◌};
-ghost use Rattle.eos_batch.specs.Reading.{Answers, Gives, header_at, headers_at, placed_at, record_at, records_at};
+ghost use Rattle.std.specs.Prelude.{◌≡◌, IfOk};
+ghost use Rattle.eos_batch.specs.Reading.{Gives, Pushes, PushesFrom, header_at, headers_at, placed_at, record_at, records_at};
 
 use crate::cursor::Cursor;
 use crate::fault::BatchFault;
 use crate::record::{Header, Headers, Record, Records};
-use std::alloc::Global;
+use bytes::Bytes;
+use std::alloc::{AllocError, Global};
+
+/// Owns these bytes too, if there are any.
+#[inline(always)]
+fn shared(bytes: Option<Cursor>) -> Result<Option<Bytes>, AllocError>
+    ensures { IfOk result (λ owned. owned ≡ bytes.entry) }
+{
+    match bytes {
+        Some(bytes) => Ok(Some(bytes.share()?)),
+        None => Ok(None),
+    }
+}
 
 #[tactic(auto, unfolding(crate::specs::Reading::header_at))]
 fn header_of(rest: &mut Cursor) -> Result<Header, BatchFault>
@@ -29,9 +41,13 @@ fn header_of(rest: &mut Cursor) -> Result<Header, BatchFault>
 {
     let key = rest.bytes()?;
     let value = rest.optional()?;
-    Ok(Header { key, value })
+    Ok(Header {
+        key: key.share()?,
+        value: shared(value)?,
+    })
 }
 
+#[inline(always)]
 fn headers_of(alloc: Global, rest: &mut Cursor, count: u32) -> Result<Headers, BatchFault>
     ensures { Gives result rest.new (headers_at count rest.old) }
 {
@@ -43,10 +59,17 @@ fn headers_of(alloc: Global, rest: &mut Cursor, count: u32) -> Result<Headers, B
     Ok(Headers::new(headers))
 }
 
-/// A record without its length, which takes all bytes.
+/// Reads a record without its length, which takes all bytes, straight into the list, since moving a record costs about as
+/// much as reading its numbers.
+#[inline(always)]
 #[tactic(auto, unfolding(crate::specs::Reading::placed_at, crate::specs::Reading::body_at))]
-fn placed_of(alloc: Global, rest: &mut Cursor, place: u32) -> Result<Record, BatchFault>
-    ensures { Answers result (placed_at place rest.old) }
+fn push_placed(
+    alloc: Global,
+    records: &mut Vec<Record>,
+    rest: &mut Cursor,
+    place: u32,
+) -> Result<(), BatchFault>
+    ensures { Pushes result records.old.items records.new.items (placed_at place rest.old) }
 {
     let attributes = rest.i8().ok_or(BatchFault::Record)?;
     let timestamp_delta = rest.varlong()?;
@@ -61,26 +84,29 @@ fn placed_of(alloc: Global, rest: &mut Cursor, place: u32) -> Result<Record, Bat
     if i64::from(delta) != i64::from(place) {
         return Err(BatchFault::Delta);
     }
-    Ok(Record {
+    records.push(Record {
         attributes,
         timestamp_delta,
-        key,
-        value,
+        key: shared(key)?,
+        value: shared(value)?,
         headers,
-    })
+    })?;
+    Ok(())
 }
 
-/// The record at this place of its batch.
-#[tactic(auto, unfolding(crate::specs::Reading::record_at, crate::specs::Reading::bytes_at))]
-fn record_of(alloc: Global, rest: &mut Cursor, place: u32) -> Result<Record, BatchFault>
-    ensures { Gives result rest.new (record_at place rest.old) }
+/// Reads the record at this place of its batch into the list.
+#[inline(always)]
+#[tactic(auto, unfolding(crate::specs::Reading::record_at))]
+fn push_record(
+    alloc: Global,
+    records: &mut Vec<Record>,
+    rest: &mut Cursor,
+    place: u32,
+) -> Result<(), BatchFault>
+    ensures { PushesFrom result records.old.items records.new.items rest.new (record_at place rest.old) }
 {
-    let len = rest.count()? as usize;
-    if rest.len() < len {
-        return Err(BatchFault::Record);
-    }
-    let mut text = rest.part(len);
-    placed_of(alloc, &mut text, place)
+    let mut text = rest.bytes()?;
+    push_placed(alloc, records, &mut text, place)
 }
 
 /// So many records from the batch's first on.
@@ -93,8 +119,7 @@ pub(crate) fn records_of(
 {
     let mut records = Vec::new(alloc);
     for place in 0..count {
-        let item = record_of(alloc, rest, place)?;
-        records.push(item)?;
+        push_record(alloc, &mut records, rest, place)?;
     }
     Ok(Records::new(records))
 }
