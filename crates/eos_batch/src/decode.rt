@@ -34,7 +34,8 @@ use bytes::Bytes;
 use eos_wire::crc32c;
 use std::alloc::Global;
 
-const HEAD: usize = 12;
+/// The bytes up to the length, which counts those after it.
+const FRAME: usize = 12;
 
 const LEAST_LENGTH: i32 = 49;
 
@@ -187,7 +188,7 @@ fn batch_of(alloc: Global, bytes: &Bytes, at: usize) -> Result<(Batch, usize), B
 {
     let mut rest = Cursor::new(bytes, at);
     let (base_offset, mut body) = frame_of(&mut rest)?;
-    let taken = HEAD + body.len();
+    let taken = FRAME + body.len();
     let leader_epoch = sealed_of(&mut body)?;
     let batch = covered_of(alloc, &mut body, base_offset, leader_epoch)?;
     if !has_right_control(&batch) {

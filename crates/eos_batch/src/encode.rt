@@ -27,9 +27,9 @@ const LIMIT: usize = 1 << 30;
 const HEADER: usize = 61;
 
 /// Those before what the checksum covers.
-const FRAME: usize = 21;
+const UNCOVERED: usize = 21;
 
-/// Those of the frame that stand after the length, which counts them: the leader epoch, the magic and the checksum.
+/// Those of them that stand after the length, which counts them: the leader epoch, the magic and the checksum.
 const AFTER_LENGTH: usize = 9;
 
 const MAGIC: i8 = 2;
@@ -106,7 +106,7 @@ fn sealed(alloc: Global, batch: &Batch, covered: &[u8]) -> Result<Vec<u8>, Alloc
     ensures leader_epoch { OnOk result (FitsSigned w32 batch.now.leader_epoch) }
     ensures checksum { OnOk result (crc32c_of covered.now < 2 ^ 32) }
 {
-    let mut out = Vec::with_capacity(alloc, FRAME + covered.len())?;
+    let mut out = Vec::with_capacity(alloc, UNCOVERED + covered.len())?;
     write_i64(&mut out, batch.base_offset)?;
     write_i32(&mut out, (AFTER_LENGTH + covered.len()) as i32)?;
     write_i32(&mut out, batch.leader_epoch)?;

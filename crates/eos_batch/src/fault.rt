@@ -7,7 +7,8 @@ ghost use Rattle.eos_batch.specs.Names.{name_of};
 use std::alloc::{AllocError, AllocFailed};
 use thiserror::Error;
 
-/// The first step of reading or writing a record batch that fails, in the order of the steps.
+/// The first step of reading or writing a record batch that fails. The names stand in the order of reading's steps, save that
+/// `Truncated` is also asked for after `Length`.
 #[derive(Clone, Copy, Debug, PartialEq, Eq, Error)]
 pub enum BatchFault {
     /// The bytes end before the batch does.

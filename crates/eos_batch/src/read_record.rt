@@ -12,8 +12,8 @@
 //! | headerKeyLength, key | varint, bytes | of each header |
 //! | headerValueLength, value | varint, bytes | of each header; -1: null |
 //!
-//! The source is "Record" and "Record Header" of the Message Format in Kafka's documentation. Lengths and counts are of
-//! the bytes that stand there: nothing is reserved for a count.
+//! The source is "Record" and "Record Header" of the Message Format in Kafka's documentation. A length
+//! is believed only where its bytes stand there, and nothing is reserved for a count.
 
 ghost use Rattle.std.specs.Prelude.{◌≡◌, IfOk};
 ghost use Rattle.eos_batch.specs.Reading.{Gives, Pushes, PushesFrom, header_at, headers_at, placed_at, record_at, records_at};

@@ -1,4 +1,4 @@
-//! `eoscheck`: reads Kafka log segments and says whether exactly once was kept.
+//! `eoscheck`: lists Kafka log segments, and checks the sequences and epochs of their producers.
 #![tactic(auto)]
 
 mod chain;

@@ -11,7 +11,7 @@ use std::fs::File;
 use std::io::ErrorKind;
 use std::{env, io};
 
-/// The status of a run whose words are wrong, or whose files can't be read or written.
+/// The status of a run whose words are wrong, whose files can't be read or written, or whose input is too large.
 const BAD_RUN: u8 = 2;
 
 /// The status of a run that had not enough memory.

@@ -196,8 +196,8 @@ fn round_trip<R: Abort + Eprint>(
     Ok(bytes.len())
 }
 
-/// The segment that `EOSCHECK_SEGMENT` names, or a worked one. Where `EOSCHECK_LONGER` is set its numbers may be longer
-/// than they need be.
+/// The segment that `EOSCHECK_SEGMENT` names, of `EOSCHECK_BATCHES` batches, or a worked one of two. Where `EOSCHECK_LONGER`
+/// is set its numbers may be longer than they need be.
 #[test]
 fn segments_round_trip(rt: HostRuntime) -> Result<(), Fail> {
     let alloc = rt.alloc();
@@ -205,9 +205,12 @@ fn segments_round_trip(rt: HostRuntime) -> Result<(), Fail> {
         Ok(path) => fs::read(&rt, path.as_str())?,
         Err(_) => Vec::from_slice(alloc, KEPT.as_slice())?,
     };
+    let batches = match env::var(&rt, "EOSCHECK_BATCHES") {
+        Ok(number) => number.parse::<usize>()?,
+        Err(_) => 2,
+    };
     let is_shortest = env::var(&rt, "EOSCHECK_LONGER").is_err();
-    let is_worked = env::var(&rt, "EOSCHECK_SEGMENT").is_err();
     let count = round_trip(&rt, alloc, &Bytes::from_vec(bytes)?, is_shortest)?;
-    assert!(rt; !is_worked || count == 2);
+    assert_eq!(rt; count, batches);
     Ok(())
 }

@@ -15,12 +15,13 @@ pub(crate) enum Request<'a> {
 const VERSION: &str = "0.1.0";
 
 const ABOUT: &str =
-    "Lists the segments of Kafka logs, and checks that their producers kept exactly once";
+    "Lists the segments of Kafka logs, and checks the sequences and epochs of their producers";
 
 const STATUSES: &str = "Exit status:
   0  the answer is good: the listing ends at the end, or the chain is kept
   1  a fault was found, and the last line names it
-  2  the words are wrong, or a file cannot be read or written
+  2  the words are wrong, a file cannot be read or written, or it is larger than
+     a segment may be (2^30 bytes)
   3  memory ran out
 
 A segment is one file of a partition's log as a Kafka broker keeps it, such as
@@ -66,10 +67,17 @@ const CHAIN: &str =
 const CHAIN_ANSWERS: &str =
     "The segment is taken for a whole partition that begins at its first batch: a
 later segment of a good log often answers FirstSequence, since what its
-producers wrote before isn't in it.
+producers wrote before isn't in it. So does a segment of __consumer_offsets
+with transactions, since Kafka gives no sequences there.
 
-The answer is `ok batches=N producers=N` (status 0) or the first fault,
-`no 1.K NAME offset=O ..` (status 1):
+The answer is `ok batches=N producers=N` (status 0), with the number of unequal
+producer ids, or the first fault, `no 1.K NAME offset=O ..` (status 1). O is
+the offset at which it stands, and there follow
+
+  segment= byte= batch=  for BadBatch: the segment's first offset, the byte at
+                         which no batch begins, and why, in the words of `dump`
+  found=                 for Gap: the offset of the batch that stands there
+  producer=              for the others: the producer id
 
   1.1 BadBatch        no batch begins there (see `eoscheck dump --help`)
   1.2 Gap             another offset than the next one stands there
