@@ -8,7 +8,8 @@ mostly under a checksum that is right again, so that the tests behind it are rea
 a difference can be run again. It prints the differences, how often each answer was seen and which never was, and ends
 in 1 where there is a difference.
 
-`read` below is the format as a reader of Kafka's documentation would write it down; it shares nothing with the program.
+`read` below is the format as a reader of Kafka's documentation would write it down. It shares no code with the program, but
+its authors: what both misread is found by the listings of tests/segments alone, which other decoders made.
 """
 import collections
 import glob
