@@ -66,8 +66,8 @@ impl<T> Listed<T> {
 
     /// Puts an item at the end. Where memory is refused the list stays as it was.
     pub fn push(&mut self, item: T) -> Result<(), AllocError>
-        where
-            T: Drop,
+    where
+        T: Drop,
         ensures ok { OnOk result (self.new ≡ self.old ++ item ∷ []) }
         ensures err { OnErr result (self.new ≡ self.old) }
     {
