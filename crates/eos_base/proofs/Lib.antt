@@ -1,1 +1,6 @@
+pub mod Decides
+pub mod Exact
+pub mod LeastOf
+pub mod Membership
 pub mod NamesInOrder
+pub mod SortedSearch

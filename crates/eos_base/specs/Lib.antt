@@ -1,1 +1,4 @@
+pub mod Members
+pub mod Decided
+pub mod Least
 pub mod PartitionNames

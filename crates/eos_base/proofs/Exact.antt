@@ -1,0 +1,71 @@
+-- Orders whose ties are equal values.
+use Rattle.std.proofs.Common.{◌≡◌, [], ◌∷◌, Option, Some, None, refl, sym, ap, true}
+use Rattle.std.specs.Option.{option_cmp}
+use Rattle.std.specs.Ordering.{nat_cmp, int_cmp, is_eq, ordering_then, ordering_reverse}
+use Rattle.std.specs.Cmp.{IsTotalOrder}
+use Rattle.std.specs.Cmp.Lexicographic.{slice_cmp}
+use Rattle.std.specs.declared.cmp.Ordering.{Ordering}
+use Rattle.std.specs.declared.cmp.Ordering.TheVariants.{Less, Equal, Greater}
+use Rattle.std.proofs.lemmas.Cmp.{ranked, int_ranked}
+use Rattle.eos_base.specs.Least.{IsExact}
+
+-- tied at the front, and then behind
+pub then_parts : (a b : Ordering) → ordering_then a b ≡ Equal → (a ≡ Equal) × (b ≡ Equal)
+then_parts Less b e = absurd cc
+then_parts Equal b e = (refl, e)
+then_parts Greater b e = absurd cc
+
+pub nat_exact : IsExact nat_cmp
+nat_exact x y e = let r = ranked x y Equal (sym e) in r
+
+pub int_exact : IsExact int_cmp
+int_exact x y e = let r = int_ranked x y Equal (sym e) in r
+
+pub bytes_exact : IsExact (slice_cmp nat_cmp)
+bytes_exact [] [] e = refl
+bytes_exact [] (y ∷ ys) e = absurd cc
+bytes_exact (x ∷ xs) [] e = absurd cc
+bytes_exact (x ∷ xs) (y ∷ ys) e =
+    let r = then_parts (nat_cmp x y) (slice_cmp nat_cmp xs ys) e in
+    let p = nat_exact x y r.0 in
+    let q = bytes_exact xs ys r.1 in
+    cc
+
+pub option_exact : {X : Type 0} (cmp : X → X → Ordering) → IsExact cmp → IsExact (option_cmp cmp)
+option_exact cmp h None None e = refl
+option_exact cmp h None (Some y) e = absurd cc
+option_exact cmp h (Some x) None e = absurd cc
+option_exact cmp h (Some x) (Some y) e = ap Some (h x y e)
+
+pub option_total : {X : Type 0} {cmp : X → X → Ordering} → IsTotalOrder cmp → IsTotalOrder (option_cmp cmp)
+option_total {X} {cmp} o = record { antisymm = antisymm; trans = trans; congr = congr }
+  where
+    antisymm : (x y : Option X) → option_cmp cmp x y ≡ ordering_reverse (option_cmp cmp y x)
+    antisymm None None = refl
+    antisymm None (Some y) = refl
+    antisymm (Some x) None = refl
+    antisymm (Some x) (Some y) = o.antisymm x y
+
+    trans : (x y z : Option X) → option_cmp cmp x y ≡ Less → option_cmp cmp y z ≡ Less → option_cmp cmp x z ≡ Less
+    trans None y None p q = less_none y q
+      where
+        less_none : (y : Option X) → option_cmp cmp y None ≡ Less → Equal ≡ Less
+        less_none None q = q
+        less_none (Some y) q = absurd cc
+    trans None y (Some z) p q = refl
+    trans (Some x) None z p q = absurd cc
+    trans (Some x) (Some y) None p q = absurd cc
+    trans (Some x) (Some y) (Some z) p q = o.trans x y z p q
+
+    congr : (x y z : Option X) → option_cmp cmp x y ≡ Equal → option_cmp cmp x z ≡ option_cmp cmp y z
+    congr None None z e = refl
+    congr None (Some y) z e = absurd cc
+    congr (Some x) None z e = absurd cc
+    congr (Some x) (Some y) None e = refl
+    congr (Some x) (Some y) (Some z) e = o.congr x y z e
+
+-- a tie as a test
+pub is_tied : (o : Ordering) → is_eq o ≡ true → o ≡ Equal
+is_tied Equal e = refl
+is_tied Less e = absurd cc
+is_tied Greater e = absurd cc
