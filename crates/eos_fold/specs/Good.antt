@@ -4,7 +4,7 @@
 use Rattle.std.specs.Prelude.{◌≡◌, ℕ, ℤ, List, [], length}
 use Rattle.eos_batch.specs.declared.batch.Batch.{Batch}
 use Rattle.eos_touch.specs.Rules.{Sequenced, Fenced}
-use Rattle.eos_fold.specs.declared.counts.Chain.{Chain}
+use Rattle.eos_fold.specs.declared.segment.counts.Chain.{Chain}
 use Rattle.eos_fold.specs.declared.fault.PartitionFaultKind.{PartitionFaultKind}
 use Rattle.eos_fold.specs.Touches.{touches_of, IsProducerCount}
 use Rattle.eos_fold.specs.Front.{IsBeginning}

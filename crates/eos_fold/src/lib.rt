@@ -4,13 +4,11 @@
 //! looks at each batch once, beside the last touch of its producer id.
 #![tactic(auto)]
 
-mod counts;
 mod fault;
 mod segment;
 mod touches;
 mod walk;
 
-pub use counts::Chain;
 pub use eos_touch::{PairFault, Touch, pair_ok};
 pub use fault::{PartitionFault, PartitionFaultKind};
-pub use segment::chain;
+pub use segment::{Chain, chain};

@@ -12,7 +12,6 @@ ghost use Rattle.eos_fold.specs.Faults.{IsLeastFault};
 ghost use Rattle.eos_fold.specs.Good.{IsGood};
 ghost use Rattle.eos_fold.specs.Walks.{HasPassed};
 
-use crate::counts::Chain;
 use crate::fault::{PartitionFault, PartitionFaultKind};
 use crate::walk::{Walk, unnamed};
 use bytes::Bytes;
@@ -21,6 +20,18 @@ use std::alloc::{AllocError, Global};
 
 #[cfg(test)]
 mod tests;
+
+pub use counts::Chain;
+
+/// A module of its own, since the names `Chain` and `chain` differ in case alone.
+mod counts {
+    /// What is counted in a good segment: its batches, and the unequal producer ids among their touches.
+    #[derive(Clone, Copy, Debug, PartialEq, Eq)]
+    pub struct Chain {
+        pub batches: u64,
+        pub producers: u64,
+    }
+}
 
 /// What reading refuses, unless it is for want of memory.
 fn of_the_bytes(fault: BatchFault) -> Result<BatchFault, AllocError>

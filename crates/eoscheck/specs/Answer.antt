@@ -2,7 +2,7 @@
 use Rattle.std.specs.Prelude.{◌≡◌, ℕ, List, ◌++◌, codes, ◌⊎◌}
 use Rattle.std.specs.Fmt.{decimal, signed_decimal}
 use Rattle.eos_batch.specs.Names as batch_names
-use Rattle.eos_fold.specs.declared.counts.Chain.{Chain}
+use Rattle.eos_fold.specs.declared.segment.counts.Chain.{Chain}
 use Rattle.eos_fold.specs.declared.fault.PartitionFault.{PartitionFault}
 use Rattle.eos_fold.specs.declared.fault.PartitionFaultKind.{PartitionFaultKind}
 use Rattle.eos_fold.specs.declared.fault.PartitionFaultKind.TheVariants.{BadBatch, Gap, Pair, End, OpenAtEnd}
