@@ -4,3 +4,5 @@ pub mod Front
 pub mod Faults
 pub mod Good
 pub mod Walks
+pub mod Closes
+pub mod Parts

@@ -4,11 +4,17 @@
 //! looks at each batch once, beside the last touch of its producer id.
 #![tactic(auto)]
 
+mod close;
 mod fault;
+mod item;
+mod part;
 mod segment;
 mod touches;
 mod walk;
 
+pub use close::Close;
 pub use eos_touch::{PairFault, Touch, pair_ok};
 pub use fault::{PartitionFault, PartitionFaultKind};
+pub use item::{Fate, Item, ItemRef, Items};
+pub use part::Part;
 pub use segment::{Chain, chain};

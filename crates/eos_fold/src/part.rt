@@ -1,0 +1,80 @@
+//! A partition's log as the rest of the checker sees it, however it was cut into segments.
+
+ghost use Rattle.std.specs.Prelude.{◌≡◌};
+ghost use Rattle.std.specs.Option.{option_map};
+ghost use Rattle.eos_fold.specs.Parts.{Rises, Ascends};
+
+use crate::close::Close;
+use crate::fault::PartitionFault;
+use crate::item::Items;
+use bytes::Bytes;
+use eos_batch::Marker;
+use std::marker::Model;
+
+/// What a partition's log holds.
+#[derive(Debug, Drop)]
+pub struct Part {
+    topic: Bytes,
+    partition: i32,
+    end: i64,
+    fault: Option<PartitionFault>,
+    items: Items,
+    closes: Vec<Close>,
+    markers: Vec<Marker>,
+}
+
+impl Model for Part {
+    ghost use Rattle.eos_fold.specs.Parts.{PartLog, Rises, Ascends};
+
+    ghost Value = { PartLog };
+
+    ghost view = { λ p. record { topic = p.topic; number = p.partition; end = p.end; fault = p.fault; items = p.items; closes = p.closes.items; markers = p.markers.items } };
+
+    ghost invariant = { λ p. Rises p.items × Ascends p.closes.items };
+}
+
+impl Part {
+    /// The topic's bytes.
+    pub fn topic(&self) -> &Bytes
+        ensures { result.now ≡ self.now.topic }
+    {
+        &self.topic
+    }
+
+    /// The partition's number in its topic.
+    pub fn partition(&self) -> i32
+        ensures { result ≡ self.now.number }
+    {
+        self.partition
+    }
+
+    /// The least fault of the partition's log, if one stands.
+    pub fn fault(&self) -> Option<&PartitionFault>
+        ensures { option_map (λ f. f.now) result ≡ self.now.fault }
+    {
+        self.fault.as_ref()
+    }
+
+    /// The data records, by offset.
+    pub fn items(&self) -> &Items
+        ensures items { result.now ≡ self.now.items }
+        ensures rise { Rises self.now.items }
+    {
+        &self.items
+    }
+
+    /// Of each transactional data batch and its next end marker, each unequal four once, in ascending order.
+    pub fn closes(&self) -> &[Close]
+        ensures closes { result.now ≡ self.now.closes }
+        ensures ascend { Ascends self.now.closes }
+    {
+        self.closes.as_slice()
+    }
+
+    /// Every end marker, by offset.
+    pub fn markers(&self) -> &[Marker]
+        ensures { result.now ≡ self.now.markers }
+    {
+        self.markers.as_slice()
+    }
+}
