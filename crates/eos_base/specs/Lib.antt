@@ -2,3 +2,4 @@ pub mod Members
 pub mod Decided
 pub mod Least
 pub mod PartitionNames
+pub mod FaultNames

@@ -1,11 +1,13 @@
-//! What every crate of the checker stands on: the list type that contracts see as a list, lists in order as sets, and the
-//! names of partitions.
+//! What every crate of the checker stands on: the list type that contracts see as a list, lists in order as sets, the
+//! names of partitions, and the faults of the internal logs' records.
 #![tactic(auto)]
 
 mod listed;
 mod partition_name;
+mod record_fault;
 mod sorted;
 
 pub use listed::Listed;
 pub use partition_name::PartitionName;
+pub use record_fault::RecordFault;
 pub use sorted::{holds, in_order};
