@@ -7,8 +7,8 @@ use Rattle.std.proofs.lemmas.Int.{ints}
 use Rattle.std.proofs.lemmas.List.{take_at, drop_at, take-append-drop, length-append, length-take-le, nil_from_length}
 use Rattle.eos_wire.specs.Numbers.{IsBytes, bytes_at, i16_text, i32_text, i64_text, i16_at, i32_at, i64_at}
 use Rattle.eos_wire.proofs.NumberTexts.{IsBytes-append_right, i16_sound, i16_whole, i32_sound, i32_whole, i64_sound, i64_whole}
-use Rattle.eos_offsets.specs.declared.fault.RecordFault.{RecordFault}
-use Rattle.eos_offsets.specs.declared.fault.RecordFault.TheVariants as faults
+use Rattle.eos_base.specs.declared.record_fault.RecordFault.{RecordFault}
+use Rattle.eos_base.specs.declared.record_fault.RecordFault.TheVariants as faults
 use Rattle.eos_offsets.specs.Text.{IsString, IsMetadata, IfPresent, IsInt32, IsInt64}
 use Rattle.eos_offsets.specs.Reading.{◌>>=◌, Agrees, IsUnlessNoMemory, string_from, string_at, after_metadata_from, after_metadata, after_field, ended}
 

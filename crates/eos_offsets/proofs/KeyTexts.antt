@@ -7,7 +7,7 @@ use Rattle.std.proofs.lemmas.Bool.Decides.{Decides-int_eq}
 use Rattle.std.proofs.lemmas.Int.{ints}
 use Rattle.eos_wire.specs.Numbers.{IsBytes, i16_text, i32_text, i16_at, i32_at}
 use Rattle.eos_wire.proofs.NumberTexts.{i16_sound, i16_whole, i32_sound, i32_whole}
-use Rattle.eos_offsets.specs.declared.fault.RecordFault.{RecordFault}
+use Rattle.eos_base.specs.declared.record_fault.RecordFault.{RecordFault}
 use Rattle.eos_offsets.specs.declared.key.OffsetKey.{OffsetKey}
 use Rattle.eos_offsets.specs.Text.{IsString, IsKeyText, IsOtherKeyText}
 use Rattle.eos_offsets.specs.Reading.{string_at, key_fields_of, is_key_version, some_of, key_of}

@@ -1,4 +1,3 @@
-pub mod Names
 pub mod Text
 pub mod Reading
 pub mod Writing

@@ -3,8 +3,8 @@
 use Rattle.std.specs.Prelude.{◌≡◌, ℕ, zero, suc, ℤ, pos, negsuc, Bool, true, false, ◌&&◌, ◌||◌, int_le, List, length, Option, Some, None, ok_or, Result, Ok, Err, ◌==◌, if◌then◌else◌, ⊤}
 use Rattle.std.specs.Ordering.{int_eq}
 use Rattle.eos_wire.specs.Numbers.{bytes_at, i16_at, i32_at, i64_at}
-use Rattle.eos_offsets.specs.declared.fault.RecordFault.{RecordFault}
-use Rattle.eos_offsets.specs.declared.fault.RecordFault.TheVariants as faults
+use Rattle.eos_base.specs.declared.record_fault.RecordFault.{RecordFault}
+use Rattle.eos_base.specs.declared.record_fault.RecordFault.TheVariants as faults
 use Rattle.eos_offsets.specs.declared.key.OffsetKey.{OffsetKey}
 
 infixl 10 ◌>>=◌

@@ -16,9 +16,9 @@ ghost use Rattle.eos_offsets.specs.Text.{IsKeyText, IsOtherKeyText};
 ghost use Rattle.eos_offsets.specs.Reading.{Agrees, Gives, IsUnlessNoMemory, string_at, key_fields_of, key_of};
 ghost use Rattle.eos_offsets.specs.Writing.{string_text, key_bytes, key_text};
 
-use crate::fault::RecordFault;
 use crate::laws::are_bytes;
 use bytes::{BufMut, Bytes, BytesMut};
+use eos_base::RecordFault;
 use eos_wire::Fields;
 use std::alloc::{AllocError, Global};
 

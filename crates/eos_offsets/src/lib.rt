@@ -2,12 +2,11 @@
 //! and values as bytes and as values.
 #![tactic(auto)]
 
-mod fault;
 mod key;
 mod laws;
 mod value;
 
-pub use fault::RecordFault;
+pub use eos_base::RecordFault;
 pub use key::{OffsetKey, decode_key, encode_key};
 pub use value::{Commit, decode_value, encode_value};
 

@@ -17,9 +17,9 @@ ghost use Rattle.eos_offsets.specs.Text.{IsValueText};
 ghost use Rattle.eos_offsets.specs.Reading.{Agrees, IsOfBytes, Passes, after_metadata, is_value_version, value_fields_of, value_of};
 ghost use Rattle.eos_offsets.specs.Writing.{leader_epoch_text, expire_timestamp_text, value_bytes, value_text};
 
-use crate::fault::RecordFault;
 use crate::laws::are_bytes;
 use bytes::{BufMut, Bytes, BytesMut};
+use eos_base::RecordFault;
 use eos_wire::Fields;
 use std::alloc::{AllocError, Global};
 

@@ -3,7 +3,7 @@ use Rattle.std.proofs.Common.{◌≡◌, ℕ, zero, suc, List, [], ◌∷◌, �
 use Rattle.std.proofs.lemmas.Bool.{lt-ltb, le-ltb, cases_lt}
 use Rattle.std.proofs.lemmas.List.{take_at, drop_at, take-append-drop, length-append, length-take-le}
 use Rattle.eos_wire.specs.Numbers.{IsBytes, bytes_at}
-use Rattle.eos_txnlog.specs.declared.fault.RecordFault.{RecordFault}
+use Rattle.eos_base.specs.declared.record_fault.RecordFault.{RecordFault}
 use Rattle.eos_txnlog.specs.Text.{AreTexts}
 use Rattle.eos_txnlog.specs.Reading.{◌>>=◌, present, many_from}
 

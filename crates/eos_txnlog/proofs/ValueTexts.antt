@@ -8,8 +8,8 @@ use Rattle.std.proofs.lemmas.Bool.Decides.{Decides-int_eq}
 use Rattle.std.proofs.lemmas.List.{append-nil, nil_from_length}
 use Rattle.eos_wire.specs.Numbers.{IsBytes, i8_text, i16_text, i32_text, i64_text, i8_at, i16_at, i32_at, i64_at}
 use Rattle.eos_wire.proofs.NumberTexts.{i8_sound, i8_whole, i16_sound, i16_whole, i32_sound, i32_whole, i64_sound, i64_whole}
-use Rattle.eos_txnlog.specs.declared.fault.RecordFault.{RecordFault}
-use Rattle.eos_txnlog.specs.declared.fault.RecordFault.TheVariants as faults
+use Rattle.eos_base.specs.declared.record_fault.RecordFault.{RecordFault}
+use Rattle.eos_base.specs.declared.record_fault.RecordFault.TheVariants as faults
 use Rattle.eos_txnlog.specs.declared.form.Form.{Form}
 use Rattle.eos_txnlog.specs.declared.form.Form.TheVariants.{Plain, Flexible}
 use Rattle.eos_txnlog.specs.declared.status.Status.{Status}

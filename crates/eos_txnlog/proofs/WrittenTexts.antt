@@ -8,7 +8,7 @@ use Rattle.std.proofs.lemmas.List.{append-nil}
 use Rattle.eos_wire.specs.Numbers.{i16_text, i32_text}
 use Rattle.eos_wire.specs.Writing.{uvarint_of}
 use Rattle.eos_wire.proofs.Spellings.{uvarint_shortest}
-use Rattle.eos_txnlog.specs.declared.fault.RecordFault.{RecordFault}
+use Rattle.eos_base.specs.declared.record_fault.RecordFault.{RecordFault}
 use Rattle.eos_txnlog.specs.declared.form.Form.{Form}
 use Rattle.eos_txnlog.specs.declared.form.Form.TheVariants.{Plain, Flexible}
 use Rattle.eos_txnlog.specs.declared.partitions.TopicPartitions.{TopicPartitions}

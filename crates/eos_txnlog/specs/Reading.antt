@@ -5,8 +5,8 @@ use Rattle.std.specs.Ordering.{int_eq}
 use Rattle.eos_wire.specs.Numbers.{bytes_at, i8_at, i16_at, i32_at, i64_at}
 use Rattle.eos_wire.specs.Varint.{uvarint_at}
 use Rattle.eos_wire.specs.Fields.{with_rest}
-use Rattle.eos_txnlog.specs.declared.fault.RecordFault.{RecordFault}
-use Rattle.eos_txnlog.specs.declared.fault.RecordFault.TheVariants as faults
+use Rattle.eos_base.specs.declared.record_fault.RecordFault.{RecordFault}
+use Rattle.eos_base.specs.declared.record_fault.RecordFault.TheVariants as faults
 use Rattle.eos_txnlog.specs.declared.form.Form.{Form}
 use Rattle.eos_txnlog.specs.declared.form.Form.TheVariants.{Plain, Flexible}
 use Rattle.eos_txnlog.specs.declared.status.Status.{Status}

@@ -5,8 +5,8 @@ use Rattle.std.specs.Prelude.{◌≡◌, ℕ, ◌+◌, ◌^◌, ℤ, pos, Bool, 
 use Rattle.std.specs.List.{list_all}
 use Rattle.eos_wire.specs.Numbers.{i8_text, i16_text, i32_text, i64_text}
 use Rattle.eos_wire.specs.Writing.{uvarint_of}
-use Rattle.eos_txnlog.specs.declared.fault.RecordFault.{RecordFault}
-use Rattle.eos_txnlog.specs.declared.fault.RecordFault.TheVariants as faults
+use Rattle.eos_base.specs.declared.record_fault.RecordFault.{RecordFault}
+use Rattle.eos_base.specs.declared.record_fault.RecordFault.TheVariants as faults
 use Rattle.eos_txnlog.specs.declared.form.Form.{Form}
 use Rattle.eos_txnlog.specs.declared.form.Form.TheVariants.{Plain, Flexible}
 use Rattle.eos_txnlog.specs.declared.partitions.TopicPartitions.{TopicPartitions}

@@ -11,11 +11,11 @@
 ghost use Rattle.eos_wire.specs.Numbers.{IsBytes, bytes_at, i8_at, i16_at, i32_at, i64_at};
 ghost use Rattle.eos_txnlog.specs.Reading.{Gives, present, uvarint_from, status_from, length_from, count_from, string_from, number_from, many_from, numbers_from, not_null, skipped, tagged_from, section_from};
 
-use crate::fault::RecordFault;
 use crate::form::Form;
-use crate::numbers::Numbers;
+use crate::partitions::Numbers;
 use crate::status::Status;
 use bytes::Bytes;
+use eos_base::RecordFault;
 use eos_wire::{Fields, read_uvarint};
 use std::alloc::Global;
 

@@ -12,11 +12,11 @@ ghost use Rattle.eos_txnlog.specs.Text.{IsKeyText};
 ghost use Rattle.eos_txnlog.specs.Reading.{Answers, read_key};
 ghost use Rattle.eos_txnlog.specs.Writing.{write_key};
 
-use crate::fault::RecordFault;
 use crate::field::{are_bytes, read_i16, read_string};
 use crate::form::Form;
 use crate::writing::{write_i16, write_string};
 use bytes::Bytes;
+use eos_base::RecordFault;
 use std::alloc::Global;
 
 #[tactic(auto, unfolding(crate::specs::Reading::read_key))]

@@ -3,11 +3,9 @@
 #![tactic(auto)]
 
 mod decision;
-mod fault;
 mod field;
 mod form;
 mod key;
-mod numbers;
 mod partitions;
 mod reading;
 mod status;
@@ -18,10 +16,9 @@ mod value;
 mod writing;
 
 pub use decision::Decision;
-pub use fault::RecordFault;
+pub use eos_base::RecordFault;
 pub use key::{decode_key, encode_key};
-pub use numbers::Numbers;
-pub use partitions::{Partitions, TopicPartitions};
+pub use partitions::{Numbers, Partitions, TopicPartitions};
 pub use reading::decode_value;
 pub use status::Status;
 pub use step::{TxnFault, step_ok};

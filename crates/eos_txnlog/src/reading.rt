@@ -19,7 +19,6 @@ ghost use Rattle.eos_txnlog.specs.declared.value.TxnValue.{TxnValue};
 ghost use Rattle.eos_txnlog.specs.Text.{IsValueText};
 ghost use Rattle.eos_txnlog.specs.Reading.{Answers, Gives, many_from, topic_from, partitions_from, body_from, read_value};
 
-use crate::fault::RecordFault;
 use crate::field::{
     are_bytes, read_count, read_i16, read_i32, read_i64, read_numbers, read_status, read_string,
     skip_section,
@@ -28,6 +27,7 @@ use crate::form::Form;
 use crate::partitions::{Partitions, TopicPartitions};
 use crate::value::TxnValue;
 use bytes::Bytes;
+use eos_base::RecordFault;
 use std::alloc::Global;
 
 #[tactic(auto, unfolding(crate::specs::Reading::topic_from))]

@@ -11,11 +11,11 @@ ghost use Rattle.eos_txnlog.specs.Text.{FitNumbers, FitsHead, FitsTail, IsInRang
 ghost use Rattle.eos_txnlog.specs.Reading.{Answers, read_value};
 ghost use Rattle.eos_txnlog.specs.Writing.{Writes, fits_length, length_text, fits_count, count_text, section_text, string_text, numbers_text, fits_topic, topic_text, partitions_text, fits_partitions, head_text, tail_text, body_text, write_value};
 
-use crate::fault::RecordFault;
 use crate::form::Form;
 use crate::partitions::TopicPartitions;
 use crate::value::TxnValue;
 use bytes::Bytes;
+use eos_base::RecordFault;
 use eos_wire::write_uvarint;
 use std::alloc::Global;
 
