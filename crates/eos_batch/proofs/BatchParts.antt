@@ -218,13 +218,13 @@ all_records_whole bytes rs texts =
     let e : records_at (length rs) 0 bytes ≡ Ok (rs, []) = ap (records_at (length rs) 0) (sym (append-nil bytes)) ∙ records_whole 0 bytes rs [] texts in
     rw e refl
 
-record Counted (base last : ℤ) (n : ℕ) : Type 0 where
-  some : 1 ≤ n
-  last_is : last ≡ pos (n - 1)
-  first : pos 0 ≤ℤ base
-  end : (base +ℤ pos n) ≤ℤ pos (2 ^ 63)
+pub record Counted (base last : ℤ) (n : ℕ) : Type 0 where
+  pub some : 1 ≤ n
+  pub last_is : last ≡ pos (n - 1)
+  pub first : pos 0 ≤ℤ base
+  pub end : (base +ℤ pos n) ≤ℤ pos (2 ^ 63)
 
-counted : (base last : ℤ) (n : ℕ) → (int_lt (pos 0) (pos n) && int_eq (pos n) (last +ℤ pos 1)) ≡ true → (int_le (pos 0) base && int_le (base +ℤ last) (pos (2 ^ 63 - 1))) ≡ true → Counted base last n
+pub counted : (base last : ℤ) (n : ℕ) → (int_lt (pos 0) (pos n) && int_eq (pos n) (last +ℤ pos 1)) ≡ true → (int_le (pos 0) base && int_le (base +ℤ last) (pos (2 ^ 63 - 1))) ≡ true → Counted base last n
 counted base last n e f =
     let a = and-true (int_lt (pos 0) (pos n)) (int_eq (pos n) (last +ℤ pos 1)) e in
     let b = and-true (int_le (pos 0) base) (int_le (base +ℤ last) (pos (2 ^ 63 - 1))) f in

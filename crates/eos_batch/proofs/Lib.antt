@@ -2,12 +2,16 @@ pub mod BatchFaults
 pub mod BatchParts
 pub mod BatchTexts
 pub mod CursorParts
+pub mod DataBatches
 pub mod EncodingLeast
 pub mod EncodingSizes
 pub mod EncodingSteps
 pub mod EncodingTests
 pub mod EncodingTexts
+pub mod LentRecords
+pub mod OpenedBatches
 pub mod ReadLoops
+pub mod RecordPlaces
 pub mod RecordTexts
 pub mod SegmentTexts
 pub mod TextParts

@@ -1,9 +1,10 @@
 //! The numbers and texts of a batch, read one after the other from shared bytes. A text is a cursor of its own until it is
 //! kept, and then another owner of the bytes, which are never copied.
 
-ghost use Rattle.std.specs.Prelude.{◌≡◌, ◌≤◌, ◌<◌, ◌^◌, ◌==◌, length, take, drop, IfOk};
+ghost use Rattle.std.specs.Prelude.{◌≡◌, ◌≤◌, ◌<◌, ◌^◌, ◌==◌, length, take, drop, slice_range, IfOk, IfErr};
 ghost use Rattle.eos_wire.specs.Fields.{Reads};
 ghost use Rattle.eos_wire.specs.Numbers.{IsBytes, i8_at, i16_at, i32_at, i64_at, u32_at};
+ghost use Rattle.eos_batch.specs.Real.{IsReal};
 ghost use Rattle.eos_batch.specs.Reading.{Gives, int_at, long_at, count_at, take_at, bytes_at, optional_at};
 
 use crate::fault::BatchFault;
@@ -45,6 +46,14 @@ impl<'a> Cursor<'a> {
         Cursor { bytes, at, end }
     }
 
+    /// The bytes from one place to another.
+    pub(crate) fn between(bytes: &'a Bytes, at: usize, end: usize) -> Cursor<'a>
+        requires { (at ≤ end) × (end ≤ length bytes.now) × (end < 2 ^ 63) }
+        ensures { result ≡ slice_range bytes.now at end }
+    {
+        Cursor { bytes, at, end }
+    }
+
     pub(crate) fn is_empty(&self) -> bool
         ensures { result ≡ (length self.now == 0) }
     {
@@ -74,7 +83,8 @@ impl<'a> Cursor<'a> {
     #[inline(always)]
     #[tactic(auto, unfolding(crate::specs::Reading::int_at))]
     pub(crate) fn varint(&mut self) -> Result<i32, BatchFault>
-        ensures { Gives result self.new (int_at self.old) }
+        ensures gives { Gives result self.new (int_at self.old) }
+        ensures real { IfErr result IsReal }
     {
         let Some((number, len)) = read_varint(self.rest()) else {
             return Err(BatchFault::Varint);
@@ -85,7 +95,8 @@ impl<'a> Cursor<'a> {
 
     #[tactic(auto, unfolding(crate::specs::Reading::long_at))]
     pub(crate) fn varlong(&mut self) -> Result<i64, BatchFault>
-        ensures { Gives result self.new (long_at self.old) }
+        ensures gives { Gives result self.new (long_at self.old) }
+        ensures real { IfErr result IsReal }
     {
         let Some((number, len)) = read_varlong(self.rest()) else {
             return Err(BatchFault::Varint);
@@ -143,7 +154,8 @@ impl<'a> Cursor<'a> {
     #[inline(always)]
     #[tactic(auto, unfolding(crate::specs::Reading::count_at))]
     pub(crate) fn count(&mut self) -> Result<u32, BatchFault>
-        ensures { Gives result self.new (count_at self.old) }
+        ensures gives { Gives result self.new (count_at self.old) }
+        ensures real { IfErr result IsReal }
     {
         let count = self.varint()?;
         if count < 0 {
@@ -153,7 +165,8 @@ impl<'a> Cursor<'a> {
     }
 
     fn take(&mut self, len: u32) -> Result<Cursor<'a>, BatchFault>
-        ensures { Gives result self.new (take_at len self.old) }
+        ensures gives { Gives result self.new (take_at len self.old) }
+        ensures real { IfErr result IsReal }
     {
         let len = len as usize;
         if self.len() < len {
@@ -165,7 +178,8 @@ impl<'a> Cursor<'a> {
     /// A length and that many bytes.
     #[tactic(auto, unfolding(crate::specs::Reading::bytes_at))]
     pub(crate) fn bytes(&mut self) -> Result<Cursor<'a>, BatchFault>
-        ensures { Gives result self.new (bytes_at self.old) }
+        ensures gives { Gives result self.new (bytes_at self.old) }
+        ensures real { IfErr result IsReal }
     {
         let len = self.count()?;
         self.take(len)
@@ -175,7 +189,8 @@ impl<'a> Cursor<'a> {
     #[inline(always)]
     #[tactic(auto, unfolding(crate::specs::Reading::optional_at))]
     pub(crate) fn optional(&mut self) -> Result<Option<Cursor<'a>>, BatchFault>
-        ensures { Gives result self.new (optional_at self.old) }
+        ensures gives { Gives result self.new (optional_at self.old) }
+        ensures real { IfErr result IsReal }
     {
         let len = self.varint()?;
         if len == -1 {

@@ -35,7 +35,7 @@ use eos_wire::crc32c;
 use std::alloc::Global;
 
 /// The bytes up to the length, which counts those after it.
-const FRAME: usize = 12;
+pub(crate) const FRAME: usize = 12;
 
 const LEAST_LENGTH: i32 = 49;
 
@@ -43,28 +43,28 @@ const MAGIC: i8 = 2;
 
 /// The fields before the records, in a batch that has none yet.
 #[derive(Drop)]
-struct Head {
-    batch: Batch,
-    last_offset_delta: i32,
-    count: i32,
+pub(crate) struct Head {
+    pub(crate) batch: Batch,
+    pub(crate) last_offset_delta: i32,
+    pub(crate) count: i32,
 }
 
 impl Head {
-    fn is_compressed(&self) -> bool
+    pub(crate) fn is_compressed(&self) -> bool
         ensures { result ≡ is_compressed self.now.batch.attributes }
     {
         is_compressed(self.batch.attributes)
     }
 
     /// There is a record, and the count is the last offset delta plus 1.
-    fn count_fits(&self) -> bool
+    pub(crate) fn count_fits(&self) -> bool
         ensures { result ≡ count_fits self.now }
     {
         self.count > 0 && self.count - 1 == self.last_offset_delta
     }
 
     /// No offset is below 0 or past the greatest i64.
-    fn offsets_fit(&self) -> bool
+    pub(crate) fn offsets_fit(&self) -> bool
         ensures { result ≡ offsets_fit self.now }
     {
         let base_offset = self.batch.base_offset;
@@ -88,7 +88,7 @@ impl Head {
 
 /// The base offset, and the bytes that the length counts.
 #[tactic(auto, unfolding(crate::specs::Reading::frame_at))]
-fn frame_of<'a>(rest: &mut Cursor<'a>) -> Result<(i64, Cursor<'a>), BatchFault>
+pub(crate) fn frame_of<'a>(rest: &mut Cursor<'a>) -> Result<(i64, Cursor<'a>), BatchFault>
     ensures { Answers result (frame_at rest.old) }
 {
     let base_offset = rest.i64().ok_or(BatchFault::Truncated)?;
@@ -105,7 +105,7 @@ fn frame_of<'a>(rest: &mut Cursor<'a>) -> Result<(i64, Cursor<'a>), BatchFault>
 
 /// The leader epoch of a batch with the right checksum.
 #[tactic(auto, unfolding(crate::specs::Reading::sealed_at))]
-fn sealed_of(rest: &mut Cursor) -> Result<i32, BatchFault>
+pub(crate) fn sealed_of(rest: &mut Cursor) -> Result<i32, BatchFault>
     ensures { Gives result rest.new (sealed_at rest.old) }
 {
     let leader_epoch = rest.i32().ok_or(BatchFault::Truncated)?;
@@ -121,7 +121,7 @@ fn sealed_of(rest: &mut Cursor) -> Result<i32, BatchFault>
 }
 
 #[tactic(auto, unfolding(crate::specs::Reading::head_at))]
-fn head_of(
+pub(crate) fn head_of(
     alloc: Global,
     rest: &mut Cursor,
     base_offset: i64,

@@ -11,18 +11,24 @@ mod encode_size;
 mod fault;
 pub mod laws;
 mod marker;
+mod passing;
 mod read_record;
 mod record;
 mod rules;
 mod segment;
+mod view;
+mod walk;
 
 pub use batch::{Batch, Batches};
 pub use decode::decode_batch;
 pub use encode::encode_batch;
 pub use fault::BatchFault;
 pub use marker::{Kind, Marker};
+pub use passing::pass_record;
 pub use record::{Header, Headers, Record, Records};
 pub use segment::{SegmentText, decode_segment};
+pub use view::{HeaderRef, HeaderRefs, RecordRef, own_record, view_record};
+pub use walk::{Opened, open_batch, test_data};
 
 #[cfg(test)]
 mod tests;

@@ -26,7 +26,7 @@ use std::alloc::{AllocError, Global};
 
 /// Owns these bytes too, if there are any.
 #[inline(always)]
-fn shared(bytes: Option<Cursor>) -> Result<Option<Bytes>, AllocError>
+pub(crate) fn shared(bytes: Option<Cursor>) -> Result<Option<Bytes>, AllocError>
     ensures { IfOk result (λ owned. owned ≡ bytes.entry) }
 {
     match bytes {
@@ -48,7 +48,11 @@ fn header_of(rest: &mut Cursor) -> Result<Header, BatchFault>
 }
 
 #[inline(always)]
-fn headers_of(alloc: Global, rest: &mut Cursor, count: u32) -> Result<Headers, BatchFault>
+pub(crate) fn headers_of(
+    alloc: Global,
+    rest: &mut Cursor,
+    count: u32,
+) -> Result<Headers, BatchFault>
     ensures { Gives result rest.new (headers_at count rest.old) }
 {
     let mut headers = Vec::new(alloc);

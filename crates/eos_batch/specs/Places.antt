@@ -1,0 +1,75 @@
+-- Where the records of a batch stand in its bytes, when reading makes none of them.
+use Rattle.std.specs.Prelude.{◌≡◌, ◌≤◌, ◌<◌, ◌-◌, ◌^◌, ℕ, pos, ◌+ℤ◌, ◌≤ℤ◌, List, [], length, drop, slice_range, Result, Ok, Err}
+use Rattle.eos_batch.specs.declared.fault.BatchFault.{BatchFault}
+use Rattle.eos_batch.specs.declared.fault.BatchFault.TheVariants as faults
+use Rattle.eos_batch.specs.declared.record.Record.{Record}
+use Rattle.eos_wire.specs.Numbers.{i8_at}
+use Rattle.eos_batch.specs.declared.record.Header.{Header}
+use Rattle.eos_batch.specs.declared.view.Parts.{Parts}
+use Rattle.eos_batch.specs.declared.batch.Batch.{Batch}
+use Rattle.eos_batch.specs.declared.walk.Opened.{Opened}
+use Rattle.eos_batch.specs.Reading.{◌>>=◌, Fails, must, used_up, or_fault, int_at, long_at, optional_at, count_at, bytes_at, body_at, record_at, records_at, with_records, batch_at}
+use Rattle.eos_batch.specs.Marker.{has_right_control}
+use Rattle.eos_batch.specs.Rules.{has_right_producer}
+
+-- There is something that reading gives.
+abbrev pub Passes : {X Y : Type 0} → Result Y BatchFault → Result X BatchFault → Type 0
+Passes {X} (Ok _) read = (x : X) × (read ≡ Ok x)
+Passes (Err e) read = Fails e read
+
+-- the same, and these bytes are left
+abbrev pub PassesFrom : {X Y : Type 0} → Result Y BatchFault → List ℕ → Result (X × List ℕ) BatchFault → Type 0
+PassesFrom {X} (Ok _) rest read = (x : X) × (read ≡ Ok (x, rest))
+PassesFrom (Err e) rest read = Fails e read
+
+-- a record without its length, whatever its place, and nothing after it
+unfoldable pub whole_at : List ℕ → Result Record BatchFault
+whole_at bytes = do
+  body ← body_at bytes
+  whole ← used_up faults.Record body
+  Ok whole.1
+
+-- the record whose length stands at this byte
+unfoldable pub found_at : ℕ → List ℕ → Result Record BatchFault
+found_at at bytes = do
+  text ← bytes_at (drop at bytes)
+  whole_at text.0
+
+-- the record at this place of its batch stands there, and the next one after it
+pub record IsAt (bytes : List ℕ) (place from end next : ℕ) : Type 0 where
+  pub found : Record
+  pub after : from < next
+  pub within : next ≤ end
+  pub reads : found_at from bytes ≡ Ok found
+  pub goes_on : record_at place (slice_range bytes from end) ≡ Ok (found, slice_range bytes next end)
+
+-- what is tested after the records
+abbrev pub finished : Batch → ℕ → List Record → Result (Batch × ℕ) BatchFault
+finished b size rs = do
+  controlled ← must (has_right_control (with_records b rs)) faults.Control (with_records b rs)
+  right ← must (has_right_producer controlled) faults.Producer controlled
+  Ok (right, size)
+
+-- the batch at this place but for its records, and where these stand
+pub record IsOpened (bytes : List ℕ) (at : ℕ) (o : Opened) : Type 0 where
+  pub after : at ≤ o.begin
+  pub within : o.begin ≤ o.end
+  pub inside : o.end ≤ length bytes
+  pub first : pos 0 ≤ℤ o.batch.base_offset
+  pub last : (o.batch.base_offset +ℤ pos o.count) ≤ℤ pos (2 ^ 63)
+  pub goes_on : batch_at (drop at bytes) ≡ ((records_at o.count 0 (slice_range bytes o.begin o.end) >>= used_up faults.Trailing) >>= finished o.batch (o.end - at))
+
+-- the fields of a record before its headers, and what is left for these
+unfoldable pub parts_at : List ℕ → Result Parts BatchFault
+parts_at bytes = do
+  attributes ← or_fault faults.Record (i8_at bytes)
+  timestamp ← long_at attributes.1
+  delta ← int_at timestamp.1
+  key ← optional_at delta.1
+  value ← optional_at key.1
+  count ← count_at value.1
+  Ok (record { attributes = attributes.0; timestamp_delta = timestamp.0; key = key.0; value = value.0; count = count.0; rest = count.1 })
+
+abbrev pub read_headers : Result (List Header × List ℕ) BatchFault → List Header
+read_headers (Ok x) = x.0
+read_headers (Err e) = []

@@ -1,0 +1,72 @@
+//! Passing over the records of a batch without making them.
+
+ghost use Rattle.std.specs.Prelude.{◌≡◌, ◌≤◌, ◌<◌, length, slice_range, IfOk, IfErr};
+ghost use Rattle.eos_batch.specs.Reading.{Fails, header_at, headers_at, placed_at, record_at};
+ghost use Rattle.eos_batch.specs.Places.{Passes, PassesFrom, IsAt};
+
+use crate::cursor::{Cursor, are_bytes};
+use crate::fault::BatchFault;
+use bytes::Bytes;
+
+#[inline(always)]
+#[tactic(auto, unfolding(crate::specs::Reading::header_at))]
+fn pass_header(rest: &mut Cursor) -> Result<(), BatchFault>
+    ensures { PassesFrom result rest.new (header_at rest.old) }
+{
+    let _key = rest.bytes()?;
+    let _value = rest.optional()?;
+    Ok(())
+}
+
+#[inline(always)]
+fn pass_headers(rest: &mut Cursor, count: u32) -> Result<(), BatchFault>
+    ensures { PassesFrom result rest.new (headers_at count rest.old) }
+{
+    for _ in 0..count {
+        pass_header(rest)?;
+    }
+    Ok(())
+}
+
+/// A record without its length, which takes all bytes.
+#[inline(always)]
+#[tactic(auto, unfolding(crate::specs::Reading::placed_at, crate::specs::Reading::body_at))]
+fn pass_placed(rest: &mut Cursor, place: u32) -> Result<(), BatchFault>
+    ensures { Passes result (placed_at place rest.old) }
+{
+    let _attributes = rest.i8().ok_or(BatchFault::Record)?;
+    let _timestamp_delta = rest.varlong()?;
+    let delta = rest.varint()?;
+    let _key = rest.optional()?;
+    let _value = rest.optional()?;
+    let count = rest.count()?;
+    pass_headers(rest, count)?;
+    if !rest.is_empty() {
+        return Err(BatchFault::Record);
+    }
+    if i64::from(delta) != i64::from(place) {
+        return Err(BatchFault::Delta);
+    }
+    Ok(())
+}
+
+/// Reads over the record at this place of its batch, whose length stands at `from`, and gives the byte after it. The
+/// batch's bytes end at `end`.
+///
+/// # Errors
+/// The first test of the record that fails. It takes no memory.
+#[inline(always)]
+#[tactic(auto, unfolding(crate::specs::Reading::record_at))]
+pub fn pass_record(bytes: &Bytes, from: usize, end: usize, place: u32) -> Result<usize, BatchFault>
+    requires inside { from ≤ end }
+    requires end { end ≤ length bytes.now }
+    ensures found { IfOk result (IsAt bytes.now place from end) }
+    ensures fault { IfErr result (λ e. Fails e (record_at place (slice_range bytes.now from end))) }
+{
+    are_bytes(bytes.as_slice());
+    let _size = bytes.len();
+    let mut rest = Cursor::between(bytes, from, end);
+    let mut text = rest.bytes()?;
+    pass_placed(&mut text, place)?;
+    Ok(end - rest.len())
+}

@@ -1,0 +1,76 @@
+//! A batch but for its records: what a walk over a log reads of it first, and where its records stand.
+
+ghost use Rattle.std.specs.Prelude.{◌≡◌, ◌≤◌, ℕ, List, length, drop, false, Ok, Err, IfOk, IfErr, MatchResult};
+ghost use Rattle.eos_batch.specs.declared.record.Record.{Record};
+ghost use Rattle.eos_batch.specs.Attributes.{is_control};
+ghost use Rattle.eos_batch.specs.Places.{IsOpened, finished};
+ghost use Rattle.eos_batch.specs.Reading.{Fails, with_records, batch_at};
+
+use crate::batch::Batch;
+use crate::cursor::{Cursor, are_bytes};
+use crate::decode::{FRAME, frame_of, head_of, sealed_of};
+use crate::fault::BatchFault;
+use crate::rules::has_right_producer;
+use bytes::Bytes;
+use std::alloc::Global;
+
+/// A batch whose records are not read.
+#[derive(Drop)]
+pub struct Opened {
+    /// It has no records.
+    pub batch: Batch,
+    /// So many records follow.
+    pub count: u32,
+    /// The byte of the first record's length.
+    pub begin: usize,
+    /// The byte after the batch.
+    pub end: usize,
+}
+
+/// The batch at `at` but for its records. The rest of its tests are those of the records, and then `test_data` where it is
+/// no control batch.
+///
+/// # Errors
+/// The first test that fails before the records. It takes no memory.
+#[tactic(auto, unfolding(crate::specs::Reading::batch_at, crate::specs::Reading::covered_at))]
+pub fn open_batch(alloc: Global, bytes: &Bytes, at: usize) -> Result<Opened, BatchFault>
+    requires { at ≤ length bytes.now }
+    ensures opened { IfOk result (IsOpened bytes.now at) }
+    ensures fault { IfErr result (λ e. Fails e (batch_at (drop at bytes.now))) }
+{
+    are_bytes(bytes.as_slice());
+    let _size = bytes.len();
+    let mut rest = Cursor::new(bytes, at);
+    let (base_offset, mut body) = frame_of(&mut rest)?;
+    let end = at + (FRAME + body.len());
+    let leader_epoch = sealed_of(&mut body)?;
+    let head = head_of(alloc, &mut body, base_offset, leader_epoch)?;
+    if head.is_compressed() {
+        return Err(BatchFault::Compressed);
+    }
+    if !head.count_fits() {
+        return Err(BatchFault::Count);
+    }
+    if !head.offsets_fit() {
+        return Err(BatchFault::Count);
+    }
+    let begin = end - body.len();
+    Ok(Opened {
+        batch: head.batch,
+        count: head.count.unsigned_abs(),
+        begin,
+        end,
+    })
+}
+
+/// The tests of a data batch after its records, which read none of them.
+pub fn test_data(batch: &Batch) -> Result<(), BatchFault>
+    requires { is_control batch.now.attributes ≡ false }
+    ensures { MatchResult result (λ _. (rs : List Record) (size : ℕ) → finished batch.now size rs ≡ Ok (with_records batch.now rs, size))
+        (λ e. (rs : List Record) (size : ℕ) → finished batch.now size rs ≡ Err e) }
+{
+    if !has_right_producer(batch) {
+        return Err(BatchFault::Producer);
+    }
+    Ok(())
+}
