@@ -1,10 +1,7 @@
 //! A record batch, which Kafka writes, checks and stores as one.
 
-ghost use Rattle.std.specs.Prelude.{◌≡◌};
-
 use crate::record::Records;
-use std::alloc::AllocError;
-use std::marker::Model;
+use eos_base::Listed;
 
 /// A record batch of magic 2.
 #[derive(Clone, Debug, PartialEq, Eq, Drop)]
@@ -27,69 +24,5 @@ pub struct Batch {
     pub records: Records,
 }
 
-/// Record batches, in order, which contracts see as a list.
-#[derive(Debug, Drop)]
-pub struct Batches {
-    items: Vec<Batch>,
-}
-
-impl Model for Batches {
-    ghost use Rattle.std.specs.Prelude.{List};
-    ghost use Rattle.eos_batch.specs.declared.batch.Batch.{Batch};
-
-    ghost Value = { List Batch };
-
-    ghost view = { λ l. l.items.items };
-}
-
-impl Batches {
-    /// The list of these, in their order. It takes no memory.
-    pub fn new(items: Vec<Batch>) -> Batches
-        ensures { result ≡ items.items }
-    {
-        Batches { items }
-    }
-
-    pub fn as_slice(&self) -> &[Batch]
-        ensures { result.now ≡ self.now }
-    {
-        self.items.as_slice()
-    }
-
-    /// Gives the vector back. It takes no memory.
-    pub fn into_vec(self) -> Vec<Batch>
-        ensures { result.items ≡ self }
-    {
-        self.items
-    }
-}
-
-impl PartialEq for Batches {
-    ghost use Rattle.std.specs.Cmp.{partial_equiv_from_equiv};
-    ghost use Rattle.std.specs.Cmp.Lexicographic.{pointwise, lists_equiv};
-    ghost use Rattle.eos_batch.specs.Equality.{batch_eq, batch_equiv};
-
-    ghost eq = { pointwise batch_eq };
-
-    ghost laws = { partial_equiv_from_equiv (lists_equiv batch_equiv) };
-
-    fn eq(&self, other: &Self) -> bool {
-        self.items.as_slice() == other.items.as_slice()
-    }
-}
-
-impl Eq for Batches {
-    ghost use Rattle.std.specs.Cmp.Lexicographic.{lists_equiv};
-    ghost use Rattle.eos_batch.specs.Equality.{batch_equiv};
-
-    ghost laws = { lists_equiv batch_equiv };
-}
-
-impl Clone for Batches {
-    ghost is_clone = { λ a b. b ≡ a };
-
-    fn clone(&self) -> Result<Batches, AllocError> {
-        let items = self.items.clone()?;
-        Ok(Batches { items })
-    }
-}
+/// Record batches, in order.
+pub type Batches = Listed<Batch>;
