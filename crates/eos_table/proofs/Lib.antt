@@ -1,0 +1,4 @@
+pub mod MatchOrder
+pub mod MatchDecides
+pub mod AtomicLaw
+pub mod ShardLaw

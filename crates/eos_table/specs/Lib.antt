@@ -1,0 +1,3 @@
+pub mod Atomic
+pub mod MatchFaults
+pub mod Shards

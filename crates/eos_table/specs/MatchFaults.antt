@@ -1,0 +1,90 @@
+-- The faults between decisions and logs, what each of them says, and their order.
+use Rattle.std.specs.Prelude.{◌≡◌, ◌≢◌, ◌≤◌, ◌&&◌, ℕ, ℤ, List, [], ◌∷◌, Some, None, length, Bool, codes}
+use Rattle.std.specs.List.{filter}
+use Rattle.std.specs.Ordering.{nat_cmp, int_cmp, int_eq, on, then_cmp}
+use Rattle.std.specs.declared.cmp.Ordering.{Ordering}
+use Rattle.std.specs.Option.{option_cmp}
+use Rattle.eos_base.specs.declared.partition_name.PartitionName.{PartitionName}
+use Rattle.eos_base.specs.Members.{Has}
+use Rattle.eos_base.specs.PartitionNames.{name_cmp}
+use Rattle.eos_batch.specs.declared.marker.Marker.{Marker}
+use Rattle.eos_txnlog.specs.declared.decision.Decision.{Decision}
+use Rattle.eos_fold.specs.declared.close.Close.{Close}
+use Rattle.eos_fold.specs.Parts.{PartLog}
+use Rattle.eos_table.specs.declared.match_fault.MatchFault.{MatchFault}
+use Rattle.eos_table.specs.declared.match_fault.MatchFaultKind.{MatchFaultKind}
+use Rattle.eos_table.specs.declared.match_fault.MatchFaultKind.TheVariants.{TwiceDecided, Undecided, WrongKind, NotListed, StrayMarker, AbsentPartition, MissingMarker}
+use Rattle.eos_table.specs.Atomic.{part_name, listed_names, EndsAs, Ends}
+
+-- the decisions of a producer id and data epoch
+abbrev pub is_of : ℤ → ℤ → Decision → Bool
+is_of producer epoch d = int_eq d.producer producer && int_eq d.epoch epoch
+
+abbrev pub deciders : List Decision → ℤ → ℤ → List Decision
+deciders ds producer epoch = filter (is_of producer epoch) ds
+
+-- data of a transaction, of the fault's producer id and epoch, in the fault's partition
+pub record AtData (ps : List PartLog) (f : MatchFault) : Type 0 where
+  pub part : PartLog
+  pub close : Close
+  pub has_part : Has ps part
+  pub has_close : Has part.closes close
+  pub producer : close.producer ≡ f.producer
+  pub epoch : close.epoch ≡ f.epoch
+  pub partition : f.partition ≡ Some (part_name part)
+
+-- a marker of the fault's producer id and epoch, in the fault's partition
+pub record AtMarker (ps : List PartLog) (f : MatchFault) : Type 0 where
+  pub part : PartLog
+  pub marker : Marker
+  pub has_part : Has ps part
+  pub has_marker : Has part.markers marker
+  pub producer : marker.producer ≡ f.producer
+  pub epoch : marker.epoch ≡ f.epoch
+  pub partition : f.partition ≡ Some (part_name part)
+
+-- a partition that a decision of the fault's producer id and epoch lists
+pub record AtListed (ds : List Decision) (f : MatchFault) : Type 0 where
+  pub decision : Decision
+  pub name : PartitionName
+  pub has_decision : Has ds decision
+  pub has_name : Has (listed_names decision.partitions) name
+  pub producer : decision.producer ≡ f.producer
+  pub epoch : decision.epoch ≡ f.epoch
+  pub partition : f.partition ≡ Some name
+
+-- by the kind
+abbrev pub StandsAs : List Decision → List PartLog → MatchFault → MatchFaultKind → Type 0
+StandsAs ds ps f TwiceDecided = (2 ≤ length (deciders ds f.producer f.epoch)) × (f.partition ≡ None)
+StandsAs ds ps f Undecided = (at : AtData ps f) × (deciders ds f.producer f.epoch ≡ [])
+StandsAs ds ps f WrongKind = (at : AtData ps f) × (d : Decision) × (deciders ds f.producer f.epoch ≡ d ∷ []) × (EndsAs d at.close → ⊥)
+StandsAs ds ps f NotListed = (at : AtData ps f) × (d : Decision) × (deciders ds f.producer f.epoch ≡ d ∷ []) × (Has (listed_names d.partitions) (part_name at.part) → ⊥)
+StandsAs ds ps f StrayMarker = (at : AtMarker ps f) × ((d : Decision) → Has ds d → Ends d at.marker → Has (listed_names d.partitions) (part_name at.part) → ⊥)
+StandsAs ds ps f AbsentPartition = (at : AtListed ds f) × ((p : PartLog) → Has ps p → part_name p ≢ at.name)
+StandsAs ds ps f MissingMarker = (at : AtListed ds f) × (p : PartLog) × Has ps p × (part_name p ≡ at.name)
+    × ((q : PartLog) (m : Marker) → Has ps q → part_name q ≡ at.name → Has q.markers m → Ends at.decision m → ⊥)
+
+abbrev pub Stands : List Decision → List PartLog → MatchFault → Type 0
+Stands ds ps f = StandsAs ds ps f f.kind
+
+abbrev pub rank : MatchFaultKind → ℕ
+rank TwiceDecided = 1
+rank Undecided = 2
+rank WrongKind = 3
+rank NotListed = 4
+rank StrayMarker = 5
+rank AbsentPartition = 6
+rank MissingMarker = 7
+
+-- by producer id, epoch, kind, and partition
+abbrev pub fault_cmp : MatchFault → MatchFault → Ordering
+fault_cmp = then_cmp (on (λ f. f.producer) int_cmp) (then_cmp (on (λ f. f.epoch) int_cmp) (then_cmp (on (λ f. rank f.kind) nat_cmp) (on (λ f. f.partition) (option_cmp name_cmp))))
+
+abbrev pub name_of : MatchFaultKind → List ℕ
+name_of TwiceDecided = codes "TwiceDecided"
+name_of Undecided = codes "Undecided"
+name_of WrongKind = codes "WrongKind"
+name_of NotListed = codes "NotListed"
+name_of StrayMarker = codes "StrayMarker"
+name_of AbsentPartition = codes "AbsentPartition"
+name_of MissingMarker = codes "MissingMarker"
