@@ -3,3 +3,4 @@ pub mod Decided
 pub mod Least
 pub mod PartitionNames
 pub mod FaultNames
+pub mod Steps

@@ -4,11 +4,13 @@
 
 mod crc;
 mod fields;
+mod numbers;
 mod tables;
 mod varint;
 mod writing;
 
 pub use crc::crc32c;
 pub use fields::Fields;
+pub use numbers::{are_bytes, write_i8, write_i16, write_i32, write_i64, write_u32};
 pub use varint::{read_uvarint, read_varint, read_varlong};
 pub use writing::{write_uvarint, write_varint, write_varlong};
