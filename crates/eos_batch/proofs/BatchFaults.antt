@@ -3,7 +3,8 @@ use Rattle.std.proofs.Common.{◌≡◌, ℤ, ℕ, List, true, false, Ok, refl}
 use Rattle.eos_batch.specs.declared.fault.BatchFault.{BatchFault}
 use Rattle.eos_batch.specs.declared.decode.Head.{Head}
 use Rattle.eos_batch.specs.Attributes.{is_compressed}
-use Rattle.eos_batch.specs.Reading.{Fails, head_at, count_fits, offsets_fit, all_records_at, covered_at}
+use Rattle.eos_batch.specs.Answers.{Fails}
+use Rattle.eos_batch.specs.Reading.{head_at, count_fits, offsets_fit, all_records_at, covered_at}
 use Rattle.eos_batch.proofs.ReadLoops.{fails_through}
 
 pub records_fail : (base leader : ℤ) (head : Head) (bytes rest : List ℕ) (e : BatchFault) → head_at base leader bytes ≡ Ok (head, rest) → is_compressed head.batch.attributes ≡ false → count_fits head ≡ true → offsets_fit head ≡ true

@@ -11,7 +11,8 @@ use Rattle.eos_batch.specs.declared.batch.Batch.{Batch}
 use Rattle.eos_batch.specs.Marker.{has_right_control}
 use Rattle.eos_batch.specs.Rules.{has_right_producer, IsControlRight, IsProducerRight}
 use Rattle.eos_batch.specs.Text.{IsCoveredText, IsBatchText, HasTextAt}
-use Rattle.eos_batch.specs.Reading.{Answers, frame_at, sealed_at, covered_at, batch_at}
+use Rattle.eos_batch.specs.Answers.{Answers}
+use Rattle.eos_batch.specs.Reading.{frame_at, sealed_at, covered_at, batch_at}
 use Rattle.eos_batch.proofs.TextParts.{bind_ok, ok_is, must_bind}
 use Rattle.eos_batch.proofs.BatchParts.{FrameTaken, SealTaken, CoveredTaken, frame_sound, frame_whole, sealed_sound, sealed_whole, covered_sound, covered_whole}
 

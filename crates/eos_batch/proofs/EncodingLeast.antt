@@ -12,7 +12,8 @@ use Rattle.eos_batch.specs.declared.batch.Batch.{Batch}
 use Rattle.eos_batch.specs.declared.fault.BatchFault.{BatchFault}
 use Rattle.eos_batch.specs.declared.fault.BatchFault.TheVariants as faults
 use Rattle.eos_batch.specs.Text.{IsBytesText, IsOptionalText, IsHeaderText, AreHeaderTexts, IsBodyText, IsRecordText, AreRecordTexts, IsCoveredText, IsBatchText}
-use Rattle.eos_batch.specs.Encoding.{bytes_text, optional_text, header_text, headers_text, body_text, record_text, records_text, covered_text, batch_text_of, tested, encoding_of, IsWritten, HasNoText}
+use Rattle.eos_batch.specs.Answers.{IsWritten}
+use Rattle.eos_batch.specs.Encoding.{bytes_text, optional_text, header_text, headers_text, body_text, record_text, records_text, covered_text, batch_text_of, tested, encoding_of, HasNoText}
 use Rattle.eos_batch.proofs.EncodingSteps.{length-body_text}
 use Rattle.eos_batch.proofs.EncodingTexts.{length-bytes_text, length-header_text, length-record_text, length-covered_text, length-text_with}
 use Rattle.eos_batch.proofs.EncodingTests.{passes_by}

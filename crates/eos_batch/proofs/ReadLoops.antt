@@ -5,7 +5,9 @@ use Rattle.eos_batch.specs.declared.fault.BatchFault.{BatchFault}
 use Rattle.eos_batch.specs.declared.fault.BatchFault.TheVariants as faults
 use Rattle.eos_batch.specs.declared.record.Header.{Header}
 use Rattle.eos_batch.specs.declared.record.Record.{Record}
-use Rattle.eos_batch.specs.Reading.{◌>>=◌, Fails, header_at, headers_at, record_at, records_at}
+use Rattle.eos_base.specs.Steps.{◌>>=◌}
+use Rattle.eos_batch.specs.Answers.{Fails}
+use Rattle.eos_batch.specs.Reading.{header_at, headers_at, record_at, records_at}
 
 -- what fails is passed on
 pub fails_through : {A B : Type 0} (e : BatchFault) (r : Result A BatchFault) (s : Result B BatchFault) → ((f : BatchFault) → r ≡ Err f → s ≡ Err f) → Fails e r → Fails e s

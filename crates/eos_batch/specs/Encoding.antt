@@ -20,7 +20,7 @@ use Rattle.eos_batch.specs.Attributes.{is_compressed}
 use Rattle.eos_batch.specs.Marker.{has_right_control}
 use Rattle.eos_batch.specs.Rules.{has_right_producer}
 use Rattle.eos_batch.specs.Text.{last_offset_delta, IsBatchText}
-use Rattle.eos_batch.specs.Reading.{◌>>=◌, must}
+use Rattle.eos_base.specs.Steps.{◌>>=◌, must}
 
 -- a length and that many bytes
 unfoldable pub bytes_text : List ℕ → List ℕ
@@ -91,11 +91,6 @@ unfoldable pub encoding_of : Batch → Result (List ℕ) BatchFault
 encoding_of b = do
   right ← tested b
   Ok (batch_text_of b)
-
--- What is written is the text, unless memory runs out. A refusal comes before any memory is taken.
-abbrev pub IsWritten : Result (List ℕ) BatchFault → Result (List ℕ) BatchFault → Type 0
-IsWritten (Ok text) answer = (answer ≡ Ok text) ⊎ (answer ≡ Err faults.OutOfMemory)
-IsWritten (Err fault) answer = answer ≡ Err fault
 
 -- none of its texts is one that a segment has room for
 abbrev pub HasNoText : Batch → Type 0

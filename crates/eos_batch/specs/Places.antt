@@ -8,7 +8,9 @@ use Rattle.eos_batch.specs.declared.record.Header.{Header}
 use Rattle.eos_batch.specs.declared.view.Parts.{Parts}
 use Rattle.eos_batch.specs.declared.batch.Batch.{Batch}
 use Rattle.eos_batch.specs.declared.walk.Opened.{Opened}
-use Rattle.eos_batch.specs.Reading.{◌>>=◌, Fails, must, used_up, or_fault, int_at, long_at, optional_at, count_at, bytes_at, body_at, record_at, records_at, with_records, batch_at}
+use Rattle.eos_base.specs.Steps.{◌>>=◌, must, or_fault}
+use Rattle.eos_batch.specs.Answers.{Fails}
+use Rattle.eos_batch.specs.Reading.{used_up, int_at, long_at, optional_at, count_at, bytes_at, body_at, record_at, records_at, with_records, batch_at}
 use Rattle.eos_batch.specs.Marker.{has_right_control}
 use Rattle.eos_batch.specs.Rules.{has_right_producer}
 

@@ -15,6 +15,7 @@
 -- A length of 49 or more has all fields of the header, so none of them is ever missing where it is read.
 use Rattle.std.specs.Prelude.{◌≡◌, ℕ, zero, suc, ◌+◌, ◌-◌, ℤ, pos, negsuc, ◌+ℤ◌, List, [], ◌∷◌, ◌++◌, length, take, drop, Option, Some, None, Result, Ok, Err, Bool, true, false, nat_lt, ◌==◌, ◌&&◌, ◌^◌, not, int_lt, int_le, if◌then◌else◌, ⊤}
 use Rattle.std.specs.Ordering.{int_eq}
+use Rattle.eos_base.specs.Steps.{◌>>=◌, or_fault, must}
 use Rattle.eos_wire.specs.Varint.{varint_at, varlong_at}
 use Rattle.eos_wire.specs.Numbers.{i8_at, i16_at, i32_at, i64_at, u32_at}
 use Rattle.eos_wire.specs.Crc.{crc32c_of}
@@ -27,57 +28,6 @@ use Rattle.eos_batch.specs.declared.decode.Head.{Head}
 use Rattle.eos_batch.specs.Attributes.{is_compressed}
 use Rattle.eos_batch.specs.Marker.{has_right_control}
 use Rattle.eos_batch.specs.Rules.{has_right_producer}
-
-infixl 10 ◌>>=◌
-abbrev pub ◌>>=◌ : {A B : Type 0} → Result A BatchFault → (A → Result B BatchFault) → Result B BatchFault
-(Ok x) >>= f = f x
-(Err e) >>= f = Err e
-
--- A fault is the one that reading gives, unless memory ran out.
-abbrev pub Fails : {Y : Type 0} → BatchFault → Result Y BatchFault → Type 0
-Fails faults.Truncated read = read ≡ Err faults.Truncated
-Fails faults.Length read = read ≡ Err faults.Length
-Fails faults.Magic read = read ≡ Err faults.Magic
-Fails faults.Crc read = read ≡ Err faults.Crc
-Fails faults.Compressed read = read ≡ Err faults.Compressed
-Fails faults.Count read = read ≡ Err faults.Count
-Fails faults.Varint read = read ≡ Err faults.Varint
-Fails faults.Record read = read ≡ Err faults.Record
-Fails faults.Delta read = read ≡ Err faults.Delta
-Fails faults.Trailing read = read ≡ Err faults.Trailing
-Fails faults.Control read = read ≡ Err faults.Control
-Fails faults.Producer read = read ≡ Err faults.Producer
-Fails faults.OutOfMemory read = ⊤
-
--- A function's result is what reading gives.
-abbrev pub Answers : {X : Type 0} → Result X BatchFault → Result X BatchFault → Type 0
-Answers (Ok x) read = read ≡ Ok x
-Answers (Err e) read = Fails e read
-
--- A function's result and the bytes that it left are what reading gives.
-abbrev pub Gives : {X : Type 0} → Result X BatchFault → List ℕ → Result (X × List ℕ) BatchFault → Type 0
-Gives (Ok x) rest read = read ≡ Ok (x, rest)
-Gives (Err e) rest read = Fails e read
-
--- A function puts what reading gives at the end of a list.
-abbrev pub Pushes : {X Y : Type 0} → Result Y BatchFault → List X → List X → Result X BatchFault → Type 0
-Pushes {X} (Ok _) before after read = (x : X) × (read ≡ Ok x) × (after ≡ before ++ x ∷ [])
-Pushes (Err e) before after read = Fails e read
-
--- the same, and these bytes are left
-abbrev pub PushesFrom : {X Y : Type 0} → Result Y BatchFault → List X → List X → List ℕ → Result (X × List ℕ) BatchFault → Type 0
-PushesFrom {X} (Ok _) before after rest read = (x : X) × (read ≡ Ok (x, rest)) × (after ≡ before ++ x ∷ [])
-PushesFrom (Err e) before after rest read = Fails e read
-
--- a number, or the fault where the bytes have none
-abbrev pub or_fault : {X : Type 0} → BatchFault → Option X → Result X BatchFault
-or_fault fault None = Err fault
-or_fault fault (Some x) = Ok x
-
--- goes on where the test holds
-abbrev pub must : {X : Type 0} → Bool → BatchFault → X → Result X BatchFault
-must true fault x = Ok x
-must false fault x = Err fault
 
 -- ---- numbers and bytes within a record
 

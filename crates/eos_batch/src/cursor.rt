@@ -1,22 +1,18 @@
 //! The numbers and texts of a batch, read one after the other from shared bytes. A text is a cursor of its own until it is
 //! kept, and then another owner of the bytes, which are never copied.
 
-ghost use Rattle.std.specs.Prelude.{◌≡◌, ◌≤◌, ◌<◌, ◌^◌, ◌==◌, length, take, drop, slice_range, IfOk, IfErr};
+ghost use Rattle.std.specs.Prelude.{◌≡◌, ◌≤◌, ◌<◌, ◌^◌, ◌==◌, ◌-◌, length, take, drop, slice_range, IfOk, IfErr};
 ghost use Rattle.eos_wire.specs.Fields.{Reads};
-ghost use Rattle.eos_wire.specs.Numbers.{IsBytes, i8_at, i16_at, i32_at, i64_at, u32_at};
+ghost use Rattle.eos_wire.specs.Numbers.{i8_at, i16_at, i32_at, i64_at, u32_at};
 ghost use Rattle.eos_batch.specs.Real.{IsReal};
-ghost use Rattle.eos_batch.specs.Reading.{Gives, int_at, long_at, count_at, take_at, bytes_at, optional_at};
+ghost use Rattle.eos_batch.specs.Answers.{Gives};
+ghost use Rattle.eos_batch.specs.Reading.{int_at, long_at, count_at, take_at, bytes_at, optional_at};
 
 use crate::fault::BatchFault;
 use bytes::Bytes;
 use eos_wire::{Fields, read_varint, read_varlong};
 use std::alloc::AllocError;
 use std::marker::Model;
-
-/// Each item of a slice is a byte, which proofs do not know of `Bytes`.
-pub(crate) fn are_bytes(_bytes: &[u8])
-    ensures { IsBytes _bytes.now }
-{}
 
 /// The bytes from one place to another that are left to read.
 #[derive(Drop)]
@@ -80,6 +76,15 @@ impl<'a> Cursor<'a> {
         self.at += len;
     }
 
+    /// Leaves the last `len` bytes.
+    #[inline(always)]
+    fn keep(&mut self, len: usize)
+        requires { len ≤ length self.old }
+        ensures { self.new ≡ drop (length self.old - len) self.old }
+    {
+        self.advance(self.len() - len);
+    }
+
     #[inline(always)]
     #[tactic(auto, unfolding(crate::specs::Reading::int_at))]
     pub(crate) fn varint(&mut self) -> Result<i32, BatchFault>
@@ -109,8 +114,9 @@ impl<'a> Cursor<'a> {
     pub(crate) fn i8(&mut self) -> Option<i8>
         ensures { Reads result self.new (i8_at self.old) }
     {
-        let number = Fields::new(self.rest()).i8()?;
-        self.advance(1);
+        let mut fields = Fields::new(self.rest());
+        let number = fields.i8()?;
+        self.keep(fields.left());
         Some(number)
     }
 
@@ -118,8 +124,9 @@ impl<'a> Cursor<'a> {
     pub(crate) fn i16(&mut self) -> Option<i16>
         ensures { Reads result self.new (i16_at self.old) }
     {
-        let number = Fields::new(self.rest()).i16()?;
-        self.advance(2);
+        let mut fields = Fields::new(self.rest());
+        let number = fields.i16()?;
+        self.keep(fields.left());
         Some(number)
     }
 
@@ -127,8 +134,9 @@ impl<'a> Cursor<'a> {
     pub(crate) fn i32(&mut self) -> Option<i32>
         ensures { Reads result self.new (i32_at self.old) }
     {
-        let number = Fields::new(self.rest()).i32()?;
-        self.advance(4);
+        let mut fields = Fields::new(self.rest());
+        let number = fields.i32()?;
+        self.keep(fields.left());
         Some(number)
     }
 
@@ -136,8 +144,9 @@ impl<'a> Cursor<'a> {
     pub(crate) fn i64(&mut self) -> Option<i64>
         ensures { Reads result self.new (i64_at self.old) }
     {
-        let number = Fields::new(self.rest()).i64()?;
-        self.advance(8);
+        let mut fields = Fields::new(self.rest());
+        let number = fields.i64()?;
+        self.keep(fields.left());
         Some(number)
     }
 
@@ -145,8 +154,9 @@ impl<'a> Cursor<'a> {
     pub(crate) fn u32(&mut self) -> Option<u32>
         ensures { Reads result self.new (u32_at self.old) }
     {
-        let number = Fields::new(self.rest()).u32()?;
-        self.advance(4);
+        let mut fields = Fields::new(self.rest());
+        let number = fields.u32()?;
+        self.keep(fields.left());
         Some(number)
     }
 

@@ -22,16 +22,17 @@ ghost use Rattle.std.specs.Prelude.{◌≡◌, ◌≤◌, ℕ, length, drop, Ok,
 ghost use Rattle.eos_batch.specs.declared.batch.Batch.{Batch};
 ghost use Rattle.eos_batch.specs.Text.{HasTextAt};
 ghost use Rattle.eos_batch.specs.Attributes.{is_compressed};
-ghost use Rattle.eos_batch.specs.Reading.{Answers, Gives, count_fits, offsets_fit, frame_at, sealed_at, head_at, covered_at, all_records_at, batch_at};
+ghost use Rattle.eos_batch.specs.Answers.{Answers, Gives};
+ghost use Rattle.eos_batch.specs.Reading.{count_fits, offsets_fit, frame_at, sealed_at, head_at, covered_at, all_records_at, batch_at};
 
 use crate::batch::Batch;
-use crate::cursor::{Cursor, are_bytes};
+use crate::cursor::Cursor;
 use crate::fault::BatchFault;
 use crate::read_record::records_of;
 use crate::record::Records;
 use crate::rules::{has_right_control, has_right_producer, is_compressed};
 use bytes::Bytes;
-use eos_wire::crc32c;
+use eos_wire::{are_bytes, crc32c};
 use std::alloc::Global;
 
 /// The bytes up to the length, which counts those after it.

@@ -8,16 +8,16 @@ ghost use Rattle.eos_wire.specs.Crc.{crc32c_of};
 ghost use Rattle.eos_wire.specs.Writing.{IsShortest};
 ghost use Rattle.eos_batch.specs.Text.{IsBatchText};
 ghost use Rattle.eos_batch.specs.Reading.{batch_at};
-ghost use Rattle.eos_batch.specs.Encoding.{records_text, covered_text, text_with, batch_text_of, is_counted, is_short, tested, encoding_of, IsWritten, HasNoText, HasCoveredWidths};
+ghost use Rattle.eos_batch.specs.Answers.{IsWritten};
+ghost use Rattle.eos_batch.specs.Encoding.{records_text, covered_text, text_with, batch_text_of, is_counted, is_short, tested, encoding_of, HasNoText, HasCoveredWidths};
 
 use crate::batch::Batch;
-use crate::encode_number::{write_i8, write_i16, write_i32, write_i64, write_u32};
 use crate::encode_record::write_records;
 use crate::encode_size::records_size;
 use crate::fault::BatchFault;
 use crate::rules::{has_right_control, has_right_producer, is_compressed};
 use bytes::Bytes;
-use eos_wire::crc32c;
+use eos_wire::{crc32c, write_i8, write_i16, write_i32, write_i64, write_u32};
 use std::alloc::{AllocError, Global};
 
 /// The most bytes that a segment has, and so a batch.

@@ -4,11 +4,10 @@
 ghost use Rattle.std.specs.Prelude.{◌≡◌, ◌≤◌, ◌<◌, ◌^◌, ◌++◌, length, All, OnOk};
 ghost use Rattle.eos_batch.specs.Encoding.{bytes_text, optional_text, header_text, headers_text, body_text, record_text, records_text, HasRecordWidths};
 
-use crate::encode_number::write_i8;
 use crate::encode_size::body_size;
 use crate::record::{Header, Record};
 use bytes::Bytes;
-use eos_wire::{write_varint, write_varlong};
+use eos_wire::{write_i8, write_varint, write_varlong};
 use std::alloc::AllocError;
 
 /// A length and that many bytes.

@@ -8,47 +8,35 @@ use std::alloc::{AllocError, AllocFailed};
 use thiserror::Error;
 
 /// The first step of reading or writing a record batch that fails. The names stand in the order of reading's steps, save that
-/// `Truncated` is also asked for after `Length`.
+/// `Truncated` is also asked for after `Length`. The text of a fault is its name.
 #[derive(Clone, Copy, Debug, PartialEq, Eq, Error)]
+#[error("{name}", name = self.name())]
 pub enum BatchFault {
     /// The bytes end before the batch does.
-    #[error("Truncated")]
     Truncated,
     /// The batch's length is below that of an empty batch, or past the limit of a segment.
-    #[error("Length")]
     Length,
     /// Another format than magic 2.
-    #[error("Magic")]
     Magic,
     /// The checksum differs.
-    #[error("Crc")]
     Crc,
     /// The records are compressed.
-    #[error("Compressed")]
     Compressed,
     /// The number of records, the last offset delta and the base offset don't fit each other.
-    #[error("Count")]
     Count,
     /// A variable-length number has no end or too many groups.
-    #[error("Varint")]
     Varint,
     /// A length within a record is wrong, or bytes of a record are left.
-    #[error("Record")]
     Record,
     /// A record's offset delta is not its place.
-    #[error("Delta")]
     Delta,
     /// Bytes are left after the last record.
-    #[error("Trailing")]
     Trailing,
     /// A control batch is not one control record that reads.
-    #[error("Control")]
     Control,
     /// The producer id or epoch is below 0 where it may not be.
-    #[error("Producer")]
     Producer,
     /// A growth of memory was refused.
-    #[error("OutOfMemory")]
     OutOfMemory,
 }
 
@@ -88,5 +76,36 @@ impl<T: Drop> From<AllocFailed<T>> for BatchFault {
 
     fn from(_e: AllocFailed<T>) -> BatchFault {
         BatchFault::OutOfMemory
+    }
+}
+
+#[cfg(test)]
+mod tests {
+    use super::*;
+
+    /// Each fault beside its name.
+    const NAMED: [(BatchFault, &str); 13] = [
+        (BatchFault::Truncated, "Truncated"),
+        (BatchFault::Length, "Length"),
+        (BatchFault::Magic, "Magic"),
+        (BatchFault::Crc, "Crc"),
+        (BatchFault::Compressed, "Compressed"),
+        (BatchFault::Count, "Count"),
+        (BatchFault::Varint, "Varint"),
+        (BatchFault::Record, "Record"),
+        (BatchFault::Delta, "Delta"),
+        (BatchFault::Trailing, "Trailing"),
+        (BatchFault::Control, "Control"),
+        (BatchFault::Producer, "Producer"),
+        (BatchFault::OutOfMemory, "OutOfMemory"),
+    ];
+
+    #[test]
+    fn texts_are_names(rt: HostRuntime) -> Result<(), AllocError> {
+        for (fault, name) in NAMED {
+            assert_eq!(rt; fault.name(), name);
+            assert_eq!(rt; format!(in rt.alloc(); "{fault}")?.as_str(), name);
+        }
+        Ok(())
     }
 }

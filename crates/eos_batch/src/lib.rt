@@ -5,7 +5,6 @@ mod batch;
 mod cursor;
 mod decode;
 mod encode;
-mod encode_number;
 mod encode_record;
 mod encode_size;
 mod fault;

@@ -1,12 +1,14 @@
 //! Passing over the records of a batch without making them.
 
 ghost use Rattle.std.specs.Prelude.{◌≡◌, ◌≤◌, ◌<◌, length, slice_range, IfOk, IfErr};
-ghost use Rattle.eos_batch.specs.Reading.{Fails, header_at, headers_at, placed_at, record_at};
+ghost use Rattle.eos_batch.specs.Answers.{Fails};
+ghost use Rattle.eos_batch.specs.Reading.{header_at, headers_at, placed_at, record_at};
 ghost use Rattle.eos_batch.specs.Places.{Passes, PassesFrom, IsAt};
 
-use crate::cursor::{Cursor, are_bytes};
+use crate::cursor::Cursor;
 use crate::fault::BatchFault;
 use bytes::Bytes;
+use eos_wire::are_bytes;
 
 #[inline(always)]
 #[tactic(auto, unfolding(crate::specs::Reading::header_at))]

@@ -5,10 +5,10 @@ ghost use Rattle.eos_batch.specs.declared.batch.Batch.{Batch};
 ghost use Rattle.eos_batch.specs.Segment.{Splits, IsSegmentText};
 
 use crate::batch::Batches;
-use crate::cursor::are_bytes;
 use crate::decode::decode_batch;
 use crate::fault::BatchFault;
 use bytes::Bytes;
+use eos_wire::are_bytes;
 use std::alloc::{AllocError, Global};
 
 /// What a segment holds.

@@ -5,7 +5,8 @@ ghost use Rattle.std.specs.Option.{option_map};
 ghost use Rattle.eos_batch.specs.declared.record.Header.{Header};
 ghost use Rattle.eos_batch.specs.declared.record.Record.{Record};
 ghost use Rattle.eos_batch.specs.Real.{IsReal};
-ghost use Rattle.eos_batch.specs.Reading.{Answers, Gives, header_at};
+ghost use Rattle.eos_batch.specs.Answers.{Answers, Gives};
+ghost use Rattle.eos_batch.specs.Reading.{header_at};
 ghost use Rattle.eos_batch.specs.Places.{whole_at, found_at, parts_at};
 
 use crate::cursor::Cursor;

@@ -4,14 +4,16 @@ ghost use Rattle.std.specs.Prelude.{◌≡◌, ◌≤◌, ℕ, List, length, dro
 ghost use Rattle.eos_batch.specs.declared.record.Record.{Record};
 ghost use Rattle.eos_batch.specs.Attributes.{is_control};
 ghost use Rattle.eos_batch.specs.Places.{IsOpened, finished};
-ghost use Rattle.eos_batch.specs.Reading.{Fails, with_records, batch_at};
+ghost use Rattle.eos_batch.specs.Answers.{Fails};
+ghost use Rattle.eos_batch.specs.Reading.{with_records, batch_at};
 
 use crate::batch::Batch;
-use crate::cursor::{Cursor, are_bytes};
+use crate::cursor::Cursor;
 use crate::decode::{FRAME, frame_of, head_of, sealed_of};
 use crate::fault::BatchFault;
 use crate::rules::has_right_producer;
 use bytes::Bytes;
+use eos_wire::are_bytes;
 use std::alloc::Global;
 
 /// A batch whose records are not read.

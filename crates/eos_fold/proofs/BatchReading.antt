@@ -6,7 +6,8 @@ use Rattle.eos_batch.specs.declared.batch.Batch.{Batch}
 use Rattle.eos_batch.specs.declared.fault.BatchFault.{BatchFault}
 use Rattle.eos_batch.specs.declared.fault.BatchFault.TheVariants as faults
 use Rattle.eos_batch.specs.Text.{IsBatchText}
-use Rattle.eos_batch.specs.Reading.{batch_at, Fails}
+use Rattle.eos_batch.specs.Answers.{Fails}
+use Rattle.eos_batch.specs.Reading.{batch_at}
 use Rattle.eos_batch.proofs.BatchTexts.{batch_whole, text_length}
 use Rattle.eos_fold.specs.Front.{IsNext}
 

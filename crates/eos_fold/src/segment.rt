@@ -6,7 +6,7 @@
 ghost use Rattle.std.specs.Prelude.{◌≡◌, ◌+◌, ◌<◌, ◌≤◌, ◌^◌, [], ◌∷◌, ◌++◌, ℕ, List, length, drop, Result, Err, IfOk, IfErr, MatchResult};
 ghost use Rattle.eos_batch.specs.declared.batch.Batch.{Batch};
 ghost use Rattle.eos_batch.specs.declared.fault.BatchFault.{BatchFault};
-ghost use Rattle.eos_batch.specs.Reading.{Fails};
+ghost use Rattle.eos_batch.specs.Answers.{Fails};
 ghost use Rattle.eos_batch.specs.Segment.{Splits};
 ghost use Rattle.eos_fold.specs.Faults.{IsLeastFault};
 ghost use Rattle.eos_fold.specs.Good.{IsGood};

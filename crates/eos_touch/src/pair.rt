@@ -6,12 +6,14 @@ ghost use Rattle.eos_touch.specs.Pair.{pair_verdict, sequence_at, first_sequence
 ghost use Rattle.eos_touch.specs.Names.{name_of};
 
 use crate::touch::Touch;
+use thiserror::Error;
 
 /// Sequences count modulo this: after 2147483647 comes 0.
 const SEQUENCES: i64 = 2147483648;
 
-/// Why a touch may not follow the touch of its producer id before it, least first.
-#[derive(Clone, Copy, Debug, PartialEq, Eq)]
+/// Why a touch may not follow the touch of its producer id before it, least first. The text of a fault is its name.
+#[derive(Clone, Copy, Debug, PartialEq, Eq, Error)]
+#[error("{name}", name = self.name())]
 pub enum PairFault {
     /// The first data of an epoch has another base sequence than 0.
     FirstSequence,
@@ -236,6 +238,7 @@ mod tests {
     use super::*;
     use crate::laws;
     use eos_batch::Kind;
+    use std::alloc::AllocError;
 
     /// Transactional data of one record.
     fn data(epoch: i16, sequence: i32) -> Touch {
@@ -245,6 +248,27 @@ mod tests {
             sequence,
             count: 1,
         }
+    }
+
+    /// Each fault beside its number and its name.
+    const NAMED: [(PairFault, u8, &str); 7] = [
+        (PairFault::FirstSequence, 3, "FirstSequence"),
+        (PairFault::Sequence, 4, "Sequence"),
+        (PairFault::ZombieEpoch, 5, "ZombieEpoch"),
+        (PairFault::EpochWhileOpen, 6, "EpochWhileOpen"),
+        (PairFault::NoBump, 7, "NoBump"),
+        (PairFault::MixedProducer, 8, "MixedProducer"),
+        (PairFault::MarkerKind, 9, "MarkerKind"),
+    ];
+
+    #[test]
+    fn texts_are_names(rt: HostRuntime) -> Result<(), AllocError> {
+        for (fault, number, name) in NAMED {
+            assert_eq!(rt; fault.number(), number);
+            assert_eq!(rt; fault.name(), name);
+            assert_eq!(rt; format!(in rt.alloc(); "{fault}")?.as_str(), name);
+        }
+        Ok(())
     }
 
     #[test]
@@ -272,8 +296,6 @@ mod tests {
         };
         let fault = pair_ok(Some(plain), commit, true);
         assert_eq!(rt; fault, Err(PairFault::NoBump));
-        assert_eq!(rt; PairFault::NoBump.number(), 7);
-        assert_eq!(rt; PairFault::NoBump.name(), "NoBump");
         laws::neighbours(&[plain, commit], true);
     }
 }

@@ -1,6 +1,6 @@
 use Rattle.std.proofs.Common.{subst}
 use Rattle.eos_wire.specs.Numbers.{IsBytes}
-use Rattle.eos_batch.specs.Reading.{Answers}
+use Rattle.eos_batch.specs.Answers.{Answers}
 use Rattle.eos_batch.proofs.BatchTexts.{IsBytes-drop, answers_text, read_at}
 use Rattle.eos_batch.proofs.decode.decode_batch.Goals as goal
 

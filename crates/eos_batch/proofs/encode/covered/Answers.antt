@@ -19,21 +19,21 @@ returns-clause-text c =
     let producer_fits : FitsSigned w64 c.args.batch.now.producer = omega (arith, ints) in
     let epoch_fits : FitsSigned w16 c.args.batch.now.epoch = omega (arith, ints) in
     let sequence_fits : FitsSigned w32 c.args.batch.now.sequence = omega (arith, ints) in
-    let attributes = simp to_z-of_z at c.in_ok-write_i16.ensures in
-    let base = simp to_z-of_z at c.in_ok-write_i64.ensures in
-    let max = simp to_z-of_z at c.in_ok-write_i64-2.ensures in
-    let producer = simp to_z-of_z at c.in_ok-write_i64-3.ensures in
-    let epoch = simp to_z-of_z at c.in_ok-write_i16-2.ensures in
-    let sequence = simp to_z-of_z at c.in_ok-write_i32-2.ensures in
+    let attributes = simp to_z-of_z at c.in_ok-write_i16.ensures.ok in
+    let base = simp to_z-of_z at c.in_ok-write_i64.ensures.ok in
+    let max = simp to_z-of_z at c.in_ok-write_i64-2.ensures.ok in
+    let producer = simp to_z-of_z at c.in_ok-write_i64-3.ensures.ok in
+    let epoch = simp to_z-of_z at c.in_ok-write_i16-2.ensures.ok in
+    let sequence = simp to_z-of_z at c.in_ok-write_i32-2.ensures.ok in
     let last = to_z_pos w32 (length c.as_slice-records.result.now - 1) (omega (arith, n)) in
     let count = to_z_pos w32 (length c.as_slice-records.result.now) (omega (arith, n)) in
     appended_9 c.new-out.result.items _ _ _ _ _ _ _ _ _ _ _ _ _ _ _ _ _ _ c.new-out.ensures.items
     attributes
-    (c.in_ok-write_i32.ensures ∙ ap (λ (z : ℤ). c.write_i16.new.out.items ++ i32_text z) (last ∙ ap (λ (n : ℕ). pos (n - 1)) n))
+    (c.in_ok-write_i32.ensures.ok ∙ ap (λ (z : ℤ). c.write_i16.new.out.items ++ i32_text z) (last ∙ ap (λ (n : ℕ). pos (n - 1)) n))
     base
     max
     producer
     epoch
     sequence
-    (c.in_ok-write_i32-3.ensures ∙ ap (λ (z : ℤ). c.write_i32-2.new.out.items ++ i32_text z) (count ∙ ap pos n))
+    (c.in_ok-write_i32-3.ensures.ok ∙ ap (λ (z : ℤ). c.write_i32-2.new.out.items ++ i32_text z) (count ∙ ap pos n))
     (c.in_ok-write_records.ensures.text ∙ ap (λ (rs : List Record). c.write_i32-3.new.out.items ++ records_text 0 rs) rs)
