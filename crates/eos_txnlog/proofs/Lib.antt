@@ -1,3 +1,4 @@
+pub mod SameNames
 pub mod Loop
 pub mod Takes
 pub mod FieldTexts

@@ -1,5 +1,5 @@
 -- The numbers of a transactional id's states: KIP-98, "Transaction state", and Kafka's `TransactionState`.
-use Rattle.std.specs.Prelude.{ℤ, pos, List, [], ◌∷◌, find, Option}
+use Rattle.std.specs.Prelude.{ℤ, pos, Bool, true, false, ◌||◌, List, [], ◌∷◌, find, Option, Some, None}
 use Rattle.std.specs.Ordering.{int_eq}
 use Rattle.eos_txnlog.specs.declared.status.Status.{Status}
 use Rattle.eos_txnlog.specs.declared.status.Status.TheVariants as statuses
@@ -20,3 +20,20 @@ all_statuses = statuses.Empty ∷ statuses.Ongoing ∷ statuses.PrepareCommit �
 -- the status that has this number, if there is one
 abbrev pub status_of : ℤ → Option Status
 status_of number = find (λ status. int_eq (status_number status) number) all_statuses
+
+abbrev pub same_status : Option Status → Option Status → Bool
+same_status None None = true
+same_status None (Some t) = false
+same_status (Some s) None = false
+same_status (Some s) (Some t) = int_eq (status_number s) (status_number t)
+
+abbrev pub is_ongoing : Status → Bool
+is_ongoing status = same_status (Some status) (Some statuses.Ongoing)
+
+-- the record decides a transaction
+abbrev pub is_prepare : Status → Bool
+is_prepare status = same_status (Some status) (Some statuses.PrepareCommit) || same_status (Some status) (Some statuses.PrepareAbort)
+
+-- the transaction goes on, or its end isn't written yet
+abbrev pub is_open : Status → Bool
+is_open status = is_ongoing status || is_prepare status

@@ -8,7 +8,7 @@ use Rattle.eos_txnlog.specs.declared.status.Status.TheVariants.{Empty, Ongoing, 
 use Rattle.eos_txnlog.specs.declared.value.TxnValue.{TxnValue}
 use Rattle.eos_txnlog.specs.declared.step.TxnFault.{TxnFault}
 use Rattle.eos_txnlog.specs.declared.step.TxnFault.TheVariants as faults
-use Rattle.eos_txnlog.specs.Status.{status_number}
+use Rattle.eos_txnlog.specs.Status.{same_status, is_ongoing, is_prepare}
 
 -- ---- the table
 
@@ -30,25 +30,12 @@ next_statuses (Some PrepareEpochFence) = []
 
 -- ---- the three refusals
 
-abbrev pub same_status : Option Status → Option Status → Bool
-same_status None None = true
-same_status None (Some t) = false
-same_status (Some s) None = false
-same_status (Some s) (Some t) = int_eq (status_number s) (status_number t)
-
 abbrev pub status_in : Option TxnValue → Option Status
 status_in value = option_map (λ v. v.status) value
 
 -- the pair is in the table
 abbrev pub is_in_order : Option TxnValue → Option TxnValue → Bool
 is_in_order before after = list_any (same_status (status_in after)) (next_statuses (status_in before))
-
-abbrev pub is_ongoing : Status → Bool
-is_ongoing status = same_status (Some status) (Some Ongoing)
-
--- the record decides a transaction
-abbrev pub is_prepare : Status → Bool
-is_prepare status = same_status (Some status) (Some PrepareCommit) || same_status (Some status) (Some PrepareAbort)
 
 -- a transaction goes on under another producer id or epoch, or is decided under another producer id
 abbrev pub changes_producer : TxnValue → TxnValue → Bool

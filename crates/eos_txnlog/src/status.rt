@@ -1,7 +1,7 @@
 //! Where a transactional id stands.
 
 ghost use Rattle.std.specs.Prelude.{◌≡◌};
-ghost use Rattle.eos_txnlog.specs.Status.{status_number, status_of};
+ghost use Rattle.eos_txnlog.specs.Status.{status_number, status_of, is_open, is_prepare};
 
 /// The state of a transactional id, in the order of Kafka's numbers, from 0.
 #[derive(Clone, Copy, Debug, PartialEq, Eq)]
@@ -19,6 +19,20 @@ pub enum Status {
 }
 
 impl Status {
+    /// Whether a record of this status decides a transaction.
+    pub fn is_prepare(self) -> bool
+        ensures { result ≡ is_prepare self }
+    {
+        matches!(self, Status::PrepareCommit | Status::PrepareAbort)
+    }
+
+    /// Whether a transaction is left unfinished by a record of this status: it goes on, or its end isn't written yet.
+    pub fn is_open(self) -> bool
+        ensures { result ≡ is_open self }
+    {
+        self == Status::Ongoing || self.is_prepare()
+    }
+
     /// The status of a number, where it has one.
     pub(crate) fn from_number(number: i8) -> Option<Status>
         ensures { result ≡ status_of number }

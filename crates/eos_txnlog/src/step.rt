@@ -4,7 +4,8 @@ ghost use Rattle.std.specs.Prelude.{◌≡◌};
 ghost use Rattle.std.specs.Option.{option_copied};
 ghost use Rattle.std.specs.List.{list_any};
 ghost use Rattle.eos_txnlog.specs.Names.{step_fault_name};
-ghost use Rattle.eos_txnlog.specs.Steps.{next_statuses, same_status, is_prepare, changes_producer, keeps_epoch, status_in, value_verdict, step_verdict};
+ghost use Rattle.eos_txnlog.specs.Status.{same_status};
+ghost use Rattle.eos_txnlog.specs.Steps.{next_statuses, changes_producer, keeps_epoch, status_in, value_verdict, step_verdict};
 
 use crate::status::Status;
 use crate::value::TxnValue;
@@ -56,12 +57,6 @@ fn is_in_order(before: Option<Status>, after: Option<Status>) -> bool
     }
 }
 
-fn is_prepare(status: Status) -> bool
-    ensures { result ≡ is_prepare status }
-{
-    matches!(status, Status::PrepareCommit | Status::PrepareAbort)
-}
-
 fn changes_producer(before: &TxnValue, after: &TxnValue) -> bool
     ensures { result ≡ changes_producer before.now after.now }
 {
@@ -69,13 +64,13 @@ fn changes_producer(before: &TxnValue, after: &TxnValue) -> bool
     if goes_on {
         return after.producer != before.producer || after.epoch != before.epoch;
     }
-    is_prepare(after.status) && after.producer != before.producer
+    after.status.is_prepare() && after.producer != before.producer
 }
 
 fn keeps_epoch(before: &TxnValue, after: &TxnValue) -> bool
     ensures { result ≡ keeps_epoch before.now after.now }
 {
-    is_prepare(after.status) && after.epoch <= before.epoch
+    after.status.is_prepare() && after.epoch <= before.epoch
 }
 
 fn value_ok(before: &TxnValue, after: &TxnValue) -> Result<(), TxnFault>

@@ -2,6 +2,7 @@
 
 use crate::*;
 use bytes::Bytes;
+use eos_base::Listed;
 use std::alloc::{AllocError, Global};
 use std::test::Fail;
 
@@ -120,5 +121,68 @@ fn reserves_nothing_by_a_count(rt: HostRuntime) -> Result<(), Fail> {
         fault_of(rt.alloc(), &hostile[..21])?,
         Some(RecordFault::Short)
     );
+    Ok(())
+}
+
+/// The partitions of these topics, by topic.
+fn partitions(alloc: Global, topics: &[(&'static [u8], &[i32])]) -> Result<Partitions, AllocError> {
+    let mut list = Listed::new(Vec::new(alloc));
+    for (topic, numbers) in topics {
+        list.push(TopicPartitions {
+            topic: Bytes::from_static(topic),
+            numbers: Listed::new(Vec::from_slice(alloc, numbers)?),
+        })?;
+    }
+    Ok(list)
+}
+
+#[test]
+fn partitions_are_a_set(rt: HostRuntime) -> Result<(), Fail> {
+    let alloc = rt.alloc();
+    let one = partitions(alloc, &[(b"a", &[0, 1]), (b"b", &[2])])?;
+    let same = partitions(
+        alloc,
+        &[(b"b", &[2, 2]), (b"c", &[]), (b"a", &[1]), (b"a", &[0])],
+    )?;
+    let other = partitions(alloc, &[(b"a", &[0, 1]), (b"b", &[2, 0])])?;
+    assert!(rt; lists(one.as_slice(), b"a", 1));
+    assert!(rt; !lists(one.as_slice(), b"a", 2));
+    assert!(rt; !lists(one.as_slice(), b"c", 0));
+    assert_eq!(rt; is_same_set(alloc, one.as_slice(), same.as_slice())?, true);
+    assert_eq!(rt;
+        is_same_set(alloc, one.as_slice(), other.as_slice())?,
+        false
+    );
+    assert_eq!(rt;
+        is_same_set(alloc, other.as_slice(), one.as_slice())?,
+        false
+    );
+    Ok(())
+}
+
+#[test]
+fn what_says_nothing_new_is_skipped(rt: HostRuntime) -> Result<(), Fail> {
+    let alloc = rt.alloc();
+    let value = decode_value(alloc, &Bytes::from_static(&ONGOING))?;
+    let again = TxnValue {
+        last_update: 6,
+        partitions: partitions(alloc, &[(b"out", &[1, 0])])?,
+        ..value.clone()?
+    };
+    let more = TxnValue {
+        partitions: partitions(alloc, &[(b"out", &[1, 0, 2])])?,
+        ..value.clone()?
+    };
+    let dead = TxnValue {
+        status: Status::Dead,
+        ..value.clone()?
+    };
+    assert_eq!(rt; is_skipped(alloc, Some(Some(&value)), Some(&again))?, true);
+    assert_eq!(rt; is_skipped(alloc, Some(Some(&value)), Some(&more))?, false);
+    assert_eq!(rt; is_skipped(alloc, Some(None), Some(&value))?, false);
+    assert_eq!(rt; is_skipped(alloc, None, Some(&dead))?, true);
+    assert_eq!(rt; is_skipped(alloc, Some(None), None)?, true);
+    assert_eq!(rt; is_skipped(alloc, None, None)?, false);
+    assert_eq!(rt; is_skipped(alloc, Some(Some(&value)), None)?, false);
     Ok(())
 }
