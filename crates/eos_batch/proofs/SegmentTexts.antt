@@ -1,17 +1,17 @@
 -- Reading a segment batch by batch.
 --
--- A program that decodes with `decode_batch` at a place `at` keeps `Splits bytes batches (drop at bytes)`, where `batches`
+-- A program that reads with `next_batch` at a place `at` keeps `Splits bytes batches (drop at bytes)`, where `batches`
 -- are those so far, in its loop. `splits_none` begins it at 0. After an Ok with (b, k), `step_at` gives it for one
 -- batch more at the place `at + k`, which is within the bytes and further on, so `length bytes - at` falls. At the
 -- end `drop at bytes` is `[]`, by `drop_all`; at a fault `stops_at` gives `StopsAt`. Both with `Splits` are
 -- `IsSegmentText`. The items of a `Bytes` are bytes by a call with no body, as `are_bytes` beside `decode_segment`.
-use Rattle.std.proofs.Common.{◌≡◌, ◌≢◌, ℕ, ◌+◌, ◌<◌, ◌≤◌, List, [], ◌∷◌, ◌++◌, length, drop, Option, Some, None, Ok, Err, refl, sym, ap, subst, ◌∙◌, arith}
-use Rattle.std.proofs.lemmas.List.{drop-drop, drop_at, length-append, length-drop}
+use Rattle.std.proofs.Common.{◌≡◌, ◌≢◌, ℕ, ◌+◌, ◌<◌, ◌≤◌, List, [], ◌∷◌, ◌++◌, length, take, drop, Option, Some, None, Ok, Err, refl, sym, ap, subst, ◌∙◌, arith}
+use Rattle.std.proofs.lemmas.List.{drop-drop, drop_at, length-append, length-drop, length-take}
 use Rattle.eos_wire.specs.Numbers.{IsBytes, i64_at}
 use Rattle.eos_batch.specs.declared.fault.BatchFault.{BatchFault}
 use Rattle.eos_batch.specs.declared.fault.BatchFault.TheVariants as faults
 use Rattle.eos_batch.specs.declared.batch.Batch.{Batch}
-use Rattle.eos_batch.specs.Text.{IsBatchText}
+use Rattle.eos_batch.specs.Text.{IsBatchText, HasTextAt}
 use Rattle.eos_batch.specs.Reading.{frame_at, batch_at}
 use Rattle.eos_batch.specs.Segment.{Splits, StopsAt}
 use Rattle.eos_batch.proofs.BatchTexts.{IsBytes-drop, batch_sound, batch_whole, batch_prefix_free, text_length}
@@ -61,3 +61,7 @@ longest bytes start rest stop (b ∷ bs) (c ∷ cs) more halt s t =
     let p = batch_prefix_free s.0 t.0 s.1 t.1 b c s.2 t.2 (sym s.3 ∙ t.3) in
     let h = longest s.1 start rest stop bs cs more halt s.4 (subst (λ (xs : List ℕ). Splits xs cs more) (sym p.2) t.4) in
     omega (arith, h)
+
+-- a text that stands there is not empty
+pub text_takes : (bytes : List ℕ) (at k : ℕ) (b : Batch) → HasTextAt bytes at b k → 1 ≤ k
+text_takes bytes at k b t = omega (arith, text_length (take k (drop at bytes)) b t.1, length-take k (drop at bytes))

@@ -25,7 +25,7 @@ pub use fault::BatchFault;
 pub use marker::{Kind, Marker};
 pub use passing::pass_record;
 pub use record::{Header, Headers, Record, Records};
-pub use segment::{SegmentText, decode_segment};
+pub use segment::{SegmentText, decode_segment, next_batch};
 pub use view::{HeaderRef, HeaderRefs, RecordRef, own_record, view_record};
 pub use walk::{Opened, open_batch, test_data};
 

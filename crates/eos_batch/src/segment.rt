@@ -1,10 +1,12 @@
 //! Reading a whole segment: record batches one after the other, up to the end or the first fault.
 
-ghost use Rattle.std.specs.Prelude.{◌≤◌, ℕ, List, length, IfOk};
+ghost use Rattle.std.specs.Prelude.{◌≡◌, ◌≤◌, ◌+◌, ℕ, List, length, drop, IfOk, IfErr};
 ghost use Rattle.eos_batch.specs.declared.batch.Batch.{Batch};
+ghost use Rattle.eos_batch.specs.Reading.{batch_at};
+ghost use Rattle.eos_batch.specs.Real.{IsReal};
 ghost use Rattle.eos_batch.specs.Segment.{Splits, IsSegmentText};
 
-use crate::batch::Batches;
+use crate::batch::{Batch, Batches};
 use crate::decode::decode_batch;
 use crate::fault::BatchFault;
 use bytes::Bytes;
@@ -20,6 +22,28 @@ pub struct SegmentText {
     pub stop: Option<(usize, BatchFault)>,
 }
 
+/// The batch at `at` and how many bytes it takes, or why no batch stands there: the step of every walk along a segment.
+///
+/// # Errors
+/// Only want of memory, which is never why no batch stands there.
+pub fn next_batch(
+    alloc: Global,
+    bytes: &Bytes,
+    at: usize,
+) -> Result<Result<(Batch, usize), BatchFault>, AllocError>
+    requires { at ≤ length bytes.now }
+    ensures read { IfOk result (λ read. batch_at (drop at bytes.now) ≡ read) }
+    ensures real { IfOk result (λ read. IfErr read IsReal) }
+    ensures further { IfOk result (λ read. IfOk read (λ r. (1 ≤ r.1) × (at + r.1 ≤ length bytes.now))) }
+{
+    are_bytes(bytes.as_slice());
+    match decode_batch(alloc, bytes, at) {
+        Ok(read) => Ok(Ok(read)),
+        Err(BatchFault::OutOfMemory) => Err(AllocError),
+        Err(fault) => Ok(Err(fault)),
+    }
+}
+
 /// All batches up to the end or the first fault.
 ///
 /// # Errors
@@ -33,20 +57,17 @@ pub fn decode_segment(alloc: Global, bytes: &Bytes) -> Result<SegmentText, Alloc
     let mut batches = Vec::new(alloc);
     let mut at = 0;
     'texts: while at < bytes.len() {
-        match decode_batch(alloc, bytes, at) {
+        match next_batch(alloc, bytes, at)? {
             Ok((batch, len)) => {
                 batches.push(batch)?;
                 at += len;
             }
-            Err(fault) => match fault {
-                BatchFault::OutOfMemory => return Err(AllocError),
-                _ => {
-                    return Ok(SegmentText {
-                        batches: Batches::new(batches),
-                        stop: Some((at, fault)),
-                    });
-                }
-            },
+            Err(fault) => {
+                return Ok(SegmentText {
+                    batches: Batches::new(batches),
+                    stop: Some((at, fault)),
+                });
+            }
         }
     }
     Ok(SegmentText {
