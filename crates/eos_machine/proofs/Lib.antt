@@ -1,0 +1,12 @@
+pub mod Members
+pub mod Apps
+pub mod AppSteps
+pub mod Brokers
+pub mod Good
+pub mod Worlds
+pub mod GoodEvents
+pub mod Resting
+pub mod Counting
+pub mod TouchRules
+pub mod StepRules
+pub mod Computed

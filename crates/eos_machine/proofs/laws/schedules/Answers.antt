@@ -1,0 +1,17 @@
+use Rattle.eos_machine.proofs.Computed.{commits, restarts, fences, fetches, lists}
+use Rattle.eos_machine.proofs.laws.schedules.Goals as goal
+
+pub returns-clause-commits : goal.returns-clause-commits
+returns-clause-commits c = commits
+
+pub returns-clause-restarts : goal.returns-clause-restarts
+returns-clause-restarts c = restarts
+
+pub returns-clause-fences : goal.returns-clause-fences
+returns-clause-fences c = fences
+
+pub returns-clause-fetches : goal.returns-clause-fetches
+returns-clause-fetches c = fetches
+
+pub returns-clause-lists : goal.returns-clause-lists
+returns-clause-lists c = lists

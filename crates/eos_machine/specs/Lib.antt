@@ -1,0 +1,11 @@
+pub mod Places
+pub mod World
+pub mod Application
+pub mod Logs
+pub mod Tests
+pub mod Answers
+pub mod Sessions
+pub mod Deliveries
+pub mod Machine
+pub mod Rest
+pub mod Runs

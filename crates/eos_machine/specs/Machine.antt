@@ -1,0 +1,84 @@
+-- What happens to a cluster: each event's effect and reply, and any list of events.
+use Rattle.std.specs.Prelude.{ℕ, ◌+◌, ◌^◌, ◌==◌, nat_lt, not, List, [], ◌∷◌, ◌++◌, map, length, slice_get, if◌then◌else◌}
+use Rattle.std.specs.List.{flat_map, range_with_len}
+use Rattle.eos_batch.specs.declared.marker.Kind.TheVariants.{Abort}
+use Rattle.eos_machine.specs.Places.{Config, txn_place, input_place, is_partition}
+use Rattle.eos_machine.specs.World.{World, Status, Empty, Ongoing, Prepare, Complete, Fed, Coordinator, Message, Event, Reply, fresh, coord_at, log_at, with_item, with_messages, with_sessions, with_generation, written, due_markers, prepared}
+use Rattle.eos_machine.specs.declared.event.Event.TheVariants as events
+use Rattle.eos_machine.specs.Logs.{entries_of, last_state}
+use Rattle.eos_machine.specs.Tests.{is_ongoing, is_prepare}
+use Rattle.eos_machine.specs.Answers.{Answer, when, Done, Busy, EpochsSpent, Unknown, Full}
+use Rattle.eos_machine.specs.Sessions.{last_epoch, new_session, produce, commit, end_session, resume, fetch}
+use Rattle.eos_machine.specs.Deliveries.{deliver}
+
+abbrev pub feed : Config → World → ℕ → Answer
+feed c w p =
+    when (not (nat_lt p c.inputs)) (w, Unknown) (
+    (with_item w (input_place c p) (Fed w.events), Done (length (log_at w (input_place c p)))))
+
+-- ---- a session begins (KIP-98, "Getting a producer Id")
+
+abbrev pub start_session : Config → World → ℕ → ℕ → Answer
+start_session c w a e =
+    when (nat_lt last_epoch e) (w, EpochsSpent) (
+    (with_sessions (written c w a (record { status = Empty; epoch = e; partitions = [] })) (w.sessions ++ new_session c a e w.generation ∷ []), Done (length w.sessions)))
+
+-- an open transaction is aborted first
+abbrev pub start : Config → World → ℕ → Answer
+start c w a =
+    when (not (nat_lt a c.applications)) (w, Unknown) (
+    when (is_prepare (coord_at w a).status) (w, Busy) (
+    when (is_ongoing (coord_at w a).status) (prepared c w a Abort (coord_at w a).partitions, Busy) (
+    start_session c w a (if (coord_at w a).started then (coord_at w a).epoch + 1 else 0))))
+
+-- ---- the coordinator restarts: states are read from the log, and the end markers of prepared ones are queued again
+
+abbrev pub reread : Config → World → ℕ → Coordinator
+reread c w a = last_state fresh (entries_of a (log_at w (txn_place c a)))
+
+abbrev pub due_again : Status → ℕ → ℕ → List ℕ → List Message
+due_again Empty a e ps = []
+due_again Ongoing a e ps = []
+due_again (Prepare k) a e ps = due_markers a e k ps
+due_again (Complete k) a e ps = []
+
+abbrev pub queued_again : Config → World → ℕ → List Message
+queued_again c w a = due_again (reread c w a).status a (reread c w a).epoch (reread c w a).partitions
+
+abbrev pub with_coordinators : World → List Coordinator → World
+with_coordinators w ss = record w { coordinators = ss }
+
+abbrev pub restarted : Config → World → World
+restarted c w =
+    with_coordinators (with_messages w (flat_map (queued_again c w) (range_with_len 0 (length w.coordinators)))) (map (reread c w) (range_with_len 0 (length w.coordinators)))
+
+-- ---- any event, and any list
+
+-- a broker that restarts reads its log again, of which its state is a function
+abbrev pub happens : Config → World → Event → Answer
+happens c w (events.Feed p) = feed c w p
+happens c w (events.Start a) = start c w a
+happens c w (events.Produce n p x) = produce c w n p x (slice_get w.sessions n)
+happens c w (events.Commit n q v) = commit c w n q v
+happens c w (events.End n k) = end_session w n k (slice_get w.sessions n)
+happens c w (events.Resume n) = resume c w n (slice_get w.sessions n)
+happens c w (events.Fetch n q) = fetch c w q (slice_get w.sessions n)
+happens c w events.Members = (with_generation w (w.generation + 1), Done 0)
+happens c w (events.BrokerRestart t p) = when (is_partition c t p) (w, Done 0) (w, Unknown)
+happens c w events.CoordinatorRestart = (restarted c w, Done 0)
+happens c w (events.Deliver n) = deliver c w n (slice_get w.messages n)
+
+-- an event was taken
+abbrev pub counted : ℕ → Answer → Answer
+counted n x = (record x.0 { events = n + 1 }, x.1)
+
+abbrev pub step : Config → World → Event → Answer
+step c w e = when (w.events == 2 ^ 31) (w, Full) (counted w.events (happens c w e))
+
+abbrev pub run : Config → World → List Event → World
+run c w [] = w
+run c w (e ∷ es) = run c (step c w e).0 es
+
+abbrev pub replies : Config → World → List Event → List Reply
+replies c w [] = []
+replies c w (e ∷ es) = (step c w e).1 ∷ replies c (step c w e).0 es

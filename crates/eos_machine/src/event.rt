@@ -1,0 +1,85 @@
+//! What may happen to a cluster, and what it answers.
+
+use crate::item::Claim;
+use bytes::Bytes;
+use eos_batch::Kind;
+
+/// What may happen to a cluster. Numbers count from 0: applications, sessions in the order of their start, messages in the
+/// order in which they were queued, the partitions of a topic.
+#[derive(Debug, Drop)]
+pub enum Event {
+    /// An input comes in.
+    Feed {
+        source: usize,
+    },
+    /// A new session of an application begins (KIP-98, InitPidRequest).
+    Start {
+        application: usize,
+    },
+    /// A session sends a record to a partition of `out`.
+    Produce {
+        session: usize,
+        partition: usize,
+        claim: Claim,
+    },
+    /// A session sends an offset of a partition of `in`, to be committed with its transaction.
+    Commit {
+        session: usize,
+        source: usize,
+        offset: i64,
+    },
+    /// A session asks its transaction to end.
+    End {
+        session: usize,
+        kind: Kind,
+    },
+    /// A session whose transaction has ended begins the next one.
+    Resume {
+        session: usize,
+    },
+    /// A session asks for the committed offset of a partition of `in`.
+    Fetch {
+        session: usize,
+        source: usize,
+    },
+    /// The members of the group change.
+    Members,
+    /// The broker of a partition restarts.
+    BrokerRestart {
+        topic: Bytes,
+        partition: usize,
+    },
+    /// The transaction coordinator restarts.
+    CoordinatorRestart,
+    /// A message arrives. It may arrive again.
+    Deliver {
+        message: u64,
+    },
+}
+
+/// What a cluster answers.
+#[derive(Clone, Copy, Debug, PartialEq, Eq)]
+pub enum Reply {
+    /// It was done: a number or an offset, as the event says.
+    Done(u64),
+    /// The producer epoch is an old one.
+    Fenced,
+    /// The sequence isn't the next one.
+    OutOfOrder,
+    /// The message had been accepted before.
+    DuplicateKept,
+    /// The session or the transaction isn't in a state for it.
+    WrongState,
+    /// A transaction is still ending.
+    Busy,
+    /// The session began under another generation of the group.
+    StaleGeneration,
+    /// There is no higher producer epoch.
+    EpochsSpent,
+    /// A number names nothing.
+    Unknown,
+    /// A growth was refused. Nothing has changed.
+    OutOfMemory,
+    /// 2^31 events were taken. Nothing has changed.
+    Full,
+}

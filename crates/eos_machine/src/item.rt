@@ -1,0 +1,77 @@
+//! What stands in the logs of a cluster: one batch of one record each.
+
+use bytes::Bytes;
+use eos_base::Listed;
+use eos_batch::Kind;
+
+/// Partitions, as places in a cluster's list of logs.
+pub type Places = Listed<usize>;
+
+/// Where an output record comes from: the five lineage headers of its record.
+#[derive(Clone, Debug, Drop)]
+pub struct Claim {
+    /// The topic of the input.
+    pub topic: Bytes,
+    pub partition: i32,
+    pub offset: i64,
+    /// Which of the input's outputs this is.
+    pub output: i32,
+    /// How many outputs the input has.
+    pub of: i32,
+}
+
+/// Where the transaction of an application stands, as its coordinator writes it (Kafka's `TransactionState`).
+#[derive(Clone, Copy, Debug, PartialEq, Eq)]
+pub enum Status {
+    Empty,
+    Ongoing,
+    Prepare(Kind),
+    Complete(Kind),
+}
+
+/// A record of the transaction log: an application's state. Its epoch is a producer epoch, at most 32767.
+#[derive(Debug, Drop)]
+pub struct Entry {
+    pub status: Status,
+    pub epoch: u16,
+    pub partitions: Places,
+}
+
+/// A batch of one record. `event` is the number of the event that appended it, which is its timestamp.
+#[derive(Debug, Drop)]
+pub enum Item {
+    /// A record of `in`, of no producer. Its value is the number of its event.
+    Fed {
+        event: u64,
+    },
+    /// A record of the transaction log.
+    State {
+        application: usize,
+        entry: Entry,
+        event: u64,
+    },
+    /// A transactional record of `out`. Its value is the number of the event that produced it.
+    Output {
+        application: usize,
+        epoch: u16,
+        sequence: u32,
+        claim: Claim,
+        value: u64,
+        event: u64,
+    },
+    /// A transactional commit of the group's offset in a partition of `in`.
+    Offset {
+        application: usize,
+        epoch: u16,
+        source: usize,
+        offset: u64,
+        event: u64,
+    },
+    /// The end marker of a transaction.
+    Marker {
+        application: usize,
+        epoch: u16,
+        kind: Kind,
+        event: u64,
+    },
+}

@@ -1,0 +1,41 @@
+//! The theorem on every schedule, over the definitions of the machine alone: what any list of events leaves in the logs,
+//! in any order, with any message lost or repeated and any member restarted. Its functions do nothing; their contracts
+//! are the laws.
+
+ghost use Rattle.std.specs.Prelude.{List};
+ghost use Rattle.eos_machine.specs.Places.{Config, IsConfig};
+ghost use Rattle.eos_machine.specs.World.{Event, opening};
+ghost use Rattle.eos_machine.specs.Machine.{run};
+ghost use Rattle.eos_machine.specs.Rest.{KeepsSequences, NeighboursFit, StepsFit, IsAtRest, AllAtomic};
+ghost use Rattle.eos_machine.specs.Runs.{Commits, Restarts, Fences, Fetches, Lists};
+
+/// At any time no fault of a sequence or of an epoch stands at any batch: none of the kinds FirstSequence, Sequence,
+/// ZombieEpoch and NoBump. Each broker keeps this by its own partition's log.
+pub fn sequences_kept()
+    ensures { (c : Config) (es : List Event) → IsConfig c → KeepsSequences c (run c (opening c) es) }
+{}
+
+/// At any time each record of the transaction log may follow the one before it of its transactional id.
+pub fn steps_fit()
+    ensures { (c : Config) (es : List Event) → IsConfig c → StepsFit c (run c (opening c) es) }
+{}
+
+/// At rest the batches, the markers and the decisions of each application fit together: each batch is ended by the
+/// marker of its decision, each marker was decided, and each listed partition has it.
+pub fn atomic_at_rest()
+    ensures { (c : Config) (es : List Event) → IsConfig c → IsAtRest (run c (opening c) es) → AllAtomic c (run c (opening c) es) }
+{}
+
+/// At rest each batch may follow the one before it of its producer id in its partition: no kind of fault stands.
+pub fn neighbours_fit_at_rest()
+    ensures { (c : Config) (es : List Event) → IsConfig c → IsAtRest (run c (opening c) es) → NeighboursFit c (run c (opening c) es) }
+{}
+
+/// The machine moves: short schedules with their replies and logs, computed from the definitions.
+pub fn schedules()
+    ensures commits { Commits }
+    ensures restarts { Restarts }
+    ensures fences { Fences }
+    ensures fetches { Fetches }
+    ensures lists { Lists }
+{}

@@ -1,0 +1,15 @@
+//! A simulated cluster as a machine: what its members hold, what may happen to it, and what it answers, by definitions
+//! that the cluster's code is proved against; and the theorem on every schedule, over these definitions alone. No code of
+//! the cluster stands here.
+#![tactic(auto)]
+
+mod config;
+mod event;
+mod item;
+pub mod laws;
+mod state;
+
+pub use config::Config;
+pub use event::{Event, Reply};
+pub use item::{Claim, Entry, Item, Places, Status};
+pub use state::{Coordinator, Message, Producer, Session};
