@@ -71,9 +71,11 @@ impl<T: Drop> From<AllocFailed<T>> for ReadFault {
 /// than a segment may have was read, and the rest is unread. An interrupted read is tried again, up
 /// to 1,000 times in a row.
 pub fn read_segment<R: Read>(alloc: Global, reader: &mut R) -> Result<Bytes, ReadFault>
-    ensures bytes { IfOk result (λ bytes. IfSome (R.remaining reader.old) (λ left. bytes ≡ left)) }
+    ensures bytes { IfOk result (λ bytes. Consumes (R.remaining reader.old) (R.remaining reader.new) bytes) }
     ensures end { OnOk result (IsAtEnd (R.remaining reader.new)) }
     ensures within { IfOk result (λ bytes. length bytes ≤ MAX_SEGMENT_BYTES) }
+    ensures read { result ≡ Err ReadFault.Read
+        → TakesAtMost MAX_SEGMENT_BYTES (R.remaining reader.old) (R.remaining reader.new) }
     ensures limit { result ≡ Err ReadFault.Limit
         → Takes (MAX_SEGMENT_BYTES + 1) (R.remaining reader.old) (R.remaining reader.new) }
     ensures refused { OnErr result
@@ -89,6 +91,8 @@ fn read_up_to<R: Read>(alloc: Global, reader: &mut R, limit: usize) -> Result<Ve
     ensures ok { IfOk result (λ bytes. Consumes (R.remaining reader.old) (R.remaining reader.new) bytes.items) }
     ensures end { OnOk result (IsAtEnd (R.remaining reader.new)) }
     ensures within { IfOk result (λ bytes. length bytes.items ≤ limit) }
+    ensures read { result ≡ Err ReadFault.Read
+        → TakesAtMost limit (R.remaining reader.old) (R.remaining reader.new) }
     ensures limit { result ≡ Err ReadFault.Limit
         → Takes (limit + 1) (R.remaining reader.old) (R.remaining reader.new) }
     ensures refused { OnErr result (TakesAtMost (limit + 1) (R.remaining reader.old) (R.remaining reader.new)) }

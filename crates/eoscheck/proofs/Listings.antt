@@ -10,8 +10,9 @@ use Rattle.eos_batch.specs.declared.fault.BatchFault.{BatchFault}
 use Rattle.eos_batch.specs.Text.{IsBatchText}
 use Rattle.eos_batch.specs.Reading.{batch_at}
 use Rattle.eoscheck.specs.Adding.{Adds}
-use Rattle.eoscheck.specs.Writing.{Writes, WritesFront, WritesFrontOf, Passes}
-use Rattle.eoscheck.specs.Listing.{Lists, IsListingFrom, IsListing, HasListed, StopsHere, batch_lines, last_line, status_of}
+use Rattle.eoscheck.specs.Writing.{Writes, WritesFront, WritesFrontOf}
+use Rattle.eoscheck.specs.steps.Holding.{HasListed, Passes}
+use Rattle.eoscheck.specs.Listing.{Lists, IsListingFrom, IsListing, StopsHere, batch_lines, last_line, status_of}
 
 abbrev pub IsBytes : List ℕ → Type 0
 IsBytes bytes = (i : ℕ) → get_or bytes i 0 < 256

@@ -1,6 +1,9 @@
-pub mod Lines
 pub mod Adding
-pub mod Faults
-pub mod Writing
-pub mod Listing
 pub mod Answer
+pub mod Endings
+pub mod Faults
+pub mod Lines
+pub mod Listing
+pub mod Running
+pub mod Writing
+pub mod steps

@@ -1,7 +1,6 @@
 -- What `dump` prints for the bytes of a segment: the lines of its batches and records, and a last line that says where the
 -- bytes end, or where the first fault is.
-use Rattle.std.specs.Prelude.{◌≡◌, ◌≢◌, ℕ, ◌+◌, List, [], ◌∷◌, ◌++◌, length, codes, Err, Option, Some, None, if◌then◌else◌, ◌≤◌, drop}
-use Rattle.std.specs.Io.KnownBytes.{Appends}
+use Rattle.std.specs.Prelude.{◌≡◌, ◌≢◌, ℕ, ◌+◌, List, [], ◌∷◌, ◌++◌, length, codes, Err, Option, Some, None, if◌then◌else◌}
 use Rattle.std.specs.Fmt.{decimal}
 use Rattle.eos_batch.specs.declared.batch.Batch.{Batch}
 use Rattle.eos_batch.specs.declared.fault.BatchFault.{BatchFault}
@@ -65,10 +64,3 @@ IsListingFrom byte bytes text status = (batches : List Batch) × Lists byte byte
 -- the text and the exit status of `dump` for these bytes
 abbrev pub IsListing : List ℕ → List ℕ → ℕ → Type 0
 IsListing bytes text status = IsListingFrom 0 bytes text status
-
--- The lines of the batches before this byte were written or are held back: with what is listed from here they are the whole.
-pub record HasListed (bytes : List ℕ) (old new : Option (List ℕ)) (held : List ℕ) (byte : ℕ) : Type 0 where
-  pub written : List ℕ
-  pub grown : Appends old new written
-  pub within : byte ≤ length bytes
-  pub goes_on : (text : List ℕ) (status : ℕ) → IsListingFrom byte (drop byte bytes) text status → IsListing bytes ((written ++ held) ++ text) status

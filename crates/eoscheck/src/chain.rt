@@ -3,14 +3,13 @@
 ghost use Rattle.std.specs.Prelude.{◌≡◌, ◌++◌, ◌+◌, ◌^◌, [], Err, ℕ, List, IfOk, OnErr, OnOk, Ok, string_bytes, codes};
 ghost use Rattle.std.specs.Fmt.{decimal};
 ghost use Rattle.std.specs.Io.KnownBytes.{Keeps};
-ghost use Rattle.eos_evidence.specs.Reading.{Takes};
 ghost use Rattle.eoscheck.specs.Adding.{Adds};
 ghost use Rattle.eoscheck.specs.Answer.{IsChainAnswer, good_line, details, fault_line};
-ghost use Rattle.eoscheck.specs.Writing.{Ran, RanInPart, IsOfReading};
+ghost use Rattle.eoscheck.specs.Running.{Ran};
 
 use crate::fault::RunFault;
-use crate::lines::{push_text, push_value};
 use crate::output::finish;
+use crate::text::{push_text, push_value};
 use bytes::Bytes;
 use eos_evidence::read_segment;
 use eos_fold::{Chain, PartitionFault, PartitionFaultKind, chain};
@@ -19,17 +18,17 @@ use std::io::{Read, Write};
 
 /// Reads a segment and writes whether its chain is kept, or the least fault. The status is 0 where it is kept, else 1.
 ///
-/// The segment counts as a whole partition that begins at its first batch's base offset. After `Read` and `Limit` nothing
-/// was written, after `Write` and `OutOfMemory` a front of the answer.
+/// The segment counts as a whole partition that begins at its first batch's base offset.
+///
+/// # Errors
+/// After `Read`, `Limit` and `OutOfMemory` nothing was written, after `Write` a front of the answer.
 pub fn chain_to<R: Read, W: Write>(
     alloc: Global,
     reader: &mut R,
     writer: &mut W,
 ) -> Result<u8, RunFault>
-    ensures ok { IfOk result (λ status. Ran IsChainAnswer (R.remaining reader.old) (W.contents writer.old) (W.contents writer.new) status) }
-    ensures limit { result ≡ Err RunFault.Limit → Takes (2 ^ 30 + 1) (R.remaining reader.old) (R.remaining reader.new) }
-    ensures nothing { OnErr result (IsOfReading result → Keeps (W.contents writer.old) (W.contents writer.new)) }
-    ensures front { OnErr result (RanInPart IsChainAnswer (R.remaining reader.old) (W.contents writer.old) (W.contents writer.new)) }
+    ensures ran { Ran IsChainAnswer (R.remaining reader.old) (R.remaining reader.new) (W.contents writer.old) (W.contents writer.new) result }
+    ensures memory { result ≡ Err RunFault.OutOfMemory → Keeps (W.contents writer.old) (W.contents writer.new) }
 {
     let bytes = read_segment(alloc, reader)?;
     let mut line = String::new(alloc);

@@ -1,10 +1,11 @@
 //! `dump`: the batches and records of a segment, line by line.
 
-ghost use Rattle.std.specs.Prelude.{◌≡◌, ◌≤◌, ◌+◌, ◌^◌, Err, ℕ, List, ◌++◌, IfOk, OnErr, OnOk, string_bytes, slice_index, ◌<◌, [], drop};
+ghost use Rattle.std.specs.Prelude.{◌≡◌, ◌≤◌, ◌+◌, ◌^◌, Err, ℕ, List, ◌++◌, IfOk, IfErr, OnErr, OnOk, string_bytes, slice_index, ◌<◌, [], drop};
 ghost use Rattle.std.specs.Io.KnownBytes.{Appends, Keeps};
-ghost use Rattle.eos_evidence.specs.Reading.{Takes};
-ghost use Rattle.eoscheck.specs.Listing.{IsListing, HasListed, StopsHere};
-ghost use Rattle.eoscheck.specs.Writing.{Writes, WritesFrontOf, Ran, RanInPart, IsOfReading, WritesFront, Passes};
+ghost use Rattle.eoscheck.specs.Listing.{IsListing, StopsHere};
+ghost use Rattle.eoscheck.specs.Running.{Ran};
+ghost use Rattle.eoscheck.specs.Writing.{Writes, WritesFrontOf, WritesFront};
+ghost use Rattle.eoscheck.specs.steps.Holding.{HasListed, Passes, IsOfReading};
 
 use crate::fault::RunFault;
 use crate::lines::{push_batch, push_last};
@@ -20,17 +21,16 @@ const HELD_BACK: usize = 0x1_0000;
 
 /// Reads a segment and writes its listing. The status is 0 where all bytes are batches, else 1.
 ///
-/// Nothing is written before all was read. After `Read` and `Limit` nothing was written, after
-/// `Write` and `OutOfMemory` a front of the listing.
+/// Nothing is written before all was read.
+///
+/// # Errors
+/// After `Read` and `Limit` nothing was written, after `Write` and `OutOfMemory` a front of the listing.
 pub fn dump_to<R: Read, W: Write>(
     alloc: Global,
     reader: &mut R,
     writer: &mut W,
 ) -> Result<u8, RunFault>
-    ensures ok { IfOk result (λ status. Ran IsListing (R.remaining reader.old) (W.contents writer.old) (W.contents writer.new) status) }
-    ensures limit { result ≡ Err RunFault.Limit → Takes (2 ^ 30 + 1) (R.remaining reader.old) (R.remaining reader.new) }
-    ensures nothing { OnErr result (IsOfReading result → Keeps (W.contents writer.old) (W.contents writer.new)) }
-    ensures front { OnErr result (RanInPart IsListing (R.remaining reader.old) (W.contents writer.old) (W.contents writer.new)) }
+    ensures { Ran IsListing (R.remaining reader.old) (R.remaining reader.new) (W.contents writer.old) (W.contents writer.new) result }
 {
     let bytes = read_segment(alloc, reader)?;
     dump(alloc, &bytes, writer)
@@ -84,7 +84,7 @@ fn list_batches<W: Write>(
 fn write_long<W: Write>(writer: &mut W, lines: &mut String) -> Result<(), RunFault>
     ensures ok { OnOk result (Passes (W.contents writer.old) (W.contents writer.new) (string_bytes lines.old) (string_bytes lines.new)) }
     ensures front { OnErr result (WritesFront (W.contents writer.old) (W.contents writer.new) (string_bytes lines.old)) }
-    ensures only { OnErr result (result ≡ Err RunFault.Write) }
+    ensures only { IfErr result (λ fault. fault ≡ RunFault.Write) }
 {
     if lines.len() >= HELD_BACK {
         write_whole(writer, lines.as_bytes())?;

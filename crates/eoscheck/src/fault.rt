@@ -2,13 +2,15 @@
 
 ghost use Rattle.std.specs.Prelude.{◌≡◌};
 ghost use Rattle.eoscheck.specs.declared.fault.RunFault.TheVariants.{OutOfMemory};
-ghost use Rattle.eoscheck.specs.Faults.{run_fault_of};
+ghost use Rattle.eoscheck.specs.Faults.{name_of, run_fault_of};
 
 use eos_evidence::ReadFault;
 use std::alloc::{AllocError, AllocFailed};
+use thiserror::Error;
 
 /// Why a command ended without an answer.
-#[derive(Clone, Copy, Debug, PartialEq, Eq)]
+#[derive(Clone, Copy, Debug, PartialEq, Eq, Error)]
+#[error("{name}", name = self.name())]
 pub enum RunFault {
     /// The input could not be read.
     Read,
@@ -18,6 +20,20 @@ pub enum RunFault {
     Write,
     /// A growth of memory was refused.
     OutOfMemory,
+}
+
+impl RunFault {
+    /// The fault's name.
+    pub fn name(self) -> &'static str
+        ensures { result.now ≡ name_of self }
+    {
+        match self {
+            RunFault::Read => "Read",
+            RunFault::Limit => "Limit",
+            RunFault::Write => "Write",
+            RunFault::OutOfMemory => "OutOfMemory",
+        }
+    }
 }
 
 impl From<ReadFault> for RunFault {

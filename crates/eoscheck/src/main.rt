@@ -3,10 +3,12 @@
 
 mod chain;
 mod dump;
+mod ending;
 mod fault;
 mod lines;
 mod output;
 mod run;
+mod text;
 mod words;
 
 use std::process::ExitCode;

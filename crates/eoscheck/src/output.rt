@@ -1,6 +1,6 @@
 //! Writing a text whole, or a front of it.
 
-ghost use Rattle.std.specs.Prelude.{◌≡◌, ◌<◌, ◌≤◌, ℕ, length, take, IfOk, OnOk, OnErr};
+ghost use Rattle.std.specs.Prelude.{◌≡◌, ◌<◌, ◌≤◌, ℕ, length, take, IfOk, IfErr, OnOk, OnErr};
 ghost use Rattle.std.specs.Io.KnownBytes.{Appends, Keeps};
 ghost use Rattle.eoscheck.specs.Writing.{WritesFront};
 
@@ -14,7 +14,7 @@ const TRIES: u32 = 1000;
 pub(crate) fn write_whole<W: Write>(writer: &mut W, bytes: &[u8]) -> Result<(), RunFault>
     ensures ok { OnOk result (Appends (W.contents writer.old) (W.contents writer.new) bytes.now) }
     ensures front { OnErr result (WritesFront (W.contents writer.old) (W.contents writer.new) bytes.now) }
-    ensures only { OnErr result (result ≡ Err RunFault.Write) }
+    ensures only { IfErr result (λ fault. fault ≡ RunFault.Write) }
 {
     let mut at = 0usize;
     while at < bytes.len() {
@@ -31,7 +31,7 @@ fn write_some<W: Write>(writer: &mut W, bytes: &[u8]) -> Result<usize, RunFault>
     ensures within { IfOk result (λ count. count ≤ length bytes.now) }
     ensures ok { IfOk result (λ count. Appends (W.contents writer.old) (W.contents writer.new) (take count bytes.now)) }
     ensures err { OnErr result (Keeps (W.contents writer.old) (W.contents writer.new)) }
-    ensures only { OnErr result (result ≡ Err RunFault.Write) }
+    ensures only { IfErr result (λ fault. fault ≡ RunFault.Write) }
 {
     for _ in 0..TRIES {
         match writer.write(bytes) {
@@ -51,7 +51,7 @@ fn write_some<W: Write>(writer: &mut W, bytes: &[u8]) -> Result<usize, RunFault>
 pub(crate) fn finish<W: Write>(writer: &mut W, bytes: &[u8]) -> Result<(), RunFault>
     ensures ok { OnOk result (Appends (W.contents writer.old) (W.contents writer.new) bytes.now) }
     ensures front { OnErr result (WritesFront (W.contents writer.old) (W.contents writer.new) bytes.now) }
-    ensures only { OnErr result (result ≡ Err RunFault.Write) }
+    ensures only { IfErr result (λ fault. fault ≡ RunFault.Write) }
 {
     write_whole(writer, bytes)?;
     writer.flush().map_err(|_| RunFault::Write)

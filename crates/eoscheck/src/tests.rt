@@ -6,7 +6,7 @@ use super::fault::RunFault;
 use bytes::Bytes;
 use eos_batch::{decode_batch, encode_batch};
 use std::alloc::Global;
-use std::io::{Error, ErrorKind, Read, Write};
+use std::io::{BufWriter, Error, ErrorKind, Read, Write};
 use std::process::Abort;
 use std::test::Fail;
 use std::{env, fs};
@@ -109,6 +109,58 @@ impl Write for Full {
     }
 }
 
+/// A reader and writer that is interrupted so many times before each step of a few bytes.
+#[derive(Drop)]
+struct Interrupted<'a> {
+    left: &'a [u8],
+    taken: Vec<u8>,
+    times: u32,
+    done: u32,
+}
+
+impl Interrupted<'_> {
+    fn interrupt(&mut self) -> std::io::Result<()> {
+        if self.done < self.times {
+            self.done += 1;
+            return Err(Error::from(ErrorKind::Interrupted));
+        }
+        self.done = 0;
+        Ok(())
+    }
+}
+
+impl Read for Interrupted<'_> {
+    fn read(&mut self, buf: &mut [u8]) -> std::io::Result<usize> {
+        self.interrupt()?;
+        let count = self.left.len().min(buf.len()).min(10);
+        buf[..count].copy_from_slice(&self.left[..count]);
+        self.left = &self.left[count..];
+        Ok(count)
+    }
+}
+
+impl Write for Interrupted<'_> {
+    fn write(&mut self, buf: &[u8]) -> std::io::Result<usize> {
+        self.interrupt()?;
+        let count = buf.len().min(10);
+        self.taken.extend_from_slice(&buf[..count])?;
+        Ok(count)
+    }
+
+    fn flush(&mut self) -> std::io::Result<()> {
+        Ok(())
+    }
+}
+
+fn interrupted_stream<'a>(alloc: Global, bytes: &'a [u8], times: u32) -> Interrupted<'a> {
+    Interrupted {
+        left: bytes,
+        taken: Vec::new(alloc),
+        times,
+        done: 0,
+    }
+}
+
 #[test]
 fn lists_a_segment(rt: HostRuntime) -> Result<(), Fail> {
     let alloc = rt.alloc();
@@ -164,6 +216,79 @@ fn streams_fail(rt: HostRuntime) -> Result<(), Fail> {
         );
         assert!(rt; LISTING.as_bytes().starts_with(full.taken.as_slice()));
         assert_eq!(rt; full.taken.len(), room);
+    }
+    Ok(())
+}
+
+/// What is interrupted is tried again, up to a thousand times in a row.
+#[test]
+fn interruptions_pass(rt: HostRuntime) -> Result<(), Fail> {
+    let alloc = rt.alloc();
+    for times in [1, 999] {
+        let mut out = interrupted_stream(alloc, &[], times);
+        assert_eq!(rt;
+            dump_to(
+                alloc,
+                &mut interrupted_stream(alloc, &PLAIN, times),
+                &mut out
+            ),
+            Ok(0)
+        );
+        assert_eq!(rt; out.taken.as_slice(), LISTING.as_bytes());
+    }
+    let mut out = interrupted_stream(alloc, &[], 1000);
+    assert_eq!(rt;
+        dump_to(alloc, &mut PLAIN.as_slice(), &mut out),
+        Err(RunFault::Write)
+    );
+    let mut reader = interrupted_stream(alloc, &PLAIN, 1000);
+    assert_eq!(rt; dump_to(alloc, &mut reader, &mut out), Err(RunFault::Read));
+    assert!(rt; out.taken.is_empty());
+    Ok(())
+}
+
+/// What a buffer holds is handed on before the answer, and a full device behind it is no success.
+#[test]
+fn buffers_are_flushed(rt: HostRuntime) -> Result<(), Fail> {
+    let alloc = rt.alloc();
+    for room in [0, 10, 1000] {
+        let device = Full {
+            taken: Vec::new(alloc),
+            room,
+        };
+        let mut buffer = BufWriter::new(alloc, device)?;
+        let listed = dump_to(alloc, &mut PLAIN.as_slice(), &mut buffer);
+        let full = if room < LISTING.len() {
+            Err(RunFault::Write)
+        } else {
+            Ok(0)
+        };
+        assert_eq!(rt; listed, full);
+        let taken = buffer.get_ref().taken.as_slice();
+        assert_eq!(rt; taken, &LISTING.as_bytes()[..room.min(LISTING.len())]);
+    }
+    let device = Full {
+        taken: Vec::new(alloc),
+        room: 10,
+    };
+    let mut buffer = BufWriter::new(alloc, device)?;
+    let kept = chain_to(alloc, &mut KEPT.as_slice(), &mut buffer);
+    assert_eq!(rt; kept, Err(RunFault::Write));
+    Ok(())
+}
+
+/// The text of an error, which no clause states, is its name.
+#[test]
+fn faults_print_their_names(rt: HostRuntime) -> Result<(), Fail> {
+    let alloc = rt.alloc();
+    for fault in [
+        RunFault::Read,
+        RunFault::Limit,
+        RunFault::Write,
+        RunFault::OutOfMemory,
+    ] {
+        let text = fault.to_string(alloc)?;
+        assert_eq!(rt; text.as_str(), fault.name());
     }
     Ok(())
 }

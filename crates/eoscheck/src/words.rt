@@ -6,10 +6,17 @@ use std::alloc::{AllocError, Global};
 /// What a run is asked to do.
 #[derive(Clone, Copy)]
 pub(crate) enum Request<'a> {
-    /// Print the batches and records of a segment.
-    Dump { file: &'a str },
-    /// Check the producers of a segment.
-    Chain { file: &'a str },
+    /// Answer about one segment, which is a file or the standard input.
+    Segment { answer: Answer, file: &'a str },
+}
+
+/// What is asked about a segment.
+#[derive(Clone, Copy)]
+pub(crate) enum Answer {
+    /// Its batches and records.
+    Listing,
+    /// Whether its producers kept their promises.
+    Chain,
 }
 
 const VERSION: &str = "0.1.0";
@@ -123,12 +130,16 @@ fn file<'a>(alloc: Global) -> Arg<'a> {
 /// What the words ask for. Without words it is the listing of the standard input.
 pub(crate) fn read_request<'a>(matches: &ArgMatches<'a>) -> Option<Request<'a>> {
     let Some((name, inner)) = matches.subcommand() else {
-        return Some(Request::Dump { file: "-" });
+        return Some(Request::Segment {
+            answer: Answer::Listing,
+            file: "-",
+        });
     };
     let file = inner.get_str("file")?;
-    match name {
-        "dump" => Some(Request::Dump { file }),
-        "chain" => Some(Request::Chain { file }),
-        _ => None,
-    }
+    let answer = match name {
+        "dump" => Answer::Listing,
+        "chain" => Answer::Chain,
+        _ => return None,
+    };
+    Some(Request::Segment { answer, file })
 }

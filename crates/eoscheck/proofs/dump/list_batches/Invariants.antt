@@ -1,5 +1,5 @@
 use Rattle.std.proofs.Common.{length, ◌-◌, string_bytes}
-use Rattle.eoscheck.specs.Listing.{HasListed}
+use Rattle.eoscheck.specs.steps.Holding.{HasListed}
 use Rattle.eoscheck.proofs.dump.list_batches.Given as goal
 
 abbrev pub invariant-batches : goal.invariant-batches
