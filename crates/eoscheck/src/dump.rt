@@ -1,6 +1,6 @@
 //! `dump`: the batches and records of a segment, line by line.
 
-ghost use Rattle.std.specs.Prelude.{◌≡◌, ◌≤◌, ◌+◌, ◌^◌, Err, ℕ, List, ◌++◌, IfOk, IfErr, OnErr, OnOk, string_bytes, slice_index, ◌<◌, [], drop};
+ghost use Rattle.std.specs.Prelude.{◌≡◌, ◌≤◌, ◌+◌, ◌^◌, Err, ℕ, List, ◌++◌, IfOk, IfErr, OnErr, OnOk, string_bytes, [], drop};
 ghost use Rattle.std.specs.Io.KnownBytes.{Appends, Keeps};
 ghost use Rattle.eoscheck.specs.Listing.{IsListing, StopsHere};
 ghost use Rattle.eoscheck.specs.Running.{Ran};
@@ -11,8 +11,9 @@ use crate::fault::RunFault;
 use crate::lines::{push_batch, push_last};
 use crate::output::{finish, write_whole};
 use bytes::Bytes;
-use eos_batch::{BatchFault, decode_batch};
+use eos_batch::{BatchFault, next_batch};
 use eos_evidence::read_segment;
+use eos_wire::are_bytes;
 use std::alloc::Global;
 use std::io::{Read, Write};
 
@@ -67,13 +68,13 @@ fn list_batches<W: Write>(
     are_bytes(bytes.as_slice());
     let mut byte = 0usize;
     'batches: while byte < bytes.len() {
-        match decode_batch(alloc, bytes, byte) {
+        let found = next_batch(alloc, bytes, byte)?;
+        match found {
             Ok((batch, size)) => {
                 push_batch(alloc, lines, byte, &batch)?;
                 byte += size;
                 write_long(writer, lines)?;
             }
-            Err(BatchFault::OutOfMemory) => return Err(RunFault::OutOfMemory),
             Err(fault) => return Ok((byte, Some(fault))),
         }
     }
@@ -92,8 +93,3 @@ fn write_long<W: Write>(writer: &mut W, lines: &mut String) -> Result<(), RunFau
     }
     Ok(())
 }
-
-/// Each item is a byte.
-fn are_bytes(_bytes: &[u8])
-    ensures { (i : ℕ) → slice_index _bytes.now i < 256 }
-{}
