@@ -52,6 +52,15 @@ const MANY_RECORDS: &[u8] = b"\x00\x00\x00\x00\x00\x00\x00\x00\x00\x00\x00\x31\
     \xff\xff\xff\xff\xff\xff\xff\xff\xff\xff\
     \xff\xff\xff\xff\x7f\xff\xff\xff";
 
+/// A record with a count of 2147483647 headers and none of them, with the right checksum.
+const MANY_HEADERS: &[u8] = b"\x00\x00\x00\x00\x00\x00\x00\x00\x00\x00\x00\x3d\
+    \x00\x00\x00\x00\x02\x99\xa1\x71\x3b\
+    \x00\x00\x00\x00\x00\x00\
+    \x00\x00\x00\x00\x00\x00\x00\x00\x00\x00\x00\x00\x00\x00\x00\x00\
+    \xff\xff\xff\xff\xff\xff\xff\xff\xff\xff\
+    \xff\xff\xff\xff\x00\x00\x00\x01\
+    \x16\x00\x00\x00\x01\x02\x61\xfe\xff\xff\xff\x0f";
+
 /// A transactional record that Sarama wrote.
 pub(crate) const CLIENT_DATA: &[u8] = b"\x00\x00\x00\x00\x00\x00\x00\x05\x00\x00\x00\x6d\
     \x00\x00\x00\x03\x02\xe8\x87\xfe\x81\
@@ -76,17 +85,20 @@ pub(crate) fn decoded(alloc: Global, bytes: &'static [u8]) -> Result<(Batch, usi
     decode_batch(alloc, &Bytes::from_static(bytes), 0)
 }
 
-/// The batch of `ONE_RECORD`.
-pub(crate) fn one_record(alloc: Global) -> Result<Batch, AllocError> {
-    let mut records = Vec::new(alloc);
-    records.push(Record {
+/// A record of no headers.
+pub(crate) fn record(alloc: Global, key: Option<Bytes>, value: Bytes) -> Record {
+    Record {
         attributes: 0,
         timestamp_delta: 0,
-        key: None,
-        value: Some(Bytes::from_static(b"a")),
+        key,
+        value: Some(value),
         headers: Headers::new(Vec::new(alloc)),
-    })?;
-    Ok(Batch {
+    }
+}
+
+/// A batch of no producer.
+pub(crate) fn batch(records: Vec<Record>) -> Batch {
+    Batch {
         base_offset: 0,
         leader_epoch: 0,
         attributes: 0,
@@ -96,7 +108,14 @@ pub(crate) fn one_record(alloc: Global) -> Result<Batch, AllocError> {
         epoch: -1,
         sequence: -1,
         records: Records::new(records),
-    })
+    }
+}
+
+/// The batch of `ONE_RECORD`.
+pub(crate) fn one_record(alloc: Global) -> Result<Batch, AllocError> {
+    let mut records = Vec::new(alloc);
+    records.push(record(alloc, None, Bytes::from_static(b"a")))?;
+    Ok(batch(records))
 }
 
 /// The batch of `CLIENT_DATA`.
@@ -111,12 +130,10 @@ pub(crate) fn client_data(alloc: Global) -> Result<Batch, AllocError> {
         value: Some(Bytes::from_static(b"\x00\x00\x00\x01")),
     })?;
     let mut records = Vec::new(alloc);
+    let key = Some(Bytes::from_static(b"p1000-0"));
     records.push(Record {
-        attributes: 0,
-        timestamp_delta: 0,
-        key: Some(Bytes::from_static(b"p1000-0")),
-        value: Some(Bytes::from_static(b"value of p1000 0")),
         headers: Headers::new(headers),
+        ..record(alloc, key, Bytes::from_static(b"value of p1000 0"))
     })?;
     Ok(Batch {
         base_offset: 5,
@@ -127,7 +144,7 @@ pub(crate) fn client_data(alloc: Global) -> Result<Batch, AllocError> {
         producer: 1000,
         epoch: 0,
         sequence: 3,
-        records: Records::new(records),
+        ..batch(records)
     })
 }
 
@@ -164,7 +181,14 @@ fn the_first_fault_is_answered(rt: HostRuntime) {
     );
     assert_eq!(rt; decoded(alloc, CHANGED_VALUE), Err(BatchFault::Crc));
     assert_eq!(rt; decoded(alloc, NO_RECORDS), Err(BatchFault::Count));
+}
+
+/// Room for so many records or headers is more than a machine has.
+#[test]
+fn hostile_counts(rt: HostRuntime) {
+    let alloc = rt.alloc();
     assert_eq!(rt; decoded(alloc, MANY_RECORDS), Err(BatchFault::Varint));
+    assert_eq!(rt; decoded(alloc, MANY_HEADERS), Err(BatchFault::Varint));
 }
 
 #[test]
@@ -196,6 +220,19 @@ fn a_segment_is_read_up_to_its_fault(rt: HostRuntime) -> Result<(), Fail> {
         stop: Some((69, BatchFault::Truncated)),
     };
     assert_eq!(rt; text, expected);
-    assert_eq!(rt; text.batches.as_slice().len(), 1);
+    Ok(())
+}
+
+/// So many batches are read in time only where each takes no longer than the one before.
+#[test]
+fn a_long_segment_is_read_in_linear_time(rt: HostRuntime) -> Result<(), Fail> {
+    let alloc = rt.alloc();
+    let mut bytes = Vec::new(alloc);
+    for _ in 0..1 << 16 {
+        bytes.extend_from_slice(ONE_RECORD)?;
+    }
+    let text = decode_segment(alloc, &Bytes::from_vec(bytes)?)?;
+    assert_eq!(rt; text.batches.len(), 1 << 16);
+    assert_eq!(rt; text.stop, None);
     Ok(())
 }

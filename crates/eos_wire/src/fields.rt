@@ -61,13 +61,23 @@ impl<'a> Fields<'a> {
         Some(front)
     }
 
+    /// The next `N` bytes.
+    fn array<const N: usize>(&mut self) -> Option<[u8; N]>
+        ensures read { Reads result self.new (bytes_at N self.old) }
+        ensures stays { IfNone result (self.new ≡ self.old) }
+    {
+        let (front, rest) = self.rest.split_first_chunk::<N>()?;
+        self.rest = rest;
+        Some(*front)
+    }
+
     #[tactic(auto, unfolding(crate::specs::Numbers::i8_at))]
     pub fn i8(&mut self) -> Option<i8>
         ensures read { Reads result self.new (i8_at self.old) }
         ensures stays { IfNone result (self.new ≡ self.old) }
     {
-        let bytes = self.take(1)?;
-        Some(i8::from_be_bytes([bytes[0]]))
+        let bytes = self.array()?;
+        Some(i8::from_be_bytes(bytes))
     }
 
     #[tactic(auto, unfolding(crate::specs::Numbers::i16_at))]
@@ -75,8 +85,8 @@ impl<'a> Fields<'a> {
         ensures read { Reads result self.new (i16_at self.old) }
         ensures stays { IfNone result (self.new ≡ self.old) }
     {
-        let bytes = self.take(2)?;
-        Some(i16::from_be_bytes([bytes[0], bytes[1]]))
+        let bytes = self.array()?;
+        Some(i16::from_be_bytes(bytes))
     }
 
     #[tactic(auto, unfolding(crate::specs::Numbers::i32_at))]
@@ -84,8 +94,8 @@ impl<'a> Fields<'a> {
         ensures read { Reads result self.new (i32_at self.old) }
         ensures stays { IfNone result (self.new ≡ self.old) }
     {
-        let bytes = self.take(4)?;
-        Some(i32::from_be_bytes([bytes[0], bytes[1], bytes[2], bytes[3]]))
+        let bytes = self.array()?;
+        Some(i32::from_be_bytes(bytes))
     }
 
     #[tactic(auto, unfolding(crate::specs::Numbers::i64_at))]
@@ -93,10 +103,8 @@ impl<'a> Fields<'a> {
         ensures read { Reads result self.new (i64_at self.old) }
         ensures stays { IfNone result (self.new ≡ self.old) }
     {
-        let bytes = self.take(8)?;
-        Some(i64::from_be_bytes([
-            bytes[0], bytes[1], bytes[2], bytes[3], bytes[4], bytes[5], bytes[6], bytes[7],
-        ]))
+        let bytes = self.array()?;
+        Some(i64::from_be_bytes(bytes))
     }
 
     #[tactic(auto, unfolding(crate::specs::Numbers::u32_at))]
@@ -104,8 +112,8 @@ impl<'a> Fields<'a> {
         ensures read { Reads result self.new (u32_at self.old) }
         ensures stays { IfNone result (self.new ≡ self.old) }
     {
-        let bytes = self.take(4)?;
-        Some(u32::from_be_bytes([bytes[0], bytes[1], bytes[2], bytes[3]]))
+        let bytes = self.array()?;
+        Some(u32::from_be_bytes(bytes))
     }
 
     /// An unsigned varint.

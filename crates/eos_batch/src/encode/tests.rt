@@ -1,9 +1,10 @@
 //! Worked batches and batches of real clients, against values from outside.
 
 use crate::tests::{
-    CLIENT_COMMIT, CLIENT_DATA, LONGER_SPELLING, ONE_RECORD, client_data, decoded, one_record,
+    CLIENT_COMMIT, CLIENT_DATA, LONGER_SPELLING, ONE_RECORD, batch, client_data, decoded,
+    one_record, record,
 };
-use crate::{Batch, BatchFault, Headers, Record, Records, decode_segment, encode_batch};
+use crate::{Batch, BatchFault, decode_segment, encode_batch};
 use bytes::Bytes;
 use std::alloc::{AllocError, Global};
 use std::test::Fail;
@@ -43,29 +44,11 @@ const CLIENT_SEGMENT: &[u8] =
     \x74\x72\x61\x63\x65\x10\x76\x61\x6c\x75\x65\x2d\x32\x2d\x08\x6e\x6f\x6e\x65\x01\x14\x00\x2a\x06\
     \x08\x6b\x35\x35\x35\x01\x00";
 
-fn batch(records: Vec<Record>) -> Batch {
-    Batch {
-        base_offset: 0,
-        leader_epoch: 0,
-        attributes: 0,
-        base_timestamp: 0,
-        max_timestamp: 0,
-        producer: -1,
-        epoch: -1,
-        sequence: -1,
-        records: Records::new(records),
-    }
-}
-
 fn commit(alloc: Global) -> Result<Batch, AllocError> {
     let mut records = Vec::new(alloc);
-    records.push(Record {
-        attributes: 0,
-        timestamp_delta: 0,
-        key: Some(Bytes::from_static(b"\x00\x00\x00\x01")),
-        value: Some(Bytes::from_static(b"\x00\x00\x00\x00\x00\x00")),
-        headers: Headers::new(Vec::new(alloc)),
-    })?;
+    let key = Some(Bytes::from_static(b"\x00\x00\x00\x01"));
+    let value = Bytes::from_static(b"\x00\x00\x00\x00\x00\x00");
+    records.push(record(alloc, key, value))?;
     Ok(Batch {
         attributes: 0x30,
         producer: 1000,
@@ -79,13 +62,7 @@ fn too_long(alloc: Global) -> Result<Batch, AllocError> {
     let value = Bytes::from_vec(vec![in alloc; 0u8; 1 << 20]?)?;
     let mut records = Vec::new(alloc);
     for _ in 0..1024 {
-        records.push(Record {
-            attributes: 0,
-            timestamp_delta: 0,
-            key: None,
-            value: Some(value.clone()?),
-            headers: Headers::new(Vec::new(alloc)),
-        })?;
+        records.push(record(alloc, None, value.clone()?))?;
     }
     Ok(batch(records))
 }
