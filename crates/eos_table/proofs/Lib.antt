@@ -2,3 +2,15 @@ pub mod MatchOrder
 pub mod MatchDecides
 pub mod AtomicLaw
 pub mod ShardLaw
+pub mod KeyExact
+pub mod KeyOrders
+pub mod KeyMembers
+pub mod LesserKind
+pub mod MatchSound
+pub mod MatchWhole
+pub mod TwiceKeys
+pub mod ShardAnswer
+pub mod FoldMore
+pub mod LogOrder
+pub mod LogPlaces
+pub mod LogLaw

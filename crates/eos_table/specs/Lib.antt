@@ -1,3 +1,7 @@
 pub mod Atomic
 pub mod MatchFaults
 pub mod Shards
+pub mod Keys
+pub mod Candidates
+pub mod TransactionLog
+pub mod LogFaults

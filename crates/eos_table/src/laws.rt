@@ -4,10 +4,25 @@ ghost use Rattle.std.specs.Prelude.{◌≡◌, ◌<◌, ◌↔◌, ℕ, List, Op
 ghost use Rattle.eos_base.specs.Least.{UpTo, NoneStands, IsLeast};
 ghost use Rattle.eos_txnlog.specs.declared.decision.Decision.{Decision};
 ghost use Rattle.eos_fold.specs.Parts.{PartLog};
+ghost use Rattle.eos_table.specs.declared.log_fault.LogFault.{LogFault};
 ghost use Rattle.eos_table.specs.declared.match_fault.MatchFault.{MatchFault};
+ghost use Rattle.eos_table.specs.TransactionLog.{IsTransactionLog, AreInOrder};
+ghost use Rattle.eos_table.specs.LogFaults.{log_cmp, Stands as StandsInLog};
 ghost use Rattle.eos_table.specs.Atomic.{Atomic};
 ghost use Rattle.eos_table.specs.MatchFaults.{fault_cmp, Stands};
 ghost use Rattle.eos_table.specs.Shards.{AreAnswers};
+
+/// The transaction log keeps its rule exactly where none of its faults stands. Its partitions stand by their numbers, and
+/// the offsets of each rise.
+pub fn transaction_log()
+    ensures { (log : List PartLog) → AreInOrder log → IsTransactionLog log ↔ NoneStands (StandsInLog log) }
+{}
+
+/// Two least faults of the transaction log are one.
+pub fn least_in_log_is_unique()
+    ensures { (log : List PartLog) (f g : LogFault) →
+        IsLeast log_cmp (StandsInLog log) f → IsLeast log_cmp (StandsInLog log) g → f ≡ g }
+{}
 
 /// The transactions are atomic exactly where no fault between decisions and logs stands.
 pub fn atomic()

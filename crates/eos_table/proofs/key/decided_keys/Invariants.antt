@@ -1,0 +1,6 @@
+use Rattle.std.proofs.Common.{◌≡◌, take}
+use Rattle.eos_table.specs.Keys.{decided}
+use Rattle.eos_table.proofs.key.decided_keys.Given as goal
+
+abbrev pub invariant-loop-decision : goal.invariant-loop-decision
+invariant-loop-decision l = l.keys.items ≡ decided l.shards l.shard (take l.decision-index l.decisions)

@@ -1,0 +1,6 @@
+use Rattle.std.proofs.Common.{◌≡◌, take}
+use Rattle.eos_table.specs.Keys.{judged}
+use Rattle.eos_table.proofs.key.judged_keys.Given as goal
+
+abbrev pub invariant-loop-decision : goal.invariant-loop-decision
+invariant-loop-decision l = l.keys.items ≡ judged l.shards l.shard (take l.decision-index l.decisions)

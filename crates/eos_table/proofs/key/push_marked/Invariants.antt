@@ -1,0 +1,7 @@
+use Rattle.std.proofs.Common.{◌≡◌, ◌++◌, take, map}
+use Rattle.eos_table.specs.Atomic.{part_name}
+use Rattle.eos_table.specs.Keys.{plain_ended, marked_of}
+use Rattle.eos_table.proofs.key.push_marked.Given as goal
+
+abbrev pub invariant-loop-marker : goal.invariant-loop-marker
+invariant-loop-marker l = map plain_ended l.keys.items ≡ map plain_ended l.fn.keys.items ++ marked_of l.shards l.shard (part_name l.part) (take l.marker-index l.part.markers)

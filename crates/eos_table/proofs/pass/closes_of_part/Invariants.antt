@@ -1,0 +1,11 @@
+use Rattle.std.proofs.Common.{◌≡◌, option_map, fold, take, map}
+use Rattle.eos_base.specs.Least.{lesser_of}
+use Rattle.eos_table.specs.MatchFaults.{fault_cmp}
+use Rattle.eos_table.specs.Candidates.{plain}
+use Rattle.eos_table.specs.Atomic.{part_name}
+use Rattle.eos_table.specs.Keys.{plain_listed}
+use Rattle.eos_table.specs.Candidates.{close_faults}
+use Rattle.eos_table.proofs.pass.closes_of_part.Given as goal
+
+abbrev pub invariant-loop-close : goal.invariant-loop-close
+invariant-loop-close l = option_map plain l.best ≡ fold (lesser_of fault_cmp) (option_map plain l.fn.first) (close_faults l.shards l.shard l.decided l.judged (map plain_listed l.listed) (part_name l.part) (take l.close-index l.part.closes))

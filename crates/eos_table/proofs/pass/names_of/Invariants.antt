@@ -1,0 +1,10 @@
+use Rattle.std.proofs.Common.{◌≡◌, option_map, fold, take, map}
+use Rattle.eos_base.specs.Least.{lesser_of}
+use Rattle.eos_table.specs.MatchFaults.{fault_cmp}
+use Rattle.eos_table.specs.Candidates.{plain}
+use Rattle.eos_table.specs.Keys.{plain_name, plain_ended}
+use Rattle.eos_table.specs.Candidates.{at_names}
+use Rattle.eos_table.proofs.pass.names_of.Given as goal
+
+abbrev pub invariant-loop-decision : goal.invariant-loop-decision
+invariant-loop-decision l = option_map plain l.best ≡ fold (lesser_of fault_cmp) (option_map plain l.fn.first) (at_names l.shards l.shard (map plain_name l.names) (map plain_ended l.marked) (take l.decision-index l.decisions))

@@ -1,0 +1,105 @@
+-- The faults of the transaction log, what each of them says, and their order.
+use Rattle.std.specs.Prelude.{◌≡◌, ◌≢◌, ◌⊎◌, ◌<◌, ◌<ℤ◌, ℕ, ℤ, List, [], true, codes, Err, unsigned_abs}
+use Rattle.std.specs.Ordering.{nat_cmp, int_cmp, on, then_cmp}
+use Rattle.std.specs.declared.cmp.Ordering.{Ordering}
+use Rattle.std.specs.Cmp.Lexicographic.{slice_cmp}
+use Rattle.eos_base.specs.declared.record_fault.RecordFault.{RecordFault}
+use Rattle.eos_base.specs.declared.record_fault.RecordFault.TheVariants as records
+use Rattle.eos_base.specs.Members.{Has}
+use Rattle.eos_txnlog.specs.declared.step.TxnFault.{TxnFault}
+use Rattle.eos_txnlog.specs.declared.step.TxnFault.TheVariants as steps
+use Rattle.eos_txnlog.specs.Steps.{step_verdict}
+use Rattle.eos_fold.specs.declared.item.Item.{Item}
+use Rattle.eos_fold.specs.Parts.{PartLog}
+use Rattle.eos_table.specs.declared.log_fault.LogFault.{LogFault}
+use Rattle.eos_table.specs.declared.log_fault.LogFaultKind.{LogFaultKind}
+use Rattle.eos_table.specs.declared.log_fault.LogFaultKind.TheVariants.{BadRecord, Step, SplitId, SharedProducer, Unfinished}
+use Rattle.eos_table.specs.TransactionLog.{Id, Unreadable, content_of, Unskipped, all_steps, last_of, is_unfinished, ShareProducer}
+
+-- a data record at the fault's place
+pub record AtItem (log : List PartLog) (f : LogFault) : Type 0 where
+  pub part : PartLog
+  pub item : Item
+  pub has_part : Has log part
+  pub has_item : Has part.items item
+  pub partition : part.number ≡ f.partition
+  pub offset : item.offset ≡ f.offset
+
+-- an unskipped record of this id at the fault's place
+pub record AtStep (log : List PartLog) (f : LogFault) (named : Id) : Type 0 where
+  pub step : Unskipped
+  pub has : Has (all_steps log) step
+  pub partition : step.partition ≡ f.partition
+  pub offset : step.offset ≡ f.offset
+  pub id : step.id ≡ named
+
+-- the end of a partition is the fault's place
+pub record AtEnd (log : List PartLog) (f : LogFault) : Type 0 where
+  pub part : PartLog
+  pub has : Has log part
+  pub partition : part.number ≡ f.partition
+  pub offset : unsigned_abs part.end ≡ f.offset
+
+-- in a lesser partition, or earlier in the same one
+abbrev pub IsBefore : Unskipped → Unskipped → Type 0
+IsBefore s t = (s.partition <ℤ t.partition) ⊎ ((s.partition ≡ t.partition) × (s.offset < t.offset))
+
+-- by the kind
+abbrev pub StandsAs : List PartLog → LogFault → LogFaultKind → Type 0
+StandsAs log f (BadRecord fault) = (at : AtItem log f) × (content_of at.item ≡ Unreadable fault)
+StandsAs log f (Step id why) = (at : AtStep log f id) × (step_verdict at.step.before at.step.value ≡ Err why)
+StandsAs log f (SplitId id) = (at : AtStep log f id) × (s : Unskipped) × Has (all_steps log) s × (s.id ≡ id) × (s.partition <ℤ at.step.partition)
+StandsAs log f (SharedProducer id) = (at : AtStep log f id) × (s : Unskipped) × Has (all_steps log) s × (s.id ≢ id) × ShareProducer s.value at.step.value × IsBefore s at.step
+StandsAs log f (Unfinished id) = (at : AtEnd log f) × (is_unfinished (last_of at.part.items id) ≡ true)
+
+abbrev pub Stands : List PartLog → LogFault → Type 0
+Stands log f = StandsAs log f f.kind
+
+-- ---- their order
+
+abbrev pub rank : LogFaultKind → ℕ
+rank (BadRecord fault) = 1
+rank (Step id why) = 2
+rank (SplitId id) = 3
+rank (SharedProducer id) = 4
+rank (Unfinished id) = 5
+
+abbrev pub id_of : LogFaultKind → Id
+id_of (BadRecord fault) = []
+id_of (Step id why) = id
+id_of (SplitId id) = id
+id_of (SharedProducer id) = id
+id_of (Unfinished id) = id
+
+abbrev pub record_number : RecordFault → ℕ
+record_number records.Short = 1
+record_number records.Version = 2
+record_number records.Status = 3
+record_number records.Length = 4
+record_number records.Trailing = 5
+record_number records.OutOfMemory = 6
+
+abbrev pub step_number : TxnFault → ℕ
+step_number steps.Order = 1
+step_number steps.Producer = 2
+step_number steps.Epoch = 3
+
+-- the refusal that is printed
+abbrev pub detail_of : LogFaultKind → ℕ
+detail_of (BadRecord fault) = record_number fault
+detail_of (Step id why) = step_number why
+detail_of (SplitId id) = 0
+detail_of (SharedProducer id) = 0
+detail_of (Unfinished id) = 0
+
+-- by partition, offset and kind; then by transactional id, and last by the refusal
+abbrev pub log_cmp : LogFault → LogFault → Ordering
+log_cmp = then_cmp (on (λ f. f.partition) int_cmp) (then_cmp (on (λ f. f.offset) nat_cmp) (then_cmp (on (λ f. rank f.kind) nat_cmp)
+    (then_cmp (on (λ f. id_of f.kind) (slice_cmp nat_cmp)) (on (λ f. detail_of f.kind) nat_cmp))))
+
+abbrev pub name_of : LogFaultKind → List ℕ
+name_of (BadRecord fault) = codes "BadRecord"
+name_of (Step id why) = codes "Step"
+name_of (SplitId id) = codes "SplitId"
+name_of (SharedProducer id) = codes "SharedProducer"
+name_of (Unfinished id) = codes "Unfinished"

@@ -1,0 +1,247 @@
+//! Keys for look-ups, of the producer ids of one shard. Names are borrowed, so that a key costs no copy of a topic.
+
+ghost use Rattle.std.specs.Prelude.{◌≡◌, ◌++◌, ◌<◌, IfOk, OnOk, map};
+ghost use Rattle.eos_table.specs.Atomic.{part_name, names_of_topic, listed_names};
+ghost use Rattle.eos_table.specs.Keys.{mine, plain_name, decided, judged, listed, listed_of, plain_listed, ended, ended_of, plain_ended, marked, marked_of, names};
+
+use bytes::Bytes;
+use eos_batch::Kind;
+use eos_fold::{Close, Part};
+use eos_txnlog::{Decision, TopicPartitions};
+use std::alloc::{AllocError, Global};
+
+/// A partition's name, with its topic lent.
+#[derive(Clone, Copy, PartialEq, Eq, PartialOrd, Ord)]
+pub(crate) struct NameRef<'a> {
+    pub topic: &'a Bytes,
+    pub partition: i32,
+}
+
+/// A partition that a decision of this producer id and data epoch lists.
+#[derive(Clone, Copy, PartialEq, Eq, PartialOrd, Ord)]
+pub(crate) struct Listed<'a> {
+    pub producer: i64,
+    pub epoch: i16,
+    pub name: NameRef<'a>,
+}
+
+/// A partition with an end marker, or one that a decision wants there.
+#[derive(Clone, Copy, PartialEq, Eq, PartialOrd, Ord)]
+pub(crate) struct Ended<'a> {
+    pub producer: i64,
+    pub epoch: i16,
+    pub kind: Kind,
+    pub name: NameRef<'a>,
+}
+
+/// The name of a partition of the evidence.
+pub(crate) fn name_of_part(part: &Part) -> NameRef<'_>
+    ensures { plain_name result ≡ part_name part.now }
+{
+    NameRef {
+        topic: part.topic(),
+        partition: part.partition(),
+    }
+}
+
+/// Is the producer id of the shard?
+pub(crate) fn in_shard(producer: i64, shard: u32, shards: u32) -> bool
+    requires { 0 < shards }
+    ensures { result ≡ mine shards shard producer }
+{
+    producer.rem_euclid(i64::from(shards)) == i64::from(shard)
+}
+
+/// The producer id and data epoch of each decision.
+pub(crate) fn decided_keys(
+    alloc: Global,
+    decisions: &[Decision],
+    shard: u32,
+    shards: u32,
+) -> Result<Vec<(i64, i16)>, AllocError>
+    requires { 0 < shards }
+    ensures { IfOk result (λ v. v.items ≡ decided shards shard decisions.now) }
+{
+    let mut keys = Vec::new(alloc);
+    for decision in decisions {
+        if in_shard(decision.producer, shard, shards) {
+            keys.push((decision.producer, decision.epoch))?;
+        }
+    }
+    Ok(keys)
+}
+
+/// The close that each decision wants.
+pub(crate) fn judged_keys(
+    alloc: Global,
+    decisions: &[Decision],
+    shard: u32,
+    shards: u32,
+) -> Result<Vec<Close>, AllocError>
+    requires { 0 < shards }
+    ensures { IfOk result (λ v. v.items ≡ judged shards shard decisions.now) }
+{
+    let mut keys = Vec::new(alloc);
+    for decision in decisions {
+        if in_shard(decision.producer, shard, shards) {
+            keys.push(Close {
+                producer: decision.producer,
+                epoch: decision.epoch,
+                marker_epoch: decision.marker_epoch,
+                kind: decision.kind,
+            })?;
+        }
+    }
+    Ok(keys)
+}
+
+fn push_listed_topic<'a>(
+    keys: &mut Vec<Listed<'a>>,
+    decision: &Decision,
+    topic: &'a TopicPartitions,
+) -> Result<(), AllocError>
+    ensures { OnOk result (map plain_listed keys.new.items ≡ map plain_listed keys.old.items ++ listed_of decision.now (names_of_topic topic.now)) }
+{
+    for partition in topic.numbers.as_slice() {
+        keys.push(Listed {
+            producer: decision.producer,
+            epoch: decision.epoch,
+            name: NameRef {
+                topic: &topic.topic,
+                partition: *partition,
+            },
+        })?;
+    }
+    Ok(())
+}
+
+fn push_listed<'a>(keys: &mut Vec<Listed<'a>>, decision: &'a Decision) -> Result<(), AllocError>
+    ensures { OnOk result (map plain_listed keys.new.items ≡ map plain_listed keys.old.items ++ listed_of decision.now (listed_names decision.now.partitions)) }
+{
+    for topic in decision.partitions.as_slice() {
+        push_listed_topic(keys, decision, topic)?;
+    }
+    Ok(())
+}
+
+/// The partitions that decisions list.
+pub(crate) fn listed_keys<'a>(
+    alloc: Global,
+    decisions: &'a [Decision],
+    shard: u32,
+    shards: u32,
+) -> Result<Vec<Listed<'a>>, AllocError>
+    requires { 0 < shards }
+    ensures { IfOk result (λ v. map plain_listed v.items ≡ listed shards shard decisions.now) }
+{
+    let mut keys = Vec::new(alloc);
+    for decision in decisions {
+        if in_shard(decision.producer, shard, shards) {
+            push_listed(&mut keys, decision)?;
+        }
+    }
+    Ok(keys)
+}
+
+fn push_ended_topic<'a>(
+    keys: &mut Vec<Ended<'a>>,
+    decision: &Decision,
+    topic: &'a TopicPartitions,
+) -> Result<(), AllocError>
+    ensures { OnOk result (map plain_ended keys.new.items ≡ map plain_ended keys.old.items ++ ended_of decision.now (names_of_topic topic.now)) }
+{
+    for partition in topic.numbers.as_slice() {
+        keys.push(Ended {
+            producer: decision.producer,
+            epoch: decision.marker_epoch,
+            kind: decision.kind,
+            name: NameRef {
+                topic: &topic.topic,
+                partition: *partition,
+            },
+        })?;
+    }
+    Ok(())
+}
+
+fn push_ended<'a>(keys: &mut Vec<Ended<'a>>, decision: &'a Decision) -> Result<(), AllocError>
+    ensures { OnOk result (map plain_ended keys.new.items ≡ map plain_ended keys.old.items ++ ended_of decision.now (listed_names decision.now.partitions)) }
+{
+    for topic in decision.partitions.as_slice() {
+        push_ended_topic(keys, decision, topic)?;
+    }
+    Ok(())
+}
+
+/// The end markers that decisions want.
+pub(crate) fn ended_keys<'a>(
+    alloc: Global,
+    decisions: &'a [Decision],
+    shard: u32,
+    shards: u32,
+) -> Result<Vec<Ended<'a>>, AllocError>
+    requires { 0 < shards }
+    ensures { IfOk result (λ v. map plain_ended v.items ≡ ended shards shard decisions.now) }
+{
+    let mut keys = Vec::new(alloc);
+    for decision in decisions {
+        if in_shard(decision.producer, shard, shards) {
+            push_ended(&mut keys, decision)?;
+        }
+    }
+    Ok(keys)
+}
+
+fn push_marked<'a>(
+    keys: &mut Vec<Ended<'a>>,
+    part: &'a Part,
+    shard: u32,
+    shards: u32,
+) -> Result<(), AllocError>
+    requires { 0 < shards }
+    ensures { OnOk result (map plain_ended keys.new.items ≡ map plain_ended keys.old.items ++ marked_of shards shard (part_name part.now) part.now.markers) }
+{
+    let name = name_of_part(part);
+    for marker in part.markers() {
+        if in_shard(marker.producer, shard, shards) {
+            keys.push(Ended {
+                producer: marker.producer,
+                epoch: marker.epoch,
+                kind: marker.kind,
+                name,
+            })?;
+        }
+    }
+    Ok(())
+}
+
+/// The end markers that are there.
+pub(crate) fn marked_keys<'a>(
+    alloc: Global,
+    parts: &'a [Part],
+    shard: u32,
+    shards: u32,
+) -> Result<Vec<Ended<'a>>, AllocError>
+    requires { 0 < shards }
+    ensures { IfOk result (λ v. map plain_ended v.items ≡ marked shards shard parts.now) }
+{
+    let mut keys = Vec::new(alloc);
+    for part in parts {
+        push_marked(&mut keys, part, shard, shards)?;
+    }
+    Ok(keys)
+}
+
+/// The names of the partitions.
+pub(crate) fn name_keys<'a>(
+    alloc: Global,
+    parts: &'a [Part],
+) -> Result<Vec<NameRef<'a>>, AllocError>
+    ensures { IfOk result (λ v. map plain_name v.items ≡ names parts.now) }
+{
+    let mut keys = Vec::new(alloc);
+    for part in parts {
+        keys.push(name_of_part(part))?;
+    }
+    Ok(keys)
+}

@@ -1,0 +1,61 @@
+//! Where the transaction log breaks its own rule.
+
+ghost use Rattle.std.specs.Prelude.{◌≡◌};
+ghost use Rattle.eos_table.specs.LogFaults.{rank, name_of};
+
+use bytes::Bytes;
+use eos_base::RecordFault;
+use eos_txnlog::TxnFault;
+
+/// A fault of the log `__transaction_state`. Of those that stand, the least counts: by partition, offset, kind, and, of
+/// one kind at one place, by transactional id.
+#[derive(Debug, PartialEq, Eq, Drop)]
+pub struct LogFault {
+    /// The number of the partition of `__transaction_state`.
+    pub partition: i32,
+    pub offset: u64,
+    pub kind: LogFaultKind,
+}
+
+/// The kind of a fault of the transaction log, with what its text prints.
+#[derive(Debug, PartialEq, Eq, Drop)]
+pub enum LogFaultKind {
+    /// A record without key, or one whose key or value doesn't read.
+    BadRecord { record: RecordFault },
+    /// A record of this transactional id that may not follow the one before it.
+    Step { id: Bytes, why: TxnFault },
+    /// A record of a transactional id that has records in a lesser partition.
+    SplitId { id: Bytes },
+    /// A record of this transactional id, with a producer id that a record of another id had before.
+    SharedProducer { id: Bytes },
+    /// The partition ends while a transaction of this id goes on, or before its end is written.
+    Unfinished { id: Bytes },
+}
+
+impl LogFaultKind {
+    /// The kind's number, from 1 to 5, by which kinds are ordered.
+    pub fn number(&self) -> u8
+        ensures { result ≡ rank self.now }
+    {
+        match self {
+            LogFaultKind::BadRecord { .. } => 1,
+            LogFaultKind::Step { .. } => 2,
+            LogFaultKind::SplitId { .. } => 3,
+            LogFaultKind::SharedProducer { .. } => 4,
+            LogFaultKind::Unfinished { .. } => 5,
+        }
+    }
+
+    /// The kind's name, as a verdict prints it.
+    pub fn name(&self) -> &'static str
+        ensures { result.now ≡ name_of self.now }
+    {
+        match self {
+            LogFaultKind::BadRecord { .. } => "BadRecord",
+            LogFaultKind::Step { .. } => "Step",
+            LogFaultKind::SplitId { .. } => "SplitId",
+            LogFaultKind::SharedProducer { .. } => "SharedProducer",
+            LogFaultKind::Unfinished { .. } => "Unfinished",
+        }
+    }
+}

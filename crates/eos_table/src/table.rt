@@ -1,0 +1,41 @@
+//! The decisions of the transaction log, as the matching takes them.
+
+ghost use Rattle.std.specs.Prelude.{◌≡◌, IfOk};
+
+use eos_txnlog::Decision;
+use std::alloc::AllocError;
+use std::marker::Model;
+
+/// The decisions, which contracts see as their list.
+#[derive(Debug, Drop)]
+pub struct TxnTable {
+    decisions: Vec<Decision>,
+}
+
+impl Model for TxnTable {
+    ghost use Rattle.std.specs.Prelude.{List};
+    ghost use Rattle.eos_txnlog.specs.declared.decision.Decision.{Decision};
+
+    ghost Value = { List Decision };
+
+    ghost view = { λ t. t.decisions.items };
+}
+
+impl TxnTable {
+    /// The table of these decisions, in any order, each kept as it is.
+    ///
+    /// # Errors
+    /// Only want of memory.
+    pub fn from_decisions(decisions: Vec<Decision>) -> Result<TxnTable, AllocError>
+        ensures { IfOk result (λ table. table ≡ decisions.items) }
+    {
+        Ok(TxnTable { decisions })
+    }
+
+    /// The decisions, as they were given.
+    pub fn decisions(&self) -> &[Decision]
+        ensures { result.now ≡ self.now }
+    {
+        self.decisions.as_slice()
+    }
+}
