@@ -79,6 +79,7 @@ opened bytes at frame seal head n fits le f s h plain count offsets is =
       after = omega (arith, b.left.after);
       within = omega (arith, b.left.fits);
       inside = b.inside;
+      some = k.some;
       first = k.first;
       last = k.end;
       goes_on = rw (f, s, h, plain, count, offsets, is, size, b.left.is)

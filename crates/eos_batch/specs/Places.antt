@@ -57,6 +57,7 @@ pub record IsOpened (bytes : List ℕ) (at : ℕ) (o : Opened) : Type 0 where
   pub after : at ≤ o.begin
   pub within : o.begin ≤ o.end
   pub inside : o.end ≤ length bytes
+  pub some : 1 ≤ o.count
   pub first : pos 0 ≤ℤ o.batch.base_offset
   pub last : (o.batch.base_offset +ℤ pos o.count) ≤ℤ pos (2 ^ 63)
   pub goes_on : batch_at (drop at bytes) ≡ ((records_at o.count 0 (slice_range bytes o.begin o.end) >>= used_up faults.Trailing) >>= finished o.batch (o.end - at))
