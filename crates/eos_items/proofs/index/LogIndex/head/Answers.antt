@@ -1,0 +1,19 @@
+use Rattle.std.proofs.Common.{◌∙◌, length, refl, sym, ap}
+use Rattle.std.proofs.lemmas.Option.{slice_get_read, slice_get_within}
+use Rattle.std.specs.List.{slice_get}
+use Rattle.eos_items.specs.Views.{SegmentView, LogView, batches_of}
+use Rattle.eos_items.proofs.ListPlaces.{get_flat}
+use Rattle.eos_items.proofs.index.LogIndex.head.Goals as goal
+
+pub returns : goal.returns
+returns c =
+    let h = c.find_batch-segment.ensures in
+    let segs = c.self.inside.segments.items in
+    let k = c.find_batch-segment.result.0 in
+    let at = slice_get_read segs (length segs) k c.index.result.now refl (slice_get_within segs k h.0 h.1) c.index.ensures in
+    let b = c.head.ensures in (
+      b.0,
+      ap (λ (l : LogView). slice_get l.batches c.args.place) (sym c.self.view_is)
+          ∙ (ap (slice_get (batches_of segs)) h.3 ∙ get_flat (λ (s : SegmentView). s.batches) segs k c.find_batch-segment.result.1 c.index.result.now b.0 at b.1),
+      b.2,
+    )

@@ -1,0 +1,15 @@
+use Rattle.std.proofs.Common.{◌≡◌, ◌≤◌, ◌+◌, ◌-◌, List, ◌++◌, length, slice_range}
+use Rattle.eos_batch.specs.declared.record.Record.{Record}
+use Rattle.eos_batch.specs.Reading.{records_at}
+use Rattle.eos_batch.proofs.ReadLoops.{with_front}
+use Rattle.eos_items.specs.declared.entry.Entry.{Entry}
+use Rattle.eos_items.specs.Indexed.{AreEntriesOf}
+use Rattle.eos_items.proofs.walk.push_entries.Given as goal
+
+abbrev pub invariant-loop-place : goal.invariant-loop-place
+invariant-loop-place l = record {
+  within : l.from ≤ l.end;
+  walked : (rs : List Record) × (es : List Entry)
+      × (with_front rs (records_at (l.count - l.place) l.place (slice_range l.bytes l.from l.end)) ≡ records_at l.count 0 (slice_range l.bytes l.begin l.end))
+      × (l.entries.items ≡ l.fn.entries.items ++ es) × AreEntriesOf l.bytes l.source es rs × (length es + l.begin ≤ l.from);
+}

@@ -1,0 +1,6 @@
+pub mod Batches
+pub mod Heads
+pub mod Items
+pub mod Views
+pub mod Entries
+pub mod Indexed

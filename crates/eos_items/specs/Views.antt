@@ -1,0 +1,25 @@
+-- What contracts see of an index.
+use Rattle.std.specs.Prelude.{ℕ, List, [], ◌∷◌}
+use Rattle.std.specs.List.{flat_map}
+use Rattle.eos_items.specs.Batches.{DataBatch}
+
+-- of one segment: its data batches as far as they were read, and the bytes that are left to read
+pub record SegmentView : Type 0 where
+  pub batches : List DataBatch
+  pub rest : List ℕ
+
+-- Of a log: its data batches, what is left to read of its last segment, how many segments it has, and for how many
+-- there is room.
+pub record LogView : Type 0 where
+  pub batches : List DataBatch
+  pub rest : List ℕ
+  pub segments : ℕ
+  pub room : ℕ
+
+abbrev pub batches_of : List SegmentView → List DataBatch
+batches_of segments = flat_map (λ s. s.batches) segments
+
+abbrev pub last_rest : List SegmentView → List ℕ
+last_rest [] = []
+last_rest (s ∷ []) = s.rest
+last_rest (s ∷ t ∷ ss) = last_rest (t ∷ ss)

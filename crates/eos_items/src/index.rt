@@ -1,0 +1,166 @@
+//! The index of a log: its segments' indexes, one after the other.
+
+ghost use Rattle.std.specs.Prelude.{◌≡◌, ◌≤◌, ◌<◌, ◌+◌, ◌++◌, ◌^◌, [], length, take, slice_get, Some, IfOk, IfErr, OnOk, OnErr};
+ghost use Rattle.std.specs.Vec.{vec_len};
+ghost use Rattle.eos_batch.specs.Answers.{Fails};
+ghost use Rattle.eos_batch.specs.Reading.{batch_at};
+ghost use Rattle.eos_items.specs.Batches.{DataBatch, set_ending};
+ghost use Rattle.eos_items.specs.Heads.{data_head};
+ghost use Rattle.eos_items.specs.Indexed.{ReadsBatch};
+ghost use Rattle.eos_items.specs.Views.{SegmentView, batches_of};
+
+use crate::entry::Ending;
+use crate::head::{BatchHead, DataHead};
+use crate::segment::SegmentIndex;
+use bytes::Bytes;
+use eos_batch::BatchFault;
+use std::alloc::{AllocError, Global};
+use std::marker::Model;
+
+/// So many segments at most: no machine has memory for as many.
+const MOST: usize = 1 << 31;
+
+/// The data batches of a log, beside the bytes of its segments. Contracts see the batches, the bytes that are left to read
+/// of the last segment, the number of segments, and for how many there is room.
+#[derive(Drop)]
+pub struct LogIndex {
+    pub(crate) segments: Vec<SegmentIndex>,
+}
+
+impl Model for LogIndex {
+    ghost use Rattle.std.specs.Prelude.{◌≤◌, ◌^◌, length, min};
+    ghost use Rattle.std.specs.Vec.{vec_len, vec_capacity};
+    ghost use Rattle.eos_items.specs.Views.{LogView, batches_of, last_rest};
+
+    ghost Value = { LogView };
+
+    ghost view = { λ l. record { batches = batches_of l.segments.items; rest = last_rest l.segments.items; segments = vec_len l.segments; room = min (vec_capacity l.segments) (2 ^ 31) } };
+
+    ghost invariant = { λ l. vec_len l.segments ≤ 2 ^ 31 };
+}
+
+/// The segment of the data batch at this place, and its place there.
+fn find_batch(segments: &Vec<SegmentIndex>, place: usize) -> (usize, usize)
+    requires { place < length (batches_of segments.now.items) }
+    ensures { (s : SegmentView) × (slice_get segments.now.items result.0 ≡ Some s) × (result.1 < length s.batches) × (place ≡ length (batches_of (take result.0 segments.now.items)) + result.1) }
+{
+    let mut left = place;
+    for i in 0..segments.len() {
+        let len = segments[i].len();
+        if left < len {
+            return (i, left);
+        }
+        left -= len;
+    }
+    unreachable!()
+}
+
+/// The number of data batches of these segments.
+fn count_batches(segments: &Vec<SegmentIndex>) -> usize
+    requires { vec_len segments.now ≤ 2 ^ 31 }
+    ensures { result ≡ length (batches_of segments.now.items) }
+{
+    let mut count = 0;
+    for i in 0..segments.len() {
+        count += segments[i].len();
+    }
+    count
+}
+
+impl LogIndex {
+    /// Of a log without segments. It takes no memory.
+    pub fn new(alloc: Global) -> LogIndex
+        ensures batches { result.batches ≡ [] }
+        ensures rest { result.rest ≡ [] }
+        ensures segments { result.segments ≡ 0 }
+    {
+        LogIndex {
+            segments: Vec::new(alloc),
+        }
+    }
+
+    /// Begins to read a further segment. Where memory is refused the index stays as it was.
+    pub fn open(&mut self, alloc: Global, bytes: Bytes) -> Result<(), AllocError>
+        requires { length bytes < 2 ^ 32 }
+        ensures ok { OnOk result ((self.new.batches ≡ self.old.batches) × (self.new.rest ≡ bytes) × (self.new.segments ≡ self.old.segments + 1)) }
+        ensures err { OnErr result ((self.new.batches ≡ self.old.batches) × (self.new.rest ≡ self.old.rest) × (self.new.segments ≡ self.old.segments)) }
+    {
+        if self.segments.len() == MOST {
+            return Err(AllocError);
+        }
+        self.segments.push(SegmentIndex::new(alloc, bytes))?;
+        Ok(())
+    }
+
+    /// Reads the next batch of the last segment, and takes it into the index if it begins at the next offset: a data batch
+    /// at the end of the list, as one that waits for its producer's end marker where it is transactional.
+    ///
+    /// # Errors
+    /// What `decode_batch` would refuse there; the index stays as it was.
+    pub fn read(&mut self, alloc: Global, next: u64) -> Result<BatchHead, BatchFault>
+        ensures ok { IfOk result (ReadsBatch next self.old self.new) }
+        ensures err { IfErr result (λ e. Fails e (batch_at self.old.rest) × (self.new ≡ self.old)) }
+    {
+        let len = self.segments.len();
+        if len == 0 {
+            return Err(BatchFault::Truncated);
+        }
+        let segment = &mut self.segments[len - 1];
+        segment.read(alloc, next)
+    }
+
+    /// The number of data batches.
+    pub fn len(&self) -> usize
+        ensures { result ≡ length self.now.batches }
+    {
+        count_batches(&self.segments)
+    }
+
+    /// What the records of a data batch have in common.
+    pub fn head(&self, place: usize) -> DataHead
+        requires { place < length self.now.batches }
+        ensures { (b : DataBatch) × (slice_get self.now.batches place ≡ Some b) × (result ≡ data_head b) }
+    {
+        let (segment, place) = find_batch(&self.segments, place);
+        self.segments[segment].head(place)
+    }
+
+    /// Says how the transaction of a data batch ended.
+    pub fn settle(&mut self, place: usize, ending: Ending)
+        requires { place < length self.old.batches }
+        ensures batches { self.new.batches ≡ set_ending ending place self.old.batches }
+        ensures rest { self.new.rest ≡ self.old.rest }
+        ensures segments { self.new.segments ≡ self.old.segments }
+        ensures room { self.new.room ≡ self.old.room }
+    {
+        let (segment, place) = find_batch(&self.segments, place);
+        let segment = &mut self.segments[segment];
+        segment.settle(place, ending);
+    }
+
+    /// Makes room for the segments of another index.
+    pub fn reserve_for(&mut self, other: &LogIndex) -> Result<(), AllocError>
+        ensures batches { self.new.batches ≡ self.old.batches }
+        ensures rest { self.new.rest ≡ self.old.rest }
+        ensures segments { self.new.segments ≡ self.old.segments }
+        ensures room { OnOk result (self.old.segments + other.now.segments ≤ self.new.room) }
+    {
+        let more = other.segments.len();
+        if more > MOST - self.segments.len() {
+            return Err(AllocError);
+        }
+        self.segments.reserve(more)?;
+        Ok(())
+    }
+
+    /// Puts another index at the end. It moves its segments' indexes and takes no memory.
+    pub fn append(&mut self, mut other: LogIndex)
+        requires { self.old.segments + other.segments ≤ self.old.room }
+        ensures batches { self.new.batches ≡ self.old.batches ++ other.batches }
+        ensures segments { self.new.segments ≡ self.old.segments + other.segments }
+    {
+        let Ok(()) = self.segments.append(&mut other.segments) else {
+            unreachable!()
+        };
+    }
+}

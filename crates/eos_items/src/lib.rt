@@ -1,0 +1,17 @@
+//! The data batches of a partition's log as an index beside its segments' bytes: a batch costs one entry, and a record the
+//! place where it stands. Records are read from there when they are asked for.
+#![tactic(auto)]
+
+mod entry;
+mod head;
+mod index;
+mod item;
+mod items;
+mod segment;
+mod walk;
+
+pub use entry::Ending;
+pub use head::{BatchHead, DataHead};
+pub use index::LogIndex;
+pub use item::{Fate, Item};
+pub use items::{ItemRef, Items};

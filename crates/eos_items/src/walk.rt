@@ -1,0 +1,108 @@
+//! One batch after the other, each tested as `decode_batch` tests it, without its values.
+
+ghost use Rattle.std.specs.Prelude.{◌≡◌, ◌≤◌, ◌<◌, ◌+◌, ◌^◌, length, drop, Ok, IfOk, IfErr, OnOk};
+ghost use Rattle.eos_batch.specs.declared.batch.Batch.{Batch};
+ghost use Rattle.eos_batch.specs.Answers.{Fails};
+ghost use Rattle.eos_batch.specs.Reading.{batch_at};
+ghost use Rattle.eos_items.specs.Heads.{head_with, head_of};
+ghost use Rattle.eos_items.specs.Indexed.{records_in, Pushed, HasGrown, IsIndexed};
+
+use crate::entry::Entry;
+use crate::head::BatchHead;
+use bytes::Bytes;
+use eos_batch::{Batch, BatchFault, Marker, decode_batch, open_batch, pass_record, test_data};
+use std::alloc::Global;
+
+/// Puts down where each of a batch's records stands. The records take the bytes from `begin` to `end`.
+fn push_entries(
+    bytes: &Bytes,
+    entries: &mut Vec<Entry>,
+    source: u32,
+    begin: usize,
+    end: usize,
+    count: u32,
+) -> Result<(), BatchFault>
+    requires inside { (begin ≤ end) × (end ≤ length bytes.now) × (end < 2 ^ 32) }
+    ensures ok { OnOk result (Pushed bytes.now source entries.old.items entries.new.items (records_in bytes.now begin end count)) }
+    ensures few { OnOk result (length entries.new.items + begin ≤ length entries.old.items + end) }
+    ensures grown { HasGrown entries.old.items entries.new.items }
+    ensures err { IfErr result (λ e. Fails e (records_in bytes.now begin end count)) }
+{
+    let mut from = begin;
+    for place in 0..count {
+        let next = pass_record(bytes, from, end, place)?;
+        entries.push(Entry {
+            at: from as u32,
+            source,
+        })?;
+        from = next;
+    }
+    if from != end {
+        return Err(BatchFault::Trailing);
+    }
+    Ok(())
+}
+
+/// A batch's head, with the number of its records and bytes and its end marker.
+fn head_with(batch: &Batch, count: u32, size: usize, marker: Option<Marker>) -> BatchHead
+    ensures { result ≡ head_with batch.now count size marker }
+{
+    BatchHead {
+        offset: batch.base_offset.unsigned_abs(),
+        count,
+        size,
+        producer: batch.producer,
+        epoch: batch.epoch,
+        sequence: batch.sequence,
+        is_control: batch.is_control(),
+        is_transactional: batch.is_transactional(),
+        marker,
+    }
+}
+
+/// The control batch at `at`, which is read whole, since its one record is its content.
+fn control_head(alloc: Global, bytes: &Bytes, at: usize) -> Result<BatchHead, BatchFault>
+    requires { at ≤ length bytes.now }
+    ensures ok { IfOk result (λ h. (b : Batch) × (batch_at (drop at bytes.now) ≡ Ok (b, h.size)) × (h ≡ head_of b h.size)) }
+    ensures err { IfErr result (λ e. Fails e (batch_at (drop at bytes.now))) }
+{
+    let (batch, size) = decode_batch(alloc, bytes, at)?;
+    let count = batch.records.as_slice().len() as u32;
+    Ok(head_with(&batch, count, size, batch.marker()))
+}
+
+/// Reads the batch at `at`, and puts down where each of its data records stands. On an error the entries stay as they were.
+pub(crate) fn index_batch(
+    alloc: Global,
+    bytes: &Bytes,
+    entries: &mut Vec<Entry>,
+    source: u32,
+    at: usize,
+) -> Result<BatchHead, BatchFault>
+    requires inside { at ≤ length bytes.now }
+    requires small { length bytes.now < 2 ^ 32 }
+    ensures ok { IfOk result (IsIndexed bytes.now at source entries.old.items entries.new.items) }
+    ensures err { IfErr result (λ e. Fails e (batch_at (drop at bytes.now)) × (entries.new.items ≡ entries.old.items)) }
+{
+    let opened = open_batch(alloc, bytes, at)?;
+    if opened.batch.is_control() {
+        return control_head(alloc, bytes, at);
+    }
+    let kept = entries.len();
+    if let Err(fault) = push_entries(
+        bytes,
+        entries,
+        source,
+        opened.begin,
+        opened.end,
+        opened.count,
+    ) {
+        entries.truncate(kept);
+        return Err(fault);
+    }
+    if let Err(fault) = test_data(&opened.batch) {
+        entries.truncate(kept);
+        return Err(fault);
+    }
+    Ok(head_with(&opened.batch, opened.count, opened.end - at, None))
+}
