@@ -1,0 +1,10 @@
+//! Where a record stands.
+
+use eos_base::PartitionName;
+
+/// A record's place: its partition and its offset there. Places are ordered by the partition's name, then the offset.
+#[derive(Clone, Debug, PartialEq, Eq, PartialOrd, Ord, Drop)]
+pub struct Place {
+    pub partition: PartitionName,
+    pub offset: u64,
+}
