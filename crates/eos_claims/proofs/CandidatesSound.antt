@@ -19,7 +19,7 @@ use Rattle.eos_claims.specs.Candidates.{in_run as run_of, Counted, counted, clai
 use Rattle.eos_claims.proofs.ClaimOrder.{InRun, in_run, outputs_rise, sandwich, same_number, fault_upto, b_or, same_place_true, same_place_false, is_less, both_from, not_eq}
 use Rattle.eos_claims.proofs.ClaimTests.{source_is, is_source_has, input_is, is_input_has, not_less_int, below_is, out_is, is_passed_by, less_is, is_claimed}
 use Rattle.eos_claims.proofs.FaultOrder.{fault_total, claim_total}
-use Rattle.eos_claims.proofs.Neighbours.{Adjacent, IsHead, IsLast, adjacent_has, adjacent_up, head_has, head_low, last_has, last_high, not_between}
+use Rattle.eos_claims.proofs.NeighbourLists.{Adjacent, IsHead, IsLast, adjacent_has, adjacent_up, head_has, head_low, last_has, last_high, not_between}
 use Rattle.eos_claims.proofs.OutputsLaw.{at_claim, least_claim}
 use Rattle.eos_claims.proofs.RunMembers.{runs_has}
 
@@ -57,11 +57,11 @@ module _ (a : Application) where
       elim (nat_decided c.of t.0.of) [
         | inr m ↦ itself a (fault_at CountDisagrees (counted c)) (disagrees c t.0 hc t.1 m)
         | inl e ↦ record {
-            fault = fault_at CountDisagrees (counted p);
-            stands = disagrees p t.0 hp (subst (λ i. IsLeastClaim a i t.0) (sym s) t.1) (λ q. n (q ∙ sym e));
-            upto = fault_upto (fault_at CountDisagrees (counted p)) (fault_at CountDisagrees (counted c)) s
-                (elim (in_run (counted p) (counted c) u s) [ inl l ↦ inl l | inr r ↦ inr (r.0, inr (refl, r.1)) ]);
-          }
+          fault = fault_at CountDisagrees (counted p);
+          stands = disagrees p t.0 hp (subst (λ i. IsLeastClaim a i t.0) (sym s) t.1) (λ q. n (q ∙ sym e));
+          upto = fault_upto (fault_at CountDisagrees (counted p)) (fault_at CountDisagrees (counted c)) s
+              (elim (in_run (counted p) (counted c) u s) [ inl l ↦ inl l | inr r ↦ inr (r.0, inr (refl, r.1)) ]);
+        }
       ]
 
   sound_repeated : (p c : PlacedClaim) → Has a.claims p → Has a.claims c → p.source ≡ c.source → p.output ≡ c.output → is_lt (place_cmp p.at c.at) ≡ true
@@ -75,23 +75,30 @@ module _ (a : Application) where
       let t = least_beside p h in
       elim (nat_decided p.of t.0.of) [
         | inr m ↦ record {
-            fault = fault_at CountDisagrees (counted p);
-            stands = disagrees p t.0 h t.1 m;
-            upto = fault_upto (fault_at CountDisagrees (counted p)) (missing p.source (p.output + 1)) refl (inl (omega arith));
-          }
+          fault = fault_at CountDisagrees (counted p);
+          stands = disagrees p t.0 h t.1 m;
+          upto = fault_upto (fault_at CountDisagrees (counted p)) (missing p.source (p.output + 1)) refl (inl (omega arith));
+        }
         | inl e ↦ itself a (missing p.source (p.output + 1)) (record {
-            below = below; top = t.0.of; is_top = inl (t.0, t.1, refl); first = omega arith; last = omega (arith, e, l);
-            absent = λ d n. absent d n.has n.source; at = refl;
-          })
+          below = below;
+          top = t.0.of;
+          is_top = inl (t.0, t.1, refl);
+          first = omega arith;
+          last = omega (arith, e, l);
+          absent = λ d n. absent d n.has n.source;
+          at = refl;
+        })
       ]
 
   -- the first claim of a source has a number above 1
   sound_start : (c : PlacedClaim) → Has a.claims c → IsBelow a c.source → 1 < c.output → 0 < c.of
       → ((d : PlacedClaim) → Has a.claims d → d.source ≡ c.source → UpTo claim_cmp (counted c) (counted d)) → Before a (missing c.source 1)
   sound_start c h below o n low = itself a (missing c.source 1) (record {
-    below = below; top = c.of;
+    below = below;
+    top = c.of;
     is_top = inl (c, record { names = record { has = h; source = refl }; least = λ d m. subst (λ w. is_gt w ≡ false) (same_number c d (sym m.source)) (low d m.has m.source) }, refl);
-    first = omega arith; last = omega arith;
+    first = omega arith;
+    last = omega arith;
     absent = λ d m e. let r = outputs_rise (counted c) (counted d) (low d m.has m.source) (sym m.source) in absurd (omega (arith, r, o, e));
     at = refl;
   })
@@ -125,7 +132,7 @@ sound_at_start a cs b y h low f k =
         → 1 < y.output → 0 < y.of → Before a (missing y.source 1)
     go y c hc e below low h o n = subst (λ z. Before a (missing z.source 1)) e
         (sound_start a c hc below (subst (λ (z : Counted). 1 < z.output) (sym e) o) (subst (λ (z : Counted). 0 < z.of) (sym e) n)
-          (λ d k s. subst (λ z. UpTo claim_cmp z (counted d)) (sym e) (low (counted d) (there a cs b y h d k (s ∙ ap (λ (m : Counted). m.source) e)) (s ∙ ap (λ (m : Counted). m.source) e))))
+        (λ d k s. subst (λ z. UpTo claim_cmp z (counted d)) (sym e) (low (counted d) (there a cs b y h d k (s ∙ ap (λ (m : Counted). m.source) e)) (s ∙ ap (λ (m : Counted). m.source) e))))
 
 -- a gap behind a claim: no other one of its source has the next number
 sound_behind : (a : Application) (cs : List Counted) → AreBelow a cs → (y : Counted) → Has cs y → y.output < y.of
@@ -135,14 +142,14 @@ sound_behind a cs b y h l absent = let c = claimed a cs b y h in go c.claim c.ha
     go : (c : PlacedClaim) → Has a.claims c → counted c ≡ y → IsBelow a c.source → Before a (missing y.source (y.output + 1))
     go c hc e below = subst (λ (z : Counted). Before a (missing z.source (z.output + 1))) e
         (sound_gap a c hc below (subst (λ (z : Counted). z.output < z.of) (sym e) l)
-          (λ d k s. subst (λ (z : Counted). d.output ≢ z.output + 1) (sym e) (absent (counted d) (there a cs b y h d k (s ∙ ap (λ (m : Counted). m.source) e)) (s ∙ ap (λ (m : Counted). m.source) e))))
+        (λ d k s. subst (λ (z : Counted). d.output ≢ z.output + 1) (sym e) (absent (counted d) (there a cs b y h d k (s ∙ ap (λ (m : Counted). m.source) e)) (s ∙ ap (λ (m : Counted). m.source) e))))
 
 sound_at_end : (a : Application) (cs : List Counted) → AreBelow a cs → (y : Counted) → Has cs y
     → ((d : Counted) → Has cs d → d.source ≡ y.source → UpTo claim_cmp d y) → (f : OutputFault) → Has (at_end y) f → Before a f
 sound_at_end a cs b y h high f k =
     let w = when_has (nat_lt y.output y.of) (missing y.source (y.output + 1)) f k in
     subst (Before a) w.1 (sound_behind a cs b y h (ltb-true y.output y.of w.0)
-      (λ d m s e. let r = outputs_rise d y (high d m s) s in absurd (omega (arith, r, e))))
+    (λ d m s e. let r = outputs_rise d y (high d m s) s in absurd (omega (arith, r, e))))
 
 -- of neighbours of two sources, none of the first one's source is behind, and none of the second one's before
 sound_between : (a : Application) (cs : List Counted) → AreBelow a cs → (y z : Counted) → Adjacent cs y z → (f : OutputFault) → Has (between y z) f → Before a f
@@ -150,10 +157,13 @@ sound_between a cs b y z h f k = go (is_eq (place_cmp y.source z.source)) refl k
   where
     up : UpTo claim_cmp y z
     up = adjacent_up claim_total cs b.in_order y z h
+
     has : Has cs y × Has cs z
     has = adjacent_has cs y z h
+
     sides : (d : Counted) → Has cs d → UpTo claim_cmp d y ⊎ UpTo claim_cmp z d
     sides d m = not_between claim_total cs b.in_order y z h d m
+
     same : y.source ≡ z.source → Has (run_of y z) f → Before a f
     same s k = elim (append_cases (when (not (y.of == z.of)) (fault_at CountDisagrees z)) _ f k) [
       | inl d ↦ disagree d
@@ -170,8 +180,9 @@ sound_between a cs b y z h f k = go (is_eq (place_cmp y.source z.source)) refl k
             two : (p c : PlacedClaim) → Has a.claims p → Has a.claims c → counted p ≡ y → counted c ≡ z → y.of ≢ z.of → Before a (fault_at CountDisagrees z)
             two p c hp hc e g n = subst (λ z. Before a (fault_at CountDisagrees z)) g
                 (sound_disagrees a p c hp hc (ap (λ (m : Counted). m.source) e ∙ (s ∙ sym (ap (λ (m : Counted). m.source) g)))
-                  (subst (λ v. UpTo claim_cmp v (counted c)) (sym e) (subst (λ v. UpTo claim_cmp y v) (sym g) up))
-                  (λ q. n (sym (ap (λ (m : Counted). m.of) e) ∙ (q ∙ ap (λ (m : Counted). m.of) g))))
+                (subst (λ v. UpTo claim_cmp v (counted c)) (sym e) (subst (λ v. UpTo claim_cmp y v) (sym g) up))
+                (λ q. n (sym (ap (λ (m : Counted). m.of) e) ∙ (q ∙ ap (λ (m : Counted). m.of) g))))
+
         repeated : Has (when ((y.output == z.output) && is_lt (place_cmp y.at z.at)) (fault_at Repeated z)) f → Before a f
         repeated k =
             let w = when_has ((y.output == z.output) && is_lt (place_cmp y.at z.at)) (fault_at Repeated z) f k in
@@ -183,18 +194,20 @@ sound_between a cs b y z h f k = go (is_eq (place_cmp y.source z.source)) refl k
             two : (p c : PlacedClaim) → Has a.claims p → Has a.claims c → counted p ≡ y → counted c ≡ z → y.output ≡ z.output → is_lt (place_cmp y.at z.at) ≡ true → Before a (fault_at Repeated z)
             two p c hp hc e g o l = subst (λ z. Before a (fault_at Repeated z)) g
                 (sound_repeated a p c hp hc (ap (λ (m : Counted). m.source) e ∙ (s ∙ sym (ap (λ (m : Counted). m.source) g)))
-                  (ap (λ (m : Counted). m.output) e ∙ (o ∙ sym (ap (λ (m : Counted). m.output) g)))
-                  (ap (λ (m : Counted). is_lt (place_cmp m.at c.at)) e ∙ (ap (λ (m : Counted). is_lt (place_cmp y.at m.at)) g ∙ l)))
+                (ap (λ (m : Counted). m.output) e ∙ (o ∙ sym (ap (λ (m : Counted). m.output) g)))
+                (ap (λ (m : Counted). is_lt (place_cmp m.at c.at)) e ∙ (ap (λ (m : Counted). is_lt (place_cmp y.at m.at)) g ∙ l)))
+
         gap : Has (when (nat_lt (y.output + 1) z.output && nat_lt y.output y.of) (missing y.source (y.output + 1))) f → Before a f
         gap k =
             let w = when_has (nat_lt (y.output + 1) z.output && nat_lt y.output y.of) (missing y.source (y.output + 1)) f k in
             let t = both_from (nat_lt (y.output + 1) z.output) (nat_lt y.output y.of) w.0 in
             let far = ltb-true (y.output + 1) z.output t.0 in
             subst (Before a) w.1 (sound_behind a cs b y has.0 (ltb-true y.output y.of t.1)
-              (λ d m q e. elim (sides d m) [
-                | inl u ↦ let r = outputs_rise d y u q in absurd (omega (arith, r, e))
-                | inr u ↦ let r = outputs_rise z d u (sym (q ∙ s)) in absurd (omega (arith, r, e, far))
-              ]))
+            (λ d m q e. elim (sides d m) [
+              | inl u ↦ let r = outputs_rise d y u q in absurd (omega (arith, r, e))
+              | inr u ↦ let r = outputs_rise z d u (sym (q ∙ s)) in absurd (omega (arith, r, e, far))
+            ]))
+
     other : y.source ≢ z.source → Has (at_end y ++ at_start z) f → Before a f
     other n k = elim (append_cases (at_end y) (at_start z) f k) [
       | inl e ↦ sound_at_end a cs b y has.0 (λ d m s. elim (sides d m) [ inl u ↦ u | inr u ↦ absurd (n (sym (sandwich y z d up u (sym s)))) ]) f e
@@ -203,6 +216,7 @@ sound_between a cs b y z h f k = go (is_eq (place_cmp y.source z.source)) refl k
       where
         before : (d : Counted) → UpTo claim_cmp d y → d.source ≡ z.source → y.source ≡ z.source
         before d u s = sandwich d y z u up s ∙ s
+
     go : (t : Bool) → is_eq (place_cmp y.source z.source) ≡ t → Has (if t then run_of y z else at_end y ++ at_start z) f → Before a f
     go true e k = same (same_place_true y.source z.source e) k
     go false e k = other (same_place_false y.source z.source e) k
@@ -223,10 +237,13 @@ sound_shown a c h f k = go (is_source a c.source) refl (is_input a c.source) ref
   where
     one : (kind : OutputKind) → Stands a (fault_at kind (counted c)) → Has (fault_at kind (counted c) ∷ []) f → Before a f
     one kind s k = subst (Before a) (only (fault_at kind (counted c)) f k) (itself a (fault_at kind (counted c)) s)
+
     no_source : is_source a c.source ≡ false → Has a.sources c.source.partition.topic → ⊥
     no_source e q = let r = sym e ∙ is_source_has a c.source q in absurd cc
+
     no_input : is_input a c.source ≡ false → Has a.inputs c.source → ⊥
     no_input e q = let r = sym e ∙ is_input_has a c.source q in absurd cc
+
     rest : IsBelow a c.source → Has (when (is_out_of_range c.of c.output) (fault_at NumberRange (counted c)) ++ when (not (is_passed a c)) (fault_at OtherTransaction (counted c))) f → Before a f
     rest below k = elim (append_cases (when (is_out_of_range c.of c.output) (fault_at NumberRange (counted c))) _ f k) [
       | inl r ↦ let w = when_has (is_out_of_range c.of c.output) (fault_at NumberRange (counted c)) f r in
@@ -238,6 +255,7 @@ sound_shown a c h f k = go (is_source a c.source) refl (is_input a c.source) ref
         is_not : (b : Bool) → b ≡ true → not b ≡ true → ⊥
         is_not true e n = absurd cc
         is_not false e n = absurd cc
+
     go : (s : Bool) → is_source a c.source ≡ s → (i : Bool) → is_input a c.source ≡ i → (m : Bool) → is_committed a c.source ≡ m
         → Has (shown s i m (is_out_of_range c.of c.output) (is_passed a c) (counted c)) f → Before a f
     go false es i ei m em k = one ForeignSource (at_claim a c ForeignSource h, no_source es) k
@@ -252,7 +270,12 @@ sound_unclaimed a i h f k =
     let none : (c : PlacedClaim) → Names a i c → ⊥ = λ c n. is_not (list_any (names i) a.claims) (is_claimed a i c n) t.1 in
     subst (Before a) w.1 (itself a (missing i 1) (record {
       below = record { input = h; below = less_is (pos i.offset) (committed_offset a.commits i.partition) t.0 };
-      top = 1; is_top = inr (none, refl); first = omega arith; last = omega arith; absent = λ c n e. none c n; at = refl;
+      top = 1;
+      is_top = inr (none, refl);
+      first = omega arith;
+      last = omega arith;
+      absent = λ c n e. none c n;
+      at = refl;
     }))
   where
     is_not : (b : Bool) → b ≡ true → not b ≡ true → ⊥

@@ -25,7 +25,7 @@ use Rattle.eos_claims.proofs.CandidatesSound.{sound}
 use Rattle.eos_claims.proofs.ClaimOrder.{LaterKind, in_run, nat_tied, outputs_rise, sandwich, same_number, fault_upto, same_place_true, true_same_place, place_tied}
 use Rattle.eos_claims.proofs.ClaimTests.{source_is, is_source_has, input_is, is_input_has, not_less_int, is_less_int, below_is, is_out, passed_is, claimed_is}
 use Rattle.eos_claims.proofs.FaultOrder.{fault_total, fault_exact, claim_total, claim_tied, place_exact, place_total}
-use Rattle.eos_claims.proofs.Neighbours.{Adjacent, IsHead, IsLast, adjacent_has, adjacent_up, head_has, last_has, Change, change, First, first_of, Last, last_of}
+use Rattle.eos_claims.proofs.NeighbourLists.{Adjacent, IsHead, IsLast, adjacent_has, adjacent_up, head_has, last_has, Change, change, First, first_of, Last, last_of}
 use Rattle.eos_claims.proofs.OutputsLaw.{place_decided, nat_less_or}
 use Rattle.eos_claims.proofs.RunMembers.{has_start, has_between, has_end}
 
@@ -66,6 +66,7 @@ module _ (a : Application) (cs : List Counted) where
       shows : (s i m : Bool) → is_source a c.source ≡ s → is_input a c.source ≡ i → is_committed a c.source ≡ m → (x : OutputFault)
           → Has (shown s i m (is_out_of_range c.of c.output) (is_passed a c) (counted c)) x → Has (shown_by a c) x
       shows s i m es ei em x k = rw (es, ei, em) k
+
       go : (s : Bool) → is_source a c.source ≡ s → (i : Bool) → is_input a c.source ≡ i → (m : Bool) → is_committed a c.source ≡ m → Candidate a cs (fault_at l (counted c))
       go false es i ei m em = by_claim c h (fault_at ForeignSource (counted c)) (fault_at l (counted c)) (shows false i m es ei em _ (inl refl)) (at_kind c ForeignSource l (omega (arith, le)))
       go true es false ei m em = by_claim c h (fault_at NoSuchInput (counted c)) (fault_at l (counted c)) (shows true false m es ei em _ (inl refl)) (at_kind c NoSuchInput l (omega (arith, le)))
@@ -132,17 +133,18 @@ module _ (a : Application) (cs : List Counted) where
         let up = adjacent_up claim_total cs b.in_order t.y t.z t.adjacent in
         let high : UpTo claim_cmp t.z c = elim t.high [ inl l ↦ upto_trans claim_total t.z u c l lu | inr l ↦ upto_trans claim_total t.z v c l lv ] in
         found t.y t.z t.adjacent up high
-          (elim t.low [ inl l ↦ sandwich_low u t.y su l (upto_trans claim_total t.y t.z c up high) | inr l ↦ sandwich_low v t.y sv l (upto_trans claim_total t.y t.z c up high) ])
-          (elim t.low [ inl l ↦ sandwich_low u t.z su (upto_trans claim_total u t.y t.z l up) high | inr l ↦ sandwich_low v t.z sv (upto_trans claim_total v t.y t.z l up) high ])
-          (elim t.differ [ inl d ↦ (λ e. d.1 (sym e ∙ d.0)) | inr d ↦ (λ e. d.0 (e ∙ d.1)) ])
+        (elim t.low [ inl l ↦ sandwich_low u t.y su l (upto_trans claim_total t.y t.z c up high) | inr l ↦ sandwich_low v t.y sv l (upto_trans claim_total t.y t.z c up high) ])
+        (elim t.low [ inl l ↦ sandwich_low u t.z su (upto_trans claim_total u t.y t.z l up) high | inr l ↦ sandwich_low v t.z sv (upto_trans claim_total v t.y t.z l up) high ])
+        (elim t.differ [ inl d ↦ (λ e. d.1 (sym e ∙ d.0)) | inr d ↦ (λ e. d.0 (e ∙ d.1)) ])
       where
         sandwich_low : (u y : Counted) → u.source ≡ c.source → UpTo claim_cmp u y → UpTo claim_cmp y c → y.source ≡ c.source
         sandwich_low u y s l h = sandwich u y c l h s ∙ s
+
         found : (y z : Counted) → Adjacent cs y z → UpTo claim_cmp y z → UpTo claim_cmp z c → y.source ≡ c.source → z.source ≡ c.source → y.of ≢ z.of → Candidate a cs (fault_at CountDisagrees c)
         found y z h up high sy sz n =
             by_run (fault_at CountDisagrees z) (fault_at CountDisagrees c)
-              (shows_between y z h (sy ∙ sym sz) _ (append_left (when (not (y.of == z.of)) (fault_at CountDisagrees z)) _ _ (is_when _ _ (unequal y.of z.of n))))
-              (fault_upto (fault_at CountDisagrees z) (fault_at CountDisagrees c) sz (elim (in_run z c high sz) [ inl l ↦ inl l | inr r ↦ inr (r.0, inr (refl, r.1)) ]))
+            (shows_between y z h (sy ∙ sym sz) _ (append_left (when (not (y.of == z.of)) (fault_at CountDisagrees z)) _ _ (is_when _ _ (unequal y.of z.of n))))
+            (fault_upto (fault_at CountDisagrees z) (fault_at CountDisagrees c) sz (elim (in_run z c high sz) [ inl l ↦ inl l | inr r ↦ inr (r.0, inr (refl, r.1)) ]))
           where
             unequal : (m n : ℕ) → m ≢ n → not (m == n) ≡ true
             unequal m n d = go (m == n) refl
@@ -170,8 +172,10 @@ module _ (a : Application) (cs : List Counted) where
       where
         up : UpTo claim_cmp (counted d) (counted c)
         up = rw (place_tied d.source c.source s, nat_tied d.output c.output o, l) refl
+
         IsBefore : Counted → Type 0
         IsBefore x = place_cmp x.at c.at ≡ Less
+
         dec : (x : Counted) → Decided (IsBefore x)
         dec x = go (place_cmp x.at c.at) refl
           where
@@ -179,8 +183,10 @@ module _ (a : Application) (cs : List Counted) where
             go Less e = inl e
             go Equal e = inr (λ f. let q = sym e ∙ f in absurd cc)
             go Greater e = inr (λ f. let q = sym e ∙ f in absurd cc)
+
         not_itself : IsBefore (counted c) → ⊥
         not_itself e = let q = sym e ∙ place_tied c.at c.at refl in absurd cc
+
         -- of its source and number, and from the earlier claim on to this one
         inside : (x : Counted) → UpTo claim_cmp (counted d) x → UpTo claim_cmp x (counted c) → (x.source ≡ c.source) × (x.output ≡ c.output)
         inside x l g =
@@ -188,6 +194,7 @@ module _ (a : Application) (cs : List Counted) where
             let p = outputs_rise (counted d) x l (sym e) in
             let q = outputs_rise x (counted c) g (e ∙ s) in
             (e ∙ s, omega (arith, p, q, o))
+
         found : (y z : Counted) → Adjacent cs y z → IsBefore y → (IsBefore z → ⊥) → UpTo claim_cmp (counted d) y → UpTo claim_cmp z (counted c) → Candidate a cs (fault_at Repeated (counted c))
         found y z n was nope low high =
             let mid = adjacent_up claim_total cs b.in_order y z n in
@@ -199,10 +206,10 @@ module _ (a : Application) (cs : List Counted) where
             ] in
             let l : place_cmp y.at z.at ≡ Less = subst (λ p. place_cmp y.at p ≡ Less) (sym at) was in
             by_run (fault_at Repeated z) (fault_at Repeated (counted c))
-              (shows_between y z n (iy.0 ∙ sym iz.0) _ (append_right (when (not (y.of == z.of)) (fault_at CountDisagrees z)) _ _
-                (append_left (when ((y.output == z.output) && is_lt (place_cmp y.at z.at)) (fault_at Repeated z)) _ _
-                  (is_when _ _ (and_from (y.output == z.output) (is_lt (place_cmp y.at z.at)) (eq-eqb y.output z.output (iy.1 ∙ sym iz.1)) (ap is_lt l))))))
-              (fault_upto (fault_at Repeated z) (fault_at Repeated (counted c)) iz.0 (inr (iz.1, inr (refl, subst (λ p. UpTo place_cmp z.at p) at (upto_itself place_total z.at)))))
+            (shows_between y z n (iy.0 ∙ sym iz.0) _ (append_right (when (not (y.of == z.of)) (fault_at CountDisagrees z)) _ _
+            (append_left (when ((y.output == z.output) && is_lt (place_cmp y.at z.at)) (fault_at Repeated z)) _ _
+            (is_when _ _ (and_from (y.output == z.output) (is_lt (place_cmp y.at z.at)) (eq-eqb y.output z.output (iy.1 ∙ sym iz.1)) (ap is_lt l))))))
+            (fault_upto (fault_at Repeated z) (fault_at Repeated (counted c)) iz.0 (inr (iz.1, inr (refl, subst (λ p. UpTo place_cmp z.at p) at (upto_itself place_total z.at)))))
           where
             same_at : UpTo place_cmp z.at c.at → z.at ≡ c.at
             same_at u = go (place_cmp z.at c.at) refl u
@@ -211,6 +218,7 @@ module _ (a : Application) (cs : List Counted) where
                 go Less e u = absurd (nope e)
                 go Equal e u = place_exact z.at c.at e
                 go Greater e u = absurd cc
+
         here : IsBelow a c.source → Candidate a cs (fault_at Repeated (counted c))
         here w =
             let t = change claim_total IsBefore dec cs b.in_order (counted d) (counted c) (b.whole d k (subst (IsBelow a) (sym s) w)) (b.whole c h w) l not_itself in
@@ -222,9 +230,11 @@ module _ (a : Application) (cs : List Counted) where
             low : (y : Counted) → UpTo claim_cmp (counted d) y ⊎ UpTo claim_cmp (counted c) y → UpTo claim_cmp (counted d) y
             low y (inl l) = l
             low y (inr l) = upto_trans claim_total (counted d) (counted c) y up l
+
             high : (z : Counted) → UpTo claim_cmp z (counted d) ⊎ UpTo claim_cmp z (counted c) → UpTo claim_cmp z (counted c)
             high z (inl l) = upto_trans claim_total z (counted d) (counted c) l up
             high z (inr l) = l
+
             -- places of one number rise, so none before the claim is behind one that isn't
             back : (y z : Counted) → UpTo claim_cmp y z → UpTo claim_cmp (counted d) y → UpTo claim_cmp z (counted c) → (IsBefore y → ⊥) → IsBefore z → ⊥
             back y z mid low high nope was =
@@ -254,9 +264,11 @@ module _ (a : Application) (cs : List Counted) where
       where
         first : (n : ℕ) → 1 ≤ n → (1 < n) ⊎ ((1 ≡ n) × LaterKind 11 11 None None)
         first n one = elim (nat_less_or 1 n) [ inl l ↦ inl l | inr g ↦ inr (omega arith, inr (refl, refl)) ]
+
         begun : (y : Counted) → IsHead cs y ⊎ ((x : Counted) × Adjacent cs x y × (x.source ≡ i → ⊥)) → Has cs y
         begun y (inl h) = head_has cs y h
         begun y (inr r) = (adjacent_has cs r.0 y r.1).1
+
         -- the first claim of the source is the least one
         same : (y : Counted) → y.source ≡ i → UpTo claim_cmp y (counted t) → Has cs y → y ≡ counted t
         same y s u h = let c = b.sound y h in go c.0 c.1 c.2
@@ -267,6 +279,7 @@ module _ (a : Application) (cs : List Counted) where
                 let tied = claim_tied (counted c) (counted t) (subst (λ z. UpTo claim_cmp z (counted t)) (sym e) u) (least_up i t c l k sc) in
                 let one : c ≡ t = apart c t k l.names.has tied in
                 sym e ∙ ap counted one
+
         begins : (y : Counted) → y.source ≡ i → y ≡ counted t → IsHead cs y ⊎ ((x : Counted) × Adjacent cs x y × (x.source ≡ i → ⊥)) → Has (runs cs) (missing i 1)
         begins y s is (inl h) = has_start cs y (missing i 1) h (shows y s is)
           where
@@ -278,6 +291,7 @@ module _ (a : Application) (cs : List Counted) where
             shows : (y : Counted) → y.source ≡ i → y ≡ counted t → Has (at_start y) (missing i 1)
             shows y s is = subst (λ p. Has (at_start y) (missing p 1)) s
                 (is_when _ _ (and_from (nat_lt 1 y.output) (nat_lt 0 y.of) (lt-ltb 1 y.output (let q = ap (λ (m : Counted). m.output) is in omega (arith, q, gap, one))) (lt-ltb 0 y.of (let q = ap (λ (m : Counted). m.of) is in omega (arith, q, top, one)))))
+
             other : (t : Bool) → is_eq (place_cmp r.0.source y.source) ≡ t → Has (if t then run_of r.0 y else at_end r.0 ++ at_start y) (missing i 1)
             other true e = absurd (r.2 (same_place_true r.0.source y.source e ∙ s))
             other false e = append_right (at_end r.0) (at_start y) (missing i 1) (shows y s is)
@@ -292,25 +306,30 @@ module _ (a : Application) (cs : List Counted) where
       where
         IsLower : Counted → Type 0
         IsLower d = (d.source ≡ i) × (d.output < n)
+
         dec : (d : Counted) → Decided (IsLower d)
         dec d = both (place_decided d.source i) (elim (nat_less_or d.output n) [ inl l ↦ inl l | inr g ↦ inr (λ l. absurd (omega arith)) ])
+
         is_claim : (z : Counted) → Has cs z → z.source ≡ i → z.output ≢ n
         is_claim z h s = let c = b.sound z h in go c.0 c.1 c.2
           where
             go : (c : PlacedClaim) → Has a.claims c → counted c ≡ z → z.output ≢ n
             go c k e q = absent c (record { has = k; source = ap (λ (m : Counted). m.source) e ∙ s }) (ap (λ (m : Counted). m.output) e ∙ q)
+
         by_count : (y : Counted) → Has cs y → y.source ≡ i → y.output < n → IsLast cs y ⊎ ((z : Counted) × Adjacent cs y z × (IsLower z → ⊥))
             → (c : PlacedClaim) → Has a.claims c → counted c ≡ y → Decided (y.of ≡ t.of) → Candidate a cs (missing i n)
         by_count y h s lt ends c k e (inr m) =
             earlier (fault_at CountDisagrees (counted c)) (missing i n)
-              (whole_disagrees c t k (subst (λ j. IsLeastClaim a j t) (sym (ap (λ (m : Counted). m.source) e ∙ s)) l) (λ q. m (sym (ap (λ (m : Counted). m.of) e) ∙ q)))
-              (fault_upto (fault_at CountDisagrees (counted c)) (missing i n) (ap (λ (m : Counted). m.source) e ∙ s) (inl (subst (λ (m : Counted). m.output < n) (sym e) lt)))
+            (whole_disagrees c t k (subst (λ j. IsLeastClaim a j t) (sym (ap (λ (m : Counted). m.source) e ∙ s)) l) (λ q. m (sym (ap (λ (m : Counted). m.of) e) ∙ q)))
+            (fault_upto (fault_at CountDisagrees (counted c)) (missing i n) (ap (λ (m : Counted). m.source) e ∙ s) (inl (subst (λ (m : Counted). m.output < n) (sym e) lt)))
         by_count y h s lt ends c k e (inl q) = by_run (missing y.source (y.output + 1)) (missing i n) (shows ends) (fault_upto (missing y.source (y.output + 1)) (missing i n) s (upto y.output lt))
           where
             open_end : nat_lt y.output y.of ≡ true
             open_end = lt-ltb y.output y.of (omega (arith, lt, q, top))
+
             upto : (k : ℕ) → k < n → (k + 1 < n) ⊎ ((k + 1 ≡ n) × LaterKind 11 11 None None)
             upto k l = elim (nat_less_or (k + 1) n) [ inl m ↦ inl m | inr g ↦ inr (omega arith, inr (refl, refl)) ]
+
             shows : IsLast cs y ⊎ ((z : Counted) × Adjacent cs y z × (IsLower z → ⊥)) → Has (runs cs) (missing y.source (y.output + 1))
             shows (inl f) = has_end cs y (missing y.source (y.output + 1)) f (is_when _ _ open_end)
             shows (inr r) = has_between cs y r.0 _ r.1 (go (is_eq (place_cmp y.source r.0.source)) refl)
@@ -320,6 +339,7 @@ module _ (a : Application) (cs : List Counted) where
                   | inl l ↦ absurd (r.2 (s, l))
                   | inr g ↦ elim (nat_less_or n r.0.output) [ inl l ↦ omega (arith, l, lt) | inr f ↦ absurd (m (omega (arith, f, g))) ]
                 ]
+
                 go : (t : Bool) → is_eq (place_cmp y.source r.0.source) ≡ t → Has (if t then run_of y r.0 else at_end y ++ at_start r.0) (missing y.source (y.output + 1))
                 go true e = append_right (when (not (y.of == r.0.of)) (fault_at CountDisagrees r.0)) _ _ (append_right (when ((y.output == r.0.output) && is_lt (place_cmp y.at r.0.at)) (fault_at Repeated r.0)) _ _
                     (is_when _ _ (and_from (nat_lt (y.output + 1) r.0.output) (nat_lt y.output y.of) (lt-ltb (y.output + 1) r.0.output (far (sym (same_place_true y.source r.0.source e) ∙ s))) open_end)))
@@ -328,7 +348,7 @@ module _ (a : Application) (cs : List Counted) where
     whole_missing : AreApart a → (i : Place) (n top : ℕ) → IsBelow a i → IsTop a i top → 1 ≤ n → n ≤ top → ((c : PlacedClaim) → Names a i c → c.output ≢ n) → Candidate a cs (missing i n)
     whole_missing apart i n top w (inr none) one le absent =
         by_input i w.input (missing i 1) (missing i n) (is_when _ _ (and_from (is_committed a i) _ (is_less_int (pos i.offset) (committed_offset a.commits i.partition) w.below) (unnamed (list_any (names i) a.claims) refl)))
-          (fault_upto (missing i 1) (missing i n) refl (inr (let q = none.1 in omega (arith, q, one, le), inr (refl, refl))))
+        (fault_upto (missing i 1) (missing i n) refl (inr (let q = none.1 in omega (arith, q, one, le), inr (refl, refl))))
       where
         unnamed : (t : Bool) → list_any (names i) a.claims ≡ t → not t ≡ true
         unnamed true e = let r = claimed_is a i e in absurd (none.0 r.0 r.1)
@@ -350,8 +370,8 @@ module _ (a : Application) (cs : List Counted) where
     at_fault : (f : OutputFault) (k : OutputKind) → f.kind ≡ k → (at : AtClaim a f) → Candidate a cs (fault_at k (counted at.claim)) → Candidate a cs f
     at_fault f k e at c = subst (Candidate a cs)
         (ap (λ s. fault_of k s at.claim.output (Some at.claim.at)) at.source
-          ∙ (ap (λ o. fault_of k f.source o (Some at.claim.at)) at.output
-          ∙ (ap (fault_of k f.source f.output) (sym at.at) ∙ ap (λ l. fault_of l f.source f.output f.at) (sym e)))) c
+        ∙ (ap (λ o. fault_of k f.source o (Some at.claim.at)) at.output
+        ∙ (ap (fault_of k f.source f.output) (sym at.at) ∙ ap (λ l. fault_of l f.source f.output f.at) (sym e)))) c
 
     is_missing : (f : OutputFault) → f.kind ≡ Missing → f.at ≡ None → missing f.source f.output ≡ f
     is_missing f e n = ap (fault_of Missing f.source f.output) (sym n) ∙ ap (λ l. fault_of l f.source f.output f.at) (sym e)

@@ -88,6 +88,7 @@ sandwich c d e p q s = go (source_upto c d p) (source_upto d e q)
   where
     less_itself : place_cmp c.source e.source ≡ Less → d.source ≡ c.source
     less_itself l = let t : Less ≡ Equal = sym l ∙ place_tied c.source e.source s in absurd cc
+
     go : (place_cmp c.source d.source ≡ Less) ⊎ (c.source ≡ d.source) → (place_cmp d.source e.source ≡ Less) ⊎ (d.source ≡ e.source) → d.source ≡ c.source
     go (inr r) other = sym r
     go (inl l) (inl m) = less_itself (place_total.trans c.source d.source e.source l m)
@@ -104,6 +105,7 @@ fault_upto f g s h = ap is_gt (then_equal (place_cmp f.source g.source) _ (place
     by_kind : LaterKind (rank f.kind) (rank g.kind) f.at g.at → is_gt (ordering_then (nat_cmp (rank f.kind) (rank g.kind)) (option_cmp place_cmp f.at g.at)) ≡ false
     by_kind (inl l) = then_less _ _ (nat_less (rank f.kind) (rank g.kind) l)
     by_kind (inr r) = ap is_gt (then_equal _ _ (nat_tied (rank f.kind) (rank g.kind) r.0)) ∙ r.1
+
     rest : (f.output < g.output) ⊎ ((f.output ≡ g.output) × LaterKind (rank f.kind) (rank g.kind) f.at g.at)
         → is_gt (ordering_then (nat_cmp f.output g.output) (ordering_then (nat_cmp (rank f.kind) (rank g.kind)) (option_cmp place_cmp f.at g.at))) ≡ false
     rest (inl l) = then_less _ _ (nat_less f.output g.output l)

@@ -67,7 +67,7 @@ pub out_is : (of k : ℕ) → is_out_of_range of k ≡ true → IsOutOfRange of 
 out_is of k e = either ((of == 0) && nat_lt 0 k) (nat_lt 0 of && ((k == 0) || nat_lt of k)) e
     (λ l. let r = both_from (of == 0) (nat_lt 0 k) l in let z = eqb-true of 0 r.0 in let o = ltb-true 0 k r.1 in inl (z, omega (arith, o)))
     (λ l. let r = both_from (nat_lt 0 of) ((k == 0) || nat_lt of k) l in let o = ltb-true 0 of r.0 in
-        either (k == 0) (nat_lt of k) r.1 (λ z. let q = eqb-true k 0 z in inr (omega (arith, o), inl (omega (arith, q)))) (λ z. let q = ltb-true of k z in inr (omega (arith, o), inr q)))
+    either (k == 0) (nat_lt of k) r.1 (λ z. let q = eqb-true k 0 z in inr (omega (arith, o), inl (omega (arith, q)))) (λ z. let q = ltb-true of k z in inr (omega (arith, o), inr q)))
   where
     either : {G : Type 0} (x y : Bool) → (x || y) ≡ true → (x ≡ true → G) → (y ≡ true → G) → G
     either true y e f g = f refl
@@ -87,6 +87,7 @@ is_out of k (inr h) = or_right ((of == 0) && nat_lt 0 k) _ (and_from (nat_lt 0 o
     or_left : (x y : Bool) → x ≡ true → (x || y) ≡ true
     or_left true y e = refl
     or_left false y e = absurd cc
+
     or_right : (x y : Bool) → y ≡ true → (x || y) ≡ true
     or_right true y e = refl
     or_right false y e = e
@@ -101,6 +102,7 @@ by_is (Some v) w e =
   where
     pair : ℤ → ℤ → Option Writer
     pair p e = Some (p, e)
+
     joined : (v w : Writer) → v.0 ≡ w.0 → v.1 ≡ w.1 → pair v.0 v.1 ≡ pair w.0 w.1
     joined v w p q = ap (λ x. pair x v.1) p ∙ ap (pair w.0) q
 
@@ -116,7 +118,11 @@ passed_is a c e = let r = any_has (passes c.writer c.source) a.commits e in go c
         let r = both_from (is_by m.writer w) (is_eq (name_cmp m.partition c.source.partition) && int_lt (pos c.source.offset) m.offset) e in
         let s = both_from (is_eq (name_cmp m.partition c.source.partition)) (int_lt (pos c.source.offset) m.offset) r.1 in
         record {
-          writer = w; transactional = q; commit = m; has = h; same = by_is m.writer w r.0;
+          writer = w;
+          transactional = q;
+          commit = m;
+          has = h;
+          same = by_is m.writer w r.0;
           partition = name_exact m.partition c.source.partition (is_tied (name_cmp m.partition c.source.partition) s.0);
           past = less_is (pos c.source.offset) m.offset s.1;
         }
@@ -124,10 +130,10 @@ passed_is a c e = let r = any_has (passes c.writer c.source) a.commits e in go c
 pub is_passed_by : (a : Application) (c : PlacedClaim) → IsPassed a c → is_passed a c ≡ true
 is_passed_by a c p = has_any (passes c.writer c.source) a.commits p.commit p.has
     (subst (λ o. passes o c.source p.commit ≡ true) (sym p.transactional)
-      (and_from (is_by p.commit.writer p.writer) _ (subst (λ o. is_by o p.writer ≡ true) (sym p.same) (is_by_itself p.writer))
-        (and_from (is_eq (name_cmp p.commit.partition c.source.partition)) _
-          (ap is_eq (subst (λ n. name_cmp p.commit.partition n ≡ name_cmp p.commit.partition p.commit.partition) p.partition refl ∙ tied_itself name_total p.commit.partition))
-          (is_less_int (pos c.source.offset) p.commit.offset p.past))))
+    (and_from (is_by p.commit.writer p.writer) _ (subst (λ o. is_by o p.writer ≡ true) (sym p.same) (is_by_itself p.writer))
+    (and_from (is_eq (name_cmp p.commit.partition c.source.partition)) _
+    (ap is_eq (subst (λ n. name_cmp p.commit.partition n ≡ name_cmp p.commit.partition p.commit.partition) p.partition refl ∙ tied_itself name_total p.commit.partition))
+    (is_less_int (pos c.source.offset) p.commit.offset p.past))))
 
 -- ---- claims of an input
 

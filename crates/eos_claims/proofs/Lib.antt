@@ -3,6 +3,7 @@ pub mod CandidatesWhole
 pub mod ClaimOrder
 pub mod ClaimTests
 pub mod FaultOrder
-pub mod Neighbours
+pub mod NeighbourLists
+pub mod OnePass
 pub mod OutputsLaw
 pub mod RunMembers

@@ -4,7 +4,7 @@ use Rattle.eos_base.specs.Members.{Has}
 use Rattle.eos_base.proofs.Membership.{append_cases, append_left, append_right}
 use Rattle.eos_claims.specs.declared.fault.OutputFault.{OutputFault}
 use Rattle.eos_claims.specs.Candidates.{Counted, at_start, at_end, between, runs_after, runs}
-use Rattle.eos_claims.proofs.Neighbours.{Adjacent, IsHead, IsLast}
+use Rattle.eos_claims.proofs.NeighbourLists.{Adjacent, IsHead, IsLast}
 
 abbrev pub Shown : List Counted → OutputFault → Type 0
 Shown cs f = ((y : Counted) × IsHead cs y × Has (at_start y) f)

@@ -4,9 +4,16 @@
 //! It speaks of lists of places, claims and commits. Which records these are, a crate above says.
 #![tactic(auto)]
 
+mod claim;
 mod fault;
+mod found;
 pub mod laws;
+mod neighbours;
 mod place;
+mod tests;
 
+pub use claim::{Claim, ClaimRef, read_claim, view_claim};
 pub use fault::{OutputFault, OutputKind};
-pub use place::Place;
+pub use found::{Found, lesser};
+pub use neighbours::{NumberedClaim, least_of_runs};
+pub use place::{Place, PlaceRef};

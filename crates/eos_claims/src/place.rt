@@ -8,3 +8,10 @@ pub struct Place {
     pub partition: PartitionName,
     pub offset: u64,
 }
+
+/// A place whose name is borrowed, in the order of places.
+#[derive(Clone, Copy, PartialEq, Eq, PartialOrd, Ord)]
+pub struct PlaceRef<'a> {
+    pub partition: &'a PartitionName,
+    pub offset: u64,
+}

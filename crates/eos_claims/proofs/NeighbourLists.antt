@@ -86,6 +86,7 @@ module _ {X : Type 0} {cmp : X → X → Ordering} (o : IsTotalOrder cmp) where
     where
       lower : Turn P (w ∷ xs) w v → Turn P (u ∷ w ∷ xs) u v
       lower t = record { y = t.y; z = t.z; adjacent = inr t.adjacent; yes = t.yes; nope = t.nope; low = upto_trans o u w t.y (s.0 w (inl refl)) t.low; high = t.high }
+
       go : Has (w ∷ xs) v → P w → (Has xs v → Turn P (w ∷ xs) w v) → Turn P (u ∷ w ∷ xs) u v
       go (inl e) q rest = absurd (n (subst P e q))
       go (inr k) q rest = lower (rest k)
@@ -109,6 +110,7 @@ module _ {X : Type 0} {cmp : X → X → Ordering} (o : IsTotalOrder cmp) where
       joined (w ∷ xs) y (inl h) n = inr (x, inl (refl, h), n)
       joined [] y (inr r) n = absurd (r.1)
       joined (w ∷ xs) y (inr r) n = inr (r.0, inr r.1, r.2)
+
       go : (xs : List X) → IsInOrder cmp (x ∷ xs) → Has (x ∷ xs) v → (P x → ⊥) → (Has xs v → First P xs v) → First P (x ∷ xs) v
       go xs s (inl e) n f = absurd (n (subst P (sym e) p))
       go xs s (inr k) n f = let r = f k in record { y = r.y; yes = r.yes; low = r.low; begins = joined xs r.y r.begins n }
@@ -129,9 +131,13 @@ module _ {X : Type 0} {cmp : X → X → Ordering} (o : IsTotalOrder cmp) where
     where
       raise : (u : X) → UpTo cmp v u → Last P (w ∷ xs) u → Last P (x ∷ w ∷ xs) v
       raise u below r = record {
-        y = r.y; has = inr r.has; yes = r.yes; high = upto_trans o v u r.y below r.high;
+        y = r.y;
+        has = inr r.has;
+        yes = r.yes;
+        high = upto_trans o v u r.y below r.high;
         ends = elim r.ends [ inl l ↦ inl l | inr n ↦ inr (n.0, inr n.1, n.2) ];
       }
+
       go : Has (x ∷ w ∷ xs) v → Decided (P w) → ((u : X) → Has (w ∷ xs) u → P u → Last P (w ∷ xs) u) → Last P (x ∷ w ∷ xs) v
       go (inl e) (inl q) rest = raise w (subst (λ u. UpTo cmp u w) e (s.0 w (inl refl))) (rest w (inl refl) q)
       go (inl e) (inr n) rest = record { y = x; has = inl refl; yes = subst P (sym e) p; high = upto_same o v x (sym e); ends = inr (w, inl (refl, refl), n) }
@@ -155,9 +161,12 @@ module _ {X : Type 0} {cmp : X → X → Ordering} (o : IsTotalOrder cmp) where
   change P dec (x ∷ xs) s u v (inr k) (inl f) p n =
       let t = turn (λ d. P d → ⊥) (λ d. elim (dec d) [ inl q ↦ inr (λ g. g q) | inr m ↦ inl m ]) x xs s (λ q. n (subst P f q)) u k (λ g. g p) in
       record {
-        y = t.y; z = t.z; adjacent = t.adjacent;
+        y = t.y;
+        z = t.z;
+        adjacent = t.adjacent;
         differ = inr (t.yes, elim (dec t.z) [ inl q ↦ q | inr m ↦ absurd (t.nope m) ]);
-        low = inr (subst (λ z. UpTo cmp z t.y) f t.low); high = inl t.high;
+        low = inr (subst (λ z. UpTo cmp z t.y) f t.low);
+        high = inl t.high;
       }
   change P dec (x ∷ []) s u v (inr k) (inr l) p n = absurd k
   change P dec (x ∷ w ∷ xs) s u v (inr k) (inr l) p n =
