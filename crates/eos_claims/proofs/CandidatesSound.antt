@@ -1,6 +1,6 @@
 -- Each candidate goes after a fault that stands.
-use Rattle.std.proofs.Common.{◌≡◌, ◌≢◌, ℕ, ◌+◌, ◌≤◌, ◌<◌, ℤ, pos, ◌<ℤ◌, ◌≤ℤ◌, List, [], ◌∷◌, ◌++◌, flat_map, Option, Some, None, refl, sym, subst, ap, ◌∙◌, inl, inr, ◌⊎◌, true, false, Bool, not, ◌&&◌, if◌then◌else◌, arith}
-use Rattle.std.specs.Prelude.{nat_lt, int_lt, ◌==◌}
+use Rattle.std.proofs.Common.{◌≡◌, ◌≢◌, ◌+◌, ◌<◌, pos, List, [], ◌∷◌, ◌++◌, flat_map, refl, sym, subst, ap, ◌∙◌, inl, inr, ◌⊎◌, true, false, Bool, not, ◌&&◌, if◌then◌else◌, arith}
+use Rattle.std.specs.Prelude.{nat_lt, ◌==◌}
 use Rattle.std.specs.List.{list_any}
 use Rattle.std.specs.Ordering.{is_eq, is_lt, is_gt}
 use Rattle.std.proofs.lemmas.Bool.{eqb-true, ltb-true}
@@ -12,14 +12,14 @@ use Rattle.eos_base.proofs.Membership.{append_cases, flat_has, if_has, only}
 use Rattle.eos_claims.specs.declared.place.Place.{Place}
 use Rattle.eos_claims.specs.declared.fault.OutputFault.{OutputFault}
 use Rattle.eos_claims.specs.declared.fault.OutputKind.{OutputKind}
-use Rattle.eos_claims.specs.declared.fault.OutputKind.TheVariants.{ForeignSource, NoSuchInput, Early, CountDisagrees, NumberRange, Repeated, Missing, OtherTransaction}
+use Rattle.eos_claims.specs.declared.fault.OutputKind.TheVariants.{ForeignSource, NoSuchInput, Early, CountDisagrees, NumberRange, Repeated, OtherTransaction}
 use Rattle.eos_claims.specs.Outputs.{PlacedClaim, Application, committed_offset, IsBelow, Names}
-use Rattle.eos_claims.specs.Faults.{rank, place_cmp, number_cmp, fault_cmp, IsLeastClaim, AtClaim, IsMissing, Stands}
-use Rattle.eos_claims.specs.Candidates.{in_run as run_of, Counted, counted, claim_cmp, fault_at, missing, when, at_start, at_end, between, runs, shown, shown_by, is_source, is_input, is_committed, is_out_of_range, is_passed, names, unclaimed, candidates, IsInOrder, AreBelow}
-use Rattle.eos_claims.proofs.ClaimOrder.{InRun, in_run, outputs_rise, sandwich, same_number, fault_upto, b_or, same_place_true, same_place_false, is_less, both_from, not_eq}
+use Rattle.eos_claims.specs.Faults.{place_cmp, fault_cmp, IsLeastClaim, Stands}
+use Rattle.eos_claims.specs.Candidates.{in_run as run_of, Counted, counted, claim_cmp, fault_at, missing, when, at_start, at_end, between, runs, shown, shown_by, is_source, is_input, is_committed, is_out_of_range, is_passed, names, unclaimed, candidates, AreBelow}
+use Rattle.eos_claims.proofs.ClaimOrder.{in_run, outputs_rise, sandwich, same_number, fault_upto, same_place_true, same_place_false, is_less, both_from, not_eq}
 use Rattle.eos_claims.proofs.ClaimTests.{source_is, is_source_has, input_is, is_input_has, not_less_int, below_is, out_is, is_passed_by, less_is, is_claimed}
 use Rattle.eos_claims.proofs.FaultOrder.{fault_total, claim_total}
-use Rattle.eos_claims.proofs.NeighbourLists.{Adjacent, IsHead, IsLast, adjacent_has, adjacent_up, head_has, head_low, last_has, last_high, not_between}
+use Rattle.eos_claims.proofs.NeighbourLists.{Adjacent, adjacent_has, adjacent_up, head_has, head_low, last_has, last_high, not_between}
 use Rattle.eos_claims.proofs.OutputsLaw.{at_claim, least_claim}
 use Rattle.eos_claims.proofs.RunMembers.{runs_has}
 

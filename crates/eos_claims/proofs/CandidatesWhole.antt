@@ -1,6 +1,6 @@
 -- Each fault that stands goes after a candidate, so the least candidate is the least fault.
-use Rattle.std.proofs.Common.{◌≡◌, ◌≢◌, ℕ, ◌+◌, ◌≤◌, ◌<◌, ℤ, pos, ◌<ℤ◌, ◌≤ℤ◌, List, [], ◌∷◌, ◌++◌, flat_map, fold, Option, Some, None, refl, sym, subst, ap, ◌∙◌, inl, inr, ◌⊎◌, true, false, Bool, not, ◌&&◌, if◌then◌else◌, arith}
-use Rattle.std.specs.Prelude.{nat_lt, int_lt, ◌==◌}
+use Rattle.std.proofs.Common.{◌≡◌, ◌≢◌, ℕ, ◌+◌, ◌≤◌, ◌<◌, pos, ◌≤ℤ◌, List, [], ◌∷◌, ◌++◌, flat_map, fold, Option, Some, None, refl, sym, subst, ap, ◌∙◌, inl, inr, ◌⊎◌, true, false, Bool, not, ◌&&◌, if◌then◌else◌, arith}
+use Rattle.std.specs.Prelude.{nat_lt, ◌==◌}
 use Rattle.std.specs.List.{list_any}
 use Rattle.std.specs.Option.{option_cmp}
 use Rattle.std.specs.Ordering.{is_eq, is_lt, is_gt}
@@ -19,13 +19,13 @@ use Rattle.eos_claims.specs.declared.fault.OutputFault.{OutputFault}
 use Rattle.eos_claims.specs.declared.fault.OutputKind.{OutputKind}
 use Rattle.eos_claims.specs.declared.fault.OutputKind.TheVariants.{ForeignSource, NoSuchInput, Early, CountDisagrees, NumberRange, Repeated, Missing, OtherTransaction}
 use Rattle.eos_claims.specs.Outputs.{PlacedClaim, Application, ReadsSources, committed_offset, IsBelow, Names, IsPassed}
-use Rattle.eos_claims.specs.Faults.{rank, place_cmp, number_cmp, fault_cmp, IsLeastClaim, AtClaim, IsOutOfRange, IsTop, IsMissing, StandsAs, Stands}
-use Rattle.eos_claims.specs.Candidates.{Counted, counted, claim_cmp, fault_at, missing, when, at_start, at_end, in_run as run_of, between, runs, shown, shown_by, is_source, is_input, is_committed, is_out_of_range, is_passed, names, unclaimed, candidates, IsInOrder, AreBelow, AreApart}
+use Rattle.eos_claims.specs.Faults.{rank, place_cmp, fault_cmp, IsLeastClaim, AtClaim, IsOutOfRange, IsTop, StandsAs, Stands}
+use Rattle.eos_claims.specs.Candidates.{Counted, counted, claim_cmp, fault_at, missing, when, at_start, at_end, in_run as run_of, runs, shown, shown_by, is_source, is_input, is_committed, is_out_of_range, is_passed, names, unclaimed, candidates, AreBelow, AreApart}
 use Rattle.eos_claims.proofs.CandidatesSound.{sound}
 use Rattle.eos_claims.proofs.ClaimOrder.{LaterKind, in_run, nat_tied, outputs_rise, sandwich, same_number, fault_upto, same_place_true, true_same_place, place_tied}
 use Rattle.eos_claims.proofs.ClaimTests.{source_is, is_source_has, input_is, is_input_has, not_less_int, is_less_int, below_is, is_out, passed_is, claimed_is}
 use Rattle.eos_claims.proofs.FaultOrder.{fault_total, fault_exact, claim_total, claim_tied, place_exact, place_total}
-use Rattle.eos_claims.proofs.NeighbourLists.{Adjacent, IsHead, IsLast, adjacent_has, adjacent_up, head_has, last_has, Change, change, First, first_of, Last, last_of}
+use Rattle.eos_claims.proofs.NeighbourLists.{Adjacent, IsHead, IsLast, adjacent_has, adjacent_up, head_has, change, first_of, last_of}
 use Rattle.eos_claims.proofs.OutputsLaw.{place_decided, nat_less_or}
 use Rattle.eos_claims.proofs.RunMembers.{has_start, has_between, has_end}
 

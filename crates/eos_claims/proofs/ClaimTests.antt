@@ -1,13 +1,12 @@
 -- What each test of a candidate answers.
-use Rattle.std.proofs.Common.{◌≡◌, ◌≢◌, ℕ, ◌≤◌, ◌<◌, ℤ, pos, ◌<ℤ◌, ◌≤ℤ◌, List, [], ◌∷◌, Option, Some, None, refl, sym, subst, ap, ◌∙◌, inl, inr, ◌⊎◌, true, false, Bool, ◌&&◌, ◌||◌, arith}
-use Rattle.std.specs.Prelude.{nat_lt, int_lt, ◌==◌, ◌↔◌}
+use Rattle.std.proofs.Common.{◌≡◌, ℕ, ℤ, pos, ◌<ℤ◌, ◌≤ℤ◌, List, [], ◌∷◌, Option, Some, None, refl, sym, subst, ap, ◌∙◌, inl, inr, true, false, Bool, ◌&&◌, ◌||◌, arith}
+use Rattle.std.specs.Prelude.{nat_lt, int_lt, ◌==◌}
 use Rattle.std.specs.List.{list_any}
 use Rattle.std.specs.Ordering.{nat_cmp, int_cmp, is_eq}
 use Rattle.std.specs.Cmp.Lexicographic.{slice_cmp}
 use Rattle.std.proofs.lemmas.Bool.{eqb-true, eq-eqb, ltb-true, lt-ltb, and_from}
 use Rattle.std.proofs.lemmas.Cmp.{nat_list_cmp_total, tied_itself, int_cmp_total}
 use Rattle.std.proofs.lemmas.Int.{ints}
-use Rattle.eos_base.specs.declared.partition_name.PartitionName.{PartitionName}
 use Rattle.eos_base.specs.PartitionNames.{name_cmp}
 use Rattle.eos_base.specs.Members.{Has}
 use Rattle.eos_base.proofs.Exact.{bytes_exact, int_exact, is_tied}

@@ -1,11 +1,11 @@
 -- One pass with five slots reads the claim.
-use Rattle.std.proofs.Common.{◌≡◌, ℕ, List, [], ◌∷◌, Option, Some, None, fold, refl, sym, ap, ◌∙◌, true, false, Bool}
+use Rattle.std.proofs.Common.{◌≡◌, ℕ, List, [], ◌∷◌, Option, Some, None, fold, refl, ap, ◌∙◌, true, false, Bool}
 use Rattle.std.specs.Bool.{nat_eq}
 use Rattle.std.specs.Prelude.{codes}
 use Rattle.std.specs.Cmp.Lexicographic.{pointwise}
 use Rattle.eos_batch.specs.declared.record.Header.{Header}
-use Rattle.eos_claims.specs.Headers.{is_key, values_of, once, the_value, claim_of}
-use Rattle.eos_claims.specs.Slots.{Slot, put, kept, the, Kept, keep, blank, claim_in}
+use Rattle.eos_claims.specs.Headers.{values_of, once, the_value, claim_of}
+use Rattle.eos_claims.specs.Slots.{Slot, kept, the, Kept, keep, blank, claim_in}
 
 -- one slot, over all headers
 abbrev slot_of : List ℕ → Slot → List Header → Slot

@@ -1,5 +1,5 @@
 -- What the walk over the claims in order shows, neighbours by neighbours.
-use Rattle.std.proofs.Common.{◌≡◌, List, [], ◌∷◌, ◌++◌, refl, inl, inr, ◌⊎◌}
+use Rattle.std.proofs.Common.{◌≡◌, List, [], ◌∷◌, refl, inl, inr, ◌⊎◌}
 use Rattle.eos_base.specs.Members.{Has}
 use Rattle.eos_base.proofs.Membership.{append_cases, append_left, append_right}
 use Rattle.eos_claims.specs.declared.fault.OutputFault.{OutputFault}

@@ -1,5 +1,5 @@
 -- What values with borrowed names stand for.
-use Rattle.std.specs.Prelude.{Option, option_map}
+use Rattle.std.specs.Prelude.{option_map}
 use Rattle.eos_claims.specs.declared.place.Place.{Place}
 use Rattle.eos_claims.specs.declared.place.PlaceRef.{PlaceRef}
 use Rattle.eos_claims.specs.declared.fault.OutputFault.{OutputFault}

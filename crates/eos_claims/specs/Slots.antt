@@ -1,11 +1,11 @@
 -- What was seen of the five headers, header by header: the steps of reading a claim in one pass.
 use Rattle.std.specs.Borrow.{Bor}
-use Rattle.std.specs.Prelude.{ℕ, ℤ, pos, List, [], ◌∷◌, Option, Some, None, option_map, Bool, codes, if◌then◌else◌}
+use Rattle.std.specs.Prelude.{ℕ, pos, List, Option, Some, None, option_map, codes, if◌then◌else◌}
 use Rattle.eos_batch.specs.declared.record.Header.{Header}
 use Rattle.eos_claims.specs.declared.claim.Claim.{Claim}
 use Rattle.eos_claims.specs.declared.claim.ClaimRef.{ClaimRef}
 use Rattle.eos_claims.specs.declared.claim.Slots.{Slots}
-use Rattle.eos_claims.specs.Headers.{◌>>=◌, is_key, int32, int64}
+use Rattle.eos_claims.specs.Headers.{◌>>=◌, int32, int64}
 use Rattle.std.specs.Bool.{nat_eq}
 use Rattle.std.specs.Cmp.Lexicographic.{pointwise}
 

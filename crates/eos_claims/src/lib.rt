@@ -4,6 +4,7 @@
 //! It speaks of lists of places, claims and commits. Which records these are, a crate above says.
 #![tactic(auto)]
 
+mod alone;
 mod claim;
 mod fault;
 mod found;
@@ -12,6 +13,7 @@ mod neighbours;
 mod place;
 mod tests;
 
+pub use alone::{SourceTests, least_of_claim, least_of_input};
 pub use claim::{Claim, ClaimRef, read_claim, view_claim};
 pub use fault::{OutputFault, OutputKind};
 pub use found::{Found, lesser};

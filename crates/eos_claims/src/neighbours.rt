@@ -21,7 +21,7 @@ pub struct NumberedClaim<'a> {
 }
 
 // The claim's fault of a kind.
-fn fault_at<'a>(kind: OutputKind, claim: &NumberedClaim<'a>) -> Found<'a>
+pub(crate) fn fault_at<'a>(kind: OutputKind, claim: &NumberedClaim<'a>) -> Found<'a>
     ensures { plain_fault result ≡ claim_fault kind (plain_claim claim.entry.now) }
 {
     Found {

@@ -1,0 +1,84 @@
+//! What a claim, or an input without one, shows by itself.
+
+ghost use Rattle.std.specs.Prelude.{◌≡◌, ◌&&◌, ◌||◌, ◌==◌, not, nat_lt, option_map, fold};
+ghost use Rattle.eos_base.specs.Least.{lesser_of};
+ghost use Rattle.eos_claims.specs.Candidates.{is_out_of_range as is_out, missing as missing_fault, shown as shown_alone, when};
+ghost use Rattle.eos_claims.specs.Faults.{fault_cmp};
+ghost use Rattle.eos_claims.specs.Plain.{plain_place, plain_fault, plain_claim};
+
+use crate::fault::OutputKind;
+use crate::found::{Found, lesser, lesser_when};
+use crate::neighbours::{NumberedClaim, fault_at};
+use crate::place::PlaceRef;
+
+/// What is known of a claim's source: whether its topic is one that the application reads, whether a visible record
+/// stands there, whether that is below its committed offset, and whether the claim's transaction committed past it.
+#[derive(Clone, Copy, PartialEq, Eq)]
+pub struct SourceTests {
+    pub is_source: bool,
+    pub is_input: bool,
+    pub is_committed: bool,
+    pub is_passed: bool,
+}
+
+// Neither in 1 to the count, nor the note 0 of 0.
+fn is_out_of_range(claim: &NumberedClaim<'_>) -> bool
+    ensures { result ≡ is_out claim.now.of claim.now.output }
+{
+    if claim.of == 0 {
+        claim.output > 0
+    } else {
+        claim.output == 0 || claim.output > claim.of
+    }
+}
+
+/// The lesser of the least so far and what a claim shows by itself.
+pub fn least_of_claim<'a>(
+    best: Option<Found<'a>>,
+    tests: SourceTests,
+    claim: &NumberedClaim<'a>,
+) -> Option<Found<'a>>
+    ensures { option_map plain_fault result
+        ≡ fold (lesser_of fault_cmp) (option_map plain_fault best.entry)
+        (shown_alone tests.is_source tests.is_input tests.is_committed (is_out claim.entry.now.of claim.entry.now.output) tests.is_passed (plain_claim claim.entry.now)) }
+{
+    if !tests.is_source {
+        return lesser(best, fault_at(OutputKind::ForeignSource, claim));
+    }
+    if !tests.is_input {
+        return lesser(best, fault_at(OutputKind::NoSuchInput, claim));
+    }
+    if !tests.is_committed {
+        return lesser(best, fault_at(OutputKind::Early, claim));
+    }
+    let best = lesser_when(
+        best,
+        is_out_of_range(claim),
+        fault_at(OutputKind::NumberRange, claim),
+    );
+    lesser_when(
+        best,
+        !tests.is_passed,
+        fault_at(OutputKind::OtherTransaction, claim),
+    )
+}
+
+/// The lesser of the least so far and an input's first output, which is missing where nothing claims the input though it
+/// is below its committed offset.
+pub fn least_of_input<'a>(
+    best: Option<Found<'a>>,
+    source: PlaceRef<'a>,
+    is_committed: bool,
+    is_claimed: bool,
+) -> Option<Found<'a>>
+    ensures { option_map plain_fault result
+        ≡ fold (lesser_of fault_cmp) (option_map plain_fault best.entry) (when (is_committed && not is_claimed) (missing_fault (plain_place source.entry) 1)) }
+{
+    let missing = Found {
+        source,
+        output: 1,
+        kind: OutputKind::Missing,
+        at: None,
+    };
+    lesser_when(best, is_committed && !is_claimed, missing)
+}
