@@ -10,3 +10,4 @@ pub mod Counting
 pub mod TouchRules
 pub mod StepRules
 pub mod Computed
+pub mod BoundedEvents

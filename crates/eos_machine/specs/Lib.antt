@@ -9,3 +9,4 @@ pub mod Deliveries
 pub mod Machine
 pub mod Rest
 pub mod Runs
+pub mod Bounds

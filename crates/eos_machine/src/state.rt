@@ -24,7 +24,7 @@ pub struct Producer {
     /// The epoch of the last data.
     pub last: Option<u16>,
     /// How many data records that epoch has, which is its next sequence.
-    pub count: u32,
+    pub count: u64,
 }
 
 /// A client that works for an application.

@@ -1,0 +1,2 @@
+pub mod StateOfLog
+pub mod KeptInOrder

@@ -1,0 +1,11 @@
+//! One partition of a simulated cluster: its log, and what its broker holds of each application's producer id, which is a
+//! function of the log; and the law that whatever is asked of a broker, no fault of a sequence or an epoch stands at a
+//! batch that it appends.
+#![tactic(auto)]
+
+pub mod laws;
+mod partition_log;
+mod producer;
+
+pub use partition_log::PartitionLog;
+pub use producer::{is_epoch, is_not_above, next_sequence};
