@@ -1,17 +1,17 @@
 -- Each event keeps the numbers of a cluster within their bounds.
-use Rattle.std.proofs.Common.{◌≡◌, ℕ, ℤ, pos, negsuc, zero, suc, ◌+◌, ◌<◌, ◌≤◌, ◌^◌, ◌==◌, ◌&&◌, ◌||◌, not, Bool, true, false, List, [], ◌∷◌, ◌++◌, length, map, replicate, Option, Some, None, refl, sym, subst, arith, slice_index_or, slice_set, if◌then◌else◌}
-use Rattle.std.specs.Prelude.{slice_get, nat_lt, ⊤}
+use Rattle.std.proofs.Common.{◌≡◌, ℕ, ℤ, pos, negsuc, zero, suc, ◌+◌, ◌≤◌, ◌==◌, ◌&&◌, not, Bool, true, false, List, [], ◌∷◌, ◌++◌, length, map, replicate, Option, Some, None, refl, arith, slice_index_or, slice_set, if◌then◌else◌}
+use Rattle.std.specs.Prelude.{slice_get, ⊤}
 use Rattle.std.specs.List.{All, flat_map, range_with_len, cons_option}
-use Rattle.std.proofs.lemmas.List.Elements.{All-nil, All-cons, All-head, All-tail, All-weaker, All-push, All-append, All-map, All-set}
+use Rattle.std.proofs.lemmas.List.Elements.{All-nil, All-cons, All-head, All-tail, All-weaker, All-push, All-append, All-set}
 use Rattle.std.proofs.lemmas.Bool.{and_parts, or_parts, eqb-true}
 use Rattle.eos_batch.specs.declared.marker.Kind.{Kind}
 use Rattle.eos_batch.specs.declared.marker.Kind.TheVariants.{Abort}
-use Rattle.eos_machine.specs.Places.{Config, txn_place, input_place, listed}
+use Rattle.eos_machine.specs.Places.{Config, txn_place, input_place, place_count, listed}
 use Rattle.eos_machine.specs.World.{Claim, Status, Empty, Ongoing, Prepare, Complete, Entry, Item, Fed, State, Output, Offset, Marker, Coordinator, Session, Message, World, Event, fresh, opening, log_at, coord_at, with_item, with_coord, written, due_markers, prepared, finished, state_of}
 use Rattle.eos_machine.specs.declared.state.Message.TheVariants as messages
 use Rattle.eos_machine.specs.declared.event.Event.TheVariants as events
 use Rattle.eos_machine.specs.Logs.{entries_of, last_state}
-use Rattle.eos_machine.specs.Tests.{is_ongoing, is_prepare, has, is_current, is_nil, ongoing_partitions, waits_for}
+use Rattle.eos_machine.specs.Tests.{is_ongoing, is_prepare, has, is_current, ongoing_partitions}
 use Rattle.eos_machine.specs.Answers.{Answer, when}
 use Rattle.eos_machine.specs.Sessions.{last_epoch, new_session, sequence_of, after_output, after_offset, after_end, after_resume, produce, commit_offset, commit, end_session, resume_ended, resume, fetch}
 use Rattle.eos_machine.specs.Deliveries.{with_partition, accept, ticked_off, deliver}
@@ -300,3 +300,35 @@ bounded_event n c w events.CoordinatorRestart b =
       generation = d.generation;
     }
 bounded_event n c w (events.Deliver m) b = let d = bounded_more n w b in bounded_deliver (n + 1) c w m (slice_get w.messages m) d (message_at (n + 1) w.messages m d.messages)
+
+pub bounded_opening : (c : Config) → Bounded 0 (opening c)
+bounded_opening c = record {
+  coordinators = all_replicated (λ s. Limit s.status s.epoch) c.applications fresh (omega arith);
+  logs = all_replicated (All (IsWithin 0)) (place_count c) [] (All-nil (IsWithin 0));
+  messages = All-nil (IsSent 0);
+  sessions = All-nil (IsSafe 0);
+  generation = omega arith;
+}
+  where
+    all_replicated : {X : Type 0} (P : X → Type 0) (n : ℕ) (x : X) → P x → All P (replicate n x)
+    all_replicated P zero x h = All-nil P
+    all_replicated P (suc n) x h = All-cons P x (replicate n x) h (all_replicated P n x h)
+
+-- by the number of its own events
+abbrev pub IsBounded : World → Type 0
+IsBounded w = Bounded w.events w
+
+bounded_counted : (n : ℕ) (x : Answer) → Bounded (n + 1) x.0 → IsBounded (counted n x).0
+bounded_counted n x b = bounded_like (n + 1) x.0 _ _ _ _ _ b b.messages b.sessions b.generation
+
+step_if : (t : Bool) (x y : Answer) → IsBounded x.0 → IsBounded y.0 → IsBounded (when t x y).0
+unfolding when
+step_if true x y f g = f
+step_if false x y f g = g
+
+pub bounded_step : (c : Config) (w : World) (e : Event) → IsBounded w → IsBounded (step c w e).0
+bounded_step c w e b = step_if _ _ _ b (bounded_counted w.events (happens c w e) (bounded_event w.events c w e b))
+
+pub bounded_run : (c : Config) (w : World) (es : List Event) → IsBounded w → IsBounded (run c w es)
+bounded_run c w [] b = b
+bounded_run c w (e ∷ es) b = bounded_run c (step c w e).0 es (bounded_step c w e b)

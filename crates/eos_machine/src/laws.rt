@@ -2,7 +2,8 @@
 //! in any order, with any message lost or repeated and any member restarted. Its functions do nothing; their contracts
 //! are the laws.
 
-ghost use Rattle.std.specs.Prelude.{List};
+ghost use Rattle.std.specs.Prelude.{List, ◌≤◌, ◌^◌};
+ghost use Rattle.eos_machine.specs.Bounds.{Bounded};
 ghost use Rattle.eos_machine.specs.Places.{Config, IsConfig};
 ghost use Rattle.eos_machine.specs.World.{Event, opening};
 ghost use Rattle.eos_machine.specs.Machine.{run};
@@ -18,6 +19,12 @@ pub fn sequences_kept()
 /// At any time each record of the transaction log may follow the one before it of its transactional id.
 pub fn steps_fit()
     ensures { (c : Config) (es : List Event) → IsConfig c → StepsFit c (run c (opening c) es) }
+{}
+
+/// At any time epochs are at most 32767, those of data at most 32766, and sequences below the number of events taken,
+/// which is at most 2^31: all fit the fields of the logs.
+pub fn numbers_fit()
+    ensures { (c : Config) (es : List Event) → Bounded (run c (opening c) es).events (run c (opening c) es) × ((run c (opening c) es).events ≤ 2 ^ 31) }
 {}
 
 /// At rest the batches, the markers and the decisions of each application fit together: each batch is ended by the
