@@ -1,101 +1,74 @@
 -- What the tests of a spec give, one step after the other.
-use Rattle.std.proofs.Common.{◌≡◌, ◌<◌, ◌≤◌, List, [], ◌∷◌, ◌++◌, Bool, true, false, ◌&&◌, nat_le, Ok, Err, pos, int_le, length, refl, ap, sym, ◌∙◌, arith}
+use Rattle.std.proofs.Common.{◌≡◌, ◌<◌, ◌≤◌, List, [], ◌∷◌, true, false, nat_le, Ok, Err, length, refl, ap, sym, arith, IsPermutation}
+use Rattle.std.proofs.Math.Bool.{and-false}
 use Rattle.std.proofs.lemmas.Bool.Decides.{nat_tests}
+use Rattle.std.proofs.lemmas.List.Elements.{All-from_recursion, recursion_from_All}
+use Rattle.std.proofs.lemmas.List.Sorted.{All-permutation, IsPermutation-refl}
 use Rattle.std.specs.Cmp.{first_so, second_so}
-use Rattle.std.specs.List.{list_any, list_all, AllByRecursion}
-use Rattle.std.specs.List.Sorted.{IsStrictlySortedBy}
-use Rattle.std.specs.Ordering.{is_eq, match_ordering}
-use Rattle.std.specs.declared.cmp.Ordering.{Ordering}
-use Rattle.std.specs.declared.cmp.Ordering.TheVariants.{Less, Equal, Greater}
+use Rattle.std.specs.List.{list_all, AllByRecursion}
 use Rattle.eos_evidence.specs.declared.ends.End.{End}
 use Rattle.eos_evidence.specs.declared.fault.SpecFault.TheVariants as faults
-use Rattle.eos_evidence.specs.Topics.{is_topic}
-use Rattle.eos_evidence.specs.Ends.{end_cmp, is_legal_end, are_apart, insert_end, ordered}
-use Rattle.eos_evidence.specs.OrderedEnds.{IsInOrder}
-use Rattle.eos_evidence.specs.Parts.{Parts, are_legal_topics, accepted, IsAccepted}
+use Rattle.eos_evidence.specs.Ends.{is_legal_end, are_apart}
+use Rattle.eos_evidence.specs.Parts.{Parts, are_legal_apps, accepted, IsAccepted}
+use Rattle.eos_evidence.specs.steps.OrderedEnds.{IsInOrder}
+use Rattle.eos_evidence.proofs.EndsInOrder.{in_order_is}
 
-pub refused_topics : (given : Parts) → are_legal_topics (given.sources ++ given.outputs) ≡ false → accepted given ≡ Err faults.Field
+pub refused_apps : (given : Parts) → are_legal_apps given.apps ≡ false → accepted given ≡ Err faults.Field
 unfolding accepted
-refused_topics given topics = rw topics refl
+refused_apps given apps = rw apps refl
 
-pub refused_ends : (given : Parts) → are_legal_topics (given.sources ++ given.outputs) ≡ true → list_all is_legal_end given.ends ≡ false → accepted given ≡ Err faults.Field
+pub refused_ends : (given : Parts) → are_legal_apps given.apps ≡ true → list_all is_legal_end given.ends ≡ false → accepted given ≡ Err faults.Field
 unfolding accepted
-refused_ends given topics ends = rw (topics, ends) refl
+refused_ends given apps ends = rw (apps, ends) refl
 
-pub refused_twice : (given : Parts) → are_legal_topics (given.sources ++ given.outputs) ≡ true → list_all is_legal_end given.ends ≡ true → are_apart given.ends ≡ false
-    → accepted given ≡ Err faults.Field
+pub refused_twice : (given : Parts) → are_legal_apps given.apps ≡ true → list_all is_legal_end given.ends ≡ true → are_apart given.ends ≡ false → accepted given ≡ Err faults.Field
 unfolding accepted
-refused_twice given topics ends twice = rw (topics, ends, twice) refl
+refused_twice given apps ends twice = rw (apps, ends, twice) refl
 
--- what passed before the number of partitions is looked at
+-- what passed before the limits are looked at
 pub record Passed (given : Parts) (list : List End) : Type 0 where
-  pub topics : are_legal_topics (given.sources ++ given.outputs) ≡ true
+  pub apps : are_legal_apps given.apps ≡ true
   pub ends : list_all is_legal_end given.ends ≡ true
   pub in_order : IsInOrder given.ends list
 
-pub past_the_limit : (given : Parts) (list : List End) → Passed given list → 4096 < length list → accepted given ≡ Err faults.Limit
+pub too_many_apps : (given : Parts) (list : List End) → Passed given list → 256 < length given.apps → accepted given ≡ Err faults.Limit
 unfolding accepted
-past_the_limit given list passed more =
-    let many : nat_le (length given.ends) 4096 ≡ false = grind (arith, nat_tests, passed.in_order.as_many) in
-    rw (passed.topics, passed.ends, passed.in_order.apart, many) refl
+too_many_apps given list passed more =
+    let many : nat_le (length given.apps) 256 ≡ false = grind (arith, nat_tests, more) in
+    rw (passed.apps, passed.ends, passed.in_order.apart, many) refl
 
-pub gives_parts : (given : Parts) (list : List End) → Passed given list → length list ≤ 4096 → accepted given ≡ Ok (record given { ends = list })
+pub too_many_ends : (given : Parts) (list : List End) → Passed given list → 4096 < length list → accepted given ≡ Err faults.Limit
 unfolding accepted
-gives_parts given list passed few =
-    let within : nat_le (length given.ends) 4096 ≡ true = grind (arith, nat_tests, passed.in_order.as_many) in
-    rw (passed.topics, passed.ends, passed.in_order.apart, within) (ap (λ l. Ok (record given { ends = l })) (sym passed.in_order.list_is))
+too_many_ends given list passed more =
+    let many : nat_le (length given.ends) 4096 ≡ false = grind (arith, nat_tests, passed.in_order.as_many, more) in
+    rw (passed.apps, passed.ends, passed.in_order.apart, many, and-false (nat_le (length given.apps) 256)) refl
 
-both : (a b : Bool) → a ≡ true → b ≡ true → (a && b) ≡ true
-both a b h g = rw (h, g) refl
+pub gives_parts : (given : Parts) (list : List End) → Passed given list → length given.apps ≤ 256 → length list ≤ 4096 → accepted given ≡ Ok (record given { ends = list })
+unfolding accepted
+gives_parts given list passed few_apps few =
+    let apps : nat_le (length given.apps) 256 ≡ true = grind (arith, nat_tests, few_apps) in
+    let ends : nat_le (length given.ends) 4096 ≡ true = grind (arith, nat_tests, passed.in_order.as_many, few) in
+    rw (passed.apps, passed.ends, passed.in_order.apart, apps, ends) (ap (λ l. Ok (record given { ends = l })) (sym passed.in_order.list_is))
 
--- an end that takes the place of one of the same partition
-legal_there : (e f : End) → is_legal_end e ≡ true → is_legal_end f ≡ true → is_legal_end (record f { end = e.end }) ≡ true
-legal_there e f one other = both _ _ (first_so (is_topic f.topic && int_le (pos 0) f.partition) _ other) (second_so (is_topic e.topic && int_le (pos 0) e.partition) _ one)
+each_legal : (es : List End) → list_all is_legal_end es ≡ true → AllByRecursion (λ e. is_legal_end e ≡ true) es
+each_legal [] h = tt
+each_legal (e ∷ es) h = (first_so (is_legal_end e) (list_all is_legal_end es) h, each_legal es (second_so (is_legal_end e) (list_all is_legal_end es) h))
 
-legal_insert : (e : End) (fs : List End) → is_legal_end e ≡ true → list_all is_legal_end fs ≡ true → list_all is_legal_end (insert_end e fs) ≡ true
-unfolding insert_end
-legal_insert e [] one others = both _ _ one refl
-legal_insert e (f ∷ fs) one others = by (end_cmp e f) (first_so (is_legal_end f) (list_all is_legal_end fs) others) (second_so (is_legal_end f) (list_all is_legal_end fs) others)
-    (legal_insert e fs one (second_so (is_legal_end f) (list_all is_legal_end fs) others))
-  where
-    by : (o : Ordering) → is_legal_end f ≡ true → list_all is_legal_end fs ≡ true → list_all is_legal_end (insert_end e fs) ≡ true
-        → list_all is_legal_end (match_ordering o (e ∷ f ∷ fs) (record f { end = e.end } ∷ fs) (f ∷ insert_end e fs)) ≡ true
-    by Less here rest later = both _ _ one others
-    by Equal here rest later = both _ _ (legal_there e f one here) rest
-    by Greater here rest later = both _ _ here later
+all_legal : (es : List End) → AllByRecursion (λ e. is_legal_end e ≡ true) es → list_all is_legal_end es ≡ true
+all_legal [] h = refl
+all_legal (e ∷ es) h = rw (h.0, all_legal es h.1) refl
 
-legal_ordered : (es : List End) → list_all is_legal_end es ≡ true → list_all is_legal_end (ordered es) ≡ true
-unfolding ordered
-legal_ordered [] h = refl
-legal_ordered (e ∷ es) h = legal_insert e (ordered es) (first_so (is_legal_end e) (list_all is_legal_end es) h) (legal_ordered es (second_so (is_legal_end e) (list_all is_legal_end es) h))
-
-none_equal : (e : End) (fs : List End) → AllByRecursion (λ f. end_cmp e f ≡ Less) fs → list_any (λ f. is_eq (end_cmp e f)) fs ≡ false
-none_equal e [] h = refl
-none_equal e (f ∷ fs) h = rw (h.0, none_equal e fs h.1) refl
-
-apart_ascending : (es : List End) → IsStrictlySortedBy end_cmp es → are_apart es ≡ true
-unfolding IsStrictlySortedBy
-apart_ascending [] h = refl
-apart_ascending (e ∷ es) h = rw (none_equal e es h.0, apart_ascending es h.1) refl
-
-insert_least : (e : End) (fs : List End) → AllByRecursion (λ f. end_cmp e f ≡ Less) fs → insert_end e fs ≡ e ∷ fs
-unfolding insert_end
-insert_least e [] h = refl
-insert_least e (f ∷ fs) h = rw h.0 refl
-
--- what stands in order stays so
-pub ordered_ascending : (es : List End) → IsStrictlySortedBy end_cmp es → ordered es ≡ es
-unfolding ordered IsStrictlySortedBy
-ordered_ascending [] h = refl
-ordered_ascending (e ∷ es) h = ap (insert_end e) (ordered_ascending es h.1) ∙ insert_least e es h.0
+-- the same ends in another order are legal too
+pub legal_too : (es fs : List End) → IsPermutation es fs → list_all is_legal_end es ≡ true → list_all is_legal_end fs ≡ true
+legal_too es fs same legal = all_legal fs (recursion_from_All (λ e. is_legal_end e ≡ true) fs
+    (All-permutation (λ e. is_legal_end e ≡ true) es fs same (All-from_recursion (λ e. is_legal_end e ≡ true) es (each_legal es legal))))
 
 -- the tests accept again what they gave
-pub is_accepted : (given : Parts) (list : List End) → Passed given list → length list ≤ 4096 → IsAccepted (record given { ends = list })
-is_accepted given list passed few =
-    let up = passed.in_order.ascending in
+pub is_accepted : (given : Parts) (list : List End) → Passed given list → length given.apps ≤ 256 → length list ≤ 4096 → IsAccepted (record given { ends = list })
+is_accepted given list passed few_apps few =
     let again : Passed (record given { ends = list }) list = record {
-      topics = passed.topics;
-      ends = ap (list_all is_legal_end) passed.in_order.list_is ∙ legal_ordered given.ends passed.ends;
-      in_order = record { apart = apart_ascending list up; list_is = sym (ordered_ascending list up); ascending = up; as_many = refl };
+      apps = passed.apps;
+      ends = legal_too given.ends list passed.in_order.shuffled passed.ends;
+      in_order = in_order_is list list (IsPermutation-refl list) passed.in_order.ascending;
     } in
-    record { as_it_is = gives_parts _ list again few; ascending = up }
+    record { as_it_is = gives_parts _ list again few_apps few; ascending = passed.in_order.ascending }

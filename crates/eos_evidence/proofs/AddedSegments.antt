@@ -1,18 +1,18 @@
 -- What one segment more makes of the partitions.
-use Rattle.std.proofs.Common.{◌≡◌, ℕ, zero, suc, ◌+◌, ◌<◌, ◌≤◌, ◌^◌, pos, List, [], ◌∷◌, Bool, true, false, cond, ◌&&◌, ◌||◌, if◌then◌else◌, None, Some, Result, Ok, Err, IsOk, int_lt, length, map, find, position, get_or, set, nat_le, nat_lt, refl, ap, sym, ◌∙◌, subst, arith, length-append}
-use Rattle.std.proofs.lemmas.Bool.{ltb-false, leb-false}
+use Rattle.std.proofs.Common.{◌≡◌, ℕ, zero, suc, ◌+◌, ◌<◌, ◌≤◌, ◌^◌, pos, List, [], ◌∷◌, Bool, true, false, cond, ◌&&◌, ◌||◌, if◌then◌else◌, None, Some, Result, Ok, Err, IsOk, IfOk, IfErr, int_lt, length, map, find, get_or, set, nat_le, nat_lt, refl, ap, sym, ◌∙◌, subst, arith, length-append}
+use Rattle.std.proofs.lemmas.Bool.{ltb-true, ltb-false, leb-false}
 use Rattle.std.proofs.lemmas.Cmp.{int_cmp_total}
 use Rattle.std.proofs.lemmas.Int.{ints}
-use Rattle.std.proofs.lemmas.List.Quantifiers.{position-Some}
-use Rattle.std.proofs.lemmas.List.Folds.{find_at}
+use Rattle.std.proofs.lemmas.List.Sorted.{searchable_from_sorted}
+use Rattle.std.proofs.lemmas.Map.Keys.{Less-from_sorted}
 use Rattle.std.proofs.lemmas.Map.Text.{is_eq-slice_cmp}
-use Rattle.std.proofs.lemmas.Option.{slice_get_past}
+use Rattle.std.proofs.Math.ListN.{length-set}
 use Rattle.std.proofs.Math.Seq.{map-set_same}
 use Rattle.std.specs.Cmp.{tied_then, Equal-is}
 use Rattle.std.specs.Cmp.Lexicographic.{slice_cmp}
-use Rattle.std.specs.List.{AllByRecursion, position_or_len}
-use Rattle.std.specs.List.Sorted.{IsStrictlySortedBy}
-use Rattle.std.specs.Ordering.{nat_cmp, int_cmp, int_eq, is_eq, on}
+use Rattle.std.specs.List.{AllByRecursion}
+use Rattle.std.specs.List.Sorted.{IsSortedBy, IsStrictlySortedBy, IsSearchInRange, IsBinarySearchResult}
+use Rattle.std.specs.Ordering.{nat_cmp, int_cmp, int_eq, is_eq, is_lt, on, ordering_reverse}
 use Rattle.std.specs.declared.cmp.Ordering.{Ordering}
 use Rattle.std.specs.declared.cmp.Ordering.TheVariants.{Less, Equal, Greater}
 use Rattle.eos_evidence.specs.declared.ends.End.{End}
@@ -22,20 +22,12 @@ use Rattle.eos_evidence.specs.declared.fault.AddFault.{AddFault}
 use Rattle.eos_evidence.specs.declared.fault.AddFault.TheVariants as faults
 use Rattle.eos_evidence.specs.Ends.{end_cmp}
 use Rattle.eos_evidence.specs.Parts.{Parts, IsAccepted}
-use Rattle.eos_evidence.specs.SegmentPlaces.{IsFirst, MayTake}
+use Rattle.eos_evidence.specs.steps.SegmentPlaces.{own_end, IsFirst, MayTake, IsBuilt}
 use Rattle.eos_evidence.specs.Evidence.{AddAnswers, EvidenceParts, IsOwn, IsPartition, IsRising, IsEvidence, IsCounted, is_in, has_base, insert_segment, with_segment, segments_of, is_past_limit, added, empty_partition}
 use Rattle.eos_evidence.proofs.EndsInOrder.{end_total}
 
 abbrev named : Segment → Partition → Bool
 named s p = is_in s p.end
-
-pub first_of_position : (s : Segment) (ps : List Partition) (at : ℕ) → position (named s) ps ≡ Some at → IsFirst s ps at
-first_of_position s [] at is = absurd (cc is)
-first_of_position s (p ∷ ps) at is = record {
-  within = (position-Some (named s) (p ∷ ps) at p is).0;
-  here = λ e. (position-Some (named s) (p ∷ ps) at e is).1;
-  before = λ k e. (position-Some (named s) (p ∷ ps) at e is).2 k;
-}
 
 later : (s : Segment) (p : Partition) (ps : List Partition) (k : ℕ) → IsFirst s (p ∷ ps) (suc k) → IsFirst s ps k
 later s p ps k first = record {
@@ -44,24 +36,12 @@ later s p ps k first = record {
   before = λ i d lt. first.before (suc i) d (omega arith);
 }
 
-cond_none : (t : Bool) (n : ℕ) → cond t (Some n) None ≡ None → t ≡ false
-cond_none true n e = cc
-cond_none false n e = refl
-
-pub none_of_position : (s : Segment) (ps : List Partition) → position (named s) ps ≡ None → find (named s) ps ≡ None
-none_of_position s ps is =
-    let past : length ps ≤ position_or_len (named s) ps = ltb-false _ _ (cond_none (nat_lt (position_or_len (named s) ps) (length ps)) _ is) in
-    find_at (named s) ps ∙ slice_get_past ps (position_or_len (named s) ps) past
-
 pub found_first : (s : Segment) (ps : List Partition) (at : ℕ) (d : Partition) → IsFirst s ps at → find (named s) ps ≡ Some (get_or ps at d)
 found_first s [] at d first = absurd (omega (arith, first.within))
 found_first s (p ∷ ps) zero d first = rw (first.here d) refl
 found_first s (p ∷ ps) (suc k) d first = rw (first.before 0 d (omega arith)) (found_first s ps k d (later s p ps k first))
 
 -- ---- a segment is in one partition at most
-
-abbrev own_end : Segment → End
-own_end s = record { topic = s.topic; partition = s.partition; end = s.base }
 
 in_is : (s : Segment) (e : End) → is_in s e ≡ is_eq (end_cmp (own_end s) e)
 in_is s e = ap (λ b. b && int_eq s.partition e.partition) (sym (is_eq-slice_cmp s.topic e.topic)) ∙ tied_then (slice_cmp nat_cmp s.topic e.topic) (int_cmp s.partition e.partition)
@@ -84,6 +64,58 @@ unfolding IsStrictlySortedBy
 with_is_set s [] at d up first = absurd (omega (arith, first.within))
 with_is_set s (p ∷ ps) zero d up first = rw (first.here d) (ap (λ l. held s p ∷ l) (unchanged s p.end ps (first.here d) up.0))
 with_is_set s (p ∷ ps) (suc k) d up first = rw (first.before 0 d (omega arith)) (ap (λ l. p ∷ l) (with_is_set s ps k d up.1 (later s p ps k first)))
+
+-- ---- the partition of a name, by halving
+
+by_ends : (ps : List Partition) → IsStrictlySortedBy end_cmp (map (λ p. p.end) ps) → IsStrictlySortedBy (on (λ p. p.end) end_cmp) ps
+unfolding IsStrictlySortedBy
+by_ends [] up = tt
+by_ends (p ∷ ps) up = (above ps up.0, by_ends ps up.1)
+  where
+    above : (qs : List Partition) → AllByRecursion (λ e. end_cmp p.end e ≡ Less) (map (λ q. q.end) qs) → AllByRecursion (λ q. end_cmp p.end q.end ≡ Less) qs
+    above [] all = tt
+    above (q ∷ qs) all = (all.0, above qs all.1)
+
+names_ascend : (ps : List Partition) → IsStrictlySortedBy (on (λ p. p.end) end_cmp) ps → IsSortedBy (λ a b. is_lt (end_cmp a.end b.end)) ps
+names_ascend ps up k d low high =
+    let less : end_cmp (get_or ps k d).end (get_or ps (k + 1) d).end ≡ Less = Less-from_sorted (on (λ p. p.end) end_cmp) ps k (k + 1) d up (omega arith) high in
+    ap is_lt (end_total.antisymm (get_or ps (k + 1) d).end (get_or ps k d).end ∙ ap ordering_reverse less)
+
+none_found : (s : Segment) (ps : List Partition) → ((k : ℕ) (d : Partition) → k < length ps → named s (get_or ps k d) ≡ false) → find (named s) ps ≡ None
+none_found s [] none = refl
+none_found s (p ∷ ps) none = rw (none 0 p (omega arith)) (none_found s ps (λ k d lt. none (suc k) d (omega arith)))
+
+-- how a name stands to another, seen from the segment
+seen : (s : Segment) (e : End) (o : Ordering) → end_cmp e (own_end s) ≡ o → is_in s e ≡ is_eq (ordering_reverse o)
+seen s e o is = in_is s e ∙ ap is_eq (end_total.antisymm (own_end s) e ∙ ap ordering_reverse is)
+
+below : (e f own : End) → end_cmp e f ≡ Less → end_cmp f own ≡ Equal → end_cmp e own ≡ Less
+below e f own less tied =
+    end_total.antisymm e own ∙ ap ordering_reverse (end_total.congr own f e (end_total.antisymm own f ∙ ap ordering_reverse tied) ∙ end_total.antisymm f e ∙ ap ordering_reverse less)
+
+-- before the place or from it on
+pub parted_at : (P : Type 0) (k at : ℕ) → (k < at → P) → (at ≤ k → P) → P
+parted_at P k at before after = by (nat_lt k at) refl
+  where
+    by : (b : Bool) → nat_lt k at ≡ b → P
+    by true is = before (ltb-true _ _ is)
+    by false is = after (ltb-false _ _ is)
+
+-- a binary search finds the segment's partition, or there is none
+pub found_by : (s : Segment) (ps : List Partition) (r : Result ℕ ℕ) → IsStrictlySortedBy end_cmp (map (λ p. p.end) ps) → IsSearchInRange r (length ps)
+    → IsBinarySearchResult (λ p. end_cmp p.end (own_end s)) ps r → IfOk r (IsFirst s ps) × IfErr r (λ at. find (named s) ps ≡ None)
+found_by s ps (Ok at) up within equal =
+    let before : (k : ℕ) (d : Partition) → k < at → is_in s (get_or ps k d).end ≡ false = λ k d lt.
+    (let less : end_cmp (get_or ps k d).end (get_or ps at d).end ≡ Less = Less-from_sorted (on (λ p. p.end) end_cmp) ps k at d (by_ends ps up) lt within in
+    seen s (get_or ps k d).end Less (below (get_or ps k d).end (get_or ps at d).end (own_end s) less (equal d))) in
+    (record { within = within; here = λ d. seen s (get_or ps at d).end Equal (equal d); before = before }, tt)
+found_by s ps (Err at) up within parted =
+    let parts = parted (searchable_from_sorted end_total (λ p. p.end) ps (own_end s) (names_ascend ps (by_ends ps up))) in (
+      tt,
+      none_found s ps (λ k d lt. parted_at (named s (get_or ps k d) ≡ false) k at
+          (λ before. seen s (get_or ps k d).end Less (parts.0 k d (omega arith) before))
+          (λ after. seen s (get_or ps k d).end Greater (parts.1 k d after lt))),
+    )
 
 -- ---- one segment more
 
@@ -162,9 +194,9 @@ some_of : (ps : List Partition) (at : ℕ) → at < length ps → Partition
 some_of [] at within = absurd (omega (arith, within))
 some_of (p ∷ ps) at within = p
 
-pub refused_unnamed : (e : EvidenceParts) (s : Segment) → position (named s) e.partitions ≡ None → added e s ≡ Err faults.Name
+pub refused_unnamed : (e : EvidenceParts) (s : Segment) → find (named s) e.partitions ≡ None → added e s ≡ Err faults.Name
 unfolding added
-refused_unnamed e s none = rw (none_of_position s e.partitions none) refl
+refused_unnamed e s none = rw none refl
 
 pub refused_base : (e : EvidenceParts) (s : Segment) (at : ℕ) → IsFirst s e.partitions at → int_lt s.base (pos 0) ≡ true → added e s ≡ Err faults.Name
 unfolding added
@@ -205,7 +237,7 @@ still_counted e s at count d counted may small few absent =
     let evidence = counted.evidence_is in
     let first = may.first in
     let longer = one_more_segment s e.partitions at d first.within in
-    let own : IsOwn (get_or e.partitions at d).end s = record { named = first.here d; base = grind (arith, ints, may.base); size = small } in
+    let own : IsOwn (get_or e.partitions at d).end s = record { named = first.here d; base = grind (arith, ints, may.base); width = grind (arith, ints, may.fits); size = small } in
     record {
       evidence_is = record {
         accepted = evidence.accepted;
@@ -271,3 +303,8 @@ counted_at e s at count p q counted may is absent q_is =
     let few : length (segments_of e.partitions) < 65536 = leb-false _ _ (or_second (nat_lt (2 ^ 30) (length s.bytes)) (nat_le 65536 (length (segments_of e.partitions))) may.within) in
     subst (λ x. IsCounted (record e { partitions = set e.partitions at x }) (count + 1)) (ap (held s) (sym is) ∙ sym q_is)
     (still_counted e s at count p counted may small (omega (arith, few, counted.count_is)) (subst (λ x. has_base s.base x.segments ≡ false) is (not_true _ absent)))
+
+-- what the builder holds beside the evidence stays as it is
+pub still_built : (e : EvidenceParts) (at : ℕ) (q : Partition) (firsts : List ℕ) (count more : ℕ) → IsBuilt e firsts count
+    → IsCounted (record e { partitions = set e.partitions at q }) more → IsBuilt (record e { partitions = set e.partitions at q }) firsts more
+still_built e at q firsts count more built counted = record { counted = counted; as_many = built.as_many ∙ sym (length-set e.partitions at q) }

@@ -19,10 +19,10 @@ use Rattle.serde_json.specs.declared.value.Value.{Value}
 use Rattle.serde_json.specs.Find.{as_number, as_i64}
 use Rattle.serde_json.specs.Data.{Data, Members, no_members, member, put, depth, members_depth}
 use Rattle.eos_evidence.specs.declared.ends.End.{End}
-use Rattle.eos_evidence.specs.Ends.{end_cmp, insert_end, ordered}
+use Rattle.eos_evidence.specs.Ends.{end_cmp}
 use Rattle.eos_evidence.specs.Manifest.{end_of, ends_of}
 use Rattle.eos_evidence.specs.PartitionNames.{partition_of}
-use Rattle.eos_evidence.specs.WrittenEnds.{HoldsEnds}
+use Rattle.eos_evidence.specs.steps.WrittenEnds.{HoldsEnds}
 use Rattle.eos_evidence.proofs.EndsInOrder.{end_total}
 
 abbrev pub AllBelow : End → List End → Type 0
@@ -30,48 +30,6 @@ AllBelow e = AllByRecursion (λ x. end_cmp x e ≡ Less)
 
 greater : (x e : End) → end_cmp x e ≡ Less → end_cmp e x ≡ Greater
 greater x e less = end_total.antisymm e x ∙ ap ordering_reverse less
-
-insert_last : (e : End) (xs : List End) → AllBelow e xs → insert_end e xs ≡ xs ++ e ∷ []
-unfolding insert_end
-insert_last e [] below = refl
-insert_last e (x ∷ xs) below = rw (greater x e below.0) (ap (λ l. x ∷ l) (insert_last e xs below.1))
-
-insert_before_last : (x e : End) (xs : List End) → end_cmp x e ≡ Less → insert_end x (xs ++ e ∷ []) ≡ insert_end x xs ++ e ∷ []
-unfolding insert_end
-insert_before_last x e [] less = rw less refl
-insert_before_last x e (y ∷ ys) less = by (end_cmp x y) (insert_before_last x e ys less)
-  where
-    by : (o : Ordering) → insert_end x (ys ++ e ∷ []) ≡ insert_end x ys ++ e ∷ []
-        → match_ordering o (x ∷ y ∷ (ys ++ e ∷ [])) (record y { end = x.end } ∷ (ys ++ e ∷ [])) (y ∷ insert_end x (ys ++ e ∷ []))
-        ≡ match_ordering o (x ∷ y ∷ ys) (record y { end = x.end } ∷ ys) (y ∷ insert_end x ys) ++ e ∷ []
-    by Less later = refl
-    by Equal later = refl
-    by Greater later = ap (λ l. y ∷ l) later
-
-below_insert : (e x : End) (xs : List End) → end_cmp x e ≡ Less → AllBelow e xs → AllBelow e (insert_end x xs)
-unfolding insert_end
-below_insert e x [] less below = (less, tt)
-below_insert e x (y ∷ ys) less below = by (end_cmp x y) (below_insert e x ys less below.1)
-  where
-    by : (o : Ordering) → AllBelow e (insert_end x ys) → AllBelow e (match_ordering o (x ∷ y ∷ ys) (record y { end = x.end } ∷ ys) (y ∷ insert_end x ys))
-    by Less later = (less, (below.0, below.1))
-    by Equal later = (below.0, below.1)
-    by Greater later = (below.0, later)
-
-below_ordered : (e : End) (xs : List End) → AllBelow e xs → AllBelow e (ordered xs)
-unfolding ordered
-below_ordered e [] below = tt
-below_ordered e (x ∷ xs) below = below_insert e x (ordered xs) below.0 (below_ordered e xs below.1)
-
-below_rest : (e : End) (front back : List End) → AllBelow e (front ++ back) → AllBelow e back
-below_rest e [] back below = below
-below_rest e (x ∷ xs) back below = below_rest e xs back below.1
-
--- an end above all others comes last, wherever it stands
-ordered_last : (e : End) (front back : List End) → AllBelow e (front ++ back) → ordered (front ++ e ∷ back) ≡ ordered (front ++ back) ++ e ∷ []
-unfolding ordered
-ordered_last e [] back below = insert_last e (ordered back) (below_ordered e back below)
-ordered_last e (x ∷ xs) back below = ap (insert_end x) (ordered_last e xs back below.1) ∙ insert_before_last x e (ordered (xs ++ back)) below.0
 
 -- ---- the members with one more
 
@@ -160,7 +118,6 @@ written_on ms passed e name d holds is below flat =
       given_is = p.reads;
       shuffled = IsPermutation-trans _ _ _ (IsPermutation-append_left (e ∷ []) passed (p.front ++ p.back) shuffled)
           (IsPermutation-trans _ _ _ (IsPermutation-to_front (p.front ++ p.back) e) (IsPermutation-sym _ _ (IsPermutation-middle p.front e p.back)));
-      in_order = ordered_last e p.front p.back (subst (AllBelow e) p.parts given_below) ∙ ap (λ l. ordered l ++ e ∷ []) (sym p.parts) ∙ ap (λ l. l ++ e ∷ []) holds.in_order;
       flat = flat_put name d ms flat holds.flat;
     }
 
@@ -177,8 +134,7 @@ below_next (e ∷ es) zero d lt up = tt
 below_next (e ∷ es) (suc k) d lt up = (less_at e es k d (omega arith) up.0, below_next es k d (omega arith) up.1)
 
 pub none_written : (es : List Entry) (ends : List End) → es ≡ [] → HoldsEnds (members_view es) (take 0 ends)
-unfolding ordered
-none_written es ends empty = subst (λ l. HoldsEnds (members_view l) []) (sym empty) (record { given = []; given_is = refl; shuffled = IsPermutation-refl []; in_order = refl; flat = refl })
+none_written es ends empty = subst (λ l. HoldsEnds (members_view l) []) (sym empty) (record { given = []; given_is = refl; shuffled = IsPermutation-refl []; flat = refl })
 
 pub one_inserted : (es after : List Entry) (k : String Global) (v : Value) (ends : List End) (i : ℕ) (e : End) → HoldsEnds (members_view es) (take i ends) → after ≡ insert_entry string_cmp es k v
     → i < length ends → e ≡ get_or ends i e → IsStrictlySortedBy end_cmp ends → end_of (string_bytes k) (view v) ≡ Some e → depth (view v) ≡ 0 → HoldsEnds (members_view after) (take (i + 1) ends)

@@ -2,10 +2,11 @@ pub mod AcceptedParts
 pub mod AddedSegments
 pub mod EndsInOrder
 pub mod EndsWritten
+pub mod LegalApps
 pub mod ManifestParts
 pub mod NamesOfPartitions
 pub mod PieceAt
 pub mod SegmentOrder
 pub mod SpecsWritten
-pub mod UnequalTopics
+pub mod NamesApart
 pub mod WrittenSpecs

@@ -1,14 +1,16 @@
 -- What a manifest says, part by part.
-use Rattle.std.proofs.Common.{◌≡◌, List, ℕ, Bool, true, false, Option, None, Some, Result, Ok, Err, IsUtf8, codes, if◌then◌else◌, refl, sym, ap}
+use Rattle.std.proofs.Common.{◌≡◌, List, ℕ, Bool, true, false, Option, None, Some, Result, Ok, Err, IsUtf8, if◌then◌else◌, refl, sym, ap, ◌∙◌}
 use Rattle.std.proofs.lemmas.Str.{IsUtf8-from_is_utf8}
 use Rattle.std.specs.Str.{is_utf8}
 use Rattle.serde_json.specs.Data.{Data}
 use Rattle.serde_json.specs.Read.{read as read_text}
+use Rattle.eos_evidence.specs.declared.application.App.{App}
 use Rattle.eos_evidence.specs.declared.ends.End.{End}
 use Rattle.eos_evidence.specs.declared.fault.SpecFault.{SpecFault}
 use Rattle.eos_evidence.specs.declared.fault.SpecFault.TheVariants as faults
+use Rattle.eos_evidence.specs.declared.manifest_reader.Version.{Version}
 use Rattle.eos_evidence.specs.Parts.{Answers}
-use Rattle.eos_evidence.specs.Manifest.{group_in, topics_in, ends_in, version_in, version_test, after_version, accepted_parts, manifest_of, said_by, spec_said_by}
+use Rattle.eos_evidence.specs.Manifest.{apps_in, ends_in, version_in, version_test, accepted_parts, said_in, manifest_of, said_by, spec_said_by}
 
 pub answers_fault : {X : Type 0} (said : Result X SpecFault) (fault : SpecFault) → said ≡ Err fault → Answers (Err fault) said
 answers_fault said faults.Json is = is
@@ -17,14 +19,18 @@ answers_fault said faults.Version is = is
 answers_fault said faults.Limit is = is
 answers_fault said faults.OutOfMemory is = tt
 
+pub answers_same : {X : Type 0} (given said : Result X SpecFault) → given ≡ said → Answers given said
+answers_same (Ok x) said is = sym is
+answers_same (Err fault) said is = answers_fault said fault (sym is)
+
 pub version_refused : (d : Data) (fault : SpecFault) → Err fault ≡ version_test (version_in d) → manifest_of d ≡ Err fault
 unfolding manifest_of
-version_refused d fault is = λ i. after_version (sym is i) (accepted_parts (group_in d) (topics_in (codes "sources") d) (topics_in (codes "outputs") d) (ends_in d))
+version_refused d fault is = λ i. said_in (sym is i) d
 
-pub manifest_is : (d : Data) (group : Option (List ℕ)) (sources outputs : Option (List (List ℕ))) (ends : Option (List End)) → Ok tt ≡ version_test (version_in d)
-    → group ≡ group_in d → sources ≡ topics_in (codes "sources") d → outputs ≡ topics_in (codes "outputs") d → ends ≡ ends_in d → manifest_of d ≡ accepted_parts group sources outputs ends
+pub manifest_is : (d : Data) (version : Version) (apps : Option (List App)) (ends : Option (List End)) → Ok version ≡ version_test (version_in d)
+    → apps ≡ apps_in version d → ends ≡ ends_in d → manifest_of d ≡ accepted_parts apps ends
 unfolding manifest_of
-manifest_is d group sources outputs ends version g s o e = λ i. after_version (sym version i) (accepted_parts (sym g i) (sym s i) (sym o i) (sym e i))
+manifest_is d version apps ends is a e = (λ i. said_in (sym is i) d) ∙ (λ i. accepted_parts (sym a i) (sym e i))
 
 pub not_json : (bytes : List ℕ) → (IsUtf8 bytes → read_text bytes ≡ None) → spec_said_by bytes ≡ Err faults.Json
 unfolding spec_said_by

@@ -11,7 +11,7 @@ use Rattle.std.specs.Ordering.{int_cmp, int_eq, is_lt, on, ordering_reverse}
 use Rattle.std.specs.declared.cmp.Ordering.TheVariants.{Less}
 use Rattle.eos_evidence.specs.declared.segment.Segment.{Segment}
 use Rattle.eos_evidence.specs.Evidence.{IsRising, has_base, insert_segment}
-use Rattle.eos_evidence.specs.SegmentPlaces.{IsPlaceFor}
+use Rattle.eos_evidence.specs.steps.SegmentPlaces.{IsPlaceFor}
 
 bases_ascend : (xs : List Segment) → IsRising xs → IsSortedBy (λ a b. is_lt (int_cmp a.base b.base)) xs
 bases_ascend xs up k d low high =

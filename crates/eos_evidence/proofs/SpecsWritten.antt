@@ -1,49 +1,50 @@
 -- A spec's parts, written and read back, are accepted as they were.
-use Rattle.std.proofs.Common.{◌≡◌, ℕ, suc, ◌<◌, ◌≤◌, ◌^◌, ℤ, pos, negsuc, int_le, List, [], ◌∷◌, ◌++◌, Bool, true, false, not, ◌&&◌, if◌then◌else◌, nat_le, nat_lt, Some, Ok, Err, length, codes, IsPermutation, refl, sym, ap, ◌∙◌, subst, arith, append-nil, FitsSigned, drop, get_or, ◌+◌, drop-cons, add-one}
+use Rattle.std.proofs.Common.{◌≡◌, ℕ, zero, suc, ◌+◌, ◌<◌, ◌≤◌, ◌^◌, ◌==◌, ℤ, pos, negsuc, int_le, int_lt, List, [], ◌∷◌, ◌++◌, Bool, true, false, not, ◌&&◌, if◌then◌else◌, nat_le, nat_lt, Some, option_map, Ok, Err, length, IsPermutation, refl, sym, ap, ◌∙◌, subst, arith, append-nil, FitsSigned, drop, get_or, drop-cons, add-one}
 use Rattle.std.specs.Fmt.{signed_decimal}
 use Rattle.std.specs.Int.{w32, w64}
 use Rattle.std.proofs.lemmas.Int.{ints}
-use Rattle.std.specs.List.{AllByRecursion, IsDistinct, list_any, list_all}
-use Rattle.std.specs.Ordering.{is_eq, eq_by_cmp}
+use Rattle.std.specs.List.{list_all}
 use Rattle.std.specs.Cmp.{first_so, second_so}
 use Rattle.std.proofs.lemmas.Bool.{leb-true}
 use Rattle.std.proofs.lemmas.Bool.Decides.{nat_tests}
-use Rattle.std.proofs.lemmas.Cmp.{eq_by_cmp_equiv}
-use Rattle.std.proofs.lemmas.List.Elements.{All-from_recursion, recursion_from_All}
-use Rattle.std.proofs.lemmas.List.Sorted.{All-permutation, length_permutation}
-use Rattle.std.proofs.lemmas.Map.Keys.{IsDistinct-from_sorted, IsDistinct-IsPermutation}
-use Rattle.serde_json.specs.Data.{Data, Items, Members, no_members, member, object, array, string, number, unsigned, depth, items_depth, members_depth}
+use Rattle.std.proofs.lemmas.List.Sorted.{IsPermutation-sym}
+use Rattle.serde_json.specs.Data.{Data, Members, number, depth, items_depth}
 use Rattle.serde_json.specs.Find.{of_integer}
 use Rattle.serde_json.specs.Read.{max_depth}
+use Rattle.eos_evidence.specs.declared.application.App.{App}
 use Rattle.eos_evidence.specs.declared.ends.End.{End}
 use Rattle.eos_evidence.specs.declared.fault.SpecFault.TheVariants as faults
+use Rattle.eos_evidence.specs.declared.manifest_reader.Version.TheVariants.{One, Two}
 use Rattle.eos_evidence.specs.Topics.{is_topic, is_internal, are_unequal}
-use Rattle.eos_evidence.specs.Ends.{end_cmp, is_legal_end, are_apart, ordered}
-use Rattle.eos_evidence.specs.Parts.{Parts, IsAccepted, is_own_topic, are_legal_topics, accepted}
-use Rattle.eos_evidence.specs.Manifest.{texts_of, end_of, manifest_of}
-use Rattle.eos_evidence.specs.WrittenEnds.{items_of_texts, HoldsEnds}
-use Rattle.eos_evidence.proofs.AcceptedParts.{Passed, gives_parts}
-use Rattle.eos_evidence.proofs.EndsInOrder.{end_total}
+use Rattle.eos_evidence.specs.Ends.{is_within, is_legal_end, are_apart, ordered}
+use Rattle.eos_evidence.specs.Parts.{Parts, IsAccepted, is_own_topic, is_legal_app, groups_of, outputs_of, are_legal_apps, accepted}
+use Rattle.eos_evidence.specs.Manifest.{texts_of, app_in, apps_of, end_of, manifest_of, version_in, version_for}
+use Rattle.eos_evidence.specs.steps.WrittenApps.{are_topics, items_of_texts, written_app, written_apps, written_one, written_two}
+use Rattle.eos_evidence.specs.steps.WrittenEnds.{HoldsEnds}
+use Rattle.eos_evidence.proofs.AcceptedParts.{Passed, gives_parts, legal_too}
+use Rattle.eos_evidence.proofs.EndsInOrder.{in_order_is}
 use Rattle.eos_evidence.proofs.ManifestParts.{manifest_is}
 use Rattle.eos_evidence.proofs.WrittenSpecs.{name_back}
 
 -- which tests an accepted spec passed
 pub record PassedTests (parts : Parts) : Type 0 where
-  pub topics : are_legal_topics (parts.sources ++ parts.outputs) ≡ true
+  pub apps : are_legal_apps parts.apps ≡ true
   pub ends : list_all is_legal_end parts.ends ≡ true
+  pub few_apps : length parts.apps ≤ 256
   pub few : length parts.ends ≤ 4096
 
 pub passed_tests : (parts : Parts) → IsAccepted parts → PassedTests parts
 unfolding accepted
-passed_tests parts holds = by (are_legal_topics (parts.sources ++ parts.outputs)) (list_all is_legal_end parts.ends) (are_apart parts.ends) (nat_le (length parts.ends) 4096) refl refl refl refl holds.as_it_is
+passed_tests parts holds = by (are_legal_apps parts.apps) (list_all is_legal_end parts.ends) (are_apart parts.ends) (nat_le (length parts.apps) 256) (nat_le (length parts.ends) 4096) refl refl refl refl holds.as_it_is
   where
-    by : (t l a n : Bool) → are_legal_topics (parts.sources ++ parts.outputs) ≡ t → list_all is_legal_end parts.ends ≡ l → are_apart parts.ends ≡ a → nat_le (length parts.ends) 4096 ≡ n
-        → (if t && (l && a) then (if n then Ok (record parts { ends = ordered parts.ends }) else Err faults.Limit) else Err faults.Field) ≡ Ok parts → PassedTests parts
-    by false l a n p q r s h = absurd (cc h)
-    by true false a n p q r s h = absurd (cc h)
-    by true true false n p q r s h = absurd (cc h)
-    by true true true false p q r s h = absurd (cc h)
-    by true true true true p q r s h = record { topics = p; ends = q; few = leb-true _ _ s }
+    by : (t l a m n : Bool) → are_legal_apps parts.apps ≡ t → list_all is_legal_end parts.ends ≡ l → nat_le (length parts.apps) 256 ≡ m → nat_le (length parts.ends) 4096 ≡ n
+        → (if t && (l && a) then (if m && n then Ok (record parts { ends = ordered parts.ends }) else Err faults.Limit) else Err faults.Field) ≡ Ok parts → PassedTests parts
+    by false l a m n p q r s h = absurd (cc h)
+    by true false a m n p q r s h = absurd (cc h)
+    by true true false m n p q r s h = absurd (cc h)
+    by true true true false n p q r s h = absurd (cc h)
+    by true true true true false p q r s h = absurd (cc h)
+    by true true true true true p q r s h = record { apps = p; ends = q; few_apps = leb-true _ _ r; few = leb-true _ _ s }
 
 first_topics : (ts us : List (List ℕ)) → list_all is_own_topic (ts ++ us) ≡ true → list_all is_topic ts ≡ true
 first_topics [] us h = refl
@@ -55,66 +56,99 @@ last_topics : (ts us : List (List ℕ)) → list_all is_own_topic (ts ++ us) ≡
 last_topics [] us h = h
 last_topics (t ∷ ts) us h = last_topics ts us (second_so (is_own_topic t) (list_all is_own_topic (ts ++ us)) h)
 
-pub sources_legal : (parts : Parts) → IsAccepted parts → list_all is_topic parts.sources ≡ true
-sources_legal parts holds =
-    first_topics parts.sources parts.outputs (first_so (list_all is_own_topic (parts.sources ++ parts.outputs)) (are_unequal (parts.sources ++ parts.outputs)) (passed_tests parts holds).topics)
+topics_legal : (app : App) → is_legal_app app ≡ true → are_topics app ≡ true
+topics_legal app legal =
+    let own = first_so (list_all is_own_topic (app.sources ++ app.outputs)) (are_unequal (app.sources ++ app.outputs)) legal in
+    let outputs : list_all is_own_topic app.outputs ≡ true = last_topics app.sources app.outputs own in
+    rw (first_topics app.sources app.outputs own, first_topics app.outputs [] (subst (λ l. list_all is_own_topic l ≡ true) (sym (append-nil app.outputs)) outputs)) refl
 
-pub outputs_legal : (parts : Parts) → IsAccepted parts → list_all is_topic parts.outputs ≡ true
-outputs_legal parts holds =
-    let own : list_all is_own_topic parts.outputs ≡ true = last_topics parts.sources parts.outputs (first_so (list_all is_own_topic (parts.sources ++ parts.outputs)) (are_unequal (parts.sources ++ parts.outputs)) (passed_tests parts holds).topics) in
-    first_topics parts.outputs [] (subst (λ l. list_all is_own_topic l ≡ true) (sym (append-nil parts.outputs)) own)
+all_topics : (apps : List App) → list_all is_legal_app apps ≡ true → list_all are_topics apps ≡ true
+all_topics [] h = refl
+all_topics (app ∷ apps) h =
+    rw (topics_legal app (first_so (is_legal_app app) (list_all is_legal_app apps) h), all_topics apps (second_so (is_legal_app app) (list_all is_legal_app apps) h)) refl
 
-each_legal : (es : List End) → list_all is_legal_end es ≡ true → AllByRecursion (λ e. is_legal_end e ≡ true) es
-each_legal [] h = tt
-each_legal (e ∷ es) h = (first_so (is_legal_end e) (list_all is_legal_end es) h, each_legal es (second_so (is_legal_end e) (list_all is_legal_end es) h))
+-- the topics of an accepted spec can be written
+pub apps_topics : (parts : Parts) → IsAccepted parts → list_all are_topics parts.apps ≡ true
+apps_topics parts holds =
+    let both = first_so (list_all is_legal_app parts.apps && are_unequal (groups_of parts.apps)) (are_unequal (outputs_of parts.apps)) (passed_tests parts holds).apps in
+    all_topics parts.apps (first_so (list_all is_legal_app parts.apps) (are_unequal (groups_of parts.apps)) both)
 
-all_legal : (es : List End) → AllByRecursion (λ e. is_legal_end e ≡ true) es → list_all is_legal_end es ≡ true
-all_legal [] h = refl
-all_legal (e ∷ es) h = rw (h.0, all_legal es h.1) refl
+pub topics_at : (apps : List App) (i : ℕ) (d : App) → i < length apps → list_all are_topics apps ≡ true → are_topics (get_or apps i d) ≡ true
+topics_at [] i d lt h = absurd (omega (arith, lt))
+topics_at (app ∷ apps) zero d lt h = first_so (are_topics app) (list_all are_topics apps) h
+topics_at (app ∷ apps) (suc i) d lt h = topics_at apps i d (omega arith) (second_so (are_topics app) (list_all are_topics apps) h)
 
-no_other : (e : End) (es : List End) → AllByRecursion (λ y. eq_by_cmp end_cmp e y ≡ false) es → list_any (λ f. is_eq (end_cmp e f)) es ≡ false
-no_other e [] h = refl
-no_other e (f ∷ fs) h = rw (h.0, no_other e fs h.1) refl
-
-apart : (es : List End) → IsDistinct (eq_by_cmp end_cmp) es → are_apart es ≡ true
-unfolding IsDistinct
-apart [] h = refl
-apart (e ∷ es) h = rw (no_other e es h.0, apart es h.1) refl
-
-accepted_back : (parts : Parts) (given : List End) → IsAccepted parts → IsPermutation parts.ends given → ordered given ≡ parts.ends → accepted (record parts { ends = given }) ≡ Ok parts
-accepted_back parts given holds shuffled in_order =
+accepted_back : (parts : Parts) (given : List End) → IsAccepted parts → IsPermutation parts.ends given → accepted (record parts { ends = given }) ≡ Ok parts
+accepted_back parts given holds shuffled =
     let tests = passed_tests parts holds in
-    let legal = recursion_from_All (λ e. is_legal_end e ≡ true) given
-    (All-permutation (λ e. is_legal_end e ≡ true) parts.ends given shuffled (All-from_recursion (λ e. is_legal_end e ≡ true) parts.ends (each_legal parts.ends tests.ends))) in
-    let distinct = IsDistinct-IsPermutation (eq_by_cmp end_cmp) (eq_by_cmp_equiv end_total).symm parts.ends given shuffled (IsDistinct-from_sorted end_cmp parts.ends holds.ascending) in
     let passed : Passed (record parts { ends = given }) parts.ends = record {
-      topics = tests.topics;
-      ends = all_legal given legal;
-      in_order = record { apart = apart given distinct; list_is = sym in_order; ascending = holds.ascending; as_many = sym (length_permutation parts.ends given shuffled) };
+      apps = tests.apps;
+      ends = legal_too parts.ends given shuffled tests.ends;
+      in_order = in_order_is given parts.ends (IsPermutation-sym parts.ends given shuffled) holds.ascending;
     } in
-    gives_parts (record parts { ends = given }) parts.ends passed tests.few
+    gives_parts (record parts { ends = given }) parts.ends passed tests.few_apps tests.few
 
 texts_back : (ts : List (List ℕ)) → texts_of (items_of_texts ts) ≡ Some ts
 texts_back [] = refl
 texts_back (t ∷ ts) = rw (texts_back ts) refl
 
--- the value that is written for parts
-abbrev pub written : Parts → Members → Data
-written parts ms =
-    object (member (codes "ends") (object ms) (member (codes "group") (string parts.group) (member (codes "outputs") (array (items_of_texts parts.outputs))
-    (member (codes "sources") (array (items_of_texts parts.sources)) (member (codes "version") (number (unsigned 1)) no_members)))))
+app_back : (app : App) → app_in (written_app app) ≡ Some app
+app_back app = rw (texts_back app.sources, texts_back app.outputs) refl
 
-pub written_back : (parts : Parts) (ms : Members) → IsAccepted parts → HoldsEnds ms parts.ends → manifest_of (written parts ms) ≡ Ok parts
-written_back parts ms holds ends =
-    manifest_is (written parts ms) (Some parts.group) (Some parts.sources) (Some parts.outputs) (Some ends.given) refl refl (sym (texts_back parts.sources)) (sym (texts_back parts.outputs)) (sym ends.given_is)
-    ∙ accepted_back parts ends.given holds ends.shuffled ends.in_order
+apps_back : (apps : List App) → apps_of (written_apps apps) ≡ Some apps
+apps_back [] = refl
+apps_back (app ∷ apps) = rw (app_back app, apps_back apps) refl
+
+only_back : (app : App) (ms : Members) → app_in (written_one app ms) ≡ Some app
+only_back app ms = rw (texts_back app.sources, texts_back app.outputs) refl
 
 flat_texts : (ts : List (List ℕ)) → items_depth (items_of_texts ts) ≡ 0
 flat_texts [] = refl
 flat_texts (t ∷ ts) = omega (arith, flat_texts ts)
 
-pub written_depth : (parts : Parts) (ms : Members) → members_depth ms ≡ 0 → depth (written parts ms) ≤ max_depth
-written_depth parts ms flat = omega (arith, flat, flat_texts parts.sources, flat_texts parts.outputs)
+app_depth : (app : App) → depth (written_app app) ≤ 2
+app_depth app = omega (arith, flat_texts app.sources, flat_texts app.outputs)
+
+apps_depth : (apps : List App) → items_depth (written_apps apps) ≤ 2
+apps_depth [] = omega arith
+apps_depth (app ∷ apps) = omega (arith, app_depth app, apps_depth apps)
+
+-- what is promised of a value that is written for parts
+pub record IsWritten (parts : Parts) (d : Data) : Type 0 where
+  pub says : manifest_of d ≡ Ok parts
+  pub version : version_in d ≡ Some (version_for parts.apps)
+  pub shallow : depth d ≤ max_depth
+
+only_app : (apps : List App) (d : App) → length apps ≡ 1 → apps ≡ get_or apps 0 d ∷ []
+only_app [] d one = absurd (omega (arith, one))
+only_app (app ∷ []) d one = refl
+only_app (app ∷ other ∷ apps) d one = absurd (omega (arith, one))
+
+pub one_is_written : (parts : Parts) (apps : List App) (app : App) (ms : Members) → IsAccepted parts → HoldsEnds ms parts.ends → apps ≡ parts.apps → length apps ≡ 1
+    → app ≡ get_or apps 0 app → IsWritten parts (written_one app ms)
+one_is_written parts apps app ms holds ends apps_are one is =
+    let only : parts.apps ≡ app ∷ [] = sym apps_are ∙ only_app apps app one ∙ ap (λ a. a ∷ []) (sym is) in
+    record {
+      says = manifest_is (written_one app ms) One (Some parts.apps) (Some ends.given) refl
+          (ap Some only ∙ sym (ap (option_map (λ a. a ∷ [])) (only_back app ms))) (sym ends.given_is) ∙ accepted_back parts ends.given holds ends.shuffled;
+      version = ap (λ l. Some (version_for l)) (sym only);
+      shallow = omega (arith, ends.flat, flat_texts app.sources, flat_texts app.outputs);
+    }
+
+not_one : (n : ℕ) → (n ≡ 1 → ⊥) → (n == 1) ≡ false
+not_one n other = grind (arith, nat_tests, other)
+
+pub all_are_written : (parts : Parts) (apps : List App) (ms : Members) → IsAccepted parts → HoldsEnds ms parts.ends → apps ≡ parts.apps → (length apps ≡ 1 → ⊥) → IsWritten parts (written_two apps ms)
+all_are_written parts apps ms holds ends apps_are several =
+    let other : (length parts.apps == 1) ≡ false = not_one (length parts.apps) (λ one. several (ap length apps_are ∙ one)) in
+    record {
+      says = manifest_is (written_two apps ms) Two (Some parts.apps) (Some ends.given) refl (ap Some (sym apps_are) ∙ sym (apps_back apps)) (sym ends.given_is) ∙ accepted_back parts ends.given holds ends.shuffled;
+      version = ap (λ b. Some (if b then pos 1 else pos 2)) (sym other);
+      shallow = omega (arith, ends.flat, apps_depth apps);
+    }
+
+pub written_as : (parts : Parts) (d v : Data) → IsWritten parts d → v ≡ d → IsWritten parts v
+written_as parts d v written is = subst (IsWritten parts) (sym is) written
 
 end_made : (topic : List ℕ) (p z : ℤ) → int_le (pos 0) p ≡ true → int_le (pos 0) z ≡ true → ((n : ℕ) → p ≡ pos n → n < 2 ^ 31) → ((n : ℕ) → z ≡ pos n → n < 2 ^ 63)
     → end_of (topic ++ 45 ∷ signed_decimal p) (number (of_integer z)) ≡ Some (record { topic = topic; partition = p; end = z })
@@ -128,9 +162,9 @@ end_made topic (negsuc n) z hp hz small fits = absurd (cc hp)
 pub end_back : (e : End) (name : List ℕ) (d : Data) → is_legal_end e ≡ true → name ≡ e.topic ++ 45 ∷ signed_decimal e.partition → d ≡ number (of_integer e.end)
     → FitsSigned w32 e.partition → FitsSigned w64 e.end → end_of name d ≡ Some e
 end_back e name d legal name_is d_is small fits =
-    let first : (is_topic e.topic && int_le (pos 0) e.partition) ≡ true = first_so (is_topic e.topic && int_le (pos 0) e.partition) (int_le (pos 0) e.end) legal in
-    let named : int_le (pos 0) e.partition ≡ true = second_so (is_topic e.topic) (int_le (pos 0) e.partition) first in
-    let ended : int_le (pos 0) e.end ≡ true = second_so (is_topic e.topic && int_le (pos 0) e.partition) (int_le (pos 0) e.end) legal in
+    let first : (is_topic e.topic && is_within (2 ^ 31) e.partition) ≡ true = first_so (is_topic e.topic && is_within (2 ^ 31) e.partition) (is_within (2 ^ 63) e.end) legal in
+    let named : int_le (pos 0) e.partition ≡ true = first_so (int_le (pos 0) e.partition) (int_lt e.partition (pos (2 ^ 31))) (second_so (is_topic e.topic) (is_within (2 ^ 31) e.partition) first) in
+    let ended : int_le (pos 0) e.end ≡ true = first_so (int_le (pos 0) e.end) (int_lt e.end (pos (2 ^ 63))) (second_so (is_topic e.topic && is_within (2 ^ 31) e.partition) (is_within (2 ^ 63) e.end) legal) in
     (λ i. end_of (name_is i) (d_is i)) ∙ end_made e.topic e.partition e.end named ended (λ n is. grind (arith, ints, small, is)) (λ n is. grind (arith, ints, fits, is))
 
 -- the end at the place is legal, and those after it
@@ -139,12 +173,3 @@ legal_next es i e lt is legal =
     let whole : drop i es ≡ e ∷ drop (i + 1) es = drop-cons es i e lt ∙ ap (λ x. x ∷ drop (suc i) es) (sym is) ∙ ap (λ n. e ∷ drop n es) (sym (add-one i)) in
     let both : (is_legal_end e && list_all is_legal_end (drop (i + 1) es)) ≡ true = sym (ap (list_all is_legal_end) whole) ∙ legal in
     (first_so (is_legal_end e) (list_all is_legal_end (drop (i + 1) es)) both, second_so (is_legal_end e) (list_all is_legal_end (drop (i + 1) es)) both)
-
-pub says_parts : (parts : Parts) (v : Data) (ms : Members) (group : List ℕ) (sources outputs : Items) → IsAccepted parts → HoldsEnds ms parts.ends
-    → group ≡ parts.group → sources ≡ items_of_texts parts.sources → outputs ≡ items_of_texts parts.outputs
-    → v ≡ object (member (codes "ends") (object ms) (member (codes "group") (string group) (member (codes "outputs") (array outputs) (member (codes "sources") (array sources) (member (codes "version") (number (unsigned 1)) no_members)))))
-    → (manifest_of v ≡ Ok parts) × (depth v ≤ max_depth)
-says_parts parts v ms group sources outputs holds ends g s o v_is =
-    let same : v ≡ written parts ms = v_is ∙ (λ i. object (member (codes "ends") (object ms) (member (codes "group") (string (g i)) (member (codes "outputs") (array (o i))
-    (member (codes "sources") (array (s i)) (member (codes "version") (number (unsigned 1)) no_members)))))) in
-    (ap manifest_of same ∙ written_back parts ms holds ends, subst (λ d. depth d ≤ max_depth) (sym same) (written_depth parts ms ends.flat))

@@ -1,6 +1,6 @@
 -- The evidence: a spec and, for each of its ends in order, a partition's log as a list of segments.
 -- A segment file of a log is named by the offset of its first record, its base (Kafka's log folders).
-use Rattle.std.specs.Prelude.{◌≡◌, ◌≤◌, ◌^◌, ℕ, ℤ, pos, ◌≤ℤ◌, List, [], ◌∷◌, Bool, true, ◌&&◌, ◌||◌, if◌then◌else◌, nat_lt, nat_le, int_lt, length, map, flat_map, find, bytes_eq, Option, None, Some, Result, Ok, Err, IsOk}
+use Rattle.std.specs.Prelude.{◌≡◌, ◌≤◌, ◌^◌, ℕ, ℤ, pos, ◌≤ℤ◌, ◌<ℤ◌, List, [], ◌∷◌, Bool, true, ◌&&◌, ◌||◌, if◌then◌else◌, nat_lt, nat_le, int_lt, length, map, flat_map, find, bytes_eq, Option, None, Some, Result, Ok, Err, IsOk}
 use Rattle.std.specs.List.{list_any, AllByRecursion}
 use Rattle.std.specs.List.Sorted.{IsStrictlySortedBy}
 use Rattle.std.specs.Ordering.{int_cmp, int_eq, on}
@@ -27,6 +27,7 @@ IsRising = IsStrictlySortedBy (on (λ s. s.base) int_cmp)
 pub record IsOwn (e : End) (segment : Segment) : Type 0 where
   pub named : is_in segment e ≡ true
   pub base : pos 0 ≤ℤ segment.base
+  pub width : segment.base <ℤ pos (2 ^ 63)
   pub size : length segment.bytes ≤ 2 ^ 30
 
 pub record IsPartition (partition : Partition) : Type 0 where

@@ -2,10 +2,8 @@ pub mod Ends
 pub mod Evidence
 pub mod Manifest
 pub mod Names
-pub mod OrderedEnds
 pub mod PartitionNames
 pub mod Parts
 pub mod Reading
-pub mod SegmentPlaces
 pub mod Topics
-pub mod WrittenEnds
+pub mod steps

@@ -4,8 +4,8 @@ use Rattle.eos_evidence.specs.declared.fault.AddFault.{AddFault}
 use Rattle.eos_evidence.specs.declared.fault.AddFault.TheVariants as add
 use Rattle.eos_evidence.specs.declared.fault.SpecFault.{SpecFault}
 use Rattle.eos_evidence.specs.declared.fault.SpecFault.TheVariants as faults
-use Rattle.eos_evidence.specs.declared.reading.ReadFault.{ReadFault}
-use Rattle.eos_evidence.specs.declared.reading.ReadFault.TheVariants as reading
+use Rattle.eos_evidence.specs.declared.fault.ReadFault.{ReadFault}
+use Rattle.eos_evidence.specs.declared.fault.ReadFault.TheVariants as reading
 
 abbrev pub read_fault_name : ReadFault → List ℕ
 read_fault_name reading.Read = codes "Read"

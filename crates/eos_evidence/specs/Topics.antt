@@ -21,11 +21,11 @@ is_topic topic = has_topic_length topic && list_all is_topic_byte topic && not (
 abbrev pub is_internal : List ℕ → Bool
 is_internal topic = bytes_eq topic (codes "__consumer_offsets") || bytes_eq topic (codes "__transaction_state")
 
--- the topic is one of these
+-- the name is one of these
 abbrev pub is_among : List ℕ → List (List ℕ) → Bool
-is_among topic topics = list_any (bytes_eq topic) topics
+is_among name names = list_any (bytes_eq name) names
 
--- no topic stands twice
+-- no name stands twice
 abbrev pub are_unequal : List (List ℕ) → Bool
 are_unequal [] = true
-are_unequal (topic ∷ topics) = not (is_among topic topics) && are_unequal topics
+are_unequal (name ∷ names) = not (is_among name names) && are_unequal names

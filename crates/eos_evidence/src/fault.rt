@@ -1,30 +1,27 @@
-//! Why a manifest or a segment is refused.
+//! Why a manifest or a segment is refused. A fault's text is its name.
 
 ghost use Rattle.std.specs.Prelude.{◌≡◌};
 ghost use Rattle.eos_evidence.specs.declared.fault.SpecFault.TheVariants.{OutOfMemory};
 ghost use Rattle.eos_evidence.specs.declared.fault.AddFault.TheVariants as add;
-ghost use Rattle.eos_evidence.specs.Names.{spec_fault_name, add_fault_name};
+ghost use Rattle.eos_evidence.specs.declared.fault.ReadFault.TheVariants as read;
+ghost use Rattle.eos_evidence.specs.Names.{spec_fault_name, add_fault_name, read_fault_name};
 
 use std::alloc::{AllocError, AllocFailed};
 use thiserror::Error;
 
 /// Why a manifest is refused: the first of its tests that fails.
 #[derive(Clone, Copy, Debug, PartialEq, Eq, Error)]
+#[error("{name}", name = self.name())]
 pub enum SpecFault {
     /// The bytes are no JSON text.
-    #[error("Json")]
     Json,
     /// A part is absent, of the wrong type, or has a value that it may not have.
-    #[error("Field")]
     Field,
-    /// The version is another number than 1.
-    #[error("Version")]
+    /// The version is another number than 1 and 2.
     Version,
-    /// There are more partitions than evidence may have.
-    #[error("Limit")]
+    /// There are more applications or partitions than evidence may have.
     Limit,
     /// A growth of memory was refused.
-    #[error("OutOfMemory")]
     OutOfMemory,
 }
 
@@ -61,18 +58,15 @@ impl<T: Drop> From<AllocFailed<T>> for SpecFault {
 
 /// Why a segment is refused: the first of its tests that fails.
 #[derive(Clone, Copy, Debug, PartialEq, Eq, Error)]
+#[error("{name}", name = self.name())]
 pub enum AddFault {
     /// The manifest has no such partition, or the base is below 0.
-    #[error("Name")]
     Name,
     /// The segment is too long, or there are as many segments as evidence may have.
-    #[error("Limit")]
     Limit,
     /// There is a segment of this partition and base.
-    #[error("Duplicate")]
     Duplicate,
     /// A growth of memory was refused.
-    #[error("OutOfMemory")]
     OutOfMemory,
 }
 
@@ -103,5 +97,46 @@ impl<T: Drop> From<AllocFailed<T>> for AddFault {
 
     fn from(_e: AllocFailed<T>) -> AddFault {
         AddFault::OutOfMemory
+    }
+}
+
+/// Why a segment was not read.
+#[derive(Clone, Copy, Debug, PartialEq, Eq, Error)]
+#[error("{name}", name = self.name())]
+pub enum ReadFault {
+    /// The reader failed.
+    Read,
+    /// There are more bytes than a segment may have.
+    Limit,
+    /// A growth of memory was refused.
+    OutOfMemory,
+}
+
+impl ReadFault {
+    /// The fault's name.
+    pub fn name(self) -> &'static str
+        ensures { result.now ≡ read_fault_name self }
+    {
+        match self {
+            ReadFault::Read => "Read",
+            ReadFault::Limit => "Limit",
+            ReadFault::OutOfMemory => "OutOfMemory",
+        }
+    }
+}
+
+impl From<AllocError> for ReadFault {
+    ghost from_gives = { λ _ e. e ≡ read.OutOfMemory };
+
+    fn from(_e: AllocError) -> ReadFault {
+        ReadFault::OutOfMemory
+    }
+}
+
+impl<T: Drop> From<AllocFailed<T>> for ReadFault {
+    ghost from_gives = { λ _ e. e ≡ read.OutOfMemory };
+
+    fn from(_e: AllocFailed<T>) -> ReadFault {
+        ReadFault::OutOfMemory
     }
 }

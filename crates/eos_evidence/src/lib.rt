@@ -1,27 +1,33 @@
 //! What the checker is given: the manifest, the segments in their order, and how a segment is read.
 #![tactic(auto)]
 
+mod application;
+mod builder;
 mod ends;
 mod evidence;
 mod fault;
-mod manifest;
+mod legal_applications;
+mod manifest_reader;
+mod manifest_writer;
 mod partition;
 mod partition_name;
-mod reading;
+mod pieces;
 mod segment;
+mod segment_reader;
 mod spec;
 mod topics;
-mod writing;
 
+pub use application::{App, Apps, GroupId};
+pub use builder::EvidenceBuilder;
 pub use ends::{End, Ends};
-pub use evidence::{Evidence, EvidenceBuilder, MAX_SEGMENTS};
-pub use fault::{AddFault, SpecFault};
-pub use manifest::parse_spec;
-pub use reading::{MAX_SEGMENT_BYTES, ReadFault, read_segment};
+pub use evidence::{Evidence, MAX_SEGMENTS};
+pub use fault::{AddFault, ReadFault, SpecFault};
+pub use manifest_reader::parse_spec;
+pub use manifest_writer::spec_text;
 pub use segment::Segment;
-pub use spec::{MAX_PARTITIONS, Spec};
+pub use segment_reader::{MAX_SEGMENT_BYTES, read_segment};
+pub use spec::{MAX_APPS, MAX_PARTITIONS, Spec};
 pub use topics::Topics;
-pub use writing::spec_text;
 
 #[cfg(test)]
 mod tests;

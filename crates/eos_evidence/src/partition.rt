@@ -1,25 +1,32 @@
 //! A partition of the evidence.
 
 ghost use Rattle.std.specs.Prelude.{◌≡◌, ◌≢◌, ◌↔◌, true, OnOk, OnErr};
-ghost use Rattle.eos_evidence.specs.Evidence.{is_in, has_base, insert_segment, IsRising};
+ghost use Rattle.eos_evidence.specs.Evidence.{has_base, insert_segment, IsRising};
+ghost use Rattle.eos_evidence.specs.Ends.{end_cmp};
+ghost use Rattle.eos_evidence.specs.steps.SegmentPlaces.{own_end};
 
 use crate::ends::End;
 use crate::fault::AddFault;
-use crate::segment::{Segment, Segments};
+use crate::segment::{Segment, place_of_base};
+use eos_base::Listed;
+use std::cmp::Ordering;
 
 /// A partition: its name and end, and its segments by base.
 #[derive(Debug, Drop)]
 pub struct Partition {
     pub end: End,
-    pub segments: Segments,
+    pub segments: Listed<Segment>,
 }
 
 impl Partition {
-    /// Whether the segment is one of this partition.
-    pub(crate) fn has_name_of(&self, segment: &Segment) -> bool
-        ensures { result ≡ is_in segment.now self.now.end }
+    /// How this partition stands to the segment's, by topic bytes, then number.
+    pub(crate) fn order_to(&self, segment: &Segment) -> Ordering
+        ensures { result ≡ end_cmp self.now.end (own_end segment.now) }
     {
-        segment.topic == self.end.topic && segment.partition == self.end.partition
+        match self.end.topic.cmp(&segment.topic) {
+            Ordering::Equal => self.end.partition.cmp(&segment.partition),
+            order => order,
+        }
     }
 
     /// Puts a segment in its place, unless one of its base is there.
@@ -31,7 +38,7 @@ impl Partition {
         ensures no_name { result ≢ Err AddFault.Name }
         ensures no_limit { result ≢ Err AddFault.Limit }
     {
-        match self.segments.place_of(&segment.base) {
+        match place_of_base(self.segments.as_slice(), &segment.base) {
             Ok(_) => Err(AddFault::Duplicate),
             Err(at) => {
                 self.segments.insert(at, segment)?;

@@ -1,17 +1,48 @@
 use crate::{
-    AddFault, End, Ends, EvidenceBuilder, Segment, Spec, SpecFault, Topics, parse_spec, spec_text,
+    AddFault, App, Apps, End, Ends, EvidenceBuilder, GroupId, ReadFault, Segment, Spec, SpecFault,
+    Topics, parse_spec, spec_text,
 };
 use bytes::Bytes;
+use eos_base::Listed;
 use std::alloc::{AllocError, Global};
 use std::test::Fail;
 
 const EXAMPLE: &[u8] =
     b"{\"version\":1,\"group\":\"g\",\"sources\":[\"in\"],\"outputs\":[\"out\"],\"ends\":{\"in-0\":2,\"out-0\":3}}";
 
+const CHAIN: &[u8] =
+    b"{\"version\":2,\"apps\":[{\"group\":\"g\",\"sources\":[\"in\"],\"outputs\":[\"out\"]},{\"group\":\"h\",\"sources\":[\"out\"],\"outputs\":[\"fin\"]}],\"ends\":{}}";
+
 fn topics(alloc: Global, name: &'static [u8]) -> Result<Topics, AllocError> {
     let mut items = Vec::new(alloc);
     items.push(Bytes::from_static(name))?;
-    Ok(Topics::new(items))
+    Ok(Listed::new(items))
+}
+
+fn app(
+    alloc: Global,
+    group: &str,
+    source: &'static [u8],
+    output: &'static [u8],
+) -> Result<App, AllocError> {
+    Ok(App {
+        group: GroupId::new(String::from_str(alloc, group)?),
+        sources: topics(alloc, source)?,
+        outputs: topics(alloc, output)?,
+    })
+}
+
+fn one(alloc: Global, app: App) -> Result<Apps, AllocError> {
+    let mut apps = Vec::new(alloc);
+    apps.push(app)?;
+    Ok(Listed::new(apps))
+}
+
+fn two(alloc: Global, first: App, second: App) -> Result<Apps, AllocError> {
+    let mut apps = Vec::new(alloc);
+    apps.push(first)?;
+    apps.push(second)?;
+    Ok(Listed::new(apps))
 }
 
 fn end_of(topic: &'static [u8], partition: i32, end: i64) -> End {
@@ -22,15 +53,44 @@ fn end_of(topic: &'static [u8], partition: i32, end: i64) -> End {
     }
 }
 
-/// The example's parts, with its ends the other way round.
-fn example(alloc: Global, outputs: &'static [u8]) -> Result<Spec, SpecFault> {
+/// The ends of the example, the other way round.
+fn two_ends(alloc: Global) -> Result<Ends, AllocError> {
     let mut ends = Vec::new(alloc);
     ends.push(end_of(b"out", 0, 3))?;
     ends.push(end_of(b"in", 0, 2))?;
-    let group = String::from_str(alloc, "g")?;
-    let sources = topics(alloc, b"in")?;
-    let outputs = topics(alloc, outputs)?;
-    Spec::new(alloc, group, sources, outputs, Ends::new(ends))
+    Ok(Listed::new(ends))
+}
+
+fn no_ends(alloc: Global) -> Ends {
+    Listed::new(Vec::new(alloc))
+}
+
+/// The example's parts.
+fn example(alloc: Global, output: &'static [u8]) -> Result<Spec, SpecFault> {
+    let apps = one(alloc, app(alloc, "g", b"in", output)?)?;
+    Spec::new(alloc, apps, two_ends(alloc)?)
+}
+
+/// This many partitions of one topic.
+fn ends(alloc: Global, count: i32) -> Result<Ends, AllocError> {
+    let mut ends = Vec::new(alloc);
+    for partition in 0..count {
+        ends.push(end_of(b"t", partition, 0))?;
+    }
+    Ok(Listed::new(ends))
+}
+
+/// This many applications without topics.
+fn apps(alloc: Global, count: i32) -> Result<Apps, AllocError> {
+    let mut apps = Vec::new(alloc);
+    for number in 0..count {
+        apps.push(App {
+            group: GroupId::new(format!(in alloc; "g{number}")?),
+            sources: Listed::new(Vec::new(alloc)),
+            outputs: Listed::new(Vec::new(alloc)),
+        })?;
+    }
+    Ok(Listed::new(apps))
 }
 
 fn segment(topic: &'static [u8], partition: i32, base: i64) -> Segment {
@@ -44,7 +104,11 @@ fn segment(topic: &'static [u8], partition: i32, base: i64) -> Segment {
 
 /// The name of the refusal, or `accepted`.
 fn answer(alloc: Global, text: &[u8]) -> &'static str {
-    match parse_spec(alloc, text) {
+    named(parse_spec(alloc, text))
+}
+
+fn named(spec: Result<Spec, SpecFault>) -> &'static str {
+    match spec {
         Ok(_) => "accepted",
         Err(fault) => fault.name(),
     }
@@ -55,36 +119,121 @@ fn refuses_what_is_no_manifest(rt: HostRuntime) {
     let alloc = rt.alloc();
     assert_eq!(rt; answer(alloc, b"["), "Json");
     assert_eq!(rt; answer(alloc, b"{}"), "Field");
-    assert_eq!(rt; answer(alloc, b"{\"version\":2}"), "Version");
     assert_eq!(rt; answer(alloc, b"{\"version\":1}"), "Field");
+    assert_eq!(rt; answer(alloc, b"{\"version\":2}"), "Field");
+    assert_eq!(rt; answer(alloc, b"{\"version\":3}"), "Version");
+    assert_eq!(rt;
+        answer(alloc, b"{\"version\":2,\"apps\":[{}],\"ends\":{}}"),
+        "Field"
+    );
+    assert_eq!(rt;
+        answer(alloc, b"{\"version\":2,\"apps\":[],\"ends\":{\"in-00\":0}}"),
+        "Field"
+    );
 }
 
 #[test]
 fn reads_the_example(rt: HostRuntime) -> Result<(), Fail> {
     let spec = parse_spec(rt.alloc(), EXAMPLE)?;
     let made = example(rt.alloc(), b"out")?;
-    assert_eq!(rt; spec.group(), made.group());
-    assert_eq!(rt; spec.sources().as_slice(), made.sources().as_slice());
-    assert_eq!(rt; spec.outputs().as_slice(), made.outputs().as_slice());
-    assert_eq!(rt; spec.ends().as_slice(), made.ends().as_slice());
+    assert_eq!(rt; spec.apps(), made.apps());
+    assert_eq!(rt; spec.apps().as_slice()[0].group.as_bytes(), b"g".as_slice());
+    assert_eq!(rt;
+        spec.ends().as_slice(),
+        [end_of(b"in", 0, 2), end_of(b"out", 0, 3)].as_slice()
+    );
+    assert_eq!(rt; spec.ends(), made.ends());
     Ok(())
 }
 
 #[test]
-fn reads_what_it_writes(rt: HostRuntime) -> Result<(), Fail> {
+fn reads_a_chain_of_applications(rt: HostRuntime) -> Result<(), Fail> {
+    let alloc = rt.alloc();
+    let spec = parse_spec(alloc, CHAIN)?;
+    let made = two(
+        alloc,
+        app(alloc, "g", b"in", b"out")?,
+        app(alloc, "h", b"out", b"fin")?,
+    )?;
+    assert_eq!(rt; spec.apps(), &made);
+    let none = parse_spec(alloc, b"{\"version\":2,\"apps\":[],\"ends\":{}}")?;
+    assert!(rt; none.apps().is_empty() && none.ends().is_empty());
+    Ok(())
+}
+
+#[test]
+fn writes_the_first_version_for_one_application(rt: HostRuntime) -> Result<(), Fail> {
     let text = spec_text(rt.alloc(), &example(rt.alloc(), b"out")?)?;
-    let spec = parse_spec(rt.alloc(), text.as_slice())?;
-    assert_eq!(rt; spec.group(), "g");
     assert_eq!(rt;
-        spec.ends().as_slice(),
-        [end_of(b"in", 0, 2), end_of(b"out", 0, 3)].as_slice()
+        parse_spec(rt.alloc(), text.as_slice())?.apps(),
+        example(rt.alloc(), b"out")?.apps()
+    );
+    let version: &[u8] = b"\"version\":1";
+    assert!(rt;
+        text.as_slice()
+            .windows(version.len())
+            .any(|part| part == version)
+    );
+    let text = spec_text(rt.alloc(), &parse_spec(rt.alloc(), CHAIN)?)?;
+    assert_eq!(rt;
+        parse_spec(rt.alloc(), text.as_slice())?.apps(),
+        parse_spec(rt.alloc(), CHAIN)?.apps()
     );
     Ok(())
 }
 
 #[test]
-fn refuses_a_topic_in_both_lists(rt: HostRuntime) {
-    assert!(rt; matches!(example(rt.alloc(), b"in"), Err(SpecFault::Field)));
+fn refuses_what_stands_twice(rt: HostRuntime) -> Result<(), Fail> {
+    let alloc = rt.alloc();
+    assert_eq!(rt; named(example(alloc, b"in")), "Field");
+    let apps = two(
+        alloc,
+        app(alloc, "g", b"a", b"b")?,
+        app(alloc, "g", b"c", b"d")?,
+    )?;
+    assert_eq!(rt; named(Spec::new(alloc, apps, no_ends(alloc))), "Field");
+    let apps = two(
+        alloc,
+        app(alloc, "g", b"a", b"out")?,
+        app(alloc, "h", b"c", b"out")?,
+    )?;
+    assert_eq!(rt; named(Spec::new(alloc, apps, no_ends(alloc))), "Field");
+    let apps = two(
+        alloc,
+        app(alloc, "g", b"a", b"out")?,
+        app(alloc, "h", b"a", b"fin")?,
+    )?;
+    assert_eq!(rt; named(Spec::new(alloc, apps, no_ends(alloc))), "accepted");
+    let mut ends = two_ends(alloc)?;
+    ends.push(end_of(b"out", 0, 4))?;
+    assert_eq!(rt; named(Spec::new(alloc, apps_of_none(alloc), ends)), "Field");
+    Ok(())
+}
+
+fn apps_of_none(alloc: Global) -> Apps {
+    Listed::new(Vec::new(alloc))
+}
+
+#[test]
+fn refuses_more_than_the_limits(rt: HostRuntime) -> Result<(), Fail> {
+    let alloc = rt.alloc();
+    assert_eq!(rt;
+        named(Spec::new(alloc, apps_of_none(alloc), ends(alloc, 4096)?)),
+        "accepted"
+    );
+    assert_eq!(rt;
+        named(Spec::new(alloc, apps_of_none(alloc), ends(alloc, 4097)?)),
+        "Limit"
+    );
+    assert_eq!(rt;
+        named(Spec::new(alloc, apps(alloc, 256)?, no_ends(alloc))),
+        "accepted"
+    );
+    assert_eq!(rt;
+        named(Spec::new(alloc, apps(alloc, 257)?, no_ends(alloc))),
+        "Limit"
+    );
+    Ok(())
 }
 
 #[test]
@@ -93,7 +242,23 @@ fn refuses_segments_by_name(rt: HostRuntime) -> Result<(), Fail> {
     builder.add(segment(b"in", 0, 0))?;
     assert_eq!(rt; builder.add(segment(b"in", 0, 0)), Err(AddFault::Duplicate));
     assert_eq!(rt; builder.add(segment(b"in", 1, 0)), Err(AddFault::Name));
+    assert_eq!(rt; builder.add(segment(b"in", 0, -1)), Err(AddFault::Name));
     assert_eq!(rt; builder.finish().pieces(), 1);
+    Ok(())
+}
+
+#[test]
+fn takes_as_many_segments_as_there_may_be(rt: HostRuntime) -> Result<(), Fail> {
+    let mut builder = EvidenceBuilder::new(rt.alloc(), example(rt.alloc(), b"out")?)?;
+    for base in 0..65_536 {
+        builder.add(segment(b"in", 0, base))?;
+    }
+    assert_eq!(rt;
+        builder.add(segment(b"in", 0, 65_536)),
+        Err(AddFault::Limit)
+    );
+    assert_eq!(rt; builder.add(segment(b"in", 0, 0)), Err(AddFault::Limit));
+    assert_eq!(rt; builder.finish().pieces(), 65_536);
     Ok(())
 }
 
@@ -110,5 +275,34 @@ fn keeps_the_segments_in_order(rt: HostRuntime) -> Result<(), Fail> {
         bases.push(evidence.piece(i).copy()?.base)?;
     }
     assert_eq!(rt; bases.as_slice(), [1, 0, 2, 5].as_slice());
+    Ok(())
+}
+
+#[test]
+fn a_faults_text_is_its_name(rt: HostRuntime) -> Result<(), Fail> {
+    let alloc = rt.alloc();
+    for fault in [
+        SpecFault::Json,
+        SpecFault::Field,
+        SpecFault::Version,
+        SpecFault::Limit,
+        SpecFault::OutOfMemory,
+    ] {
+        let text = format!(in alloc; "{fault}")?;
+        assert_eq!(rt; text.as_str(), fault.name());
+    }
+    for fault in [
+        AddFault::Name,
+        AddFault::Limit,
+        AddFault::Duplicate,
+        AddFault::OutOfMemory,
+    ] {
+        let text = format!(in alloc; "{fault}")?;
+        assert_eq!(rt; text.as_str(), fault.name());
+    }
+    for fault in [ReadFault::Read, ReadFault::Limit, ReadFault::OutOfMemory] {
+        let text = format!(in alloc; "{fault}")?;
+        assert_eq!(rt; text.as_str(), fault.name());
+    }
     Ok(())
 }

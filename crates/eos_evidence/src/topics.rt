@@ -1,61 +1,19 @@
 //! The names of topics: which bytes may be one, and lists of them.
 
-ghost use Rattle.std.specs.Prelude.{◌≡◌, ◌++◌, IfOk, MatchBool, IsTrue, true, false};
+ghost use Rattle.std.specs.Prelude.{◌≡◌};
 ghost use Rattle.std.specs.List.{list_all};
-ghost use Rattle.eos_evidence.specs.Topics.{is_topic_byte, is_dots, has_topic_length, is_topic, is_internal, is_among, are_unequal};
+ghost use Rattle.eos_evidence.specs.Topics.{is_topic_byte, is_dots, has_topic_length, is_topic, is_internal, is_among};
 
 use bytes::Bytes;
+use eos_base::Listed;
 use std::alloc::{AllocError, Global};
 use std::collections::BTreeSet;
-use std::marker::Model;
 
 /// The greatest number of bytes of a topic's name.
 const MAX_TOPIC_BYTES: usize = 249;
 
-/// Topics, in order, which contracts see as a list.
-#[derive(Debug, Drop)]
-pub struct Topics {
-    items: Vec<Bytes>,
-}
-
-impl Model for Topics {
-    ghost use Rattle.std.specs.Prelude.{ℕ, List};
-
-    ghost Value = { List (List ℕ) };
-
-    ghost view = { λ l. l.items.items };
-}
-
-impl Topics {
-    /// The list of these, in their order. It takes no memory.
-    pub fn new(items: Vec<Bytes>) -> Topics
-        ensures { result ≡ items.items }
-    {
-        Topics { items }
-    }
-
-    pub fn as_slice(&self) -> &[Bytes]
-        ensures { result.now ≡ self.now }
-    {
-        self.items.as_slice()
-    }
-
-    /// Gives the vector back. It takes no memory.
-    pub fn into_vec(self) -> Vec<Bytes>
-        ensures { result.items ≡ self }
-    {
-        self.items
-    }
-}
-
-impl Clone for Topics {
-    ghost is_clone = { λ a b. b ≡ a };
-
-    fn clone(&self) -> Result<Topics, AllocError> {
-        let items = self.items.clone()?;
-        Ok(Topics { items })
-    }
-}
+/// Topics, in order.
+pub type Topics = Listed<Bytes>;
 
 /// Whether a topic's name may have this byte.
 fn may_stand_in_topic(byte: u8) -> bool
@@ -99,30 +57,9 @@ pub(crate) fn is_internal_topic(topic: &[u8]) -> bool
     topic == b"__consumer_offsets".as_slice() || topic == b"__transaction_state".as_slice()
 }
 
-/// The topics of both lists, one after the other.
-pub(crate) fn joined_topics(
-    alloc: Global,
-    first: &[Bytes],
-    second: &[Bytes],
-) -> Result<Vec<Bytes>, AllocError>
-    ensures { IfOk result (λ all. all.items ≡ first.now ++ second.now) }
+/// Whether the topic is one of these.
+pub(crate) fn is_one_of(topic: &Bytes, topics: &[Bytes]) -> bool
+    ensures { result ≡ is_among topic.now topics.now }
 {
-    let mut all = first.to_vec(alloc)?;
-    for topic in second {
-        all.push(topic.clone()?)?;
-    }
-    Ok(all)
-}
-
-/// Whether no topic stands twice.
-pub(crate) fn are_topics_unequal(alloc: Global, mut topics: Vec<Bytes>) -> Result<bool, AllocError>
-    ensures { IfOk result (λ unequal. unequal ≡ are_unequal topics.items) }
-{
-    let mut seen = BTreeSet::new(alloc);
-    while let Some(topic) = topics.pop() {
-        if !seen.insert(topic)? {
-            return Ok(false);
-        }
-    }
-    Ok(true)
+    topics.iter().any(|other| topic == other)
 }

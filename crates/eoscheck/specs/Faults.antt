@@ -1,7 +1,7 @@
 -- Why a command ends without an answer.
 use Rattle.std.specs.Prelude.{ℕ, List, codes}
-use Rattle.eos_evidence.specs.declared.reading.ReadFault.{ReadFault}
-use Rattle.eos_evidence.specs.declared.reading.ReadFault.TheVariants as reading
+use Rattle.eos_evidence.specs.declared.fault.ReadFault.{ReadFault}
+use Rattle.eos_evidence.specs.declared.fault.ReadFault.TheVariants as reading
 use Rattle.eoscheck.specs.declared.fault.RunFault.{RunFault}
 use Rattle.eoscheck.specs.declared.fault.RunFault.TheVariants as faults
 

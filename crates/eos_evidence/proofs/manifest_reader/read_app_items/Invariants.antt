@@ -1,0 +1,8 @@
+-- The applications so far, and those of the items that are left, are the applications of all.
+use Rattle.std.proofs.Common.{◌≡◌, ◌++◌, drop, option_map}
+use Rattle.serde_json.specs.View.{items_view}
+use Rattle.eos_evidence.specs.Manifest.{apps_of}
+use Rattle.eos_evidence.proofs.manifest_reader.read_app_items.Given as goal
+
+abbrev pub invariant-loop-item : goal.invariant-loop-item
+invariant-loop-item l = option_map (λ rest. l.apps.items ++ rest) (apps_of (items_view (drop l.item-index l.items))) ≡ apps_of (items_view l.items)

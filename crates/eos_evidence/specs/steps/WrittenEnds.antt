@@ -1,0 +1,12 @@
+-- What a written manifest holds of the ends.
+use Rattle.std.specs.Prelude.{◌≡◌, List, Some, IsPermutation}
+use Rattle.serde_json.specs.Data.{Members, members_depth}
+use Rattle.eos_evidence.specs.declared.ends.End.{End}
+use Rattle.eos_evidence.specs.Manifest.{ends_of}
+
+-- the members are these ends, in the order of the members' names
+pub record HoldsEnds (ms : Members) (ends : List End) : Type 0 where
+  pub given : List End
+  pub given_is : ends_of ms ≡ Some given
+  pub shuffled : IsPermutation ends given
+  pub flat : members_depth ms ≡ 0
