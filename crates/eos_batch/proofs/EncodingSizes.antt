@@ -4,7 +4,8 @@ use Rattle.std.proofs.lemmas.List.{length-append}
 use Rattle.eos_wire.specs.Writing.{groups_of, varint_of}
 use Rattle.eos_batch.specs.declared.record.Header.{Header}
 use Rattle.eos_batch.specs.declared.record.Record.{Record}
-use Rattle.eos_batch.specs.Encoding.{optional_text, header_text, headers_text, record_text, records_text, capped}
+use Rattle.eos_batch.specs.Encoding.{optional_text, header_text, headers_text, record_text, records_text}
+use Rattle.eos_batch.specs.steps.Writing.{capped}
 use Rattle.eos_wire.proofs.Spellings.{more, last}
 use Rattle.eos_batch.proofs.EncodingSteps.{headers_next, headers_end, records_next, records_end}
 

@@ -13,7 +13,8 @@ use Rattle.eos_batch.specs.Marker.{has_right_control}
 use Rattle.eos_batch.specs.Rules.{IsCounted, has_right_producer}
 use Rattle.eos_base.specs.Steps.{◌>>=◌, must}
 use Rattle.eos_batch.specs.Text.{IsBatchText}
-use Rattle.eos_batch.specs.Encoding.{HasCoveredWidths, records_text, covered_text, text_with, batch_text_of, is_counted, is_short, tested, capped}
+use Rattle.eos_batch.specs.Encoding.{records_text, covered_text, text_with, batch_text_of, is_counted, is_short, tested}
+use Rattle.eos_batch.specs.steps.Writing.{HasCoveredWidths, capped}
 use Rattle.eos_batch.proofs.EncodingTexts.{length-text_with, length-covered_text, covered_is}
 
 pub record Passes (b : Batch) : Type 0 where

@@ -9,7 +9,8 @@ use Rattle.eos_batch.specs.declared.record.Header.{Header}
 use Rattle.eos_batch.specs.declared.record.Record.{Record}
 use Rattle.eos_batch.specs.declared.batch.Batch.{Batch}
 use Rattle.eos_batch.specs.Text.{IsBytesText, IsOptionalText, IsHeaderText, AreHeaderTexts, IsBodyText, IsRecordText, AreRecordTexts, IsCoveredText}
-use Rattle.eos_batch.specs.Encoding.{bytes_text, optional_text, header_text, headers_text, body_text, record_text, records_text, covered_text, text_with, HasRecordWidths}
+use Rattle.eos_batch.specs.Encoding.{bytes_text, optional_text, header_text, headers_text, body_text, record_text, records_text, covered_text, text_with}
+use Rattle.eos_batch.specs.steps.Writing.{HasRecordWidths}
 use Rattle.eos_batch.proofs.EncodingSteps.{length-body_text, headers_count}
 
 pub varint_is : (n : ℕ) → n < 2 ^ 31 → IsVarint (varint_of (pos n)) (pos n)

@@ -1,5 +1,5 @@
 -- What a contract says of an answer, beside what reading or writing gives: the words that every codec has for its faults.
-use Rattle.std.specs.Prelude.{◌≡◌, ◌⊎◌, ℕ, List, [], ◌∷◌, ◌++◌, Result, Ok, Err, ⊤}
+use Rattle.std.specs.Prelude.{◌≡◌, ◌⊎◌, ℕ, List, Result, Ok, Err, ⊤}
 use Rattle.eos_batch.specs.declared.fault.BatchFault.{BatchFault}
 use Rattle.eos_batch.specs.declared.fault.BatchFault.TheVariants as faults
 
@@ -33,15 +33,3 @@ Gives (Err e) rest read = Fails e read
 abbrev pub IsWritten : {X : Type 0} → Result X BatchFault → Result X BatchFault → Type 0
 IsWritten (Ok x) answer = (answer ≡ Ok x) ⊎ (answer ≡ Err faults.OutOfMemory)
 IsWritten (Err fault) answer = answer ≡ Err fault
-
--- ---- records that are put at the end of a list
-
--- what reading gives is put there
-abbrev pub Pushes : {X Y : Type 0} → Result Y BatchFault → List X → List X → Result X BatchFault → Type 0
-Pushes {X} (Ok _) before after read = (x : X) × (read ≡ Ok x) × (after ≡ before ++ x ∷ [])
-Pushes (Err e) before after read = Fails e read
-
--- the same, and these bytes are left
-abbrev pub PushesFrom : {X Y : Type 0} → Result Y BatchFault → List X → List X → List ℕ → Result (X × List ℕ) BatchFault → Type 0
-PushesFrom {X} (Ok _) before after rest read = (x : X) × (read ≡ Ok (x, rest)) × (after ≡ before ++ x ∷ [])
-PushesFrom (Err e) before after rest read = Fails e read

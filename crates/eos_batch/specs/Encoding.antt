@@ -95,24 +95,3 @@ encoding_of b = do
 -- none of its texts is one that a segment has room for
 abbrev pub HasNoText : Batch → Type 0
 HasNoText b = (text : List ℕ) → IsBatchText text b → 2 ^ 30 < length text
-
--- ---- sizes, before anything is written
-
--- a size, or the greatest number of 64 bits
-abbrev pub capped : ℕ → ℕ
-capped size = min size (2 ^ 64 - 1)
-
--- each number of the record is one of its field's width
-pub record HasRecordWidths (r : Record) : Type 0 where
-  pub attributes : FitsSigned w8 r.attributes
-  pub timestamp_delta : FitsSigned w64 r.timestamp_delta
-
--- and so is each of the batch's that the checksum covers
-pub record HasCoveredWidths (b : Batch) : Type 0 where
-  pub attributes : FitsSigned w16 b.attributes
-  pub base_timestamp : FitsSigned w64 b.base_timestamp
-  pub max_timestamp : FitsSigned w64 b.max_timestamp
-  pub producer : FitsSigned w64 b.producer
-  pub epoch : FitsSigned w16 b.epoch
-  pub sequence : FitsSigned w32 b.sequence
-  pub records : All HasRecordWidths b.records

@@ -14,16 +14,6 @@ use Rattle.eos_batch.specs.Reading.{used_up, int_at, long_at, optional_at, count
 use Rattle.eos_batch.specs.Marker.{has_right_control}
 use Rattle.eos_batch.specs.Rules.{has_right_producer}
 
--- There is something that reading gives.
-abbrev pub Passes : {X Y : Type 0} → Result Y BatchFault → Result X BatchFault → Type 0
-Passes {X} (Ok _) read = (x : X) × (read ≡ Ok x)
-Passes (Err e) read = Fails e read
-
--- the same, and these bytes are left
-abbrev pub PassesFrom : {X Y : Type 0} → Result Y BatchFault → List ℕ → Result (X × List ℕ) BatchFault → Type 0
-PassesFrom {X} (Ok _) rest read = (x : X) × (read ≡ Ok (x, rest))
-PassesFrom (Err e) rest read = Fails e read
-
 -- a record without its length, whatever its place, and nothing after it
 unfoldable pub whole_at : List ℕ → Result Record BatchFault
 whole_at bytes = do

@@ -9,7 +9,8 @@ ghost use Rattle.eos_wire.specs.Writing.{IsShortest};
 ghost use Rattle.eos_batch.specs.Text.{IsBatchText};
 ghost use Rattle.eos_batch.specs.Reading.{batch_at};
 ghost use Rattle.eos_batch.specs.Answers.{IsWritten};
-ghost use Rattle.eos_batch.specs.Encoding.{records_text, covered_text, text_with, batch_text_of, is_counted, is_short, tested, encoding_of, HasNoText, HasCoveredWidths};
+ghost use Rattle.eos_batch.specs.Encoding.{records_text, covered_text, text_with, batch_text_of, is_counted, is_short, tested, encoding_of, HasNoText};
+ghost use Rattle.eos_batch.specs.steps.Writing.{HasCoveredWidths};
 
 use crate::batch::Batch;
 use crate::encode_record::write_records;

@@ -2,7 +2,8 @@
 //! of the module that reads them. Each part is appended, and what a refused growth leaves is never looked at.
 
 ghost use Rattle.std.specs.Prelude.{◌≡◌, ◌≤◌, ◌<◌, ◌^◌, ◌++◌, length, All, OnOk};
-ghost use Rattle.eos_batch.specs.Encoding.{bytes_text, optional_text, header_text, headers_text, body_text, record_text, records_text, HasRecordWidths};
+ghost use Rattle.eos_batch.specs.Encoding.{bytes_text, optional_text, header_text, headers_text, body_text, record_text, records_text};
+ghost use Rattle.eos_batch.specs.steps.Writing.{HasRecordWidths};
 
 use crate::encode_size::body_size;
 use crate::record::{Header, Record};

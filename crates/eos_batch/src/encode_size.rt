@@ -3,7 +3,8 @@
 
 ghost use Rattle.std.specs.Prelude.{◌≡◌, ◌≤◌, ◌<◌, ◌+◌, ◌*◌, pos, length};
 ghost use Rattle.eos_wire.specs.Writing.{groups_of, varint_of, varlong_of};
-ghost use Rattle.eos_batch.specs.Encoding.{bytes_text, optional_text, header_text, headers_text, body_text, record_text, records_text, capped};
+ghost use Rattle.eos_batch.specs.Encoding.{bytes_text, optional_text, header_text, headers_text, body_text, record_text, records_text};
+ghost use Rattle.eos_batch.specs.steps.Writing.{capped};
 
 use crate::record::{Header, Record};
 use bytes::Bytes;

@@ -3,7 +3,8 @@
 ghost use Rattle.std.specs.Prelude.{◌≡◌, ◌≤◌, ◌<◌, length, slice_range, IfOk, IfErr};
 ghost use Rattle.eos_batch.specs.Answers.{Fails};
 ghost use Rattle.eos_batch.specs.Reading.{header_at, headers_at, placed_at, record_at};
-ghost use Rattle.eos_batch.specs.Places.{Passes, PassesFrom, IsAt};
+ghost use Rattle.eos_batch.specs.Places.{IsAt};
+ghost use Rattle.eos_batch.specs.steps.Reading.{Passes, PassesFrom};
 
 use crate::cursor::Cursor;
 use crate::fault::BatchFault;

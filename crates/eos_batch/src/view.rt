@@ -95,12 +95,14 @@ impl<'a> Model for HeaderRef<'a> {
 }
 
 impl<'a> HeaderRef<'a> {
+    /// The bytes of its key.
     pub fn key(&self) -> &'a [u8]
         ensures { result.now ≡ self.now.key }
     {
         self.key.rest()
     }
 
+    /// The bytes of its value; None for null.
     pub fn value(&self) -> Option<&'a [u8]>
         ensures { option_map (λ s. s.now) result ≡ self.now.value }
     {
@@ -179,6 +181,7 @@ impl<'a> Model for RecordRef<'a> {
 }
 
 impl<'a> RecordRef<'a> {
+    /// The bytes of its key; None for null.
     pub fn key(&self) -> Option<&'a [u8]>
         ensures { option_map (λ s. s.now) result ≡ self.now.key }
     {
@@ -188,6 +191,7 @@ impl<'a> RecordRef<'a> {
         }
     }
 
+    /// The bytes of its value; None for null.
     pub fn value(&self) -> Option<&'a [u8]>
         ensures { option_map (λ s. s.now) result ≡ self.now.value }
     {
@@ -197,6 +201,7 @@ impl<'a> RecordRef<'a> {
         }
     }
 
+    /// Its headers, in order.
     pub fn into_headers(self) -> HeaderRefs<'a>
         ensures { result ≡ self.entry.headers }
     {

@@ -48,7 +48,7 @@ impl<'a> Fields<'a> {
         self.rest.len()
     }
 
-    /// The next `len` bytes, as a part of the slice.
+    /// The next `len` bytes, as a part of the slice. `None` where fewer are left.
     pub fn take(&mut self, len: usize) -> Option<&'a [u8]>
         ensures read { Reads (option_copied result) self.new (bytes_at len self.old) }
         ensures stays { IfNone result (self.new ≡ self.old) }
@@ -71,6 +71,7 @@ impl<'a> Fields<'a> {
         Some(*front)
     }
 
+    /// An INT8, in a byte. `None` where fewer are left.
     #[tactic(auto, unfolding(crate::specs::Numbers::i8_at))]
     pub fn i8(&mut self) -> Option<i8>
         ensures read { Reads result self.new (i8_at self.old) }
@@ -80,6 +81,7 @@ impl<'a> Fields<'a> {
         Some(i8::from_be_bytes(bytes))
     }
 
+    /// An INT16, in two bytes. `None` where fewer are left.
     #[tactic(auto, unfolding(crate::specs::Numbers::i16_at))]
     pub fn i16(&mut self) -> Option<i16>
         ensures read { Reads result self.new (i16_at self.old) }
@@ -89,6 +91,7 @@ impl<'a> Fields<'a> {
         Some(i16::from_be_bytes(bytes))
     }
 
+    /// An INT32, in four bytes. `None` where fewer are left.
     #[tactic(auto, unfolding(crate::specs::Numbers::i32_at))]
     pub fn i32(&mut self) -> Option<i32>
         ensures read { Reads result self.new (i32_at self.old) }
@@ -98,6 +101,7 @@ impl<'a> Fields<'a> {
         Some(i32::from_be_bytes(bytes))
     }
 
+    /// An INT64, in eight bytes. `None` where fewer are left.
     #[tactic(auto, unfolding(crate::specs::Numbers::i64_at))]
     pub fn i64(&mut self) -> Option<i64>
         ensures read { Reads result self.new (i64_at self.old) }
@@ -107,6 +111,7 @@ impl<'a> Fields<'a> {
         Some(i64::from_be_bytes(bytes))
     }
 
+    /// A UINT32, in four bytes. `None` where fewer are left.
     #[tactic(auto, unfolding(crate::specs::Numbers::u32_at))]
     pub fn u32(&mut self) -> Option<u32>
         ensures read { Reads result self.new (u32_at self.old) }
@@ -116,7 +121,7 @@ impl<'a> Fields<'a> {
         Some(u32::from_be_bytes(bytes))
     }
 
-    /// An unsigned varint.
+    /// An unsigned varint. `None` where no bytes at the front are one.
     pub fn uvarint(&mut self) -> Option<u32>
         ensures read { Reads result self.new (with_rest self.old (uvarint_at self.old)) }
         ensures stays { IfNone result (self.new ≡ self.old) }

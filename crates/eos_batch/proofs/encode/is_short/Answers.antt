@@ -1,6 +1,7 @@
 use Rattle.std.proofs.Common.{ap, ◌∙◌, length, List}
 use Rattle.eos_batch.specs.declared.record.Record.{Record}
-use Rattle.eos_batch.specs.Encoding.{records_text, capped}
+use Rattle.eos_batch.specs.Encoding.{records_text}
+use Rattle.eos_batch.specs.steps.Writing.{capped}
 use Rattle.eos_batch.proofs.EncodingTests.{is_short_at}
 use Rattle.eos_batch.proofs.encode.is_short.Goals as goal
 

@@ -1,4 +1,4 @@
-use Rattle.eos_batch.specs.Encoding.{HasRecordWidths}
+use Rattle.eos_batch.specs.steps.Writing.{HasRecordWidths}
 use Rattle.eos_batch.proofs.EncodingSteps.{records_next, records_end, part_fits, rest_fits, part_written, all_written, All-take_more, All-take_whole}
 use Rattle.eos_batch.proofs.encode_record.write_records.Goals as goal
 

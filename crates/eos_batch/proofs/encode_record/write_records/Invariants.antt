@@ -1,5 +1,6 @@
 use Rattle.std.proofs.Common.{◌≡◌, ◌≤◌, ◌^◌, ◌++◌, All, length, drop, take}
-use Rattle.eos_batch.specs.Encoding.{records_text, HasRecordWidths}
+use Rattle.eos_batch.specs.Encoding.{records_text}
+use Rattle.eos_batch.specs.steps.Writing.{HasRecordWidths}
 use Rattle.eos_batch.proofs.encode_record.write_records.Given as goal
 
 abbrev pub invariant-loop-place : goal.invariant-loop-place

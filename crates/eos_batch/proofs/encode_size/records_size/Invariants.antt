@@ -1,5 +1,6 @@
 use Rattle.std.proofs.Common.{◌≡◌, ◌+◌, ◌<◌, ◌^◌, length, drop}
-use Rattle.eos_batch.specs.Encoding.{records_text, capped}
+use Rattle.eos_batch.specs.Encoding.{records_text}
+use Rattle.eos_batch.specs.steps.Writing.{capped}
 use Rattle.eos_batch.proofs.encode_size.records_size.Given as goal
 
 abbrev pub invariant-loop-place : goal.invariant-loop-place
