@@ -63,6 +63,17 @@ indexed_data bytes at source before after o head rs es opened plain is read righ
       few = omega (arith, few, ap length pushed, length-append before es, opened.after, opened.within);
     })
 
+pub head_read : (bytes : List ℕ) (at : ℕ) (o : Opened) (head : BatchHead) (rs : List Record) → IsOpened bytes at o → is_control o.batch.attributes ≡ false → head ≡ head_with o.batch o.count (o.end - at) None
+    → records_in bytes o.begin o.end o.count ≡ Ok rs → ((qs : List Record) (size : ℕ) → finished o.batch size qs ≡ Ok (with_records o.batch qs, size))
+    → (b : Batch) × (batch_at (drop at bytes) ≡ Ok (b, head.size)) × (head ≡ head_of b head.size)
+head_read bytes at o head rs opened plain is read right =
+    let n = counted bytes o.begin o.end o.count rs read in
+    rw is (
+      with_records o.batch rs,
+      opened.goes_on ∙ (ap (λ (r : Result (List Record) BatchFault). r >>= finished o.batch (o.end - at)) read ∙ right rs (o.end - at)),
+      data_head_is o.batch rs o.count (o.end - at) plain (sym n),
+    )
+
 record Finished (b : Batch) (size : ℕ) (rs : List Record) (x : Batch × ℕ) : Type 0 where
   pub batch : with_records b rs ≡ x.0
   pub taken : size ≡ x.1

@@ -5,3 +5,4 @@ pub mod SegmentEntries
 pub mod SettledBatches
 pub mod ReadBatches
 pub mod LogPlaces
+pub mod CursorPlaces

@@ -78,3 +78,16 @@ get_flat {X = X} f (w ∷ ws) zero j x y e at =
 get_flat f (w ∷ ws) (suc k) j x y e at =
     let z : length (f w ++ flat_map f (take k ws)) + j ≡ length (f w) + (length (flat_map f (take k ws)) + j) = omega (arith, length-append (f w) (flat_map f (take k ws))) in
     get_right_at (f w) (flat_map f ws) (length (f w ++ flat_map f (take k ws)) + j) (length (flat_map f (take k ws)) + j) z ∙ get_flat f ws k j x y e at
+
+-- ---- what is left of a list
+
+pub drop_get : {X : Type 0} (xs : List X) (p : ℕ) (x : X) → slice_get xs p ≡ Some x → drop p xs ≡ x ∷ drop (suc p) xs
+drop_get [] p x e = absurd cc
+drop_get {X = X} (y ∷ ys) zero x e = let same : y ≡ x = cc in ap (λ (z : X). z ∷ ys) same
+drop_get (y ∷ ys) (suc p) x e = drop_get ys p x e
+
+pub drop_past : {X : Type 0} (xs : List X) (n : ℕ) → length xs ≤ n → drop n xs ≡ []
+drop_past [] zero le = refl
+drop_past [] (suc n) le = refl
+drop_past (x ∷ xs) zero le = absurd (omega (arith, le))
+drop_past (x ∷ xs) (suc n) le = drop_past xs n (omega (arith, le))

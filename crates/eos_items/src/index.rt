@@ -1,6 +1,6 @@
 //! The index of a log: its segments' indexes, one after the other.
 
-ghost use Rattle.std.specs.Prelude.{◌≡◌, ◌≤◌, ◌<◌, ◌+◌, ◌++◌, ◌^◌, [], length, take, slice_get, Some, IfOk, IfErr, OnOk, OnErr};
+ghost use Rattle.std.specs.Prelude.{◌≡◌, ◌≤◌, ◌<◌, ◌+◌, ◌++◌, ◌^◌, [], length, take, slice_get, Some, IfOk, IfErr, OnOk, OnErr, ◌==◌};
 ghost use Rattle.std.specs.Vec.{vec_len};
 ghost use Rattle.eos_batch.specs.Answers.{Fails};
 ghost use Rattle.eos_batch.specs.Reading.{batch_at};
@@ -107,6 +107,17 @@ impl LogIndex {
         }
         let segment = &mut self.segments[len - 1];
         segment.read(alloc, next)
+    }
+
+    /// Whether all bytes of the last segment are read, or there is none.
+    pub fn is_at_end(&self) -> bool
+        ensures { result ≡ (length self.now.rest == 0) }
+    {
+        let len = self.segments.len();
+        if len == 0 {
+            return true;
+        }
+        self.segments[len - 1].is_at_end()
     }
 
     /// The number of data batches.

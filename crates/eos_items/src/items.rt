@@ -6,6 +6,7 @@ ghost use Rattle.std.specs.Vec.{vec_len};
 ghost use Rattle.eos_items.specs.Items.{items_of};
 ghost use Rattle.eos_items.specs.Views.{SegmentView, batches_of};
 
+use crate::cursor::ItemCursor;
 use crate::index::LogIndex;
 use crate::item::{Fate, Item};
 use crate::segment::SegmentIndex;
@@ -82,7 +83,15 @@ impl Items {
         self.len() == 0
     }
 
-    /// The record at this place, lent. It takes no memory.
+    /// Over the records in order, each lent, without searching.
+    pub fn cursor(&self) -> ItemCursor<'_>
+        ensures { result ≡ self.now }
+    {
+        let index = &self.index;
+        ItemCursor::new(&index.segments)
+    }
+
+    /// The record at this place, lent. It takes no memory, and looks through the segments before it.
     pub fn view(&self, i: usize) -> ItemRef<'_>
         requires { i < length self.now }
         ensures { slice_get self.now i ≡ Some result }
@@ -112,7 +121,7 @@ pub struct ItemRef<'a> {
     offset: u64,
     fate: Fate,
     writer: Option<(i64, i16)>,
-    record: RecordRef<'a>,
+    lent: RecordRef<'a>,
 }
 
 impl<'a> Model for ItemRef<'a> {
@@ -120,7 +129,7 @@ impl<'a> Model for ItemRef<'a> {
 
     ghost Value = { Item };
 
-    ghost view = { λ i. record { offset = i.offset; fate = i.fate; writer = i.writer; key = i.record.key; value = i.record.value; headers = i.record.headers } };
+    ghost view = { λ i. record { offset = i.offset; fate = i.fate; writer = i.writer; key = i.lent.key; value = i.lent.value; headers = i.lent.headers } };
 }
 
 impl<'a> ItemRef<'a> {
@@ -136,7 +145,7 @@ impl<'a> ItemRef<'a> {
             offset,
             fate,
             writer,
-            record: lent,
+            lent,
         }
     }
 
@@ -162,19 +171,19 @@ impl<'a> ItemRef<'a> {
     pub fn key(&self) -> Option<&'a [u8]>
         ensures { option_map (λ s. s.now) result ≡ self.now.key }
     {
-        self.record.key()
+        self.lent.key()
     }
 
     pub fn value(&self) -> Option<&'a [u8]>
         ensures { option_map (λ s. s.now) result ≡ self.now.value }
     {
-        self.record.value()
+        self.lent.value()
     }
 
     /// Its headers, read one after the other.
     pub fn into_headers(self) -> HeaderRefs<'a>
         ensures { result ≡ self.entry.headers }
     {
-        self.record.into_headers()
+        self.lent.into_headers()
     }
 }

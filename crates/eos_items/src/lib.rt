@@ -2,6 +2,7 @@
 //! place where it stands. Records are read from there when they are asked for.
 #![tactic(auto)]
 
+mod cursor;
 mod entry;
 mod head;
 mod index;
@@ -10,8 +11,10 @@ mod items;
 mod segment;
 mod walk;
 
+pub use cursor::ItemCursor;
 pub use entry::Ending;
 pub use head::{BatchHead, DataHead};
 pub use index::LogIndex;
 pub use item::{Fate, Item};
 pub use items::{ItemRef, Items};
+pub use walk::read_head;

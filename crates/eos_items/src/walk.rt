@@ -3,6 +3,7 @@
 ghost use Rattle.std.specs.Prelude.{◌≡◌, ◌≤◌, ◌<◌, ◌+◌, ◌^◌, length, drop, Ok, IfOk, IfErr, OnOk};
 ghost use Rattle.eos_batch.specs.declared.batch.Batch.{Batch};
 ghost use Rattle.eos_batch.specs.Answers.{Fails};
+ghost use Rattle.eos_batch.specs.Places.{Passes};
 ghost use Rattle.eos_batch.specs.Reading.{batch_at};
 ghost use Rattle.eos_items.specs.Heads.{head_with, head_of};
 ghost use Rattle.eos_items.specs.Indexed.{records_in, Pushed, HasGrown, IsIndexed};
@@ -36,6 +37,21 @@ fn push_entries(
             source,
         })?;
         from = next;
+    }
+    if from != end {
+        return Err(BatchFault::Trailing);
+    }
+    Ok(())
+}
+
+/// Reads over a batch's records, which take the bytes from `begin` to `end`.
+fn pass_records(bytes: &Bytes, begin: usize, end: usize, count: u32) -> Result<(), BatchFault>
+    requires { (begin ≤ end) × (end ≤ length bytes.now) }
+    ensures { Passes result (records_in bytes.now begin end count) }
+{
+    let mut from = begin;
+    for place in 0..count {
+        from = pass_record(bytes, from, end, place)?;
     }
     if from != end {
         return Err(BatchFault::Trailing);
@@ -104,5 +120,24 @@ pub(crate) fn index_batch(
         entries.truncate(kept);
         return Err(fault);
     }
+    Ok(head_with(&opened.batch, opened.count, opened.end - at, None))
+}
+
+/// The head of the batch at `at`, whose records are read over: all tests of `decode_batch` in one pass over the bytes,
+/// without a value of a record.
+///
+/// # Errors
+/// The first test that fails. Only a control batch takes memory.
+pub fn read_head(alloc: Global, bytes: &Bytes, at: usize) -> Result<BatchHead, BatchFault>
+    requires { at ≤ length bytes.now }
+    ensures ok { IfOk result (λ h. (b : Batch) × (batch_at (drop at bytes.now) ≡ Ok (b, h.size)) × (h ≡ head_of b h.size)) }
+    ensures err { IfErr result (λ e. Fails e (batch_at (drop at bytes.now))) }
+{
+    let opened = open_batch(alloc, bytes, at)?;
+    if opened.batch.is_control() {
+        return control_head(alloc, bytes, at);
+    }
+    pass_records(bytes, opened.begin, opened.end, opened.count)?;
+    test_data(&opened.batch)?;
     Ok(head_with(&opened.batch, opened.count, opened.end - at, None))
 }
