@@ -4,3 +4,4 @@ pub mod Least
 pub mod PartitionNames
 pub mod FaultNames
 pub mod Steps
+pub mod Records

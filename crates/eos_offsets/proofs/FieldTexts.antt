@@ -1,6 +1,6 @@
 -- A field that is read is a text at the front, and each field's text is read, whatever follows.
 use Rattle.std.proofs.Common.{◌≡◌, ℕ, zero, suc, ◌^◌, ◌<◌, Bool, true, false, cond, eqb, List, [], ◌++◌, length, take, drop, Option, Some, None, Result, Ok, Err, refl, sym, ap, subst, ◌∙◌, append_assoc, append-nil, arith, ℤ, pos, negsuc, inl, inr}
-use Rattle.std.specs.Prelude.{FitsSigned, ok_or}
+use Rattle.std.specs.Prelude.{FitsSigned}
 use Rattle.std.specs.Int.{w16}
 use Rattle.std.proofs.lemmas.Bool.{lt-ltb, le-ltb, cases_lt, eqb-true}
 use Rattle.std.proofs.lemmas.Int.{ints}
@@ -10,7 +10,9 @@ use Rattle.eos_wire.proofs.NumberTexts.{IsBytes-append_right, i16_sound, i16_who
 use Rattle.eos_base.specs.declared.record_fault.RecordFault.{RecordFault}
 use Rattle.eos_base.specs.declared.record_fault.RecordFault.TheVariants as faults
 use Rattle.eos_offsets.specs.Text.{IsString, IsMetadata, IfPresent, IsInt32, IsInt64}
-use Rattle.eos_offsets.specs.Reading.{◌>>=◌, Agrees, IsUnlessNoMemory, string_from, string_at, after_metadata_from, after_metadata, after_field, ended}
+use Rattle.eos_base.specs.Steps.{◌>>=◌, must}
+use Rattle.eos_base.specs.Records.{present, ended, Settles}
+use Rattle.eos_offsets.specs.Reading.{string_from, string_at, after_metadata_from, after_metadata, after_field}
 
 -- ---- steps
 
@@ -19,7 +21,7 @@ bind_ok (Ok x) f y e = (x, refl, e)
 bind_ok (Err d) f y e = absurd cc
 
 -- a step that reads a field, or finds too few bytes
-pub field_ok : {A B : Type 0} (o : Option A) (f : A → Result B RecordFault) (y : B) → (ok_or o faults.Short >>= f) ≡ Ok y → (x : A) × (o ≡ Some x) × (f x ≡ Ok y)
+pub field_ok : {A B : Type 0} (o : Option A) (f : A → Result B RecordFault) (y : B) → (present o >>= f) ≡ Ok y → (x : A) × (o ≡ Some x) × (f x ≡ Ok y)
 field_ok (Some x) f y e = (x, refl, e)
 field_ok None f y e = absurd cc
 
@@ -29,20 +31,11 @@ done x = Ok x
 pub ok_is : {A : Type 0} (x y : A) → done x ≡ done y → x ≡ y
 ok_is x y e = cc
 
--- ---- unless memory ran out
+-- ---- as the decoders answer
 
-pub agrees_ok : {X : Type 0} (r said : Result X RecordFault) (x : X) → Agrees r said → r ≡ Ok x → said ≡ Ok x
-agrees_ok (Ok y) said x a e = a ∙ e
-agrees_ok (Err d) said x a e = absurd cc
-
-pub agrees_whole : {X : Type 0} (r said : Result X RecordFault) (x : X) → Agrees r said → said ≡ Ok x → IsUnlessNoMemory r x
-agrees_whole (Ok y) said x a e = ok_is y x (sym a ∙ e)
-agrees_whole (Err faults.OutOfMemory) said x a e = refl
-agrees_whole (Err faults.Short) said x a e = absurd cc
-agrees_whole (Err faults.Version) said x a e = absurd cc
-agrees_whole (Err faults.Status) said x a e = absurd a
-agrees_whole (Err faults.Length) said x a e = absurd cc
-agrees_whole (Err faults.Trailing) said x a e = absurd cc
+pub settles_ok : {X : Type 0} (r said : Result X RecordFault) (x : X) → Settles r said → r ≡ Ok x → said ≡ Ok x
+settles_ok (Ok y) said x a e = a ∙ e
+settles_ok (Err d) said x a e = absurd cc
 
 -- ---- parts
 
@@ -93,7 +86,7 @@ bytes_sound n bytes x e =
 bytes_whole : (text rest : List ℕ) → bytes_at (length text) (text ++ rest) ≡ Some (text, rest)
 bytes_whole text rest = rw (le-ltb (length (text ++ rest)) (length text) (omega (arith, length-append text rest)), take_at text rest (length text) refl, drop_at text rest (length text) refl) refl
 
-found : {A : Type 0} (o : Option A) (x : A) → ok_or o faults.Short ≡ Ok x → o ≡ Some x
+found : {A : Type 0} (o : Option A) (x : A) → present o ≡ Ok x → o ≡ Some x
 found (Some y) x e = cc
 found None x e = absurd cc
 
@@ -186,12 +179,12 @@ expire_timestamp_whole false text rest h = rw h refl
 
 -- ---- the end
 
-ended_cases : {A : Type 0} (b : Bool) (d : RecordFault) (x y : A) → cond b (Ok x) (Err d) ≡ Ok y → (b ≡ true) × (x ≡ y)
+ended_cases : {A : Type 0} (b : Bool) (d : RecordFault) (x y : A) → must b d x ≡ Ok y → (b ≡ true) × (x ≡ y)
 ended_cases true d x y e = (refl, cc)
 ended_cases false d x y e = absurd cc
 
 -- what was used up is its text, with nothing after it
-pub ended_ok : {X : Type 0} (x y : X) (rest : List ℕ) → ended x rest ≡ Ok y → (rest ≡ []) × (x ≡ y)
+pub ended_ok : {X : Type 0} (x y : X) (rest : List ℕ) → ended (x, rest) ≡ Ok y → (rest ≡ []) × (x ≡ y)
 ended_ok x y rest e =
     let b = ended_cases (eqb (length rest) 0) faults.Trailing x y e in
     (nil_from_length rest (eqb-true (length rest) 0 b.0), b.1)

@@ -10,7 +10,7 @@ use Rattle.eos_wire.proofs.NumberTexts.{i16_sound, i16_whole, i32_sound, i32_who
 use Rattle.eos_base.specs.declared.record_fault.RecordFault.{RecordFault}
 use Rattle.eos_offsets.specs.declared.key.OffsetKey.{OffsetKey}
 use Rattle.eos_offsets.specs.Text.{IsString, IsKeyText, IsOtherKeyText}
-use Rattle.eos_offsets.specs.Reading.{string_at, key_fields_of, is_key_version, some_of, key_of}
+use Rattle.eos_offsets.specs.Reading.{string_at, key_fields_of, is_key_version, some_of, read_key}
 use Rattle.eos_offsets.proofs.FieldTexts.{bind_ok, field_ok, ok_is, followed, used_up, string_sound, string_whole, ended_ok}
 
 -- the fields after the version
@@ -111,29 +111,29 @@ version_cases false bytes version rest found is fits parts rest_fits e =
       parts = parts;
     })
 
-key_or_other : (bytes : List ℕ) (found : Option OffsetKey) → IsBytes bytes → key_of bytes ≡ Ok found → IsKeyOrOther bytes found
-unfolding key_of
+key_or_other : (bytes : List ℕ) (found : Option OffsetKey) → IsBytes bytes → read_key bytes ≡ Ok found → IsKeyOrOther bytes found
+unfolding read_key
 key_or_other bytes found fits e =
     let v = field_ok (i16_at bytes) _ found e in
     let t = i16_sound bytes v.0 fits v.1 in
     version_cases (is_key_version v.0.0) bytes v.0.0 v.0.1 found refl t.small t.parts t.rest_fits v.2
 
-pub key_sound : (bytes : List ℕ) (key : OffsetKey) → IsBytes bytes → key_of bytes ≡ Ok (Some key) → IsKeyText bytes key
+pub key_sound : (bytes : List ℕ) (key : OffsetKey) → IsBytes bytes → read_key bytes ≡ Ok (Some key) → IsKeyText bytes key
 key_sound bytes key = key_or_other bytes (Some key)
 
-pub other_sound : (bytes : List ℕ) → IsBytes bytes → key_of bytes ≡ Ok None → IsOtherKeyText bytes
+pub other_sound : (bytes : List ℕ) → IsBytes bytes → read_key bytes ≡ Ok None → IsOtherKeyText bytes
 other_sound bytes = key_or_other bytes None
 
-pub key_whole : (text : List ℕ) (key : OffsetKey) → IsKeyText text key → key_of text ≡ Ok (Some key)
-unfolding key_of
+pub key_whole : (text : List ℕ) (key : OffsetKey) → IsKeyText text key → read_key text ≡ Ok (Some key)
+unfolding read_key
 key_whole text key h =
     let v = known_again h.version h.version_known in
     let rest : List ℕ = h.group ++ (h.topic ++ i32_text key.partition) in
     let f : key_fields_of rest ≡ Ok key = fields_whole rest key (record { group = h.group; topic = h.topic; group_text = h.group_text; topic_text = h.topic_text; partition_fits = h.partition_fits; parts = refl }) in
     rw (h.parts, i16_whole h.version rest v.1, v.0, f) refl
 
-pub other_whole : (text : List ℕ) → IsOtherKeyText text → key_of text ≡ Ok None
-unfolding key_of
+pub other_whole : (text : List ℕ) → IsOtherKeyText text → read_key text ≡ Ok None
+unfolding read_key
 other_whole text h =
     let a : int_eq h.version (pos 0) ≡ false = is_false (int_eq h.version (pos 0)) (λ t. h.not_0 ((Decides-int_eq h.version (pos 0)).0 t)) in
     let b : int_eq h.version (pos 1) ≡ false = is_false (int_eq h.version (pos 1)) (λ t. h.not_1 ((Decides-int_eq h.version (pos 1)).0 t)) in

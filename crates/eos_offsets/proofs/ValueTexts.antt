@@ -9,7 +9,7 @@ use Rattle.eos_wire.proofs.NumberTexts.{i16_sound, i16_whole, i64_sound, i64_who
 use Rattle.eos_base.specs.declared.record_fault.RecordFault.{RecordFault}
 use Rattle.eos_base.specs.declared.record_fault.RecordFault.TheVariants as faults
 use Rattle.eos_offsets.specs.Text.{IsMetadata, IfPresent, IsInt32, IsInt64, IsValueText}
-use Rattle.eos_offsets.specs.Reading.{after_metadata, after_field, is_value_version, value_fields_of, value_of}
+use Rattle.eos_offsets.specs.Reading.{after_metadata, after_field, is_value_version, value_fields_of, read_value}
 use Rattle.eos_offsets.proofs.FieldTexts.{bind_ok, field_ok, followed, used_up, metadata_sound, metadata_whole, leader_epoch_sound, leader_epoch_whole, expire_timestamp_sound, expire_timestamp_whole, ended_ok}
 
 -- ---- the version
@@ -113,15 +113,15 @@ version_cases true bytes version rest offset is parts rest_fits e =
     }
 version_cases false bytes version rest offset is parts rest_fits e = absurd cc
 
-pub value_sound : (bytes : List ℕ) (offset : ℤ) → IsBytes bytes → value_of bytes ≡ Ok offset → IsValueText bytes offset
-unfolding value_of
+pub value_sound : (bytes : List ℕ) (offset : ℤ) → IsBytes bytes → read_value bytes ≡ Ok offset → IsValueText bytes offset
+unfolding read_value
 value_sound bytes offset fits e =
     let v = field_ok (i16_at bytes) _ offset e in
     let t = i16_sound bytes v.0 fits v.1 in
     version_cases (is_value_version v.0.0) bytes v.0.0 v.0.1 offset refl t.parts t.rest_fits v.2
 
-pub value_whole : (text : List ℕ) (offset : ℤ) → IsValueText text offset → value_of text ≡ Ok offset
-unfolding value_of
+pub value_whole : (text : List ℕ) (offset : ℤ) → IsValueText text offset → read_value text ≡ Ok offset
+unfolding read_value
 value_whole text offset h =
     let rest : List ℕ = i64_text offset ++ (h.leader_epoch ++ (h.metadata ++ (h.commit_timestamp ++ h.expire_timestamp))) in
     let f : value_fields_of h.version rest ≡ Ok offset = fields_whole h.version rest offset (record {

@@ -16,8 +16,8 @@ string_text bytes = i16_text (pos (length bytes)) ++ bytes
 unfoldable pub key_bytes : OffsetKey → List ℕ
 key_bytes key = i16_text (pos 1) ++ (string_text key.group ++ (string_text key.topic ++ i32_text key.partition))
 
-abbrev pub key_text : OffsetKey → Result (List ℕ) RecordFault
-key_text key = if nat_lt (length key.group) (2 ^ 15) && nat_lt (length key.topic) (2 ^ 15) then Ok (key_bytes key) else Err faults.Length
+abbrev pub write_key : OffsetKey → Result (List ℕ) RecordFault
+write_key key = if nat_lt (length key.group) (2 ^ 15) && nat_lt (length key.topic) (2 ^ 15) then Ok (key_bytes key) else Err faults.Length
 
 abbrev pub leader_epoch_text : ℤ → List ℕ
 leader_epoch_text version = if int_eq version (pos 3) then i32_text (negsuc 0) else []
@@ -29,5 +29,5 @@ unfoldable pub value_bytes : ℤ → ℤ → List ℕ
 value_bytes offset version =
     i16_text version ++ (i64_text offset ++ (leader_epoch_text version ++ (string_text [] ++ (i64_text (pos 0) ++ expire_timestamp_text version))))
 
-abbrev pub value_text : Commit → ℤ → Result (List ℕ) RecordFault
-value_text commit version = if is_value_version version then Ok (value_bytes commit.offset version) else Err faults.Version
+abbrev pub write_value : Commit → ℤ → Result (List ℕ) RecordFault
+write_value commit version = if is_value_version version then Ok (value_bytes commit.offset version) else Err faults.Version

@@ -10,16 +10,15 @@
 //! Numbers are big-endian. A STRING is an INT16, the number of its bytes, and the bytes. Source: Kafka's schema
 //! `OffsetCommitKey`.
 
-ghost use Rattle.std.specs.Prelude.{◌≡◌, ◌<◌, ◌^◌, ◌++◌, length, ok_or, OnOk, IfOk};
-ghost use Rattle.eos_wire.specs.Numbers.{i16_at};
+ghost use Rattle.std.specs.Prelude.{◌≡◌, ◌<◌, ◌^◌, ◌++◌, length, Ok, None, Some, OnOk, IfOk, IfErr};
+ghost use Rattle.eos_base.specs.Records.{Parses, Settles};
 ghost use Rattle.eos_offsets.specs.Text.{IsKeyText, IsOtherKeyText};
-ghost use Rattle.eos_offsets.specs.Reading.{Agrees, Gives, IsUnlessNoMemory, string_at, key_fields_of, key_of};
-ghost use Rattle.eos_offsets.specs.Writing.{string_text, key_bytes, key_text};
+ghost use Rattle.eos_offsets.specs.Reading.{IsOfBytes, IsNotStatus, string_at, key_fields_of, read_key};
+ghost use Rattle.eos_offsets.specs.Writing.{string_text, key_bytes, write_key};
 
-use crate::laws::are_bytes;
 use bytes::{BufMut, Bytes, BytesMut};
 use eos_base::RecordFault;
-use eos_wire::Fields;
+use eos_wire::{Cursor, are_bytes};
 use std::alloc::{AllocError, Global};
 
 /// The version that is written.
@@ -36,58 +35,44 @@ pub struct OffsetKey {
     pub partition: i32,
 }
 
-/// Reads an INT16 off the front.
-#[tactic(auto, unfolding(eos_wire::specs::Numbers::i16_at))]
-fn read_i16(rest: &mut Bytes) -> Result<i16, RecordFault>
-    ensures { Gives result rest.new (ok_or (i16_at rest.old) RecordFault.Short) }
-{
-    let number = Fields::new(rest.as_slice())
-        .i16()
-        .ok_or(RecordFault::Short)?;
-    rest.advance(2);
-    Ok(number)
-}
-
-/// Cuts a STRING off the front, without copying it.
+/// A STRING, as a part of the input.
 #[tactic(auto, unfolding(crate::specs::Reading::string_at))]
-fn read_string(rest: &mut Bytes) -> Result<Bytes, RecordFault>
-    ensures { Gives result rest.new (string_at rest.old) }
+fn read_string<'a>(rest: &mut Cursor<'a>) -> Result<Cursor<'a>, RecordFault>
+    ensures reading { Parses result rest.new (string_at rest.old) }
+    ensures faults { IfErr result IsOfBytes }
 {
-    let len = read_i16(rest)?;
+    let len = rest.i16().ok_or(RecordFault::Short)?;
     if len < 0 {
         return Err(RecordFault::Length);
     }
-    let len = len as usize;
-    if rest.len() < len {
-        return Err(RecordFault::Short);
-    }
-    Ok(rest.split_to(len)?)
+    rest.take(len as usize).ok_or(RecordFault::Short)
 }
 
 /// Reads the fields after the version, which are all that is left.
 #[tactic(auto, unfolding(crate::specs::Reading::key_fields_of))]
-fn read_fields(mut rest: Bytes) -> Result<OffsetKey, RecordFault>
-    ensures { Agrees result (key_fields_of rest) }
+fn read_fields(mut rest: Cursor<'_>) -> Result<OffsetKey, RecordFault>
+    ensures answer { Settles result (key_fields_of rest.entry) }
+    ensures faults { IfErr result IsNotStatus }
 {
     let group = read_string(&mut rest)?;
     let topic = read_string(&mut rest)?;
-    let mut fields = Fields::new(rest.as_slice());
-    let partition = fields.i32().ok_or(RecordFault::Short)?;
-    if fields.left() > 0 {
+    let partition = rest.i32().ok_or(RecordFault::Short)?;
+    if !rest.is_empty() {
         return Err(RecordFault::Trailing);
     }
     Ok(OffsetKey {
-        group,
-        topic,
+        group: group.share()?,
+        topic: topic.share()?,
         partition,
     })
 }
 
-#[tactic(auto, unfolding(crate::specs::Reading::key_of))]
-fn read_key(mut rest: Bytes) -> Result<Option<OffsetKey>, RecordFault>
-    ensures { Agrees result (key_of rest) }
+#[tactic(auto, unfolding(crate::specs::Reading::read_key))]
+fn read_key(mut rest: Cursor<'_>) -> Result<Option<OffsetKey>, RecordFault>
+    ensures answer { Settles result (read_key rest.entry) }
+    ensures faults { IfErr result IsNotStatus }
 {
-    let version = read_i16(&mut rest)?;
+    let version = rest.i16().ok_or(RecordFault::Short)?;
     if version != 0 && version != 1 {
         return Ok(None);
     }
@@ -95,21 +80,21 @@ fn read_key(mut rest: Bytes) -> Result<Option<OffsetKey>, RecordFault>
 }
 
 /// The group and the partition that a key names, or `None` for a key of another version than 0 and 1, which is of no
-/// commit. The texts are cut from the key's bytes, not copied.
+/// commit. The texts are shared with the key's bytes, not copied.
 ///
-/// Errors: `Short` or `Length` at the first field that can't be read, then `Trailing`; `OutOfMemory` where a further owner
-/// of the bytes is refused.
+/// # Errors
+/// The first fault in field order: Short where the bytes run out, Length where a text's length is below 0, Trailing where
+/// bytes are left. OutOfMemory comes only after all of these.
 pub fn decode_key(_alloc: Global, bytes: &Bytes) -> Result<Option<OffsetKey>, RecordFault>
-    ensures reading { Agrees result (key_of bytes.now) }
-    ensures sound { (key : OffsetKey) → result ≡ Ok (Some key) → IsKeyText bytes.now key }
-    ensures whole { (key : OffsetKey) → IsKeyText bytes.now key
-        → IsUnlessNoMemory result (Some key) }
-    ensures other_sound { result ≡ Ok None → IsOtherKeyText bytes.now }
-    ensures other_whole { IsOtherKeyText bytes.now → IsUnlessNoMemory result None }
+    ensures answer { Settles result (read_key bytes.now) }
+    ensures text { (key : OffsetKey) → result ≡ Ok (Some key) → IsKeyText bytes.now key }
+    ensures each_text { (key : OffsetKey) → IsKeyText bytes.now key → Settles result (Ok (Some key)) }
+    ensures other_text { result ≡ Ok None → IsOtherKeyText bytes.now }
+    ensures each_other_text { IsOtherKeyText bytes.now → Settles result (Ok None) }
+    ensures faults { IfErr result IsNotStatus }
 {
     are_bytes(bytes.as_slice());
-    let rest = bytes.clone()?;
-    read_key(rest)
+    read_key(Cursor::new(bytes))
 }
 
 /// Writes a STRING.
@@ -140,11 +125,13 @@ fn write_key(alloc: Global, key: &OffsetKey) -> Result<Bytes, AllocError>
 
 /// The bytes of a key, in version 1.
 ///
-/// Errors: `Length` where the group or the topic has more than 32767 bytes, else only `OutOfMemory`.
+/// # Errors
+/// Length where the group or the topic has more than 32767 bytes. OutOfMemory comes only after it.
 pub fn encode_key(alloc: Global, key: &OffsetKey) -> Result<Bytes, RecordFault>
-    ensures writing { Agrees result (key_text key.now) }
+    ensures answer { Settles result (write_key key.now) }
     ensures text { IfOk result (λ bytes. IsKeyText bytes key.now) }
-    ensures reads_back { IfOk result (λ bytes. key_of bytes ≡ Ok (Some key.now)) }
+    ensures reads_back { IfOk result (λ bytes. read_key bytes ≡ Ok (Some key.now)) }
+    ensures faults { IfErr result IsNotStatus }
 {
     if key.group.len() > STRING_LIMIT || key.topic.len() > STRING_LIMIT {
         return Err(RecordFault::Length);

@@ -3,7 +3,6 @@
 #![tactic(auto)]
 
 mod key;
-mod laws;
 mod value;
 
 pub use eos_base::RecordFault;

@@ -13,14 +13,14 @@
 //! Source: Kafka's schema `OffsetCommitValue`.
 
 ghost use Rattle.std.specs.Prelude.{◌≡◌, ◌↔◌, ◌++◌, ℤ, OnOk, IfOk, IfErr};
+ghost use Rattle.eos_base.specs.Records.{Settles};
 ghost use Rattle.eos_offsets.specs.Text.{IsValueText};
-ghost use Rattle.eos_offsets.specs.Reading.{Agrees, IsOfBytes, Passes, after_metadata, is_value_version, value_fields_of, value_of};
-ghost use Rattle.eos_offsets.specs.Writing.{leader_epoch_text, expire_timestamp_text, value_bytes, value_text};
+ghost use Rattle.eos_offsets.specs.Reading.{IsNotStatus, IsOfBytes, Passes, after_metadata, is_value_version, value_fields_of, read_value};
+ghost use Rattle.eos_offsets.specs.Writing.{leader_epoch_text, expire_timestamp_text, value_bytes, write_value};
 
-use crate::laws::are_bytes;
 use bytes::{BufMut, Bytes, BytesMut};
 use eos_base::RecordFault;
-use eos_wire::Fields;
+use eos_wire::{Fields, are_bytes};
 use std::alloc::{AllocError, Global};
 
 /// The last version that is read and written.
@@ -94,9 +94,9 @@ fn read_fields(mut fields: Fields<'_>, version: i16) -> Result<i64, RecordFault>
     Ok(offset)
 }
 
-#[tactic(auto, unfolding(crate::specs::Reading::value_of))]
+#[tactic(auto, unfolding(crate::specs::Reading::read_value))]
 fn read_value(mut fields: Fields<'_>) -> Result<i64, RecordFault>
-    ensures reading { result ≡ value_of fields.entry }
+    ensures reading { result ≡ read_value fields.entry }
     ensures faults { IfErr result IsOfBytes }
 {
     let version = fields.i16().ok_or(RecordFault::Short)?;
@@ -108,9 +108,11 @@ fn read_value(mut fields: Fields<'_>) -> Result<i64, RecordFault>
 
 /// The offset that a value commits. It takes no memory.
 ///
-/// Errors: `Short`, `Version` or `Length` at the first field that can't be read, then `Trailing`.
+/// # Errors
+/// The first fault in field order: Short where the bytes run out, Version where it isn't 0 to 3, Length where the
+/// metadata's length is below -1, Trailing where bytes are left.
 pub fn decode_value(bytes: &Bytes) -> Result<i64, RecordFault>
-    ensures reading { result ≡ value_of bytes.now }
+    ensures answer { result ≡ read_value bytes.now }
     ensures texts { (offset : ℤ) → (result ≡ Ok offset) ↔ IsValueText bytes.now offset }
     ensures faults { IfErr result IsOfBytes }
 {
@@ -157,11 +159,13 @@ fn write_value(alloc: Global, offset: i64, version: i16) -> Result<Bytes, AllocE
 
 /// The bytes of a value in this version, with leader epoch -1, empty metadata and timestamps of 0.
 ///
-/// Errors: `Version` where it is not 0 to 3, else only `OutOfMemory`.
+/// # Errors
+/// Version where it isn't 0 to 3. OutOfMemory comes only after it.
 pub fn encode_value(alloc: Global, commit: &Commit, version: i16) -> Result<Bytes, RecordFault>
-    ensures writing { Agrees result (value_text commit.now version) }
+    ensures answer { Settles result (write_value commit.now version) }
     ensures text { IfOk result (λ bytes. IsValueText bytes commit.now.offset) }
-    ensures reads_back { IfOk result (λ bytes. value_of bytes ≡ Ok commit.now.offset) }
+    ensures reads_back { IfOk result (λ bytes. read_value bytes ≡ Ok commit.now.offset) }
+    ensures faults { IfErr result IsNotStatus }
 {
     if !is_known(version) {
         return Err(RecordFault::Version);

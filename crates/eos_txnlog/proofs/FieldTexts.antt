@@ -11,7 +11,8 @@ use Rattle.eos_wire.proofs.VarintTexts.{front-drop, uvarint_sound, uvarint_whole
 use Rattle.eos_txnlog.specs.declared.form.Form.{Form}
 use Rattle.eos_txnlog.specs.declared.form.Form.TheVariants.{Plain, Flexible}
 use Rattle.eos_txnlog.specs.Text.{IsLengthText, IsCountText, IsNullText, IsStringText, IsListText, IsNumberText, IsTaggedText, IsSectionText}
-use Rattle.eos_txnlog.specs.Reading.{present, finished, uvarint_from, length_from_signed, length_from_unsigned, length_from, count_from_signed, count_from_unsigned, count_from, string_from, many_from, number_from, not_null, numbers_from, tagged_from, section_from}
+use Rattle.eos_base.specs.Records.{present}
+use Rattle.eos_txnlog.specs.Reading.{finished, uvarint_from, length_from_signed, length_from_unsigned, length_from, count_from_signed, count_from_unsigned, count_from, string_from, many_from, number_from, not_null, not_null_count_from, numbers_from, tagged_from, section_from}
 use Rattle.eos_txnlog.proofs.Takes.{bind_ok, ok_is, present_ok, glue, Taken, IsSound, IsWhole, cut_sound, cut_whole, many_sound, many_whole}
 
 -- ---- numbers
@@ -141,17 +142,28 @@ not_null_ok : (form : Form) (text : List ℕ) (count : Option ℕ) (n : ℕ) →
 not_null_ok form text None n e h = absurd cc
 not_null_ok form text (Some m) n e h = subst (IsCountText form text) (ok_is m n e) h
 
-pub numbers_sound : (form : Form) → IsSound (IsListText form IsNumberText) (numbers_from form)
-unfolding numbers_from
-numbers_sound form bytes x fits e =
+numbers_count_sound : (form : Form) → IsSound (IsCountText form) (not_null_count_from form)
+unfolding not_null_count_from
+numbers_count_sound form bytes x fits e =
     let c = bind_ok (count_from form bytes) _ x e in
     let n = bind_ok (not_null c.0.0) _ x c.2 in
     let t = count_sound form bytes c.0 fits c.1 in
-    let m = many_sound IsNumberText number_from number_sound n.0 c.0.1 x t.rest_fits n.2 in
+    subst (Taken (IsCountText form) bytes) (ok_is (n.0, c.0.1) x n.2) (record { text = t.text; parts = t.parts; holds = not_null_ok form t.text c.0.0 n.0 n.1 t.holds; rest_fits = t.rest_fits })
+
+numbers_count_whole : (form : Form) → IsWhole (IsCountText form) (not_null_count_from form)
+unfolding not_null_count_from
+numbers_count_whole form text n rest h = rw (count_whole form text (Some n) rest h) refl
+
+pub numbers_sound : (form : Form) → IsSound (IsListText form IsNumberText) (numbers_from form)
+unfolding numbers_from
+numbers_sound form bytes x fits e =
+    let c = bind_ok (not_null_count_from form bytes) _ x e in
+    let t = numbers_count_sound form bytes c.0 fits c.1 in
+    let m = many_sound IsNumberText number_from number_sound c.0.0 c.0.1 x t.rest_fits c.2 in
     record {
       text = t.text ++ m.0.text;
       parts = glue bytes t.text c.0.1 m.0.text x.1 t.parts m.0.parts;
-      holds = (t.text, m.0.text, subst (IsCountText form t.text) (sym m.1) (not_null_ok form t.text c.0.0 n.0 n.1 t.holds), m.0.holds, refl);
+      holds = (t.text, m.0.text, subst (IsCountText form t.text) (sym m.1) t.holds, m.0.holds, refl);
       rest_fits = m.0.rest_fits;
     }
 
@@ -159,7 +171,7 @@ pub numbers_whole : (form : Form) → IsWhole (IsListText form IsNumberText) (nu
 unfolding numbers_from
 numbers_whole form text xs rest h =
     let e : text ++ rest ≡ h.0 ++ (h.1 ++ rest) = rw h.4 (append_assoc h.0 h.1 rest) in
-    rw (e, count_whole form h.0 (Some (length xs)) (h.1 ++ rest) h.2) (many_whole IsNumberText number_from number_whole h.1 xs rest h.3)
+    rw (e, numbers_count_whole form h.0 (length xs) (h.1 ++ rest) h.2) (many_whole IsNumberText number_from number_whole h.1 xs rest h.3)
 
 -- ---- tagged fields
 

@@ -3,7 +3,9 @@ use Rattle.std.proofs.Common.{◌≡◌, ℕ, suc, ◌+◌, ◌-◌, ◌≤◌, 
 use Rattle.std.proofs.lemmas.List.{append-nil}
 use Rattle.eos_base.specs.declared.record_fault.RecordFault.{RecordFault}
 use Rattle.eos_base.specs.declared.record_fault.RecordFault.TheVariants as faults
-use Rattle.eos_txnlog.specs.Reading.{◌>>=◌, Fails, many_from, skipped}
+use Rattle.eos_base.specs.Steps.{◌>>=◌}
+use Rattle.eos_base.specs.Records.{Fails, Refuses, skipped}
+use Rattle.eos_txnlog.specs.Reading.{many_from}
 use Rattle.eos_txnlog.proofs.Takes.{done}
 
 -- what fails is passed on
@@ -14,6 +16,23 @@ fails_through faults.Version r s k h = k faults.Version h
 fails_through faults.Status r s k h = k faults.Status h
 fails_through faults.Length r s k h = k faults.Length h
 fails_through faults.Trailing r s k h = k faults.Trailing h
+
+-- and so is what is refused
+pub refuses_through : {A B : Type 0} (e : RecordFault) (r : Result A RecordFault) (s : Result B RecordFault) → ((f : RecordFault) → r ≡ Err f → s ≡ Err f) → Refuses e r → Refuses e s
+refuses_through faults.OutOfMemory r s k h = absurd h
+refuses_through faults.Short r s k h = k faults.Short h
+refuses_through faults.Version r s k h = k faults.Version h
+refuses_through faults.Status r s k h = k faults.Status h
+refuses_through faults.Length r s k h = k faults.Length h
+refuses_through faults.Trailing r s k h = k faults.Trailing h
+
+pub fails_as_refused : {A : Type 0} (e : RecordFault) (r : Result A RecordFault) → Refuses e r → Fails e r
+fails_as_refused faults.OutOfMemory r h = tt
+fails_as_refused faults.Short r h = h
+fails_as_refused faults.Version r h = h
+fails_as_refused faults.Status r h = h
+fails_as_refused faults.Length r h = h
+fails_as_refused faults.Trailing r h = h
 
 -- what is made of the things that were read before, and of those that are still read
 abbrev pub with_front : {X Y : Type 0} → (List X → Y) → List X → Result (List X × List ℕ) RecordFault → Result (Y × List ℕ) RecordFault
@@ -65,9 +84,12 @@ skips_on {X} read count i bytes after total lt one so_far = at (read bytes) refl
     at (Err f) is e = absurd cc
 
 pub skips_end : {X : Type 0} (read : List ℕ → Result (X × List ℕ) RecordFault) (e : RecordFault) (count i : ℕ) (bytes : List ℕ) (total : Result (Unit {0} × List ℕ) RecordFault)
-    → i < count → Fails e (skipped (read bytes)) → skipped (many_from read (count - i) bytes) ≡ total → Fails e total
-skips_end {X} read e count i bytes total lt one so_far = ends (λ _. tt) read e [] count i bytes total lt (fails_through e (skipped (read bytes)) (read bytes) (at (read bytes)) one) so_far
+    → i < count → Refuses e (skipped (read bytes)) → skipped (many_from read (count - i) bytes) ≡ total → Refuses e total
+unfolding many_from
+skips_end {X} read e count i bytes total lt one so_far =
+    let left : count - i ≡ suc (count - (i + 1)) = omega arith in
+    refuses_through e (skipped (read bytes)) total (λ f q. let same : skipped (many_from read (count - i) bytes) ≡ Err f = rw (left, at f (read bytes) q) refl in sym so_far ∙ same) one
   where
-    at : (r : Result (X × List ℕ) RecordFault) (f : RecordFault) → skipped r ≡ Err f → r ≡ Err f
-    at (Ok x) f q = absurd cc
-    at (Err d) f q = cc
+    at : (f : RecordFault) (r : Result (X × List ℕ) RecordFault) → skipped r ≡ Err f → r ≡ Err f
+    at f (Ok x) q = absurd cc
+    at f (Err d) q = cc

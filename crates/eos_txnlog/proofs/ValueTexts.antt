@@ -18,7 +18,9 @@ use Rattle.eos_txnlog.specs.declared.partitions.TopicPartitions.{TopicPartitions
 use Rattle.eos_txnlog.specs.declared.value.TxnValue.{TxnValue}
 use Rattle.eos_txnlog.specs.Status.{status_number, all_statuses, status_of}
 use Rattle.eos_txnlog.specs.Text.{form_of, IsCountText, IsNullText, IsStringText, AreTexts, IsKeyText, IsTopicText, IsPartitionsText, IsBodyText, IsValueText, IsListText, IsNumberText}
-use Rattle.eos_txnlog.specs.Reading.{Answers, present, known_status, status_from, count_from, string_from, numbers_from, section_from, topic_from, partitions_from, body_from, known_form, ended, read_value, id_from, read_key}
+use Rattle.eos_base.specs.Steps.{◌>>=◌, must}
+use Rattle.eos_base.specs.Records.{present, ended, Settles}
+use Rattle.eos_txnlog.specs.Reading.{known_status, status_from, count_from, string_from, numbers_from, section_from, topic_from, partitions_from, body_from, whole_body, known_form, read_value, id_from, read_key}
 use Rattle.eos_txnlog.proofs.Takes.{bind_ok, done, ok_is, glue, Taken, IsSound, IsWhole, many_sound, many_whole}
 use Rattle.eos_txnlog.proofs.FieldTexts.{IsSigned, signed_sound, signed_whole, IsCountOrNull, count_sound, count_whole, string_sound, string_whole, numbers_sound, numbers_whole, IsSection, section_sound, section_whole}
 
@@ -226,13 +228,15 @@ body_whole form text v rest h =
 
 -- ---- values
 
+must_ok : {X : Type 0} (b : Bool) (d : RecordFault) (x y : X) → must b d x ≡ Ok y → (b ≡ true) × (x ≡ y)
+must_ok true d x y e = (refl, ok_is x y e)
+must_ok false d x y e = absurd cc
+
 -- nothing is left
 ended_ok : {X : Type 0} (read : X × List ℕ) (x : X) → ended read ≡ Ok x → (read.0 ≡ x) × (read.1 ≡ [])
-ended_ok {X} read x e = at (eqb (length read.1) 0) refl e
-  where
-    at : (b : Bool) → eqb (length read.1) 0 ≡ b → cond b (done read.0) (Err faults.Trailing) ≡ Ok x → (read.0 ≡ x) × (read.1 ≡ [])
-    at true is q = (ok_is read.0 x q, nil_from_length read.1 (eqb-true (length read.1) 0 is))
-    at false is q = absurd cc
+ended_ok read x e =
+    let b = must_ok (eqb (length read.1) 0) faults.Trailing read.0 x e in
+    (b.1, nil_from_length read.1 (eqb-true (length read.1) 0 b.0))
 
 pub known_form_ok : (o : Option Form) (form : Form) → known_form o ≡ Ok form → o ≡ Some form
 known_form_ok None form e = absurd cc
@@ -252,7 +256,7 @@ unfolding read_value
 value_sound bytes v fits e =
     let n = bind_ok (present (i16_at bytes)) _ v e in
     let f = bind_ok (known_form (form_of n.0.0)) _ v n.2 in
-    let b = bind_ok (body_from f.0 n.0.1) _ v f.2 in
+    let b = bind_ok (body_from f.0 n.0.1) ended v f.2 in
     let version = signed_sound w16 i16_text i16_at i16_sound bytes n.0 fits n.1 in
     let body = body_sound f.0 n.0.1 b.0 version.rest_fits b.1 in
     let end = ended_ok b.0 v b.2 in
@@ -305,17 +309,17 @@ key_whole bytes id h =
 
 -- ---- as the decoders answer
 
-pub value_answered : (bytes : List ℕ) (result : Result TxnValue RecordFault) → IsBytes bytes → Answers result (read_value bytes) → IfOk result (IsValueText bytes)
+pub value_answered : (bytes : List ℕ) (result : Result TxnValue RecordFault) → IsBytes bytes → Settles result (read_value bytes) → IfOk result (IsValueText bytes)
 value_answered bytes (Ok v) fits e = value_sound bytes v fits e
 value_answered bytes (Err f) fits e = tt
 
-pub each_value_answered : (bytes : List ℕ) (result : Result TxnValue RecordFault) → Answers result (read_value bytes) → (v : TxnValue) → IsValueText bytes v → Answers result (Ok v)
-each_value_answered bytes result e v h = subst (Answers result) (value_whole bytes v h) e
+pub each_value_answered : (bytes : List ℕ) (result : Result TxnValue RecordFault) → Settles result (read_value bytes) → (v : TxnValue) → IsValueText bytes v → Settles result (Ok v)
+each_value_answered bytes result e v h = subst (Settles result) (value_whole bytes v h) e
 
-pub key_answered : (bytes : List ℕ) (result : Result (Option (List ℕ)) RecordFault) → IsBytes bytes → Answers result (read_key bytes) → IfOk result (λ key. IfSome key (IsKeyText bytes))
+pub key_answered : (bytes : List ℕ) (result : Result (Option (List ℕ)) RecordFault) → IsBytes bytes → Settles result (read_key bytes) → IfOk result (λ key. IfSome key (IsKeyText bytes))
 key_answered bytes (Ok None) fits e = tt
 key_answered bytes (Ok (Some id)) fits e = key_sound bytes id fits e
 key_answered bytes (Err f) fits e = tt
 
-pub each_key_answered : (bytes : List ℕ) (result : Result (Option (List ℕ)) RecordFault) → Answers result (read_key bytes) → (id : List ℕ) → IsKeyText bytes id → Answers result (Ok (Some id))
-each_key_answered bytes result e id h = subst (Answers result) (key_whole bytes id h) e
+pub each_key_answered : (bytes : List ℕ) (result : Result (Option (List ℕ)) RecordFault) → Settles result (read_key bytes) → (id : List ℕ) → IsKeyText bytes id → Settles result (Ok (Some id))
+each_key_answered bytes result e id h = subst (Settles result) (key_whole bytes id h) e

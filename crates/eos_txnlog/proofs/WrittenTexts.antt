@@ -14,10 +14,9 @@ use Rattle.eos_txnlog.specs.declared.form.Form.TheVariants.{Plain, Flexible}
 use Rattle.eos_txnlog.specs.declared.partitions.TopicPartitions.{TopicPartitions}
 use Rattle.eos_txnlog.specs.declared.value.TxnValue.{TxnValue}
 use Rattle.eos_txnlog.specs.Text.{form_of, IsLengthText, IsCountText, IsStringText, AreTexts, IsListText, IsNumberText, IsSectionText, IsKeyText, IsTopicText, IsBodyText, IsValueText, FitNumbers, IsInRange}
-use Rattle.eos_txnlog.specs.Reading.{Answers, known_form, read_value, read_key}
-use Rattle.eos_txnlog.specs.Writing.{fits_length, fits_count, length_text, count_text, section_text, string_text, numbers_text, fits_topic, topic_text, fits_partitions, partitions_text, body_text, fitting, write_value, write_key}
-use Rattle.eos_txnlog.proofs.Takes.{bind_ok, ok_is}
-use Rattle.eos_txnlog.proofs.ValueTexts.{known_form_ok, value_whole, key_whole}
+use Rattle.eos_txnlog.specs.Reading.{read_value, read_key}
+use Rattle.eos_txnlog.specs.Writing.{fits_length, fits_count, length_text, count_text, section_text, string_text, numbers_text, fits_topic, topic_text, fits_partitions, partitions_text, body_text, value_text, key_text}
+use Rattle.eos_txnlog.proofs.ValueTexts.{value_whole, key_whole}
 
 both : (a b : Bool) → (a && b) ≡ true → (a ≡ true) × (b ≡ true)
 both true b e = (refl, e)
@@ -86,28 +85,15 @@ body_written form value e range =
       parts = simp append_assoc;
     }
 
-fitting_ok : (fits : Bool) (text bytes : List ℕ) → fitting fits text ≡ Ok bytes → (fits ≡ true) × (text ≡ bytes)
-fitting_ok true text bytes e = (refl, ok_is text bytes e)
-fitting_ok false text bytes e = absurd cc
-
-value_text : (version : ℤ) (value : TxnValue) (bytes : List ℕ) → IsInRange value → write_value version value ≡ Ok bytes → IsValueText bytes value
-unfolding write_value
-value_text version value bytes range e =
-    let f = bind_ok (known_form (form_of version)) _ bytes e in
-    let known = known_form_ok (form_of version) f.0 f.1 in
-    let w = fitting_ok (fits_partitions f.0 value.partitions) (i16_text version ++ body_text f.0 value) bytes f.2 in
-    record {
-      version = version;
-      form = f.0;
-      body = body_text f.0 value;
-      known = known;
-      body_text = body_written f.0 value w.0 range;
-      parts = sym w.1;
-    }
-
-pub value_written : (version : ℤ) (value : TxnValue) (result : Result (List ℕ) RecordFault) → (Answers result (write_value version value)) → OnOk result (IsInRange value) → IfOk result (λ bytes. IsValueText bytes value)
-value_written version value (Ok bytes) e range = value_text version value bytes range e
-value_written version value (Err f) e range = tt
+pub value_written : (version : ℤ) (form : Form) (value : TxnValue) → form_of version ≡ Some form → fits_partitions form value.partitions ≡ true → IsInRange value → IsValueText (value_text version form value) value
+value_written version form value known fits range = record {
+  version = version;
+  form = form;
+  body = body_text form value;
+  known = known;
+  body_text = body_written form value fits range;
+  parts = refl;
+}
 
 pub value_reads_back : (value : TxnValue) (result : Result (List ℕ) RecordFault) → IfOk result (λ bytes. IsValueText bytes value) → IfOk result (λ bytes. read_value bytes ≡ Ok value)
 value_reads_back value (Ok bytes) h = value_whole bytes value h
@@ -115,12 +101,8 @@ value_reads_back value (Err f) h = tt
 
 -- ---- keys
 
-pub key_written : (id : List ℕ) (result : Result (List ℕ) RecordFault) → Answers result (write_key id) → IfOk result (λ bytes. IsKeyText bytes id)
-unfolding write_key
-key_written id (Ok bytes) e =
-    let w = fitting_ok (fits_length Plain (length id)) (i16_text (pos 0) ++ string_text Plain id) bytes e in
-    record { id_part = string_text Plain id; id_text = string_written Plain id w.0; parts = sym w.1 }
-key_written id (Err f) e = tt
+pub key_written : (id : List ℕ) → fits_length Plain (length id) ≡ true → IsKeyText (key_text id) id
+key_written id fits = record { id_part = string_text Plain id; id_text = string_written Plain id fits; parts = refl }
 
 pub key_reads_back : (id : List ℕ) (result : Result (List ℕ) RecordFault) → IfOk result (λ bytes. IsKeyText bytes id) → IfOk result (λ bytes. read_key bytes ≡ Ok (Some id))
 key_reads_back id (Ok bytes) h = key_whole bytes id h

@@ -5,6 +5,8 @@ use Rattle.std.specs.Ordering.{int_eq}
 use Rattle.eos_wire.specs.Numbers.{bytes_at, i8_at, i16_at, i32_at, i64_at}
 use Rattle.eos_wire.specs.Varint.{uvarint_at}
 use Rattle.eos_wire.specs.Fields.{with_rest}
+use Rattle.eos_base.specs.Steps.{◌>>=◌, or_fault}
+use Rattle.eos_base.specs.Records.{present, skipped, ended}
 use Rattle.eos_base.specs.declared.record_fault.RecordFault.{RecordFault}
 use Rattle.eos_base.specs.declared.record_fault.RecordFault.TheVariants as faults
 use Rattle.eos_txnlog.specs.declared.form.Form.{Form}
@@ -15,38 +17,7 @@ use Rattle.eos_txnlog.specs.declared.value.TxnValue.{TxnValue}
 use Rattle.eos_txnlog.specs.Status.{status_of}
 use Rattle.eos_txnlog.specs.Text.{form_of}
 
-infixl 10 ◌>>=◌
-abbrev pub ◌>>=◌ : {A B : Type 0} → Result A RecordFault → (A → Result B RecordFault) → Result B RecordFault
-(Ok x) >>= f = f x
-(Err e) >>= f = Err e
-
--- ---- what a contract says of reading
-
--- A fault is the one that reading gives, unless memory ran out.
-abbrev pub Fails : {Y : Type 0} → RecordFault → Result Y RecordFault → Type 0
-Fails faults.OutOfMemory read = ⊤
-Fails faults.Short read = read ≡ Err faults.Short
-Fails faults.Version read = read ≡ Err faults.Version
-Fails faults.Status read = read ≡ Err faults.Status
-Fails faults.Length read = read ≡ Err faults.Length
-Fails faults.Trailing read = read ≡ Err faults.Trailing
-
--- The answer is what reading gives, unless memory ran out.
-abbrev pub Answers : {X : Type 0} → Result X RecordFault → Result X RecordFault → Type 0
-Answers (Ok x) read = read ≡ Ok x
-Answers (Err e) read = Fails e read
-
--- The answer and the bytes that are left are what reading gives, unless memory ran out.
-abbrev pub Gives : {X : Type 0} → Result X RecordFault → List ℕ → Result (X × List ℕ) RecordFault → Type 0
-Gives (Ok x) rest read = read ≡ Ok (x, rest)
-Gives (Err e) rest read = Fails e read
-
 -- ---- numbers
-
--- a value at the front; bytes that run out are Short
-abbrev pub present : {X : Type 0} → Option X → Result X RecordFault
-present None = Err faults.Short
-present (Some x) = Ok x
 
 -- A varint that is not finished within five bytes is too long; where fewer are left, the bytes run out.
 abbrev pub unfinished : List ℕ → RecordFault
@@ -60,8 +31,7 @@ unfoldable pub uvarint_from : List ℕ → Result (ℕ × List ℕ) RecordFault
 uvarint_from bytes = finished bytes (with_rest bytes (uvarint_at bytes))
 
 abbrev pub known_status : Option Status → Result Status RecordFault
-known_status None = Err faults.Status
-known_status (Some status) = Ok status
+known_status = or_fault faults.Status
 
 unfoldable pub status_from : List ℕ → Result (Status × List ℕ) RecordFault
 status_from bytes = do
@@ -126,15 +96,19 @@ number_from bytes = present (i32_at bytes)
 
 -- a count that may not be null
 abbrev pub not_null : Option ℕ → Result ℕ RecordFault
-not_null None = Err faults.Length
-not_null (Some n) = Ok n
+not_null = or_fault faults.Length
+
+unfoldable pub not_null_count_from : Form → List ℕ → Result (ℕ × List ℕ) RecordFault
+not_null_count_from form bytes = do
+  count ← count_from form bytes
+  n ← not_null count.0
+  Ok (n, count.1)
 
 -- the numbers of a topic's partitions
 unfoldable pub numbers_from : Form → List ℕ → Result (List ℤ × List ℕ) RecordFault
 numbers_from form bytes = do
-  count ← count_from form bytes
-  n ← not_null count.0
-  many_from number_from n count.1
+  count ← not_null_count_from form bytes
+  many_from number_from count.0 count.1
 
 -- ---- tagged fields
 
@@ -144,10 +118,6 @@ tagged_from bytes = do
   size ← uvarint_from tag.1
   content ← present (bytes_at size.0 size.1)
   Ok ((tag.0, content.0), content.1)
-
--- only what follows is kept
-abbrev pub skipped : {X : Type 0} → Result (X × List ℕ) RecordFault → Result (Unit {0} × List ℕ) RecordFault
-skipped read = read >>= λ x. Ok (tt, x.1)
 
 -- the fields of a section are skipped
 unfoldable pub section_from : Form → List ℕ → Result (Unit {0} × List ℕ) RecordFault
@@ -184,19 +154,17 @@ body_from form bytes = do
   Ok (record { producer = producer.0; epoch = epoch.0; timeout = timeout.0; status = status.0; partitions = partitions.0; last_update = last_update.0; start = start.0 }, section.1)
 
 abbrev pub known_form : Option Form → Result Form RecordFault
-known_form None = Err faults.Version
-known_form (Some form) = Ok form
+known_form = or_fault faults.Version
 
--- nothing is left
-abbrev pub ended : {X : Type 0} → X × List ℕ → Result X RecordFault
-ended read = if length read.1 == 0 then Ok read.0 else Err faults.Trailing
+-- the fields after the version, which are all that is left
+abbrev pub whole_body : Form → List ℕ → Result TxnValue RecordFault
+whole_body form bytes = body_from form bytes >>= ended
 
 unfoldable pub read_value : List ℕ → Result TxnValue RecordFault
 read_value bytes = do
   version ← present (i16_at bytes)
   form ← known_form (form_of version.0)
-  body ← body_from form version.1
-  ended body
+  whole_body form version.1
 
 -- ---- keys
 

@@ -1,10 +1,11 @@
 -- The bytes that are written for a key or a value of `__transaction_state` (Kafka's schemas `TransactionLogKey` and
 -- `TransactionLogValue`; KIP-482 for the flexible form), and what fits its length fields. The choices of the writer:
 -- numbers in their shortest spelling, an empty list by the count 0, and no tagged fields.
-use Rattle.std.specs.Prelude.{◌≡◌, ℕ, ◌+◌, ◌^◌, ℤ, pos, Bool, true, false, ◌&&◌, List, [], ◌++◌, length, flat_map, Result, Ok, Err, nat_lt, if◌then◌else◌, ⊤}
+use Rattle.std.specs.Prelude.{ℕ, ◌+◌, ◌^◌, ℤ, pos, Bool, true, false, ◌&&◌, List, [], ◌++◌, length, flat_map, Result, Ok, Err, nat_lt}
 use Rattle.std.specs.List.{list_all}
 use Rattle.eos_wire.specs.Numbers.{i8_text, i16_text, i32_text, i64_text}
 use Rattle.eos_wire.specs.Writing.{uvarint_of}
+use Rattle.eos_base.specs.Steps.{◌>>=◌, must}
 use Rattle.eos_base.specs.declared.record_fault.RecordFault.{RecordFault}
 use Rattle.eos_base.specs.declared.record_fault.RecordFault.TheVariants as faults
 use Rattle.eos_txnlog.specs.declared.form.Form.{Form}
@@ -13,7 +14,7 @@ use Rattle.eos_txnlog.specs.declared.partitions.TopicPartitions.{TopicPartitions
 use Rattle.eos_txnlog.specs.declared.value.TxnValue.{TxnValue}
 use Rattle.eos_txnlog.specs.Status.{status_number}
 use Rattle.eos_txnlog.specs.Text.{form_of}
-use Rattle.eos_txnlog.specs.Reading.{◌>>=◌, known_form}
+use Rattle.eos_txnlog.specs.Reading.{known_form}
 
 -- ---- lengths
 
@@ -70,26 +71,17 @@ tail_text form value = i64_text value.last_update ++ (i64_text value.start ++ se
 abbrev pub body_text : Form → TxnValue → List ℕ
 body_text form value = head_text value ++ (partitions_text form value.partitions ++ tail_text form value)
 
--- what doesn't fit its length field is refused
-abbrev pub fitting : Bool → List ℕ → Result (List ℕ) RecordFault
-fitting fits text = if fits then Ok text else Err faults.Length
+abbrev pub value_text : ℤ → Form → TxnValue → List ℕ
+value_text version form value = i16_text version ++ body_text form value
 
+-- what doesn't fit its length field is refused
 unfoldable pub write_value : ℤ → TxnValue → Result (List ℕ) RecordFault
 write_value version value = do
   form ← known_form (form_of version)
-  fitting (fits_partitions form value.partitions) (i16_text version ++ body_text form value)
+  must (fits_partitions form value.partitions) faults.Length (value_text version form value)
+
+abbrev pub key_text : List ℕ → List ℕ
+key_text id = i16_text (pos 0) ++ string_text Plain id
 
 unfoldable pub write_key : List ℕ → Result (List ℕ) RecordFault
-write_key id = fitting (fits_length Plain (length id)) (i16_text (pos 0) ++ string_text Plain id)
-
--- ---- what a contract says of appending
-
--- The text was appended, and it fits; Length is answered only where it doesn't, and nothing else but want of memory is.
-abbrev pub Writes : Result (Unit {0}) RecordFault → List ℕ → List ℕ → Bool → List ℕ → Type 0
-Writes (Ok u) before after fits text = (fits ≡ true) × (after ≡ before ++ text)
-Writes (Err faults.OutOfMemory) before after fits text = ⊤
-Writes (Err faults.Length) before after fits text = fits ≡ false
-Writes (Err faults.Short) before after fits text = ⊥
-Writes (Err faults.Version) before after fits text = ⊥
-Writes (Err faults.Status) before after fits text = ⊥
-Writes (Err faults.Trailing) before after fits text = ⊥
+write_key id = must (fits_length Plain (length id)) faults.Length (key_text id)

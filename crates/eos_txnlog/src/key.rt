@@ -7,64 +7,71 @@
 //!
 //! The source is Kafka's schema `TransactionLogKey`.
 
-ghost use Rattle.std.specs.Prelude.{◌≡◌, ℕ, List, Some, Ok, IfSome, IfOk};
+ghost use Rattle.std.specs.Prelude.{◌≡◌, ℕ, List, true, length, Some, Ok, IfSome, IfOk};
+ghost use Rattle.eos_base.specs.Records.{Settles};
+ghost use Rattle.eos_txnlog.specs.declared.form.Form.TheVariants.{Plain};
 ghost use Rattle.eos_txnlog.specs.Text.{IsKeyText};
-ghost use Rattle.eos_txnlog.specs.Reading.{Answers, read_key};
-ghost use Rattle.eos_txnlog.specs.Writing.{write_key};
+ghost use Rattle.eos_txnlog.specs.Reading.{read_key};
+ghost use Rattle.eos_txnlog.specs.Writing.{fits_length, key_text, write_key};
 
-use crate::field::{are_bytes, read_i16, read_string};
+use crate::field::read_text;
 use crate::form::Form;
-use crate::writing::{write_i16, write_string};
+use crate::writing::{fits_length, write_text};
 use bytes::Bytes;
 use eos_base::RecordFault;
-use std::alloc::Global;
+use eos_wire::{Cursor, are_bytes, write_i16};
+use std::alloc::{AllocError, Global};
 
 #[tactic(auto, unfolding(crate::specs::Reading::read_key))]
-fn read_key(bytes: &Bytes) -> Result<Option<Bytes>, RecordFault>
-    ensures { Answers result (read_key bytes.now) }
+fn read_key(mut rest: Cursor<'_>) -> Result<Option<Bytes>, RecordFault>
+    ensures { Settles result (read_key rest.entry) }
 {
-    let mut rest = bytes.clone()?;
-    if read_i16(&mut rest)? != 0 {
+    if rest.i16().ok_or(RecordFault::Short)? != 0 {
         return Ok(None);
     }
-    let id = read_string(&mut rest, Form::Plain)?;
+    let id = read_text(&mut rest, Form::Plain)?;
     if !rest.is_empty() {
         return Err(RecordFault::Trailing);
     }
-    Ok(Some(id))
+    Ok(Some(id.share()?))
 }
 
 /// Reads a key of the log: the transactional id, or `None` for a key of another version, which isn't looked into.
 ///
-/// A fault is the first in field order: Short where the bytes run out, Length where the id's length is below 0,
-/// Trailing where bytes are left. `OutOfMemory` is answered only where a growth was refused.
+/// # Errors
+/// The first fault in field order: Short where the bytes run out, Length where the id's length is below 0, Trailing where
+/// bytes are left. OutOfMemory comes only after all of these.
 pub fn decode_key(_alloc: Global, bytes: &Bytes) -> Result<Option<Bytes>, RecordFault>
-    ensures first_fault { Answers result (read_key bytes.now) }
+    ensures answer { Settles result (read_key bytes.now) }
     ensures text { IfOk result (λ key. IfSome key (IsKeyText bytes.now)) }
-    ensures each_text { (id : List ℕ) → IsKeyText bytes.now id → Answers result (Ok (Some id)) }
+    ensures each_text { (id : List ℕ) → IsKeyText bytes.now id → Settles result (Ok (Some id)) }
 {
     are_bytes(bytes.as_slice());
-    read_key(bytes)
+    read_key(Cursor::new(bytes))
 }
 
-#[tactic(auto, unfolding(crate::specs::Writing::write_key))]
-fn write_key(alloc: Global, id: &Bytes) -> Result<Bytes, RecordFault>
-    ensures { Answers result (write_key id.now) }
+fn write_key(alloc: Global, id: &Bytes) -> Result<Bytes, AllocError>
+    requires { fits_length Plain (length id.now) ≡ true }
+    ensures { IfOk result (λ bytes. bytes ≡ key_text id.now) }
 {
     let mut out = Vec::new(alloc);
     write_i16(&mut out, 0)?;
-    write_string(&mut out, Form::Plain, id)?;
+    write_text(&mut out, Form::Plain, id)?;
     Ok(Bytes::from_vec(out)?)
 }
 
 /// Writes the key of a transactional id, in version 0.
 ///
-/// A fault is Length where the id has more bytes than its length field can say, and `OutOfMemory` only where a growth
-/// was refused.
+/// # Errors
+/// Length where the id has more bytes than its length field can say. OutOfMemory comes only after it.
+#[tactic(auto, unfolding(crate::specs::Writing::write_key))]
 pub fn encode_key(alloc: Global, id: &Bytes) -> Result<Bytes, RecordFault>
-    ensures choices { Answers result (write_key id.now) }
+    ensures answer { Settles result (write_key id.now) }
     ensures text { IfOk result (λ bytes. IsKeyText bytes id.now) }
     ensures reads_back { IfOk result (λ bytes. read_key bytes ≡ Ok (Some id.now)) }
 {
-    write_key(alloc, id)
+    if !fits_length(Form::Plain, id.len()) {
+        return Err(RecordFault::Length);
+    }
+    Ok(write_key(alloc, id)?)
 }

@@ -12,29 +12,91 @@
 //! | start | INT64 | `TransactionStartTimestampMs` |
 //! | section | tagged fields | skipped |
 //!
-//! The source is Kafka's schema `TransactionLogValue`. Texts are cut from the input, and nothing is reserved by a count.
+//! The source is Kafka's schema `TransactionLogValue`. The partitions are walked twice: before
+//! any memory is taken all bytes are looked at, and then the topics are collected. Texts are shared with the input, and
+//! nothing is reserved by a count.
 
 ghost use Rattle.std.specs.Prelude.{Ok, IfOk};
+ghost use Rattle.eos_base.specs.Records.{Gives, Parses, Settles, skipped};
 ghost use Rattle.eos_txnlog.specs.declared.value.TxnValue.{TxnValue};
 ghost use Rattle.eos_txnlog.specs.Text.{IsValueText};
-ghost use Rattle.eos_txnlog.specs.Reading.{Answers, Gives, many_from, topic_from, partitions_from, body_from, read_value};
+ghost use Rattle.eos_txnlog.specs.Reading.{many_from, number_from, numbers_from, topic_from, partitions_from, body_from, whole_body, read_value};
 
 use crate::field::{
-    are_bytes, read_count, read_i16, read_i32, read_i64, read_numbers, read_status, read_string,
-    skip_section,
+    read_count, read_number, read_numbers_count, read_status, read_text, skip_numbers, skip_section,
 };
 use crate::form::Form;
-use crate::partitions::{Partitions, TopicPartitions};
+use crate::partitions::{Numbers, Partitions, TopicPartitions};
 use crate::value::TxnValue;
 use bytes::Bytes;
-use eos_base::RecordFault;
+use eos_base::{Listed, RecordFault};
+use eos_wire::{Cursor, are_bytes};
 use std::alloc::Global;
 
+// ---- the partitions, without memory
+
 #[tactic(auto, unfolding(crate::specs::Reading::topic_from))]
-fn read_topic(alloc: Global, rest: &mut Bytes, form: Form) -> Result<TopicPartitions, RecordFault>
+fn skip_topic(rest: &mut Cursor<'_>, form: Form) -> Result<(), RecordFault>
+    ensures { Parses result rest.new (skipped (topic_from form rest.old)) }
+{
+    read_text(rest, form)?;
+    skip_numbers(rest, form)?;
+    skip_section(rest, form)
+}
+
+fn skip_topics(rest: &mut Cursor<'_>, form: Form, count: u32) -> Result<(), RecordFault>
+    ensures { Parses result rest.new (skipped (many_from (topic_from form) count rest.old)) }
+{
+    for _ in 0..count {
+        skip_topic(rest, form)?;
+    }
+    Ok(())
+}
+
+/// Passes over the partitions.
+#[tactic(auto, unfolding(crate::specs::Reading::partitions_from))]
+fn skip_partitions(rest: &mut Cursor<'_>, form: Form) -> Result<(), RecordFault>
+    ensures { Parses result rest.new (skipped (partitions_from form rest.old)) }
+{
+    let count = read_count(rest, form)?.unwrap_or(0);
+    skip_topics(rest, form, count)
+}
+
+// ---- the partitions, collected
+
+/// So many numbers. Their list grows as they are read, so a count that the bytes don't bear out reserves nothing.
+fn read_many_numbers(
+    alloc: Global,
+    rest: &mut Cursor<'_>,
+    count: u32,
+) -> Result<Numbers, RecordFault>
+    ensures { Gives result rest.new (many_from number_from count rest.old) }
+{
+    let mut numbers = Listed::new(Vec::new(alloc));
+    for _ in 0..count {
+        let number = read_number(rest)?;
+        numbers.push(number)?;
+    }
+    Ok(numbers)
+}
+
+#[tactic(auto, unfolding(crate::specs::Reading::numbers_from))]
+fn read_numbers(alloc: Global, rest: &mut Cursor<'_>, form: Form) -> Result<Numbers, RecordFault>
+    ensures { Gives result rest.new (numbers_from form rest.old) }
+{
+    let count = read_numbers_count(rest, form)?;
+    read_many_numbers(alloc, rest, count)
+}
+
+#[tactic(auto, unfolding(crate::specs::Reading::topic_from))]
+fn read_topic(
+    alloc: Global,
+    rest: &mut Cursor<'_>,
+    form: Form,
+) -> Result<TopicPartitions, RecordFault>
     ensures { Gives result rest.new (topic_from form rest.old) }
 {
-    let topic = read_string(rest, form)?;
+    let topic = read_text(rest, form)?.share()?;
     let numbers = read_numbers(alloc, rest, form)?;
     skip_section(rest, form)?;
     Ok(TopicPartitions { topic, numbers })
@@ -43,13 +105,13 @@ fn read_topic(alloc: Global, rest: &mut Bytes, form: Form) -> Result<TopicPartit
 /// So many topics. Their list grows as they are read, so a count that the bytes don't bear out reserves nothing.
 fn read_topics(
     alloc: Global,
-    rest: &mut Bytes,
+    rest: &mut Cursor<'_>,
     form: Form,
     count: u32,
 ) -> Result<Partitions, RecordFault>
     ensures { Gives result rest.new (many_from (topic_from form) count rest.old) }
 {
-    let mut topics = Partitions::new(Vec::new(alloc));
+    let mut topics = Listed::new(Vec::new(alloc));
     for _ in 0..count {
         let topic = read_topic(alloc, rest, form)?;
         topics.push(topic)?;
@@ -59,26 +121,37 @@ fn read_topics(
 
 /// The partitions by topic; null is an empty list.
 #[tactic(auto, unfolding(crate::specs::Reading::partitions_from))]
-fn read_partitions(alloc: Global, rest: &mut Bytes, form: Form) -> Result<Partitions, RecordFault>
+fn read_partitions(
+    alloc: Global,
+    rest: &mut Cursor<'_>,
+    form: Form,
+) -> Result<Partitions, RecordFault>
     ensures { Gives result rest.new (partitions_from form rest.old) }
 {
     let count = read_count(rest, form)?.unwrap_or(0);
     read_topics(alloc, rest, form, count)
 }
 
-/// The fields after the version.
+// ---- values
+
+/// The fields after the version, which are all that is left.
 #[tactic(auto, unfolding(crate::specs::Reading::body_from))]
-fn read_body(alloc: Global, rest: &mut Bytes, form: Form) -> Result<TxnValue, RecordFault>
-    ensures { Gives result rest.new (body_from form rest.old) }
+fn read_body(alloc: Global, mut rest: Cursor<'_>, form: Form) -> Result<TxnValue, RecordFault>
+    ensures { Settles result (whole_body form rest.entry) }
 {
-    let producer = read_i64(rest)?;
-    let epoch = read_i16(rest)?;
-    let timeout = read_i32(rest)?;
-    let status = read_status(rest)?;
-    let partitions = read_partitions(alloc, rest, form)?;
-    let last_update = read_i64(rest)?;
-    let start = read_i64(rest)?;
-    skip_section(rest, form)?;
+    let producer = rest.i64().ok_or(RecordFault::Short)?;
+    let epoch = rest.i16().ok_or(RecordFault::Short)?;
+    let timeout = rest.i32().ok_or(RecordFault::Short)?;
+    let status = read_status(&mut rest)?;
+    let mut listed = rest.fork();
+    skip_partitions(&mut rest, form)?;
+    let last_update = rest.i64().ok_or(RecordFault::Short)?;
+    let start = rest.i64().ok_or(RecordFault::Short)?;
+    skip_section(&mut rest, form)?;
+    if !rest.is_empty() {
+        return Err(RecordFault::Trailing);
+    }
+    let partitions = read_partitions(alloc, &mut listed, form)?;
     Ok(TxnValue {
         producer,
         epoch,
@@ -91,31 +164,27 @@ fn read_body(alloc: Global, rest: &mut Bytes, form: Form) -> Result<TxnValue, Re
 }
 
 #[tactic(auto, unfolding(crate::specs::Reading::read_value))]
-fn read_value(alloc: Global, bytes: &Bytes) -> Result<TxnValue, RecordFault>
-    ensures { Answers result (read_value bytes.now) }
+fn read_value(alloc: Global, mut rest: Cursor<'_>) -> Result<TxnValue, RecordFault>
+    ensures { Settles result (read_value rest.entry) }
 {
-    let mut rest = bytes.clone()?;
-    let version = read_i16(&mut rest)?;
+    let version = rest.i16().ok_or(RecordFault::Short)?;
     let Some(form) = Form::from_version(version) else {
         return Err(RecordFault::Version);
     };
-    let value = read_body(alloc, &mut rest, form)?;
-    if !rest.is_empty() {
-        return Err(RecordFault::Trailing);
-    }
-    Ok(value)
+    read_body(alloc, rest, form)
 }
 
 /// Reads a value of the log.
 ///
-/// A fault is the first in field order: Short where the bytes run out, Version where it isn't 0 or 1, Status where it
-/// isn't 0 to 7, Length where a length or count may not stand there, Trailing where bytes are left. `OutOfMemory` is
-/// answered only where a growth was refused.
+/// # Errors
+/// The first fault in field order: Short where the bytes run out, Version where it isn't 0 or 1, Status where it isn't 0
+/// to 7, Length where a length or count may not stand there, Trailing where bytes are left. OutOfMemory comes only after
+/// all of these.
 pub fn decode_value(alloc: Global, bytes: &Bytes) -> Result<TxnValue, RecordFault>
-    ensures first_fault { Answers result (read_value bytes.now) }
+    ensures answer { Settles result (read_value bytes.now) }
     ensures text { IfOk result (IsValueText bytes.now) }
-    ensures each_text { (value : TxnValue) → IsValueText bytes.now value → Answers result (Ok value) }
+    ensures each_text { (value : TxnValue) → IsValueText bytes.now value → Settles result (Ok value) }
 {
     are_bytes(bytes.as_slice());
-    read_value(alloc, bytes)
+    read_value(alloc, Cursor::new(bytes))
 }

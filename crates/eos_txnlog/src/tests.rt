@@ -94,6 +94,24 @@ fn reads_a_flexible_value(rt: HostRuntime) -> Result<(), Fail> {
     Ok(())
 }
 
+/// The fields before the partitions, in version 0 and in version 1.
+static HEAD: [u8; 17] = [
+    0x00, 0x00, 0x00, 0x00, 0x00, 0x00, 0x00, 0x00, 0x03, 0xe8, 0x00, 0x00, 0x00, 0x00, 0xea, 0x60,
+    0x01,
+];
+
+static FLEXIBLE_HEAD: [u8; 17] = [
+    0x00, 0x01, 0x00, 0x00, 0x00, 0x00, 0x00, 0x00, 0x03, 0xe8, 0x00, 0x00, 0x00, 0x00, 0xea, 0x60,
+    0x01,
+];
+
+/// The fault of a value that goes on so after the status.
+fn fault_after(alloc: Global, head: &[u8], rest: &[u8]) -> Result<Option<RecordFault>, AllocError> {
+    let mut bytes = Vec::from_slice(alloc, head)?;
+    bytes.extend_from_slice(rest)?;
+    fault_of(alloc, bytes.as_slice())
+}
+
 #[test]
 fn names_the_first_fault(rt: HostRuntime) -> Result<(), Fail> {
     let alloc = rt.alloc();
@@ -114,13 +132,92 @@ fn names_the_first_fault(rt: HostRuntime) -> Result<(), Fail> {
 }
 
 #[test]
-fn reserves_nothing_by_a_count(rt: HostRuntime) -> Result<(), Fail> {
-    let mut hostile = EMPTY;
-    hostile[17] = 0x7f;
-    assert_eq!(rt;
-        fault_of(rt.alloc(), &hostile[..21])?,
-        Some(RecordFault::Short)
-    );
+fn refuses_a_length_in_each_place(rt: HostRuntime) -> Result<(), Fail> {
+    let alloc = rt.alloc();
+    let plain: [&[u8]; 4] = [
+        b"\xff\xff\xff\xfe",
+        b"\x00\x00\x00\x01\xff\xff",
+        b"\x00\x00\x00\x01\x00\x01a\xff\xff\xff\xff",
+        b"\x00\x00\x00\x01\x00\x01a\xff\xff\xff\xfe",
+    ];
+    for rest in plain {
+        assert_eq!(rt; fault_after(alloc, &HEAD, rest)?, Some(RecordFault::Length));
+    }
+    let flexible: [&[u8]; 5] = [
+        b"\x80\x80\x80\x80\x80\x00",
+        b"\x02\x00",
+        b"\x02\x02a\x00",
+        b"\x02\x02a\x01\x80\x80\x80\x80\x80\x00",
+        b"\x02\x02a\x01\x01\x80\x80\x80\x80\x80\x00",
+    ];
+    for rest in flexible {
+        assert_eq!(rt;
+            fault_after(alloc, &FLEXIBLE_HEAD, rest)?,
+            Some(RecordFault::Length)
+        );
+    }
+    Ok(())
+}
+
+#[test]
+fn refuses_a_key(rt: HostRuntime) -> Result<(), Fail> {
+    let alloc = rt.alloc();
+    let keys: [(&'static [u8], RecordFault); 4] = [
+        (b"\x00", RecordFault::Short),
+        (b"\x00\x00\x00\x03ap", RecordFault::Short),
+        (b"\x00\x00\xff\xff", RecordFault::Length),
+        (b"\x00\x00\x00\x03appp", RecordFault::Trailing),
+    ];
+    for (bytes, fault) in keys {
+        assert_eq!(rt; decode_key(alloc, &Bytes::from_static(bytes)), Err(fault));
+    }
+    Ok(())
+}
+
+#[test]
+fn refuses_to_write_a_text_that_is_too_long(rt: HostRuntime) -> Result<(), Fail> {
+    let alloc = rt.alloc();
+    let longest = Bytes::from_vec(vec![in alloc; b'a'; 32767]?)?;
+    let too_long = Bytes::from_vec(vec![in alloc; b'a'; 32768]?)?;
+    assert_eq!(rt; encode_key(alloc, &longest)?.as_slice().len(), 32771);
+    assert_eq!(rt; encode_key(alloc, &too_long), Err(RecordFault::Length));
+    let mut topics = Listed::new(Vec::new(alloc));
+    topics.push(TopicPartitions {
+        topic: too_long,
+        numbers: Listed::new(Vec::new(alloc)),
+    })?;
+    let value = TxnValue {
+        partitions: topics,
+        ..decode_value(alloc, &Bytes::from_static(&EMPTY))?
+    };
+    assert_eq!(rt; encode_value(alloc, &value, 0), Err(RecordFault::Length));
+    let flexible = encode_value(alloc, &value, 1)?;
+    assert_eq!(rt; decode_value(alloc, &flexible)?, value);
+    Ok(())
+}
+
+/// Counts of topics, of a topic's numbers and of tagged fields that the bytes don't bear out.
+#[test]
+fn hostile_counts(rt: HostRuntime) -> Result<(), Fail> {
+    let alloc = rt.alloc();
+    let plain: [&[u8]; 2] = [
+        b"\x7f\xff\xff\xff",
+        b"\x00\x00\x00\x01\x00\x01a\x7f\xff\xff\xff",
+    ];
+    for rest in plain {
+        assert_eq!(rt; fault_after(alloc, &HEAD, rest)?, Some(RecordFault::Short));
+    }
+    let flexible: [&[u8]; 3] = [
+        b"\xff\xff\xff\xff\x0f",
+        b"\x02\x02a\xff\xff\xff\xff\x0f",
+        b"\x02\x02a\x01\xff\xff\xff\xff\x0f",
+    ];
+    for rest in flexible {
+        assert_eq!(rt;
+            fault_after(alloc, &FLEXIBLE_HEAD, rest)?,
+            Some(RecordFault::Short)
+        );
+    }
     Ok(())
 }
 

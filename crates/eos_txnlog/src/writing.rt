@@ -1,135 +1,117 @@
-//! A value, written as its bytes. The layout stands at the head of the module that reads them.
+//! A value, written as its bytes. The layout stands at the head of the module that reads them. What doesn't fit its length
+//! field is refused before any memory is taken.
 //!
 //! The choices of the writer: numbers in their shortest spelling, an empty list by the count 0, no tagged fields.
 
-ghost use Rattle.std.specs.Prelude.{◌+◌, ◌<◌, ◌^◌, true, length, All, FitsSigned, flat_map, ◌≡◌, SomeIff, OnOk, IfOk, Ok};
+ghost use Rattle.std.specs.Prelude.{◌≡◌, ◌+◌, ◌++◌, true, length, All, FitsSigned, flat_map, OnOk, IfOk, Ok};
 ghost use Rattle.std.specs.Int.{w32};
 ghost use Rattle.std.specs.List.{list_all};
-ghost use Rattle.eos_wire.specs.Numbers.{i8_text, i16_text, i32_text, i64_text};
+ghost use Rattle.eos_wire.specs.Numbers.{i32_text};
 ghost use Rattle.eos_wire.specs.Writing.{uvarint_of};
+ghost use Rattle.eos_base.specs.Records.{Settles};
 ghost use Rattle.eos_txnlog.specs.Text.{FitNumbers, FitsHead, FitsTail, IsInRange, IsValueText};
-ghost use Rattle.eos_txnlog.specs.Reading.{Answers, read_value};
-ghost use Rattle.eos_txnlog.specs.Writing.{Writes, fits_length, length_text, fits_count, count_text, section_text, string_text, numbers_text, fits_topic, topic_text, partitions_text, fits_partitions, head_text, tail_text, body_text, write_value};
+ghost use Rattle.eos_txnlog.specs.Reading.{read_value};
+ghost use Rattle.eos_txnlog.specs.Writing.{fits_length, length_text, fits_count, count_text, section_text, string_text, numbers_text, fits_topic, topic_text, partitions_text, fits_partitions, head_text, tail_text, body_text, value_text, write_value};
 
 use crate::form::Form;
 use crate::partitions::TopicPartitions;
 use crate::value::TxnValue;
 use bytes::Bytes;
 use eos_base::RecordFault;
-use eos_wire::write_uvarint;
-use std::alloc::Global;
+use eos_wire::{write_i8, write_i16, write_i32, write_i64, write_uvarint};
+use std::alloc::{AllocError, Global};
 
-/// Appends these bytes.
-fn write_bytes(out: &mut Vec<u8>, bytes: &[u8]) -> Result<(), RecordFault>
-    ensures { Writes result out.old.items out.new.items true bytes.now }
-{
-    out.extend_from_slice(bytes)?;
-    Ok(())
-}
+// ---- what fits its length field
 
-#[tactic(auto, unfolding(eos_wire::specs::Numbers::i8_text))]
-fn write_i8(out: &mut Vec<u8>, number: i8) -> Result<(), RecordFault>
-    ensures { Writes result out.old.items out.new.items true (i8_text number) }
-{
-    write_bytes(out, &number.to_be_bytes())
-}
-
-#[tactic(auto, unfolding(eos_wire::specs::Numbers::i16_text))]
-pub(crate) fn write_i16(out: &mut Vec<u8>, number: i16) -> Result<(), RecordFault>
-    ensures { Writes result out.old.items out.new.items true (i16_text number) }
-{
-    write_bytes(out, &number.to_be_bytes())
-}
-
-#[tactic(auto, unfolding(eos_wire::specs::Numbers::i32_text))]
-fn write_i32(out: &mut Vec<u8>, number: i32) -> Result<(), RecordFault>
-    ensures { Writes result out.old.items out.new.items true (i32_text number) }
-{
-    write_bytes(out, &number.to_be_bytes())
-}
-
-#[tactic(auto, unfolding(eos_wire::specs::Numbers::i64_text))]
-fn write_i64(out: &mut Vec<u8>, number: i64) -> Result<(), RecordFault>
-    ensures { Writes result out.old.items out.new.items true (i64_text number) }
-{
-    write_bytes(out, &number.to_be_bytes())
-}
-
-fn write_unsigned(out: &mut Vec<u8>, number: u32) -> Result<(), RecordFault>
-    ensures { Writes result out.old.items out.new.items true (uvarint_of number) }
-{
-    write_uvarint(out, number)?;
-    Ok(())
-}
-
-/// A length or count as the flexible form writes it, where it fits.
-fn one_more(len: usize) -> Option<u32>
-    ensures { SomeIff result (len + 1 < 2 ^ 32) (len + 1) }
-{
-    u32::try_from(len).ok()?.checked_add(1)
-}
-
-/// The length of a text.
-fn write_length(out: &mut Vec<u8>, form: Form, len: usize) -> Result<(), RecordFault>
-    ensures { Writes result out.old.items out.new.items (fits_length form len) (length_text form len) }
+/// Whether a text of so many bytes fits its length field.
+pub(crate) fn fits_length(form: Form, len: usize) -> bool
+    ensures { result ≡ fits_length form len }
 {
     match form {
-        Form::Plain => {
-            let Ok(len) = i16::try_from(len) else {
-                return Err(RecordFault::Length);
-            };
-            write_i16(out, len)
+        Form::Plain => len <= i16::MAX as usize,
+        Form::Flexible => len < u32::MAX as usize,
+    }
+}
+
+/// Whether a list of so many items fits its count field.
+fn fits_count(form: Form, count: usize) -> bool
+    ensures { result ≡ fits_count form count }
+{
+    match form {
+        Form::Plain => count <= i32::MAX as usize,
+        Form::Flexible => count < u32::MAX as usize,
+    }
+}
+
+fn fits_topic(form: Form, topic: &TopicPartitions) -> bool
+    ensures { result ≡ fits_topic form topic.now }
+{
+    fits_length(form, topic.topic.len()) && fits_count(form, topic.numbers.len())
+}
+
+fn fit_topics(form: Form, topics: &[TopicPartitions]) -> bool
+    ensures { result ≡ list_all (fits_topic form) topics.now }
+{
+    for topic in topics {
+        if !fits_topic(form, topic) {
+            return false;
         }
-        Form::Flexible => {
-            let Some(number) = one_more(len) else {
-                return Err(RecordFault::Length);
-            };
-            write_unsigned(out, number)
-        }
+    }
+    true
+}
+
+fn fits_partitions(form: Form, topics: &[TopicPartitions]) -> bool
+    ensures { result ≡ fits_partitions form topics.now }
+{
+    fits_count(form, topics.len()) && fit_topics(form, topics)
+}
+
+// ---- what fits, written
+
+/// The length of a text.
+fn write_length(out: &mut Vec<u8>, form: Form, len: usize) -> Result<(), AllocError>
+    requires { fits_length form len ≡ true }
+    ensures { OnOk result (out.new.items ≡ out.old.items ++ length_text form len) }
+{
+    match form {
+        Form::Plain => write_i16(out, len as i16),
+        Form::Flexible => write_uvarint(out, len as u32 + 1),
     }
 }
 
 /// The count of a list.
-fn write_count(out: &mut Vec<u8>, form: Form, count: usize) -> Result<(), RecordFault>
-    ensures { Writes result out.old.items out.new.items (fits_count form count) (count_text form count) }
+fn write_count(out: &mut Vec<u8>, form: Form, count: usize) -> Result<(), AllocError>
+    requires { fits_count form count ≡ true }
+    ensures { OnOk result (out.new.items ≡ out.old.items ++ count_text form count) }
 {
     match form {
-        Form::Plain => {
-            let Ok(count) = i32::try_from(count) else {
-                return Err(RecordFault::Length);
-            };
-            write_i32(out, count)
-        }
-        Form::Flexible => {
-            let Some(number) = one_more(count) else {
-                return Err(RecordFault::Length);
-            };
-            write_unsigned(out, number)
-        }
+        Form::Plain => write_i32(out, count as i32),
+        Form::Flexible => write_uvarint(out, count as u32 + 1),
     }
 }
 
 /// A section without a field, which only the flexible form has.
-fn write_section(out: &mut Vec<u8>, form: Form) -> Result<(), RecordFault>
-    ensures { Writes result out.old.items out.new.items true (section_text form) }
+fn write_section(out: &mut Vec<u8>, form: Form) -> Result<(), AllocError>
+    ensures { OnOk result (out.new.items ≡ out.old.items ++ section_text form) }
 {
     match form {
         Form::Plain => Ok(()),
-        Form::Flexible => write_unsigned(out, 0),
+        Form::Flexible => write_uvarint(out, 0),
     }
 }
 
 /// A text.
-pub(crate) fn write_string(out: &mut Vec<u8>, form: Form, text: &Bytes) -> Result<(), RecordFault>
-    ensures { Writes result out.old.items out.new.items (fits_length form (length text.now)) (string_text form text.now) }
+pub(crate) fn write_text(out: &mut Vec<u8>, form: Form, text: &Bytes) -> Result<(), AllocError>
+    requires { fits_length form (length text.now) ≡ true }
+    ensures { OnOk result (out.new.items ≡ out.old.items ++ string_text form text.now) }
 {
     write_length(out, form, text.len())?;
-    write_bytes(out, text.as_slice())
+    out.extend_from_slice(text.as_slice())
 }
 
 /// Numbers, one after the other.
-fn write_many_numbers(out: &mut Vec<u8>, numbers: &[i32]) -> Result<(), RecordFault>
-    ensures text { Writes result out.old.items out.new.items true (flat_map i32_text numbers.now) }
+fn write_many_numbers(out: &mut Vec<u8>, numbers: &[i32]) -> Result<(), AllocError>
+    ensures text { OnOk result (out.new.items ≡ out.old.items ++ flat_map i32_text numbers.now) }
     ensures fit { OnOk result (All (FitsSigned w32) numbers.now) }
 {
     for number in numbers {
@@ -139,19 +121,21 @@ fn write_many_numbers(out: &mut Vec<u8>, numbers: &[i32]) -> Result<(), RecordFa
 }
 
 /// The numbers of a topic's partitions.
-fn write_numbers(out: &mut Vec<u8>, form: Form, numbers: &[i32]) -> Result<(), RecordFault>
-    ensures text { Writes result out.old.items out.new.items (fits_count form (length numbers.now)) (numbers_text form numbers.now) }
+fn write_numbers(out: &mut Vec<u8>, form: Form, numbers: &[i32]) -> Result<(), AllocError>
+    requires { fits_count form (length numbers.now) ≡ true }
+    ensures text { OnOk result (out.new.items ≡ out.old.items ++ numbers_text form numbers.now) }
     ensures fit { OnOk result (All (FitsSigned w32) numbers.now) }
 {
     write_count(out, form, numbers.len())?;
     write_many_numbers(out, numbers)
 }
 
-fn write_topic(out: &mut Vec<u8>, form: Form, topic: &TopicPartitions) -> Result<(), RecordFault>
-    ensures text { Writes result out.old.items out.new.items (fits_topic form topic.now) (topic_text form topic.now) }
+fn write_topic(out: &mut Vec<u8>, form: Form, topic: &TopicPartitions) -> Result<(), AllocError>
+    requires { fits_topic form topic.now ≡ true }
+    ensures text { OnOk result (out.new.items ≡ out.old.items ++ topic_text form topic.now) }
     ensures fit { OnOk result (FitNumbers topic.now) }
 {
-    write_string(out, form, &topic.topic)?;
+    write_text(out, form, &topic.topic)?;
     write_numbers(out, form, topic.numbers.as_slice())?;
     write_section(out, form)
 }
@@ -161,8 +145,9 @@ fn write_many_topics(
     out: &mut Vec<u8>,
     form: Form,
     topics: &[TopicPartitions],
-) -> Result<(), RecordFault>
-    ensures text { Writes result out.old.items out.new.items (list_all (fits_topic form) topics.now) (flat_map (topic_text form) topics.now) }
+) -> Result<(), AllocError>
+    requires { list_all (fits_topic form) topics.now ≡ true }
+    ensures text { OnOk result (out.new.items ≡ out.old.items ++ flat_map (topic_text form) topics.now) }
     ensures fit { OnOk result (All FitNumbers topics.now) }
 {
     for topic in topics {
@@ -175,8 +160,9 @@ fn write_partitions(
     out: &mut Vec<u8>,
     form: Form,
     topics: &[TopicPartitions],
-) -> Result<(), RecordFault>
-    ensures text { Writes result out.old.items out.new.items (fits_partitions form topics.now) (partitions_text form topics.now) }
+) -> Result<(), AllocError>
+    requires { fits_partitions form topics.now ≡ true }
+    ensures text { OnOk result (out.new.items ≡ out.old.items ++ partitions_text form topics.now) }
     ensures fit { OnOk result (All FitNumbers topics.now) }
 {
     write_count(out, form, topics.len())?;
@@ -184,8 +170,8 @@ fn write_partitions(
 }
 
 /// The fields before the partitions.
-fn write_head(out: &mut Vec<u8>, value: &TxnValue) -> Result<(), RecordFault>
-    ensures text { Writes result out.old.items out.new.items true (head_text value.now) }
+fn write_head(out: &mut Vec<u8>, value: &TxnValue) -> Result<(), AllocError>
+    ensures text { OnOk result (out.new.items ≡ out.old.items ++ head_text value.now) }
     ensures fit { OnOk result (FitsHead value.now) }
 {
     write_i64(out, value.producer)?;
@@ -196,8 +182,8 @@ fn write_head(out: &mut Vec<u8>, value: &TxnValue) -> Result<(), RecordFault>
 }
 
 /// The fields after the partitions.
-fn write_tail(out: &mut Vec<u8>, form: Form, value: &TxnValue) -> Result<(), RecordFault>
-    ensures text { Writes result out.old.items out.new.items true (tail_text form value.now) }
+fn write_tail(out: &mut Vec<u8>, form: Form, value: &TxnValue) -> Result<(), AllocError>
+    ensures text { OnOk result (out.new.items ≡ out.old.items ++ tail_text form value.now) }
     ensures fit { OnOk result (FitsTail value.now) }
 {
     write_i64(out, value.last_update)?;
@@ -206,8 +192,9 @@ fn write_tail(out: &mut Vec<u8>, form: Form, value: &TxnValue) -> Result<(), Rec
 }
 
 /// The fields after the version.
-fn write_body(out: &mut Vec<u8>, form: Form, value: &TxnValue) -> Result<(), RecordFault>
-    ensures text { Writes result out.old.items out.new.items (fits_partitions form value.now.partitions) (body_text form value.now) }
+fn write_body(out: &mut Vec<u8>, form: Form, value: &TxnValue) -> Result<(), AllocError>
+    requires { fits_partitions form value.now.partitions ≡ true }
+    ensures text { OnOk result (out.new.items ≡ out.old.items ++ body_text form value.now) }
     ensures fit { OnOk result (IsInRange value.now) }
 {
     write_head(out, value)?;
@@ -215,14 +202,17 @@ fn write_body(out: &mut Vec<u8>, form: Form, value: &TxnValue) -> Result<(), Rec
     write_tail(out, form, value)
 }
 
-#[tactic(auto, unfolding(crate::specs::Writing::write_value))]
-fn write_value(alloc: Global, value: &TxnValue, version: i16) -> Result<Bytes, RecordFault>
-    ensures choices { Answers result (write_value version value.now) }
+/// A value whose texts and lists fit.
+fn write_value(
+    alloc: Global,
+    value: &TxnValue,
+    version: i16,
+    form: Form,
+) -> Result<Bytes, AllocError>
+    requires { fits_partitions form value.now.partitions ≡ true }
+    ensures text { IfOk result (λ bytes. bytes ≡ value_text version form value.now) }
     ensures fit { OnOk result (IsInRange value.now) }
 {
-    let Some(form) = Form::from_version(version) else {
-        return Err(RecordFault::Version);
-    };
     let mut out = Vec::new(alloc);
     write_i16(&mut out, version)?;
     write_body(&mut out, form, value)?;
@@ -231,12 +221,20 @@ fn write_value(alloc: Global, value: &TxnValue, version: i16) -> Result<Bytes, R
 
 /// Writes a value of the log in version 0 or 1.
 ///
-/// A fault is Version where the version is another, Length where a text or list doesn't fit its length field, and
-/// `OutOfMemory` only where a growth was refused.
+/// # Errors
+/// Version where the version is another, then Length where a text or list doesn't fit its length field. OutOfMemory comes
+/// only after these.
+#[tactic(auto, unfolding(crate::specs::Writing::write_value))]
 pub fn encode_value(alloc: Global, value: &TxnValue, version: i16) -> Result<Bytes, RecordFault>
-    ensures choices { Answers result (write_value version value.now) }
+    ensures answer { Settles result (write_value version value.now) }
     ensures text { IfOk result (λ bytes. IsValueText bytes value.now) }
     ensures reads_back { IfOk result (λ bytes. read_value bytes ≡ Ok value.now) }
 {
-    write_value(alloc, value, version)
+    let Some(form) = Form::from_version(version) else {
+        return Err(RecordFault::Version);
+    };
+    if !fits_partitions(form, value.partitions.as_slice()) {
+        return Err(RecordFault::Length);
+    }
+    Ok(write_value(alloc, value, version, form)?)
 }

@@ -3,3 +3,4 @@ pub mod NumberTexts
 pub mod Register
 pub mod Spellings
 pub mod VarintTexts
+pub mod CursorParts

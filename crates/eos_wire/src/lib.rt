@@ -3,6 +3,7 @@
 #![tactic(auto)]
 
 mod crc;
+mod cursor;
 mod fields;
 mod numbers;
 mod tables;
@@ -10,6 +11,7 @@ mod varint;
 mod writing;
 
 pub use crc::crc32c;
+pub use cursor::Cursor;
 pub use fields::Fields;
 pub use numbers::{are_bytes, write_i8, write_i16, write_i32, write_i64, write_u32};
 pub use varint::{read_uvarint, read_varint, read_varlong};

@@ -1,5 +1,6 @@
 use Rattle.std.proofs.Common.{◌≡◌, ◌-◌}
-use Rattle.eos_txnlog.specs.Reading.{many_from, tagged_from, skipped}
+use Rattle.eos_base.specs.Records.{skipped}
+use Rattle.eos_txnlog.specs.Reading.{many_from, tagged_from}
 use Rattle.eos_txnlog.proofs.field.skip_many_tagged.Given as goal
 
 abbrev pub invariant-loop : goal.invariant-loop

@@ -1,7 +1,7 @@
 use Rattle.std.proofs.Common.{◌≡◌, ◌-◌}
 use Rattle.eos_txnlog.specs.Reading.{many_from, number_from}
 use Rattle.eos_txnlog.proofs.Loop.{with_front}
-use Rattle.eos_txnlog.proofs.field.read_many_numbers.Given as goal
+use Rattle.eos_txnlog.proofs.reading.read_many_numbers.Given as goal
 
 abbrev pub invariant-loop : goal.invariant-loop
 invariant-loop l = with_front (λ xs. xs) l.numbers (many_from number_from (l.count - l.counter) l.rest) ≡ many_from number_from l.count l.fn.rest
