@@ -3,7 +3,7 @@
 ghost use Rattle.std.specs.Prelude.{◌≡◌, ◌≤◌, ◌<◌, ◌+◌, ◌^◌, length, drop, Ok, IfOk, IfErr, OnOk};
 ghost use Rattle.eos_batch.specs.declared.batch.Batch.{Batch};
 ghost use Rattle.eos_batch.specs.Answers.{Fails};
-ghost use Rattle.eos_batch.specs.Places.{Passes};
+ghost use Rattle.eos_batch.specs.steps.Reading.{Passes};
 ghost use Rattle.eos_batch.specs.Reading.{batch_at};
 ghost use Rattle.eos_items.specs.Heads.{head_with, head_of};
 ghost use Rattle.eos_items.specs.Indexed.{records_in, Pushed, HasGrown, IsIndexed};

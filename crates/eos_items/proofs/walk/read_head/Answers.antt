@@ -1,4 +1,4 @@
-use Rattle.std.proofs.Common.{◌≡◌, ◌∙◌, sym}
+use Rattle.std.proofs.Common.{◌∙◌, sym}
 use Rattle.std.proofs.lemmas.Result.{err_from_is_err_and}
 use Rattle.eos_items.proofs.IndexedBatches.{head_read, records_fail, tests_fail}
 use Rattle.eos_items.proofs.walk.read_head.Goals as goal
