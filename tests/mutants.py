@@ -291,6 +291,30 @@ def said(program, command, data):
     return done.returncode, done.stdout.decode(), done.stderr.decode()
 
 
+def differs(program, name, data, seen):
+    """Whether `dump` or `chain` answers otherwise than the plain reading, which is printed; what it answers is counted."""
+    lines = read(data)
+    good = answer(lines)
+    wanted = {
+        "dump": (0 if lines[-1].startswith("end") else 1, "\n".join(lines) + "\n", ""),
+        "chain": (0 if good.startswith("ok") else 1, good + "\n", ""),
+    }
+    wrong = False
+    for command, want in wanted.items():
+        found = said(program, command, data)
+        if found != want:
+            wrong = True
+            print(f"{command} of {name}:")
+            print(f"  {found[0]} {found[1][-200:]!r} {found[2]!r}, not {want[0]} {want[1][-200:]!r}")
+    seen[lines[-1].split()[-1].split("=")[0]] += 1
+    seen[good.split(" offset")[0].split()[-1] if good.startswith("no") else "kept"] += 1
+    return wrong
+
+
+def tally(seen):
+    return " ".join(f"{word} {times}" for word, times in sorted(seen.items()))
+
+
 def main():
     program, segments = sys.argv[1:3]
     number = int(sys.argv[3]) if len(sys.argv) > 3 else 500
@@ -299,22 +323,8 @@ def main():
     seen, wrong = collections.Counter(), 0
     for i in range(number):
         data = made(random.Random(f"{seed} {i}"), real)
-        lines = read(data)
-        good = answer(lines)
-        wanted = {
-            "dump": (0 if lines[-1].startswith("end") else 1, "\n".join(lines) + "\n", ""),
-            "chain": (0 if good.startswith("ok") else 1, good + "\n", ""),
-        }
-        for command, want in wanted.items():
-            found = said(program, command, data)
-            if found != want:
-                wrong += 1
-                print(f"{command} of segment {i} with seed {seed}:")
-                print(f"  {found[0]} {found[1][-200:]!r} {found[2]!r}, not {want[0]} {want[1][-200:]!r}")
-        seen[lines[-1].split()[-1].split("=")[0]] += 1
-        seen[good.split(" offset")[0].split()[-1] if good.startswith("no") else "kept"] += 1
-    answers = " ".join(f"{word} {times}" for word, times in sorted(seen.items()))
-    print(f"{number} segments, {wrong} differences: {answers}")
+        wrong += differs(program, f"segment {i} with seed {seed}", data, seen)
+    print(f"{number} segments, {wrong} differences: {tally(seen)}")
     unseen = [name for name in REFUSALS + FAULTS if not seen[name]]
     if unseen:
         print("never seen:", " ".join(unseen))

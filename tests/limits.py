@@ -1,0 +1,195 @@
+#!/usr/bin/env -S python3 -B
+"""Large and hostile segments: what they may cost, and that they are answered all the same.
+
+    tests/limits.py PROGRAM
+
+Runs `dump` and `chain` with a bound on the address space or on the time, and compares what they print with the plain
+reading of tests/mutants.py. Prints what is wrong, and as its last line 'N passed, N failed'.
+"""
+import os
+import resource
+import struct
+import subprocess
+import sys
+import tempfile
+
+import mutants
+from chain_of_listing import answer
+from mutants import varint
+
+MIB = 2**20
+LIMIT = 2**30
+# The room of a run that meets a count which its bytes don't bear out: more than the program and its input take.
+SMALL = 64 * MIB
+# What a run may take that does work in proportion to its input. The slowest takes a tenth of it on a slow machine.
+SECONDS = 60
+
+TABLE = []
+for i in range(256):
+    for _ in range(8):
+        i = i >> 1 ^ (0x82F63B78 if i & 1 else 0)
+    TABLE.append(i)
+
+
+def crc32c(data):
+    """As that of mutants.py, a byte at a time."""
+    register = 0xFFFFFFFF
+    for byte in data:
+        register = register >> 8 ^ TABLE[(register ^ byte) & 255]
+    return register ^ 0xFFFFFFFF
+
+
+mutants.crc32c = crc32c
+
+
+def text(data):
+    return varint(len(data)) + data
+
+
+def record(place, key=varint(-1), value=text(b"a"), headers=varint(0)):
+    body = b"\0" + varint(0) + varint(place) + key + value + headers
+    return varint(len(body)) + body
+
+
+def batch(records, base=0, count=None, last=None):
+    count = len(records) if count is None else count
+    last = count - 1 if last is None else last
+    head = struct.pack(">qiibIhiqqqhii", base, 0, 0, 2, 0, 0, last, 0, 0, -1, -1, -1, count)
+    return mutants.sealed(head + b"".join(records))
+
+
+def at_offset(bytes_, base):
+    """The batch at another base offset, which the checksum doesn't cover."""
+    return struct.pack(">q", base) + bytes_[8:]
+
+
+def hostile():
+    """Counts and lengths that no bytes bear out, each behind a checksum that is right."""
+    huge = varint(2**31 - 1)
+    for count in (2**31 - 1, 10**7):
+        yield f"{count} headers", batch([record(0, headers=varint(count))])
+        yield f"{count} records", batch([], count=count)
+        yield f"{count} records, one there", batch([record(0)], count=count)
+    yield "a key of 2^31 - 1 bytes", batch([record(0, key=huge)])
+    yield "a value of 2^31 - 1 bytes", batch([record(0, value=huge)])
+    yield "a header's key of 2^31 - 1 bytes", batch([record(0, headers=varint(1) + huge)])
+    yield "a header's value of 2^31 - 1 bytes", batch([record(0, headers=varint(1) + text(b"k") + huge)])
+    yield "a record of 2^31 - 1 bytes", batch([huge])
+    yield "a batch of 2^31 - 1 bytes", struct.pack(">qi", 0, 2**31 - 1) + bytes(49)
+
+
+class Cases:
+    def __init__(self, program, folder):
+        self.program, self.folder = program, folder
+        self.passed = self.failed = 0
+
+    def tell(self, name, wrong):
+        if wrong:
+            self.failed += 1
+            print(f"FAILED: {name}: {wrong}")
+        else:
+            self.passed += 1
+
+    def run(self, words, room=None):
+        def bound():
+            if room:
+                resource.setrlimit(resource.RLIMIT_AS, (room, room))
+
+        out = os.path.join(self.folder, "out")
+        with open(out, "wb") as file:
+            try:
+                done = subprocess.run(words, stdout=file, stderr=subprocess.PIPE, preexec_fn=bound, timeout=SECONDS)
+            except subprocess.TimeoutExpired:
+                return None, b"", f"no answer after {SECONDS} seconds"
+        with open(out, "rb") as file:
+            return done.returncode, file.read(), done.stderr.decode(errors="replace")
+
+    def compare(self, name, command, path, want, room=None):
+        status, out, err = self.run([self.program, command, path], room)
+        if (status, out, err) == want:
+            self.tell(name, None)
+        else:
+            self.tell(name, f"{command}: {status} {out[-100:]!r} {err!r}, not {want[0]} {want[1][-100:]!r} {want[2]!r}")
+
+    def both(self, name, path, data, room=None):
+        lines = mutants.read(data)
+        good = answer(lines)
+        listed = "".join(line + "\n" for line in lines).encode()
+        self.compare(name, "dump", path, (0 if lines[-1].startswith("end") else 1, listed, ""), room)
+        self.compare(name, "chain", path, (0 if good.startswith("ok") else 1, f"{good}\n".encode(), ""), room)
+
+
+def answers_hostile_counts(cases):
+    for name, data in hostile():
+        path = os.path.join(cases.folder, "hostile")
+        with open(path, "wb") as file:
+            file.write(data)
+        cases.both(f"{name}, in {SMALL // MIB} MiB", path, data, SMALL)
+
+
+def answers_large_records(cases):
+    """Long keys, values and headers, and many of each, with ample memory."""
+    many = b"".join(text(b"k" * (i % 7)) + text(b"v") for i in range(20000))
+    records = [
+        record(0, key=text(b"k" * 300_000)),
+        record(1, value=text(b"v" * 700_000)),
+        record(2, headers=varint(1) + text(b"h" * 100_000) + text(b"w" * 100_000)),
+        record(3, headers=varint(20000) + many),
+    ]
+    data = batch(records) + batch([record(i) for i in range(20000)], base=4)
+    path = os.path.join(cases.folder, "large")
+    with open(path, "wb") as file:
+        file.write(data)
+    cases.both("long keys, values and headers, and many", path, data)
+
+
+def answers_many_batches(cases):
+    """Many small batches: work in proportion to the bytes, however many batches stand before."""
+    one = batch([record(0)])
+    count = 400_000
+    path = os.path.join(cases.folder, "many")
+    with open(path, "wb") as file:
+        file.write(b"".join(at_offset(one, base) for base in range(count)))
+    lines = b"".join(
+        b"batch byte=%d base=%d count=1 producer=-1 epoch=-1 sequence=-1 plain\n"
+        b"record offset=%d key=null value=61 headers=0\n" % (base * len(one), base, base)
+        for base in range(count)
+    )
+    cases.compare("many batches", "dump", path, (0, lines + b"end bytes=%d\n" % (count * len(one)), ""))
+    cases.compare("many batches", "chain", path, (0, b"ok batches=%d producers=0\n" % count, ""))
+
+
+def answers_the_largest(cases):
+    """A segment of exactly 2^30 bytes, one byte more, and the largest where there is no room for it."""
+    one = batch([record(0, value=text(b"x" * (MIB - 100)))])
+    path = os.path.join(cases.folder, "largest")
+    count, rest = divmod(LIMIT, len(one))
+    length = next(n for n in range(rest) if 61 + len(record(0, value=text(bytes(n)))) == rest)
+    last = batch([record(0, value=text(bytes(length)))])
+    with open(path, "wb") as file:
+        for base in range(count):
+            file.write(at_offset(one, base))
+        file.write(at_offset(last, count))
+    assert os.path.getsize(path) == LIMIT
+    cases.compare("2^30 bytes", "chain", path, (0, b"ok batches=%d producers=0\n" % (count + 1), ""))
+    for command in "dump", "chain":
+        cases.compare("2^30 bytes in little room", command, path, (3, b"", "eoscheck: out of memory\n"), 256 * MIB)
+    with open(path, "ab") as file:
+        file.write(b"\0")
+    for command in "dump", "chain":
+        cases.compare("2^30 + 1 bytes", command, path, (2, b"", "eoscheck: limit\n"))
+
+
+def main():
+    with tempfile.TemporaryDirectory() as folder:
+        cases = Cases(os.path.abspath(sys.argv[1]), folder)
+        answers_hostile_counts(cases)
+        answers_large_records(cases)
+        answers_many_batches(cases)
+        answers_the_largest(cases)
+    print(f"{cases.passed} passed, {cases.failed} failed")
+    sys.exit(1 if cases.failed else 0)
+
+
+if __name__ == "__main__":
+    main()
