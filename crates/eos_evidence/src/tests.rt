@@ -137,7 +137,6 @@ fn reads_the_example(rt: HostRuntime) -> Result<(), Fail> {
     let spec = parse_spec(rt.alloc(), EXAMPLE)?;
     let made = example(rt.alloc(), b"out")?;
     assert_eq!(rt; spec.apps(), made.apps());
-    assert_eq!(rt; spec.apps().as_slice()[0].group.as_bytes(), b"g".as_slice());
     assert_eq!(rt;
         spec.ends().as_slice(),
         [end_of(b"in", 0, 2), end_of(b"out", 0, 3)].as_slice()
@@ -168,12 +167,7 @@ fn writes_the_first_version_for_one_application(rt: HostRuntime) -> Result<(), F
         parse_spec(rt.alloc(), text.as_slice())?.apps(),
         example(rt.alloc(), b"out")?.apps()
     );
-    let version: &[u8] = b"\"version\":1";
-    assert!(rt;
-        text.as_slice()
-            .windows(version.len())
-            .any(|part| part == version)
-    );
+    assert!(rt; text.as_slice().ends_with(b"\"version\":1}"));
     let text = spec_text(rt.alloc(), &parse_spec(rt.alloc(), CHAIN)?)?;
     assert_eq!(rt;
         parse_spec(rt.alloc(), text.as_slice())?.apps(),
