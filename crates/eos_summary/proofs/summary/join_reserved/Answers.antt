@@ -1,0 +1,12 @@
+use Rattle.std.proofs.Common.{refl, sym, subst, Option}
+use Rattle.eos_summary.specs.declared.fault.Fault.{Fault}
+use Rattle.eos_summary.specs.Joins.{Starts, rest_of}
+use Rattle.eos_summary.proofs.JoinedSummaries.{starts, ends_taken}
+use Rattle.eos_summary.proofs.summary.join_reserved.Goals as goal
+
+pub returns-clause-known : goal.returns-clause-known
+returns-clause-known c = λ xs ys p q e.
+    let s = c.args.before in
+    let t = c.args.after in
+    let begun = subst (λ (f : Option Fault). Starts xs ys s.sequenced s.producers s.index.batches f (rest_of t.producers)) (sym c.earlier-before.ensures) (starts xs ys s t p q e) in
+    ends_taken xs ys s t _ c.take_all.new.index.batches p q (c.take_all.ensures.taken xs ys begun) refl c.append.ensures.batches

@@ -1,0 +1,44 @@
+-- The faults of pairs of touches that a list of batches settles by itself: those at a touch that has another one of its
+-- id before it in the list.
+use Rattle.std.specs.Prelude.{◌≡◌, ℕ, ◌<◌, ◌≤◌, ◌⊎◌, ℤ, Bool, true, List, [], ◌∷◌, Option, Some, None, if◌then◌else◌, nat_lt, nat_le}
+use Rattle.std.specs.Option.{option_or}
+use Rattle.eos_touch.specs.declared.touch.Touch.{Touch}
+use Rattle.eos_touch.specs.declared.pair.PairFault.{PairFault}
+use Rattle.eos_touch.specs.Pair.{stands, number_of}
+use Rattle.eos_summary.specs.Heads.{Head}
+use Rattle.eos_summary.specs.declared.fault.Fault.{Fault}
+use Rattle.eos_summary.specs.Heads.{touch_of}
+
+abbrev pub Claims : Type 1
+Claims = ℕ → ℤ → PairFault → Type 0
+
+-- a fault at the second of two touches of an id
+abbrev pub StandsAt : Bool → Option (ℕ × Touch) → Option (ℕ × Touch) → ℕ → PairFault → Type 0
+StandsAt sequenced None next offset kind = ⊥
+StandsAt sequenced (Some p) None offset kind = ⊥
+StandsAt sequenced (Some p) (Some t) offset kind = (offset ≡ t.0) × (stands sequenced (Some p.1) t.1 kind ≡ true)
+
+-- a fault of an id at a touch of these, before which this touch came
+abbrev pub StandsAfter : Bool → ℤ → Option (ℕ × Touch) → List Head → ℕ → PairFault → Type 0
+StandsAfter sequenced id before [] offset kind = ⊥
+StandsAfter sequenced id before (h ∷ hs) offset kind =
+    StandsAt sequenced before (touch_of id h) offset kind ⊎ StandsAfter sequenced id (option_or (touch_of id h) before) hs offset kind
+
+-- a fault that is settled inside
+abbrev pub IsSettled : Bool → List Head → ℕ → ℤ → PairFault → Type 0
+IsSettled sequenced hs offset id kind = StandsAfter sequenced id None hs offset kind
+
+-- none of these, or the least of them: by offset, then by kind
+abbrev pub IsLeastOf : (ℕ → ℤ → PairFault → Type 0) → Option Fault → Type 0
+IsLeastOf P None = (offset : ℕ) (id : ℤ) (kind : PairFault) → P offset id kind → ⊥
+IsLeastOf P (Some f) =
+    P f.offset f.producer f.kind × ((offset : ℕ) (id : ℤ) (kind : PairFault) → P offset id kind
+    → (f.offset < offset) ⊎ ((f.offset ≡ offset) × (number_of f.kind ≤ number_of kind)))
+
+abbrev pub earlier_of : Fault → Fault → Fault
+earlier_of a b = if nat_lt a.offset b.offset then a else if nat_lt b.offset a.offset then b else if nat_le (number_of a.kind) (number_of b.kind) then a else b
+
+abbrev pub earlier : Option Fault → Option Fault → Option Fault
+earlier None b = b
+earlier (Some a) None = Some a
+earlier (Some a) (Some b) = Some (earlier_of a b)

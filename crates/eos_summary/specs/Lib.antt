@@ -1,0 +1,13 @@
+pub mod Place
+pub mod Batches
+pub mod Endings
+pub mod Heads
+pub mod Items
+pub mod Tables
+pub mod Faults
+pub mod Summaries
+pub mod Joins
+pub mod Closes
+pub mod NextMarker
+pub mod Touches
+pub mod Pushes

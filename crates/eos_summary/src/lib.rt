@@ -1,0 +1,20 @@
+//! What is known of a run of a partition's log, worked out batch by batch or joined from its parts.
+#![tactic(auto)]
+
+mod ends;
+mod fault;
+mod index;
+pub mod laws;
+mod mark;
+mod places;
+mod push;
+mod settle;
+mod summary;
+mod touches;
+
+pub use ends::Ends;
+pub use fault::Fault;
+pub use index::{BatchHead, DataBatch, Ending, LogIndex};
+pub use mark::EndMark;
+pub use places::Places;
+pub use summary::BatchSummary;

@@ -1,0 +1,88 @@
+//! One batch more.
+
+ghost use Rattle.std.specs.Prelude.{◌≡◌, ◌≢◌, ◌≤◌, ◌<◌, ◌^◌, ◌∷◌, [], ℕ, List, length, take, drop, IfOk, IfErr, OnOk};
+ghost use Rattle.eos_batch.specs.declared.batch.Batch.{Batch};
+ghost use Rattle.eos_batch.specs.declared.fault.BatchFault.TheVariants.{OutOfMemory};
+ghost use Rattle.eos_batch.specs.Answers.{Fails};
+ghost use Rattle.eos_batch.specs.Reading.{batch_at};
+ghost use Rattle.eos_summary.specs.Heads.{Head};
+ghost use Rattle.eos_summary.specs.Items.{items_of};
+ghost use Rattle.eos_summary.specs.Tables.{KeepsPlaces};
+ghost use Rattle.eos_summary.specs.Joins.{TakesFrom};
+ghost use Rattle.eos_summary.specs.Summaries.{SameSummary};
+ghost use Rattle.eos_summary.specs.Pushes.{IsTakenFrom, ReadsNext};
+ghost use Rattle.eos_summary.specs.Batches.{read_head};
+ghost use Rattle.eos_summary.specs.Touches.{head_of};
+
+use crate::ends::Ends;
+use crate::fault::Fault;
+use crate::index::{BatchHead, LogIndex};
+use crate::summary::{BatchSummary, make_room_for, take_over};
+use crate::touches::touch_of;
+use bytes::Bytes;
+use eos_batch::BatchFault;
+use std::alloc::{AllocError, Global};
+use std::collections::BTreeMap;
+
+/// Takes over what a batch says of its producer id. So many data batches were there before it.
+fn take_batch(
+    alloc: Global,
+    sequenced: bool,
+    producers: &mut BTreeMap<i64, Ends>,
+    index: &mut LogIndex,
+    fault: &mut Option<Fault>,
+    head: &BatchHead,
+    by: usize,
+) -> Result<(), AllocError>
+    requires within { by ≤ length index.old.batches }
+    requires places { KeepsPlaces producers.old (take by index.old.batches) }
+    ensures taken { (xs : List Head) (b : Batch) (size : ℕ) → head.now ≡ read_head b size → drop by index.old.batches ≡ items_of (head_of b ∷ [])
+        → TakesFrom sequenced xs producers.old (take by index.old.batches) fault.old
+        → OnOk result (IsTakenFrom xs (head_of b) sequenced producers.new index.new.batches fault.new) }
+    ensures rest { index.new.rest ≡ index.old.rest }
+{
+    let Some((producer, touch)) = touch_of(head) else {
+        return Ok(());
+    };
+    let ends = Ends::of(alloc, head.offset, !head.is_control, producer, touch)?;
+    make_room_for(alloc, producers, producer, ends.waiting.len())?;
+    take_over(sequenced, producers, index, fault, producer, ends, by);
+    Ok(())
+}
+
+impl BatchSummary {
+    /// Begins to read a further segment's bytes.
+    pub fn open(&mut self, alloc: Global, bytes: Bytes) -> Result<(), AllocError>
+        requires { length bytes < 2 ^ 32 }
+        ensures ok { OnOk result (SameSummary self.old self.new × (self.new.index.rest ≡ bytes)) }
+    {
+        self.index.open(alloc, bytes)
+    }
+
+    /// Reads the next batch of the bytes, and takes it over where it begins at the next offset.
+    ///
+    /// # Errors
+    /// Why the bytes are no batch, or `OutOfMemory`, after which nothing more is known.
+    pub fn read(&mut self, alloc: Global, next: u64) -> Result<BatchHead, BatchFault>
+        requires { KeepsPlaces self.old.producers self.old.index.batches }
+        ensures sequenced { self.new.sequenced ≡ self.old.sequenced }
+        ensures ok { IfOk result (ReadsNext next self.old self.new) }
+        ensures err { IfErr result (λ e. Fails e (batch_at self.old.index.rest) × (e ≢ OutOfMemory → SameSummary self.old self.new)) }
+    {
+        let by = self.index.len();
+        let head = self.index.read(alloc, next)?;
+        if head.offset != next {
+            return Ok(head);
+        }
+        take_batch(
+            alloc,
+            self.sequenced,
+            &mut self.producers,
+            &mut self.index,
+            &mut self.fault,
+            &head,
+            by,
+        )?;
+        Ok(head)
+    }
+}

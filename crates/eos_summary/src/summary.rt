@@ -1,0 +1,224 @@
+//! What is known of a run of a log, worked out batch by batch or joined from its parts.
+
+ghost use Rattle.std.specs.Prelude.{◌≡◌, ◌+◌, ◌<◌, ◌≤◌, ◌^◌, [], ◌∷◌, ◌++◌, ℕ, ℤ, List, map, length, Some, None, IsSome, IfOk, IfErr, OnOk, All, false, ⊤};
+ghost use Rattle.std.specs.Ordering.{int_cmp, int_eq};
+ghost use Rattle.std.specs.BTreeMap.{get};
+ghost use Rattle.eos_summary.specs.Heads.{Head};
+ghost use Rattle.eos_summary.specs.declared.index.DataBatch.{DataBatch};
+ghost use Rattle.eos_summary.specs.declared.ends.Ends.{Ends};
+ghost use Rattle.eos_summary.specs.Heads.{marker_of};
+ghost use Rattle.eos_summary.specs.Items.{items_of, waiting_in, settled};
+ghost use Rattle.eos_summary.specs.Tables.{ends_at, AreEnds, IsJoined, HasRoom, KeepsPlaces, IsReadyFor};
+ghost use Rattle.eos_summary.specs.Joins.{rest_of, Starts, IsTaking, IsTaken, TakesFrom};
+ghost use Rattle.eos_summary.specs.Summaries.{IsSummary, SameEnds, SameSummary, FitsBehind, TakesFault, only};
+
+use crate::ends::Ends;
+use crate::fault::{Fault, at_seam, earlier};
+use crate::index::LogIndex;
+use crate::places::Places;
+use crate::settle::settle_by;
+use eos_touch::Touch;
+use std::alloc::{AllocError, Global};
+use std::collections::BTreeMap;
+
+/// What is known of a run of a log.
+#[derive(Drop)]
+pub struct BatchSummary {
+    /// Whether sequences are checked.
+    pub(crate) sequenced: bool,
+    /// The data batches, each with its ending as far as the run says.
+    pub(crate) index: LogIndex,
+    pub(crate) producers: BTreeMap<i64, Ends>,
+    /// The least fault that the run settles by itself.
+    pub(crate) fault: Option<Fault>,
+}
+
+/// Makes sure that the table has this id.
+fn make_present(
+    alloc: Global,
+    producers: &mut BTreeMap<i64, Ends>,
+    producer: i64,
+) -> Result<(), AllocError>
+    ensures same { (id : ℤ) → SameEnds (ends_at producers.old id) (ends_at producers.new id) }
+    ensures keeps { (id : ℤ) → IsSome (get int_cmp producers.old id) → IsSome (get int_cmp producers.new id) }
+    ensures present { OnOk result (IsSome (get int_cmp producers.new producer)) }
+{
+    if producers.contains_key(&producer) {
+        return Ok(());
+    }
+    producers.insert(producer, Ends::blank(alloc))?;
+    Ok(())
+}
+
+/// Makes room for so many more places of an id.
+fn reserve_at(
+    producers: &mut BTreeMap<i64, Ends>,
+    producer: i64,
+    count: usize,
+) -> Result<(), AllocError>
+    requires { IsSome (get int_cmp producers.old producer) }
+    ensures same { (id : ℤ) → SameEnds (ends_at producers.old id) (ends_at producers.new id) }
+    ensures keeps { (id : ℤ) → IsSome (get int_cmp producers.old id) → IsSome (get int_cmp producers.new id) }
+    ensures room { OnOk result (length (ends_at producers.old producer).waiting.list + count ≤ (ends_at producers.new producer).waiting.room) }
+{
+    let Some(ends) = producers.get_mut(&producer) else {
+        unreachable!()
+    };
+    ends.waiting.reserve(count)
+}
+
+/// Makes sure that the table has this id, with room for so many more places.
+pub(crate) fn make_room_for(
+    alloc: Global,
+    producers: &mut BTreeMap<i64, Ends>,
+    producer: i64,
+    count: usize,
+) -> Result<(), AllocError>
+    ensures same { (id : ℤ) → SameEnds (ends_at producers.old id) (ends_at producers.new id) }
+    ensures keeps { (id : ℤ) → IsSome (get int_cmp producers.old id) → IsSome (get int_cmp producers.new id) }
+    ensures present { OnOk result (IsSome (get int_cmp producers.new producer)) }
+    ensures room { OnOk result (length (ends_at producers.old producer).waiting.list + count ≤ (ends_at producers.new producer).waiting.room) }
+{
+    make_present(alloc, producers, producer)?;
+    reserve_at(producers, producer, count)
+}
+
+/// Makes room for all that comes after.
+fn make_room(
+    alloc: Global,
+    producers: &mut BTreeMap<i64, Ends>,
+    after: &BTreeMap<i64, Ends>,
+) -> Result<(), AllocError>
+    ensures same { (id : ℤ) → SameEnds (ends_at producers.old id) (ends_at producers.new id) }
+    ensures ready { OnOk result ((id : ℤ) (ends : Ends) → get int_cmp after.now id ≡ Some ends → IsReadyFor producers.new id ends) }
+{
+    let mut rest = after.iter();
+    while let Some((producer, ends)) = rest.next() {
+        make_room_for(alloc, producers, *producer, ends.waiting.len())?;
+    }
+    Ok(())
+}
+
+/// Takes over what a producer id does in what comes after, whose data batches begin after so many. Behind those that are
+/// settled there may already be more, but not where a marker comes.
+pub(crate) fn take_over(
+    sequenced: bool,
+    producers: &mut BTreeMap<i64, Ends>,
+    index: &mut LogIndex,
+    fault: &mut Option<Fault>,
+    producer: i64,
+    after: Ends,
+    by: usize,
+)
+    requires present { IsSome (get int_cmp producers.old producer) }
+    requires room { HasRoom (ends_at producers.old producer) after }
+    requires inside { All (λ place. place < length index.old.batches) (ends_at producers.old producer).waiting.list }
+    requires fits { All (λ p. p + by < 2 ^ 64) after.waiting.list }
+    ensures joined { IsJoined by (ends_at producers.old producer) after (ends_at producers.new producer) }
+    ensures others { (id : ℤ) → int_eq producer id ≡ false → get int_cmp producers.new id ≡ get int_cmp producers.old id }
+    ensures items { (base extra : List DataBatch) → index.old.batches ≡ base ++ extra → (IsSome after.marker → extra ≡ [])
+        → (ends_at producers.old producer).waiting.list ≡ waiting_in producer base
+        → index.new.batches ≡ map (settled (only producer after.marker)) base ++ extra }
+    ensures rest { index.new.rest ≡ index.old.rest }
+    ensures segments { index.new.segments ≡ index.old.segments }
+    ensures capacity { index.new.room ≡ index.old.room }
+    ensures fault { TakesFault sequenced producer (ends_at producers.old producer).last after.first fault.old fault.new }
+{
+    let Some(ends) = producers.get_mut(&producer) else {
+        unreachable!()
+    };
+    let seam = at_seam(ends.last, after.first, producer, sequenced);
+    *fault = earlier(*fault, seam);
+    settle_by(index, &ends.waiting, after.marker);
+    ends.take_over(after, by);
+}
+
+/// Takes over all producer ids of what comes after.
+fn take_all(
+    sequenced: bool,
+    producers: &mut BTreeMap<i64, Ends>,
+    index: &mut LogIndex,
+    fault: &mut Option<Fault>,
+    mut after: BTreeMap<i64, Ends>,
+    by: usize,
+)
+    requires { IsTaking by producers.old index.old.batches (rest_of after) }
+    ensures segments { index.new.segments ≡ index.old.segments }
+    ensures capacity { index.new.room ≡ index.old.room }
+    ensures taken { (xs ys : List Head) → Starts xs ys sequenced producers.old index.old.batches fault.old (rest_of after) → IsTaken xs ys sequenced producers.new index.new.batches fault.new (λ _. None) }
+{
+    while let Some((producer, ends)) = after.pop_first() {
+        take_over(sequenced, producers, index, fault, producer, ends, by);
+    }
+}
+
+/// Makes room for all of a second summary. What is known stays.
+fn reserve_for(
+    alloc: Global,
+    before: &mut BatchSummary,
+    after: &BatchSummary,
+) -> Result<(), AllocError>
+    ensures same { SameSummary before.old before.new }
+    ensures ready { OnOk result ((id : ℤ) (ends : Ends) → get int_cmp after.now.producers id ≡ Some ends → IsReadyFor before.new.producers id ends) }
+    ensures room { OnOk result (FitsBehind before.new after.now) }
+{
+    let Some(_) = before.index.len().checked_add(after.index.len()) else {
+        return Err(AllocError);
+    };
+    before.index.reserve_for(&after.index)?;
+    make_room(alloc, &mut before.producers, &after.producers)
+}
+
+/// Joins two summaries where there is room.
+fn join_reserved(mut before: BatchSummary, after: BatchSummary) -> BatchSummary
+    requires taking { IsTaking (length before.index.batches) before.producers before.index.batches (rest_of after.producers) }
+    requires room { FitsBehind before after }
+    ensures known { (xs ys : List Head) → IsSummary xs before → IsSummary ys after → after.sequenced ≡ before.sequenced → IsSummary (xs ++ ys) result }
+    ensures sequenced { result.sequenced ≡ before.sequenced }
+{
+    let by = before.index.len();
+    before.fault = earlier(before.fault, after.fault);
+    take_all(
+        before.sequenced,
+        &mut before.producers,
+        &mut before.index,
+        &mut before.fault,
+        after.producers,
+        by,
+    );
+    before.index.append(after.index);
+    before
+}
+
+impl BatchSummary {
+    /// Of no batch.
+    pub fn new(alloc: Global, sequenced: bool) -> BatchSummary
+        ensures sequenced { result.sequenced ≡ sequenced }
+        ensures known { IsSummary [] result }
+    {
+        BatchSummary {
+            sequenced,
+            index: LogIndex::new(alloc),
+            producers: BTreeMap::new(alloc),
+            fault: None,
+        }
+    }
+
+    /// The summary of one run and the next. Where memory is refused both are handed back.
+    pub fn join(
+        alloc: Global,
+        mut before: BatchSummary,
+        after: BatchSummary,
+    ) -> Result<BatchSummary, (BatchSummary, BatchSummary)>
+        requires before { KeepsPlaces before.producers before.index.batches }
+        requires after { KeepsPlaces after.producers after.index.batches }
+        ensures ok { (xs ys : List Head) → IsSummary xs before → IsSummary ys after → after.sequenced ≡ before.sequenced → IfOk result (IsSummary (xs ++ ys)) }
+        ensures sequenced { IfOk result (λ s. s.sequenced ≡ before.sequenced) }
+        ensures err { IfErr result (λ back. SameSummary before back.0 × SameSummary after back.1) }
+    {
+        if reserve_for(alloc, &mut before, &after).is_err() {
+            return Err((before, after));
+        }
+        Ok(join_reserved(before, after))
+    }
+}
