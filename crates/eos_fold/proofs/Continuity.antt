@@ -13,7 +13,7 @@ pub records_in-append : (xs ys : List Batch) → records_in (xs ++ ys) ≡ recor
 records_in-append [] ys = omega arith
 records_in-append (x ∷ xs) ys = omega (arith, records_in-append xs ys)
 
-abs_pos : (z : ℤ) → pos 0 ≤ℤ z → z ≡ pos (unsigned_abs z)
+pub abs_pos : (z : ℤ) → pos 0 ≤ℤ z → z ≡ pos (unsigned_abs z)
 abs_pos (pos n) h = refl
 abs_pos (negsuc n) h = absurd (omega (arith, ints))
 
@@ -25,7 +25,7 @@ expected (x ∷ xs) b = next_offset (x ∷ xs)
 later : (n kept offset m : ℕ) → n ≡ suc m → (if n == 0 then offset else kept) ≡ kept
 later n kept offset m e = grind arith
 
-continues-push : (n : ℕ) (bs : List Batch) (b : Batch) → ContinuesFrom n bs → b.base_offset ≡ pos (n + records_in bs) → ContinuesFrom n (bs ++ b ∷ [])
+pub continues-push : (n : ℕ) (bs : List Batch) (b : Batch) → ContinuesFrom n bs → b.base_offset ≡ pos (n + records_in bs) → ContinuesFrom n (bs ++ b ∷ [])
 continues-push n [] b h e = let z : n + 0 ≡ n = omega arith in (e ∙ ap pos z, tt)
 continues-push n (x ∷ xs) b h e =
     let z : n + (length x.records + records_in xs) ≡ n + length x.records + records_in xs = omega arith in

@@ -2,6 +2,8 @@ pub mod TouchLists
 pub mod ProducerCounts
 pub mod Following
 pub mod TouchTable
+pub mod SegmentWalks
+pub mod JoinedFronts
 pub mod Continuity
 pub mod LeastAtBatch
 pub mod BatchReading

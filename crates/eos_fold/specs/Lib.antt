@@ -6,3 +6,5 @@ pub mod Good
 pub mod Walks
 pub mod Closes
 pub mod Parts
+pub mod Fronts
+pub mod Sums

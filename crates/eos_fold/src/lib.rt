@@ -7,8 +7,11 @@
 mod close;
 mod fault;
 mod item;
+mod named;
 mod part;
 mod segment;
+mod stop;
+mod summary;
 mod touches;
 mod walk;
 
@@ -16,5 +19,8 @@ pub use close::Close;
 pub use eos_touch::{PairFault, Touch, pair_ok};
 pub use fault::{PartitionFault, PartitionFaultKind};
 pub use item::{Fate, Item, ItemRef, Items};
+pub use named::Named;
 pub use part::Part;
 pub use segment::{Chain, chain};
+pub use stop::Stop;
+pub use summary::Summary;

@@ -1,0 +1,20 @@
+//! Why the front of a partition's log ends.
+
+use eos_batch::BatchFault;
+
+/// Why a front ends.
+#[derive(Clone, Copy, Debug, PartialEq, Eq)]
+pub enum Stop {
+    /// It uses all bytes of all segments.
+    AtEnd,
+    /// Bytes that are no batch: in the segment of this name, at this place of its bytes, for this reason.
+    NoBatch {
+        segment: u64,
+        byte: u64,
+        fault: BatchFault,
+    },
+    /// A segment of this name or a batch with this base offset, which is another than the next.
+    Elsewhere {
+        found: u64,
+    },
+}
