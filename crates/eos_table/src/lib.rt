@@ -11,6 +11,8 @@ mod ordered;
 mod pass;
 mod shard;
 mod table;
+#[cfg(test)]
+mod tests;
 
 pub use log_fault::{LogFault, LogFaultKind};
 pub use match_fault::{MatchFault, MatchFaultKind};
