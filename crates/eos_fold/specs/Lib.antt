@@ -8,3 +8,5 @@ pub mod Closes
 pub mod Parts
 pub mod Fronts
 pub mod Sums
+pub mod Standing
+pub mod Whole
