@@ -8,6 +8,3 @@ mod value;
 pub use eos_base::RecordFault;
 pub use key::{OffsetKey, decode_key, encode_key};
 pub use value::{Commit, decode_value, encode_value};
-
-#[cfg(test)]
-mod tests;

@@ -1,5 +1,6 @@
-use crate::{Commit, OffsetKey, RecordFault, decode_key, decode_value, encode_key, encode_value};
 use bytes::Bytes;
+use eos_base::RecordFault;
+use eos_offsets::{Commit, OffsetKey, decode_key, decode_value, encode_key, encode_value};
 use std::alloc::Global;
 use std::test::Fail;
 
