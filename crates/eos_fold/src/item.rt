@@ -1,6 +1,6 @@
 //! The data records of a partition's log, each with what became of it.
 
-ghost use Rattle.std.specs.Prelude.{◌≡◌, ◌<◌, length, slice_get, Some, IfOk, ◌==◌};
+ghost use Rattle.std.specs.Prelude.{◌≡◌, ◌<◌, [], ◌∷◌, length, slice_get, Some, IfOk, IfNone, IfSome, ◌==◌};
 ghost use Rattle.std.specs.Option.{option_map};
 ghost use Rattle.eos_fold.specs.declared.item.Item.{Item};
 
@@ -64,6 +64,15 @@ impl Items {
         self.items.is_empty()
     }
 
+    /// Over the records in order, each lent.
+    pub fn cursor(&self) -> ItemCursor<'_>
+        ensures { result ≡ self.now }
+    {
+        ItemCursor {
+            rest: self.items.as_slice(),
+        }
+    }
+
     /// The record at this place, lent. It takes no memory.
     pub fn view(&self, i: usize) -> ItemRef<'_>
         requires { i < length self.now }
@@ -83,6 +92,33 @@ impl Items {
         ensures { IfOk result (λ item. slice_get self.now i ≡ Some item) }
     {
         self.items[i].clone()
+    }
+}
+
+/// The data records that are left, in order, which contracts see as a list.
+#[derive(Debug, Drop)]
+pub struct ItemCursor<'a> {
+    rest: &'a [Item],
+}
+
+impl<'a> Model for ItemCursor<'a> {
+    ghost use Rattle.std.specs.Prelude.{List};
+    ghost use Rattle.eos_fold.specs.declared.item.Item.{Item};
+
+    ghost Value = { List Item };
+
+    ghost view = { λ c. c.rest.now };
+}
+
+impl<'a> ItemCursor<'a> {
+    /// The next record, lent, and None after the last one.
+    pub fn next(&mut self) -> Option<ItemRef<'a>>
+        ensures none { IfNone result ((self.old ≡ []) × (self.new ≡ [])) }
+        ensures some { IfSome result (λ item. self.old ≡ item ∷ self.new) }
+    {
+        let (item, rest) = self.rest.split_first()?;
+        self.rest = rest;
+        Some(ItemRef { item })
     }
 }
 

@@ -18,7 +18,7 @@ mod walk;
 pub use close::Close;
 pub use eos_touch::{PairFault, Touch, pair_ok};
 pub use fault::{PartitionFault, PartitionFaultKind};
-pub use item::{Fate, Item, ItemRef, Items};
+pub use item::{Fate, Item, ItemCursor, ItemRef, Items};
 pub use named::Named;
 pub use part::Part;
 pub use segment::{Chain, chain};

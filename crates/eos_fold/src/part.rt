@@ -48,6 +48,13 @@ impl Part {
         self.partition
     }
 
+    /// The offset where the partition is declared to end.
+    pub fn end(&self) -> i64
+        ensures { result ≡ self.now.end }
+    {
+        self.end
+    }
+
     /// The least fault of the partition's log, if one stands.
     pub fn fault(&self) -> Option<&PartitionFault>
         ensures { option_map (λ f. f.now) result ≡ self.now.fault }
