@@ -4,7 +4,7 @@ use Rattle.std.specs.Prelude.{◌≡◌, ◌<◌, ℕ, ℤ, true, List, Option}
 use Rattle.std.specs.List.{AllPairs}
 use Rattle.std.specs.Ordering.{is_lt}
 use Rattle.eos_batch.specs.declared.marker.Marker.{Marker}
-use Rattle.eos_fold.specs.declared.item.Item.{Item}
+use Rattle.eos_items.specs.declared.item.Item.{Item}
 use Rattle.eos_fold.specs.declared.close.Close.{Close}
 use Rattle.eos_fold.specs.declared.fault.PartitionFault.{PartitionFault}
 use Rattle.eos_fold.specs.Closes.{close_cmp}

@@ -6,7 +6,6 @@
 
 mod close;
 mod fault;
-mod item;
 mod named;
 mod part;
 mod segment;
@@ -16,9 +15,9 @@ mod touches;
 mod walk;
 
 pub use close::Close;
+pub use eos_items::{Fate, Item, ItemCursor, ItemRef, Items};
 pub use eos_touch::{PairFault, Touch, pair_ok};
 pub use fault::{PartitionFault, PartitionFaultKind};
-pub use item::{Fate, Item, ItemCursor, ItemRef, Items};
 pub use named::Named;
 pub use part::Part;
 pub use segment::{Chain, chain};

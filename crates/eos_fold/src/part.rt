@@ -6,13 +6,13 @@ ghost use Rattle.eos_fold.specs.Parts.{Rises, Ascends};
 
 use crate::close::Close;
 use crate::fault::PartitionFault;
-use crate::item::Items;
 use bytes::Bytes;
 use eos_batch::Marker;
+use eos_items::Items;
 use std::marker::Model;
 
 /// What a partition's log holds.
-#[derive(Debug, Drop)]
+#[derive(Drop)]
 pub struct Part {
     topic: Bytes,
     partition: i32,

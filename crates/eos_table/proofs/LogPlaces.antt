@@ -7,7 +7,7 @@ use Rattle.eos_base.specs.Members.{Has}
 use Rattle.eos_base.proofs.Membership.{append_cases, flat_has, only}
 use Rattle.eos_txnlog.specs.declared.value.TxnValue.{TxnValue}
 use Rattle.eos_txnlog.specs.Skips.{is_skipped}
-use Rattle.eos_fold.specs.declared.item.Item.{Item}
+use Rattle.eos_items.specs.declared.item.Item.{Item}
 use Rattle.eos_fold.specs.Parts.{PartLog, Rises}
 use Rattle.eos_table.specs.TransactionLog.{Content, Unreadable, Other, Of, content_of, Id, State, nothing, flat, Unskipped, step_at, next_state, steps_after, steps_of, all_steps, AreInOrder}
 

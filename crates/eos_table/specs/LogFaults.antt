@@ -9,7 +9,7 @@ use Rattle.eos_base.specs.Members.{Has}
 use Rattle.eos_txnlog.specs.declared.step.TxnFault.{TxnFault}
 use Rattle.eos_txnlog.specs.declared.step.TxnFault.TheVariants as steps
 use Rattle.eos_txnlog.specs.Steps.{step_verdict}
-use Rattle.eos_fold.specs.declared.item.Item.{Item}
+use Rattle.eos_items.specs.declared.item.Item.{Item}
 use Rattle.eos_fold.specs.Parts.{PartLog}
 use Rattle.eos_table.specs.declared.log_fault.LogFault.{LogFault}
 use Rattle.eos_table.specs.declared.log_fault.LogFaultKind.{LogFaultKind}
