@@ -1,0 +1,2 @@
+mod VisibleOrder
+mod RecordsLaw

@@ -1,0 +1,4 @@
+pub mod Visible
+pub mod Commits
+pub mod Kept
+pub mod Faults

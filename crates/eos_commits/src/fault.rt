@@ -1,0 +1,57 @@
+//! What is wrong with a visible record.
+
+ghost use Rattle.std.specs.Prelude.{◌≡◌};
+ghost use Rattle.eos_commits.specs.Faults.{rank, kind_name};
+
+use eos_base::{PartitionName, RecordFault};
+
+/// A visible record that can't be read for what it has to be. Of those that stand, the least counts: by partition,
+/// offset and kind.
+#[derive(Debug, PartialEq, Eq, Drop)]
+pub struct VisibleFault {
+    /// The record's partition.
+    pub partition: PartitionName,
+    /// The record's offset.
+    pub offset: u64,
+    pub kind: VisibleFaultKind,
+}
+
+/// The kind of a fault of a visible record, in the order in which kinds are named.
+#[derive(Clone, Copy, Debug, PartialEq, Eq)]
+pub enum VisibleFaultKind {
+    /// A record of an output topic whose headers are no claim.
+    BadLineage,
+    /// A record of `__consumer_offsets` without a key, or whose key doesn't read, or whose value doesn't read under a key
+    /// that names an application's group and one of its source topics.
+    BadOffset { record: RecordFault },
+    /// A record of a group that has one in a lesser partition of `__consumer_offsets` too.
+    SplitGroup,
+    /// A null value under a key that names an application's group and one of its source topics.
+    OffsetDeleted,
+}
+
+impl VisibleFaultKind {
+    /// The kind's number, from 1 to 4, by which kinds are ordered.
+    pub fn number(self) -> u8
+        ensures { result ≡ rank self }
+    {
+        match self {
+            VisibleFaultKind::BadLineage => 1,
+            VisibleFaultKind::BadOffset { .. } => 2,
+            VisibleFaultKind::SplitGroup => 3,
+            VisibleFaultKind::OffsetDeleted => 4,
+        }
+    }
+
+    /// The kind's name, as a verdict prints it.
+    pub fn name(self) -> &'static str
+        ensures { result.now ≡ kind_name self }
+    {
+        match self {
+            VisibleFaultKind::BadLineage => "BadLineage",
+            VisibleFaultKind::BadOffset { .. } => "BadOffset",
+            VisibleFaultKind::SplitGroup => "SplitGroup",
+            VisibleFaultKind::OffsetDeleted => "OffsetDeleted",
+        }
+    }
+}

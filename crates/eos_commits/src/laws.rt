@@ -1,0 +1,20 @@
+//! What the definitions of this crate say together. These functions do nothing; their contracts are theorems.
+
+ghost use Rattle.std.specs.Prelude.{◌≡◌, ◌↔◌, List};
+ghost use Rattle.eos_base.specs.Least.{NoneStands, IsLeast};
+ghost use Rattle.eos_evidence.specs.declared.application.App.{App};
+ghost use Rattle.eos_fold.specs.Parts.{PartLog};
+ghost use Rattle.eos_commits.specs.declared.fault.VisibleFault.{VisibleFault};
+ghost use Rattle.eos_commits.specs.Kept.{RecordsKept};
+ghost use Rattle.eos_commits.specs.Faults.{visible_cmp, Stands};
+
+/// The visible records keep their rule exactly where none of their faults stands.
+pub fn records_kept()
+    ensures { (apps : List App) (ps : List PartLog) → RecordsKept apps ps ↔ NoneStands (Stands apps ps) }
+{}
+
+/// Two least faults of visible records are one.
+pub fn least_is_unique()
+    ensures { (apps : List App) (ps : List PartLog) (f g : VisibleFault) →
+        IsLeast visible_cmp (Stands apps ps) f → IsLeast visible_cmp (Stands apps ps) g → f ≡ g }
+{}
