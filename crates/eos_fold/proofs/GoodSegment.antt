@@ -40,7 +40,7 @@ end_has_records : (id : ℤ) (o : Option Marker) → All HasRecords (touch_in id
 end_has_records id None = All-nil HasRecords
 end_has_records id (Some m) = one_or_none m.producer id (End m.epoch m.kind) tt
 
-touch_has_records : (id : ℤ) (b : Batch) → 1 ≤ length b.records → All HasRecords (touch_in id (touch_of b))
+pub touch_has_records : (id : ℤ) (b : Batch) → 1 ≤ length b.records → All HasRecords (touch_in id (touch_of b))
 touch_has_records id b some = by_test (is_control b.attributes)
   where
     by_test : (test : Bool) → All HasRecords (touch_in id (if test then option_map end_touch (marker_of b) else data_touch b))

@@ -9,3 +9,4 @@ pub mod OneBatch
 pub mod ClosesRead
 pub mod NextByOffset
 pub mod TouchKinds
+pub mod Judged

@@ -81,10 +81,10 @@ module _ (s : Bool) (id : ℤ) (o : ℕ) (k : PairFault) where
 
 -- ---- the least of two
 
-abbrev Below : Fault → ℕ → PairFault → Type 0
+abbrev pub Below : Fault → ℕ → PairFault → Type 0
 Below f o k = (f.offset < o) ⊎ ((f.offset ≡ o) × (number_of f.kind ≤ number_of k))
 
-below_trans : (a b : Fault) (o : ℕ) (k : PairFault) → Below a b.offset b.kind → Below b o k → Below a o k
+pub below_trans : (a b : Fault) (o : ℕ) (k : PairFault) → Below a b.offset b.kind → Below b o k → Below a o k
 below_trans a b o k (inl x) (inl y) = inl (omega (arith, x, y))
 below_trans a b o k (inl x) (inr y) = inl (omega (arith, x, y.0))
 below_trans a b o k (inr x) (inl y) = inl (omega (arith, x.0, y))
@@ -99,7 +99,7 @@ pub record Chosen (a b c : Fault) : Type 0 where
   pub first : Below c a.offset a.kind
   pub second : Below c b.offset b.kind
 
-chosen : (a b : Fault) → Chosen a b (earlier_of a b)
+pub chosen : (a b : Fault) → Chosen a b (earlier_of a b)
 chosen a b = by_first (nat_lt a.offset b.offset) refl
   where
     by_kind : (t : Bool) → nat_le (number_of a.kind) (number_of b.kind) ≡ t → b.offset ≤ a.offset → a.offset ≤ b.offset → Chosen a b (cond t a b)

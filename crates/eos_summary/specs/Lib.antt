@@ -11,3 +11,4 @@ pub mod Closes
 pub mod NextMarker
 pub mod Touches
 pub mod Pushes
+pub mod Whole

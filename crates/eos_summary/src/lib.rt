@@ -11,6 +11,7 @@ mod push;
 mod settle;
 mod summary;
 mod touches;
+mod whole;
 
 pub use ends::Ends;
 pub use fault::Fault;
