@@ -12,7 +12,7 @@ use Rattle.eos_batch.specs.Marker.{marker_of}
 use Rattle.eos_batch.specs.Reading.{batch_at}
 use Rattle.eos_batch.specs.Text.{HasTextAt}
 use Rattle.eos_batch.proofs.BatchTexts.{IsBytes-drop, text_at}
-use Rattle.eos_summary.specs.declared.index.BatchHead.{BatchHead}
+use Rattle.eos_items.specs.declared.head.BatchHead.{BatchHead}
 use Rattle.eos_summary.specs.declared.summary.BatchSummary.{BatchSummary}
 use Rattle.eos_summary.specs.Heads.{Head}
 use Rattle.eos_summary.specs.Summaries.{IsSummary, SameSummary}

@@ -1,9 +1,8 @@
 -- Steps of the loops over places.
 use Rattle.std.proofs.Common.{◌≡◌, ℕ, zero, suc, ◌+◌, ◌<◌, List, [], ◌∷◌, ◌++◌, length, map, refl, sym, ap, ◌∙◌, arith, slice_index_or, slice_set, drop, take}
 use Rattle.std.proofs.lemmas.List.Edits.{map_over_more}
-use Rattle.eos_summary.specs.declared.index.Ending.{Ending}
-use Rattle.eos_summary.specs.declared.index.DataBatch.{DataBatch}
-use Rattle.eos_summary.specs.Batches.{with_ending, set_ending}
+use Rattle.eos_items.specs.declared.entry.Ending.{Ending}
+use Rattle.eos_items.specs.Batches.{DataBatch, with_ending, set_ending}
 use Rattle.eos_summary.specs.Endings.{set_endings}
 
 pub set_ending_is : (f : Ending) (p : ℕ) (xs : List DataBatch) (d : DataBatch) → p < length xs → slice_set xs p (with_ending f (slice_index_or xs p d)) ≡ set_ending f p xs

@@ -5,14 +5,13 @@ use Rattle.std.specs.Ordering.{int_eq}
 use Rattle.eos_touch.specs.declared.touch.Touch.{Touch}
 use Rattle.eos_touch.specs.declared.touch.Touch.TheVariants.{Data, End}
 use Rattle.eos_summary.specs.Heads.{Head}
-use Rattle.eos_summary.specs.declared.index.Ending.{Ending}
-use Rattle.eos_summary.specs.declared.index.Ending.TheVariants.{Plain, Ended, Waiting}
-use Rattle.eos_summary.specs.declared.index.DataBatch.{DataBatch}
+use Rattle.eos_items.specs.declared.entry.Ending.{Ending}
+use Rattle.eos_items.specs.declared.entry.Ending.TheVariants.{Plain, Ended, Waiting}
+use Rattle.eos_items.specs.Batches.{DataBatch, with_ending}
 use Rattle.eos_summary.specs.declared.mark.EndMark.{EndMark}
 use Rattle.eos_summary.specs.declared.ends.Ends.{Ends}
 use Rattle.eos_summary.specs.Heads.{touch_of, mark_for, marker_of, first_touch, last_touch, first_marker, markers_of}
 use Rattle.eos_summary.specs.Items.{ending_by, ending_of, item_of, items_of, resolved, settled}
-use Rattle.eos_summary.specs.Batches.{with_ending}
 use Rattle.eos_summary.specs.Tables.{AreEnds, IsJoined}
 use Rattle.eos_summary.specs.Summaries.{only}
 use Rattle.eos_summary.proofs.TableWrites.{same_id}

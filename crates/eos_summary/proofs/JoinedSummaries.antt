@@ -4,7 +4,7 @@ use Rattle.std.specs.List.{All}
 use Rattle.std.specs.Ordering.{int_cmp}
 use Rattle.std.specs.BTreeMap.{get}
 use Rattle.eos_summary.specs.Heads.{Head}
-use Rattle.eos_summary.specs.declared.index.DataBatch.{DataBatch}
+use Rattle.eos_items.specs.Batches.{DataBatch}
 use Rattle.eos_summary.specs.declared.ends.Ends.{Ends}
 use Rattle.eos_summary.specs.declared.fault.Fault.{Fault}
 use Rattle.eos_summary.specs.declared.summary.BatchSummary.{BatchSummary}

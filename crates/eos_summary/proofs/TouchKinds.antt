@@ -1,6 +1,6 @@
 -- Data and markers stand apart.
-use Rattle.std.proofs.Common.{◌≡◌, ℤ, pos, Bool, true, false, cond, List, [], ◌∷◌, ◌++◌, Option, Some, None, refl, sym, ap, subst, ◌∙◌, length}
-use Rattle.std.specs.Prelude.{IsSome, is_some, not, int_lt}
+use Rattle.std.proofs.Common.{◌≡◌, ℤ, pos, Bool, true, false, cond, [], ◌∷◌, ◌++◌, Option, Some, None, refl, sym, ap, ◌∙◌, length}
+use Rattle.std.specs.Prelude.{IsSome, not, int_lt}
 use Rattle.std.specs.Option.{option_map}
 use Rattle.eos_batch.specs.declared.batch.Batch.{Batch}
 use Rattle.eos_batch.specs.Attributes.{is_control, is_transactional}
@@ -9,10 +9,9 @@ use Rattle.eos_touch.specs.declared.touch.Touch.{Touch}
 use Rattle.eos_touch.specs.declared.touch.Touch.TheVariants.{Data, End}
 use Rattle.eos_summary.specs.Heads.{mark_in}
 use Rattle.eos_batch.specs.Rules.{IsProducerRight, has_right_producer}
-use Rattle.eos_summary.specs.declared.index.Ending.{Ending}
-use Rattle.eos_summary.specs.declared.index.Ending.TheVariants.{Plain, Waiting}
-use Rattle.eos_summary.specs.declared.index.DataBatch.{DataBatch}
-use Rattle.eos_summary.specs.Batches.{data_of, writer_of, ending_of}
+use Rattle.eos_items.specs.declared.entry.Ending.{Ending}
+use Rattle.eos_items.specs.declared.entry.Ending.TheVariants.{Plain, Waiting}
+use Rattle.eos_items.specs.Batches.{DataBatch, data_of, writer_of, ending_of}
 use Rattle.eos_summary.specs.Items as spec
 use Rattle.eos_summary.specs.Items.{item_of, items_of}
 use Rattle.eos_summary.specs.Touches.{data_touch, end_touch, touch_of, offset_of, head_of}

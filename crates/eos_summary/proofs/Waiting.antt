@@ -6,12 +6,11 @@ use Rattle.std.proofs.lemmas.List.{length-append}
 use Rattle.std.proofs.lemmas.List.Elements.{All-from_recursion}
 use Rattle.std.specs.Ordering.{int_eq}
 use Rattle.std.proofs.lemmas.Bool.Decides.{Decides-int_eq}
-use Rattle.eos_summary.specs.declared.index.Ending.{Ending}
-use Rattle.eos_summary.specs.declared.index.Ending.TheVariants.{Plain, Ended, Waiting}
-use Rattle.eos_summary.specs.declared.index.DataBatch.{DataBatch}
+use Rattle.eos_items.specs.declared.entry.Ending.{Ending}
+use Rattle.eos_items.specs.declared.entry.Ending.TheVariants.{Plain, Ended, Waiting}
+use Rattle.eos_items.specs.Batches.{DataBatch, with_ending, set_ending}
 use Rattle.eos_summary.specs.declared.mark.EndMark.{EndMark}
 use Rattle.eos_summary.specs.Items.{ended, ending_by, resolved, settled, waits, waiting_from, waiting_in}
-use Rattle.eos_summary.specs.Batches.{with_ending, set_ending}
 use Rattle.eos_summary.specs.Endings.{set_endings}
 use Rattle.eos_summary.specs.Summaries.{only}
 

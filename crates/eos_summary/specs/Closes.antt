@@ -4,9 +4,9 @@ use Rattle.eos_batch.specs.declared.marker.Kind.{Kind}
 use Rattle.eos_touch.specs.declared.touch.Touch.{Touch}
 use Rattle.eos_touch.specs.declared.touch.Touch.TheVariants.{Data, End}
 use Rattle.eos_summary.specs.Heads.{Head}
-use Rattle.eos_summary.specs.declared.index.Ending.{Ending}
-use Rattle.eos_summary.specs.declared.index.Ending.TheVariants.{Plain, Ended, Waiting}
-use Rattle.eos_summary.specs.declared.index.DataBatch.{DataBatch}
+use Rattle.eos_items.specs.declared.entry.Ending.{Ending}
+use Rattle.eos_items.specs.declared.entry.Ending.TheVariants.{Plain, Ended, Waiting}
+use Rattle.eos_items.specs.Batches.{DataBatch}
 use Rattle.eos_summary.specs.declared.mark.EndMark.{EndMark}
 use Rattle.eos_summary.specs.Heads.{first_marker}
 

@@ -1,8 +1,7 @@
 -- Endings that are set at places.
 use Rattle.std.specs.Prelude.{ℕ, List, [], ◌∷◌}
-use Rattle.eos_summary.specs.declared.index.Ending.{Ending}
-use Rattle.eos_summary.specs.declared.index.DataBatch.{DataBatch}
-use Rattle.eos_summary.specs.Batches.{set_ending}
+use Rattle.eos_items.specs.declared.entry.Ending.{Ending}
+use Rattle.eos_items.specs.Batches.{DataBatch, set_ending}
 
 -- the batches with this ending at these places
 abbrev pub set_endings : Ending → List ℕ → List DataBatch → List DataBatch

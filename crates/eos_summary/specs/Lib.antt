@@ -1,5 +1,4 @@
 pub mod Place
-pub mod Batches
 pub mod Endings
 pub mod Heads
 pub mod Items

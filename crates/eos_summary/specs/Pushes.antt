@@ -3,8 +3,8 @@ use Rattle.std.specs.Prelude.{◌≡◌, ◌≢◌, ℕ, Bool, List, [], ◌∷�
 use Rattle.eos_batch.specs.declared.batch.Batch.{Batch}
 use Rattle.eos_batch.specs.Reading.{batch_at}
 use Rattle.eos_batch.specs.Rules.{IsProducerRight}
-use Rattle.eos_summary.specs.declared.index.DataBatch.{DataBatch}
-use Rattle.eos_summary.specs.declared.index.BatchHead.{BatchHead}
+use Rattle.eos_items.specs.Batches.{DataBatch}
+use Rattle.eos_items.specs.declared.head.BatchHead.{BatchHead}
 use Rattle.eos_summary.specs.declared.fault.Fault.{Fault}
 use Rattle.eos_summary.specs.declared.summary.BatchSummary.{BatchSummary}
 use Rattle.eos_summary.specs.Heads.{Head}
@@ -12,7 +12,7 @@ use Rattle.eos_summary.specs.Items.{items_of}
 use Rattle.eos_summary.specs.Tables.{Table}
 use Rattle.eos_summary.specs.Joins.{IsTaken}
 use Rattle.eos_summary.specs.Summaries.{IsSummary, SameSummary}
-use Rattle.eos_summary.specs.Batches.{read_head}
+use Rattle.eos_items.specs.Heads as read
 use Rattle.eos_summary.specs.Touches.{head_of}
 
 -- a batch was taken over, which already stands behind the others
@@ -28,6 +28,6 @@ pub record Takes (batch : Batch) (size : ℕ) (old new : BatchSummary) : Type 0 
 pub record ReadsNext (next : ℕ) (old new : BatchSummary) (head : BatchHead) : Type 0 where
   pub batch : Batch
   pub reads : batch_at old.index.rest ≡ Ok (batch, head.size)
-  pub head_is : head ≡ read_head batch head.size
+  pub head_is : head ≡ read.head_of batch head.size
   pub takes : head.offset ≡ next → IsProducerRight batch → Takes batch head.size old new
   pub leaves : head.offset ≢ next → SameSummary old new

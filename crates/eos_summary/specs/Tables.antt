@@ -6,7 +6,7 @@ use Rattle.std.specs.BTreeMap.{BTreeMap, get}
 use Rattle.eos_touch.specs.declared.touch.Touch.{Touch}
 use Rattle.eos_touch.specs.Pair.{is_open}
 use Rattle.eos_summary.specs.Heads.{Head}
-use Rattle.eos_summary.specs.declared.index.DataBatch.{DataBatch}
+use Rattle.eos_items.specs.Batches.{DataBatch}
 use Rattle.eos_summary.specs.declared.mark.EndMark.{EndMark}
 use Rattle.eos_summary.specs.declared.ends.Ends.{Ends}
 use Rattle.eos_summary.specs.Heads.{first_touch, last_touch, first_marker, mark_in}

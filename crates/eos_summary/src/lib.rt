@@ -3,7 +3,6 @@
 
 mod ends;
 mod fault;
-mod index;
 pub mod laws;
 mod mark;
 mod places;
@@ -15,7 +14,6 @@ mod whole;
 
 pub use ends::Ends;
 pub use fault::Fault;
-pub use index::{BatchHead, DataBatch, Ending, LogIndex};
 pub use mark::EndMark;
 pub use places::Places;
 pub use summary::BatchSummary;

@@ -4,8 +4,8 @@ ghost use Rattle.std.specs.Prelude.{◌≡◌, Some};
 ghost use Rattle.eos_summary.specs.Heads.{mark_in};
 ghost use Rattle.eos_summary.specs.Items.{ended};
 
-use crate::index::Ending;
 use eos_batch::Kind;
+use eos_items::Ending;
 use eos_touch::Touch;
 
 /// An end marker.

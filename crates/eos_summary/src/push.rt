@@ -11,16 +11,16 @@ ghost use Rattle.eos_summary.specs.Tables.{KeepsPlaces};
 ghost use Rattle.eos_summary.specs.Joins.{TakesFrom};
 ghost use Rattle.eos_summary.specs.Summaries.{SameSummary};
 ghost use Rattle.eos_summary.specs.Pushes.{IsTakenFrom, ReadsNext};
-ghost use Rattle.eos_summary.specs.Batches.{read_head};
+ghost use Rattle.eos_items.specs.Heads as read;
 ghost use Rattle.eos_summary.specs.Touches.{head_of};
 
 use crate::ends::Ends;
 use crate::fault::Fault;
-use crate::index::{BatchHead, LogIndex};
 use crate::summary::{BatchSummary, make_room_for, take_over};
 use crate::touches::touch_of;
 use bytes::Bytes;
 use eos_batch::BatchFault;
+use eos_items::{BatchHead, LogIndex};
 use std::alloc::{AllocError, Global};
 use std::collections::BTreeMap;
 
@@ -36,7 +36,7 @@ fn take_batch(
 ) -> Result<(), AllocError>
     requires within { by ≤ length index.old.batches }
     requires places { KeepsPlaces producers.old (take by index.old.batches) }
-    ensures taken { (xs : List Head) (b : Batch) (size : ℕ) → head.now ≡ read_head b size → drop by index.old.batches ≡ items_of (head_of b ∷ [])
+    ensures taken { (xs : List Head) (b : Batch) (size : ℕ) → head.now ≡ read.head_of b size → drop by index.old.batches ≡ items_of (head_of b ∷ [])
         → TakesFrom sequenced xs producers.old (take by index.old.batches) fault.old
         → OnOk result (IsTakenFrom xs (head_of b) sequenced producers.new index.new.batches fault.new) }
     ensures rest { index.new.rest ≡ index.old.rest }

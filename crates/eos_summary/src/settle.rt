@@ -4,11 +4,11 @@ ghost use Rattle.std.specs.Prelude.{◌≡◌, ◌<◌, ◌++◌, [], ℤ, List,
 ghost use Rattle.eos_summary.specs.Endings.{set_endings};
 ghost use Rattle.eos_summary.specs.Items.{settled, waiting_in};
 ghost use Rattle.eos_summary.specs.Summaries.{only};
-ghost use Rattle.eos_summary.specs.declared.index.DataBatch.{DataBatch};
+ghost use Rattle.eos_items.specs.Batches.{DataBatch};
 
-use crate::index::{Ending, LogIndex};
 use crate::mark::{EndMark, ended};
 use crate::places::Places;
+use eos_items::{Ending, LogIndex};
 
 /// Gives the batches at these places this ending.
 pub(crate) fn settle(index: &mut LogIndex, places: &Places, ending: Ending)

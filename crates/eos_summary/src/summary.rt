@@ -4,7 +4,7 @@ ghost use Rattle.std.specs.Prelude.{◌≡◌, ◌+◌, ◌<◌, ◌≤◌, ◌^
 ghost use Rattle.std.specs.Ordering.{int_cmp, int_eq};
 ghost use Rattle.std.specs.BTreeMap.{get};
 ghost use Rattle.eos_summary.specs.Heads.{Head};
-ghost use Rattle.eos_summary.specs.declared.index.DataBatch.{DataBatch};
+ghost use Rattle.eos_items.specs.Batches.{DataBatch};
 ghost use Rattle.eos_summary.specs.declared.ends.Ends.{Ends};
 ghost use Rattle.eos_summary.specs.Heads.{marker_of};
 ghost use Rattle.eos_summary.specs.Items.{items_of, waiting_in, settled};
@@ -14,9 +14,9 @@ ghost use Rattle.eos_summary.specs.Summaries.{IsSummary, SameEnds, SameSummary, 
 
 use crate::ends::Ends;
 use crate::fault::{Fault, at_seam, earlier};
-use crate::index::LogIndex;
 use crate::places::Places;
 use crate::settle::settle_by;
+use eos_items::LogIndex;
 use eos_touch::Touch;
 use std::alloc::{AllocError, Global};
 use std::collections::BTreeMap;

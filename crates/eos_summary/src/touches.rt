@@ -11,15 +11,15 @@
 
 ghost use Rattle.std.specs.Prelude.{◌≡◌, ℕ};
 ghost use Rattle.eos_batch.specs.declared.batch.Batch.{Batch};
-ghost use Rattle.eos_summary.specs.Batches.{read_head};
+ghost use Rattle.eos_items.specs.Heads as read;
 ghost use Rattle.eos_summary.specs.Touches.{touch_of};
 
-use crate::index::BatchHead;
+use eos_items::BatchHead;
 use eos_touch::Touch;
 
 /// What a batch says, and of which producer id.
 pub(crate) fn touch_of(head: &BatchHead) -> Option<(i64, Touch)>
-    ensures { (b : Batch) (size : ℕ) → head.now ≡ read_head b size → result ≡ touch_of b }
+    ensures { (b : Batch) (size : ℕ) → head.now ≡ read.head_of b size → result ≡ touch_of b }
 {
     if head.is_control {
         let marker = head.marker?;

@@ -7,8 +7,8 @@ ghost use Rattle.eos_summary.specs.Summaries.{IsSummary};
 ghost use Rattle.eos_summary.specs.Whole.{StandsFirst, StandsInWhole, IsLeftOpen, IsLeastId, IsLeastOpen};
 
 use crate::fault::{Fault, earlier};
-use crate::index::LogIndex;
 use crate::summary::BatchSummary;
+use eos_items::LogIndex;
 use eos_touch::{Touch, pair_ok};
 
 /// The fault at the first touch of an id.

@@ -1,4 +1,4 @@
-use Rattle.std.proofs.Common.{rules, ◌≡◌, ◌+◌, ◌≤◌, ◌<◌, ◌++◌, ℕ, ℤ, List, [], ◌∷◌, Bool, length, map, take, drop, None, Some, refl, ap, sym, subst, ◌∙◌, w64, arith}
+use Rattle.std.proofs.Common.{rules, ◌≡◌, ◌+◌, ◌≤◌, ◌<◌, ◌++◌, ℕ, ℤ, List, [], length, map, take, drop, None, Some, refl, ap, sym, subst, ◌∙◌, w64, arith}
 use Rattle.std.specs.Prelude.{IsSome, not}
 use Rattle.std.specs.List.{All}
 use Rattle.std.specs.Ordering.{int_cmp}
@@ -6,11 +6,11 @@ use Rattle.std.specs.BTreeMap.{get}
 use Rattle.std.proofs.lemmas.Int.{to_z-of_z}
 use Rattle.std.proofs.lemmas.List.{take-append-drop, length-take}
 use mir.Val.{SFits}
-use Rattle.eos_summary.specs.declared.index.BatchHead.{BatchHead}
-use Rattle.eos_summary.specs.declared.index.DataBatch.{DataBatch}
+use Rattle.eos_items.specs.declared.head.BatchHead.{BatchHead}
+use Rattle.eos_items.specs.Batches.{DataBatch}
 use Rattle.eos_summary.specs.Items.{items_of, waiting_in, settled}
 use Rattle.eos_summary.specs.Summaries.{only}
-use Rattle.eos_summary.specs.Tables.{rest_alone, KeepsPlaces, IsReadyFor, ends_at, AreEndsOf}
+use Rattle.eos_summary.specs.Tables.{rest_alone, KeepsPlaces, IsReadyFor, ends_at}
 use Rattle.eos_summary.specs.Joins.{Took, IsTaking}
 use Rattle.eos_summary.specs.Touches.{head_of}
 use Rattle.eos_summary.specs.Touches as spec

@@ -1,8 +1,8 @@
-use Rattle.std.proofs.Common.{◌≡◌, List, [], ◌++◌, ℕ, map, refl, sym, ap, ◌∙◌}
+use Rattle.std.proofs.Common.{◌≡◌, List, [], ◌++◌, ℕ, map, sym, ap, ◌∙◌}
 use Rattle.std.proofs.lemmas.List.{append-nil}
 use Rattle.std.specs.Prelude.{Option, is_some}
-use Rattle.eos_summary.specs.declared.index.DataBatch.{DataBatch}
-use Rattle.eos_summary.specs.declared.index.Ending.{Ending}
+use Rattle.eos_items.specs.Batches.{DataBatch}
+use Rattle.eos_items.specs.declared.entry.Ending.{Ending}
 use Rattle.eos_summary.specs.declared.mark.EndMark.{EndMark}
 use Rattle.eos_summary.specs.Endings.{set_endings}
 use Rattle.eos_summary.specs.Items.{settled}

@@ -1,4 +1,4 @@
-use Rattle.std.proofs.Common.{◌≡◌, List, length}
+use Rattle.std.proofs.Common.{◌≡◌, List}
 use Rattle.std.specs.BTreeMap.{btree_map_len}
 use Rattle.eos_summary.specs.Heads.{Head}
 use Rattle.eos_summary.specs.Joins.{rest_of, Starts, IsTaking, IsTaken}

@@ -1,4 +1,4 @@
-use Rattle.std.proofs.Common.{rules, ◌≡◌, ◌<◌, ℕ, ℤ, List, Some, sym, ap, subst, ◌∙◌, w64, length, arith}
+use Rattle.std.proofs.Common.{rules, ◌≡◌, ◌<◌, ℤ, Some, sym, ap, subst, ◌∙◌, w64, length}
 use Rattle.std.specs.List.{All}
 use Rattle.std.specs.Ordering.{int_cmp}
 use Rattle.std.specs.BTreeMap.{get}
@@ -9,7 +9,6 @@ use Rattle.eos_summary.specs.Tables.{ends_in, HasRoom}
 use Rattle.eos_summary.specs.Items.{waiting_in}
 use Rattle.eos_summary.specs.Faults.{IsLeastOf, StandsAt}
 use Rattle.eos_summary.specs.Summaries.{TakesFault}
-use Rattle.eos_summary.proofs.Waiting.{all_below}
 use Rattle.eos_summary.proofs.TableWrites.{no_entry}
 use Rattle.eos_summary.proofs.summary.take_over.Goals as goal
 

@@ -1,6 +1,6 @@
 use Rattle.std.proofs.Common.{◌≡◌, ◌++◌, ◌∷◌, [], List, take, drop, refl, ap, sym, ◌∙◌}
 use Rattle.std.proofs.lemmas.List.{take_at, drop_at}
-use Rattle.eos_summary.specs.declared.index.DataBatch.{DataBatch}
+use Rattle.eos_items.specs.Batches.{DataBatch}
 use Rattle.eos_summary.specs.Items.{items_of}
 use Rattle.eos_summary.specs.Joins.{TakesFrom}
 use Rattle.eos_summary.specs.Touches.{head_of}
