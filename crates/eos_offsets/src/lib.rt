@@ -4,7 +4,9 @@
 
 mod key;
 mod value;
+mod view;
 
 pub use eos_base::RecordFault;
 pub use key::{OffsetKey, decode_key, encode_key};
 pub use value::{Commit, decode_value, encode_value};
+pub use view::{KeyRef, view_key, view_value};

@@ -95,7 +95,7 @@ fn read_fields(mut fields: Fields<'_>, version: i16) -> Result<i64, RecordFault>
 }
 
 #[tactic(auto, unfolding(crate::specs::Reading::read_value))]
-fn read_value(mut fields: Fields<'_>) -> Result<i64, RecordFault>
+pub(crate) fn read_value(mut fields: Fields<'_>) -> Result<i64, RecordFault>
     ensures reading { result ≡ read_value fields.entry }
     ensures faults { IfErr result IsOfBytes }
 {

@@ -1,5 +1,5 @@
 -- What reading says of a key is right both ways, so what settles it is.
-use Rattle.std.proofs.Common.{ℕ, List, subst, Result, Ok, Some, None}
+use Rattle.std.proofs.Common.{ℕ, List, subst, Some, None}
 use Rattle.eos_wire.specs.Numbers.{IsBytes}
 use Rattle.eos_base.specs.Records.{Settles}
 use Rattle.eos_offsets.specs.Reading.{read_key}
