@@ -2,14 +2,13 @@
 
 ghost use Rattle.std.specs.Prelude.{◌≡◌, ◌&&◌, ◌||◌, ◌==◌, not, nat_lt, option_map, fold};
 ghost use Rattle.eos_base.specs.Least.{lesser_of};
-ghost use Rattle.eos_claims.specs.Candidates.{is_out_of_range as is_out, missing as missing_fault, shown as shown_alone, when};
+ghost use Rattle.eos_claims.specs.Candidates.{fault_at as claim_fault, is_out_of_range as is_out, missing as missing_fault, shown as shown_alone, when};
 ghost use Rattle.eos_claims.specs.Faults.{fault_cmp};
-ghost use Rattle.eos_claims.specs.Plain.{plain_place, plain_fault, plain_claim};
+ghost use Rattle.eos_claims.specs.Plain.{plain_place, plain_fault, plain_lent};
 
 use crate::fault::OutputKind;
 use crate::found::{Found, lesser, lesser_when};
-use crate::neighbours::{NumberedClaim, fault_at};
-use crate::place::PlaceRef;
+use crate::place::{PlaceRef, SourceRef, source_at};
 
 /// What is known of a claim's source: whether its topic is one that the application reads, whether a visible record
 /// stands there, whether that is below its committed offset, and whether the claim's transaction committed past it.
@@ -21,8 +20,30 @@ pub struct SourceTests {
     pub is_passed: bool,
 }
 
+/// A claim whose source's topic is lent as its bytes.
+#[derive(Clone, Copy)]
+pub struct LentClaim<'a> {
+    pub source: SourceRef<'a>,
+    pub output: u32,
+    pub of: u32,
+    /// Where the claim stands.
+    pub at: PlaceRef<'a>,
+}
+
+// The claim's fault of a kind.
+fn fault_at<'a>(kind: OutputKind, claim: &LentClaim<'a>) -> Found<'a>
+    ensures { plain_fault result ≡ claim_fault kind (plain_lent claim.entry.now) }
+{
+    Found {
+        source: claim.source,
+        output: claim.output,
+        kind,
+        at: Some(claim.at),
+    }
+}
+
 // Neither in 1 to the count, nor the note 0 of 0.
-fn is_out_of_range(claim: &NumberedClaim<'_>) -> bool
+fn is_out_of_range(claim: &LentClaim<'_>) -> bool
     ensures { result ≡ is_out claim.now.of claim.now.output }
 {
     if claim.of == 0 {
@@ -36,11 +57,11 @@ fn is_out_of_range(claim: &NumberedClaim<'_>) -> bool
 pub fn least_of_claim<'a>(
     best: Option<Found<'a>>,
     tests: SourceTests,
-    claim: &NumberedClaim<'a>,
+    claim: &LentClaim<'a>,
 ) -> Option<Found<'a>>
     ensures { option_map plain_fault result
         ≡ fold (lesser_of fault_cmp) (option_map plain_fault best.entry)
-        (shown_alone tests.is_source tests.is_input tests.is_committed (is_out claim.entry.now.of claim.entry.now.output) tests.is_passed (plain_claim claim.entry.now)) }
+        (shown_alone tests.is_source tests.is_input tests.is_committed (is_out claim.entry.now.of claim.entry.now.output) tests.is_passed (plain_lent claim.entry.now)) }
 {
     if !tests.is_source {
         return lesser(best, fault_at(OutputKind::ForeignSource, claim));
@@ -75,7 +96,7 @@ pub fn least_of_input<'a>(
         ≡ fold (lesser_of fault_cmp) (option_map plain_fault best.entry) (when (is_committed && not is_claimed) (missing_fault (plain_place source.entry) 1)) }
 {
     let missing = Found {
-        source,
+        source: source_at(source),
         output: 1,
         kind: OutputKind::Missing,
         at: None,

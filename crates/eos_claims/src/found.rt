@@ -8,12 +8,12 @@ ghost use Rattle.eos_claims.specs.Faults.{fault_cmp};
 ghost use Rattle.eos_claims.specs.Plain.{plain_fault};
 
 use crate::fault::OutputKind;
-use crate::place::PlaceRef;
+use crate::place::{PlaceRef, SourceRef};
 
 /// A fault whose names are borrowed, so that it takes no memory to keep or to drop one.
 #[derive(Clone, Copy)]
 pub struct Found<'a> {
-    pub source: PlaceRef<'a>,
+    pub source: SourceRef<'a>,
     pub output: u32,
     pub kind: OutputKind,
     pub at: Option<PlaceRef<'a>>,
@@ -25,7 +25,7 @@ fn comes_after(found: &Found<'_>, next: &Found<'_>) -> bool
 {
     found
         .source
-        .cmp(&next.source)
+        .order(&next.source)
         .then(found.output.cmp(&next.output))
         .then(found.kind.number().cmp(&next.kind.number()))
         .then(found.at.cmp(&next.at))

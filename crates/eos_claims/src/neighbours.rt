@@ -9,7 +9,7 @@ ghost use Rattle.eos_claims.specs.Plain.{plain_place, plain_fault, plain_claim};
 
 use crate::fault::OutputKind;
 use crate::found::{Found, lesser_when};
-use crate::place::PlaceRef;
+use crate::place::{PlaceRef, source_at};
 
 /// A claim without its writer. Claims are ordered by source, output number and place.
 #[derive(Clone, Copy, PartialEq, Eq, PartialOrd, Ord)]
@@ -21,11 +21,11 @@ pub struct NumberedClaim<'a> {
 }
 
 // The claim's fault of a kind.
-pub(crate) fn fault_at<'a>(kind: OutputKind, claim: &NumberedClaim<'a>) -> Found<'a>
+fn fault_at<'a>(kind: OutputKind, claim: &NumberedClaim<'a>) -> Found<'a>
     ensures { plain_fault result ≡ claim_fault kind (plain_claim claim.entry.now) }
 {
     Found {
-        source: claim.source,
+        source: source_at(claim.source),
         output: claim.output,
         kind,
         at: Some(claim.at),
@@ -37,7 +37,7 @@ fn missing<'a>(claim: &NumberedClaim<'a>, output: u32) -> Found<'a>
     ensures { plain_fault result ≡ missing_fault (plain_place claim.entry.now.source) output }
 {
     Found {
-        source: claim.source,
+        source: source_at(claim.source),
         output,
         kind: OutputKind::Missing,
         at: None,

@@ -1,6 +1,11 @@
 //! Where a record stands.
 
+ghost use Rattle.std.specs.Prelude.{◌≡◌};
+ghost use Rattle.eos_claims.specs.Faults.{place_cmp};
+ghost use Rattle.eos_claims.specs.Plain.{plain_place, plain_source};
+
 use eos_base::PartitionName;
+use std::cmp::Ordering;
 
 /// A record's place: its partition and its offset there. Places are ordered by the partition's name, then the offset.
 #[derive(Clone, Debug, PartialEq, Eq, PartialOrd, Ord, Drop)]
@@ -14,4 +19,35 @@ pub struct Place {
 pub struct PlaceRef<'a> {
     pub partition: &'a PartitionName,
     pub offset: u64,
+}
+
+/// A place whose topic is lent, as a claim names it: no partition of that name needs to be there.
+#[derive(Clone, Copy)]
+pub struct SourceRef<'a> {
+    pub topic: &'a [u8],
+    pub partition: i32,
+    pub offset: u64,
+}
+
+impl<'a> SourceRef<'a> {
+    // In the order of places.
+    pub(crate) fn order(&self, other: &SourceRef<'a>) -> Ordering
+        ensures { result ≡ place_cmp (plain_source self.now) (plain_source other.now) }
+    {
+        self.topic
+            .cmp(other.topic)
+            .then(self.partition.cmp(&other.partition))
+            .then(self.offset.cmp(&other.offset))
+    }
+}
+
+// The same place.
+pub(crate) fn source_at<'a>(place: PlaceRef<'a>) -> SourceRef<'a>
+    ensures { plain_source result ≡ plain_place place.entry }
+{
+    SourceRef {
+        topic: place.partition.topic.as_slice(),
+        partition: place.partition.partition,
+        offset: place.offset,
+    }
 }
