@@ -1,2 +1,2 @@
-mod VisibleOrder
-mod RecordsLaw
+pub mod VisibleOrder
+pub mod RecordsLaw

@@ -1,0 +1,2 @@
+pub mod Lineage
+pub mod Faults

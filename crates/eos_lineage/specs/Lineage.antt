@@ -1,0 +1,93 @@
+-- What each application read and wrote, as the logs have it, and the rule of its outputs (KIP-98, "Transactional
+-- Guarantees"; KIP-447). Only visible records count.
+use Rattle.std.specs.Prelude.{ℕ, ◌+◌, ◌&&◌, ◌==◌, Bool, not, List, [], ◌∷◌, length, map, filter, flat_map, Option, Some, None}
+use Rattle.std.specs.Ordering.{nat_cmp}
+use Rattle.std.specs.Cmp.Lexicographic.{slice_cmp}
+use Rattle.eos_base.specs.Members.{Has, is_found}
+use Rattle.eos_evidence.specs.declared.application.App.{App}
+use Rattle.eos_items.specs.declared.item.Item.{Item}
+use Rattle.eos_fold.specs.Parts.{PartLog}
+use Rattle.eos_claims.specs.declared.place.Place.{Place}
+use Rattle.eos_claims.specs.declared.claim.Claim.{Claim}
+use Rattle.eos_claims.specs.Headers.{claim_of}
+use Rattle.eos_claims.specs.Outputs.{PlacedClaim, Application, Exact}
+use Rattle.eos_claims.specs.Candidates.{is_committed}
+use Rattle.eos_commits.specs.Visible.{visible, part_name}
+use Rattle.eos_commits.specs.Commits.{commits_of}
+use Rattle.eos_commits.specs.Kept.{RecordsKept}
+
+abbrev pub Topic : Type 0
+Topic = List ℕ
+
+abbrev pub is_part_of : List Topic → PartLog → Bool
+is_part_of topics p = is_found (slice_cmp nat_cmp) topics p.topic
+
+-- the partitions of these topics
+abbrev pub parts_of : List Topic → List PartLog → List PartLog
+parts_of topics ps = filter (is_part_of topics) ps
+
+abbrev pub place_in : PartLog → Item → Place
+place_in p x = record { partition = part_name p; offset = x.offset }
+
+-- the visible records of a source topic's partition
+abbrev pub inputs_in : PartLog → List Place
+inputs_in p = map (place_in p) (visible p)
+
+abbrev pub placed : PartLog → Item → Claim → PlacedClaim
+placed p x c = record {
+  source = record { partition = record { topic = c.topic; partition = c.partition }; offset = c.offset };
+  output = c.output;
+  of = c.of;
+  at = place_in p x;
+  writer = x.writer;
+}
+
+abbrev pub claims_with : PartLog → Item → Option Claim → List PlacedClaim
+claims_with p x None = []
+claims_with p x (Some c) = placed p x c ∷ []
+
+-- the claim that a record of an output topic's partition is, if it is one
+abbrev pub claims_at : PartLog → Item → List PlacedClaim
+claims_at p x = claims_with p x (claim_of x.headers)
+
+abbrev pub claims_in : PartLog → List PlacedClaim
+claims_in p = flat_map (claims_at p) (visible p)
+
+-- what an application reads, commits and writes: its group's commits of its own sources, its own outputs' claims
+abbrev pub application_of : App → List PartLog → Application
+application_of app ps = record {
+  sources = app.sources;
+  inputs = flat_map inputs_in (parts_of app.sources ps);
+  commits = commits_of app.group app.sources ps;
+  claims = flat_map claims_in (parts_of app.outputs ps);
+}
+
+-- each application's outputs are exact
+abbrev pub ExactOutputs : List App → List PartLog → Type 0
+ExactOutputs apps ps = (app : App) → Has apps app → Exact (application_of app ps)
+
+-- the offsets log reads, every visible record of an output topic is a claim, and the outputs are exact
+pub record LineageKept (apps : List App) (ps : List PartLog) : Type 0 where
+  pub records : RecordsKept apps ps
+  pub outputs : ExactOutputs apps ps
+
+-- ---- counts
+
+abbrev pub inputs_below : Application → List Place
+inputs_below a = filter (is_committed a) a.inputs
+
+abbrev pub is_note : PlacedClaim → Bool
+is_note c = (c.output == 0) && (c.of == 0)
+
+abbrev pub outputs_in : Application → List PlacedClaim
+outputs_in a = filter (λ c. not (is_note c)) a.claims
+
+-- of inputs below their committed offsets: an input counts once for each application that has it so
+abbrev pub count_inputs : List App → List PartLog → ℕ
+count_inputs [] ps = 0
+count_inputs (app ∷ apps) ps = length (inputs_below (application_of app ps)) + count_inputs apps ps
+
+-- of visible claims that are no notes
+abbrev pub count_outputs : List App → List PartLog → ℕ
+count_outputs [] ps = 0
+count_outputs (app ∷ apps) ps = length (outputs_in (application_of app ps)) + count_outputs apps ps

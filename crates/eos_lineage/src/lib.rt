@@ -1,0 +1,8 @@
+//! The lineage of every application's outputs in a cluster's logs: each input below its committed offset has its outputs,
+//! each once, from a transaction that committed past it, and nothing else stands in the output topics.
+#![tactic(auto)]
+
+mod fault;
+pub mod laws;
+
+pub use fault::LineageFault;
