@@ -1,0 +1,3 @@
+pub mod PairFaults
+pub mod EndedData
+pub mod RulesLaw

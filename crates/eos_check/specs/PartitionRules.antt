@@ -1,0 +1,45 @@
+-- What one partition's log has to keep: it is whole, its sequences count up, and its transactions are fenced. Each is said of
+-- the batches of its front, by offsets and for all pairs of them.
+-- Sources: KIP-98, "Idempotent Producer Guarantees" (sequences, fencing by epochs) and "Control Messages"; KIP-890 (the end of a
+-- transaction raises the epoch). That offsets have no gaps is this project's own profile.
+use Rattle.std.specs.Prelude.{◌≡◌, ℕ, ℤ, pos, true, false, List, ◌∷◌, ◌++◌}
+use Rattle.eos_base.specs.Members.{Has}
+use Rattle.eos_batch.specs.declared.batch.Batch.{Batch}
+use Rattle.eos_batch.specs.declared.marker.Marker.{Marker}
+use Rattle.eos_batch.specs.Attributes.{is_transactional, is_control}
+use Rattle.eos_evidence.specs.Topics.{is_internal}
+use Rattle.eos_touch.specs.Rules.{Sequenced, Fenced}
+use Rattle.eos_fold.specs.declared.stop.Stop.{Stop}
+use Rattle.eos_fold.specs.declared.stop.Stop.TheVariants.{AtEnd}
+use Rattle.eos_fold.specs.Front.{records_in}
+use Rattle.eos_fold.specs.Fronts.{markers_of}
+use Rattle.eos_fold.specs.Touches.{touches_of}
+
+-- all bytes of all segments are its batches, and they hold as many records as was declared
+pub record IsWhole (end : ℤ) (batches : List Batch) (stop : Stop) : Type 0 where
+  pub all : stop ≡ AtEnd
+  pub records : pos (records_in batches) ≡ end
+
+-- each producer id's sequences count from 0 in each epoch
+abbrev pub IsSequenced : List Batch → Type 0
+IsSequenced batches = (id : ℤ) → Sequenced (touches_of id batches)
+
+-- data of a transaction
+pub record IsTransactional (b : Batch) : Type 0 where
+  pub of_data : is_control b.attributes ≡ false
+  pub transactional : is_transactional b.attributes ≡ true
+
+-- an end marker of this producer id is among these batches
+abbrev pub HasMarker : ℤ → List Batch → Type 0
+HasMarker id batches = (m : Marker) × Has (markers_of batches) m × (m.producer ≡ id)
+
+-- each producer id's touches are fenced, and all data of a transaction is ended by a marker behind it
+pub record IsFenced (batches : List Batch) : Type 0 where
+  pub pairs : (id : ℤ) → Fenced (touches_of id batches)
+  pub ended : (before : List Batch) (b : Batch) (after : List Batch) → batches ≡ before ++ b ∷ after → IsTransactional b → HasMarker b.producer after
+
+-- the log of a partition of this topic keeps the rules; brokers check no sequences in the internal topics
+pub record KeepsRules (topic : List ℕ) (end : ℤ) (batches : List Batch) (stop : Stop) : Type 0 where
+  pub whole : IsWhole end batches stop
+  pub sequenced : is_internal topic ≡ false → IsSequenced batches
+  pub fenced : IsFenced batches

@@ -1,0 +1,4 @@
+//! The verdict over evidence: was the promise of exactly once kept, and if not, which is the first fault?
+#![tactic(auto)]
+
+pub mod laws;
