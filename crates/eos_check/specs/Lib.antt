@@ -1,1 +1,3 @@
 pub mod PartitionRules
+pub mod Good
+pub mod Verdicts

@@ -2,3 +2,6 @@
 #![tactic(auto)]
 
 pub mod laws;
+mod verdict;
+
+pub use verdict::{Counts, Fault, Verdict};
