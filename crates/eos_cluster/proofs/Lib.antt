@@ -1,0 +1,5 @@
+pub mod Rooms
+pub mod Ranges
+pub mod Backward
+pub mod Replies
+pub mod Reaching

@@ -1,0 +1,35 @@
+-- A cluster after some events.
+use Rattle.std.specs.Prelude.{◌≡◌, List}
+use Rattle.eos_machine.specs.declared.config.Config.{Config}
+use Rattle.eos_machine.specs.World.{World, opening}
+use Rattle.eos_machine.specs.declared.event.Event.{Event}
+use Rattle.eos_machine.specs.declared.event.Reply.{Reply}
+use Rattle.eos_machine.specs.declared.event.Reply.TheVariants.{Done, Fenced, OutOfOrder, DuplicateKept, WrongState, Busy, StaleGeneration, EpochsSpent, Unknown, OutOfMemory, Full}
+use Rattle.eos_machine.specs.Machine.{step, run}
+
+pub record Course : Type 0 where
+  pub config : Config
+  pub world : World
+
+-- the machine's step: the reply and the state after it
+abbrev pub IsTaken : Course → Event → Reply → Course → Type 0
+IsTaken s e r t = (t.config ≡ s.config) × ((t.world, r) ≡ step s.config s.world e)
+
+-- want of memory leaves everything as it was; any other reply is the machine's
+abbrev pub IsStep : Course → Event → Reply → Course → Type 0
+IsStep s e OutOfMemory t = t ≡ s
+IsStep s e (Done n) t = IsTaken s e (Done n) t
+IsStep s e Fenced t = IsTaken s e Fenced t
+IsStep s e OutOfOrder t = IsTaken s e OutOfOrder t
+IsStep s e DuplicateKept t = IsTaken s e DuplicateKept t
+IsStep s e WrongState t = IsTaken s e WrongState t
+IsStep s e Busy t = IsTaken s e Busy t
+IsStep s e StaleGeneration t = IsTaken s e StaleGeneration t
+IsStep s e EpochsSpent t = IsTaken s e EpochsSpent t
+IsStep s e Unknown t = IsTaken s e Unknown t
+IsStep s e Full t = IsTaken s e Full t
+
+-- some list of events leads here
+pub record IsReached (c : Config) (w : World) : Type 0 where
+  pub taken : List Event
+  pub run : w ≡ run c (opening c) taken

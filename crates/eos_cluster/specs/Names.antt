@@ -1,0 +1,8 @@
+-- The names under which refusals are printed.
+use Rattle.std.specs.Prelude.{ℕ, List, codes}
+use Rattle.eos_cluster.specs.declared.cluster.NewFault.{NewFault}
+use Rattle.eos_cluster.specs.declared.cluster.NewFault.TheVariants as faults
+
+abbrev pub new_fault_name : NewFault → List ℕ
+new_fault_name faults.Range = codes "Range"
+new_fault_name faults.OutOfMemory = codes "OutOfMemory"

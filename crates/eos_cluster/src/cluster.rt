@@ -1,0 +1,133 @@
+//! A cluster that takes events one by one.
+
+ghost use Rattle.std.specs.Prelude.{◌≡◌, ◌↔◌, ◌≤◌, true, Err, IfOk};
+ghost use Rattle.eos_machine.specs.Places.{IsConfig};
+ghost use Rattle.eos_machine.specs.World.{opening};
+ghost use Rattle.eos_machine.specs.Rest.{IsAtRest};
+ghost use Rattle.eos_cluster.specs.declared.cluster.NewFault.{NewFault};
+ghost use Rattle.eos_cluster.specs.Names.{new_fault_name};
+ghost use Rattle.eos_cluster.specs.Courses.{IsStep};
+
+use crate::store::Store;
+use eos_machine::{Config, Event, Reply};
+use std::alloc::Global;
+use std::marker::Model;
+use thiserror::Error;
+
+/// Why there is no cluster.
+#[derive(Clone, Copy, Debug, PartialEq, Eq, Error)]
+#[error("{name}", name = self.name())]
+pub enum NewFault {
+    /// A size isn't one that a cluster may have.
+    Range,
+    /// A growth was refused.
+    OutOfMemory,
+}
+
+impl NewFault {
+    /// The fault's name.
+    pub fn name(self) -> &'static str
+        ensures { result.now ≡ new_fault_name self }
+    {
+        match self {
+            NewFault::Range => "Range",
+            NewFault::OutOfMemory => "OutOfMemory",
+        }
+    }
+}
+
+/// How many events a cluster takes: 2^31.
+pub const MAX_EVENTS: u64 = 2147483648;
+
+/// A cluster after some events, each of which did what the machine's definitions say.
+#[derive(Drop)]
+pub struct Cluster {
+    store: Store,
+}
+
+impl Model for Cluster {
+    ghost use Rattle.eos_machine.specs.Places.{IsConfig};
+    ghost use Rattle.eos_cluster.specs.Courses.{Course, IsReached};
+
+    ghost Value = { Course };
+
+    ghost view = { λ s. record { config = s.store.config; world = s.store.world } };
+
+    ghost invariant = { λ s. IsConfig s.store.config × IsReached s.store.config s.store.world };
+}
+
+/// Whether a number lies in these bounds.
+fn is_between(number: usize, least: usize, greatest: usize) -> bool
+    ensures { result ≡ true ↔ ((least ≤ number) × (number ≤ greatest)) }
+{
+    least <= number && number <= greatest
+}
+
+/// Whether a cluster may have these sizes.
+fn is_config(config: Config) -> bool
+    ensures { result ≡ true ↔ IsConfig config }
+{
+    is_between(config.applications, 1, 8)
+        && is_between(config.inputs, 1, 16)
+        && is_between(config.outputs, 1, 16)
+        && is_between(config.transaction_logs, 1, 4)
+        && is_between(config.segment_records, 1, 1000)
+}
+
+impl Cluster {
+    /// A cluster before any event: its logs are empty.
+    ///
+    /// # Errors
+    /// `Range` where a size isn't one that a cluster may have; `OutOfMemory` where a growth was refused, and only then.
+    pub fn new(alloc: Global, config: Config) -> Result<Cluster, NewFault>
+        ensures ok { IfOk result (λ c. c ≡ record { config = config; world = opening config }) }
+        ensures range { result ≡ Err NewFault.Range ↔ (IsConfig config → ⊥) }
+    {
+        if !is_config(config) {
+            return Err(NewFault::Range);
+        }
+        match Store::new(alloc, config) {
+            Ok(store) => Ok(Cluster { store }),
+            Err(_) => Err(NewFault::OutOfMemory),
+        }
+    }
+
+    /// Takes an event. What it does and what is answered is the machine's step. `OutOfMemory` and `Full` leave everything
+    /// as it was.
+    pub fn step(&mut self, event: Event) -> Reply
+        ensures { IsStep self.old event result self.new }
+    {
+        let events = self.store.events();
+        if events == MAX_EVENTS {
+            return Reply::Full;
+        }
+        match self.store.happen(event) {
+            Ok(reply) => {
+                self.store.set_events(events + 1);
+                reply
+            }
+            Err(_) => Reply::OutOfMemory,
+        }
+    }
+
+    /// How many events it has taken: those that were answered otherwise than `OutOfMemory` or `Full`.
+    pub fn events(&self) -> u64
+        ensures { result ≡ self.now.world.events }
+    {
+        self.store.events()
+    }
+
+    /// The sizes that it was made with.
+    pub fn config(&self) -> Config
+        ensures { result ≡ self.now.config }
+    {
+        self.store.config()
+    }
+
+    /// Whether no transaction is open or still ending.
+    pub fn at_rest(&self) -> bool
+        ensures { result ≡ true ↔ IsAtRest self.now.world }
+    {
+        self.store.at_rest()
+    }
+}

@@ -1,0 +1,142 @@
+//! What a session fetches: the offset that its group has committed for a partition of `in`.
+
+ghost use Rattle.std.specs.Prelude.{◌≡◌, ◌∷◌, ◌<◌, List, None, length, replicate, slice_get, slice_index_or, vec_len, IfOk};
+ghost use Rattle.std.specs.List.{All};
+ghost use Rattle.eos_machine.specs.declared.item.Item.{Item};
+ghost use Rattle.eos_machine.specs.Sessions.{fetch};
+ghost use Rattle.eos_cluster.specs.Fetching.{AreEnds, IsFetched};
+ghost use Rattle.eos_cluster.specs.Named.{IsFrom};
+
+use crate::places::OFFSETS_PLACE;
+use crate::store::Store;
+use eos_batch::Kind;
+use eos_machine::{Item, Reply};
+use std::alloc::{AllocError, Global};
+
+/// What the log of the offsets says of a partition of `in`.
+#[derive(Clone, Copy, Debug, PartialEq, Eq)]
+struct Fetched {
+    /// Whether an open transaction holds a commit for it.
+    is_open: bool,
+    /// The last offset that was committed.
+    committed: Option<u64>,
+}
+
+/// No application has a marker.
+fn no_ends(alloc: Global, applications: usize) -> Result<Vec<Option<Kind>>, AllocError>
+    ensures { IfOk result (λ v. v.items ≡ replicate applications None) }
+{
+    let mut ends = Vec::new(alloc);
+    for _ in 0..applications {
+        ends.push(None)?;
+    }
+    Ok(ends)
+}
+
+/// The kind of an application's next marker.
+fn next_end(ends: &[Option<Kind>], application: usize) -> Option<Kind>
+    ensures { result ≡ slice_index_or ends.now application None }
+{
+    match ends.get(application) {
+        Some(end) => *end,
+        None => None,
+    }
+}
+
+/// Goes back by one item, which may be the next marker of its application.
+fn note_marker(ends: &mut Vec<Option<Kind>>, item: &Item)
+    ensures kept { (xs : List Item) → AreEnds ends.old.items xs → AreEnds ends.new.items (item.now ∷ xs) }
+    ensures len { vec_len ends.new ≡ vec_len ends.old }
+{
+    match item {
+        Item::Marker {
+            application,
+            kind,
+            ..
+        } => {
+            if *application < ends.len() {
+                ends[*application] = Some(*kind);
+            }
+        }
+        Item::Fed { .. } | Item::State { .. } | Item::Output { .. } | Item::Offset { .. } => {}
+    }
+}
+
+/// Goes back by one item, which may be a commit for this source.
+fn note_commit(fetched: Fetched, item: &Item, source: usize, ends: &[Option<Kind>]) -> Fetched
+    ensures { (xs : List Item) → IsFrom (length ends.now) item.now → AreEnds ends.now xs → IsFetched source fetched xs → IsFetched source result (item.now ∷ xs) }
+{
+    match item {
+        Item::Offset {
+            application,
+            source: other,
+            offset,
+            ..
+        } => {
+            if *other != source {
+                return fetched;
+            }
+            match next_end(ends, *application) {
+                None => Fetched {
+                    is_open: true,
+                    committed: fetched.committed,
+                },
+                Some(Kind::Commit) => Fetched {
+                    is_open: fetched.is_open,
+                    committed: Some(fetched.committed.unwrap_or(*offset)),
+                },
+                Some(Kind::Abort) => fetched,
+            }
+        }
+        Item::Fed { .. } | Item::State { .. } | Item::Output { .. } | Item::Marker { .. } =>
+            fetched,
+    }
+}
+
+/// What a log says of a source, read from its end to its front.
+fn read_back(
+    alloc: Global,
+    log: &[Item],
+    source: usize,
+    applications: usize,
+) -> Result<Fetched, AllocError>
+    requires { All (IsFrom applications) log.now }
+    ensures { IfOk result (λ f. IsFetched source f log.now) }
+{
+    let mut ends = no_ends(alloc, applications)?;
+    let mut fetched = Fetched {
+        is_open: false,
+        committed: None,
+    };
+    for i in (0..log.len()).rev() {
+        let item = &log[i];
+        fetched = note_commit(fetched, item, source, ends.as_slice());
+        note_marker(&mut ends, item);
+    }
+    Ok(fetched)
+}
+
+impl Store {
+    /// A session asks for the committed offset of a partition of `in`.
+    #[tactic(auto, unfolding(eos_machine::specs::Answers::when))]
+    pub(crate) fn fetch(&self, number: usize, source: usize) -> Result<Reply, AllocError>
+        ensures { IfOk result (λ r. (self.now.world, r) ≡ fetch self.now.config self.now.world source (slice_get self.now.world.sessions number)) }
+    {
+        let config = self.config();
+        let Some(session) = self.session(number) else {
+            return Ok(Reply::Unknown);
+        };
+        if source >= config.inputs {
+            return Ok(Reply::Unknown);
+        }
+        if session.generation != self.generation() {
+            return Ok(Reply::StaleGeneration);
+        }
+        let log = self.log(OFFSETS_PLACE);
+        let fetched = read_back(self.alloc(), log, source, config.applications)?;
+        if fetched.is_open {
+            return Ok(Reply::Busy);
+        }
+        Ok(Reply::Done(fetched.committed.unwrap_or(0)))
+    }
+}

@@ -1,0 +1,67 @@
+//! Whatever happens to a cluster: each event, and its effect.
+
+ghost use Rattle.std.specs.Prelude.{◌≡◌, ℕ, ◌≤◌, ◌<◌, ◌^◌, length, slice_get, OnErr, IfOk};
+ghost use Rattle.eos_machine.specs.World.{coord_at};
+ghost use Rattle.eos_machine.specs.Machine.{happens};
+ghost use Rattle.eos_machine.specs.declared.event.Event.TheVariants.{BrokerRestart};
+ghost use Rattle.eos_cluster.specs.Named.{IsNamed, IsSmall};
+
+use crate::places::is_partition;
+use crate::store::Store;
+use bytes::Bytes;
+use eos_machine::{Event, Reply};
+use std::alloc::AllocError;
+
+impl Store {
+    /// The broker of a partition restarts.
+    #[tactic(auto, unfolding(eos_machine::specs::Answers::when))]
+    fn restart_broker(&self, topic: &Bytes, partition: usize) -> Reply
+        ensures { (self.now.world, result) ≡ happens self.now.config self.now.world (BrokerRestart topic.now partition) }
+    {
+        if is_partition(self.config(), topic, partition) {
+            Reply::Done(0)
+        } else {
+            Reply::Unknown
+        }
+    }
+
+    /// An event happens. It isn't counted here.
+    pub(crate) fn happen(&mut self, event: Event) -> Result<Reply, AllocError>
+        requires named { (n : ℕ) → IsNamed self.old.config (slice_get self.old.world.messages n) }
+        requires small { (n : ℕ) → IsSmall (slice_get self.old.world.sessions n) }
+        requires coordinators { length self.old.world.coordinators ≡ self.old.config.applications }
+        requires epochs { (a : ℕ) → (coord_at self.old.world a).epoch ≤ 32767 }
+        requires generation { self.old.world.generation < 2 ^ 31 }
+        ensures ok { IfOk result (λ r. (self.new.world, r) ≡ happens self.old.config self.old.world event) }
+        ensures err { OnErr result (self.new.world ≡ self.old.world) }
+        ensures config { self.new.config ≡ self.old.config }
+    {
+        match event {
+            Event::Feed { source } => self.feed(source),
+            Event::Start { application } => self.start(application),
+            Event::Produce {
+                session,
+                partition,
+                claim,
+            } => self.produce(session, partition, claim),
+            Event::Commit {
+                session,
+                source,
+                offset,
+            } => self.commit(session, source, offset),
+            Event::End { session, kind } => self.end(session, kind),
+            Event::Resume { session } => self.resume(session),
+            Event::Fetch { session, source } => self.fetch(session, source),
+            Event::Members => {
+                self.set_generation(self.generation() + 1);
+                Ok(Reply::Done(0))
+            }
+            Event::BrokerRestart { topic, partition } => Ok(self.restart_broker(&topic, partition)),
+            Event::CoordinatorRestart => {
+                self.restart()?;
+                Ok(Reply::Done(0))
+            }
+            Event::Deliver { message } => self.deliver(message),
+        }
+    }
+}
