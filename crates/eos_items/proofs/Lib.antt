@@ -5,4 +5,5 @@ pub mod SegmentEntries
 pub mod SettledBatches
 pub mod ReadBatches
 pub mod LogPlaces
+pub mod BeginPlaces
 pub mod CursorPlaces

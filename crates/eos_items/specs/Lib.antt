@@ -2,5 +2,6 @@ pub mod Batches
 pub mod Heads
 pub mod Items
 pub mod Views
+pub mod Begins
 pub mod Entries
 pub mod Indexed

@@ -1,14 +1,13 @@
 //! The index of a log: its segments' indexes, one after the other.
 
-ghost use Rattle.std.specs.Prelude.{◌≡◌, ◌≤◌, ◌<◌, ◌+◌, ◌++◌, ◌^◌, [], length, take, slice_get, Some, IfOk, IfErr, OnOk, OnErr, ◌==◌};
-ghost use Rattle.std.specs.Vec.{vec_len};
+ghost use Rattle.std.specs.Prelude.{◌≡◌, ◌≤◌, ◌<◌, ◌+◌, ◌++◌, ◌^◌, [], length, slice_get, Some, IfOk, IfErr, OnOk, OnErr, ◌==◌};
 ghost use Rattle.eos_batch.specs.Answers.{Fails};
 ghost use Rattle.eos_batch.specs.Reading.{batch_at};
 ghost use Rattle.eos_items.specs.Batches.{DataBatch, set_ending};
 ghost use Rattle.eos_items.specs.Heads.{data_head};
 ghost use Rattle.eos_items.specs.Indexed.{ReadsBatch};
-ghost use Rattle.eos_items.specs.Views.{SegmentView, batches_of};
 
+use crate::begins::{count_batches, find_batch, shift};
 use crate::entry::Ending;
 use crate::head::{BatchHead, DataHead};
 use crate::segment::SegmentIndex;
@@ -25,46 +24,21 @@ const MOST: usize = 1 << 31;
 #[derive(Drop)]
 pub struct LogIndex {
     pub(crate) segments: Vec<SegmentIndex>,
+    /// The number of data batches before each segment.
+    begins: Vec<usize>,
 }
 
 impl Model for LogIndex {
     ghost use Rattle.std.specs.Prelude.{◌≤◌, ◌^◌, length, min};
+    ghost use Rattle.eos_items.specs.Begins.{AreBegins};
     ghost use Rattle.std.specs.Vec.{vec_len, vec_capacity};
     ghost use Rattle.eos_items.specs.Views.{LogView, batches_of, last_rest};
 
     ghost Value = { LogView };
 
-    ghost view = { λ l. record { batches = batches_of l.segments.items; rest = last_rest l.segments.items; segments = vec_len l.segments; room = min (vec_capacity l.segments) (2 ^ 31) } };
+    ghost view = { λ l. record { batches = batches_of l.segments.items; rest = last_rest l.segments.items; segments = vec_len l.segments; room = min (min (vec_capacity l.segments) (vec_capacity l.begins)) (2 ^ 31) } };
 
-    ghost invariant = { λ l. vec_len l.segments ≤ 2 ^ 31 };
-}
-
-/// The segment of the data batch at this place, and its place there.
-fn find_batch(segments: &Vec<SegmentIndex>, place: usize) -> (usize, usize)
-    requires { place < length (batches_of segments.now.items) }
-    ensures { (s : SegmentView) × (slice_get segments.now.items result.0 ≡ Some s) × (result.1 < length s.batches) × (place ≡ length (batches_of (take result.0 segments.now.items)) + result.1) }
-{
-    let mut left = place;
-    for i in 0..segments.len() {
-        let len = segments[i].len();
-        if left < len {
-            return (i, left);
-        }
-        left -= len;
-    }
-    unreachable!()
-}
-
-/// The number of data batches of these segments.
-fn count_batches(segments: &Vec<SegmentIndex>) -> usize
-    requires { vec_len segments.now ≤ 2 ^ 31 }
-    ensures { result ≡ length (batches_of segments.now.items) }
-{
-    let mut count = 0;
-    for i in 0..segments.len() {
-        count += segments[i].len();
-    }
-    count
+    ghost invariant = { λ l. (vec_len l.segments ≤ 2 ^ 31) × AreBegins l.segments.items l.begins.items };
 }
 
 impl LogIndex {
@@ -76,6 +50,7 @@ impl LogIndex {
     {
         LogIndex {
             segments: Vec::new(alloc),
+            begins: Vec::new(alloc),
         }
     }
 
@@ -88,7 +63,10 @@ impl LogIndex {
         if self.segments.len() == MOST {
             return Err(AllocError);
         }
+        let begin = count_batches(&self.segments, &self.begins);
+        self.begins.reserve(1)?;
         self.segments.push(SegmentIndex::new(alloc, bytes))?;
+        self.begins.push_reserved(begin);
         Ok(())
     }
 
@@ -124,7 +102,7 @@ impl LogIndex {
     pub fn len(&self) -> usize
         ensures { result ≡ length self.now.batches }
     {
-        count_batches(&self.segments)
+        count_batches(&self.segments, &self.begins)
     }
 
     /// What the records of a data batch have in common.
@@ -132,7 +110,7 @@ impl LogIndex {
         requires { place < length self.now.batches }
         ensures { (b : DataBatch) × (slice_get self.now.batches place ≡ Some b) × (result ≡ data_head b) }
     {
-        let (segment, place) = find_batch(&self.segments, place);
+        let (segment, place) = find_batch(self.begins.as_slice(), place);
         self.segments[segment].head(place)
     }
 
@@ -144,7 +122,7 @@ impl LogIndex {
         ensures segments { self.new.segments ≡ self.old.segments }
         ensures room { self.new.room ≡ self.old.room }
     {
-        let (segment, place) = find_batch(&self.segments, place);
+        let (segment, place) = find_batch(self.begins.as_slice(), place);
         let segment = &mut self.segments[segment];
         segment.settle(place, ending);
     }
@@ -161,16 +139,24 @@ impl LogIndex {
             return Err(AllocError);
         }
         self.segments.reserve(more)?;
-        Ok(())
+        self.begins.reserve(more)
     }
 
     /// Puts another index at the end. It moves its segments' indexes and takes no memory.
-    pub fn append(&mut self, mut other: LogIndex)
+    pub fn append(&mut self, other: LogIndex)
         requires { self.old.segments + other.segments ≤ self.old.room }
         ensures batches { self.new.batches ≡ self.old.batches ++ other.batches }
         ensures segments { self.new.segments ≡ self.old.segments + other.segments }
     {
-        let Ok(()) = self.segments.append(&mut other.segments) else {
+        let LogIndex {
+            mut segments,
+            mut begins,
+        } = other;
+        shift(&mut begins, count_batches(&self.segments, &self.begins));
+        let Ok(()) = self.begins.append(&mut begins) else {
+            unreachable!()
+        };
+        let Ok(()) = self.segments.append(&mut segments) else {
             unreachable!()
         };
     }

@@ -2,6 +2,7 @@
 //! place where it stands. Records are read from there when they are asked for.
 #![tactic(auto)]
 
+mod begins;
 mod cursor;
 mod entry;
 mod head;

@@ -2,18 +2,9 @@
 use Rattle.std.proofs.Common.{◌≡◌, ℕ, zero, suc, ◌+◌, ◌<◌, List, [], ◌∷◌, ◌++◌, length, map, refl, sym, ap, ◌∙◌, arith, slice_index_or, slice_set, drop, take}
 use Rattle.std.proofs.lemmas.List.Edits.{map_over_more}
 use Rattle.eos_items.specs.declared.entry.Ending.{Ending}
-use Rattle.eos_items.specs.Batches.{DataBatch, with_ending, set_ending}
+use Rattle.eos_items.specs.Batches.{DataBatch, set_ending}
+use Rattle.eos_items.proofs.BeginPlaces.{set_ending-length}
 use Rattle.eos_summary.specs.Endings.{set_endings}
-
-pub set_ending_is : (f : Ending) (p : ℕ) (xs : List DataBatch) (d : DataBatch) → p < length xs → slice_set xs p (with_ending f (slice_index_or xs p d)) ≡ set_ending f p xs
-set_ending_is f p [] d h = absurd (omega arith)
-set_ending_is f zero (x ∷ xs) d h = refl
-set_ending_is f (suc p) (x ∷ xs) d h = ap (λ is. x ∷ is) (set_ending_is f p xs d (omega arith))
-
-pub set_ending-length : (f : Ending) (p : ℕ) (xs : List DataBatch) → length (set_ending f p xs) ≡ length xs
-set_ending-length f p [] = refl
-set_ending-length f zero (x ∷ xs) = refl
-set_ending-length f (suc p) (x ∷ xs) = ap suc (set_ending-length f p xs)
 
 one_more : (i : ℕ) → suc (i + 1) ≡ suc i + 1
 one_more i = omega arith

@@ -1,14 +1,20 @@
-use Rattle.std.proofs.Common.{◌∙◌, length, refl, sym, ap}
+use Rattle.std.proofs.Common.{◌∙◌, ◌<◌, ℕ, List, length, refl, sym, ap, subst}
 use Rattle.std.proofs.lemmas.Option.{slice_get_read, slice_get_within}
 use Rattle.std.specs.List.{slice_get}
+use Rattle.eos_items.specs.Begins.{AreBegins}
 use Rattle.eos_items.specs.Views.{SegmentView, LogView, batches_of}
 use Rattle.eos_items.proofs.ListPlaces.{get_flat}
 use Rattle.eos_items.proofs.index.LogIndex.head.Goals as goal
 
+pub find_batch-segment-requires : goal.find_batch-segment-requires
+find_batch-segment-requires c = (c.self.inside.segments.items, subst (λ (begins : List ℕ). AreBegins c.self.inside.segments.items begins) (sym c.as_slice.ensures.value) c.self.invariant.1, subst (λ (l : LogView). c.args.place < length l.batches) (sym c.self.view_is) c.requires)
+
 pub returns : goal.returns
 returns c =
-    let h = c.find_batch-segment.ensures in
     let segs = c.self.inside.segments.items in
+    let inside = subst (λ (l : LogView). c.args.place < length l.batches) (sym c.self.view_is) c.requires in
+    let begins = subst (λ (bs : List ℕ). AreBegins segs bs) (sym c.as_slice.ensures.value) c.self.invariant.1 in
+    let h = c.find_batch-segment.ensures segs begins inside in
     let k = c.find_batch-segment.result.0 in
     let at = slice_get_read segs (length segs) k c.index.result.now refl (slice_get_within segs k h.0 h.1) c.index.ensures in
     let b = c.head.ensures in (

@@ -8,7 +8,15 @@ use Rattle.eos_batch.specs.Reading.{batch_at}
 use Rattle.eos_items.specs.Indexed.{ReadsBatch}
 use Rattle.eos_items.specs.Views.{SegmentView, LogView}
 use Rattle.eos_items.proofs.LogPlaces.{empty_rest, no_batch, view_of, exchanged, log_reads}
+use Rattle.eos_items.proofs.BeginPlaces.{begins_grown}
 use Rattle.eos_items.proofs.index.LogIndex.read.Goals as goal
+
+pub invariant_of-self : goal.invariant_of-self
+invariant_of-self c =
+    let segs = c.self.inside.segments.items in
+    let k = c.len-len.result - 1 in
+    let n : c.len-len.result ≡ length segs = search rules in
+    (search rules, begins_grown segs c.self.inside.begins.items k c.read.new.self (omega (arith, n, c.if-len-eq0.false)) c.self.invariant.1)
 
 pub returns-then-len-eq0-clause-err : goal.returns-then-len-eq0-clause-err
 returns-then-len-eq0-clause-err c =
@@ -22,8 +30,8 @@ returns-clause-ok c =
     let n : c.len-len.result ≡ length segs = search rules in
     let at = slice_get_read segs (length segs) k c.index_mut-segment.result.now refl (omega (arith, n, c.if-len-eq0.false)) c.index_mut-segment.ensures.value in
     IfOk-weaker c.read.result _ _
-    (λ head h. subst (λ (l : LogView). ReadsBatch c.args.next l (view_of (set segs k c.read.new.self) (vec_len c.self.inside.segments) (min (vec_capacity c.self.inside.segments) (2 ^ 31))) head) c.self.view_is
-    (log_reads segs k c.index_mut-segment.result.now c.read.new.self (vec_len c.self.inside.segments) (min (vec_capacity c.self.inside.segments) (2 ^ 31)) c.args.next head (omega (arith, n, c.if-len-eq0.false)) at h))
+    (λ head h. subst (λ (l : LogView). ReadsBatch c.args.next l (view_of (set segs k c.read.new.self) (vec_len c.self.inside.segments) (min (min (vec_capacity c.self.inside.segments) (vec_capacity c.self.inside.begins)) (2 ^ 31))) head) c.self.view_is
+    (log_reads segs k c.index_mut-segment.result.now c.read.new.self (vec_len c.self.inside.segments) (min (min (vec_capacity c.self.inside.segments) (vec_capacity c.self.inside.begins)) (2 ^ 31)) c.args.next head (omega (arith, n, c.if-len-eq0.false)) at h))
     c.read.ensures.ok
 
 pub returns-clause-err : goal.returns-clause-err
@@ -37,6 +45,6 @@ returns-clause-err c =
     IfErr-weaker c.read.result _ _
     (λ e h. let same : set segs k c.read.new.self ≡ segs = ap (λ (s : SegmentView). set segs k s) (h.1 ∙ c.index_mut-segment.ensures.value) ∙ set-get_or segs k _ in (
       subst (λ (bytes : List ℕ). Fails e (batch_at bytes)) (sym rest) h.0,
-      ap (λ (ss : List SegmentView). view_of ss (vec_len c.self.inside.segments) (min (vec_capacity c.self.inside.segments) (2 ^ 31))) same ∙ c.self.view_is,
+      ap (λ (ss : List SegmentView). view_of ss (vec_len c.self.inside.segments) (min (min (vec_capacity c.self.inside.segments) (vec_capacity c.self.inside.begins)) (2 ^ 31))) same ∙ c.self.view_is,
     ))
     c.read.ensures.err

@@ -1,9 +1,0 @@
-use Rattle.std.proofs.Common.{◌≡◌, ◌*◌, ◌≤◌, ◌^◌, length, take}
-use Rattle.eos_items.specs.Views.{batches_of}
-use Rattle.eos_items.proofs.index.count_batches.Given as goal
-
-abbrev pub invariant-loop-i : goal.invariant-loop-i
-invariant-loop-i l = record {
-  number : l.count ≡ length (batches_of (take l.i l.segments.items));
-  bound : l.count ≤ l.i * 2 ^ 32;
-}
