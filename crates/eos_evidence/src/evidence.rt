@@ -61,6 +61,14 @@ impl Evidence {
         &self.spec
     }
 
+    /// The partitions, one for each end of the spec and in its order, each with its segments by base.
+    pub fn partitions(&self) -> &[Partition]
+        ensures value { result.now ≡ self.now.partitions }
+        ensures evidence { IsEvidence self.now }
+    {
+        self.partitions.as_slice()
+    }
+
     /// The number of segments, at most 65,536.
     pub fn pieces(&self) -> u64
         ensures count { result ≡ length (segments_of self.now.partitions) }

@@ -24,6 +24,7 @@ pub use evidence::{Evidence, MAX_SEGMENTS};
 pub use fault::{AddFault, ReadFault, SpecFault};
 pub use manifest_reader::parse_spec;
 pub use manifest_writer::spec_text;
+pub use partition::Partition;
 pub use segment::Segment;
 pub use segment_reader::{MAX_SEGMENT_BYTES, read_segment};
 pub use spec::{MAX_APPS, MAX_PARTITIONS, Spec};
