@@ -31,13 +31,13 @@ continues-push n (x ∷ xs) b h e =
     let z : n + (length x.records + records_in xs) ≡ n + length x.records + records_in xs = omega arith in
     (h.0, continues-push (n + length x.records) xs b h.1 (e ∙ ap pos z))
 
-continues-last : (n : ℕ) (bs : List Batch) (b : Batch) → ContinuesFrom n (bs ++ b ∷ []) → b.base_offset ≡ pos (n + records_in bs)
+pub continues-last : (n : ℕ) (bs : List Batch) (b : Batch) → ContinuesFrom n (bs ++ b ∷ []) → b.base_offset ≡ pos (n + records_in bs)
 continues-last n [] b h = let z : n ≡ n + 0 = omega arith in h.0 ∙ ap pos z
 continues-last n (x ∷ xs) b h =
     let z : n + length x.records + records_in xs ≡ n + (length x.records + records_in xs) = omega arith in
     continues-last (n + length x.records) xs b h.1 ∙ ap pos z
 
-continues-cut : (n : ℕ) (xs : List Batch) (b : Batch) (ys : List Batch) → ContinuesFrom n (xs ++ b ∷ ys) → ContinuesFrom n (xs ++ b ∷ [])
+pub continues-cut : (n : ℕ) (xs : List Batch) (b : Batch) (ys : List Batch) → ContinuesFrom n (xs ++ b ∷ ys) → ContinuesFrom n (xs ++ b ∷ [])
 continues-cut n [] b ys h = (h.0, tt)
 continues-cut n (x ∷ xs) b ys h = (h.0, continues-cut (n + length x.records) xs b ys h.1)
 

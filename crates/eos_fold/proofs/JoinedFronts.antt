@@ -90,7 +90,7 @@ stops_before xs ys s ne h = record {
   keeps = h.keeps;
 }
 
-other_name : (at : ℕ) (ys : List Segment) (n : ℕ) → BeginsAt ys n → n ≢ at → IsFront at ys [] (Elsewhere n)
+pub other_name : (at : ℕ) (ys : List Segment) (n : ℕ) → BeginsAt ys n → n ≢ at → IsFront at ys [] (Elsewhere n)
 other_name at [] n h ne = absurd h
 other_name at (y ∷ ys) n h ne = inl (λ e. ne (sym h ∙ e), refl, ap Elsewhere (sym h))
 

@@ -10,3 +10,9 @@ pub mod BatchReading
 pub mod Beginnings
 pub mod LeastInSegment
 pub mod GoodSegment
+pub mod TouchesInWhole
+pub mod SteadyFronts
+pub mod LeastInWhole
+pub mod ClosesOnce
+pub mod RisingItems
+pub mod PartsMade

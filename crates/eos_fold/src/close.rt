@@ -1,9 +1,14 @@
 //! How the transactions of a partition's log ended.
 
-ghost use Rattle.std.specs.Prelude.{◌≡◌};
+ghost use Rattle.std.specs.Prelude.{◌≡◌, ◌++◌, map, IfOk, OnOk};
+ghost use Rattle.std.specs.Option.{option_to_list};
+ghost use Rattle.eos_summary.specs.Closes.{close_in, closes_in};
 ghost use Rattle.eos_fold.specs.Closes.{close_cmp};
+ghost use Rattle.eos_fold.specs.Whole.{as_close, AreCloses};
 
 use eos_batch::Kind;
+use eos_items::{DataHead, Ending, LogIndex};
+use std::alloc::{AllocError, Global};
 
 /// A transactional data batch's producer id and epoch, and the epoch and kind of its next end marker: the one of its
 /// producer id with the least greater offset. The order is that of the fields, Commit before Abort.
@@ -22,4 +27,63 @@ impl Close {
     {
         self.cmp(other)
     }
+}
+
+/// The close of a data batch, if its transaction has ended.
+fn close_of(head: DataHead) -> Option<Close>
+    ensures { option_to_list result ≡ map as_close (close_in head.writer head.ending) }
+{
+    let (producer, epoch) = head.writer?;
+    let Ending::Ended {
+        epoch: marker_epoch,
+        kind,
+    } = head.ending
+    else {
+        return None;
+    };
+    Some(Close {
+        producer,
+        epoch,
+        marker_epoch,
+        kind,
+    })
+}
+
+/// Puts the close of a data batch at the end, if there is one.
+fn push_close(closes: &mut Vec<Close>, head: DataHead) -> Result<(), AllocError>
+    ensures { OnOk result (closes.new.items ≡ closes.old.items ++ map as_close (close_in head.writer head.ending)) }
+{
+    let Some(close) = close_of(head) else {
+        return Ok(());
+    };
+    closes.push(close)?;
+    Ok(())
+}
+
+/// The closes of a log's data batches, in the order of the log.
+fn list_closes(alloc: Global, index: &LogIndex) -> Result<Vec<Close>, AllocError>
+    ensures { IfOk result (λ closes. closes.items ≡ map as_close (closes_in index.now.batches)) }
+{
+    let mut closes = Vec::new(alloc);
+    for i in 0..index.len() {
+        push_close(&mut closes, index.head(i))?;
+    }
+    Ok(closes)
+}
+
+/// Each unequal close once, in ascending order.
+fn once(mut closes: Vec<Close>) -> Vec<Close>
+    ensures { AreCloses closes.items result.items }
+{
+    closes.sort_unstable();
+    closes.dedup();
+    closes
+}
+
+/// The unequal closes of a log's data batches, in ascending order.
+pub(crate) fn closes_of(alloc: Global, index: &LogIndex) -> Result<Vec<Close>, AllocError>
+    ensures { IfOk result (λ closes. AreCloses (map as_close (closes_in index.now.batches)) closes.items) }
+{
+    let closes = list_closes(alloc, index)?;
+    Ok(once(closes))
 }

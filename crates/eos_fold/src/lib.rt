@@ -13,6 +13,7 @@ mod stop;
 mod summary;
 mod touches;
 mod walk;
+mod whole;
 
 pub use close::Close;
 pub use eos_items::{Fate, Item, ItemCursor, ItemRef, Items};

@@ -1,7 +1,7 @@
 //! A run of pieces of the evidence with what it says of its partition.
 
 ghost use Rattle.std.specs.Prelude.{◌≡◌, [], ◌∷◌, ◌++◌, IfOk, IfErr};
-ghost use Rattle.eos_fold.specs.Sums.{IsFit, Follows};
+ghost use Rattle.eos_fold.specs.Sums.{IsFit, Follows, IsSummaryOf};
 
 use crate::summary::{Summary, of_segment};
 use eos_evidence::Segment;
@@ -15,7 +15,7 @@ pub struct Named {
     first: u64,
     last: u64,
     segments: Vec<Segment>,
-    pub(crate) summary: Summary,
+    summary: Summary,
 }
 
 impl Model for Named {
@@ -121,6 +121,13 @@ impl Named {
                 Err((before, after))
             }
         }
+    }
+
+    /// Its summary, without the segments.
+    pub(crate) fn into_summary(self) -> Summary
+        ensures { IsSummaryOf self.segments result }
+    {
+        self.summary
     }
 
     /// The numbers of its pieces: the first and the last.

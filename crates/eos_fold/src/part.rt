@@ -1,14 +1,20 @@
 //! A partition's log as the rest of the checker sees it, however it was cut into segments.
 
-ghost use Rattle.std.specs.Prelude.{◌≡◌};
+ghost use Rattle.std.specs.Prelude.{◌≡◌, IfOk};
 ghost use Rattle.std.specs.Option.{option_map};
 ghost use Rattle.eos_fold.specs.Parts.{Rises, Ascends};
+ghost use Rattle.eos_fold.specs.Standing.{AreOf};
+ghost use Rattle.eos_fold.specs.Whole.{segments_in, IsPartOf};
 
-use crate::close::Close;
+use crate::close::{Close, closes_of};
 use crate::fault::PartitionFault;
+use crate::named::Named;
+use crate::summary::Summary;
+use crate::whole::{least_fault, of_all};
 use bytes::Bytes;
 use eos_batch::Marker;
 use eos_items::Items;
+use std::alloc::{AllocError, Global};
 use std::marker::Model;
 
 /// What a partition's log holds.
@@ -34,6 +40,36 @@ impl Model for Part {
 }
 
 impl Part {
+    /// The log of a partition that is declared to end at this offset. The run counts as the whole list of its segments.
+    ///
+    /// # Errors
+    /// Only want of memory.
+    pub fn new(
+        alloc: Global,
+        topic: Bytes,
+        partition: i32,
+        end: i64,
+        run: Option<Named>,
+    ) -> Result<Part, AllocError>
+        requires { AreOf topic partition (segments_in run) }
+        ensures { IfOk result (IsPartOf topic partition end (segments_in run)) }
+    {
+        let summary = of_all(alloc, &topic, run);
+        let fault = least_fault(&summary, topic.clone()?, partition, end);
+        let Summary { markers, run, .. } = summary;
+        let index = run.into_index();
+        let closes = closes_of(alloc, &index)?;
+        Ok(Part {
+            topic,
+            partition,
+            end,
+            fault,
+            items: Items::new(index),
+            closes,
+            markers,
+        })
+    }
+
     /// The topic's bytes.
     pub fn topic(&self) -> &Bytes
         ensures { result.now ≡ self.now.topic }

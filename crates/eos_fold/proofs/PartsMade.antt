@@ -1,0 +1,53 @@
+-- A partition, made from what a summary says of its whole log.
+use Rattle.std.proofs.Common.{◌≡◌, List, [], ◌∷◌, map, length, refl, sym, ap, subst, ◌∙◌, arith, ℤ, ℕ, Option}
+use Rattle.eos_batch.specs.declared.marker.Marker.{Marker}
+use Rattle.eos_evidence.specs.declared.segment.Segment.{Segment}
+use Rattle.eos_items.specs.declared.item.Item.{Item}
+use Rattle.eos_items.specs.Batches.{DataBatch}
+use Rattle.eos_items.specs.Items.{items_of}
+use Rattle.eos_summary.specs.Closes.{CloseOf, closes_in}
+use Rattle.eos_summary.specs.Touches.{heads_of}
+use Rattle.eos_summary.proofs.ClosesRead.{closes_read}
+use Rattle.eos_fold.specs.declared.close.Close.{Close}
+use Rattle.eos_fold.specs.declared.fault.PartitionFault.{PartitionFault}
+use Rattle.eos_fold.specs.declared.summary.Summary.{Summary}
+use Rattle.eos_fold.specs.Parts.{PartLog, Rises}
+use Rattle.eos_fold.specs.Standing.{IsPartitionFault, AreOf}
+use Rattle.eos_fold.specs.Whole.{as_close, data_in, AreCloses, BeginsIn, IsWhole, IsPartOf}
+use Rattle.eos_fold.proofs.RisingItems.{items_rise}
+use Rattle.eos_fold.proofs.SteadyFronts.{front_steady}
+
+pub begins_in : (topic : List ℕ) (number : ℤ) (ss : List Segment) → AreOf topic number ss → BeginsIn topic ss
+begins_in topic number [] h = tt
+begins_in topic number (s ∷ ss) h = (h 0 s (omega arith)).0
+
+-- the data batches of a summary are those of the front
+same_data : (topic : List ℕ) (segments : List Segment) (s : Summary) (w : IsWhole topic segments s) → s.run.index.batches ≡ data_in w.batches
+same_data topic segments s w = w.keeps.known.items
+
+pub rise : (topic : List ℕ) (segments : List Segment) (s : Summary) (items : List Item) → IsWhole topic segments s → items ≡ items_of s.run.index.batches → Rises items
+rise topic segments s items w e = subst Rises (sym (e ∙ ap items_of (same_data topic segments s w))) (items_rise 0 w.batches (front_steady 0 segments w.batches s.stop w.front).continuous)
+
+-- the least fault, by names and numbers as a call passes them
+pub fault_as : (topic topic' : List ℕ) (number number' end end' : ℤ) (s : Summary) (f : Option PartitionFault) → topic' ≡ topic → number' ≡ number → end' ≡ end
+    → ((segments : List Segment) (w : IsWhole topic' segments s) → IsPartitionFault topic' number' end' w.batches s.stop f) → (segments : List Segment) (w : IsWhole topic segments s) → IsPartitionFault topic number end w.batches s.stop f
+fault_as topic topic' number number' end end' s f a b c h =
+    subst (λ (t : List ℕ). (segments : List Segment) (w : IsWhole t segments s) → IsPartitionFault t number end w.batches s.stop f) a
+    (subst (λ (n : ℤ). (segments : List Segment) (w : IsWhole topic' segments s) → IsPartitionFault topic' n end w.batches s.stop f) b
+    (subst (λ (e : ℤ). (segments : List Segment) (w : IsWhole topic' segments s) → IsPartitionFault topic' number' e w.batches s.stop f) c h))
+
+pub part_of : (topic : List ℕ) (number end : ℤ) (segments : List Segment) (s : Summary) (w : IsWhole topic segments s) (part : PartLog)
+    → part.topic ≡ topic → part.number ≡ number → part.end ≡ end → IsPartitionFault topic number end w.batches s.stop part.fault → part.items ≡ items_of s.run.index.batches → part.markers ≡ s.markers.items
+    → AreCloses (map as_close (closes_in s.run.index.batches)) part.closes → IsPartOf topic number end segments part
+part_of topic number end segments s w part a b c f items markers closes = record {
+  batches = w.batches;
+  stop = s.stop;
+  front = w.front;
+  of_topic = a;
+  of_number = b;
+  until = c;
+  fault = f;
+  items = items ∙ ap items_of (same_data topic segments s w);
+  markers = markers ∙ w.keeps.markers;
+  closes = subst (λ (all : List CloseOf). AreCloses (map as_close all) part.closes) (ap closes_in (same_data topic segments s w) ∙ closes_read (heads_of w.batches)) closes;
+}

@@ -1,0 +1,28 @@
+use Rattle.std.proofs.Common.{rules, refl, ap, subst, map, ◌∙◌, w32, w64}
+use Rattle.std.proofs.lemmas.Int.{to_z-of_z}
+use mir.Val.{SFits}
+use Rattle.eos_fold.proofs.PartsMade.{begins_in, rise, part_of, fault_as}
+use Rattle.eos_items.specs.Items.{items_of}
+use Rattle.eos_items.specs.Views.{LogView}
+use Rattle.eos_summary.specs.Closes.{closes_in}
+use Rattle.eos_fold.specs.Whole.{segments_in, as_close, AreCloses}
+use Rattle.eos_fold.proofs.part.Part.new.Goals as goal
+
+pub of_all-summary-requires : goal.of_all-summary-requires
+of_all-summary-requires c = begins_in c.args.topic c.args.partition (segments_in c.args.run) c.requires
+
+pub invariant_of-result : goal.invariant_of-result
+invariant_of-result c = (rise c.args.topic (segments_in c.args.run) c.of_all-summary.result c.new.result c.of_all-summary.ensures (c.new.ensures ∙ ap (λ (x : LogView). items_of x.batches) c.into_index-index.ensures), c.in_ok-closes.ensures.ascend)
+
+pub returns : goal.returns
+returns c =
+    let number_fits : SFits w32 c.args.partition = search rules in
+    let end_fits : SFits w64 c.args.end = search rules in
+    let number = to_z-of_z w32 c.args.partition number_fits in
+    let end = to_z-of_z w64 c.args.end end_fits in
+    let s = c.of_all-summary.result in
+    let w = c.of_all-summary.ensures in
+    let segments = segments_in c.args.run in
+    let fault = fault_as c.args.topic c.in_ok-clone.field-0 c.args.partition _ c.args.end _ s c.least_fault-fault.result c.in_ok-clone.ensures.cases number end c.least_fault-fault.ensures segments w in
+    part_of c.args.topic c.args.partition c.args.end segments s w _ refl number end fault (c.new.ensures ∙ ap (λ (x : LogView). items_of x.batches) c.into_index-index.ensures) refl
+    (subst (λ (x : LogView). AreCloses (map as_close (closes_in x.batches)) c.in_ok-closes.closes.items) c.into_index-index.ensures c.in_ok-closes.ensures)

@@ -1,0 +1,13 @@
+use Rattle.std.proofs.Common.{refl, sym, ap, subst, ◌∙◌, arith, List, ℕ, [], Option}
+use Rattle.eos_fold.specs.Sums.{NamedView}
+use Rattle.eos_fold.specs.Whole.{segments_in, IsWhole}
+use Rattle.eos_fold.proofs.SteadyFronts.{begins_elsewhere}
+use Rattle.eos_fold.proofs.whole.of_all.Goals as goal
+
+pub returns : goal.returns
+returns c =
+    let n = c.nothing-2.ensures in
+    let s = c.into_summary-summary in
+    let run' = c.in-Some.run' in
+    subst (λ (r : Option NamedView). IsWhole c.args.topic.now (segments_in r) c.nothing-2.result) (sym c.in-Some.is)
+    (begins_elsewhere c.args.topic.now run'.segments s.result.begin c.nothing-2.result s.ensures.begins c.if-summary-eq0.false n.begin n.next n.stop n.markers n.sequenced n.known)

@@ -1,0 +1,130 @@
+//! What a run says where it counts as the whole log of its partition, whose front begins at 0.
+
+ghost use Rattle.std.specs.Prelude.{◌≡◌, [], List, pos, not};
+ghost use Rattle.std.specs.Ordering.{int_eq};
+ghost use Rattle.eos_evidence.specs.declared.segment.Segment.{Segment};
+ghost use Rattle.eos_evidence.specs.Topics.{is_internal};
+ghost use Rattle.eos_summary.specs.Summaries.{IsSummary};
+ghost use Rattle.eos_fold.specs.declared.fault.PartitionFaultKind.TheVariants.{Pair};
+ghost use Rattle.eos_fold.specs.Standing.{IsPartitionFault};
+ghost use Rattle.eos_fold.specs.Whole.{segments_in, BeginsIn, IsWhole, kind_at_stop};
+
+use crate::fault::{PartitionFault, PartitionFaultKind};
+use crate::named::Named;
+use crate::stop::Stop;
+use crate::summary::{Summary, is_checked};
+use bytes::Bytes;
+use eos_summary::{BatchSummary, Fault};
+use std::alloc::Global;
+
+/// What is said of an empty front, begun at 0, that ends for this reason.
+fn nothing(alloc: Global, topic: &Bytes, stop: Stop) -> Summary
+    ensures begin { result.begin ≡ 0 }
+    ensures next { result.next ≡ 0 }
+    ensures stop { result.stop ≡ stop }
+    ensures markers { result.markers.items ≡ [] }
+    ensures sequenced { result.run.sequenced ≡ not (is_internal topic.now) }
+    ensures known { IsSummary [] result.run }
+{
+    Summary {
+        begin: 0,
+        next: 0,
+        stop,
+        markers: Vec::new(alloc),
+        run: BatchSummary::new(alloc, is_checked(topic.as_slice())),
+    }
+}
+
+/// What a run says as the whole list of a partition's segments: the first of them has to be named 0.
+pub(crate) fn of_all(alloc: Global, topic: &Bytes, run: Option<Named>) -> Summary
+    requires { BeginsIn topic.now (segments_in run) }
+    ensures { IsWhole topic.now (segments_in run) result }
+{
+    let Some(run) = run else {
+        return nothing(alloc, topic, Stop::AtEnd);
+    };
+    let summary = run.into_summary();
+    if summary.begin == 0 {
+        return summary;
+    }
+    let stop = Stop::Elsewhere {
+        found: summary.begin,
+    };
+    nothing(alloc, topic, stop)
+}
+
+/// Whether a front ends where its log was declared to end.
+fn is_declared(next: u64, end: i64) -> bool
+    ensures { result ≡ int_eq (pos next) end }
+{
+    end >= 0 && end.unsigned_abs() == next
+}
+
+/// What stands where a front ends, if its log has no fault before.
+fn kind_at_stop(stop: Stop, next: u64, end: i64, left: Option<i64>) -> Option<PartitionFaultKind>
+    ensures { result ≡ kind_at_stop stop next end left }
+{
+    match stop {
+        Stop::NoBatch {
+            segment,
+            byte,
+            fault,
+        } => Some(PartitionFaultKind::BadBatch {
+            segment,
+            byte,
+            batch: fault,
+        }),
+        Stop::Elsewhere { found } => Some(PartitionFaultKind::Gap { found }),
+        Stop::AtEnd => {
+            if !is_declared(next, end) {
+                let end = end.unsigned_abs();
+                return Some(PartitionFaultKind::End { end });
+            }
+            let producer = left?;
+            Some(PartitionFaultKind::OpenAtEnd { producer })
+        }
+    }
+}
+
+/// A fault of this partition.
+fn fault_of(topic: Bytes, partition: i32, offset: u64, kind: PartitionFaultKind) -> PartitionFault
+    ensures topic { result.topic ≡ topic }
+    ensures partition { result.partition ≡ partition }
+    ensures offset { result.offset ≡ offset }
+    ensures kind { result.kind ≡ kind }
+{
+    PartitionFault {
+        topic,
+        partition,
+        offset,
+        kind,
+    }
+}
+
+fn pair_kind(fault: Fault) -> PartitionFaultKind
+    ensures { result ≡ Pair fault.kind fault.producer }
+{
+    PartitionFaultKind::Pair {
+        fault: fault.kind,
+        producer: fault.producer,
+    }
+}
+
+/// The least fault of a whole log.
+pub(crate) fn least_fault(
+    summary: &Summary,
+    topic: Bytes,
+    partition: i32,
+    end: i64,
+) -> Option<PartitionFault>
+    ensures { (segments : List Segment) (whole : IsWhole topic segments summary.now) → IsPartitionFault topic partition end whole.batches summary.now.stop result }
+{
+    if let Some(fault) = summary.run.whole_fault() {
+        return Some(fault_of(topic, partition, fault.offset, pair_kind(fault)));
+    }
+    let left = summary.run.least_open();
+    match kind_at_stop(summary.stop, summary.next, end, left) {
+        None => None,
+        Some(kind) => Some(fault_of(topic, partition, summary.next, kind)),
+    }
+}
