@@ -1,2 +1,4 @@
 pub mod VisibleOrder
 pub mod RecordsLaw
+pub mod RoleSearch
+pub mod CommitSets

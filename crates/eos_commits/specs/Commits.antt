@@ -58,14 +58,15 @@ commit_with key None writer = []
 commit_with key (Some (Err fault)) writer = []
 commit_with key (Some (Ok offset)) writer = record { partition = source_of key; offset = offset; writer = writer } ∷ []
 
-abbrev pub commit_under : Group → List Topic → Result (Option OffsetKey) RecordFault → Item → List Commit
-commit_under group sources (Err fault) x = []
-commit_under group sources (Ok None) x = []
-commit_under group sources (Ok (Some key)) x = if is_of group sources key then commit_with key (value_of x) x.writer else []
+-- under a key of which the test holds
+abbrev pub commit_under : (OffsetKey → Bool) → Result (Option OffsetKey) RecordFault → Item → List Commit
+commit_under ours (Err fault) x = []
+commit_under ours (Ok None) x = []
+commit_under ours (Ok (Some key)) x = if ours key then commit_with key (value_of x) x.writer else []
 
 -- the commit that a record is, if it is one
 abbrev pub commit_in : Group → List Topic → Item → List Commit
-commit_in group sources x = commit_under group sources (key_of x) x
+commit_in group sources x = commit_under (is_of group sources) (key_of x) x
 
 abbrev pub commits_in : Group → List Topic → PartLog → List Commit
 commits_in group sources p = flat_map (commit_in group sources) (visible p)

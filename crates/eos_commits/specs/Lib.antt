@@ -2,3 +2,5 @@ pub mod Visible
 pub mod Commits
 pub mod Kept
 pub mod Faults
+pub mod Plain
+pub mod steps

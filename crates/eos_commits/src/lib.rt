@@ -1,11 +1,19 @@
 //! What the visible records of a cluster's logs say: the offsets that consumer groups have committed, and whether each
 //! record can be read for what it has to be.
 //!
-//! A record of `__consumer_offsets` is a commit, a record of an output topic a claim. Who reads these and whether the
-//! outputs are exact, a crate above says.
+//! A record of `__consumer_offsets` is a commit, a record of an output topic a claim. Whether the outputs are exact, a
+//! crate above says.
 #![tactic(auto)]
 
+mod commits;
 mod fault;
+mod homes;
+mod judge;
 pub mod laws;
+mod roles;
+mod visible;
 
+pub use commits::{CommitRef, commits_of, committed, last_committed};
 pub use fault::{VisibleFault, VisibleFaultKind};
+pub use roles::TopicSet;
+pub use visible::is_visible;

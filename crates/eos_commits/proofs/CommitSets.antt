@@ -1,0 +1,35 @@
+-- The commits record by record are the commits of the log, whatever the order in which the topics stand.
+use Rattle.std.proofs.Common.{◌≡◌, ◌∙◌, ◌++◌, ◌&&◌, List, [], ◌∷◌, flat_map, refl, ap, Bool, true, false, cond, if◌then◌else◌, IsPermutation}
+use Rattle.std.specs.Prelude.{filter}
+use Rattle.std.specs.Ordering.{nat_cmp}
+use Rattle.std.specs.Cmp.Lexicographic.{slice_cmp}
+use Rattle.eos_offsets.specs.declared.key.OffsetKey.{OffsetKey}
+use Rattle.eos_items.specs.declared.item.Item.{Item}
+use Rattle.eos_fold.specs.Parts.{PartLog}
+use Rattle.eos_claims.specs.Outputs.{Commit}
+use Rattle.eos_commits.specs.Visible.{is_visible}
+use Rattle.eos_commits.specs.Commits.{Group, Topic, is_same, is_of, is_offsets_part, commit_in, commits_in, commits_of}
+use Rattle.eos_commits.specs.steps.CommitLists.{commits_at, commits_by}
+use Rattle.eos_commits.proofs.RoleSearch.{found_in_order}
+
+-- a list without what a test refuses, or nothing for that
+flat_filter : {X Y : Type 0} (f : X → List Y) (p : X → Bool) (xs : List X) → flat_map (λ x. if p x then f x else []) xs ≡ flat_map f (filter p xs)
+flat_filter f p [] = refl
+flat_filter {X} {Y} f p (x ∷ xs) = go (p x) (flat_filter f p xs)
+  where
+    go : (b : Bool) → flat_map (λ x. if p x then f x else []) xs ≡ flat_map f (filter p xs)
+        → (if b then f x else []) ++ flat_map (λ x. if p x then f x else []) xs ≡ flat_map f (cond b (x ∷ filter p xs) (filter p xs))
+    go true e = ap (λ ys. f x ++ ys) e
+    go false e = e
+
+in_part : (group : Group) (sources : List Topic) (p : PartLog) → commits_at (is_of group sources) p ≡ (if is_offsets_part p then commits_in group sources p else [])
+in_part group sources p = ap (λ (cs : List Commit). if is_offsets_part p then cs else []) (flat_filter (commit_in group sources) (λ (x : Item). is_visible x.fate) p.items)
+
+in_log : (group : Group) (sources : List Topic) (ps : List PartLog) → commits_by (is_of group sources) ps ≡ commits_of group sources ps
+in_log group sources ps = (λ i. flat_map (λ p. in_part group sources p i) ps) ∙ flat_filter (commits_in group sources) is_offsets_part ps
+
+same_test : (group : Group) (sources set : List Topic) → IsPermutation sources set → is_of group set ≡ is_of group sources
+same_test group sources set p = λ i key. is_same group key.group && found_in_order (slice_cmp nat_cmp) sources set key.topic p i
+
+pub commits_by_any : (group : Group) (sources set : List Topic) (ps : List PartLog) → IsPermutation sources set → commits_by (is_of group set) ps ≡ commits_of group sources ps
+commits_by_any group sources set ps p = ap (λ (ours : OffsetKey → Bool). commits_by ours ps) (same_test group sources set p) ∙ in_log group sources ps

@@ -1,0 +1,6 @@
+-- What values with lent names stand for.
+use Rattle.eos_claims.specs.Outputs.{Commit}
+use Rattle.eos_commits.specs.declared.commits.CommitRef.{CommitRef}
+
+abbrev pub plain_commit : CommitRef → Commit
+plain_commit c = record { partition = record { topic = c.topic.now; partition = c.partition }; offset = c.offset; writer = c.writer }

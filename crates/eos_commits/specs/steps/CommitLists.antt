@@ -1,0 +1,17 @@
+-- The commits, record by record of all records of a log.
+use Rattle.std.specs.Prelude.{Bool, List, [], flat_map, if◌then◌else◌}
+use Rattle.eos_offsets.specs.declared.key.OffsetKey.{OffsetKey}
+use Rattle.eos_items.specs.declared.item.Item.{Item}
+use Rattle.eos_fold.specs.Parts.{PartLog}
+use Rattle.eos_claims.specs.Outputs.{Commit}
+use Rattle.eos_commits.specs.Visible.{is_visible}
+use Rattle.eos_commits.specs.Commits.{is_offsets_part, key_of, commit_under}
+
+abbrev pub commit_at : (OffsetKey → Bool) → Item → List Commit
+commit_at ours x = if is_visible x.fate then commit_under ours (key_of x) x else []
+
+abbrev pub commits_at : (OffsetKey → Bool) → PartLog → List Commit
+commits_at ours p = if is_offsets_part p then flat_map (commit_at ours) p.items else []
+
+abbrev pub commits_by : (OffsetKey → Bool) → List PartLog → List Commit
+commits_by ours ps = flat_map (commits_at ours) ps
