@@ -57,27 +57,3 @@ impl<T: Drop> From<AllocFailed<T>> for RecordFault {
         RecordFault::OutOfMemory
     }
 }
-
-#[cfg(test)]
-mod tests {
-    use super::*;
-
-    /// Each fault beside its name.
-    const NAMED: [(RecordFault, &str); 6] = [
-        (RecordFault::Short, "Short"),
-        (RecordFault::Version, "Version"),
-        (RecordFault::Status, "Status"),
-        (RecordFault::Length, "Length"),
-        (RecordFault::Trailing, "Trailing"),
-        (RecordFault::OutOfMemory, "OutOfMemory"),
-    ];
-
-    #[test]
-    fn texts_are_names(rt: HostRuntime) -> Result<(), AllocError> {
-        for (fault, name) in NAMED {
-            assert_eq!(rt; fault.name(), name);
-            assert_eq!(rt; format!(in rt.alloc(); "{fault}")?.as_str(), name);
-        }
-        Ok(())
-    }
-}

@@ -142,6 +142,3 @@ pub fn encode_batch(alloc: Global, batch: &Batch) -> Result<Bytes, BatchFault>
     test(batch)?;
     Ok(write(alloc, batch)?)
 }
-
-#[cfg(test)]
-mod tests;

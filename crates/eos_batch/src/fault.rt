@@ -78,34 +78,3 @@ impl<T: Drop> From<AllocFailed<T>> for BatchFault {
         BatchFault::OutOfMemory
     }
 }
-
-#[cfg(test)]
-mod tests {
-    use super::*;
-
-    /// Each fault beside its name.
-    const NAMED: [(BatchFault, &str); 13] = [
-        (BatchFault::Truncated, "Truncated"),
-        (BatchFault::Length, "Length"),
-        (BatchFault::Magic, "Magic"),
-        (BatchFault::Crc, "Crc"),
-        (BatchFault::Compressed, "Compressed"),
-        (BatchFault::Count, "Count"),
-        (BatchFault::Varint, "Varint"),
-        (BatchFault::Record, "Record"),
-        (BatchFault::Delta, "Delta"),
-        (BatchFault::Trailing, "Trailing"),
-        (BatchFault::Control, "Control"),
-        (BatchFault::Producer, "Producer"),
-        (BatchFault::OutOfMemory, "OutOfMemory"),
-    ];
-
-    #[test]
-    fn texts_are_names(rt: HostRuntime) -> Result<(), AllocError> {
-        for (fault, name) in NAMED {
-            assert_eq!(rt; fault.name(), name);
-            assert_eq!(rt; format!(in rt.alloc(); "{fault}")?.as_str(), name);
-        }
-        Ok(())
-    }
-}

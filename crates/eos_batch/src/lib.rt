@@ -28,6 +28,3 @@ pub use record::{Header, Headers, Record, Records};
 pub use segment::{SegmentText, decode_segment, next_batch};
 pub use view::{HeaderRef, HeaderRefs, RecordRef, own_record, view_record};
 pub use walk::{Opened, open_batch, test_data};
-
-#[cfg(test)]
-mod tests;

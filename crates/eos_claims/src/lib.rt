@@ -11,7 +11,6 @@ mod found;
 pub mod laws;
 mod neighbours;
 mod place;
-mod tests;
 
 pub use alone::{LentClaim, SourceTests, least_of_claim, least_of_input};
 pub use claim::{Claim, ClaimRef, read_claim, view_claim};

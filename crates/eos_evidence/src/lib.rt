@@ -29,6 +29,3 @@ pub use segment::Segment;
 pub use segment_reader::{MAX_SEGMENT_BYTES, read_segment};
 pub use spec::{MAX_APPS, MAX_PARTITIONS, Spec};
 pub use topics::Topics;
-
-#[cfg(test)]
-mod tests;

@@ -10,9 +10,6 @@ use bytes::Bytes;
 use std::alloc::Global;
 use std::io::{ErrorKind, Read};
 
-#[cfg(test)]
-mod tests;
-
 /// The greatest number of bytes of a segment.
 pub const MAX_SEGMENT_BYTES: usize = 0x4000_0000;
 

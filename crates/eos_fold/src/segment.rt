@@ -18,9 +18,6 @@ use bytes::Bytes;
 use eos_batch::{BatchFault, decode_batch};
 use std::alloc::{AllocError, Global};
 
-#[cfg(test)]
-mod tests;
-
 pub use counts::Chain;
 
 /// A module of its own, since the names `Chain` and `chain` differ in case alone.

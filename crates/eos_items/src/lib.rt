@@ -19,6 +19,3 @@ pub use index::LogIndex;
 pub use item::{Fate, Item};
 pub use items::{ItemRef, Items};
 pub use walk::read_head;
-
-#[cfg(test)]
-mod tests;

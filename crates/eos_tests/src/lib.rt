@@ -3,4 +3,30 @@
 #![tactic(auto)]
 
 #[cfg(test)]
+mod batch;
+#[cfg(test)]
+mod batch_written;
+#[cfg(test)]
+mod broker;
+#[cfg(test)]
+mod build;
+#[cfg(test)]
+mod chain;
+#[cfg(test)]
+mod claims;
+#[cfg(test)]
+mod evidence;
+#[cfg(test)]
+mod fault_names;
+#[cfg(test)]
+mod items;
+#[cfg(test)]
 mod offsets;
+#[cfg(test)]
+mod segment_reader;
+#[cfg(test)]
+mod touch;
+#[cfg(test)]
+mod txnlog;
+#[cfg(test)]
+mod wire;

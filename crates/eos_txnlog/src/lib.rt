@@ -12,8 +12,6 @@ mod reading;
 mod skip;
 mod status;
 mod step;
-#[cfg(test)]
-mod tests;
 mod value;
 mod writing;
 

@@ -11,17 +11,15 @@ use crate::status::Status;
 use crate::value::TxnValue;
 use thiserror::Error;
 
-/// Why a record of a transactional id may not follow the one before it.
+/// Why a record of a transactional id may not follow the one before it. The text of a fault is its name.
 #[derive(Clone, Copy, Debug, PartialEq, Eq, Error)]
+#[error("{name}", name = self.name())]
 pub enum TxnFault {
     /// The status may not follow the one before.
-    #[error("Order")]
     Order,
     /// A transaction goes on or ends under another producer id, or goes on under another epoch.
-    #[error("Producer")]
     Producer,
     /// The end of a transaction doesn't raise the epoch.
-    #[error("Epoch")]
     Epoch,
 }
 
@@ -107,42 +105,5 @@ pub fn step_ok(prev: Option<&TxnValue>, next: Option<&TxnValue>) -> Result<(), T
     match (prev, next) {
         (Some(before), Some(after)) => value_ok(before, after),
         _ => Ok(()),
-    }
-}
-
-#[cfg(test)]
-mod tests {
-    use super::*;
-    use crate::partitions::Partitions;
-    use std::alloc::Global;
-
-    fn value(alloc: Global, status: Status, epoch: i16) -> TxnValue {
-        TxnValue {
-            producer: 1000,
-            epoch,
-            timeout: 60000,
-            status,
-            partitions: Partitions::new(Vec::new(alloc)),
-            last_update: 5,
-            start: -1,
-        }
-    }
-
-    #[test]
-    fn follows_the_table(rt: HostRuntime) {
-        let empty = value(rt.alloc(), Status::Empty, 0);
-        let ongoing = value(rt.alloc(), Status::Ongoing, 0);
-        let later = value(rt.alloc(), Status::Ongoing, 1);
-        let prepare = value(rt.alloc(), Status::PrepareCommit, 0);
-        assert_eq!(rt; step_ok(None, Some(&empty)), Ok(()));
-        assert_eq!(rt; step_ok(None, Some(&ongoing)), Err(TxnFault::Order));
-        assert_eq!(rt;
-            step_ok(Some(&ongoing), Some(&later)),
-            Err(TxnFault::Producer)
-        );
-        assert_eq!(rt;
-            step_ok(Some(&ongoing), Some(&prepare)),
-            Err(TxnFault::Epoch)
-        );
     }
 }

@@ -59,27 +59,3 @@ pub fn crc32c(bytes: &[u8]) -> u32
     }
     after_each(register, rest) ^ ONES
 }
-
-#[cfg(test)]
-mod tests {
-    use super::*;
-
-    #[test]
-    fn published_values(rt: HostRuntime) {
-        let ascending: [u8; 32] = [
-            0, 1, 2, 3, 4, 5, 6, 7, 8, 9, 10, 11, 12, 13, 14, 15, 16, 17, 18, 19, 20, 21, 22, 23,
-            24, 25, 26, 27, 28, 29, 30, 31,
-        ];
-        let values: [(&[u8], u32); 5] = [
-            (b"", 0),
-            (b"123456789", 0xe306_9283),
-            (&[0; 32], 0x8a91_36aa),
-            (&[0xff; 32], 0x62a8_ab43),
-            (&ascending, 0x46dd_794e),
-        ];
-        for (bytes, value) in values {
-            assert_eq!(rt; crc32c(bytes), value);
-            assert_eq!(rt; after_each(ONES, bytes) ^ ONES, value);
-        }
-    }
-}

@@ -131,27 +131,3 @@ impl<'a> Fields<'a> {
         Some(number)
     }
 }
-
-#[cfg(test)]
-mod tests {
-    use super::*;
-
-    #[test]
-    fn fields_in_order(rt: HostRuntime) {
-        let bytes = [
-            0xff, 0x01, 0x00, 0x7f, 0xff, 0xff, 0xff, 0xff, 0xff, 0xff, 0xff, 0xff, 0xff, 0xff,
-            0xfe, 0xff, 0xff, 0xff, 0xff, 0xac, 0x02, 0x61, 0x62, 0x63,
-        ];
-        let mut fields = Fields::new(&bytes);
-        assert_eq!(rt; fields.i8(), Some(-1));
-        assert_eq!(rt; fields.i16(), Some(256));
-        assert_eq!(rt; fields.i32(), Some(2_147_483_647));
-        assert_eq!(rt; fields.i64(), Some(-2));
-        assert_eq!(rt; fields.u32(), Some(4_294_967_295));
-        assert_eq!(rt; fields.uvarint(), Some(300));
-        assert_eq!(rt; fields.i32(), None);
-        assert_eq!(rt; fields.left(), 3);
-        assert_eq!(rt; fields.take(3), Some(&b"abc"[..]));
-        assert_eq!(rt; fields.i8(), None);
-    }
-}

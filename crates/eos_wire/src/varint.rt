@@ -106,26 +106,3 @@ pub fn read_varlong(bytes: &[u8]) -> Option<(i64, usize)>
     let (number, len) = groups(bytes, MOST_64, TOP_64)?;
     Some((unzigzag_64(number), len))
 }
-
-#[cfg(test)]
-mod tests {
-    use super::*;
-
-    #[test]
-    fn longer_spellings_and_limits(rt: HostRuntime) {
-        assert_eq!(rt; read_varint(&[0x01, 0xff]), Some((-1, 1)));
-        assert_eq!(rt; read_varint(&[0xd8, 0x04]), Some((300, 2)));
-        assert_eq!(rt; read_varint(&[0x80, 0x00]), Some((0, 2)));
-        assert_eq!(rt; read_varint(&[0x80, 0x80, 0x80, 0x80, 0x10]), None);
-        assert_eq!(rt; read_varint(&[0x80]), None);
-        assert_eq!(rt; read_uvarint(&[0xac, 0x02]), Some((300, 2)));
-
-        let least = [0xff, 0xff, 0xff, 0xff, 0xff, 0xff, 0xff, 0xff, 0xff, 0x01];
-        assert_eq!(rt;
-            read_varlong(&least),
-            Some((-9_223_372_036_854_775_808, 10))
-        );
-        let past = [0xff, 0xff, 0xff, 0xff, 0xff, 0xff, 0xff, 0xff, 0xff, 0x02];
-        assert_eq!(rt; read_varlong(&past), None);
-    }
-}

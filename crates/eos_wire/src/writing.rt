@@ -72,19 +72,3 @@ pub fn write_varlong(out: &mut Vec<u8>, value: i64) -> Result<(), AllocError>
 {
     write_groups(out, zigzag_64(value))
 }
-
-#[cfg(test)]
-mod tests {
-    use super::*;
-
-    #[test]
-    fn shortest_spellings(rt: HostRuntime) -> Result<(), AllocError> {
-        let mut out = Vec::new(rt.alloc());
-        write_varint(&mut out, -1)?;
-        write_varint(&mut out, 300)?;
-        write_varlong(&mut out, 300)?;
-        write_uvarint(&mut out, 300)?;
-        assert_eq!(rt; out.as_slice(), b"\x01\xd8\x04\xd8\x04\xac\x02".as_slice());
-        Ok(())
-    }
-}

@@ -1,8 +1,8 @@
 //! Bytes that were put together by hand from Kafka's layouts.
 
-use crate::*;
 use bytes::Bytes;
 use eos_base::Listed;
+use eos_txnlog::*;
 use std::alloc::{AllocError, Global};
 use std::test::Fail;
 
@@ -282,4 +282,35 @@ fn what_says_nothing_new_is_skipped(rt: HostRuntime) -> Result<(), Fail> {
     assert_eq!(rt; is_skipped(alloc, None, None)?, false);
     assert_eq!(rt; is_skipped(alloc, Some(Some(&value)), None)?, false);
     Ok(())
+}
+
+/// A value of producer 1000 without partitions.
+fn plain(alloc: Global, status: Status, epoch: i16) -> TxnValue {
+    TxnValue {
+        producer: 1000,
+        epoch,
+        timeout: 60000,
+        status,
+        partitions: Partitions::new(Vec::new(alloc)),
+        last_update: 5,
+        start: -1,
+    }
+}
+
+#[test]
+fn steps_follow_the_table(rt: HostRuntime) {
+    let empty = plain(rt.alloc(), Status::Empty, 0);
+    let ongoing = plain(rt.alloc(), Status::Ongoing, 0);
+    let later = plain(rt.alloc(), Status::Ongoing, 1);
+    let prepare = plain(rt.alloc(), Status::PrepareCommit, 0);
+    assert_eq!(rt; step_ok(None, Some(&empty)), Ok(()));
+    assert_eq!(rt; step_ok(None, Some(&ongoing)), Err(TxnFault::Order));
+    assert_eq!(rt;
+        step_ok(Some(&ongoing), Some(&later)),
+        Err(TxnFault::Producer)
+    );
+    assert_eq!(rt;
+        step_ok(Some(&ongoing), Some(&prepare)),
+        Err(TxnFault::Epoch)
+    );
 }

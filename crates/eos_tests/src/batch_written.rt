@@ -1,11 +1,11 @@
 //! Worked batches and batches of real clients, against values from outside.
 
-use crate::tests::{
-    CLIENT_COMMIT, CLIENT_DATA, LONGER_SPELLING, ONE_RECORD, batch, client_data, decoded,
-    one_record, record,
+use crate::batch::{
+    CLIENT_COMMIT, CLIENT_DATA, LONGER_SPELLING, ONE_RECORD, client_data, decoded, one_record,
 };
-use crate::{Batch, BatchFault, decode_segment, encode_batch};
+use crate::build::{batch, commit, encoded, record};
 use bytes::Bytes;
+use eos_batch::{Batch, BatchFault, decode_segment, encode_batch};
 use std::alloc::{AllocError, Global};
 use std::test::Fail;
 
@@ -44,19 +44,6 @@ const CLIENT_SEGMENT: &[u8] =
     \x74\x72\x61\x63\x65\x10\x76\x61\x6c\x75\x65\x2d\x32\x2d\x08\x6e\x6f\x6e\x65\x01\x14\x00\x2a\x06\
     \x08\x6b\x35\x35\x35\x01\x00";
 
-fn commit(alloc: Global) -> Result<Batch, AllocError> {
-    let mut records = Vec::new(alloc);
-    let key = Some(Bytes::from_static(b"\x00\x00\x00\x01"));
-    let value = Bytes::from_static(b"\x00\x00\x00\x00\x00\x00");
-    records.push(record(alloc, key, value))?;
-    Ok(Batch {
-        attributes: 0x30,
-        producer: 1000,
-        epoch: 1,
-        ..batch(records)
-    })
-}
-
 /// Just over 2^30 bytes, by records that share one value.
 fn too_long(alloc: Global) -> Result<Batch, AllocError> {
     let value = Bytes::from_vec(vec![in alloc; 0u8; 1 << 20]?)?;
@@ -79,7 +66,7 @@ fn batches_are_written(rt: HostRuntime) -> Result<(), Fail> {
         Ok(Bytes::from_static(CLIENT_DATA))
     );
     assert_eq!(rt;
-        encode_batch(alloc, &commit(alloc)?),
+        encode_batch(alloc, &commit(alloc, 0, 1)?),
         Ok(Bytes::from_static(COMMIT))
     );
     Ok(())
@@ -99,10 +86,7 @@ fn what_was_read_is_written(rt: HostRuntime) -> Result<(), Fail> {
         Ok(Bytes::from_static(CLIENT_COMMIT))
     );
     let segment = decode_segment(alloc, &Bytes::from_static(CLIENT_SEGMENT))?;
-    let mut bytes = Vec::new(alloc);
-    for batch in segment.batches.as_slice() {
-        bytes.extend_from_slice(encode_batch(alloc, batch)?.as_slice())?;
-    }
+    let bytes = encoded(alloc, segment.batches.as_slice())?;
     assert_eq!(rt; bytes.as_slice(), CLIENT_SEGMENT);
     Ok(())
 }

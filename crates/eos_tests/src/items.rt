@@ -1,10 +1,10 @@
 //! The heads of batches that `encode_batch` wrote, beside what `decode_batch` reads.
 
-use crate::{BatchHead, read_head};
 use bytes::Bytes;
 use eos_batch::{
     Batch, Header, Headers, Kind, Marker, Record, Records, decode_batch, encode_batch,
 };
+use eos_items::{BatchHead, read_head};
 use std::alloc::{AllocError, Global};
 use std::test::Fail;
 

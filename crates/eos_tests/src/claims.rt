@@ -1,9 +1,9 @@
 //! Claims put together by hand from the layout of the five headers.
 
-use crate::*;
 use bytes::Bytes;
 use eos_base::PartitionName;
 use eos_batch::Header;
+use eos_claims::*;
 use std::alloc::{AllocError, Global};
 use std::test::Fail;
 

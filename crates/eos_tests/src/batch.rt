@@ -1,11 +1,12 @@
 //! Worked batches and batches of a real client, against values from outside.
 
-use crate::laws::prefix_free;
-use crate::{
-    Batch, BatchFault, Batches, Header, Headers, Kind, Marker, Record, Records, SegmentText,
-    decode_batch, decode_segment,
-};
+use crate::build::{batch, record};
 use bytes::Bytes;
+use eos_batch::laws::prefix_free;
+use eos_batch::{
+    Batch, BatchFault, Batches, Header, Headers, Kind, Marker, Record, SegmentText, decode_batch,
+    decode_segment,
+};
 use std::alloc::{AllocError, Global};
 use std::test::Fail;
 
@@ -83,32 +84,6 @@ pub(crate) const CLIENT_COMMIT: &[u8] = b"\x00\x00\x00\x00\x00\x00\x00\x06\x00\x
 
 pub(crate) fn decoded(alloc: Global, bytes: &'static [u8]) -> Result<(Batch, usize), BatchFault> {
     decode_batch(alloc, &Bytes::from_static(bytes), 0)
-}
-
-/// A record of no headers.
-pub(crate) fn record(alloc: Global, key: Option<Bytes>, value: Bytes) -> Record {
-    Record {
-        attributes: 0,
-        timestamp_delta: 0,
-        key,
-        value: Some(value),
-        headers: Headers::new(Vec::new(alloc)),
-    }
-}
-
-/// A batch of no producer.
-pub(crate) fn batch(records: Vec<Record>) -> Batch {
-    Batch {
-        base_offset: 0,
-        leader_epoch: 0,
-        attributes: 0,
-        base_timestamp: 0,
-        max_timestamp: 0,
-        producer: -1,
-        epoch: -1,
-        sequence: -1,
-        records: Records::new(records),
-    }
 }
 
 /// The batch of `ONE_RECORD`.

@@ -1,9 +1,11 @@
-use crate::{
-    AddFault, App, Apps, End, Ends, EvidenceBuilder, GroupId, ReadFault, Segment, Spec, SpecFault,
-    Topics, parse_spec, spec_text,
-};
+//! Manifests, and segments of an evidence.
+
 use bytes::Bytes;
 use eos_base::Listed;
+use eos_evidence::{
+    AddFault, App, Apps, End, Ends, EvidenceBuilder, GroupId, Segment, Spec, SpecFault, Topics,
+    parse_spec, spec_text,
+};
 use std::alloc::{AllocError, Global};
 use std::test::Fail;
 
@@ -269,34 +271,5 @@ fn keeps_the_segments_in_order(rt: HostRuntime) -> Result<(), Fail> {
         bases.push(evidence.piece(i).copy()?.base)?;
     }
     assert_eq!(rt; bases.as_slice(), [1, 0, 2, 5].as_slice());
-    Ok(())
-}
-
-#[test]
-fn a_faults_text_is_its_name(rt: HostRuntime) -> Result<(), Fail> {
-    let alloc = rt.alloc();
-    for fault in [
-        SpecFault::Json,
-        SpecFault::Field,
-        SpecFault::Version,
-        SpecFault::Limit,
-        SpecFault::OutOfMemory,
-    ] {
-        let text = format!(in alloc; "{fault}")?;
-        assert_eq!(rt; text.as_str(), fault.name());
-    }
-    for fault in [
-        AddFault::Name,
-        AddFault::Limit,
-        AddFault::Duplicate,
-        AddFault::OutOfMemory,
-    ] {
-        let text = format!(in alloc; "{fault}")?;
-        assert_eq!(rt; text.as_str(), fault.name());
-    }
-    for fault in [ReadFault::Read, ReadFault::Limit, ReadFault::OutOfMemory] {
-        let text = format!(in alloc; "{fault}")?;
-        assert_eq!(rt; text.as_str(), fault.name());
-    }
     Ok(())
 }

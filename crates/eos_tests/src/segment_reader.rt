@@ -1,4 +1,6 @@
-use super::{ReadFault, read_segment, read_up_to};
+//! Segments read from slow readers and from readers that fail.
+
+use eos_evidence::{ReadFault, read_segment};
 use std::io;
 use std::io::{ErrorKind, Read};
 use std::test::Fail;
@@ -64,17 +66,4 @@ fn a_reader_that_fails_is_read(rt: HostRuntime) {
         let read = read_segment(rt.alloc(), &mut slow_reader(&BATCH, Some(before)));
         assert!(rt; matches!(read, Err(ReadFault::Read)), "after {before}");
     }
-}
-
-#[test]
-fn a_segment_past_the_limit_is_left(rt: HostRuntime) -> Result<(), Fail> {
-    let mut left: &[u8] = b"abcdef";
-    let read = read_up_to(rt.alloc(), &mut left, 3);
-    assert!(rt; matches!(read, Err(ReadFault::Limit)));
-    assert_eq!(rt; left, &b"ef"[..]);
-    let mut left: &[u8] = b"abc";
-    let bytes = read_up_to(rt.alloc(), &mut left, 3)?;
-    assert_eq!(rt; bytes.as_slice(), &b"abc"[..]);
-    assert_eq!(rt; ReadFault::Limit.name(), "Limit");
-    Ok(())
 }
