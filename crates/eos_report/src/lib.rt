@@ -1,0 +1,10 @@
+//! The verdict as a line of text, and as a JSON value.
+#![tactic(auto)]
+
+mod fault;
+mod fault_text;
+mod report;
+
+pub use fault::ReportFault;
+pub use fault_text::push_details;
+pub use report::{verdict_json, verdict_line, write_verdict};

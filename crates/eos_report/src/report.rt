@@ -1,0 +1,122 @@
+//! A verdict as a line, and as a JSON value.
+
+ghost use Rattle.std.specs.Prelude.{◌≡◌, Err, IfOk, OnOk, string_bytes};
+ghost use Rattle.std.specs.Io.KnownBytes.{Appends, Keeps};
+ghost use Rattle.serde_json.specs.View.{view};
+ghost use Rattle.eos_text.specs.Adding.{Adds};
+ghost use Rattle.eos_text.specs.Writing.{WritesFront};
+ghost use Rattle.eos_report.specs.FaultTexts.{fault_text};
+ghost use Rattle.eos_report.specs.VerdictTexts.{counts_text, verdict_text, verdict_line, verdict_value};
+
+use crate::fault::ReportFault;
+use crate::fault_text::push_fault;
+use eos_check::{Counts, Fault, Verdict};
+use eos_text::{finish, push_text, push_value};
+use serde_json::{Value, json};
+use std::alloc::{AllocError, Global};
+use std::io::Write;
+
+/// Writes the line of a verdict: `yes transactions=T inputs=I outputs=O`, or `no PHASE.KIND NAME` and the place of the
+/// fault. The whole line is made before any of it is written.
+///
+/// # Errors
+/// At `Write` a front of the line was written, at `OutOfMemory` nothing.
+pub fn write_verdict<W: Write>(
+    alloc: Global,
+    verdict: &Verdict,
+    writer: &mut W,
+) -> Result<(), ReportFault>
+    ensures ok { OnOk result (Appends (W.contents writer.old) (W.contents writer.new) (verdict_line verdict.now)) }
+    ensures write { result ≡ Err ReportFault.Write → WritesFront (W.contents writer.old) (W.contents writer.new) (verdict_line verdict.now) }
+    ensures memory { result ≡ Err ReportFault.OutOfMemory → Keeps (W.contents writer.old) (W.contents writer.new) }
+{
+    let line = verdict_line(alloc, verdict)?;
+    finish(writer, line.as_bytes())?;
+    Ok(())
+}
+
+/// The line of a verdict, with its line feed.
+///
+/// # Errors
+/// A growth of memory was refused.
+pub fn verdict_line(alloc: Global, verdict: &Verdict) -> Result<String, AllocError>
+    ensures { IfOk result (λ line. string_bytes line ≡ verdict_line verdict.now) }
+{
+    let mut line = String::new(alloc);
+    push_verdict(alloc, &mut line, verdict)?;
+    push_text(&mut line, "\n")?;
+    Ok(line)
+}
+
+fn push_verdict(alloc: Global, out: &mut String, verdict: &Verdict) -> Result<(), AllocError>
+    ensures { OnOk result (Adds (string_bytes out.old) (string_bytes out.new) (verdict_text verdict.now)) }
+{
+    match verdict {
+        Verdict::Yes(counts) => push_counts(out, counts),
+        Verdict::No(fault) => push_no(alloc, out, fault),
+    }
+}
+
+fn push_counts(out: &mut String, counts: &Counts) -> Result<(), AllocError>
+    ensures { OnOk result (Adds (string_bytes out.old) (string_bytes out.new) (counts_text counts.now)) }
+{
+    push_value(out, "yes transactions=", &counts.transactions)?;
+    push_value(out, " inputs=", &counts.inputs)?;
+    push_value(out, " outputs=", &counts.outputs)?;
+    Ok(())
+}
+
+fn push_no(alloc: Global, out: &mut String, fault: &Fault) -> Result<(), AllocError>
+    ensures { OnOk result (Adds (string_bytes out.old) (string_bytes out.new) (verdict_text (Verdict.No fault.now))) }
+{
+    push_text(out, "no ")?;
+    push_fault(alloc, out, fault)?;
+    Ok(())
+}
+
+/// The JSON object of a verdict: `{"answer":"yes","inputs":I,"outputs":O,"transactions":T}`, or
+/// `{"answer":"no","fault":"TEXT"}` with the text that the line has after `no `.
+///
+/// # Errors
+/// A growth of memory was refused.
+pub fn verdict_json(alloc: Global, verdict: &Verdict) -> Result<Value, AllocError>
+    ensures { IfOk result (λ value. view value ≡ verdict_value verdict.now) }
+{
+    match verdict {
+        Verdict::Yes(counts) => json_of_counts(alloc, *counts),
+        Verdict::No(fault) => json_of_fault(alloc, fault),
+    }
+}
+
+fn json_of_counts(alloc: Global, counts: Counts) -> Result<Value, AllocError>
+    ensures { IfOk result (λ value. view value ≡ verdict_value (Verdict.Yes counts)) }
+{
+    let inputs = counts.inputs;
+    let outputs = counts.outputs;
+    let transactions = counts.transactions;
+    json!(in alloc; {
+        "answer": "yes",
+        "inputs": inputs,
+        "outputs": outputs,
+        "transactions": transactions
+    })
+}
+
+fn json_of_fault(alloc: Global, fault: &Fault) -> Result<Value, AllocError>
+    ensures { IfOk result (λ value. view value ≡ verdict_value (Verdict.No fault.now)) }
+{
+    let text = text_of_fault(alloc, fault)?;
+    let text = text.as_str();
+    json!(in alloc; {
+        "answer": "no",
+        "fault": text
+    })
+}
+
+fn text_of_fault(alloc: Global, fault: &Fault) -> Result<String, AllocError>
+    ensures { IfOk result (λ text. string_bytes text ≡ fault_text fault.now) }
+{
+    let mut text = String::new(alloc);
+    push_fault(alloc, &mut text, fault)?;
+    Ok(text)
+}
