@@ -1,6 +1,6 @@
 -- The least fault of a whole log: at a touch, or else where the front ends.
-use Rattle.std.proofs.Common.{◌≡◌, ◌≢◌, ℕ, ◌+◌, ◌<◌, ◌≤◌, ◌⊎◌, inl, inr, Bool, true, false, not, List, [], ◌∷◌, Option, Some, None, refl, sym, ap, subst, ◌∙◌, arith, ℤ, pos, ◌≤ℤ◌}
-use Rattle.std.specs.Prelude.{unsigned_abs, if◌then◌else◌, MatchOption}
+use Rattle.std.proofs.Common.{◌≡◌, ℕ, ◌<◌, ◌≤◌, ◌⊎◌, inl, inr, Bool, true, false, not, List, Option, Some, None, refl, sym, ap, subst, ◌∙◌, arith, ℤ, pos, ◌≤ℤ◌}
+use Rattle.std.specs.Prelude.{unsigned_abs, if◌then◌else◌}
 use Rattle.std.specs.Option.{option_map}
 use Rattle.std.specs.Ordering.{nat_cmp, int_cmp, int_eq, is_gt, ordering_then}
 use Rattle.std.specs.Cmp.{nat_cmp_is}
@@ -9,7 +9,7 @@ use Rattle.std.specs.declared.cmp.Ordering.TheVariants.{Less, Equal, Greater}
 use Rattle.std.proofs.lemmas.Cmp.{int_ranked}
 use Rattle.std.proofs.lemmas.Int.{ints}
 use Rattle.std.proofs.lemmas.Bool.Decides.{Decides-int_eq}
-use Rattle.eos_base.specs.Least.{UpTo, IsLeast, IsLeastOrNone}
+use Rattle.eos_base.specs.Least.{UpTo}
 use Rattle.eos_batch.specs.declared.batch.Batch.{Batch}
 use Rattle.eos_batch.specs.declared.fault.BatchFault.{BatchFault}
 use Rattle.eos_evidence.specs.Topics.{is_internal}
@@ -32,7 +32,7 @@ use Rattle.eos_fold.specs.declared.summary.Summary.{Summary}
 use Rattle.eos_fold.specs.Names.{number_of}
 use Rattle.eos_fold.specs.Touches.{last_touch}
 use Rattle.eos_fold.specs.Front.{records_in}
-use Rattle.eos_fold.specs.Standing.{StandsAtTouch, IsOpen, StandsIn, producer_of, fault_cmp, IsStanding, IsPartitionFault}
+use Rattle.eos_fold.specs.Standing.{StandsAtTouch, IsOpen, StandsIn, producer_of, fault_cmp, IsPartitionFault}
 use Rattle.eos_fold.specs.Whole.{IsWhole, kind_at_stop}
 use Rattle.eos_fold.proofs.TouchesInWhole.{pairs_to, pairs_from, open_to, open_from}
 use Rattle.eos_fold.proofs.SteadyFronts.{IsSteady, front_steady, touch_inside, one_id}

@@ -16,3 +16,4 @@ pub mod LeastInWhole
 pub mod ClosesOnce
 pub mod RisingItems
 pub mod PartsMade
+pub mod ManySegments

@@ -1,14 +1,11 @@
 -- A partition, made from what a summary says of its whole log.
-use Rattle.std.proofs.Common.{◌≡◌, List, [], ◌∷◌, map, length, refl, sym, ap, subst, ◌∙◌, arith, ℤ, ℕ, Option}
-use Rattle.eos_batch.specs.declared.marker.Marker.{Marker}
+use Rattle.std.proofs.Common.{◌≡◌, List, [], ◌∷◌, map, sym, ap, subst, ◌∙◌, arith, ℤ, ℕ, Option}
 use Rattle.eos_evidence.specs.declared.segment.Segment.{Segment}
 use Rattle.eos_items.specs.declared.item.Item.{Item}
-use Rattle.eos_items.specs.Batches.{DataBatch}
 use Rattle.eos_items.specs.Items.{items_of}
 use Rattle.eos_summary.specs.Closes.{CloseOf, closes_in}
 use Rattle.eos_summary.specs.Touches.{heads_of}
 use Rattle.eos_summary.proofs.ClosesRead.{closes_read}
-use Rattle.eos_fold.specs.declared.close.Close.{Close}
 use Rattle.eos_fold.specs.declared.fault.PartitionFault.{PartitionFault}
 use Rattle.eos_fold.specs.declared.summary.Summary.{Summary}
 use Rattle.eos_fold.specs.Parts.{PartLog, Rises}
@@ -48,6 +45,7 @@ part_of topic number end segments s w part a b c f items markers closes = record
   until = c;
   fault = f;
   items = items ∙ ap items_of (same_data topic segments s w);
+  rises = rise topic segments s part.items w items;
   markers = markers ∙ w.keeps.markers;
   closes = subst (λ (all : List CloseOf). AreCloses (map as_close all) part.closes) (ap closes_in (same_data topic segments s w) ∙ closes_read (heads_of w.batches)) closes;
 }

@@ -1,5 +1,5 @@
 -- The faults of pairs of touches in a whole log: among its heads, as a summary settles them, and among its batches.
-use Rattle.std.proofs.Common.{◌≡◌, ℕ, ◌⊎◌, inl, inr, Bool, true, false, cond, List, [], ◌∷◌, ◌++◌, map, Option, Some, None, refl, sym, ap, subst, ◌∙◌, append_assoc, ℤ}
+use Rattle.std.proofs.Common.{◌≡◌, ℕ, ◌⊎◌, inl, inr, Bool, true, false, cond, List, [], ◌∷◌, ◌++◌, Option, Some, None, refl, sym, ap, subst, ◌∙◌, append_assoc, ℤ}
 use Rattle.std.specs.Option.{option_map, option_or}
 use Rattle.std.specs.Ordering.{int_eq}
 use Rattle.std.proofs.lemmas.List.{map-append}
@@ -7,7 +7,7 @@ use Rattle.std.proofs.lemmas.Bool.Decides.{Decides-int_eq}
 use Rattle.eos_batch.specs.declared.batch.Batch.{Batch}
 use Rattle.eos_touch.specs.declared.touch.Touch.{Touch}
 use Rattle.eos_touch.specs.declared.pair.PairFault.{PairFault}
-use Rattle.eos_touch.specs.Pair.{stands, is_open}
+use Rattle.eos_touch.specs.Pair.{stands}
 use Rattle.eos_summary.specs.Heads as heads
 use Rattle.eos_summary.specs.Heads.{Head}
 use Rattle.eos_summary.specs.Faults.{StandsAt, StandsAfter}

@@ -2,7 +2,7 @@
 -- offset, then by the number of the kind, then by producer id.
 -- Sources: KIP-98 and KIP-890 for the pairs of touches and for open transactions; the end of the front and the declared
 -- end are this project's own profile.
-use Rattle.std.specs.Prelude.{◌≡◌, ◌≢◌, ℕ, ℤ, pos, unsigned_abs, Bool, true, not, List, [], ◌∷◌, ◌++◌, Option, Some, None, All}
+use Rattle.std.specs.Prelude.{◌≡◌, ◌≢◌, ℕ, ℤ, pos, unsigned_abs, Bool, true, not, List, ◌∷◌, ◌++◌, Option, Some, None, All}
 use Rattle.std.specs.Ordering.{nat_cmp, int_cmp, then_cmp, on}
 use Rattle.std.specs.declared.cmp.Ordering.{Ordering}
 use Rattle.eos_base.specs.Least.{IsLeastOrNone}

@@ -22,7 +22,7 @@ use Rattle.eos_fold.specs.declared.stop.Stop.TheVariants.{AtEnd, NoBatch, Elsewh
 use Rattle.eos_fold.specs.declared.summary.Summary.{Summary}
 use Rattle.eos_fold.specs.Sums.{NamedView, Keeps}
 use Rattle.eos_fold.specs.Fronts.{IsFront, markers_of}
-use Rattle.eos_fold.specs.Parts.{PartLog, Ascends}
+use Rattle.eos_fold.specs.Parts.{PartLog, Rises, Ascends}
 use Rattle.eos_fold.specs.Standing.{IsPartitionFault}
 
 abbrev pub as_close : CloseOf → Close
@@ -50,6 +50,7 @@ pub record IsPartOf (topic : List ℕ) (number end : ℤ) (segments : List Segme
   pub until : part.end ≡ end
   pub fault : IsPartitionFault topic number end batches stop part.fault
   pub items : part.items ≡ items_of (data_in batches)
+  pub rises : Rises part.items
   pub markers : part.markers ≡ markers_of batches
   pub closes : AreCloses (closes_in batches) part.closes
 

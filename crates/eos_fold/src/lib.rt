@@ -6,6 +6,7 @@
 
 mod close;
 mod fault;
+mod many;
 mod named;
 mod part;
 mod segment;
@@ -19,6 +20,7 @@ pub use close::Close;
 pub use eos_items::{Fate, Item, ItemCursor, ItemRef, Items};
 pub use eos_touch::{PairFault, Touch, pair_ok};
 pub use fault::{PartitionFault, PartitionFaultKind};
+pub use many::summarise;
 pub use named::Named;
 pub use part::Part;
 pub use segment::{Chain, chain};

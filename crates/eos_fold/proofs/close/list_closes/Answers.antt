@@ -1,4 +1,4 @@
-use Rattle.std.proofs.Common.{◌≡◌, refl, ap, ◌∙◌, map, take, List, arith}
+use Rattle.std.proofs.Common.{◌≡◌, ap, ◌∙◌, map, take, List, arith}
 use Rattle.std.proofs.lemmas.List.{take_all}
 use Rattle.eos_items.specs.Batches.{DataBatch}
 use Rattle.eos_summary.specs.Closes.{closes_in}

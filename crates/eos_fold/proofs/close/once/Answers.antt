@@ -1,4 +1,3 @@
-use Rattle.std.proofs.Common.{rules}
 use Rattle.std.proofs.lemmas.List.Filters.{dedup_is}
 use Rattle.eos_fold.specs.contracts.close.ClosePartialEq.TheImpl.{ghosts}
 use Rattle.eos_fold.proofs.ClosesOnce.{once_is}

@@ -1,4 +1,4 @@
-use Rattle.std.proofs.Common.{refl, sym, ap, subst, ◌∙◌, arith, List, ℕ, [], Option}
+use Rattle.std.proofs.Common.{sym, subst, Option}
 use Rattle.eos_fold.specs.Sums.{NamedView}
 use Rattle.eos_fold.specs.Whole.{segments_in, IsWhole}
 use Rattle.eos_fold.proofs.SteadyFronts.{begins_elsewhere}
