@@ -73,7 +73,7 @@ pub markers_of-append : (xs ys : List Batch) → markers_of (xs ++ ys) ≡ marke
 markers_of-append [] ys = refl
 markers_of-append (x ∷ xs) ys = rw (markers_of-append xs ys) (simp append_assoc)
 
-fits_on : (base : ℤ) (next n : ℕ) → base ≡ pos next → (base +ℤ pos n) ≤ℤ pos (2 ^ 63) → next + n ≤ 2 ^ 63
+pub fits_on : (base : ℤ) (next n : ℕ) → base ≡ pos next → (base +ℤ pos n) ≤ℤ pos (2 ^ 63) → next + n ≤ 2 ^ 63
 fits_on base next n e h = let g : (pos next +ℤ pos n) ≤ℤ pos (2 ^ 63) = subst (λ (z : ℤ). (z +ℤ pos n) ≤ℤ pos (2 ^ 63)) e h in omega (arith, ints, g)
 
 -- the batch is passed

@@ -12,7 +12,6 @@ mod part;
 mod segment;
 mod stop;
 mod summary;
-mod touches;
 mod walk;
 mod whole;
 

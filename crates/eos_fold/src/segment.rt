@@ -15,7 +15,9 @@ ghost use Rattle.eos_fold.specs.Walks.{HasPassed};
 use crate::fault::{PartitionFault, PartitionFaultKind};
 use crate::walk::{Walk, unnamed};
 use bytes::Bytes;
-use eos_batch::{BatchFault, decode_batch};
+use eos_batch::BatchFault;
+use eos_items::read_head;
+use eos_wire::are_bytes;
 use std::alloc::{AllocError, Global};
 
 pub use counts::Chain;
@@ -56,12 +58,13 @@ fn pass_next(
     ensures size { IfOk result (λ passed. IfOk passed (λ size. (1 ≤ size) × (byte + size ≤ length bytes.now))) }
     ensures number { IfOk result (λ passed. IfOk passed (λ _. walk.new.batches ≡ walk.old.batches + 1)) }
 {
-    match decode_batch(alloc, bytes, byte) {
-        Ok((batch, size)) => {
-            if let Err(fault) = walk.pass(&batch)? {
+    are_bytes(bytes.as_slice());
+    match read_head(alloc, bytes, byte) {
+        Ok(head) => {
+            if let Err(fault) = walk.pass(&head)? {
                 return Ok(Err(fault));
             }
-            Ok(Ok(size))
+            Ok(Ok(head.size))
         }
         Err(fault) => {
             let kind = PartitionFaultKind::BadBatch {
@@ -75,8 +78,8 @@ fn pass_next(
 }
 
 /// Whether a segment is good as a whole partition that begins at its first batch: its bytes are record batches without
-/// a gap, and for every producer id no sequence is repeated or missing in an epoch and zombies are fenced. It holds one
-/// batch at a time, and a table of the last touch of each producer id.
+/// a gap, and for every producer id no sequence is repeated or missing in an epoch and zombies are fenced. It reads over
+/// the records and keeps none, only a table of the last touch of each producer id.
 ///
 /// # Errors
 /// The least fault of the segment, by offset, then by kind (1 to 9). It has an empty topic and partition 0. Its

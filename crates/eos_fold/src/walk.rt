@@ -2,16 +2,16 @@
 //! the touch of its producer id before it. Neighbours decide all pairs, so the last touch of each id is all that is
 //! kept: the table grows with the number of producer ids, never with the records.
 
-ghost use Rattle.std.specs.Prelude.{◌≡◌, ◌+◌, ◌<◌, ◌^◌, [], ◌∷◌, ◌++◌, List, length, pos, IfOk, MatchResult, ◌==◌, if◌then◌else◌, ⊤};
+ghost use Rattle.std.specs.Prelude.{◌≡◌, ◌+◌, ◌<◌, ◌^◌, [], ◌∷◌, ◌++◌, List, length, pos, IfOk, MatchResult, ◌==◌, if◌then◌else◌, ℕ, ⊤};
 ghost use Rattle.eos_batch.specs.declared.batch.Batch.{Batch};
 ghost use Rattle.eos_batch.specs.Rules.{IsCounted};
-ghost use Rattle.eos_fold.specs.Front.{offset_of};
+ghost use Rattle.eos_items.specs.Heads.{head_of};
 ghost use Rattle.eos_fold.specs.Walks.{HasLast, HasPassed, MayFollow, IsLeastPair, IsLeastAtBatch};
 
 use crate::fault::{PartitionFault, PartitionFaultKind};
-use crate::touches::touch_of;
 use bytes::Bytes;
-use eos_batch::Batch;
+use eos_items::BatchHead;
+use eos_summary::touch_of;
 use eos_touch::{Touch, pair_ok};
 use std::alloc::{AllocError, Global};
 use std::collections::BTreeMap;
@@ -43,22 +43,15 @@ pub(crate) fn unnamed(offset: u64, kind: PartitionFaultKind) -> PartitionFault
     }
 }
 
-fn offset_of(batch: &Batch) -> u64
-    ensures { result ≡ offset_of batch.now }
-{
-    batch.base_offset.unsigned_abs()
-}
-
 /// Puts what a batch says into the table, if it may follow what its producer id said last.
 fn take_touch(
     last: &mut BTreeMap<i64, Touch>,
-    batch: &Batch,
+    head: &BatchHead,
 ) -> Result<Result<(), PartitionFaultKind>, AllocError>
-    requires { length batch.now.records < 2 ^ 32 }
-    ensures { (before : List Batch) → HasLast before last.old →
-        IfOk result (λ taken. MatchResult taken (λ _. MayFollow before batch.now × HasLast (before ++ batch.now ∷ []) last.new) (IsLeastPair before batch.now)) }
+    ensures { (before : List Batch) (b : Batch) (size : ℕ) → head.now ≡ head_of b size → HasLast before last.old →
+        IfOk result (λ taken. MatchResult taken (λ _. MayFollow before b × HasLast (before ++ b ∷ []) last.new) (IsLeastPair before b)) }
 {
-    let Some((producer, touch)) = touch_of(batch) else {
+    let Some((producer, touch)) = touch_of(head) else {
         return Ok(Ok(()));
     };
     let before = last.get(&producer).copied();
@@ -90,24 +83,27 @@ impl Walk {
     }
 
     /// Passes the next batch, or says which fault stands there.
-    pub(crate) fn pass(&mut self, batch: &Batch) -> Result<Result<(), PartitionFault>, AllocError>
-        requires counted { IsCounted batch.now }
+    pub(crate) fn pass(
+        &mut self,
+        head: &BatchHead,
+    ) -> Result<Result<(), PartitionFault>, AllocError>
+        requires fits { head.now.offset + head.now.count < 2 ^ 64 }
         requires room { self.old.batches + 1 < 2 ^ 64 }
-        ensures passed { (before : List Batch) → HasPassed before self.old →
-            IfOk result (λ passed. MatchResult passed (λ _. HasPassed (before ++ batch.now ∷ []) self.new) (IsLeastAtBatch before batch.now)) }
+        ensures passed { (before : List Batch) (b : Batch) (size : ℕ) → head.now ≡ head_of b size → IsCounted b → HasPassed before self.old →
+            IfOk result (λ passed. MatchResult passed (λ _. HasPassed (before ++ b ∷ []) self.new) (IsLeastAtBatch before b)) }
         ensures number { IfOk result (λ passed. MatchResult passed (λ _. self.new.batches ≡ self.old.batches + 1) (λ _. ⊤)) }
     {
-        let offset = offset_of(batch);
+        let offset = head.offset;
         let next = self.at_first(offset, self.next);
         if offset != next {
             let kind = PartitionFaultKind::Gap { found: offset };
             return Ok(Err(unnamed(next, kind)));
         }
-        if let Err(kind) = take_touch(&mut self.last, batch)? {
+        if let Err(kind) = take_touch(&mut self.last, head)? {
             return Ok(Err(unnamed(offset, kind)));
         }
         self.begin = self.at_first(offset, self.begin);
-        self.next = offset + batch.records.as_slice().len() as u64;
+        self.next = offset + u64::from(head.count);
         self.batches += 1;
         Ok(Ok(()))
     }

@@ -17,3 +17,4 @@ pub use fault::Fault;
 pub use mark::EndMark;
 pub use places::Places;
 pub use summary::BatchSummary;
+pub use touches::touch_of;

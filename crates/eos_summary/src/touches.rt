@@ -18,7 +18,7 @@ use eos_items::BatchHead;
 use eos_touch::Touch;
 
 /// What a batch says, and of which producer id.
-pub(crate) fn touch_of(head: &BatchHead) -> Option<(i64, Touch)>
+pub fn touch_of(head: &BatchHead) -> Option<(i64, Touch)>
     ensures { (b : Batch) (size : ℕ) → head.now ≡ read.head_of b size → result ≡ touch_of b }
 {
     if head.is_control {
