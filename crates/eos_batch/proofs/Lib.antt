@@ -1,4 +1,3 @@
-pub mod BatchFaults
 pub mod BatchParts
 pub mod BatchTexts
 pub mod CursorParts
@@ -10,6 +9,8 @@ pub mod EncodingTests
 pub mod EncodingTexts
 pub mod LentRecords
 pub mod OpenedBatches
+pub mod OpenedTests
+pub mod PassedRecords
 pub mod ReadLoops
 pub mod RecordPlaces
 pub mod RecordTexts

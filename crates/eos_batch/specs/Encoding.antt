@@ -6,8 +6,7 @@
 --   Control     a control batch is not one control record that reads
 --   Producer    transactional data or an end marker names no producer, or a producer has no epoch
 --   Length      the text takes more than 2^30 bytes, the most that a segment has
-use Rattle.std.specs.Prelude.{◌≡◌, ℕ, suc, ◌+◌, ◌-◌, ◌^◌, ◌<◌, ◌⊎◌, pos, negsuc, ◌+ℤ◌, List, [], ◌∷◌, ◌++◌, length, Option, Some, None, Result, Ok, Err, Bool, nat_lt, ◌&&◌, not, int_le, min, FitsSigned, All}
-use Rattle.std.specs.Int.{w8, w16, w32, w64}
+use Rattle.std.specs.Prelude.{ℕ, suc, ◌+◌, ◌^◌, ◌<◌, pos, negsuc, ◌+ℤ◌, List, [], ◌∷◌, ◌++◌, length, Option, Some, None, Result, Ok, Bool, nat_lt, ◌&&◌, not, int_le}
 use Rattle.eos_wire.specs.Numbers.{i8_text, i16_text, i32_text, i64_text, u32_text}
 use Rattle.eos_wire.specs.Writing.{varint_of, varlong_of}
 use Rattle.eos_wire.specs.Crc.{crc32c_of}

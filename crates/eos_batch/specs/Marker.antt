@@ -56,8 +56,11 @@ marker_of b = if is_control b.attributes then marker_in b b.records else None
 -- ---- which control batches are right
 
 -- the key has a type, and the value of an end marker has an epoch
+abbrev pub is_control_content : Option (List ℕ) → Option (List ℕ) → Bool
+is_control_content key value = if is_some (end_kind key) then is_some (coordinator_epoch_of value) else is_some (control_type key)
+
 abbrev pub is_control_record : Record → Bool
-is_control_record r = if is_some (end_kind r.key) then is_some (coordinator_epoch_of r.value) else is_some (control_type r.key)
+is_control_record r = is_control_content r.key r.value
 
 abbrev pub is_one_control_record : List Record → Bool
 is_one_control_record [] = false

@@ -9,7 +9,6 @@ use Rattle.eos_batch.specs.declared.view.Parts.{Parts}
 use Rattle.eos_batch.specs.declared.batch.Batch.{Batch}
 use Rattle.eos_batch.specs.declared.walk.Opened.{Opened}
 use Rattle.eos_base.specs.Steps.{◌>>=◌, must, or_fault}
-use Rattle.eos_batch.specs.Answers.{Fails}
 use Rattle.eos_batch.specs.Reading.{used_up, int_at, long_at, optional_at, count_at, bytes_at, body_at, record_at, records_at, with_records, batch_at}
 use Rattle.eos_batch.specs.Marker.{has_right_control}
 use Rattle.eos_batch.specs.Rules.{has_right_producer}
@@ -35,6 +34,10 @@ pub record IsAt (bytes : List ℕ) (place from end next : ℕ) : Type 0 where
   pub reads : found_at from bytes ≡ Ok found
   pub goes_on : record_at place (slice_range bytes from end) ≡ Ok (found, slice_range bytes next end)
 
+-- so many records, which take the bytes from one place to another
+abbrev pub records_in : List ℕ → ℕ → ℕ → ℕ → Result (List Record) BatchFault
+records_in bytes begin end count = records_at count 0 (slice_range bytes begin end) >>= used_up faults.Trailing
+
 -- what is tested after the records
 abbrev pub finished : Batch → ℕ → List Record → Result (Batch × ℕ) BatchFault
 finished b size rs = do
@@ -50,7 +53,7 @@ pub record IsOpened (bytes : List ℕ) (at : ℕ) (o : Opened) : Type 0 where
   pub some : 1 ≤ o.count
   pub first : pos 0 ≤ℤ o.batch.base_offset
   pub last : (o.batch.base_offset +ℤ pos o.count) ≤ℤ pos (2 ^ 63)
-  pub goes_on : batch_at (drop at bytes) ≡ ((records_at o.count 0 (slice_range bytes o.begin o.end) >>= used_up faults.Trailing) >>= finished o.batch (o.end - at))
+  pub goes_on : batch_at (drop at bytes) ≡ (records_in bytes o.begin o.end o.count >>= finished o.batch (o.end - at))
 
 -- the fields of a record before its headers, and what is left for these
 unfoldable pub parts_at : List ℕ → Result Parts BatchFault

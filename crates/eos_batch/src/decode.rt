@@ -18,19 +18,21 @@
 //!
 //! The source is "Record Batch" of the Message Format in Kafka's documentation. All numbers are big-endian.
 
-ghost use Rattle.std.specs.Prelude.{◌≡◌, ◌≤◌, ℕ, length, drop, Ok, IfOk};
+ghost use Rattle.std.specs.Prelude.{◌≡◌, ◌≤◌, ℕ, length, drop, Ok, Err, IfOk, IfErr};
 ghost use Rattle.eos_batch.specs.declared.batch.Batch.{Batch};
 ghost use Rattle.eos_batch.specs.Text.{HasTextAt};
 ghost use Rattle.eos_batch.specs.Attributes.{is_compressed};
 ghost use Rattle.eos_batch.specs.Answers.{Answers, Gives};
-ghost use Rattle.eos_batch.specs.Reading.{count_fits, offsets_fit, frame_at, sealed_at, head_at, covered_at, all_records_at, batch_at};
+ghost use Rattle.eos_batch.specs.Real.{IsReal};
+ghost use Rattle.eos_batch.specs.Reading.{count_fits, offsets_fit, frame_at, sealed_at, head_at, batch_at};
 
 use crate::batch::Batch;
 use crate::cursor::Cursor;
 use crate::fault::BatchFault;
 use crate::read_record::records_of;
 use crate::record::Records;
-use crate::rules::{has_right_control, has_right_producer, is_compressed};
+use crate::rules::is_compressed;
+use crate::walk::{open_batch, test_opened};
 use bytes::Bytes;
 use eos_wire::{are_bytes, crc32c};
 use std::alloc::Global;
@@ -71,26 +73,13 @@ impl Head {
         let base_offset = self.batch.base_offset;
         base_offset >= 0 && i64::from(self.last_offset_delta) <= i64::MAX - base_offset
     }
-
-    /// So many records, which take all bytes.
-    fn records(&self, alloc: Global, rest: &mut Cursor) -> Result<Records, BatchFault>
-        ensures { Answers result (all_records_at self.now.count rest.old) }
-    {
-        if self.count < 0 {
-            return Err(BatchFault::Count);
-        }
-        let records = records_of(alloc, rest, self.count as u32)?;
-        if !rest.is_empty() {
-            return Err(BatchFault::Trailing);
-        }
-        Ok(records)
-    }
 }
 
 /// The base offset, and the bytes that the length counts.
 #[tactic(auto, unfolding(crate::specs::Reading::frame_at))]
 pub(crate) fn frame_of<'a>(rest: &mut Cursor<'a>) -> Result<(i64, Cursor<'a>), BatchFault>
-    ensures { Answers result (frame_at rest.old) }
+    ensures answers { Answers result (frame_at rest.old) }
+    ensures real { IfErr result IsReal }
 {
     let base_offset = rest.i64().ok_or(BatchFault::Truncated)?;
     let len = rest.i32().ok_or(BatchFault::Truncated)?;
@@ -107,7 +96,8 @@ pub(crate) fn frame_of<'a>(rest: &mut Cursor<'a>) -> Result<(i64, Cursor<'a>), B
 /// The leader epoch of a batch with the right checksum.
 #[tactic(auto, unfolding(crate::specs::Reading::sealed_at))]
 pub(crate) fn sealed_of(rest: &mut Cursor) -> Result<i32, BatchFault>
-    ensures { Gives result rest.new (sealed_at rest.old) }
+    ensures gives { Gives result rest.new (sealed_at rest.old) }
+    ensures real { IfErr result IsReal }
 {
     let leader_epoch = rest.i32().ok_or(BatchFault::Truncated)?;
     let magic = rest.i8().ok_or(BatchFault::Truncated)?;
@@ -128,7 +118,8 @@ pub(crate) fn head_of(
     base_offset: i64,
     leader_epoch: i32,
 ) -> Result<Head, BatchFault>
-    ensures { Gives result rest.new (head_at base_offset leader_epoch rest.old) }
+    ensures gives { Gives result rest.new (head_at base_offset leader_epoch rest.old) }
+    ensures real { IfErr result IsReal }
 {
     let attributes = rest.i16().ok_or(BatchFault::Truncated)?;
     let last_offset_delta = rest.i32().ok_or(BatchFault::Truncated)?;
@@ -155,49 +146,21 @@ pub(crate) fn head_of(
     })
 }
 
-/// The batch whose checksum covers these bytes.
-#[tactic(auto, unfolding(crate::specs::Reading::covered_at))]
-fn covered_of(
-    alloc: Global,
-    rest: &mut Cursor,
-    base_offset: i64,
-    leader_epoch: i32,
-) -> Result<Batch, BatchFault>
-    ensures { Answers result (covered_at base_offset leader_epoch rest.old) }
-{
-    let head = head_of(alloc, rest, base_offset, leader_epoch)?;
-    if head.is_compressed() {
-        return Err(BatchFault::Compressed);
-    }
-    if !head.count_fits() {
-        return Err(BatchFault::Count);
-    }
-    if !head.offsets_fit() {
-        return Err(BatchFault::Count);
-    }
-    let records = head.records(alloc, rest)?;
-    let mut batch = head.batch;
-    batch.records = records;
-    Ok(batch)
-}
-
-/// The batch or the first test that fails.
-#[tactic(auto, unfolding(crate::specs::Reading::batch_at))]
+/// The batch or the first test that fails. All tests come before any memory for the records.
 fn batch_of(alloc: Global, bytes: &Bytes, at: usize) -> Result<(Batch, usize), BatchFault>
     requires { at ≤ length bytes.now }
-    ensures { Answers result (batch_at (drop at bytes.now)) }
+    ensures steps { Answers result (batch_at (drop at bytes.now)) }
+    ensures memory { result ≡ Err BatchFault.OutOfMemory
+        → (read : Batch × ℕ) × (batch_at (drop at bytes.now) ≡ Ok read) }
 {
-    let mut rest = Cursor::new(bytes, at);
-    let (base_offset, mut body) = frame_of(&mut rest)?;
-    let taken = FRAME + body.len();
-    let leader_epoch = sealed_of(&mut body)?;
-    let batch = covered_of(alloc, &mut body, base_offset, leader_epoch)?;
-    if !has_right_control(&batch) {
-        return Err(BatchFault::Control);
-    }
-    if !has_right_producer(&batch) {
-        return Err(BatchFault::Producer);
-    }
+    let _size = bytes.len();
+    let opened = open_batch(alloc, bytes, at)?;
+    test_opened(bytes, at, &opened)?;
+    let mut rest = Cursor::between(bytes, opened.begin, opened.end);
+    let records = records_of(alloc, &mut rest, opened.count)?;
+    let taken = opened.end - at;
+    let mut batch = opened.batch;
+    batch.records = records;
     Ok((batch, taken))
 }
 
@@ -205,11 +168,15 @@ fn batch_of(alloc: Global, bytes: &Bytes, at: usize) -> Result<(Batch, usize), B
 ///
 /// # Errors
 /// The first test that fails. The tests stand in the order of `BatchFault`, and bytes that end before the batch does are
-/// found after its length is. `OutOfMemory` comes where a growth is refused.
+/// found after its length is. `OutOfMemory` comes only after all tests.
 pub fn decode_batch(alloc: Global, bytes: &Bytes, at: usize) -> Result<(Batch, usize), BatchFault>
     requires { at ≤ length bytes.now }
     // The batch, or the first test that fails.
     ensures steps { Answers result (batch_at (drop at bytes.now)) }
+
+    // Want of memory is answered only where a batch stands there.
+    ensures memory { result ≡ Err BatchFault.OutOfMemory
+        → (read : Batch × ℕ) × (batch_at (drop at bytes.now) ≡ Ok read) }
 
     // An `Ok` comes exactly where the bytes are a text of the batch, unless memory runs out.
     ensures text { IfOk result (λ read. HasTextAt bytes.now at read.0 read.1) }

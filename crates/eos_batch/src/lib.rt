@@ -23,7 +23,7 @@ pub use decode::decode_batch;
 pub use encode::encode_batch;
 pub use fault::BatchFault;
 pub use marker::{Kind, Marker};
-pub use passing::pass_record;
+pub use passing::{pass_record, pass_records};
 pub use record::{Header, Headers, Record, Records};
 pub use segment::{SegmentText, decode_segment, next_batch};
 pub use view::{HeaderRef, HeaderRefs, RecordRef, own_record, view_record};

@@ -10,6 +10,7 @@
 //! The source is "Control Batches" of the Message Format in Kafka's documentation. Further bytes are ignored.
 
 ghost use Rattle.std.specs.Prelude.{◌≡◌};
+ghost use Rattle.std.specs.Option.{option_map};
 ghost use Rattle.eos_batch.specs.Marker.{kind_of, control_type, coordinator_epoch_of, end_kind, marker_of};
 
 use crate::batch::Batch;
@@ -46,14 +47,24 @@ fn kind_of(number: i16) -> Option<Kind>
     }
 }
 
+/// The bytes of a key or value, lent.
+pub(crate) fn lent(bytes: &Option<Bytes>) -> Option<&[u8]>
+    ensures { option_map (λ s. s.now) result ≡ bytes.now }
+{
+    match bytes {
+        Some(bytes) => Some(bytes.as_slice()),
+        None => None,
+    }
+}
+
 /// The type of a control record, by its key.
-pub(crate) fn control_type(key: &Option<Bytes>) -> Option<i16>
-    ensures { result ≡ control_type key.now }
+pub(crate) fn control_type(key: Option<&[u8]>) -> Option<i16>
+    ensures { result ≡ control_type (option_map (λ s. s.now) key.entry) }
 {
     let Some(bytes) = key else {
         return None;
     };
-    let mut fields = Fields::new(bytes.as_slice());
+    let mut fields = Fields::new(bytes);
     let version = fields.i16()?;
     if version < 0 {
         return None;
@@ -62,13 +73,13 @@ pub(crate) fn control_type(key: &Option<Bytes>) -> Option<i16>
 }
 
 /// The coordinator's epoch, by the value of an end marker.
-pub(crate) fn coordinator_epoch(value: &Option<Bytes>) -> Option<i32>
-    ensures { result ≡ coordinator_epoch_of value.now }
+pub(crate) fn coordinator_epoch(value: Option<&[u8]>) -> Option<i32>
+    ensures { result ≡ coordinator_epoch_of (option_map (λ s. s.now) value.entry) }
 {
     let Some(bytes) = value else {
         return None;
     };
-    let mut fields = Fields::new(bytes.as_slice());
+    let mut fields = Fields::new(bytes);
     let version = fields.i16()?;
     if version < 0 {
         return None;
@@ -77,8 +88,8 @@ pub(crate) fn coordinator_epoch(value: &Option<Bytes>) -> Option<i32>
 }
 
 /// The kind of an end marker, by its key.
-pub(crate) fn end_kind(key: &Option<Bytes>) -> Option<Kind>
-    ensures { result ≡ end_kind key.now }
+pub(crate) fn end_kind(key: Option<&[u8]>) -> Option<Kind>
+    ensures { result ≡ end_kind (option_map (λ s. s.now) key.entry) }
 {
     kind_of(control_type(key)?)
 }
@@ -94,8 +105,8 @@ impl Batch {
         let [only] = self.records.as_slice() else {
             return None;
         };
-        let kind = end_kind(&only.key)?;
-        let coordinator_epoch = coordinator_epoch(&only.value)?;
+        let kind = end_kind(lent(&only.key))?;
+        let coordinator_epoch = coordinator_epoch(lent(&only.value))?;
         Some(Marker {
             producer: self.producer,
             epoch: self.epoch,

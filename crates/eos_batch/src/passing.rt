@@ -2,8 +2,9 @@
 
 ghost use Rattle.std.specs.Prelude.{◌≡◌, ◌≤◌, ◌<◌, length, slice_range, IfOk, IfErr};
 ghost use Rattle.eos_batch.specs.Answers.{Fails};
+ghost use Rattle.eos_batch.specs.Real.{IsReal};
 ghost use Rattle.eos_batch.specs.Reading.{header_at, headers_at, placed_at, record_at};
-ghost use Rattle.eos_batch.specs.Places.{IsAt};
+ghost use Rattle.eos_batch.specs.Places.{IsAt, records_in};
 ghost use Rattle.eos_batch.specs.steps.Reading.{Passes, PassesFrom};
 
 use crate::cursor::Cursor;
@@ -14,7 +15,8 @@ use eos_wire::are_bytes;
 #[inline(always)]
 #[tactic(auto, unfolding(crate::specs::Reading::header_at))]
 fn pass_header(rest: &mut Cursor) -> Result<(), BatchFault>
-    ensures { PassesFrom result rest.new (header_at rest.old) }
+    ensures passes { PassesFrom result rest.new (header_at rest.old) }
+    ensures real { IfErr result IsReal }
 {
     let _key = rest.bytes()?;
     let _value = rest.optional()?;
@@ -23,7 +25,8 @@ fn pass_header(rest: &mut Cursor) -> Result<(), BatchFault>
 
 #[inline(always)]
 fn pass_headers(rest: &mut Cursor, count: u32) -> Result<(), BatchFault>
-    ensures { PassesFrom result rest.new (headers_at count rest.old) }
+    ensures passes { PassesFrom result rest.new (headers_at count rest.old) }
+    ensures real { IfErr result IsReal }
 {
     for _ in 0..count {
         pass_header(rest)?;
@@ -35,7 +38,8 @@ fn pass_headers(rest: &mut Cursor, count: u32) -> Result<(), BatchFault>
 #[inline(always)]
 #[tactic(auto, unfolding(crate::specs::Reading::placed_at, crate::specs::Reading::body_at))]
 fn pass_placed(rest: &mut Cursor, place: u32) -> Result<(), BatchFault>
-    ensures { Passes result (placed_at place rest.old) }
+    ensures passes { Passes result (placed_at place rest.old) }
+    ensures real { IfErr result IsReal }
 {
     let _attributes = rest.i8().ok_or(BatchFault::Record)?;
     let _timestamp_delta = rest.varlong()?;
@@ -65,6 +69,7 @@ pub fn pass_record(bytes: &Bytes, from: usize, end: usize, place: u32) -> Result
     requires end { end ≤ length bytes.now }
     ensures found { IfOk result (IsAt bytes.now place from end) }
     ensures fault { IfErr result (λ e. Fails e (record_at place (slice_range bytes.now from end))) }
+    ensures real { IfErr result IsReal }
 {
     are_bytes(bytes.as_slice());
     let _size = bytes.len();
@@ -72,4 +77,23 @@ pub fn pass_record(bytes: &Bytes, from: usize, end: usize, place: u32) -> Result
     let mut text = rest.bytes()?;
     pass_placed(&mut text, place)?;
     Ok(end - rest.len())
+}
+
+/// Reads over the records of a batch, which take the bytes from `begin` to `end`.
+///
+/// # Errors
+/// The first test of the records that fails, and Trailing where bytes are left after them. It takes no memory.
+pub fn pass_records(bytes: &Bytes, begin: usize, end: usize, count: u32) -> Result<(), BatchFault>
+    requires { (begin ≤ end) × (end ≤ length bytes.now) }
+    ensures passes { Passes result (records_in bytes.now begin end count) }
+    ensures real { IfErr result IsReal }
+{
+    let mut from = begin;
+    for place in 0..count {
+        from = pass_record(bytes, from, end, place)?;
+    }
+    if from != end {
+        return Err(BatchFault::Trailing);
+    }
+    Ok(())
 }

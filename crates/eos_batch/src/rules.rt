@@ -1,12 +1,13 @@
 //! What a batch keeps beside its layout, as tests: reading asks them of what was read, and writing before it writes.
 
-ghost use Rattle.std.specs.Prelude.{◌≡◌, IsTrue};
+ghost use Rattle.std.specs.Prelude.{◌≡◌, ◌&&◌, IsTrue, is_some};
+ghost use Rattle.std.specs.Option.{option_map};
 ghost use Rattle.eos_batch.specs.Attributes.{is_compressed, is_transactional, is_control};
-ghost use Rattle.eos_batch.specs.Marker.{is_control_record, has_right_control};
+ghost use Rattle.eos_batch.specs.Marker.{end_kind, coordinator_epoch_of, is_control_content, is_control_record, has_right_control};
 ghost use Rattle.eos_batch.specs.Rules.{has_right_producer};
 
 use crate::batch::Batch;
-use crate::marker::{control_type, coordinator_epoch, end_kind};
+use crate::marker::{control_type, coordinator_epoch, end_kind, lent};
 use crate::record::Record;
 
 const COMPRESSION: i16 = 0x07;
@@ -49,14 +50,29 @@ impl Batch {
     }
 }
 
+/// The key of a control record has a type, and the value of an end marker has an epoch.
+pub(crate) fn is_control_content(key: Option<&[u8]>, value: Option<&[u8]>) -> bool
+    ensures { result ≡ is_control_content (option_map (λ s. s.now) key.entry) (option_map (λ s. s.now) value.entry) }
+{
+    if end_kind(key).is_some() {
+        coordinator_epoch(value).is_some()
+    } else {
+        control_type(key).is_some()
+    }
+}
+
+/// The key and the value of a control record are those of an end marker.
+pub(crate) fn is_end(key: Option<&[u8]>, value: Option<&[u8]>) -> bool
+    ensures { result ≡ (is_some (end_kind (option_map (λ s. s.now) key.entry))
+        && is_some (coordinator_epoch_of (option_map (λ s. s.now) value.entry))) }
+{
+    end_kind(key).is_some() && coordinator_epoch(value).is_some()
+}
+
 fn is_control_record(only: &Record) -> bool
     ensures { result ≡ is_control_record only.now }
 {
-    if end_kind(&only.key).is_some() {
-        coordinator_epoch(&only.value).is_some()
-    } else {
-        control_type(&only.key).is_some()
-    }
+    is_control_content(lent(&only.key), lent(&only.value))
 }
 
 /// A control batch is one control record that reads.

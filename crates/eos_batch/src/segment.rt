@@ -1,6 +1,6 @@
 //! Reading a whole segment: record batches one after the other, up to the end or the first fault.
 
-ghost use Rattle.std.specs.Prelude.{◌≡◌, ◌≤◌, ◌+◌, ℕ, List, length, drop, IfOk, IfErr};
+ghost use Rattle.std.specs.Prelude.{◌≡◌, ◌≤◌, ◌+◌, ℕ, List, length, drop, Ok, IfOk, IfErr, OnErr};
 ghost use Rattle.eos_batch.specs.declared.batch.Batch.{Batch};
 ghost use Rattle.eos_batch.specs.Reading.{batch_at};
 ghost use Rattle.eos_batch.specs.Real.{IsReal};
@@ -25,7 +25,7 @@ pub struct SegmentText {
 /// The batch at `at` and how many bytes it takes, or why no batch stands there: the step of every walk along a segment.
 ///
 /// # Errors
-/// Only want of memory, which is never why no batch stands there.
+/// Only want of memory, where a batch stands there.
 pub fn next_batch(
     alloc: Global,
     bytes: &Bytes,
@@ -35,6 +35,7 @@ pub fn next_batch(
     ensures read { IfOk result (λ read. batch_at (drop at bytes.now) ≡ read) }
     ensures real { IfOk result (λ read. IfErr read IsReal) }
     ensures further { IfOk result (λ read. IfOk read (λ r. (1 ≤ r.1) × (at + r.1 ≤ length bytes.now))) }
+    ensures memory { OnErr result ((read : Batch × ℕ) × (batch_at (drop at bytes.now) ≡ Ok read)) }
 {
     are_bytes(bytes.as_slice());
     match decode_batch(alloc, bytes, at) {

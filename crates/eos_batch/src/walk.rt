@@ -1,17 +1,21 @@
 //! A batch but for its records: what a walk over a log reads of it first, and where its records stand.
 
-ghost use Rattle.std.specs.Prelude.{◌≡◌, ◌≤◌, ℕ, List, length, drop, false, Ok, Err, IfOk, IfErr, MatchResult};
+ghost use Rattle.std.specs.Prelude.{◌≡◌, ◌≤◌, ℕ, pos, List, [], ◌∷◌, length, drop, true, false, not, int_lt, int_le, if◌then◌else◌, Ok, Err, IfOk, IfErr, MatchResult};
 ghost use Rattle.eos_batch.specs.declared.record.Record.{Record};
 ghost use Rattle.eos_batch.specs.Attributes.{is_control};
 ghost use Rattle.eos_batch.specs.Places.{IsOpened, finished};
 ghost use Rattle.eos_batch.specs.Answers.{Fails};
+ghost use Rattle.eos_batch.specs.Real.{IsReal};
+ghost use Rattle.eos_batch.specs.steps.Reading.{Passes};
 ghost use Rattle.eos_batch.specs.Reading.{with_records, batch_at};
 
 use crate::batch::Batch;
 use crate::cursor::Cursor;
 use crate::decode::{FRAME, frame_of, head_of, sealed_of};
 use crate::fault::BatchFault;
-use crate::rules::has_right_producer;
+use crate::passing::pass_records;
+use crate::rules::{has_right_producer, is_control_content, is_end};
+use crate::view::{RecordRef, view_record};
 use bytes::Bytes;
 use eos_wire::are_bytes;
 use std::alloc::Global;
@@ -39,6 +43,7 @@ pub fn open_batch(alloc: Global, bytes: &Bytes, at: usize) -> Result<Opened, Bat
     requires { at ≤ length bytes.now }
     ensures opened { IfOk result (IsOpened bytes.now at) }
     ensures fault { IfErr result (λ e. Fails e (batch_at (drop at bytes.now))) }
+    ensures real { IfErr result IsReal }
 {
     are_bytes(bytes.as_slice());
     let _size = bytes.len();
@@ -75,4 +80,52 @@ pub fn test_data(batch: &Batch) -> Result<(), BatchFault>
         return Err(BatchFault::Producer);
     }
     Ok(())
+}
+
+/// What is asked of a producer, where the batch is an end marker or not.
+fn is_named(batch: &Batch, is_end: bool) -> bool
+    ensures { result ≡ (if int_lt batch.now.producer (pos 0) then not is_end else int_le (pos 0) batch.now.epoch) }
+{
+    if batch.producer >= 0 {
+        return batch.epoch >= 0;
+    }
+    !is_end
+}
+
+/// The tests of a control batch after its one record.
+fn test_control(batch: &Batch, only: &RecordRef) -> Result<(), BatchFault>
+    requires { is_control batch.now.attributes ≡ true }
+    ensures { MatchResult result
+        (λ _. (size : ℕ) → finished batch.now size (only.now ∷ []) ≡ Ok (with_records batch.now (only.now ∷ []), size))
+        (λ e. (size : ℕ) → finished batch.now size (only.now ∷ []) ≡ Err e) }
+{
+    let key = only.key();
+    let value = only.value();
+    if !is_control_content(key, value) {
+        return Err(BatchFault::Control);
+    }
+    let is_end = is_end(key, value);
+    if !is_named(batch, is_end) {
+        return Err(BatchFault::Producer);
+    }
+    Ok(())
+}
+
+/// The tests of an opened batch that are left: those of its records, and those after them. They take no memory.
+pub(crate) fn test_opened(bytes: &Bytes, at: usize, opened: &Opened) -> Result<(), BatchFault>
+    requires { IsOpened bytes.now at opened.now }
+    ensures passes { Passes result (batch_at (drop at bytes.now)) }
+    ensures real { IfErr result IsReal }
+{
+    are_bytes(bytes.as_slice());
+    pass_records(bytes, opened.begin, opened.end, opened.count)?;
+    if !opened.batch.is_control() {
+        test_data(&opened.batch)?;
+        return Ok(());
+    }
+    if opened.count != 1 {
+        return Err(BatchFault::Control);
+    }
+    let only = view_record(bytes, opened.begin);
+    test_control(&opened.batch, &only)
 }

@@ -1,5 +1,5 @@
 -- One batch, opened and then read to its end.
-use Rattle.std.proofs.Common.{◌≡◌, ℕ, zero, suc, ◌+◌, ◌-◌, ◌≤◌, ◌^◌, ℤ, pos, negsuc, ◌+ℤ◌, ◌≤ℤ◌, true, false, List, [], ◌∷◌, ◌++◌, length, take, drop, None, Result, Ok, Err, refl, sym, ap, ◌∙◌, arith}
+use Rattle.std.proofs.Common.{◌≡◌, ℕ, ◌+◌, ◌-◌, ◌≤◌, ◌^◌, ℤ, pos, negsuc, ◌+ℤ◌, ◌≤ℤ◌, true, false, List, [], ◌++◌, length, take, drop, None, Result, Ok, Err, refl, sym, ap, ◌∙◌, arith}
 use Rattle.std.proofs.lemmas.List.{append-nil, take_at, length-append}
 use Rattle.std.proofs.lemmas.Int.{ints}
 use Rattle.std.specs.Prelude.{unsigned_abs}
@@ -13,27 +13,14 @@ use Rattle.eos_batch.specs.Marker.{has_right_control}
 use Rattle.eos_batch.specs.Rules.{has_right_producer}
 use Rattle.eos_batch.specs.Answers.{Fails}
 use Rattle.eos_base.specs.Steps.{◌>>=◌}
-use Rattle.eos_batch.specs.Reading.{used_up, record_at, records_at, with_records, batch_at}
-use Rattle.eos_batch.specs.Places.{finished, IsOpened}
-use Rattle.eos_batch.proofs.ReadLoops.{fails_through}
-use Rattle.eos_batch.proofs.TextParts.{bind_ok, ok_is, must_ok, must_bind}
+use Rattle.eos_batch.specs.Reading.{with_records, batch_at}
+use Rattle.eos_batch.specs.Places.{finished, records_in, IsOpened}
+use Rattle.eos_batch.proofs.OpenedTests.{counted, is_fault}
+use Rattle.eos_batch.proofs.TextParts.{bind_ok, ok_is, must_bind}
 use Rattle.eos_items.specs.declared.entry.Entry.{Entry}
 use Rattle.eos_items.specs.declared.head.BatchHead.{BatchHead}
 use Rattle.eos_items.specs.Heads.{head_with, head_of}
-use Rattle.eos_items.specs.Indexed.{records_in, AreEntriesOf, IsIndexed}
-
-records_count : (n place : ℕ) (bytes : List ℕ) (x : List Record × List ℕ) → records_at n place bytes ≡ Ok x → length x.0 ≡ n
-unfolding records_at
-records_count zero place bytes x e = ap (λ (y : List Record × List ℕ). length y.0) (sym (ok_is ([], bytes) x e))
-records_count (suc n) place bytes x e =
-    let f = bind_ok (record_at place bytes) _ x e in
-    let o = bind_ok (records_at n (suc place) f.0.1) _ x f.2 in
-    ap (λ (y : List Record × List ℕ). length y.0) (sym (ok_is (f.0.0 ∷ o.0.0, o.0.1) x o.2)) ∙ ap suc (records_count n (suc place) f.0.1 o.0 o.1)
-
-counted : (bytes : List ℕ) (begin end count : ℕ) (rs : List Record) → records_in bytes begin end count ≡ Ok rs → length rs ≡ count
-counted bytes begin end count rs e =
-    let r = bind_ok (records_at count 0 _) (used_up faults.Trailing) rs e in
-    ap (λ (xs : List Record). length xs) (sym (must_ok _ faults.Trailing r.0.0 rs r.2).1) ∙ records_count count 0 _ r.0 r.1
+use Rattle.eos_items.specs.Indexed.{AreEntriesOf, IsIndexed}
 
 -- the head of an opened data batch is that of the batch
 data_head_is : (b : Batch) (rs : List Record) (count size : ℕ) → is_control b.attributes ≡ false → count ≡ length rs → head_with b count size None ≡ head_of (with_records b rs) size
@@ -108,25 +95,6 @@ indexed_control bytes at source before o head opened control h =
       inside = omega (arith, f.taken, opened.after, opened.within, opened.inside);
       few = omega arith;
     }
-
-is_fault : {A : Type 0} (e : BatchFault) (read : Result A BatchFault) → read ≡ Err e → Fails e read
-is_fault faults.Truncated read h = h
-is_fault faults.Length read h = h
-is_fault faults.Magic read h = h
-is_fault faults.Crc read h = h
-is_fault faults.Compressed read h = h
-is_fault faults.Count read h = h
-is_fault faults.Varint read h = h
-is_fault faults.Record read h = h
-is_fault faults.Delta read h = h
-is_fault faults.Trailing read h = h
-is_fault faults.Control read h = h
-is_fault faults.Producer read h = h
-is_fault faults.OutOfMemory read h = tt
-
-pub records_fail : (bytes : List ℕ) (at : ℕ) (o : Opened) (e : BatchFault) → IsOpened bytes at o → Fails e (records_in bytes o.begin o.end o.count) → Fails e (batch_at (drop at bytes))
-records_fail bytes at o e opened h =
-    fails_through e (records_in bytes o.begin o.end o.count) (batch_at (drop at bytes)) (λ f q. opened.goes_on ∙ ap (λ (r : Result (List Record) BatchFault). r >>= finished o.batch (o.end - at)) q) h
 
 pub tests_fail : (bytes : List ℕ) (at : ℕ) (o : Opened) (e : BatchFault) (rs : List Record) → IsOpened bytes at o → records_in bytes o.begin o.end o.count ≡ Ok rs → ((qs : List Record) (size : ℕ) → finished o.batch size qs ≡ Err e) → Fails e (batch_at (drop at bytes))
 tests_fail bytes at o e rs opened read wrong =

@@ -1,12 +1,10 @@
 -- A batch whose records' places were put at the end of a segment's entries.
-use Rattle.std.specs.Prelude.{◌≡◌, ◌≢◌, ℕ, ◌+◌, ◌≤◌, ◌^◌, List, [], ◌∷◌, ◌++◌, length, drop, slice_range, Result, Ok, if◌then◌else◌, ⊤}
+use Rattle.std.specs.Prelude.{◌≡◌, ◌≢◌, ℕ, ◌+◌, ◌≤◌, ◌^◌, List, [], ◌∷◌, ◌++◌, length, drop, Result, Ok, if◌then◌else◌, ⊤}
 use Rattle.eos_batch.specs.declared.fault.BatchFault.{BatchFault}
-use Rattle.eos_batch.specs.declared.fault.BatchFault.TheVariants as faults
 use Rattle.eos_batch.specs.declared.batch.Batch.{Batch}
 use Rattle.eos_batch.specs.declared.record.Record.{Record}
 use Rattle.eos_batch.specs.Attributes.{is_control}
-use Rattle.eos_base.specs.Steps.{◌>>=◌}
-use Rattle.eos_batch.specs.Reading.{used_up, records_at, batch_at}
+use Rattle.eos_batch.specs.Reading.{batch_at}
 use Rattle.eos_batch.specs.Places.{found_at}
 use Rattle.eos_items.specs.declared.entry.Entry.{Entry}
 use Rattle.eos_items.specs.declared.entry.Source.{Source}
@@ -15,10 +13,6 @@ use Rattle.eos_items.specs.Batches.{data_of}
 use Rattle.eos_items.specs.Heads.{head_of}
 use Rattle.eos_items.specs.Entries.{batches_in, IsSegmentIndex}
 use Rattle.eos_items.specs.Views.{SegmentView, LogView}
-
--- so many records, which take all bytes from one place to another
-abbrev pub records_in : List ℕ → ℕ → ℕ → ℕ → Result (List Record) BatchFault
-records_in bytes begin end count = records_at count 0 (slice_range bytes begin end) >>= used_up faults.Trailing
 
 -- the entry of this record, in the batch of this number
 pub record IsEntryOf (bytes : List ℕ) (source : ℕ) (e : Entry) (r : Record) : Type 0 where

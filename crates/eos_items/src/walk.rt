@@ -3,15 +3,17 @@
 ghost use Rattle.std.specs.Prelude.{◌≡◌, ◌≤◌, ◌<◌, ◌+◌, ◌^◌, length, drop, Ok, IfOk, IfErr, OnOk};
 ghost use Rattle.eos_batch.specs.declared.batch.Batch.{Batch};
 ghost use Rattle.eos_batch.specs.Answers.{Fails};
-ghost use Rattle.eos_batch.specs.steps.Reading.{Passes};
 ghost use Rattle.eos_batch.specs.Reading.{batch_at};
 ghost use Rattle.eos_items.specs.Heads.{head_with, head_of};
-ghost use Rattle.eos_items.specs.Indexed.{records_in, Pushed, HasGrown, IsIndexed};
+ghost use Rattle.eos_batch.specs.Places.{records_in};
+ghost use Rattle.eos_items.specs.Indexed.{Pushed, HasGrown, IsIndexed};
 
 use crate::entry::Entry;
 use crate::head::BatchHead;
 use bytes::Bytes;
-use eos_batch::{Batch, BatchFault, Marker, decode_batch, open_batch, pass_record, test_data};
+use eos_batch::{
+    Batch, BatchFault, Marker, decode_batch, open_batch, pass_record, pass_records, test_data,
+};
 use std::alloc::Global;
 
 /// Puts down where each of a batch's records stands. The records take the bytes from `begin` to `end`.
@@ -37,21 +39,6 @@ fn push_entries(
             source,
         })?;
         from = next;
-    }
-    if from != end {
-        return Err(BatchFault::Trailing);
-    }
-    Ok(())
-}
-
-/// Reads over a batch's records, which take the bytes from `begin` to `end`.
-fn pass_records(bytes: &Bytes, begin: usize, end: usize, count: u32) -> Result<(), BatchFault>
-    requires { (begin ≤ end) × (end ≤ length bytes.now) }
-    ensures { Passes result (records_in bytes.now begin end count) }
-{
-    let mut from = begin;
-    for place in 0..count {
-        from = pass_record(bytes, from, end, place)?;
     }
     if from != end {
         return Err(BatchFault::Trailing);

@@ -16,4 +16,4 @@ returns-clause-found c =
     let fits : IsBytes c.args.bytes.now = subst IsBytes c.as_slice.ensures c.are_bytes.ensures in
     let read : bytes_at (slice_range c.args.bytes.now c.args.from c.args.end) ≡ Ok (c.in_ok-text.text, c.bytes.new.self) = rw c.between-rest.ensures at c.in_ok-text.ensures.gives in
     let p = passed c.args.bytes.now c.args.from c.args.end c.in_ok-text.text c.bytes.new.self fits c.requires.inside c.requires.end read in
-    is_at c.args.bytes.now c.args.place c.args.from c.args.end _ c.in_ok-text.text c.bytes.new.self c.in_ok-pass_placed.ensures.0 p (ap (λ (n : ℕ). c.args.end - n) c.len.ensures.value) read c.in_ok-pass_placed.ensures.1
+    is_at c.args.bytes.now c.args.place c.args.from c.args.end _ c.in_ok-text.text c.bytes.new.self c.in_ok-pass_placed.ensures.passes.0 p (ap (λ (n : ℕ). c.args.end - n) c.len.ensures.value) read c.in_ok-pass_placed.ensures.passes.1

@@ -1,6 +1,7 @@
 use Rattle.std.proofs.Common.{◌≡◌, ◌∙◌, length, sym, rules}
 use Rattle.std.proofs.lemmas.Result.{IfOk-weaker}
-use Rattle.eos_items.proofs.IndexedBatches.{indexed_data, indexed_control, records_fail, tests_fail, taken_back}
+use Rattle.eos_batch.proofs.OpenedTests.{records_fail}
+use Rattle.eos_items.proofs.IndexedBatches.{indexed_data, indexed_control, tests_fail, taken_back}
 use Rattle.eos_items.proofs.walk.index_batch.Goals as goal
 
 pub returns-then-is_control-clause-ok : goal.returns-then-is_control-clause-ok

@@ -6,7 +6,8 @@ use Rattle.eos_batch.proofs.ReadLoops.{record_goes_on, record_ends, records_done
 use Rattle.eos_batch.proofs.RecordPlaces.{with_none}
 use Rattle.eos_items.specs.declared.entry.Entry.{Entry}
 use Rattle.eos_items.specs.Indexed.{IsEntryOf}
-use Rattle.eos_items.proofs.PushedEntries.{one_more, fails_records, trails, ends}
+use Rattle.eos_batch.proofs.PassedRecords.{fails_records, trails, ends}
+use Rattle.eos_items.proofs.PushedEntries.{one_more}
 use Rattle.eos_items.proofs.walk.push_entries.Goals as goal
 
 pub loop-place-init : goal.loop-place-init

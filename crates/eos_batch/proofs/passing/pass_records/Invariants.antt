@@ -2,7 +2,7 @@ use Rattle.std.proofs.Common.{◌≡◌, ◌≤◌, ◌-◌, List, slice_range}
 use Rattle.eos_batch.specs.declared.record.Record.{Record}
 use Rattle.eos_batch.specs.Reading.{records_at}
 use Rattle.eos_batch.proofs.ReadLoops.{with_front}
-use Rattle.eos_items.proofs.walk.pass_records.Given as goal
+use Rattle.eos_batch.proofs.passing.pass_records.Given as goal
 
 abbrev pub invariant-loop-place : goal.invariant-loop-place
 invariant-loop-place l = record {

@@ -3,8 +3,8 @@ use Rattle.std.proofs.lemmas.Result.{err_from_is_err_and}
 use Rattle.eos_batch.specs.Reading.{records_at}
 use Rattle.eos_batch.proofs.ReadLoops.{record_goes_on, record_ends, records_done}
 use Rattle.eos_batch.proofs.RecordPlaces.{with_none}
-use Rattle.eos_items.proofs.PushedEntries.{fails_records, trails, ends}
-use Rattle.eos_items.proofs.walk.pass_records.Goals as goal
+use Rattle.eos_batch.proofs.PassedRecords.{fails_records, trails, ends}
+use Rattle.eos_batch.proofs.passing.pass_records.Goals as goal
 
 pub loop-place-init : goal.loop-place-init
 loop-place-init c =
@@ -25,23 +25,23 @@ loop-place-preserved c =
       );
     }
 
-pub returns-in_err-from : goal.returns-in_err-from
-returns-in_err-from c =
+pub returns-in_err-from-clause-passes : goal.returns-in_err-from-clause-passes
+returns-in_err-from-clause-passes c =
     let p = err_from_is_err_and c.from_residual.result c.from_residual.ensures.1 in
     let w = c.loop-place.invariant.walked in
     let total = records_at c.args.count 0 (slice_range c.args.bytes.now c.args.begin c.args.end) in
     rw (p.1, p.2) (fails_records c.args.bytes.now c.args.begin c.args.end c.args.count c.in_err-from.field-0.0
     (record_ends c.in_err-from.field-0.0 w.0 c.args.count c.loop-place.place (slice_range c.args.bytes.now c.loop-place.from c.args.end) total c.loop-place-test.true c.in_err-from.ensures.fault w.1))
 
-pub returns-then-from-end : goal.returns-then-from-end
-returns-then-from-end c =
+pub returns-then-from-end-clause-passes : goal.returns-then-from-end-clause-passes
+returns-then-from-end-clause-passes c =
     let w = c.loop-place.invariant.walked in
     let total = records_at c.args.count 0 (slice_range c.args.bytes.now c.args.begin c.args.end) in
     trails c.args.bytes.now c.args.begin c.args.end c.args.count c.loop-place.from w.0 c.loop-place.invariant.within c.requires.1 c.if-from-end.true
     (records_done w.0 c.args.count c.loop-place.place (slice_range c.args.bytes.now c.loop-place.from c.args.end) total c.loop-place-test.false w.1)
 
-pub returns : goal.returns
-returns c =
+pub returns-clause-passes : goal.returns-clause-passes
+returns-clause-passes c =
     let w = c.loop-place.invariant.walked in
     let total = records_at c.args.count 0 (slice_range c.args.bytes.now c.args.begin c.args.end) in (
       w.0,
