@@ -11,16 +11,19 @@ use Rattle.eos_machine.specs.declared.state.Session.{Session}
 use Rattle.eos_machine.specs.declared.event.Event.{Event}
 use Rattle.eos_machine.specs.declared.event.Reply.{Reply}
 use Rattle.eos_machine.specs.declared.event.Reply.TheVariants.{Done, Fenced, OutOfOrder, DuplicateKept, WrongState, Busy, StaleGeneration, EpochsSpent, Unknown, OutOfMemory, Full}
-use Rattle.eos_machine.specs.Places.{IsConfig}
-use Rattle.eos_machine.specs.World.{World, opening, coord_at}
+use Rattle.eos_machine.specs.Places.{IsConfig, txn_place}
+use Rattle.eos_machine.specs.World.{World, opening, coord_at, log_at}
 use Rattle.eos_machine.specs.Answers.{Answer, when}
 use Rattle.eos_machine.specs.Machine.{happens, counted, step, run}
 use Rattle.eos_machine.specs.Bounds.{Bounded, IsSafe}
 use Rattle.eos_machine.proofs.Good.{Good, IsDue}
 use Rattle.eos_machine.proofs.GoodEvents.{good_run}
-use Rattle.eos_machine.proofs.Resting.{good_opening}
+use Rattle.eos_machine.specs.Rest.{IsAtRest, KeepsSequences, StepsFit, AllAtomic, NeighboursFit}
+use Rattle.eos_machine.proofs.Resting.{good_opening, rest_is_atomic}
+use Rattle.eos_machine.proofs.TouchRules.{keeps_sequences, neighbours_fit}
+use Rattle.eos_machine.proofs.StepRules.{all_steps}
 use Rattle.eos_machine.proofs.BoundedEvents.{bounded_run, bounded_opening, epoch_top}
-use Rattle.eos_machine.proofs.Counting.{counted_run, counted_opening}
+use Rattle.eos_machine.proofs.Counting.{IsCounted, counted_run, counted_opening}
 use Rattle.eos_cluster.specs.Courses.{Course, IsTaken, IsStep, IsReached}
 use Rattle.eos_cluster.specs.Named.{Names, IsNamed, IsSmall}
 use Rattle.eos_cluster.specs.Held.{Held, becomes}
@@ -36,6 +39,20 @@ is_bounded c w r = subst (λ (v : World). Bounded v.events v) (sym r.run) (bound
 
 pub few_events : (c : Config) (w : World) → IsReached c w → w.events ≤ 2 ^ 31
 few_events c w r = subst (λ (v : World). v.events ≤ 2 ^ 31) (sym r.run) (counted_run c (opening c) r.taken (counted_opening c)).limit
+
+-- ---- the theorem on every schedule
+
+pub keeps_sequences_there : (c : Config) (w : World) → IsConfig c → IsReached c w → KeepsSequences c w
+keeps_sequences_there c w i r = keeps_sequences c w (is_good c w i r) (subst IsCounted (sym r.run) (counted_run c (opening c) r.taken (counted_opening c)))
+
+pub steps_fit_there : (c : Config) (w : World) → IsConfig c → IsReached c w → StepsFit c w
+steps_fit_there c w i r = λ a. all_steps c a (log_at w (txn_place c a)) ((is_good c w i r).steps a)
+
+pub atomic_there : (c : Config) (w : World) → IsConfig c → IsReached c w → IsAtRest w → AllAtomic c w
+atomic_there c w i r h = rest_is_atomic c w (is_good c w i r) h
+
+pub neighbours_fit_there : (c : Config) (w : World) → IsConfig c → IsReached c w → IsAtRest w → NeighboursFit c w
+neighbours_fit_there c w i r h = neighbours_fit c w (keeps_sequences_there c w i r) (atomic_there c w i r h)
 
 -- ---- what an event needs
 

@@ -3,12 +3,16 @@
 ghost use Rattle.std.specs.Prelude.{◌≡◌, ◌↔◌, ◌≤◌, true, Err, IfOk};
 ghost use Rattle.eos_machine.specs.Places.{IsConfig};
 ghost use Rattle.eos_machine.specs.World.{opening};
-ghost use Rattle.eos_machine.specs.Rest.{IsAtRest};
+ghost use Rattle.eos_machine.specs.Rest.{IsAtRest, KeepsSequences, StepsFit, AllAtomic, NeighboursFit};
 ghost use Rattle.eos_cluster.specs.declared.cluster.NewFault.{NewFault};
 ghost use Rattle.eos_cluster.specs.Names.{new_fault_name};
+ghost use Rattle.eos_cluster.specs.declared.evidence.EvidenceRefusal.{EvidenceRefusal};
+ghost use Rattle.eos_cluster.specs.Evidences.{IsEvidenceOf, HasRoomForAll};
 ghost use Rattle.eos_cluster.specs.Courses.{IsStep};
 
+use crate::evidence::EvidenceRefusal;
 use crate::store::Store;
+use eos_evidence::Evidence;
 use eos_machine::{Config, Event, Reply};
 use std::alloc::Global;
 use std::marker::Model;
@@ -124,10 +128,35 @@ impl Cluster {
         self.store.config()
     }
 
-    /// Whether no transaction is open or still ending.
+    /// Whether no transaction is open or still ending. Whatever events the cluster has taken: no fault of a sequence or of an
+    /// epoch stands at any batch of its logs, and each record of its transaction log may follow the one before it. At rest,
+    /// the batches, the markers and the decisions of each application fit together.
     pub fn at_rest(&self) -> bool
-        ensures { result ≡ true ↔ IsAtRest self.now.world }
+        ensures rest { result ≡ true ↔ IsAtRest self.now.world }
+        ensures sequences { KeepsSequences self.now.config self.now.world }
+        ensures steps { StepsFit self.now.config self.now.world }
+        ensures atomic { IsAtRest self.now.world → AllAtomic self.now.config self.now.world }
+        ensures neighbours { IsAtRest self.now.world → NeighboursFit self.now.config self.now.world }
     {
         self.store.at_rest()
+    }
+
+    /// The logs of a cluster at rest as evidence: in segments of the configured number of records, the last of a partition
+    /// with as many as are left, with true ends; the group is `g`, which reads `in` and writes `out`.
+    ///
+    /// # Errors
+    /// `NotAtRest` where a transaction is open or still ending; `OutOfMemory` where a growth was refused.
+    pub fn evidence(&self) -> Result<Evidence, EvidenceRefusal>
+        requires { HasRoomForAll self.now.config self.now.world }
+        ensures ok { IfOk result (IsEvidenceOf self.now.config self.now.world) }
+        ensures rest { result ≡ Err EvidenceRefusal.NotAtRest ↔ (IsAtRest self.now.world → ⊥) }
+    {
+        if !self.store.at_rest() {
+            return Err(EvidenceRefusal::NotAtRest);
+        }
+        match self.store.evidence() {
+            Ok(evidence) => Ok(evidence),
+            Err(_) => Err(EvidenceRefusal::OutOfMemory),
+        }
     }
 }

@@ -3,16 +3,22 @@
 #![tactic(auto)]
 
 mod answers;
+mod batches;
 mod cluster;
 mod copies;
 mod deliver;
 mod ends;
+mod evidence;
 mod fetch;
 mod happen;
 mod places;
 mod restart;
+mod segments;
 mod sessions;
 mod starts;
 mod store;
+mod values;
+mod writer;
 
 pub use cluster::{Cluster, MAX_EVENTS, NewFault};
+pub use evidence::EvidenceRefusal;

@@ -1,7 +1,7 @@
 //! The places of partitions in a cluster's list of logs.
 
 ghost use Rattle.std.specs.Prelude.{◌≡◌, ◌==◌, ◌&&◌, ◌||◌, ◌<◌, nat_lt};
-ghost use Rattle.eos_machine.specs.Places.{IsConfig, txn_place, input_place, output_place, is_partition, is_topic, offsets_topic, transactions_topic, input_topic, output_topic};
+ghost use Rattle.eos_machine.specs.Places.{IsConfig, txn_place, input_place, output_place, is_partition, is_topic, topic_of, number_of, place_count, offsets_topic, transactions_topic, input_topic, output_topic};
 
 use bytes::Bytes;
 use eos_machine::Config;
@@ -67,4 +67,52 @@ pub(crate) fn is_partition(config: Config, topic: &Bytes, number: usize) -> bool
         || (is_transactions_partition(config, topic, number)
             || (is_input_partition(config, topic, number)
                 || is_output_partition(config, topic, number)))
+}
+
+/// The topic of the partition at a place.
+pub(crate) fn topic_of(config: Config, place: usize) -> Bytes
+    requires { IsConfig config }
+    ensures { result ≡ topic_of config place }
+{
+    if place == OFFSETS_PLACE {
+        Bytes::from_static(b"__consumer_offsets".as_slice())
+    } else if place <= config.transaction_logs {
+        Bytes::from_static(b"__transaction_state".as_slice())
+    } else if place < output_start(config) {
+        Bytes::from_static(b"in".as_slice())
+    } else {
+        Bytes::from_static(b"out".as_slice())
+    }
+}
+
+/// The place of the first partition of `out`.
+fn output_start(config: Config) -> usize
+    requires { IsConfig config }
+    ensures { result ≡ output_place config 0 }
+{
+    1 + config.transaction_logs + config.inputs
+}
+
+/// The number of the partition at a place in its topic.
+pub(crate) fn number_of(config: Config, place: usize) -> usize
+    requires { IsConfig config }
+    ensures { result ≡ number_of config place }
+{
+    if place == OFFSETS_PLACE {
+        0
+    } else if place <= config.transaction_logs {
+        place - 1
+    } else if place < output_start(config) {
+        place - 1 - config.transaction_logs
+    } else {
+        place - output_start(config)
+    }
+}
+
+/// How many partitions there are.
+pub(crate) fn place_count(config: Config) -> usize
+    requires { IsConfig config }
+    ensures { result ≡ place_count config }
+{
+    output_start(config) + config.outputs
 }

@@ -1,0 +1,43 @@
+-- Segments added one after the other.
+use Rattle.std.proofs.Common.{◌≡◌, ◌++◌, ◌∷◌, [], ℕ, ◌+◌, ◌-◌, ◌<◌, suc, List, map, Result, Ok, Err, ◌∙◌, sym, ap, subst, arith, refl}
+use Rattle.std.specs.List.{flat_map, range_with_len}
+use Rattle.eos_base.specs.Steps.{◌>>=◌}
+use Rattle.eos_evidence.specs.declared.segment.Segment.{Segment}
+use Rattle.eos_evidence.specs.declared.fault.AddFault.{AddFault}
+use Rattle.eos_evidence.specs.Evidence.{EvidenceParts, added}
+use Rattle.eos_machine.specs.declared.config.Config.{Config}
+use Rattle.eos_machine.specs.declared.item.Item.{Item}
+use Rattle.eos_machine.specs.Places.{place_count}
+use Rattle.eos_machine.specs.World.{World, log_at}
+use Rattle.eos_cluster.specs.Evidences.{log_segments, adding}
+
+-- the numbers from i on begin with i
+range_step : (i n : ℕ) → i < n → range_with_len i (n - i) ≡ i ∷ range_with_len (i + 1) (n - (i + 1))
+range_step i n l = let e : n - i ≡ suc (n - (i + 1)) = omega (arith, l) in ap (range_with_len i) e
+
+adding_both : (e : EvidenceParts) (xs ys : List Segment) → adding e (xs ++ ys) ≡ (adding e xs >>= λ f. adding f ys)
+adding_both e [] ys = refl
+adding_both e (x ∷ xs) ys = at (added e x) (λ f. adding_both f xs ys)
+  where
+    at : (r : Result EvidenceParts AddFault) → ((f : EvidenceParts) → adding f (xs ++ ys) ≡ (adding f xs >>= λ g. adding g ys)) → (r >>= λ f. adding f (xs ++ ys)) ≡ ((r >>= λ f. adding f xs) >>= λ f. adding f ys)
+    at (Ok f) h = h f
+    at (Err e) h = refl
+
+-- what is left to add of the segments of a log
+pub one_added : (f : ℕ → Segment) (e g : EvidenceParts) (all : Result EvidenceParts AddFault) (s : Segment) (i n : ℕ) → i < n → all ≡ adding e (map f (range_with_len i (n - i))) → s ≡ f i → added e s ≡ Ok g
+    → all ≡ adding g (map f (range_with_len (i + 1) (n - (i + 1))))
+one_added f e g all s i n l h is a =
+    h ∙ (ap (λ ks. adding e (map f ks)) (range_step i n l) ∙ ap (λ r. r >>= λ k. adding k (map f (range_with_len (i + 1) (n - (i + 1))))) (ap (added e) (sym is) ∙ a))
+
+-- and of the segments of all logs
+log_added : (f : ℕ → List Segment) (e g : EvidenceParts) (all : Result EvidenceParts AddFault) (i n : ℕ) → i < n → all ≡ adding e (flat_map f (range_with_len i (n - i))) → adding e (f i) ≡ Ok g
+    → all ≡ adding g (flat_map f (range_with_len (i + 1) (n - (i + 1))))
+log_added f e g all i n l h a =
+    h ∙ (ap (λ ks. adding e (flat_map f ks)) (range_step i n l) ∙ (adding_both e (f i) (flat_map f (range_with_len (i + 1) (n - (i + 1)))) ∙ ap (λ r. r >>= λ k. adding k (flat_map f (range_with_len (i + 1) (n - (i + 1))))) a))
+
+pub logs_step : (c d : Config) (w : World) (e g : EvidenceParts) (all : Result EvidenceParts AddFault) (p : ℕ) (log : List Item) → c ≡ d → log ≡ log_at w p → p < place_count c
+    → all ≡ adding e (flat_map (λ q. log_segments d q (log_at w q)) (range_with_len p (place_count d - p))) → adding e (log_segments c p log) ≡ Ok g
+    → all ≡ adding g (flat_map (λ q. log_segments d q (log_at w q)) (range_with_len (p + 1) (place_count d - (p + 1))))
+logs_step c d w e g all p log m is l h a =
+    log_added (λ q. log_segments d q (log_at w q)) e g all p (place_count d) (subst (λ k. p < place_count k) m l) h
+    (subst (λ k. adding e (log_segments k p (log_at w p)) ≡ Ok g) m (subst (λ xs. adding e (log_segments c p xs) ≡ Ok g) is a))

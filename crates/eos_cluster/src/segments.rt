@@ -1,0 +1,150 @@
+//! The logs of a cluster, cut into segments.
+
+ghost use Rattle.std.specs.Prelude.{◌≡◌, ◌+◌, ◌≤◌, ◌<◌, ◌^◌, Ok, length, take, drop, map, IfOk, OnOk};
+ghost use Rattle.std.specs.List.{flat_map, range_with_len};
+ghost use Rattle.eos_machine.specs.Places.{IsConfig, place_count};
+ghost use Rattle.eos_evidence.specs.Evidence.{added};
+ghost use Rattle.eos_machine.specs.World.{log_at};
+ghost use Rattle.eos_cluster.specs.Evidences.{application, end_of, segment_count, segment_at, log_segments, cluster_segments, adding};
+
+use crate::batches::items_text;
+use crate::places::{number_of, place_count, topic_of};
+use crate::store::Store;
+use crate::values;
+use crate::writer::{as_i32, as_i64};
+use bytes::Bytes;
+use eos_base::Listed;
+use eos_evidence::{App, End, EvidenceBuilder, GroupId, Segment};
+use eos_machine::{Config, Item};
+use std::alloc::{AllocError, Global};
+
+/// How many segments so many records take.
+fn segment_count(config: Config, records: usize) -> usize
+    requires config { IsConfig config }
+    requires records { records < 2 ^ 63 }
+    ensures { result ≡ segment_count config records }
+{
+    (records + (config.segment_records - 1)) / config.segment_records
+}
+
+/// So many items from a place on, or those that there are.
+fn part(items: &[Item], from: usize, count: usize) -> &[Item]
+    ensures { result.now ≡ take count (drop from items.now) }
+{
+    if from >= items.len() {
+        return &[];
+    }
+    let rest = &items[from..];
+    if count < rest.len() {
+        &rest[..count]
+    } else {
+        rest
+    }
+}
+
+/// The i-th segment of the log at a place.
+fn segment_at(
+    alloc: Global,
+    config: Config,
+    place: usize,
+    log: &[Item],
+    i: usize,
+) -> Result<Segment, AllocError>
+    requires { IsConfig config }
+    ensures { IfOk result (λ s. s ≡ segment_at config place log.now i) }
+{
+    let Some(base) = i.checked_mul(config.segment_records) else {
+        return Err(AllocError);
+    };
+    let items = part(log, base, config.segment_records);
+    if items.len() > usize::MAX - base {
+        return Err(AllocError);
+    }
+    let bytes = items_text(alloc, config, base, items)?;
+    Ok(Segment {
+        topic: topic_of(config, place),
+        partition: as_i32(number_of(config, place))?,
+        base: as_i64(base as u64)?,
+        bytes,
+    })
+}
+
+/// Adds a segment.
+fn add(builder: &mut EvidenceBuilder, segment: Segment) -> Result<(), AllocError>
+    ensures { OnOk result (added builder.old segment ≡ Ok builder.new) }
+{
+    match builder.add(segment) {
+        Ok(()) => Ok(()),
+        Err(_) => Err(AllocError),
+    }
+}
+
+/// Adds the segments of the log at a place.
+fn add_log(
+    alloc: Global,
+    builder: &mut EvidenceBuilder,
+    config: Config,
+    place: usize,
+    log: &[Item],
+) -> Result<(), AllocError>
+    requires { IsConfig config }
+    ensures { OnOk result (adding builder.old (log_segments config place log.now) ≡ Ok builder.new) }
+{
+    let count = segment_count(config, log.len());
+    for i in 0..count {
+        let segment = segment_at(alloc, config, place, log, i)?;
+        add(builder, segment)?;
+    }
+    Ok(())
+}
+
+/// The one group, which reads `in` and writes `out`.
+pub(crate) fn application(alloc: Global) -> Result<App, AllocError>
+    ensures { IfOk result (λ a. a ≡ application) }
+{
+    let mut sources = Vec::new(alloc);
+    sources.push(values::input_topic())?;
+    let mut outputs = Vec::new(alloc);
+    outputs.push(Bytes::from_static(b"out".as_slice()))?;
+    Ok(App {
+        group: GroupId::new(String::from_str(alloc, "g")?),
+        sources: Listed::new(sources),
+        outputs: Listed::new(outputs),
+    })
+}
+
+impl Store {
+    /// The end of the partition at a place.
+    fn end_of(&self, place: usize) -> Result<End, AllocError>
+        ensures { IfOk result (λ e. e ≡ end_of self.now.config self.now.world place) }
+    {
+        let config = self.config();
+        Ok(End {
+            topic: topic_of(config, place),
+            partition: as_i32(number_of(config, place))?,
+            end: as_i64(self.log(place).len() as u64)?,
+        })
+    }
+
+    /// The ends of all partitions.
+    pub(crate) fn ends(&self) -> Result<Vec<End>, AllocError>
+        ensures { IfOk result (λ es. es.items ≡ map (end_of self.now.config self.now.world) (range_with_len 0 (place_count self.now.config))) }
+    {
+        let mut ends = Vec::new(self.alloc());
+        for place in 0..place_count(self.config()) {
+            ends.push(self.end_of(place)?)?;
+        }
+        Ok(ends)
+    }
+
+    /// Adds the segments of all logs.
+    pub(crate) fn add_logs(&self, builder: &mut EvidenceBuilder) -> Result<(), AllocError>
+        ensures { OnOk result (adding builder.old (cluster_segments self.now.config self.now.world) ≡ Ok builder.new) }
+    {
+        let config = self.config();
+        for place in 0..place_count(config) {
+            add_log(self.alloc(), builder, config, place, self.log(place))?;
+        }
+        Ok(())
+    }
+}
