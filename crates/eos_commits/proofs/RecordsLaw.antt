@@ -19,7 +19,7 @@ use Rattle.eos_commits.specs.Commits.{Group, offsets_parts, value_of, IsUnderGro
 use Rattle.eos_commits.specs.Kept.{OutputsClaim, RecordsKept}
 use Rattle.eos_commits.specs.Faults.{AtRecord, StandsAs, Stands}
 
-int_order : (a b : ℤ) → (a ≡ b) ⊎ ((a <ℤ b) ⊎ (b <ℤ a))
+pub int_order : (a b : ℤ) → (a ≡ b) ⊎ ((a <ℤ b) ⊎ (b <ℤ a))
 int_order a b = go (int_cmp a b) (int_ranked a b (int_cmp a b) refl)
   where
     go : (o : Ordering) → MatchOrdering o (a <ℤ b) (a ≡ b) (b <ℤ a) → (a ≡ b) ⊎ ((a <ℤ b) ⊎ (b <ℤ a))

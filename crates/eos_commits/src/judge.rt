@@ -193,3 +193,20 @@ fn first_fault(
     }
     Ok(None)
 }
+
+/// The least fault of the visible records of these partitions, for these applications: by partition, offset and kind.
+/// Partitions that don't stand by their names have an answer too, of which nothing is said.
+///
+/// # Errors
+/// Only want of memory.
+pub fn least_visible_fault(
+    alloc: Global,
+    apps: &[App],
+    parts: &[Part],
+) -> Result<Option<VisibleFault>, AllocError>
+    ensures { AreInOrder parts.now → IfOk result (IsLeastOrNone visible_cmp (Stands apps.now parts.now)) }
+{
+    let roles = Roles::of(alloc, apps)?;
+    let fault = first_fault(alloc, &roles, parts)?;
+    Ok(fault)
+}

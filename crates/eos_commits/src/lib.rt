@@ -15,5 +15,6 @@ mod visible;
 
 pub use commits::{CommitRef, commits_of, committed, last_committed};
 pub use fault::{VisibleFault, VisibleFaultKind};
+pub use judge::least_visible_fault;
 pub use roles::TopicSet;
 pub use visible::is_visible;
