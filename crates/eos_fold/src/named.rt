@@ -59,65 +59,35 @@ impl Named {
     ///
     /// # Errors
     /// Both runs, where memory is refused.
-    pub fn merge(alloc: Global, before: Named, after: Named) -> Result<Named, (Named, Named)>
+    pub fn merge(
+        alloc: Global,
+        mut before: Named,
+        mut after: Named,
+    ) -> Result<Named, (Named, Named)>
         requires { Follows before after }
         ensures first { IfOk result (λ n. n.first ≡ before.first) }
         ensures last { IfOk result (λ n. n.last ≡ after.last) }
         ensures segments { IfOk result (λ n. n.segments ≡ before.segments ++ after.segments) }
         ensures err { IfErr result (λ back. (back.0 ≡ before) × (back.1 ≡ after)) }
     {
-        let Named {
-            first,
-            last,
-            mut segments,
-            summary,
-        } = before;
-        let Named {
-            first: first_after,
-            last: last_after,
-            segments: mut segments_after,
-            summary: summary_after,
-        } = after;
-        if segments.reserve(segments_after.len()).is_err() {
-            let before = Named {
-                first,
-                last,
-                segments,
-                summary,
-            };
-            let after = Named {
-                first: first_after,
-                last: last_after,
-                segments: segments_after,
-                summary: summary_after,
-            };
+        if before.segments.reserve(after.segments.len()).is_err() {
             return Err((before, after));
         }
-        match Summary::join(alloc, summary, summary_after) {
+        match Summary::join(alloc, before.summary, after.summary) {
             Ok(summary) => {
-                let Ok(()) = segments.append(&mut segments_after) else {
+                let Ok(()) = before.segments.append(&mut after.segments) else {
                     unreachable!()
                 };
                 Ok(Named {
-                    first,
-                    last: last_after,
-                    segments,
+                    first: before.first,
+                    last: after.last,
+                    segments: before.segments,
                     summary,
                 })
             }
             Err((summary, summary_after)) => {
-                let before = Named {
-                    first,
-                    last,
-                    segments,
-                    summary,
-                };
-                let after = Named {
-                    first: first_after,
-                    last: last_after,
-                    segments: segments_after,
-                    summary: summary_after,
-                };
+                before.summary = summary;
+                after.summary = summary_after;
                 Err((before, after))
             }
         }

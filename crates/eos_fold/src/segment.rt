@@ -15,12 +15,11 @@ ghost use Rattle.eos_fold.specs.Walks.{HasPassed};
 use crate::fault::{PartitionFault, PartitionFaultKind};
 use crate::walk::{Walk, unnamed};
 use bytes::Bytes;
+pub use counts::Chain;
 use eos_batch::BatchFault;
 use eos_items::read_head;
 use eos_wire::are_bytes;
 use std::alloc::{AllocError, Global};
-
-pub use counts::Chain;
 
 /// A module of its own, since the names `Chain` and `chain` differ in case alone.
 mod counts {

@@ -137,7 +137,7 @@ pub(crate) fn of_segment(alloc: Global, segment: &Segment) -> Result<Summary, Al
 /// Joins two summaries of which the second begins where the first ends.
 fn join_next(
     alloc: Global,
-    before: Summary,
+    mut before: Summary,
     mut after: Summary,
 ) -> Result<Summary, (Summary, Summary)>
     requires before { IsSummed before }
@@ -147,51 +147,25 @@ fn join_next(
     ensures ok { (xs ys : List Segment) → IsSummaryOf xs before → IsSummaryOf ys after → OneTopic xs ys → IfOk result (IsSummaryOf (xs ++ ys)) }
     ensures err { IfErr result (λ back. SameSum before back.0 × SameSum after back.1) }
 {
-    let Summary {
-        begin,
-        next,
-        stop,
-        mut markers,
-        run,
-    } = before;
-    if markers.reserve(after.markers.len()).is_err() {
-        let before = Summary {
-            begin,
-            next,
-            stop,
-            markers,
-            run,
-        };
+    if before.markers.reserve(after.markers.len()).is_err() {
         return Err((before, after));
     }
-    match BatchSummary::join(alloc, run, after.run) {
+    match BatchSummary::join(alloc, before.run, after.run) {
         Ok(run) => {
-            let Ok(()) = markers.append(&mut after.markers) else {
+            let Ok(()) = before.markers.append(&mut after.markers) else {
                 unreachable!()
             };
             Ok(Summary {
-                begin,
+                begin: before.begin,
                 next: after.next,
                 stop: after.stop,
-                markers,
+                markers: before.markers,
                 run,
             })
         }
         Err((run, run_after)) => {
-            let before = Summary {
-                begin,
-                next,
-                stop,
-                markers,
-                run,
-            };
-            let after = Summary {
-                begin: after.begin,
-                next: after.next,
-                stop: after.stop,
-                markers: after.markers,
-                run: run_after,
-            };
+            before.run = run;
+            after.run = run_after;
             Err((before, after))
         }
     }
