@@ -1,4 +1,2 @@
-pub mod Appended
-pub mod Fronts
 pub mod Listings
 pub mod Runs

@@ -9,8 +9,8 @@ use Rattle.eos_batch.specs.declared.batch.Batch.{Batch}
 use Rattle.eos_batch.specs.declared.fault.BatchFault.{BatchFault}
 use Rattle.eos_batch.specs.Text.{IsBatchText}
 use Rattle.eos_batch.specs.Reading.{batch_at}
-use Rattle.eoscheck.specs.Adding.{Adds}
-use Rattle.eoscheck.specs.Writing.{Writes, WritesFront, WritesFrontOf}
+use Rattle.eos_text.specs.Adding.{Adds}
+use Rattle.eos_text.specs.Writing.{Writes, WritesFront, WritesFrontOf}
 use Rattle.eoscheck.specs.steps.Holding.{HasListed, Passes}
 use Rattle.eoscheck.specs.Listing.{Lists, IsListingFrom, IsListing, StopsHere, batch_lines, last_line, status_of}
 

@@ -2,7 +2,7 @@
 use Rattle.std.proofs.Common.{◌≡◌, ℕ, List, Option, Err, inl, arith}
 use Rattle.std.proofs.KnownBytes.{Keeps-refl}
 use Rattle.eoscheck.specs.Running.{Ran, ReadsSegment}
-use Rattle.eoscheck.specs.Writing.{WritesFrontOf}
+use Rattle.eos_text.specs.Writing.{WritesFrontOf}
 use Rattle.eoscheck.specs.declared.fault.RunFault.{RunFault}
 use Rattle.eoscheck.specs.declared.fault.RunFault.TheVariants as faults
 

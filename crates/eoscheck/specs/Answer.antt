@@ -1,25 +1,15 @@
 -- What `chain` prints for the bytes of a segment: that the chain is kept, with two counts, or the least fault.
 use Rattle.std.specs.Prelude.{◌≡◌, ℕ, List, ◌++◌, codes, ◌⊎◌}
-use Rattle.std.specs.Fmt.{decimal, signed_decimal}
-use Rattle.eos_batch.specs.Names as batch_names
+use Rattle.std.specs.Fmt.{decimal}
 use Rattle.eos_fold.specs.declared.segment.counts.Chain.{Chain}
 use Rattle.eos_fold.specs.declared.fault.PartitionFault.{PartitionFault}
-use Rattle.eos_fold.specs.declared.fault.PartitionFaultKind.{PartitionFaultKind}
-use Rattle.eos_fold.specs.declared.fault.PartitionFaultKind.TheVariants.{BadBatch, Gap, Pair, End, OpenAtEnd}
 use Rattle.eos_fold.specs.Names.{number_of, name_of}
 use Rattle.eos_fold.specs.Good.{IsGood}
 use Rattle.eos_fold.specs.Faults.{IsLeastFault}
+use Rattle.eos_report.specs.FaultTexts.{details}
 
 unfoldable pub good_line : Chain → List ℕ
 good_line chain = (codes "ok batches=" ++ decimal chain.batches) ++ ((codes " producers=" ++ decimal chain.producers) ++ codes "\n")
-
--- what stood there, by the kind of the fault
-unfoldable pub details : PartitionFaultKind → List ℕ
-details (BadBatch segment byte batch) = (codes " segment=" ++ decimal segment) ++ ((codes " byte=" ++ decimal byte) ++ (codes " batch=" ++ batch_names.name_of batch))
-details (Gap found) = codes " found=" ++ decimal found
-details (Pair fault producer) = codes " producer=" ++ signed_decimal producer
-details (End end) = codes " end=" ++ decimal end
-details (OpenAtEnd producer) = codes " producer=" ++ signed_decimal producer
 
 -- the fault's number and name within the phase of partitions, its offset, and what stood there
 unfoldable pub fault_line : PartitionFault → List ℕ

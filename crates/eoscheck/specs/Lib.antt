@@ -1,9 +1,7 @@
-pub mod Adding
 pub mod Answer
 pub mod Endings
 pub mod Faults
 pub mod Lines
 pub mod Listing
 pub mod Running
-pub mod Writing
 pub mod steps

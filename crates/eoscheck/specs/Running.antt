@@ -3,7 +3,7 @@
 use Rattle.std.specs.Prelude.{ℕ, ◌+◌, ◌^◌, ◌≤◌, List, length, Option, Result, Ok, Err, ◌⊎◌}
 use Rattle.std.specs.Io.KnownBytes.{Keeps, Consumes, IsAtEnd}
 use Rattle.eos_evidence.specs.Reading.{Takes, TakesAtMost}
-use Rattle.eoscheck.specs.Writing.{Writes, WritesFrontOf}
+use Rattle.eos_text.specs.Writing.{Writes, WritesFrontOf}
 use Rattle.eoscheck.specs.declared.fault.RunFault.{RunFault}
 use Rattle.eoscheck.specs.declared.fault.RunFault.TheVariants as faults
 

@@ -1,18 +1,17 @@
 //! `chain`: whether the producers of one segment kept their promises.
 
-ghost use Rattle.std.specs.Prelude.{◌≡◌, ◌++◌, ◌+◌, ◌^◌, [], Err, ℕ, List, IfOk, OnErr, OnOk, Ok, string_bytes, codes};
-ghost use Rattle.std.specs.Fmt.{decimal};
+ghost use Rattle.std.specs.Prelude.{◌≡◌, Err, ℕ, List, IfOk, OnOk, string_bytes};
 ghost use Rattle.std.specs.Io.KnownBytes.{Keeps};
-ghost use Rattle.eoscheck.specs.Adding.{Adds};
-ghost use Rattle.eoscheck.specs.Answer.{IsChainAnswer, good_line, details, fault_line};
+ghost use Rattle.eos_text.specs.Adding.{Adds};
+ghost use Rattle.eoscheck.specs.Answer.{IsChainAnswer, good_line, fault_line};
 ghost use Rattle.eoscheck.specs.Running.{Ran};
 
 use crate::fault::RunFault;
-use crate::output::finish;
-use crate::text::{push_text, push_value};
 use bytes::Bytes;
 use eos_evidence::read_segment;
-use eos_fold::{Chain, PartitionFault, PartitionFaultKind, chain};
+use eos_fold::{Chain, PartitionFault, chain};
+use eos_report::push_details;
+use eos_text::{finish, push_text, push_value};
 use std::alloc::{AllocError, Global};
 use std::io::{Read, Write};
 
@@ -70,33 +69,5 @@ fn push_broken(out: &mut String, fault: &PartitionFault) -> Result<(), AllocErro
     push_value(out, " offset=", &fault.offset)?;
     push_details(out, &fault.kind)?;
     push_text(out, "\n")?;
-    Ok(())
-}
-
-/// Adds what stood at the fault, by its kind.
-#[tactic(auto, unfolding(crate::specs::Answer::details))]
-fn push_details(out: &mut String, kind: &PartitionFaultKind) -> Result<(), AllocError>
-    ensures { OnOk result (Adds (string_bytes out.old) (string_bytes out.new) (details kind.now)) }
-{
-    match kind {
-        PartitionFaultKind::BadBatch {
-            segment,
-            byte,
-            batch,
-        } => push_refusal(out, segment, byte, batch.name()),
-        PartitionFaultKind::Gap { found } => push_value(out, " found=", found),
-        PartitionFaultKind::Pair { producer, .. } => push_value(out, " producer=", producer),
-        PartitionFaultKind::End { end } => push_value(out, " end=", end),
-        PartitionFaultKind::OpenAtEnd { producer } => push_value(out, " producer=", producer),
-    }
-}
-
-fn push_refusal(out: &mut String, segment: &u64, byte: &u64, name: &str) -> Result<(), AllocError>
-    ensures { OnOk result (Adds (string_bytes out.old) (string_bytes out.new)
-        ((codes " segment=" ++ decimal segment.now) ++ ((codes " byte=" ++ decimal byte.now) ++ (codes " batch=" ++ name.now)))) }
-{
-    push_value(out, " segment=", segment)?;
-    push_value(out, " byte=", byte)?;
-    push_value(out, " batch=", &name)?;
     Ok(())
 }

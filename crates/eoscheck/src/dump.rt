@@ -4,15 +4,15 @@ ghost use Rattle.std.specs.Prelude.{◌≡◌, ◌≤◌, ◌+◌, ◌^◌, Err,
 ghost use Rattle.std.specs.Io.KnownBytes.{Appends, Keeps};
 ghost use Rattle.eoscheck.specs.Listing.{IsListing, StopsHere};
 ghost use Rattle.eoscheck.specs.Running.{Ran};
-ghost use Rattle.eoscheck.specs.Writing.{Writes, WritesFrontOf, WritesFront};
+ghost use Rattle.eos_text.specs.Writing.{Writes, WritesFrontOf, WritesFront};
 ghost use Rattle.eoscheck.specs.steps.Holding.{HasListed, Passes, IsOfReading};
 
 use crate::fault::RunFault;
 use crate::lines::{push_batch, push_last};
-use crate::output::{finish, write_whole};
 use bytes::Bytes;
 use eos_batch::{BatchFault, next_batch};
 use eos_evidence::read_segment;
+use eos_text::{finish, write_whole};
 use eos_wire::are_bytes;
 use std::alloc::Global;
 use std::io::{Read, Write};

@@ -1,10 +1,11 @@
 //! Why a command ended without an answer.
 
 ghost use Rattle.std.specs.Prelude.{◌≡◌};
-ghost use Rattle.eoscheck.specs.declared.fault.RunFault.TheVariants.{OutOfMemory};
+ghost use Rattle.eoscheck.specs.declared.fault.RunFault.TheVariants.{Write, OutOfMemory};
 ghost use Rattle.eoscheck.specs.Faults.{name_of, run_fault_of};
 
 use eos_evidence::ReadFault;
+use eos_text::WriteFault;
 use std::alloc::{AllocError, AllocFailed};
 use thiserror::Error;
 
@@ -45,6 +46,14 @@ impl From<ReadFault> for RunFault {
             ReadFault::Limit => RunFault::Limit,
             ReadFault::OutOfMemory => RunFault::OutOfMemory,
         }
+    }
+}
+
+impl From<WriteFault> for RunFault {
+    ghost from_gives = { λ _ e. e ≡ Write };
+
+    fn from(_e: WriteFault) -> RunFault {
+        RunFault::Write
     }
 }
 

@@ -1,12 +1,13 @@
 //! The lines that `dump` prints for a batch and its records.
 
 ghost use Rattle.std.specs.Prelude.{◌≡◌, ◌++◌, ◌<◌, ◌^◌, ◌≤ℤ◌, ◌<ℤ◌, ◌+ℤ◌, pos, length, OnOk, IfOk, IfSome, Some, None, string_bytes};
-ghost use Rattle.eoscheck.specs.Adding.{Adds};
+ghost use Rattle.eos_text.specs.Adding.{Adds};
 ghost use Rattle.eoscheck.specs.Listing.{kind_word, batch_lines, last_line, status_of};
 ghost use Rattle.eoscheck.specs.Lines.{record_line, record_lines, place_of, producer_of, batch_line};
 
-use crate::text::{push_hex, push_text, push_value};
+use crate::text::push_hex;
 use eos_batch::{Batch, BatchFault, Kind, Record};
+use eos_text::{push_text, push_value};
 use std::alloc::{AllocError, Global};
 
 /// Adds the line of a record at this offset.

@@ -6,7 +6,6 @@ mod dump;
 mod ending;
 mod fault;
 mod lines;
-mod output;
 mod run;
 mod text;
 mod words;

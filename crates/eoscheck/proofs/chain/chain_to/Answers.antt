@@ -1,6 +1,5 @@
-use Rattle.std.proofs.Common.{◌∙◌}
 use Rattle.std.proofs.lemmas.Result.{err_from_is_err_and}
-use Rattle.eoscheck.proofs.Fronts.{front_of_line}
+use Rattle.eos_text.proofs.Fronts.{front_of_line}
 use Rattle.eoscheck.proofs.Runs.{read_only, in_part}
 use Rattle.eoscheck.specs.Answer.{IsChainAnswer}
 use Rattle.eoscheck.specs.Running.{ReadsSegment}
@@ -17,4 +16,4 @@ returns-in_err-finish-clause-ran g c =
     let a = c.in_ok-status.ensures in
     let front = front_of_line _ _ _ _ _ a.0 c.new-line.ensures.bytes a.2 c.as_bytes.ensures.value c.in_err-finish.ensures.front in
     let read : ReadsSegment _ _ _ = record { all = c.in_ok-bytes.ensures.bytes; end = c.in_ok-bytes.ensures.end; within = c.in_ok-bytes.ensures.within } in
-    rw p.1 (in_part IsChainAnswer _ _ _ _ c.in_ok-bytes.bytes _ read (p.2 ∙ c.in_err-finish.ensures.only) (a.0, c.in_ok-status.status, a.1, front))
+    rw p.1 (in_part IsChainAnswer _ _ _ _ c.in_ok-bytes.bytes _ read p.2 (a.0, c.in_ok-status.status, a.1, front))

@@ -1,5 +1,5 @@
 use Rattle.eoscheck.specs.Answer.{good_line}
-use Rattle.eoscheck.proofs.Appended.{then}
+use Rattle.eos_text.proofs.Appended.{then}
 use Rattle.eoscheck.proofs.chain.push_good.Goals as goal
 
 pub returns : goal.returns

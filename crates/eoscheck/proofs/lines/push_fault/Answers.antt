@@ -1,4 +1,4 @@
-use Rattle.eoscheck.proofs.Appended.{then}
+use Rattle.eos_text.proofs.Appended.{then}
 use Rattle.eoscheck.proofs.lines.push_fault.Goals as goal
 
 pub returns : goal.returns

@@ -1,5 +1,5 @@
 use Rattle.eoscheck.specs.Lines.{place_of}
-use Rattle.eoscheck.proofs.Appended.{then}
+use Rattle.eos_text.proofs.Appended.{then}
 use Rattle.eoscheck.proofs.lines.push_place.Goals as goal
 
 pub returns : goal.returns

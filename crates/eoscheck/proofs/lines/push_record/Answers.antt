@@ -1,6 +1,6 @@
 use Rattle.std.proofs.Common.{to_z-of_z}
 use Rattle.eoscheck.specs.Lines.{record_line}
-use Rattle.eoscheck.proofs.Appended.{then}
+use Rattle.eos_text.proofs.Appended.{then}
 use Rattle.eoscheck.proofs.lines.push_record.Goals as goal
 
 pub returns : goal.returns
