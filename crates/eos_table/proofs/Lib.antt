@@ -14,3 +14,8 @@ pub mod FoldMore
 pub mod LogOrder
 pub mod LogPlaces
 pub mod LogLaw
+pub mod LogSteps
+pub mod LogTables
+pub mod LogOrderly
+pub mod LogDoubled
+pub mod LogGathered

@@ -1,25 +1,23 @@
 -- The transaction log keeps its rule exactly where none of its faults stands.
-use Rattle.std.proofs.Common.{◌≡◌, ◌≢◌, ◌<◌, ◌<ℤ◌, ◌≤ℤ◌, ℕ, ℤ, pos, List, [], ◌∷◌, Option, Some, None, Result, Ok, Err, refl, sym, subst, ap, ◌∙◌, inl, inr, ◌⊎◌, true, false, Bool, arith, unsigned_abs}
+use Rattle.std.proofs.Common.{◌≡◌, ◌<ℤ◌, ◌≤ℤ◌, ℤ, pos, List, Option, Some, None, Ok, Err, refl, sym, subst, ap, ◌∙◌, inl, inr, ◌⊎◌, true, false, Bool, arith, unsigned_abs}
 use Rattle.std.proofs.lemmas.Int.{ints}
 use Rattle.std.specs.Ordering.{MatchOrdering, int_cmp}
 use Rattle.std.specs.declared.cmp.Ordering.{Ordering}
 use Rattle.std.specs.declared.cmp.Ordering.TheVariants.{Less, Equal, Greater}
 use Rattle.std.proofs.lemmas.Bool.{cases_order}
 use Rattle.std.proofs.lemmas.Cmp.{int_ranked}
-use Rattle.eos_base.specs.declared.record_fault.RecordFault.{RecordFault}
 use Rattle.eos_base.specs.Members.{Has}
 use Rattle.eos_base.specs.Least.{NoneStands}
 use Rattle.eos_base.proofs.Decides.{differs, bytes_decided}
 use Rattle.eos_txnlog.specs.declared.value.TxnValue.{TxnValue}
 use Rattle.eos_txnlog.specs.declared.step.TxnFault.{TxnFault}
 use Rattle.eos_txnlog.specs.Steps.{step_verdict, StepResult}
-use Rattle.eos_items.specs.declared.item.Item.{Item}
 use Rattle.eos_fold.specs.Parts.{PartLog}
 use Rattle.eos_table.specs.declared.log_fault.LogFault.{LogFault}
 use Rattle.eos_table.specs.declared.log_fault.LogFaultKind.{LogFaultKind}
 use Rattle.eos_table.specs.declared.log_fault.LogFaultKind.TheVariants.{BadRecord, Step, SplitId, SharedProducer, Unfinished}
-use Rattle.eos_table.specs.TransactionLog.{Id, Unreadable, content_of, Unskipped, all_steps, last_of, is_unfinished, ShareProducer, IsTransactionLog, AreInOrder}
-use Rattle.eos_table.specs.LogFaults.{AtItem, AtStep, AtEnd, IsBefore, StandsAs, Stands}
+use Rattle.eos_table.specs.TransactionLog.{Id, Unskipped, all_steps, last_of, is_unfinished, ShareProducer, IsTransactionLog, AreInOrder}
+use Rattle.eos_table.specs.LogFaults.{AtStep, IsBefore, StandsAs, Stands}
 use Rattle.eos_table.proofs.LogPlaces.{one_place}
 
 pub int_order : (a b : ℤ) → (a ≡ b) ⊎ ((a <ℤ b) ⊎ (b <ℤ a))

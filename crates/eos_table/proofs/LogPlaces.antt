@@ -1,15 +1,16 @@
 -- In a log in order, the unskipped records of one place are one.
-use Rattle.std.proofs.Common.{◌≡◌, ◌<◌, ◌<ℤ◌, ℕ, zero, suc, ℤ, Option, List, [], ◌∷◌, ◌++◌, length, refl, sym, subst, ap, ◌∙◌, inl, inr, ◌⊎◌, true, false, Bool, if◌then◌else◌, arith}
+use Rattle.std.proofs.Common.{◌≡◌, ◌<◌, ◌<ℤ◌, ℕ, suc, ℤ, List, [], ◌∷◌, length, refl, sym, subst, ◌∙◌, inl, inr, ◌⊎◌, true, false, Bool, if◌then◌else◌, arith}
 use Rattle.std.proofs.lemmas.Int.{ints}
 use Rattle.std.specs.Prelude.{slice_index_or}
 use Rattle.std.specs.List.{AllPairs}
 use Rattle.eos_base.specs.Members.{Has}
 use Rattle.eos_base.proofs.Membership.{append_cases, flat_has, only}
-use Rattle.eos_txnlog.specs.declared.value.TxnValue.{TxnValue}
 use Rattle.eos_txnlog.specs.Skips.{is_skipped}
 use Rattle.eos_items.specs.declared.item.Item.{Item}
 use Rattle.eos_fold.specs.Parts.{PartLog, Rises}
-use Rattle.eos_table.specs.TransactionLog.{Content, Unreadable, Other, Of, content_of, Id, State, nothing, flat, Unskipped, step_at, next_state, steps_after, steps_of, all_steps, AreInOrder}
+use Rattle.eos_table.specs.declared.content.Content.{Content}
+use Rattle.eos_table.specs.declared.content.Content.TheVariants.{Unreadable, Other, Of}
+use Rattle.eos_table.specs.TransactionLog.{content_of, State, nothing, flat, Unskipped, step_at, next_state, steps_after, steps_of, all_steps, AreInOrder}
 
 -- ---- pairs by membership
 
@@ -39,7 +40,7 @@ pub record IsAt (n : ℤ) (o : ℕ) (c : Content) (s : Unskipped) : Type 0 where
   pub content : c ≡ Of s.id s.value
 
 -- a record makes at most one, at its place
-at_step : (last : State) (n : ℤ) (o : ℕ) (c : Content) (s : Unskipped) → Has (step_at last n o c) s → IsAt n o c s × ((t : Unskipped) → Has (step_at last n o c) t → s ≡ t)
+pub at_step : (last : State) (n : ℤ) (o : ℕ) (c : Content) (s : Unskipped) → Has (step_at last n o c) s → IsAt n o c s × ((t : Unskipped) → Has (step_at last n o c) t → s ≡ t)
 at_step last n o (Unreadable e) s h = absurd h
 at_step last n o Other s h = absurd h
 at_step last n o (Of id v) s h = go (is_skipped (last id) v) h

@@ -14,10 +14,10 @@ use Rattle.eos_fold.specs.Parts.{PartLog}
 use Rattle.eos_table.specs.declared.match_fault.MatchFault.{MatchFault}
 use Rattle.eos_table.specs.declared.match_fault.MatchFaultKind.{MatchFaultKind}
 use Rattle.eos_table.specs.declared.match_fault.MatchFaultKind.TheVariants.{TwiceDecided, Undecided, WrongKind, NotListed, StrayMarker, AbsentPartition, MissingMarker}
-use Rattle.eos_table.specs.Atomic.{part_name, listed_names, EndsAs, Ends}
-use Rattle.eos_table.specs.MatchFaults.{deciders, is_of, AtData, AtMarker, AtListed, Stands, StandsAs, rank, fault_cmp}
-use Rattle.eos_table.specs.Shards.{InShard, StandsIn, IsAnswer}
-use Rattle.eos_table.specs.Keys.{mine, decided, judged, listed, ended, marked, names, pair_cmp, listed_cmp, ended_cmp}
+use Rattle.eos_table.specs.Atomic.{part_name, listed_names, EndsAs}
+use Rattle.eos_table.specs.MatchFaults.{AtData, AtMarker, AtListed, StandsAs, rank, fault_cmp}
+use Rattle.eos_table.specs.Shards.{InShard}
+use Rattle.eos_table.specs.Keys.{mine, pair_cmp, listed_cmp, ended_cmp}
 use Rattle.eos_table.specs.Candidates.{fault_of, faults_of, kind_at_close, kind_at_marker, kind_at_name, faults_at_close, faults_at_marker, faults_at_name, name_faults, close_faults, marker_faults, at_closes, at_markers, at_names}
 use Rattle.eos_base.proofs.LeastOf.{upto_same}
 use Rattle.eos_base.proofs.Membership.{has_flat, has_if, append_left, append_right}

@@ -2,22 +2,16 @@
 use Rattle.std.proofs.Common.{◌≡◌, ℕ, ℤ, List, [], ◌∷◌, ◌++◌, Option, Some, None, fold, refl, sym, subst, ap, ◌∙◌, inl, inr, IsPermutation, IsSorted}
 use Rattle.std.proofs.lemmas.List.Sums.{fold-append}
 use Rattle.eos_base.specs.declared.partition_name.PartitionName.{PartitionName}
-use Rattle.eos_base.specs.Members.{Has, is_found}
+use Rattle.eos_base.specs.Members.{Has}
 use Rattle.eos_base.specs.Least.{UpTo}
-use Rattle.eos_base.specs.PartitionNames.{name_cmp}
 use Rattle.eos_batch.specs.declared.marker.Kind.{Kind}
-use Rattle.eos_batch.specs.declared.marker.Marker.{Marker}
 use Rattle.eos_txnlog.specs.declared.decision.Decision.{Decision}
 use Rattle.eos_fold.specs.declared.close.Close.{Close}
-use Rattle.eos_fold.specs.Closes.{close_cmp}
 use Rattle.eos_fold.specs.Parts.{PartLog}
 use Rattle.eos_table.specs.declared.match_fault.MatchFault.{MatchFault}
-use Rattle.eos_table.specs.declared.match_fault.MatchFaultKind.{MatchFaultKind}
-use Rattle.eos_table.specs.declared.match_fault.MatchFaultKind.TheVariants.{TwiceDecided, Undecided, WrongKind, NotListed, StrayMarker, AbsentPartition, MissingMarker}
-use Rattle.eos_table.specs.Atomic.{part_name, listed_names, EndsAs, Ends}
-use Rattle.eos_table.specs.MatchFaults.{deciders, is_of, AtData, AtMarker, AtListed, Stands, StandsAs, rank, fault_cmp}
-use Rattle.eos_table.specs.Shards.{InShard, StandsIn, IsAnswer}
-use Rattle.eos_table.specs.Keys.{mine, decided, judged, listed, ended, marked, names, pair_cmp, listed_cmp, ended_cmp}
+use Rattle.eos_table.specs.MatchFaults.{StandsAs, fault_cmp}
+use Rattle.eos_table.specs.Shards.{StandsIn, IsAnswer}
+use Rattle.eos_table.specs.Keys.{decided, pair_cmp}
 use Rattle.eos_base.specs.Least.{lesser_of}
 use Rattle.eos_table.specs.Candidates.{at_closes, at_markers, at_names, IsTwice}
 use Rattle.eos_base.proofs.LeastOf.{least_by_candidates}

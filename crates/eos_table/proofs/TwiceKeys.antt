@@ -12,23 +12,14 @@ use Rattle.std.proofs.lemmas.List.Folds.{list_any_at}
 use Rattle.std.proofs.lemmas.List.Sums.{length-filter}
 use Rattle.std.proofs.lemmas.List.Sorted.{sorted_far, sum_by-IsPermutation}
 use Rattle.std.proofs.lemmas.List.MinMax.{ranks_by}
-use Rattle.eos_base.specs.declared.partition_name.PartitionName.{PartitionName}
-use Rattle.eos_base.specs.Members.{Has, is_found}
 use Rattle.eos_base.specs.Least.{UpTo}
-use Rattle.eos_base.specs.PartitionNames.{name_cmp}
-use Rattle.eos_batch.specs.declared.marker.Kind.{Kind}
-use Rattle.eos_batch.specs.declared.marker.Marker.{Marker}
 use Rattle.eos_txnlog.specs.declared.decision.Decision.{Decision}
-use Rattle.eos_fold.specs.declared.close.Close.{Close}
-use Rattle.eos_fold.specs.Closes.{close_cmp}
 use Rattle.eos_fold.specs.Parts.{PartLog}
 use Rattle.eos_table.specs.declared.match_fault.MatchFault.{MatchFault}
-use Rattle.eos_table.specs.declared.match_fault.MatchFaultKind.{MatchFaultKind}
-use Rattle.eos_table.specs.declared.match_fault.MatchFaultKind.TheVariants.{TwiceDecided, Undecided, WrongKind, NotListed, StrayMarker, AbsentPartition, MissingMarker}
-use Rattle.eos_table.specs.Atomic.{part_name, listed_names, EndsAs, Ends}
-use Rattle.eos_table.specs.MatchFaults.{deciders, is_of, AtData, AtMarker, AtListed, Stands, StandsAs, rank, fault_cmp}
-use Rattle.eos_table.specs.Shards.{InShard, StandsIn, IsAnswer}
-use Rattle.eos_table.specs.Keys.{mine, decided, judged, listed, ended, marked, names, pair_cmp, listed_cmp, ended_cmp}
+use Rattle.eos_table.specs.declared.match_fault.MatchFaultKind.TheVariants.{TwiceDecided}
+use Rattle.eos_table.specs.MatchFaults.{deciders, is_of, Stands, StandsAs, fault_cmp}
+use Rattle.eos_table.specs.Shards.{InShard}
+use Rattle.eos_table.specs.Keys.{mine, decided, pair_cmp}
 use Rattle.eos_table.specs.Candidates.{fault_of, pair_at, IsTwice}
 use Rattle.eos_base.proofs.Decides.{differs}
 use Rattle.eos_base.proofs.Exact.{is_tied}

@@ -5,3 +5,4 @@ pub mod Keys
 pub mod Candidates
 pub mod TransactionLog
 pub mod LogFaults
+pub mod LogCandidates

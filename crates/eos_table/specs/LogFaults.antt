@@ -1,5 +1,5 @@
 -- The faults of the transaction log, what each of them says, and their order.
-use Rattle.std.specs.Prelude.{◌≡◌, ◌≢◌, ◌⊎◌, ◌<◌, ◌<ℤ◌, ℕ, ℤ, List, [], true, codes, Err, unsigned_abs}
+use Rattle.std.specs.Prelude.{◌≡◌, ◌≢◌, ◌⊎◌, ◌<◌, ◌<ℤ◌, ℕ, List, [], true, codes, Err, unsigned_abs}
 use Rattle.std.specs.Ordering.{nat_cmp, int_cmp, on, then_cmp}
 use Rattle.std.specs.declared.cmp.Ordering.{Ordering}
 use Rattle.std.specs.Cmp.Lexicographic.{slice_cmp}
@@ -14,7 +14,8 @@ use Rattle.eos_fold.specs.Parts.{PartLog}
 use Rattle.eos_table.specs.declared.log_fault.LogFault.{LogFault}
 use Rattle.eos_table.specs.declared.log_fault.LogFaultKind.{LogFaultKind}
 use Rattle.eos_table.specs.declared.log_fault.LogFaultKind.TheVariants.{BadRecord, Step, SplitId, SharedProducer, Unfinished}
-use Rattle.eos_table.specs.TransactionLog.{Id, Unreadable, content_of, Unskipped, all_steps, last_of, is_unfinished, ShareProducer}
+use Rattle.eos_table.specs.declared.content.Content.TheVariants.{Unreadable}
+use Rattle.eos_table.specs.TransactionLog.{Id, content_of, Unskipped, all_steps, last_of, is_unfinished, ShareProducer}
 
 -- a data record at the fault's place
 pub record AtItem (log : List PartLog) (f : LogFault) : Type 0 where

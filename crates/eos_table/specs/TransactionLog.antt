@@ -1,6 +1,6 @@
 -- The transaction log (KIP-98, "Transaction Log"): what its records say, which of them count, what they decide, and the
 -- rule that the log keeps. A part here is a partition of `__transaction_state`.
-use Rattle.std.specs.Prelude.{◌≡◌, ◌⊎◌, ◌<◌, ◌<ℤ◌, ◌≤ℤ◌, ℕ, ℤ, pos, Bool, true, false, Option, Some, None, option_map, List, [], ◌∷◌, ◌++◌, if◌then◌else◌, cond, Result, Ok, Err, codes}
+use Rattle.std.specs.Prelude.{◌≡◌, ◌<ℤ◌, ◌≤ℤ◌, ℕ, ℤ, pos, Bool, false, Option, Some, None, List, [], ◌∷◌, ◌++◌, if◌then◌else◌, cond, Result, Ok, Err, codes}
 use Rattle.std.specs.List.{flat_map, filter, AllPairs}
 use Rattle.std.specs.Ordering.{nat_cmp, is_eq}
 use Rattle.std.specs.Cmp.Lexicographic.{slice_cmp}
@@ -19,6 +19,8 @@ use Rattle.eos_txnlog.specs.Status.{is_open}
 use Rattle.eos_txnlog.specs.Steps.{step_verdict}
 use Rattle.eos_items.specs.declared.item.Item.{Item}
 use Rattle.eos_fold.specs.Parts.{PartLog, Rises}
+use Rattle.eos_table.specs.declared.content.Content.{Content}
+use Rattle.eos_table.specs.declared.content.Content.TheVariants.{Unreadable, Other, Of}
 
 abbrev pub Id : Type 0
 Id = List ℕ
@@ -27,12 +29,6 @@ abbrev pub same_id : Id → Id → Bool
 same_id a b = is_eq (slice_cmp nat_cmp a b)
 
 -- ---- what a data record says
-
--- it doesn't read, its key is of another version, or it is a value or a tombstone of a transactional id
-pub data Content : Type 0 where
-  Unreadable : RecordFault → Content
-  Other : Content
-  Of : Id → Option TxnValue → Content
 
 abbrev pub content_with : Id → Result TxnValue RecordFault → Content
 content_with id (Ok value) = Of id (Some value)

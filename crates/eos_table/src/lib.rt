@@ -2,19 +2,24 @@
 #![tactic(auto)]
 
 mod best;
+mod content;
+mod doubled;
 mod key;
 pub mod laws;
 mod log_fault;
+mod log_least;
+mod log_reading;
 mod look;
+mod mark;
 mod match_fault;
 mod ordered;
 mod pass;
 mod shard;
 mod table;
-#[cfg(test)]
-mod tests;
+mod transaction_log;
 
 pub use log_fault::{LogFault, LogFaultKind};
 pub use match_fault::{MatchFault, MatchFaultKind};
 pub use shard::match_shard;
 pub use table::TxnTable;
+pub use transaction_log::txn_log;

@@ -1,7 +1,7 @@
 //! Where the transaction log breaks its own rule.
 
 ghost use Rattle.std.specs.Prelude.{◌≡◌};
-ghost use Rattle.eos_table.specs.LogFaults.{rank, name_of};
+ghost use Rattle.eos_table.specs.LogFaults.{rank, id_of, detail_of, record_number, step_number, name_of};
 
 use bytes::Bytes;
 use eos_base::RecordFault;
@@ -32,6 +32,29 @@ pub enum LogFaultKind {
     Unfinished { id: Bytes },
 }
 
+fn record_number(fault: RecordFault) -> u8
+    ensures { result ≡ record_number fault }
+{
+    match fault {
+        RecordFault::Short => 1,
+        RecordFault::Version => 2,
+        RecordFault::Status => 3,
+        RecordFault::Length => 4,
+        RecordFault::Trailing => 5,
+        RecordFault::OutOfMemory => 6,
+    }
+}
+
+fn step_number(fault: TxnFault) -> u8
+    ensures { result ≡ step_number fault }
+{
+    match fault {
+        TxnFault::Order => 1,
+        TxnFault::Producer => 2,
+        TxnFault::Epoch => 3,
+    }
+}
+
 impl LogFaultKind {
     /// The kind's number, from 1 to 5, by which kinds are ordered.
     pub fn number(&self) -> u8
@@ -43,6 +66,32 @@ impl LogFaultKind {
             LogFaultKind::SplitId { .. } => 3,
             LogFaultKind::SharedProducer { .. } => 4,
             LogFaultKind::Unfinished { .. } => 5,
+        }
+    }
+
+    /// The transactional id by which faults of one kind at one place are ordered; of a record that doesn't read none.
+    pub(crate) fn id(&self) -> &[u8]
+        ensures { result.now ≡ id_of self.now }
+    {
+        match self {
+            LogFaultKind::BadRecord { .. } => &[],
+            LogFaultKind::Step { id, .. }
+            | LogFaultKind::SplitId { id }
+            | LogFaultKind::SharedProducer { id }
+            | LogFaultKind::Unfinished { id } => id.as_slice(),
+        }
+    }
+
+    /// The number of the refusal that is printed, by which faults are ordered last; 0 where none is.
+    pub(crate) fn detail(&self) -> u8
+        ensures { result ≡ detail_of self.now }
+    {
+        match self {
+            LogFaultKind::BadRecord { record } => record_number(*record),
+            LogFaultKind::Step { why, .. } => step_number(*why),
+            LogFaultKind::SplitId { .. }
+            | LogFaultKind::SharedProducer { .. }
+            | LogFaultKind::Unfinished { .. } => 0,
         }
     }
 

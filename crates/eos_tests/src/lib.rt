@@ -25,6 +25,8 @@ mod offsets;
 #[cfg(test)]
 mod segment_reader;
 #[cfg(test)]
+mod table;
+#[cfg(test)]
 mod touch;
 #[cfg(test)]
 mod txnlog;

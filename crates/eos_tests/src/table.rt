@@ -2,10 +2,10 @@
 
 ghost use Rattle.std.specs.Prelude.{◌<◌};
 
-use crate::{MatchFault, MatchFaultKind, TxnTable, match_shard};
 use bytes::Bytes;
 use eos_base::{Listed, PartitionName};
 use eos_batch::Kind;
+use eos_table::{MatchFault, MatchFaultKind, TxnTable, match_shard};
 use eos_txnlog::{Decision, TopicPartitions};
 use std::alloc::{AllocError, Global};
 

@@ -1,0 +1,250 @@
+//! One pass over the records of the transaction log.
+
+ghost use Rattle.std.specs.Prelude.{◌≡◌, [], ◌∷◌, ◌++◌, fold, unsigned_abs, IfOk, OnOk};
+ghost use Rattle.std.specs.List.{flat_map};
+ghost use Rattle.std.specs.Option.{option_copied, option_map};
+ghost use Rattle.eos_base.specs.Least.{lesser_of};
+ghost use Rattle.eos_table.specs.TransactionLog.{content_of, flat, step_at, steps_after, steps_of, next_state, state_after, decision_between, kind_of_status, is_unfinished};
+ghost use Rattle.eos_table.specs.declared.content.Content.TheVariants.{Of};
+ghost use Rattle.eos_table.specs.LogFaults.{log_cmp};
+ghost use Rattle.eos_table.specs.LogCandidates.{after, unread, open_at, step_faults, faults_at, faults_after, part_faults, state_of, step_of};
+
+use crate::content::{Content, read_content};
+use crate::log_fault::{LogFault, LogFaultKind};
+use crate::log_least::{fault_at, lesser, offer};
+use crate::mark::{Mark, Place, producer_of};
+use bytes::Bytes;
+use eos_batch::Kind;
+use eos_fold::{ItemRef, Part};
+use eos_txnlog::{Decision, Status, TxnValue, is_skipped, step_ok};
+use std::alloc::{AllocError, Global};
+use std::collections::BTreeMap;
+use std::marker::Model;
+
+/// What was read of the log.
+#[derive(Drop)]
+pub(crate) struct LogReading {
+    /// Its unskipped records.
+    pub marks: Vec<Mark>,
+    pub decisions: Vec<Decision>,
+    /// The least fault that a record or the end of a partition shows by itself.
+    pub best: Option<LogFault>,
+}
+
+impl Model for LogReading {
+    ghost use Rattle.eos_table.specs.LogCandidates.{LogRead};
+
+    ghost Value = { LogRead };
+
+    ghost view = { λ r. record { marks = r.marks.items; decisions = r.decisions.items; best = r.best } };
+}
+
+/// The value of the last unskipped record of each transactional id of a partition; none is a tombstone.
+type LastValues = BTreeMap<Bytes, Option<TxnValue>>;
+
+fn kind_of_status(status: Status) -> Option<Kind>
+    ensures { result ≡ kind_of_status status }
+{
+    match status {
+        Status::PrepareCommit => Some(Kind::Commit),
+        Status::PrepareAbort => Some(Kind::Abort),
+        Status::Empty
+        | Status::Ongoing
+        | Status::CompleteCommit
+        | Status::CompleteAbort
+        | Status::Dead
+        | Status::PrepareEpochFence => None,
+    }
+}
+
+// Puts what a record decides at the end.
+fn push_decision(
+    decisions: &mut Vec<Decision>,
+    id: &Bytes,
+    before: Option<&TxnValue>,
+    value: Option<&TxnValue>,
+) -> Result<(), AllocError>
+    ensures { OnOk result (decisions.new.items ≡ decisions.old.items ++ decision_between id.now (option_copied before.entry) (option_copied value.entry)) }
+{
+    let (Some(before), Some(value)) = (before, value) else {
+        return Ok(());
+    };
+    let Some(kind) = kind_of_status(value.status) else {
+        return Ok(());
+    };
+    decisions.push(Decision {
+        id: id.clone()?,
+        producer: value.producer,
+        epoch: before.epoch,
+        marker_epoch: value.epoch,
+        kind,
+        partitions: value.partitions.clone()?,
+    })?;
+    Ok(())
+}
+
+// Takes up an unskipped record.
+fn take_step(
+    reading: &mut LogReading,
+    place: Place,
+    id: &Bytes,
+    before: Option<&TxnValue>,
+    value: Option<&TxnValue>,
+) -> Result<(), AllocError>
+    ensures { let step = step_of place.partition place.offset id.now (option_copied before.entry) (option_copied value.entry) in
+        OnOk result (reading.new ≡ after reading.old (step ∷ []) (step_faults step)) }
+{
+    push_decision(&mut reading.decisions, id, before, value)?;
+    if let Err(why) = step_ok(before, value) {
+        let kind = LogFaultKind::Step {
+            id: id.clone()?,
+            why,
+        };
+        offer(&mut reading.best, fault_at(place, kind));
+    }
+    reading.marks.push(Mark {
+        partition: place.partition,
+        offset: place.offset,
+        id: id.clone()?,
+        producer: producer_of(value),
+    })?;
+    Ok(())
+}
+
+fn last_value<'a>(last: &'a LastValues, id: &Bytes) -> Option<Option<&'a TxnValue>>
+    ensures { option_map option_copied result ≡ state_of last.entry.now id.now }
+{
+    match last.get(id) {
+        None => None,
+        Some(value) => Some(value.as_ref()),
+    }
+}
+
+// Takes up a record of a transactional id, unless it is skipped.
+fn take_value(
+    alloc: Global,
+    reading: &mut LogReading,
+    last: &mut LastValues,
+    place: Place,
+    id: Bytes,
+    value: Option<TxnValue>,
+) -> Result<(), AllocError>
+    ensures read { OnOk result (reading.new ≡ after reading.old (step_at (state_of last.old) place.partition place.offset (Of id value)) (faults_at (state_of last.old) place.partition place.offset (Of id value))) }
+    ensures last { OnOk result (state_of last.new ≡ next_state (state_of last.old) (Of id value)) }
+{
+    let before = last_value(last, &id);
+    let next = value.as_ref();
+    if is_skipped(alloc, before, next)? {
+        return Ok(());
+    }
+    take_step(reading, place, &id, before.flatten(), next)?;
+    last.insert(id, value)?;
+    Ok(())
+}
+
+fn take_record(
+    alloc: Global,
+    reading: &mut LogReading,
+    last: &mut LastValues,
+    part: &Part,
+    item: &ItemRef<'_>,
+) -> Result<(), AllocError>
+    ensures read { OnOk result (reading.new ≡ after reading.old (step_at (state_of last.old) part.now.number item.now.offset (content_of item.now)) (faults_at (state_of last.old) part.now.number item.now.offset (content_of item.now))) }
+    ensures last { OnOk result (state_of last.new ≡ next_state (state_of last.old) (content_of item.now)) }
+{
+    let place = Place {
+        partition: part.partition(),
+        offset: item.offset(),
+    };
+    match read_content(alloc, item)? {
+        Content::Unreadable(record) => {
+            let kind = LogFaultKind::BadRecord { record };
+            offer(&mut reading.best, fault_at(place, kind));
+            Ok(())
+        }
+        Content::Other => Ok(()),
+        Content::Of(id, value) => take_value(alloc, reading, last, place, id, value),
+    }
+}
+
+fn take_records(
+    alloc: Global,
+    reading: &mut LogReading,
+    last: &mut LastValues,
+    part: &Part,
+) -> Result<(), AllocError>
+    ensures read { OnOk result (reading.new ≡ after reading.old (steps_after (state_of last.old) part.now.number part.now.items) (faults_after (state_of last.old) part.now.number part.now.items)) }
+    ensures last { OnOk result (state_of last.new ≡ state_after (state_of last.old) part.now.items) }
+{
+    let mut items = part.items().cursor();
+    while let Some(item) = items.next() {
+        take_record(alloc, reading, last, part, &item)?;
+    }
+    Ok(())
+}
+
+// Where the partition is declared to end.
+fn end_of(part: &Part) -> Place
+    ensures partition { result.partition ≡ part.now.number }
+    ensures offset { result.offset ≡ unsigned_abs part.now.end }
+{
+    Place {
+        partition: part.partition(),
+        offset: part.end().unsigned_abs(),
+    }
+}
+
+// The lesser of the least so far and what is left unfinished at the end of a partition.
+fn least_open(
+    best: Option<LogFault>,
+    last: &LastValues,
+    marks: &[Mark],
+    end: Place,
+) -> Result<Option<LogFault>, AllocError>
+    ensures { IfOk result (λ o. o ≡ fold (lesser_of log_cmp) best (flat_map (open_at (state_of last.now) end.partition end.offset) marks.now)) }
+{
+    let mut best = best;
+    for mark in marks {
+        if is_open(last, &mark.id) {
+            let kind = LogFaultKind::Unfinished {
+                id: mark.id.clone()?,
+            };
+            best = lesser(best, fault_at(end, kind));
+        }
+    }
+    Ok(best)
+}
+
+fn is_open(last: &LastValues, id: &Bytes) -> bool
+    ensures { result ≡ is_unfinished (flat (state_of last.now id.now)) }
+{
+    match last.get(id) {
+        Some(Some(value)) => value.status.is_open(),
+        _ => false,
+    }
+}
+
+impl LogReading {
+    /// Nothing is read.
+    pub fn new(alloc: Global) -> LogReading
+        ensures { result ≡ unread }
+    {
+        LogReading {
+            marks: Vec::new(alloc),
+            decisions: Vec::new(alloc),
+            best: None,
+        }
+    }
+
+    /// Takes up a partition of the log.
+    pub fn take_part(&mut self, alloc: Global, part: &Part) -> Result<(), AllocError>
+        ensures { OnOk result (self.new ≡ after self.old (steps_of part.now) (part_faults part.now)) }
+    {
+        let from = self.marks.as_slice().len();
+        let mut last = BTreeMap::new(alloc);
+        take_records(alloc, self, &mut last, part)?;
+        let best = self.best.take();
+        self.best = least_open(best, &last, &self.marks[from..], end_of(part))?;
+        Ok(())
+    }
+}
