@@ -1,9 +1,10 @@
 /* Writes a segment of record batches to standard output, the same bytes for the same words.
  *
- *     segment RECORDS SIZE BATCHES SEED
+ *     segment RECORDS SIZE BATCHES SEED LINEAGE
  *
  * RECORDS records a batch, each with a null key and a value of SIZE bytes from a 64-bit linear congruential generator
- * that starts with SEED; BATCHES batches of the idempotent producer 1000, epoch 0, in sequence. Not compressed.
+ * that starts with SEED; BATCHES batches of the idempotent producer 1000, epoch 0, in sequence. Not compressed. Where
+ * LINEAGE is 1 each record has the five lineage headers, 75 bytes; where it is 0, none.
  */
 #include <stdint.h>
 #include <stdio.h>
@@ -38,11 +39,29 @@ static uint8_t *varint(uint8_t *p, int64_t value) {
     return p;
 }
 
+static uint8_t *header(uint8_t *p, const char *key, uint64_t value, int width) {
+    size_t len = strlen(key);
+    p = varint(p, (int64_t)len);
+    memcpy(p, key, len);
+    p = varint(p + len, width);
+    return big(p, value, width);
+}
+
+/* The record is the only output of the input with its own offset, in partition 0 of the topic `in`. */
+static uint8_t *lineage(uint8_t *p, uint64_t offset) {
+    p = header(p, "eo.topic", 'i' << 8 | 'n', 2);
+    p = header(p, "eo.partition", 0, 4);
+    p = header(p, "eo.offset", offset, 8);
+    p = header(p, "eo.output", 1, 4);
+    return header(p, "eo.of", 1, 4);
+}
+
 int main(int argc, char **argv) {
-    if (argc != 5) return 2;
+    if (argc != 6) return 2;
     long records = atol(argv[1]), size = atol(argv[2]), batches = atol(argv[3]);
     uint64_t state = strtoull(argv[4], NULL, 10);
-    uint8_t *batch = malloc(61 + (size_t)records * (size + 40)), *body = malloc((size_t)size + 40);
+    int headers = atoi(argv[5]) ? 5 : 0;
+    uint8_t *batch = malloc(61 + (size_t)records * (size + 120)), *body = malloc((size_t)size + 120);
     if (!batch || !body) return 3;
     fill_table();
     for (long b = 0; b < batches; b++) {
@@ -58,7 +77,8 @@ int main(int argc, char **argv) {
                 state = state * 6364136223846793005u + 1442695040888963407u;
                 *q++ = (uint8_t)(state >> 56);
             }
-            q = varint(q, 0);
+            q = varint(q, headers);
+            if (headers) q = lineage(q, (uint64_t)(b * records + r));
             p = varint(p, q - body);
             memcpy(p, body, (size_t)(q - body));
             p += q - body;
