@@ -178,28 +178,50 @@ fn writes_the_first_version_for_one_application(rt: HostRuntime) -> Result<(), F
     Ok(())
 }
 
+/// The answer of `Spec::new` for two applications and no ends.
+fn of_two(
+    alloc: Global,
+    first: Result<App, AllocError>,
+    second: Result<App, AllocError>,
+) -> Result<&'static str, AllocError> {
+    let apps = two(alloc, first?, second?)?;
+    Ok(named(Spec::new(alloc, apps, no_ends(alloc))))
+}
+
 #[test]
-fn refuses_what_stands_twice(rt: HostRuntime) -> Result<(), Fail> {
+fn refuses_what_stands_twice(rt: HostRuntime) -> Result<(), AllocError> {
     let alloc = rt.alloc();
     assert_eq!(rt; named(example(alloc, b"in")), "Field");
-    let apps = two(
+    let group = of_two(
         alloc,
-        app(alloc, "g", b"a", b"b")?,
-        app(alloc, "g", b"c", b"d")?,
+        app(alloc, "g", b"a", b"b"),
+        app(alloc, "g", b"c", b"d"),
     )?;
-    assert_eq!(rt; named(Spec::new(alloc, apps, no_ends(alloc))), "Field");
-    let apps = two(
+    assert_eq!(rt; group, "Field");
+    let output = of_two(
         alloc,
-        app(alloc, "g", b"a", b"out")?,
-        app(alloc, "h", b"c", b"out")?,
+        app(alloc, "g", b"a", b"out"),
+        app(alloc, "h", b"c", b"out"),
     )?;
-    assert_eq!(rt; named(Spec::new(alloc, apps, no_ends(alloc))), "Field");
-    let apps = two(
+    assert_eq!(rt; output, "Field");
+    Ok(())
+}
+
+#[test]
+fn accepts_a_source_of_two_applications(rt: HostRuntime) -> Result<(), AllocError> {
+    let alloc = rt.alloc();
+    let source = of_two(
         alloc,
-        app(alloc, "g", b"a", b"out")?,
-        app(alloc, "h", b"a", b"fin")?,
+        app(alloc, "g", b"a", b"out"),
+        app(alloc, "h", b"a", b"fin"),
     )?;
-    assert_eq!(rt; named(Spec::new(alloc, apps, no_ends(alloc))), "accepted");
+    assert_eq!(rt; source, "accepted");
+    Ok(())
+}
+
+#[test]
+fn refuses_an_end_that_stands_twice(rt: HostRuntime) -> Result<(), AllocError> {
+    let alloc = rt.alloc();
     let mut ends = two_ends(alloc)?;
     ends.push(end_of(b"out", 0, 4))?;
     assert_eq!(rt; named(Spec::new(alloc, apps_of_none(alloc), ends)), "Field");
