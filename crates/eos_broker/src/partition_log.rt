@@ -76,6 +76,20 @@ fn note(producers: &mut Vec<Producer>, item: &Item)
     }
 }
 
+/// Makes the states anew from the items.
+fn reread(producers: &mut Vec<Producer>, items: &[Item])
+    requires { length items.now < 2 ^ 63 }
+    ensures kept { AreKept producers.new.items items.now }
+    ensures len { vec_len producers.new ≡ vec_len producers.old }
+{
+    for i in 0..producers.len() {
+        producers[i] = unseen();
+    }
+    for item in items {
+        note(producers, item);
+    }
+}
+
 impl PartitionLog {
     /// An empty log for so many applications.
     pub fn new(alloc: Global, applications: usize) -> Result<PartitionLog, AllocError>
@@ -108,6 +122,13 @@ impl PartitionLog {
         ensures { result ≡ producer_of (marks_of application self.now.items) }
     {
         self.producers[application]
+    }
+
+    /// The broker restarts: what it holds of each producer id is made anew from the log, and is what it was.
+    pub fn restart(&mut self)
+        ensures { self.new ≡ self.old }
+    {
+        reread(&mut self.producers, self.items.as_slice());
     }
 
     /// The items, in offset order.

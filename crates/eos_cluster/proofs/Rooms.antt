@@ -38,3 +38,6 @@ kept_grown a n p logs u v i is e h =
 
 pub no_room : (a n : ℕ) (v : LogView) → IsKeptFor a n v → IsKeptFor a 0 v
 no_room a n v k = (k.0, omega arith, k.2)
+
+pub kept_same : (a n p : ℕ) (logs : List LogView) (u v : LogView) → p < length logs → u ≡ slice_index_or logs p u → v ≡ u → All (IsKeptFor a n) logs → All (IsKeptFor a n) (slice_set logs p v)
+kept_same a n p logs u v i is e h = All-set (IsKeptFor a n) logs p v (subst (IsKeptFor a n) (sym e) (subst (IsKeptFor a n) (sym is) (h p u i))) h

@@ -116,14 +116,16 @@ impl Cluster {
 
     /// How many events it has taken: those that were answered otherwise than `OutOfMemory` or `Full`.
     pub fn events(&self) -> u64
-        ensures { result ≡ self.now.world.events }
+        ensures number { result ≡ self.now.world.events }
+        ensures few { result ≤ MAX_EVENTS }
     {
         self.store.events()
     }
 
     /// The sizes that it was made with.
     pub fn config(&self) -> Config
-        ensures { result ≡ self.now.config }
+        ensures value { result ≡ self.now.config }
+        ensures sizes { IsConfig result }
     {
         self.store.config()
     }

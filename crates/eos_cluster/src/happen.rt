@@ -6,23 +6,25 @@ ghost use Rattle.eos_machine.specs.Machine.{happens};
 ghost use Rattle.eos_machine.specs.declared.event.Event.TheVariants.{BrokerRestart};
 ghost use Rattle.eos_cluster.specs.Named.{IsNamed, IsSmall};
 
-use crate::places::is_partition;
+use crate::places::{is_partition, start_of};
 use crate::store::Store;
 use bytes::Bytes;
 use eos_machine::{Event, Reply};
 use std::alloc::AllocError;
 
 impl Store {
-    /// The broker of a partition restarts.
+    /// The broker of a partition restarts: it makes what it holds anew from its log.
     #[tactic(auto, unfolding(eos_machine::specs::Answers::when))]
-    fn restart_broker(&self, topic: &Bytes, partition: usize) -> Reply
-        ensures { (self.now.world, result) ≡ happens self.now.config self.now.world (BrokerRestart topic.now partition) }
+    fn restart_broker(&mut self, topic: &Bytes, partition: usize) -> Reply
+        ensures answer { (self.new.world, result) ≡ happens self.old.config self.old.world (BrokerRestart topic.now partition) }
+        ensures config { self.new.config ≡ self.old.config }
     {
-        if is_partition(self.config(), topic, partition) {
-            Reply::Done(0)
-        } else {
-            Reply::Unknown
+        let config = self.config();
+        if !is_partition(config, topic, partition) {
+            return Reply::Unknown;
         }
+        self.restart_log(start_of(config, topic).saturating_add(partition));
+        Reply::Done(0)
     }
 
     /// An event happens. It isn't counted here.

@@ -116,3 +116,18 @@ pub(crate) fn place_count(config: Config) -> usize
 {
     output_start(config) + config.outputs
 }
+
+/// The place of the first partition of a topic that there is.
+pub(crate) fn start_of(config: Config, topic: &Bytes) -> usize
+    requires { IsConfig config }
+{
+    if topic.as_slice() == b"__consumer_offsets".as_slice() {
+        OFFSETS_PLACE
+    } else if topic.as_slice() == b"__transaction_state".as_slice() {
+        1
+    } else if topic.as_slice() == b"in".as_slice() {
+        1 + config.transaction_logs
+    } else {
+        output_start(config)
+    }
+}

@@ -235,4 +235,14 @@ impl Store {
             log.append(item);
         }
     }
+
+    /// The broker of the partition at a place restarts.
+    pub(crate) fn restart_log(&mut self, place: usize)
+        ensures { self.new ≡ self.old }
+    {
+        if place < self.logs.len() {
+            let log = &mut self.logs[place];
+            log.restart();
+        }
+    }
 }
