@@ -21,7 +21,7 @@ use Rattle.eos_claims.specs.Outputs.{ReadsSources}
 use Rattle.eos_claims.specs.Faults as outputs
 use Rattle.eos_claims.proofs.OutputsLaw.{law as outputs_law}
 use Rattle.eos_claims.proofs.FaultOrder.{fault_total, fault_exact}
-use Rattle.eos_commits.specs.Visible.{visible}
+use Rattle.eos_commits.specs.Visible.{visible, part_name}
 use Rattle.eos_commits.specs.Commits.{Group, is_same}
 use Rattle.eos_commits.specs.Faults as records
 use Rattle.eos_commits.specs.declared.fault.VisibleFault.{VisibleFault}
@@ -38,7 +38,7 @@ pub reads : (app : App) (ps : List PartLog) → ReadsSources (application_of app
 reads app ps i h =
     let r = flat_has inputs_in (parts_of app.sources ps) i h in
     let p = filter_has (is_part_of app.sources) ps r.0 r.1 in
-    let m = map_has (place_in r.0) (visible r.0) i r.2 in
+    let m = map_has (place_in (part_name r.0)) (visible r.0) i r.2 in
     subst (λ (j : Place). Has app.sources j.partition.topic) m.2 (found_has (slice_cmp nat_cmp) bytes_exact app.sources r.0.topic p.1)
 
 -- ---- exact where nothing stands

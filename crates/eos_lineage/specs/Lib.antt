@@ -1,2 +1,3 @@
 pub mod Lineage
 pub mod Faults
+pub mod steps

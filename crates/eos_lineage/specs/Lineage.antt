@@ -4,6 +4,7 @@ use Rattle.std.specs.Prelude.{ℕ, ◌+◌, ◌&&◌, ◌==◌, Bool, not, List,
 use Rattle.std.specs.Ordering.{nat_cmp}
 use Rattle.std.specs.Cmp.Lexicographic.{slice_cmp}
 use Rattle.eos_base.specs.Members.{Has, is_found}
+use Rattle.eos_base.specs.declared.partition_name.PartitionName.{PartitionName}
 use Rattle.eos_evidence.specs.declared.application.App.{App}
 use Rattle.eos_items.specs.declared.item.Item.{Item}
 use Rattle.eos_fold.specs.Parts.{PartLog}
@@ -26,32 +27,33 @@ is_part_of topics p = is_found (slice_cmp nat_cmp) topics p.topic
 abbrev pub parts_of : List Topic → List PartLog → List PartLog
 parts_of topics ps = filter (is_part_of topics) ps
 
-abbrev pub place_in : PartLog → Item → Place
-place_in p x = record { partition = part_name p; offset = x.offset }
+-- the place of a record of the partition of this name
+abbrev pub place_in : PartitionName → Item → Place
+place_in n x = record { partition = n; offset = x.offset }
 
 -- the visible records of a source topic's partition
 abbrev pub inputs_in : PartLog → List Place
-inputs_in p = map (place_in p) (visible p)
+inputs_in p = map (place_in (part_name p)) (visible p)
 
-abbrev pub placed : PartLog → Item → Claim → PlacedClaim
-placed p x c = record {
+abbrev pub placed : PartitionName → Item → Claim → PlacedClaim
+placed n x c = record {
   source = record { partition = record { topic = c.topic; partition = c.partition }; offset = c.offset };
   output = c.output;
   of = c.of;
-  at = place_in p x;
+  at = place_in n x;
   writer = x.writer;
 }
 
-abbrev pub claims_with : PartLog → Item → Option Claim → List PlacedClaim
-claims_with p x None = []
-claims_with p x (Some c) = placed p x c ∷ []
+abbrev pub claims_with : PartitionName → Item → Option Claim → List PlacedClaim
+claims_with n x None = []
+claims_with n x (Some c) = placed n x c ∷ []
 
 -- the claim that a record of an output topic's partition is, if it is one
-abbrev pub claims_at : PartLog → Item → List PlacedClaim
-claims_at p x = claims_with p x (claim_of x.headers)
+abbrev pub claims_at : PartitionName → Item → List PlacedClaim
+claims_at n x = claims_with n x (claim_of x.headers)
 
 abbrev pub claims_in : PartLog → List PlacedClaim
-claims_in p = flat_map (claims_at p) (visible p)
+claims_in p = flat_map (claims_at (part_name p)) (visible p)
 
 -- what an application reads, commits and writes: its group's commits of its own sources, its own outputs' claims
 abbrev pub application_of : App → List PartLog → Application

@@ -2,7 +2,13 @@
 //! each once, from a transaction that committed past it, and nothing else stands in the output topics.
 #![tactic(auto)]
 
+mod claims;
+mod committed;
 mod fault;
+mod inputs;
 pub mod laws;
+mod name;
+mod passes;
+mod tables;
 
 pub use fault::LineageFault;

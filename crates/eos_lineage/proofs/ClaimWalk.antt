@@ -1,0 +1,123 @@
+-- Walks over claims, one after the other.
+use Rattle.std.proofs.Common.{◌≡◌, ◌+◌, ◌<◌, ℕ, zero, suc, List, [], ◌∷◌, ◌++◌, length, map, take, get_or, fold, Option, Some, None, option_map, refl, sym, subst, ap, ◌∙◌, inl, inr, true, false, Bool, ◌&&◌, not, arith, if◌then◌else◌, IsPermutation, cond, Result, Ok, Err}
+use Rattle.std.specs.Result.{OnOk}
+use Rattle.std.specs.List.{flat_map, filter, list_any}
+use Rattle.std.specs.Ordering.{is_eq}
+use Rattle.std.proofs.lemmas.List.Sums.{fold-append}
+use Rattle.std.proofs.lemmas.List.Elements.{filter-append}
+use Rattle.std.proofs.lemmas.List.{append-nil, append_assoc, map-append}
+use Rattle.std.proofs.lemmas.Grind.{flat_map-append}
+use Rattle.std.proofs.Math.Seq.{take-suc}
+use Rattle.eos_base.specs.declared.partition_name.PartitionName.{PartitionName}
+use Rattle.eos_base.specs.Least.{lesser_of}
+use Rattle.eos_items.specs.declared.item.Item.{Item}
+use Rattle.eos_fold.specs.Parts.{PartLog}
+use Rattle.eos_claims.specs.declared.place.Place.{Place}
+use Rattle.eos_claims.specs.declared.fault.OutputFault.{OutputFault}
+use Rattle.eos_claims.specs.Outputs.{PlacedClaim, Application}
+use Rattle.eos_claims.specs.Faults.{fault_cmp}
+use Rattle.eos_claims.specs.declared.alone.SourceTests.{SourceTests}
+use Rattle.eos_claims.specs.Headers.{claim_of}
+use Rattle.eos_claims.specs.Candidates.{Counted, counted, shown, shown_by, is_input, is_committed, is_out_of_range}
+use Rattle.eos_commits.specs.Visible.{is_visible}
+use Rattle.eos_lineage.specs.Lineage.{claims_with}
+use Rattle.eos_lineage.specs.declared.tables.Known.{Known}
+use Rattle.eos_lineage.specs.steps.Walks.{WalkView, HasWalked, begun, is_below, claim_at, claims_of_part, KnowsPlace, AreTests, kept_of}
+
+pub walked_none : (a : Application) (w : WalkView) → HasWalked a w w []
+walked_none a w = record { best = refl; below = sym (append-nil w.below) }
+
+pub walked_then : (a : Application) (u v w : WalkView) (cs ds : List PlacedClaim) → HasWalked a u v cs → HasWalked a v w ds → HasWalked a u w (cs ++ ds)
+walked_then a u v w cs ds h k = record {
+  best = k.best ∙ (ap (λ b. fold (lesser_of fault_cmp) b (flat_map (shown_by a) ds)) h.best
+      ∙ (sym (fold-append (lesser_of fault_cmp) u.best (flat_map (shown_by a) cs) (flat_map (shown_by a) ds))
+      ∙ ap (fold (lesser_of fault_cmp) u.best) (sym (flat_map-append (shown_by a) cs ds))));
+  below = k.below ∙ (ap (λ (ns : List Counted). ns ++ map counted (filter (is_below a) ds)) h.below
+      ∙ (append_assoc u.below (map counted (filter (is_below a) cs)) (map counted (filter (is_below a) ds))
+      ∙ ap (λ (ns : List Counted). u.below ++ ns) (sym (map-append counted (filter (is_below a) cs) (filter (is_below a) ds)) ∙ ap (map counted) (sym (filter-append (is_below a) cs ds)))));
+}
+
+-- ---- over the records of a partition
+
+pub record WalkedSoFar (a : Application) (before after : WalkView) (name : PartitionName) (left all : List Item) : Type 0 where
+  pub done : List PlacedClaim
+  pub parts : done ++ flat_map (claim_at name) left ≡ flat_map (claim_at name) all
+  pub walked : HasWalked a before after done
+
+pub at_first : (a : Application) (w : WalkView) (name : PartitionName) (all left : List Item) → left ≡ all → WalkedSoFar a w w name left all
+at_first a w name all left e = record { done = []; parts = ap (flat_map (claim_at name)) e; walked = walked_none a w }
+
+pub at_next : (a : Application) (u v w : WalkView) (name : PartitionName) (left rest all : List Item) (x : Item) → WalkedSoFar a u v name left all → left ≡ x ∷ rest
+    → HasWalked a v w (claim_at name x) → WalkedSoFar a u w name rest all
+at_next a u v w name left rest all x s e h = record {
+  done = s.done ++ claim_at name x;
+  parts = append_assoc s.done (claim_at name x) (flat_map (claim_at name) rest) ∙ (ap (λ (zs : List Item). s.done ++ flat_map (claim_at name) zs) (sym e) ∙ s.parts);
+  walked = walked_then a u v w s.done (claim_at name x) s.walked h;
+}
+
+pub at_last : (a : Application) (u v : WalkView) (name : PartitionName) (left all : List Item) → WalkedSoFar a u v name left all → left ≡ [] → HasWalked a u v (flat_map (claim_at name) all)
+at_last a u v name left all s e = subst (HasWalked a u v) (sym (append-nil s.done) ∙ (ap (λ (zs : List Item). s.done ++ flat_map (claim_at name) zs) (sym e) ∙ s.parts)) s.walked
+
+-- ---- over the partitions
+
+pub walked_part : (a : Application) (u v w : WalkView) (topics : List (List ℕ)) (ps : List PartLog) (i : ℕ) (d : PartLog) → i < length ps
+    → HasWalked a u v (flat_map (claims_of_part topics) (take i ps)) → HasWalked a v w (claims_of_part topics (get_or ps i d))
+    → HasWalked a u w (flat_map (claims_of_part topics) (take (i + 1) ps))
+walked_part a u v w topics ps i d lt h k =
+    let e : suc i ≡ i + 1 = omega arith in
+    let cut : take (suc i) ps ≡ take i ps ++ (get_or ps i d ∷ []) = take-suc ps i d lt in
+    let one : flat_map (claims_of_part topics) (get_or ps i d ∷ []) ≡ claims_of_part topics (get_or ps i d) = append-nil (claims_of_part topics (get_or ps i d)) in
+    let whole : flat_map (claims_of_part topics) (take (suc i) ps) ≡ flat_map (claims_of_part topics) (take i ps) ++ claims_of_part topics (get_or ps i d)
+    = ap (flat_map (claims_of_part topics)) cut ∙ (flat_map-append (claims_of_part topics) (take i ps) (get_or ps i d ∷ []) ∙ ap (λ (zs : List PlacedClaim). flat_map (claims_of_part topics) (take i ps) ++ zs) one) in
+    subst (λ j. HasWalked a u w (flat_map (claims_of_part topics) (take j ps))) e
+    (subst (HasWalked a u w) (sym whole) (walked_then a u v w (flat_map (claims_of_part topics) (take i ps)) (claims_of_part topics (get_or ps i d)) h k))
+
+-- ---- one claim
+
+shown_same : (s m o p m' : Bool) (i : Bool) (n : Counted) → (i ≡ true → m ≡ m') → shown s i m o p n ≡ shown s i m' o p n
+shown_same false m o p m' i n e = refl
+shown_same true m o p m' false n e = refl
+shown_same true m o p m' true n e = ap (λ b. shown true true b o p n) (e refl)
+
+shown_tests : (a : Application) (c : PlacedClaim) (t : SourceTests) → AreTests a c.source c.writer t
+    → shown t.is_source t.is_input t.is_committed (is_out_of_range c.of c.output) t.is_passed (counted c) ≡ shown_by a c
+shown_tests a c t are =
+    shown_same t.is_source t.is_committed (is_out_of_range c.of c.output) t.is_passed (is_committed a c.source) t.is_input (counted c) are.committed
+    ∙ (λ j. shown (are.source j) (are.input j) (is_committed a c.source) (is_out_of_range c.of c.output) (are.passed j) (counted c))
+
+kept_known : (a : Application) (c : PlacedClaim) (known : Option Known) → KnowsPlace a c.source known → kept_of known (counted c) ≡ map counted (filter (is_below a) (c ∷ []))
+kept_known a c None unknown = go (is_input a c.source) (is_committed a c.source) unknown
+  where
+    go : (i m : Bool) → i ≡ false → [] ≡ map counted (cond (i && m) (c ∷ []) [])
+    go false m e = refl
+    go true m e = absurd cc
+kept_known a c (Some k) known = (λ j. if known.1 j && known.2 j then at (known.0 j) ∷ [] else []) ∙ go (is_input a c.source && is_committed a c.source)
+  where
+    at : Place → Counted
+    at i = record { source = i; output = c.output; of = c.of; at = c.at }
+
+    go : (b : Bool) → (if b then at c.source ∷ [] else []) ≡ map counted (cond b (c ∷ []) [])
+    go true = refl
+    go false = refl
+
+took_counted : (a : Application) (u v : WalkView) (c : PlacedClaim) (known : Option Known) (t : SourceTests) → KnowsPlace a c.source known → AreTests a c.source c.writer t
+    → v.best ≡ fold (lesser_of fault_cmp) u.best (shown t.is_source t.is_input t.is_committed (is_out_of_range c.of c.output) t.is_passed (counted c))
+    → v.below ≡ u.below ++ kept_of known (counted c) → HasWalked a u v (c ∷ [])
+took_counted a u v c known t knows are best below = record {
+  best = best ∙ ap (fold (lesser_of fault_cmp) u.best) (shown_tests a c t are ∙ sym (append-nil (shown_by a c)));
+  below = below ∙ ap (λ (ns : List Counted). u.below ++ ns) (kept_known a c known knows);
+}
+
+pub took : (a : Application) (u v : WalkView) (c : PlacedClaim) (n : Counted) (known : Option Known) (t : SourceTests) → n ≡ counted c → KnowsPlace a n.source known → AreTests a n.source c.writer t
+    → v.best ≡ fold (lesser_of fault_cmp) u.best (shown t.is_source t.is_input t.is_committed (is_out_of_range n.of n.output) t.is_passed n)
+    → v.below ≡ u.below ++ kept_of known n → HasWalked a u v (c ∷ [])
+took a u v c n known t e = subst (λ (m : Counted). KnowsPlace a m.source known → AreTests a m.source c.writer t
+    → v.best ≡ fold (lesser_of fault_cmp) u.best (shown t.is_source t.is_input t.is_committed (is_out_of_range m.of m.output) t.is_passed m)
+    → v.below ≡ u.below ++ kept_of known m → HasWalked a u v (c ∷ [])) (sym e) (took_counted a u v c known t)
+
+pub no_claim : (a : Application) (w : WalkView) (n : PartitionName) (x : Item) → is_visible x.fate ≡ true → claim_of x.headers ≡ None → HasWalked a w w (claim_at n x)
+no_claim a w n x v e = subst (HasWalked a w w) (λ j. if (sym v) j then claims_with n x ((sym e) j) else []) (walked_none a w)
+
+pub on_ok : {A E : Type 0} (r : Result A E) (P Q : Type 0) → (P → Q) → OnOk r P → OnOk r Q
+on_ok (Ok x) P Q f p = f p
+on_ok (Err e) P Q f p = p

@@ -1,0 +1,98 @@
+//! The names of the partitions, among which a lent name is looked up.
+
+ghost use Rattle.std.specs.Prelude.{◌≡◌, Some, map, slice_get, IfOk, IfSome, IfNone};
+ghost use Rattle.eos_base.specs.Members.{Has};
+ghost use Rattle.eos_commits.specs.Visible.{part_name};
+ghost use Rattle.eos_lineage.specs.steps.Tables.{plain_name, AreAscending};
+
+use eos_base::PartitionName;
+use eos_fold::Part;
+use std::alloc::{AllocError, Global};
+use std::marker::Model;
+
+/// A partition's name whose topic is lent.
+#[derive(Clone, Copy, PartialEq, Eq, PartialOrd, Ord)]
+struct NameRef<'a> {
+    topic: &'a [u8],
+    partition: i32,
+}
+
+/// The names of partitions, which contracts see as a list.
+#[derive(Drop)]
+pub(crate) struct Names<'a> {
+    names: &'a [PartitionName],
+    refs: Vec<NameRef<'a>>,
+}
+
+impl<'a> Model for Names<'a> {
+    ghost use Rattle.std.specs.Prelude.{◌≡◌, List, map};
+    ghost use Rattle.eos_base.specs.declared.partition_name.PartitionName.{PartitionName};
+    ghost use Rattle.eos_lineage.specs.steps.Tables.{plain_name};
+
+    ghost Value = { List PartitionName };
+
+    ghost view = { λ n. n.names.now };
+
+    ghost invariant = { λ n. map plain_name n.refs.items ≡ n.names.now };
+}
+
+/// A partition's place among the names, and its name.
+#[derive(Clone, Copy)]
+pub(crate) struct NamedPart<'a> {
+    pub(crate) place: usize,
+    pub(crate) name: &'a PartitionName,
+}
+
+/// The name of each part, in their order.
+pub(crate) fn names_of(alloc: Global, parts: &[Part]) -> Result<Vec<PartitionName>, AllocError>
+    ensures { IfOk result (λ names. names.items ≡ map part_name parts.now) }
+{
+    let mut names = Vec::new(alloc);
+    for part in parts {
+        names.push(PartitionName {
+            topic: part.topic().clone()?,
+            partition: part.partition(),
+        })?;
+    }
+    Ok(names)
+}
+
+fn refs_of<'a>(alloc: Global, names: &'a [PartitionName]) -> Result<Vec<NameRef<'a>>, AllocError>
+    ensures { IfOk result (λ refs. map plain_name refs.items ≡ names.entry.now) }
+{
+    let mut refs = Vec::new(alloc);
+    for name in names {
+        refs.push(NameRef {
+            topic: name.topic.as_slice(),
+            partition: name.partition,
+        })?;
+    }
+    Ok(refs)
+}
+
+impl<'a> Names<'a> {
+    /// These names, in their order.
+    pub(crate) fn of(alloc: Global, names: &'a [PartitionName]) -> Result<Names<'a>, AllocError>
+        ensures { IfOk result (λ n. n ≡ names.entry.now) }
+    {
+        let refs = refs_of(alloc, names)?;
+        Ok(Names { names, refs })
+    }
+
+    /// The partition of this name, by a binary search: where names ascend, there is none only where it isn't among them.
+    pub(crate) fn find(&self, topic: &[u8], partition: i32) -> Option<NamedPart<'a>>
+        ensures found { IfSome result (λ p. slice_get self.now p.place ≡ Some p.name.now) }
+        ensures named { IfSome result (λ p. slice_get self.now p.place ≡ Some (record { topic = topic.now; partition = partition })) }
+        ensures absent { IfNone result (AreAscending self.now → Has self.now (record { topic = topic.now; partition = partition }) → ⊥) }
+    {
+        let key = NameRef { topic, partition };
+        let names = self.names;
+        match self.refs.binary_search(&key) {
+            Ok(place) => Some(NamedPart {
+                place,
+                name: &names[place],
+            }),
+            Err(_) => None,
+        }
+    }
+}

@@ -1,0 +1,129 @@
+//! What is known of the place that a claim names, by the tables of one application.
+
+ghost use Rattle.std.specs.Prelude.{◌≡◌, IsSorted, slice_get};
+ghost use Rattle.eos_base.specs.Members.{Has, is_found};
+ghost use Rattle.eos_claims.specs.declared.place.Place.{Place};
+ghost use Rattle.eos_claims.specs.Outputs.{Application};
+ghost use Rattle.eos_claims.specs.Candidates.{is_committed as is_committed_in};
+ghost use Rattle.eos_claims.specs.Plain.{plain_source, plain_place};
+ghost use Rattle.eos_lineage.specs.steps.Walks.{AreTables, KnowsPlace, AreTests, by_place, is_below_in, flags_of};
+
+use crate::committed::is_before;
+use crate::name::{NamedPart, Names};
+use crate::passes::PassTable;
+use eos_claims::{PlaceRef, SourceRef, SourceTests};
+use eos_commits::TopicSet;
+
+/// What an application reads and commits, in order for look-ups.
+#[derive(Clone, Copy)]
+pub(crate) struct Tables<'a> {
+    /// The partitions' names.
+    pub(crate) names: &'a Names<'a>,
+    /// The topics that it reads.
+    pub(crate) sources: &'a TopicSet<'a>,
+    /// The visible records of these.
+    pub(crate) inputs: &'a [PlaceRef<'a>],
+    /// The committed offset of each partition, in the order of the names.
+    pub(crate) offsets: &'a [i64],
+    /// What its group's transactions committed past.
+    pub(crate) passes: &'a PassTable<'a>,
+}
+
+/// A place in a partition of the evidence.
+#[derive(Clone, Copy)]
+pub(crate) struct Known<'a> {
+    pub(crate) place: PlaceRef<'a>,
+    pub(crate) is_input: bool,
+    pub(crate) is_committed: bool,
+}
+
+/// Whether one of the items is tied with the key, by a binary search: of items in order.
+fn is_among<T: Ord>(items: &[T], key: &T) -> bool
+    ensures { IsSorted T.cmp items.now → result ≡ is_found T.cmp items.now key.now }
+{
+    items.binary_search(key).is_ok()
+}
+
+// Whether the offset is below the one that stands at this place.
+fn is_below_at(offsets: &[i64], place: usize, offset: u64) -> bool
+    ensures { result ≡ is_below_in (slice_get offsets.now place) offset }
+{
+    match offsets.get(place) {
+        None => false,
+        Some(committed) => is_before(offset, *committed),
+    }
+}
+
+fn known_at<'a>(tables: &Tables<'a>, part: NamedPart<'a>, offset: u64) -> Known<'a>
+    ensures place { plain_place result.place ≡ record { partition = part.entry.name.now; offset = offset } }
+    ensures input { IsSorted by_place tables.entry.now.inputs.now → result.is_input ≡ is_found by_place tables.entry.now.inputs.now result.place }
+    ensures committed { result.is_committed ≡ is_below_in (slice_get tables.entry.now.offsets.now part.entry.place) offset }
+{
+    let place = PlaceRef {
+        partition: part.name,
+        offset,
+    };
+    Known {
+        place,
+        is_input: is_among(tables.inputs, &place),
+        is_committed: is_below_at(tables.offsets, part.place, offset),
+    }
+}
+
+/// What is known of the place: nothing where its partition isn't there.
+pub(crate) fn known_of<'a>(tables: &Tables<'a>, source: &SourceRef<'_>) -> Option<Known<'a>>
+    ensures { (a : Application) → AreTables a tables.entry.now → KnowsPlace a (plain_source source.now) result }
+{
+    let part = tables.names.find(source.topic, source.partition)?;
+    Some(known_at(tables, part, source.offset))
+}
+
+// Whether it is an input, and whether that is below its committed offset.
+fn flags(known: &Option<Known<'_>>) -> (bool, bool)
+    ensures { result ≡ flags_of known.now }
+{
+    match known {
+        None => (false, false),
+        Some(known) => (known.is_input, known.is_committed),
+    }
+}
+
+/// What is known of a claim's source.
+pub(crate) fn tests_of(
+    tables: &Tables<'_>,
+    known: &Option<Known<'_>>,
+    source: &SourceRef<'_>,
+    writer: Option<(i64, i16)>,
+) -> SourceTests
+    ensures { (a : Application) → AreTables a tables.now → KnowsPlace a (plain_source source.now) known.now → AreTests a (plain_source source.now) writer result }
+{
+    let (is_input, is_committed) = flags(known);
+    SourceTests {
+        is_source: tables.sources.has(source.topic),
+        is_input,
+        is_committed,
+        is_passed: tables.passes.is_passed(writer, source),
+    }
+}
+
+// The same place.
+fn source_of<'a>(place: &PlaceRef<'a>) -> SourceRef<'a>
+    ensures { plain_source result ≡ plain_place place.entry.now }
+{
+    SourceRef {
+        topic: place.partition.topic.as_slice(),
+        partition: place.partition.partition,
+        offset: place.offset,
+    }
+}
+
+/// Whether an input is below its committed offset.
+pub(crate) fn is_committed(tables: &Tables<'_>, input: &PlaceRef<'_>) -> bool
+    ensures { (a : Application) → AreTables a tables.now → Has a.inputs (plain_place input.now) → result ≡ is_committed_in a (plain_place input.now) }
+{
+    let source = source_of(input);
+    match known_of(tables, &source) {
+        None => false,
+        Some(known) => known.is_committed,
+    }
+}
