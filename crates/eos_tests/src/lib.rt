@@ -23,6 +23,8 @@ mod items;
 #[cfg(test)]
 mod offsets;
 #[cfg(test)]
+mod report;
+#[cfg(test)]
 mod segment_reader;
 #[cfg(test)]
 mod table;
