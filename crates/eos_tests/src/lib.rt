@@ -19,6 +19,8 @@ mod evidence;
 #[cfg(test)]
 mod fault_names;
 #[cfg(test)]
+mod fold;
+#[cfg(test)]
 mod items;
 #[cfg(test)]
 mod offsets;
