@@ -1,3 +1,10 @@
 pub mod PairFaults
 pub mod EndedData
 pub mod RulesLaw
+pub mod LogsInOrder
+pub mod FirstFault
+pub mod GoodLaw
+pub mod VerdictsMade
+pub mod RunsMade
+pub mod OneShard
+pub mod PhaseAnswers

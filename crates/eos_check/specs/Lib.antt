@@ -1,3 +1,4 @@
 pub mod PartitionRules
 pub mod Good
 pub mod Verdicts
+pub mod steps

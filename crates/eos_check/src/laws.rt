@@ -3,14 +3,24 @@
 ghost use Rattle.std.specs.Prelude.{◌≡◌, ◌↔◌, ℕ, ℤ, List};
 ghost use Rattle.eos_base.specs.Least.{NoneStands};
 ghost use Rattle.eos_batch.specs.declared.batch.Batch.{Batch};
+ghost use Rattle.eos_check.specs.Good.{AreLogsOf, Good};
 ghost use Rattle.eos_check.specs.PartitionRules.{KeepsRules};
+ghost use Rattle.eos_check.specs.Verdicts.{Stands};
+ghost use Rattle.eos_evidence.specs.Evidence.{EvidenceParts, IsEvidence};
 ghost use Rattle.eos_evidence.specs.declared.segment.Segment.{Segment};
 ghost use Rattle.eos_fold.specs.declared.stop.Stop.{Stop};
 ghost use Rattle.eos_fold.specs.Fronts.{IsFront};
+ghost use Rattle.eos_fold.specs.Parts.{PartLog};
 ghost use Rattle.eos_fold.specs.Standing.{IsStanding};
 
 /// A partition's log is whole, sequenced and fenced exactly where no fault stands in it.
 pub fn partition_rules()
     ensures { (topic : List ℕ) (number end : ℤ) (segments : List Segment) (batches : List Batch) (stop : Stop) → IsFront 0 segments batches stop
         → NoneStands (IsStanding topic number end batches stop) ↔ KeepsRules topic end batches stop }
+{}
+
+/// An evidence is good exactly where no fault of any phase stands.
+pub fn good_evidence()
+    ensures { (e : EvidenceParts) (logs : List PartLog) (of : AreLogsOf e.partitions logs) → IsEvidence e
+        → Good e logs of ↔ NoneStands (Stands e logs of) }
 {}

@@ -2,6 +2,8 @@
 #![tactic(auto)]
 
 pub mod laws;
+mod parts;
+mod phases;
 mod verdict;
 
 pub use verdict::{Counts, Fault, Verdict};

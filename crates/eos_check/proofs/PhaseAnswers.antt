@@ -1,0 +1,53 @@
+-- What the phases answer, put together.
+use Rattle.std.proofs.Common.{◌≡◌, ℕ, List, Option, Some, None, Result, Ok, Err, length, refl, sym, ap, subst, ◌∙◌}
+use Rattle.std.specs.Prelude.{IfOk}
+use Rattle.std.specs.Result.{MatchResult}
+use Rattle.eos_base.specs.Least.{NoneStands, IsLeast, IsLeastOrNone}
+use Rattle.eos_evidence.specs.Evidence.{EvidenceParts, IsEvidence}
+use Rattle.eos_fold.specs.declared.fault.PartitionFault.{PartitionFault}
+use Rattle.eos_fold.specs.Parts.{PartLog}
+use Rattle.eos_txnlog.specs.declared.decision.Decision.{Decision}
+use Rattle.eos_table.specs.declared.log_fault.LogFault.{LogFault}
+use Rattle.eos_table.specs.TransactionLog.{transaction_parts, decisions_of, AreInOrder}
+use Rattle.eos_table.specs.LogFaults as logs
+use Rattle.eos_table.specs.MatchFaults as matches
+use Rattle.eos_check.specs.declared.verdict.Fault.{Fault}
+use Rattle.eos_check.specs.declared.verdict.Fault.TheVariants.{Partition as InPartition, Log, Match}
+use Rattle.eos_check.specs.declared.verdict.Verdict.TheVariants.{No}
+use Rattle.eos_check.specs.Good.{AreLogsOf}
+use Rattle.eos_check.specs.Verdicts.{StandsInPartitions, StandsInLog, StandsInMatching, partition_cmp, IsVerdictOf}
+use Rattle.eos_check.specs.steps.Phases.{first_fault, IsMatched, IsTransacted}
+use Rattle.eos_check.proofs.FirstFault.{least_of_first}
+use Rattle.eos_check.proofs.LogsInOrder.{sorted, in_order, log_in_order}
+use Rattle.eos_check.proofs.VerdictsMade.{no_partition, no_log, no_match}
+
+pub if_ok : {X E : Type 0} (r : Result X E) (P Q : X → Type 0) → ((x : X) → P x → Q x) → IfOk r P → IfOk r Q
+if_ok (Ok x) P Q f h = f x h
+if_ok (Err e) P Q f h = h
+
+pub match_ok : {X E : Type 0} (P : X → Type 0) (Q : E → Type 0) (r : Result X E) (x : X) → r ≡ Ok x → MatchResult r P Q → P x
+match_ok P Q r x e h = subst (λ s. MatchResult s P Q) e h
+
+pub partition_found : (e : EvidenceParts) (ls : List PartLog) (of : AreLogsOf e.partitions ls) → IsEvidence e → (f : PartitionFault) → first_fault ls ≡ Some f
+    → IsVerdictOf e ls of (No (InPartition f))
+partition_found e ls of is f at = no_partition e ls of f (subst (IsLeastOrNone partition_cmp (StandsInPartitions e.partitions ls of)) at (least_of_first e.partitions ls of (sorted e is)))
+
+pub partition_none : (e : EvidenceParts) (ls : List PartLog) (of : AreLogsOf e.partitions ls) → IsEvidence e → first_fault ls ≡ None
+    → NoneStands (StandsInPartitions e.partitions ls of)
+partition_none e ls of is at = subst (IsLeastOrNone partition_cmp (StandsInPartitions e.partitions ls of)) at (least_of_first e.partitions ls of (sorted e is))
+
+pub log_found : (e : EvidenceParts) (ls : List PartLog) (of : AreLogsOf e.partitions ls) → IsEvidence e → first_fault ls ≡ None → (f : LogFault)
+    → (AreInOrder (transaction_parts ls) → IsLeast logs.log_cmp (StandsInLog ls) f) → IsVerdictOf e ls of (No (Log f))
+log_found e ls of is at f least = no_log e ls of f (partition_none e ls of is at) (least (log_in_order ls (in_order e ls is of)))
+
+pub matched_found : (e : EvidenceParts) (ls : List PartLog) (of : AreLogsOf e.partitions ls) → IsEvidence e → first_fault ls ≡ None → (ds : List Decision)
+    → (AreInOrder (transaction_parts ls) → NoneStands (StandsInLog ls) × (ds ≡ decisions_of (transaction_parts ls)))
+    → (r : Result ℕ Fault) → IsMatched ds ls r → IsTransacted e ls of r
+matched_found e ls of is at ds read (Ok n) m =
+    let log = read (log_in_order ls (in_order e ls is of)) in
+    let matched : NoneStands (StandsInMatching ls) = subst (λ (xs : List Decision). NoneStands (matches.Stands xs ls)) log.1 m.1 in
+    (m.0 ∙ ap length log.1, partition_none e ls of is at, log.0, matched)
+matched_found e ls of is at ds read (Err f) m =
+    let log = read (log_in_order ls (in_order e ls is of)) in
+    let least : IsLeast matches.fault_cmp (StandsInMatching ls) m.0 = subst (λ (xs : List Decision). IsLeast matches.fault_cmp (matches.Stands xs ls) m.0) log.1 m.2 in
+    subst (λ (g : Fault). IsVerdictOf e ls of (No g)) (sym m.1) (no_match e ls of m.0 (partition_none e ls of is at) log.0 least)

@@ -1,0 +1,52 @@
+-- What the check makes and looks at on its way. For its private steps.
+use Rattle.std.specs.Prelude.{◌≡◌, ◌+◌, ℕ, ℤ, List, [], ◌∷◌, take, length, All, Option, Some, None, Result, Ok, Err, ⊤}
+use Rattle.std.specs.Option.{option_or}
+use Rattle.eos_base.specs.Least.{NoneStands, IsLeast}
+use Rattle.eos_evidence.specs.declared.segment.Segment.{Segment}
+use Rattle.eos_evidence.specs.Evidence.{EvidenceParts}
+use Rattle.eos_fold.specs.declared.fault.PartitionFault.{PartitionFault}
+use Rattle.eos_fold.specs.Parts.{PartLog}
+use Rattle.eos_txnlog.specs.declared.decision.Decision.{Decision}
+use Rattle.eos_table.specs.declared.match_fault.MatchFault.{MatchFault}
+use Rattle.eos_table.specs.MatchFaults as matches
+use Rattle.eos_table.specs.TransactionLog.{transaction_parts, decisions_of}
+use Rattle.eos_check.specs.declared.verdict.Fault.{Fault}
+use Rattle.eos_check.specs.declared.verdict.Fault.TheVariants.{Match}
+use Rattle.eos_check.specs.declared.verdict.Verdict.TheVariants.{No}
+use Rattle.eos_check.specs.Good.{AreLogsOf}
+use Rattle.eos_check.specs.Verdicts.{StandsInPartitions, StandsInLog, StandsInMatching, IsVerdictOf}
+use Rattle.eos_fold.specs.Standing.{AreOf}
+use Rattle.eos_fold.specs.Sums.{NamedView, OneTopic, IsFit}
+
+-- segments of one partition, each within the limits
+pub record AreOwn (segments : List Segment) : Type 0 where
+  pub topic : List ℕ
+  pub number : ℤ
+  pub named : AreOf topic number segments
+  pub fit : All IsFit segments
+
+-- a piece of this number can be put behind the run
+abbrev pub Joins : Option NamedView → ℕ → Segment → Type 0
+Joins None piece segment = ⊤
+Joins (Some run) piece segment = (piece ≡ run.last + 1) × OneTopic run.segments (segment ∷ [])
+
+-- the run of the first so many of these segments
+abbrev pub IsRunTo : ℕ → List Segment → Option NamedView → Type 0
+IsRunTo n segments None = n ≡ 0
+IsRunTo n segments (Some run) = (run.last + 1 ≡ n) × (run.segments ≡ take n segments)
+
+-- the fault of the first partition that has one
+abbrev pub first_fault : List PartLog → Option PartitionFault
+first_fault [] = None
+first_fault (l ∷ ls) = option_or l.fault (first_fault ls)
+
+-- what the matching of these decisions answers: their number, or the least fault
+abbrev pub IsMatched : List Decision → List PartLog → Result ℕ Fault → Type 0
+IsMatched ds ls (Ok n) = (n ≡ length ds) × NoneStands (matches.Stands ds ls)
+IsMatched ds ls (Err f) = (m : MatchFault) × (f ≡ Match m) × IsLeast matches.fault_cmp (matches.Stands ds ls) m
+
+-- what the first three phases answer: the number of transactions, or the verdict
+abbrev pub IsTransacted : (e : EvidenceParts) (ls : List PartLog) → AreLogsOf e.partitions ls → Result ℕ Fault → Type 0
+IsTransacted e ls of (Ok n) =
+    (n ≡ length (decisions_of (transaction_parts ls))) × NoneStands (StandsInPartitions e.partitions ls of) × NoneStands (StandsInLog ls) × NoneStands (StandsInMatching ls)
+IsTransacted e ls of (Err f) = IsVerdictOf e ls of (No f)

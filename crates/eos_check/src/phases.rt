@@ -1,0 +1,66 @@
+//! The phases of the check over the logs, one after the other.
+
+ghost use Rattle.std.specs.Prelude.{◌≡◌, IfOk, option_map};
+ghost use Rattle.eos_check.specs.Good.{AreLogsOf};
+ghost use Rattle.eos_check.specs.steps.Phases.{first_fault, IsMatched, IsTransacted};
+ghost use Rattle.eos_evidence.specs.Evidence.{EvidenceParts, IsEvidence};
+
+use crate::verdict::Fault;
+use eos_fold::{Part, PartitionFault};
+use eos_table::{TxnTable, match_shard, txn_log};
+use eos_txnlog::Decision;
+use std::alloc::{AllocError, Global};
+
+/// The fault of the first partition that has one.
+fn first_fault(parts: &[Part]) -> Option<&PartitionFault>
+    ensures { option_map (λ f. f.now) result ≡ first_fault parts.now }
+{
+    for part in parts {
+        let fault = part.fault();
+        if fault.is_some() {
+            return fault;
+        }
+    }
+    None
+}
+
+/// An equal fault, which shares the bytes.
+fn copied(fault: &PartitionFault) -> Result<PartitionFault, AllocError>
+    ensures { IfOk result (λ copy. copy ≡ fault.now) }
+{
+    Ok(PartitionFault {
+        topic: fault.topic.clone()?,
+        partition: fault.partition,
+        offset: fault.offset,
+        kind: fault.kind,
+    })
+}
+
+/// The number of decisions, or the least fault between them and the logs.
+fn matched(
+    alloc: Global,
+    decisions: Vec<Decision>,
+    parts: &[Part],
+) -> Result<Result<u64, Fault>, AllocError>
+    ensures { IfOk result (IsMatched decisions.items parts.now) }
+{
+    let transactions = decisions.len() as u64;
+    let table = TxnTable::from_decisions(decisions)?;
+    match match_shard(alloc, &table, parts, 0, 1)? {
+        None => Ok(Ok(transactions)),
+        Some(fault) => Ok(Err(Fault::Match(fault))),
+    }
+}
+
+/// The number of transactions, or the least fault of the partitions, the transaction log and the matching.
+pub(crate) fn transactions(alloc: Global, parts: &[Part]) -> Result<Result<u64, Fault>, AllocError>
+    ensures { (e : EvidenceParts) (of : AreLogsOf e.partitions parts.now) → IsEvidence e → IfOk result (IsTransacted e parts.now of) }
+{
+    if let Some(fault) = first_fault(parts) {
+        return Ok(Err(Fault::Partition(copied(fault)?)));
+    }
+    match txn_log(alloc, parts)? {
+        Err(fault) => Ok(Err(Fault::Log(fault))),
+        Ok(decisions) => matched(alloc, decisions, parts),
+    }
+}
