@@ -1,51 +1,144 @@
-//! Decisions against an evidence without partitions, in 1, 3 and 64 shards.
+//! Transactions: what the log decided, and whether data and markers agree, in 1, 3 and 64 shards.
 
 ghost use Rattle.std.specs.Prelude.{◌<◌};
 
+use crate::build::{batch, commit, data, encoded, record};
 use bytes::Bytes;
 use eos_base::{Listed, PartitionName};
-use eos_batch::Kind;
-use eos_table::{MatchFault, MatchFaultKind, TxnTable, match_shard};
-use eos_txnlog::{Decision, TopicPartitions};
+use eos_batch::{Batch, Kind};
+use eos_evidence::Segment;
+use eos_fold::{Named, Part};
+use eos_table::{
+    LogFault, LogFaultKind, MatchFault, MatchFaultKind, TxnTable, match_shard, txn_log,
+};
+use eos_txnlog::{
+    Decision, Partitions, Status, TopicPartitions, TxnFault, TxnValue, encode_key, encode_value,
+};
 use std::alloc::{AllocError, Global};
+use std::test::Fail;
 
-/// A decision of producer id 1000 on these partitions of `out`.
-fn decision(
-    alloc: Global,
-    epoch: i16,
-    marker_epoch: i16,
-    kind: Kind,
-    partitions: &[i32],
-) -> Result<Decision, AllocError> {
-    let mut numbers = Vec::new(alloc);
-    for partition in partitions {
-        numbers.push(*partition)?;
+/// A topic and the number of a partition.
+type Name = (&'static [u8], i32);
+
+/// A record of producer 1000 in the transaction log: its id, status and epoch, and the partitions that it lists.
+type Step = (&'static [u8], Status, i16, &'static [Name]);
+
+const OFFSETS: Name = (b"__consumer_offsets", 0);
+
+const FIRST: Name = (b"out", 0);
+
+const SECOND: Name = (b"out", 1);
+
+const ALL: &[Name] = &[FIRST, SECOND, OFFSETS];
+
+const BUT_SECOND: &[Name] = &[FIRST, OFFSETS];
+
+/// A transaction on all three partitions.
+const COMMITTED: [Step; 5] = [
+    (b"app", Status::Empty, 0, &[]),
+    (b"app", Status::Ongoing, 0, &[FIRST]),
+    (b"app", Status::Ongoing, 0, ALL),
+    (b"app", Status::PrepareCommit, 1, ALL),
+    (b"app", Status::CompleteCommit, 1, &[]),
+];
+
+fn partitions(alloc: Global, names: &[Name]) -> Result<Partitions, AllocError> {
+    let mut list = Listed::new(Vec::new(alloc));
+    for (topic, number) in names {
+        list.push(TopicPartitions {
+            topic: Bytes::from_static(topic),
+            numbers: Listed::new(vec![in alloc; *number]?),
+        })?;
     }
-    let topic = TopicPartitions {
-        topic: Bytes::from_static(b"out"),
-        numbers: Listed::new(numbers),
+    Ok(list)
+}
+
+/// A partition of one segment, named 0.
+fn part(alloc: Global, name: Name, batches: &[Batch], end: i64) -> Result<Part, Fail> {
+    let (topic, partition) = name;
+    let bytes = Bytes::from_vec(encoded(alloc, batches)?)?;
+    if bytes.len() > 1 << 30 {
+        return Err(AllocError)?;
+    }
+    let segment = Segment {
+        topic: Bytes::from_static(topic),
+        partition,
+        base: 0,
+        bytes,
     };
-    Ok(Decision {
-        id: Bytes::from_static(b"app"),
+    let Ok(run) = Named::of(alloc, 0, segment) else {
+        return Err(AllocError)?;
+    };
+    Ok(Part::new(alloc, Bytes::from_static(topic), partition, end, Some(run))?)
+}
+
+/// The first partition of the transaction log, with these records.
+fn log(alloc: Global, steps: &[Step]) -> Result<Part, Fail> {
+    let mut records = Vec::new(alloc);
+    for (id, status, epoch, lists) in steps {
+        let value = TxnValue {
+            producer: 1000,
+            epoch: *epoch,
+            timeout: 60000,
+            status: *status,
+            partitions: partitions(alloc, lists)?,
+            last_update: 5,
+            start: -1,
+        };
+        let key = encode_key(alloc, &Bytes::from_static(id))?;
+        records.push(record(alloc, Some(key), encode_value(alloc, &value, 1)?))?;
+    }
+    part(
+        alloc,
+        (b"__transaction_state", 0),
+        &[batch(records)],
+        steps.len() as i64,
+    )
+}
+
+/// Data of producer 1000 and the marker that ends it.
+fn ended(alloc: Global) -> Result<[Batch; 2], AllocError> {
+    Ok([data(alloc, 0, 0, 1)?, commit(alloc, 1, 1)?])
+}
+
+/// The same, but aborted.
+fn aborted(alloc: Global, epoch: i16) -> Result<[Batch; 2], AllocError> {
+    let key = Bytes::from_static(b"\x00\x00\x00\x00");
+    let value = Bytes::from_static(b"\x00\x00\x00\x00\x00\x00");
+    let marker = Batch {
+        base_offset: 1,
+        attributes: 0x30,
         producer: 1000,
         epoch,
-        marker_epoch,
-        kind,
-        partitions: Listed::new(vec![in alloc; topic]?),
-    })
+        ..batch(vec![in alloc; record(alloc, Some(key), value)]?)
+    };
+    Ok([data(alloc, 0, 0, 1)?, marker])
+}
+
+/// The partitions, in order, with these batches in the second one of `out`, where it is there.
+fn parts(alloc: Global, steps: &[Step], second: Option<&[Batch]>) -> Result<Vec<Part>, Fail> {
+    let mut parts = Vec::new(alloc);
+    parts.push(part(alloc, OFFSETS, &ended(alloc)?, 2)?)?;
+    parts.push(log(alloc, steps)?)?;
+    parts.push(part(alloc, FIRST, &ended(alloc)?, 2)?)?;
+    if let Some(batches) = second {
+        parts.push(part(alloc, SECOND, batches, batches.len() as i64)?)?;
+    }
+    Ok(parts)
 }
 
 /// The fault of the shard that has producer id 1000, where no other shard has one.
 fn only_fault(
     alloc: Global,
     table: &TxnTable,
+    parts: &[Part],
     shards: u32,
 ) -> Result<Option<MatchFault>, AllocError>
     requires { 0 < shards }
 {
     let mut only = None;
     for shard in 0..shards {
-        let found = match_shard(alloc, table, &[], shard, shards)?;
+        let found = match_shard(alloc, table, parts, shard, shards)?;
         if i64::from(shard) == 1000 % i64::from(shards) {
             only = found;
         } else if found.is_some() {
@@ -55,49 +148,149 @@ fn only_fault(
     Ok(only)
 }
 
-#[test]
-fn absent_partition(rt: HostRuntime) -> Result<(), AllocError> {
-    let alloc = rt.alloc();
-    let decision = decision(alloc, 0, 1, Kind::Commit, &[1, 0])?;
-    let table = TxnTable::from_decisions(vec![in alloc; decision]?)?;
-    assert_eq!(rt; table.decisions().len(), 1);
+/// The fault of a log.
+fn log_fault(alloc: Global, steps: &[Step]) -> Result<Option<LogFault>, Fail> {
+    let parts = parts(alloc, steps, None)?;
+    match txn_log(alloc, parts.as_slice())? {
+        Ok(_) => Ok(None),
+        Err(fault) => Ok(Some(fault)),
+    }
+}
+
+/// Whether in any number of shards this is the fault of producer 1000, of epoch 0.
+fn is_fault(
+    alloc: Global,
+    steps: &[Step],
+    second: Option<&[Batch]>,
+    kind: MatchFaultKind,
+    partition: Option<Name>,
+) -> Result<bool, Fail> {
+    let parts = parts(alloc, steps, second)?;
+    let Ok(decisions) = txn_log(alloc, parts.as_slice())? else {
+        return Ok(false);
+    };
+    let table = TxnTable::from_decisions(decisions)?;
+    let mut all = true;
     for shards in [1, 3, 64] {
         let expected = MatchFault {
             producer: 1000,
             epoch: 0,
-            kind: MatchFaultKind::AbsentPartition,
-            partition: Some(PartitionName {
-                topic: Bytes::from_static(b"out"),
-                partition: 0,
+            kind,
+            partition: partition.map(|(topic, partition)| PartitionName {
+                topic: Bytes::from_static(topic),
+                partition,
             }),
         };
-        assert!(rt; only_fault(alloc, &table, shards)? == Some(expected));
+        all = all && only_fault(alloc, &table, parts.as_slice(), shards)? == Some(expected);
     }
-    Ok(())
+    Ok(all)
 }
 
 #[test]
-fn twice_decided(rt: HostRuntime) -> Result<(), AllocError> {
+fn a_committed_transaction(rt: HostRuntime) -> Result<(), Fail> {
     let alloc = rt.alloc();
-    let commit = decision(alloc, 0, 1, Kind::Commit, &[0])?;
-    let abort = decision(alloc, 0, 2, Kind::Abort, &[1])?;
-    let table = TxnTable::from_decisions(vec![in alloc; commit, abort]?)?;
+    let parts = parts(alloc, &COMMITTED, Some(&ended(alloc)?))?;
+    let Ok(decisions) = txn_log(alloc, parts.as_slice())? else {
+        assert!(rt; false);
+        return Ok(());
+    };
+    let expected = Decision {
+        id: Bytes::from_static(b"app"),
+        producer: 1000,
+        epoch: 0,
+        marker_epoch: 1,
+        kind: Kind::Commit,
+        partitions: partitions(alloc, ALL)?,
+    };
+    assert!(rt; decisions.as_slice() == [expected].as_slice());
+    let table = TxnTable::from_decisions(decisions)?;
     for shards in [1, 3, 64] {
-        let expected = MatchFault {
-            producer: 1000,
-            epoch: 0,
-            kind: MatchFaultKind::TwiceDecided,
-            partition: None,
-        };
-        assert!(rt; only_fault(alloc, &table, shards)? == Some(expected));
+        assert!(rt; only_fault(alloc, &table, parts.as_slice(), shards)?.is_none());
     }
     Ok(())
 }
 
 #[test]
-fn no_decision(rt: HostRuntime) -> Result<(), AllocError> {
+fn faults_of_the_log(rt: HostRuntime) -> Result<(), Fail> {
     let alloc = rt.alloc();
-    let table = TxnTable::from_decisions(Vec::new(alloc))?;
-    assert!(rt; match_shard(alloc, &table, &[], 2, 3)?.is_none());
+    let ended: [Step; 4] = [
+        (b"app", Status::Empty, 0, &[]),
+        (b"app", Status::Ongoing, 0, BUT_SECOND),
+        (b"app", Status::PrepareCommit, 1, BUT_SECOND),
+        (b"app", Status::PrepareAbort, 2, &[SECOND]),
+    ];
+    let step = LogFault {
+        partition: 0,
+        offset: 3,
+        kind: LogFaultKind::Step {
+            id: Bytes::from_static(b"app"),
+            why: TxnFault::Order,
+        },
+    };
+    assert!(rt; log_fault(alloc, &ended)? == Some(step));
+    let unfinished = LogFault {
+        partition: 0,
+        offset: 2,
+        kind: LogFaultKind::Unfinished {
+            id: Bytes::from_static(b"app"),
+        },
+    };
+    assert!(rt; log_fault(alloc, &ended[..2])? == Some(unfinished));
+    Ok(())
+}
+
+/// Another transactional id of the same producer id.
+#[test]
+fn two_ids_of_one_producer_id(rt: HostRuntime) -> Result<(), Fail> {
+    let alloc = rt.alloc();
+    let steps: [Step; 5] = [
+        (b"app", Status::Empty, 0, &[]),
+        (b"app", Status::Ongoing, 0, BUT_SECOND),
+        (b"app", Status::PrepareCommit, 1, BUT_SECOND),
+        (b"app", Status::CompleteCommit, 1, &[]),
+        (b"bpp", Status::Empty, 0, &[]),
+    ];
+    let shared = LogFault {
+        partition: 0,
+        offset: 4,
+        kind: LogFaultKind::SharedProducer {
+            id: Bytes::from_static(b"bpp"),
+        },
+    };
+    assert!(rt; log_fault(alloc, &steps)? == Some(shared));
+    Ok(())
+}
+
+/// The second partition's transaction is decided as another one of the same data epoch.
+#[test]
+fn decided_twice(rt: HostRuntime) -> Result<(), Fail> {
+    let alloc = rt.alloc();
+    let steps: [Step; 7] = [
+        (b"app", Status::Empty, 0, &[]),
+        (b"app", Status::Ongoing, 0, BUT_SECOND),
+        (b"app", Status::PrepareCommit, 1, BUT_SECOND),
+        (b"app", Status::CompleteCommit, 1, &[]),
+        (b"app", Status::Ongoing, 0, &[SECOND]),
+        (b"app", Status::PrepareAbort, 2, &[SECOND]),
+        (b"app", Status::CompleteAbort, 2, &[]),
+    ];
+    let second = aborted(alloc, 2)?;
+    let kind = MatchFaultKind::TwiceDecided;
+    assert!(rt; is_fault(alloc, &steps, Some(&second), kind, None)?);
+    Ok(())
+}
+
+/// The second partition has no marker, one of the other kind, or isn't there.
+#[test]
+fn a_partition_disagrees(rt: HostRuntime) -> Result<(), Fail> {
+    let alloc = rt.alloc();
+    let place = Some(SECOND);
+    let missing = MatchFaultKind::MissingMarker;
+    assert!(rt; is_fault(alloc, &COMMITTED, Some(&[]), missing, place)?);
+    let other = aborted(alloc, 1)?;
+    let wrong = MatchFaultKind::WrongKind;
+    assert!(rt; is_fault(alloc, &COMMITTED, Some(&other), wrong, place)?);
+    let absent = MatchFaultKind::AbsentPartition;
+    assert!(rt; is_fault(alloc, &COMMITTED, None, absent, place)?);
     Ok(())
 }
