@@ -23,12 +23,12 @@ use Rattle.eos_check.specs.steps.Phases.{first_fault}
 use Rattle.eos_check.proofs.LogsInOrder.{ends_of, end_name}
 
 -- a fault that stands in one partition is of it
-of_partition : (p : Partition) (l : PartLog) (of : IsLogOf p l) (f : PartitionFault)
+pub of_partition : (p : Partition) (l : PartLog) (of : IsLogOf p l) (f : PartitionFault)
     → folds.IsStanding p.end.topic p.end.partition p.end.end of.batches of.stop f → name_in f ≡ end_name p.end
 of_partition p l of f s = λ i. record { topic = s.of_topic i; partition = s.of_number i }
 
 -- those of later partitions have greater names
-later : (e : End) (ps : List Partition) (ls : List PartLog) (of : AreLogsOf ps ls) → AllByRecursion (λ f. end_cmp e f ≡ Less) (ends_of ps)
+pub later : (e : End) (ps : List Partition) (ls : List PartLog) (of : AreLogsOf ps ls) → AllByRecursion (λ f. end_cmp e f ≡ Less) (ends_of ps)
     → (g : PartitionFault) → StandsInPartitions ps ls of g → name_cmp (end_name e) (name_in g) ≡ Less
 later e [] [] of h g s = absurd s
 later e [] (l ∷ ls) of h g s = absurd s

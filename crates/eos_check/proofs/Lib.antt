@@ -8,3 +8,7 @@ pub mod VerdictsMade
 pub mod RunsMade
 pub mod OneShard
 pub mod PhaseAnswers
+pub mod FrontsUnique
+pub mod VerdictsUnique
+pub mod LogsUnique
+pub mod OneVerdict

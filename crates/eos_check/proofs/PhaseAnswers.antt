@@ -12,14 +12,17 @@ use Rattle.eos_table.specs.TransactionLog.{transaction_parts, decisions_of, AreI
 use Rattle.eos_table.specs.LogFaults as logs
 use Rattle.eos_table.specs.MatchFaults as matches
 use Rattle.eos_check.specs.declared.verdict.Fault.{Fault}
-use Rattle.eos_check.specs.declared.verdict.Fault.TheVariants.{Partition as InPartition, Log, Match}
-use Rattle.eos_check.specs.declared.verdict.Verdict.TheVariants.{No}
+use Rattle.eos_commits.specs.Faults as commits
+use Rattle.eos_lineage.specs.declared.fault.LineageFault.{LineageFault}
+use Rattle.eos_lineage.specs.Faults as lineage
+use Rattle.eos_check.specs.declared.verdict.Fault.TheVariants.{Partition as InPartition, Log, Match, Lineage}
+use Rattle.eos_check.specs.declared.verdict.Verdict.TheVariants.{Yes, No}
 use Rattle.eos_check.specs.Good.{AreLogsOf}
 use Rattle.eos_check.specs.Verdicts.{StandsInPartitions, StandsInLog, StandsInMatching, partition_cmp, IsVerdictOf}
 use Rattle.eos_check.specs.steps.Phases.{first_fault, IsMatched, IsTransacted}
 use Rattle.eos_check.proofs.FirstFault.{least_of_first}
 use Rattle.eos_check.proofs.LogsInOrder.{sorted, in_order, log_in_order}
-use Rattle.eos_check.proofs.VerdictsMade.{no_partition, no_log, no_match}
+use Rattle.eos_check.proofs.VerdictsMade.{no_partition, no_log, no_match, no_lineage, yes}
 
 pub if_ok : {X E : Type 0} (r : Result X E) (P Q : X → Type 0) → ((x : X) → P x → Q x) → IfOk r P → IfOk r Q
 if_ok (Ok x) P Q f h = f x h
@@ -51,3 +54,16 @@ matched_found e ls of is at ds read (Err f) m =
     let log = read (log_in_order ls (in_order e ls is of)) in
     let least : IsLeast matches.fault_cmp (StandsInMatching ls) m.0 = subst (λ (xs : List Decision). IsLeast matches.fault_cmp (matches.Stands xs ls) m.0) log.1 m.2 in
     subst (λ (g : Fault). IsVerdictOf e ls of (No g)) (sym m.1) (no_match e ls of m.0 (partition_none e ls of is at) log.0 least)
+
+-- ---- the last two phases
+
+pub lineage_found : (e : EvidenceParts) (ls : List PartLog) (of : AreLogsOf e.partitions ls) → IsEvidence e → (n : ℕ) → IsTransacted e ls of (Ok n) → (f : LineageFault)
+    → (commits.AreInOrder ls → IsLeast (lineage.lineage_cmp e.spec.apps) (lineage.Stands e.spec.apps ls) f) → IsVerdictOf e ls of (No (Lineage f))
+lineage_found e ls of is n t f least = no_lineage e ls of f t.1 t.2 t.3 (least (in_order e ls is of))
+
+pub lineage_kept : (e : EvidenceParts) (ls : List PartLog) (of : AreLogsOf e.partitions ls) → IsEvidence e → (n : ℕ) → IsTransacted e ls of (Ok n) → (inputs outputs : ℕ)
+    → (commits.AreInOrder ls → lineage.IsAnswer e.spec.apps ls (Ok (inputs, outputs)))
+    → IsVerdictOf e ls of (Yes (record { transactions = n; inputs = inputs; outputs = outputs }))
+lineage_kept e ls of is n t inputs outputs answer =
+    let a = answer (in_order e ls is of) in
+    yes e ls of (record { transactions = n; inputs = inputs; outputs = outputs }) is t.1 t.2 t.3 a.0 (record { transactions = t.0; inputs = a.1; outputs = a.2 })

@@ -5,7 +5,8 @@ ghost use Rattle.eos_base.specs.Least.{NoneStands};
 ghost use Rattle.eos_batch.specs.declared.batch.Batch.{Batch};
 ghost use Rattle.eos_check.specs.Good.{AreLogsOf, Good};
 ghost use Rattle.eos_check.specs.PartitionRules.{KeepsRules};
-ghost use Rattle.eos_check.specs.Verdicts.{Stands};
+ghost use Rattle.eos_check.specs.Verdicts.{Stands, IsVerdict};
+ghost use Rattle.eos_check.specs.declared.verdict.Verdict.{Verdict};
 ghost use Rattle.eos_evidence.specs.Evidence.{EvidenceParts, IsEvidence};
 ghost use Rattle.eos_evidence.specs.declared.segment.Segment.{Segment};
 ghost use Rattle.eos_fold.specs.declared.stop.Stop.{Stop};
@@ -23,4 +24,9 @@ pub fn partition_rules()
 pub fn good_evidence()
     ensures { (e : EvidenceParts) (logs : List PartLog) (of : AreLogsOf e.partitions logs) → IsEvidence e
         → Good e logs of ↔ NoneStands (Stands e logs of) }
+{}
+
+/// Two verdicts of one evidence are equal.
+pub fn one_verdict()
+    ensures { (e : EvidenceParts) → IsEvidence e → (v w : Verdict) → IsVerdict e v → IsVerdict e w → v ≡ w }
 {}

@@ -1,0 +1,117 @@
+-- Where no fault stands in the partitions, an evidence has one list of logs.
+use Rattle.std.proofs.Common.{◌≡◌, ◌↔◌, ℕ, zero, suc, ◌<◌, inl, inr, Bool, true, false, List, [], ◌∷◌, Option, Some, None, length, get_or, refl, sym, ap, subst, ◌∙◌, arith}
+use Rattle.std.specs.List.{All, AllPairs}
+use Rattle.std.specs.Ordering.{is_lt, ordering_reverse}
+use Rattle.std.specs.Cmp.{IsTotalOrder}
+use Rattle.std.specs.declared.cmp.Ordering.{Ordering}
+use Rattle.std.specs.declared.cmp.Ordering.TheVariants.{Less, Equal, Greater}
+use Rattle.std.proofs.lemmas.Cmp.{tied_itself}
+use Rattle.eos_base.specs.Least.{NoneStands, IsLeastOrNone, IsLeast}
+use Rattle.eos_base.specs.Members.{Has}
+use Rattle.eos_touch.proofs.AllTouches.{AllPairs-head, AllPairs-tail}
+use Rattle.eos_batch.specs.declared.batch.Batch.{Batch}
+use Rattle.eos_evidence.specs.declared.partition.Partition.{Partition}
+use Rattle.eos_items.specs.Items.{items_of}
+use Rattle.eos_fold.specs.declared.close.Close.{Close}
+use Rattle.eos_fold.specs.declared.fault.PartitionFault.{PartitionFault}
+use Rattle.eos_fold.specs.Closes.{close_cmp}
+use Rattle.eos_fold.specs.Parts.{PartLog, Ascends}
+use Rattle.eos_fold.specs.Whole.{AreCloses, closes_in, data_in}
+use Rattle.eos_fold.specs.Fronts.{markers_of}
+use Rattle.eos_fold.specs.Standing as folds
+use Rattle.eos_fold.proofs.ClosesOnce.{close_total}
+use Rattle.eos_check.specs.Good.{IsLogOf, AreLogsOf}
+use Rattle.eos_check.specs.Verdicts.{StandsInPartitions}
+use Rattle.eos_check.proofs.FrontsUnique.{one_front}
+use Rattle.eos_check.proofs.VerdictsUnique.{same_standing}
+
+-- ---- ascending lists of the same members
+
+all_has : {X : Type 0} (P : X → Type 0) (xs : List X) → All P xs → (x : X) → Has xs x → P x
+all_has P [] h x m = absurd m
+all_has P (y ∷ ys) h x (inl e) = subst P e (h 0 y (omega arith))
+all_has P (y ∷ ys) h x (inr m) = all_has P ys (λ k d l. h (suc k) d (omega (arith, l))) x m
+
+abbrev Before : Close → Close → Type 0
+Before c d = is_lt (close_cmp c d) ≡ true
+
+behind : (c : Close) (cs : List Close) → Ascends (c ∷ cs) → (d : Close) → Has cs d → Before c d
+behind c cs h = all_has (Before c) cs (AllPairs-head Before c cs h)
+
+both_less : (a b : Ordering) → a ≡ ordering_reverse b → is_lt a ≡ true → is_lt b ≡ true → ⊥
+both_less Less Less e p q = cc
+both_less Less Equal e p q = cc
+both_less Less Greater e p q = cc
+both_less Equal b e p q = cc
+both_less Greater b e p q = cc
+
+not_both : (c d : Close) → Before c d → Before d c → ⊥
+not_both c d p q = both_less (close_cmp c d) (close_cmp d c) (close_total.antisymm c d) p q
+
+not_itself : (c : Close) → Before c c → ⊥
+not_itself c p = not_both c c p p
+
+one_list : (cs ds : List Close) → Ascends cs → Ascends ds → ((c : Close) → Has cs c → Has ds c) → ((c : Close) → Has ds c → Has cs c) → cs ≡ ds
+one_list [] [] a b f g = refl
+one_list [] (d ∷ ds) a b f g = absurd (g d (inl refl))
+one_list (c ∷ cs) [] a b f g = absurd (f c (inl refl))
+one_list (c ∷ cs) (d ∷ ds) a b f g =
+    by_first (first (f c (inl refl)) (g d (inl refl))) (one_list cs ds (AllPairs-tail Before c cs a) (AllPairs-tail Before d ds b))
+  where
+    first : Has (d ∷ ds) c → Has (c ∷ cs) d → c ≡ d
+    first (inl e) k = sym e
+    first (inr h) (inl e) = e
+    first (inr h) (inr k) = absurd (not_both c d (behind c cs a d k) (behind d ds b c h))
+
+    forth : c ≡ d → (x : Close) → Has cs x → Has ds x
+    forth e x h = choose (f x (inr h))
+      where
+        choose : Has (d ∷ ds) x → Has ds x
+        choose (inl q) = absurd (not_itself c (subst (Before c) (sym (e ∙ q)) (behind c cs a x h)))
+        choose (inr k) = k
+
+    back : c ≡ d → (x : Close) → Has ds x → Has cs x
+    back e x h = choose (g x (inr h))
+      where
+        choose : Has (c ∷ cs) x → Has cs x
+        choose (inl q) = absurd (not_itself d (subst (Before d) (sym (sym e ∙ q)) (behind d ds b x h)))
+        choose (inr k) = k
+
+    by_first : c ≡ d → (((x : Close) → Has cs x → Has ds x) → ((x : Close) → Has ds x → Has cs x) → cs ≡ ds) → c ∷ cs ≡ d ∷ ds
+    by_first e others = let tails = others (forth e) (back e) in λ i. e i ∷ tails i
+
+one_closes : (bs : List Batch) (cs ds : List Close) → AreCloses (closes_in bs) cs → AreCloses (closes_in bs) ds → cs ≡ ds
+one_closes bs cs ds h k = one_list cs ds h.ascend k.ascend (λ c m. (k.members c).1 ((h.members c).0 m)) (λ c m. (h.members c).1 ((k.members c).0 m))
+
+-- ---- the logs
+
+no_fault : {X : Type 0} (cmp : X → X → Ordering) (S : X → Type 0) (o : Option X) → IsLeastOrNone cmp S o → NoneStands S → o ≡ None
+no_fault cmp S None m none = refl
+no_fault cmp S (Some f) m none = absurd (none f m.stands)
+
+one_log : (p : Partition) (l m : PartLog) (of : IsLogOf p l) (are : IsLogOf p m) → NoneStands (folds.IsStanding p.end.topic p.end.partition p.end.end of.batches of.stop) → l ≡ m
+one_log p l m of are none =
+    let front = one_front 0 p.segments of.batches are.batches of.stop are.stop of.front are.front in
+    let none_too : NoneStands (folds.IsStanding p.end.topic p.end.partition p.end.end are.batches are.stop) =
+    subst (λ s. NoneStands (folds.IsStanding p.end.topic p.end.partition p.end.end are.batches s)) front.1
+    (subst (λ (bs : List Batch). NoneStands (folds.IsStanding p.end.topic p.end.partition p.end.end bs of.stop)) front.0 none) in
+    let topic = of.of_topic ∙ sym are.of_topic in
+    let number = of.of_number ∙ sym are.of_number in
+    let end = of.until ∙ sym are.until in
+    let fault = no_fault folds.fault_cmp (folds.IsStanding p.end.topic p.end.partition p.end.end of.batches of.stop) l.fault of.fault none
+    ∙ sym (no_fault folds.fault_cmp (folds.IsStanding p.end.topic p.end.partition p.end.end are.batches are.stop) m.fault are.fault none_too) in
+    let items = of.items ∙ (ap (λ (bs : List Batch). items_of (data_in bs)) front.0 ∙ sym are.items) in
+    let markers = of.markers ∙ (ap markers_of front.0 ∙ sym are.markers) in
+    let closes = one_closes are.batches l.closes m.closes (subst (λ (bs : List Batch). AreCloses (closes_in bs) l.closes) front.0 of.closes) are.closes in
+    λ i. record { topic = topic i; number = number i; end = end i; fault = fault i; items = items i; closes = closes i; markers = markers i }
+
+pub one_logs : (ps : List Partition) (ls ms : List PartLog) (of : AreLogsOf ps ls) (are : AreLogsOf ps ms) → NoneStands (StandsInPartitions ps ls of) → ls ≡ ms
+one_logs [] [] [] of are none = refl
+one_logs [] [] (m ∷ ms) of are none = absurd are
+one_logs [] (l ∷ ls) ms of are none = absurd of
+one_logs (p ∷ ps) [] ms of are none = absurd of
+one_logs (p ∷ ps) (l ∷ ls) [] of are none = absurd are
+one_logs (p ∷ ps) (l ∷ ls) (m ∷ ms) of are none =
+    let here = one_log p l m of.0 are.0 (λ f s. none f (inl s)) in
+    let others = one_logs ps ls ms of.1 are.1 (λ f s. none f (inr s)) in
+    λ i. here i ∷ others i
