@@ -1,8 +1,7 @@
 -- Walks over claims, one after the other.
-use Rattle.std.proofs.Common.{◌≡◌, ◌+◌, ◌<◌, ℕ, zero, suc, List, [], ◌∷◌, ◌++◌, length, map, take, get_or, fold, Option, Some, None, option_map, refl, sym, subst, ap, ◌∙◌, inl, inr, true, false, Bool, ◌&&◌, not, arith, if◌then◌else◌, IsPermutation, cond, Result, Ok, Err}
+use Rattle.std.proofs.Common.{◌≡◌, ◌+◌, ◌<◌, ℕ, suc, List, [], ◌∷◌, ◌++◌, length, map, take, get_or, fold, Option, Some, None, refl, sym, subst, ap, ◌∙◌, true, false, Bool, ◌&&◌, arith, if◌then◌else◌, cond, Result, Ok, Err}
 use Rattle.std.specs.Result.{OnOk}
-use Rattle.std.specs.List.{flat_map, filter, list_any}
-use Rattle.std.specs.Ordering.{is_eq}
+use Rattle.std.specs.List.{flat_map, filter}
 use Rattle.std.proofs.lemmas.List.Sums.{fold-append}
 use Rattle.std.proofs.lemmas.List.Elements.{filter-append}
 use Rattle.std.proofs.lemmas.List.{append-nil, append_assoc, map-append}
@@ -13,7 +12,6 @@ use Rattle.eos_base.specs.Least.{lesser_of}
 use Rattle.eos_items.specs.declared.item.Item.{Item}
 use Rattle.eos_fold.specs.Parts.{PartLog}
 use Rattle.eos_claims.specs.declared.place.Place.{Place}
-use Rattle.eos_claims.specs.declared.fault.OutputFault.{OutputFault}
 use Rattle.eos_claims.specs.Outputs.{PlacedClaim, Application}
 use Rattle.eos_claims.specs.Faults.{fault_cmp}
 use Rattle.eos_claims.specs.declared.alone.SourceTests.{SourceTests}
@@ -22,7 +20,7 @@ use Rattle.eos_claims.specs.Candidates.{Counted, counted, shown, shown_by, is_in
 use Rattle.eos_commits.specs.Visible.{is_visible}
 use Rattle.eos_lineage.specs.Lineage.{claims_with}
 use Rattle.eos_lineage.specs.declared.tables.Known.{Known}
-use Rattle.eos_lineage.specs.steps.Walks.{WalkView, HasWalked, begun, is_below, claim_at, claims_of_part, KnowsPlace, AreTests, kept_of}
+use Rattle.eos_lineage.specs.steps.Walks.{WalkView, HasWalked, is_below, claim_at, claims_of_part, KnowsPlace, AreTests, kept_of}
 
 pub walked_none : (a : Application) (w : WalkView) → HasWalked a w w []
 walked_none a w = record { best = refl; below = sym (append-nil w.below) }

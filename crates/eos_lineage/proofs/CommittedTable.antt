@@ -1,8 +1,7 @@
 -- The table of committed offsets, commit by commit.
-use Rattle.std.proofs.Common.{◌≡◌, ◌<◌, ◌+◌, ℕ, ℤ, pos, zero, suc, List, [], ◌∷◌, ◌++◌, length, map, take, get_or, Option, Some, None, refl, sym, subst, ap, ◌∙◌, inl, inr, true, false, Bool, arith, if◌then◌else◌}
-use Rattle.std.specs.Prelude.{slice_get, slice_set, slice_index_or, filter, cond}
+use Rattle.std.proofs.Common.{◌≡◌, ◌<◌, ◌+◌, ℕ, ℤ, pos, zero, suc, List, [], ◌∷◌, ◌++◌, length, map, take, get_or, Some, refl, sym, subst, ap, ◌∙◌, inl, inr, true, false, Bool, arith, if◌then◌else◌}
+use Rattle.std.specs.Prelude.{slice_get, slice_set, filter, cond}
 use Rattle.std.specs.Ordering.{is_eq}
-use Rattle.std.specs.declared.cmp.Ordering.{Ordering}
 use Rattle.std.specs.declared.cmp.Ordering.TheVariants.{Less, Equal}
 use Rattle.std.proofs.lemmas.Cmp.{tied_itself}
 use Rattle.std.proofs.lemmas.List.Elements.{filter-append}

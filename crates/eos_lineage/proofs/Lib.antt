@@ -1,6 +1,10 @@
+pub mod BelowClaims
 pub mod ClaimWalk
 pub mod CommittedTable
+pub mod FirstFault
 pub mod LineageLaw
 pub mod NameSearch
+pub mod OutputsTally
+pub mod PartsLineage
 pub mod PassSearch
 pub mod TableLookups

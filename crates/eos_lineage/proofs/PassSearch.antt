@@ -1,10 +1,10 @@
 -- What the search among the passes finds.
-use Rattle.std.proofs.Common.{◌≡◌, ◌≤◌, ◌<◌, ◌+◌, ℕ, zero, suc, List, [], ◌∷◌, length, map, get_or, Option, Some, None, Result, Ok, Err, refl, sym, subst, ap, ◌∙◌, inl, inr, true, false, Bool, ◌&&◌, arith, is_ok, IsSorted}
-use Rattle.std.specs.Prelude.{slice_get, slice_index_or, nat_lt, not}
-use Rattle.std.specs.Ordering.{nat_cmp, int_cmp, is_eq, is_lt, ordering_index, ordering_reverse, ordering_then}
+use Rattle.std.proofs.Common.{◌≡◌, ◌≤◌, ◌<◌, ℕ, zero, suc, List, [], ◌∷◌, length, map, Err, refl, sym, subst, ap, ◌∙◌, inl, inr, true, false, Bool, ◌&&◌, arith, IsSorted}
+use Rattle.std.specs.Prelude.{slice_index_or, nat_lt, not}
+use Rattle.std.specs.Ordering.{nat_cmp, is_eq, is_lt, ordering_index, ordering_reverse, ordering_then}
 use Rattle.std.specs.Cmp.{IsTotalOrder}
 use Rattle.std.specs.List.{list_any}
-use Rattle.std.specs.List.Sorted.{IsBinarySearchResult, IsSearchInRange, IsPartitionPoint, IsNonDecreasingBy}
+use Rattle.std.specs.List.Sorted.{IsBinarySearchResult, IsPartitionPoint, IsNonDecreasingBy}
 use Rattle.std.specs.declared.cmp.Ordering.{Ordering}
 use Rattle.std.specs.declared.cmp.Ordering.TheVariants.{Less, Equal, Greater}
 use Rattle.std.proofs.lemmas.Bool.{cases_lt, lt-ltb, le-ltb}
@@ -14,7 +14,7 @@ use Rattle.std.proofs.lemmas.List.Sorted.{sorted_far}
 use Rattle.std.proofs.lemmas.List.MinMax.{ranks_by}
 use Rattle.eos_base.proofs.Exact.{is_tied, then_parts}
 use Rattle.eos_lineage.specs.declared.passes.Pass.{Pass}
-use Rattle.eos_lineage.specs.steps.Tables.{PassedKey, Passed, plain_pass, key_cmp, passed_cmp, by_pass, reaches}
+use Rattle.eos_lineage.specs.steps.Tables.{Passed, plain_pass, key_cmp, passed_cmp, by_pass, reaches}
 
 pub key_total : IsTotalOrder key_cmp
 key_total = then_total (on_total (λ k. k.producer) int_cmp_total) (then_total (on_total (λ k. k.epoch) int_cmp_total) (then_total (on_total (λ k. k.topic) nat_list_cmp_total) (on_total (λ k. k.partition) int_cmp_total)))

@@ -1,5 +1,5 @@
 -- What the look-ups in the tables of an application say.
-use Rattle.std.proofs.Common.{◌≡◌, ◌+◌, ◌<◌, ℕ, ℤ, pos, negsuc, zero, suc, List, [], ◌∷◌, ◌++◌, length, map, Option, Some, None, option_map, refl, sym, subst, ap, ◌∙◌, inl, inr, true, false, Bool, ◌&&◌, ◌||◌, not, arith, if◌then◌else◌, IsPermutation, IsSorted}
+use Rattle.std.proofs.Common.{◌≡◌, ℕ, ℤ, pos, negsuc, zero, suc, List, [], ◌∷◌, ◌++◌, map, Option, Some, None, option_map, refl, sym, ap, ◌∙◌, inl, inr, true, false, Bool, ◌&&◌, ◌||◌, not, arith, if◌then◌else◌, IsPermutation, IsSorted}
 use Rattle.std.specs.Prelude.{slice_get, int_lt, nat_lt, unsigned_abs, ◌-◌}
 use Rattle.std.specs.List.{flat_map, list_any}
 use Rattle.std.specs.Ordering.{nat_cmp, int_cmp, is_eq, ordering_then}
@@ -17,13 +17,13 @@ use Rattle.eos_claims.specs.declared.place.Place.{Place}
 use Rattle.eos_claims.specs.declared.alone.SourceTests.{SourceTests}
 use Rattle.eos_claims.specs.Outputs.{Writer, Commit, Application, committed_offset}
 use Rattle.eos_claims.specs.Faults.{place_cmp}
-use Rattle.eos_claims.specs.Candidates.{is_input, is_committed, is_source, is_by, passes}
+use Rattle.eos_claims.specs.Candidates.{is_input, is_by, passes}
 use Rattle.eos_claims.specs.Plain.{plain_place}
 use Rattle.eos_claims.proofs.ClaimTests.{input_is}
 use Rattle.eos_lineage.specs.declared.name.NamedPart.{NamedPart}
 use Rattle.eos_lineage.specs.declared.tables.Tables.{Tables}
 use Rattle.eos_lineage.specs.declared.tables.Known.{Known}
-use Rattle.eos_lineage.specs.steps.Tables.{Passed, key_cmp, last_below, key_of, pass_with, pass_of, passes_of, reaches, is_reached}
+use Rattle.eos_lineage.specs.steps.Tables.{Passed, key_of, pass_with, passes_of, reaches, is_reached}
 use Rattle.eos_lineage.specs.steps.Walks.{AreTables, KnowsPlace, AreTests, by_place, is_below_in, flags_of}
 
 get_mapped : {X Y : Type 0} (f : X → Y) (xs : List X) (k : ℕ) → slice_get (map f xs) k ≡ option_map f (slice_get xs k)

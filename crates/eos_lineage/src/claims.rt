@@ -64,7 +64,7 @@ fn lent_of<'a>(claim: &ClaimRef<'a>, at: PlaceRef<'a>) -> LentClaim<'a>
 // Takes a claim.
 fn take_claim<'a>(
     walk: &mut Walk<'a>,
-    tables: &Tables<'a>,
+    tables: &Tables<'_, '_, '_, '_, '_, 'a>,
     claim: &ClaimRef<'a>,
     at: PlaceRef<'a>,
     writer: Option<(i64, i16)>,
@@ -81,7 +81,7 @@ fn take_claim<'a>(
 // Takes the claim of a record, if it is visible and one.
 fn take_item<'a>(
     walk: &mut Walk<'a>,
-    tables: &Tables<'a>,
+    tables: &Tables<'_, '_, '_, '_, '_, 'a>,
     name: &'a PartitionName,
     item: ItemRef<'a>,
 ) -> Result<(), AllocError>
@@ -104,7 +104,7 @@ fn take_item<'a>(
 // Takes the claims of a partition, if it is of one of these topics.
 fn take_part<'a>(
     walk: &mut Walk<'a>,
-    tables: &Tables<'a>,
+    tables: &Tables<'_, '_, '_, '_, '_, 'a>,
     outputs: &TopicSet<'_>,
     name: &'a PartitionName,
     part: &'a Part,
@@ -125,7 +125,7 @@ fn take_part<'a>(
 /// Takes the claims of the partitions of these topics, in their order.
 pub(crate) fn take_parts<'a>(
     alloc: Global,
-    tables: &Tables<'a>,
+    tables: &Tables<'_, '_, '_, '_, '_, 'a>,
     outputs: &TopicSet<'_>,
     names: &'a [PartitionName],
     parts: &'a [Part],

@@ -2,6 +2,8 @@
 //! each once, from a transaction that committed past it, and nothing else stands in the output topics.
 #![tactic(auto)]
 
+mod application;
+mod check;
 mod claims;
 mod committed;
 mod fault;
@@ -11,4 +13,5 @@ mod name;
 mod passes;
 mod tables;
 
+pub use check::check_lineage;
 pub use fault::LineageFault;

@@ -14,19 +14,20 @@ use crate::passes::PassTable;
 use eos_claims::{PlaceRef, SourceRef, SourceTests};
 use eos_commits::TopicSet;
 
-/// What an application reads and commits, in order for look-ups.
+/// What an application reads and commits, in order for look-ups. Each table is lent for a time of its own; the names and
+/// topics in them are lent for 'a.
 #[derive(Clone, Copy)]
-pub(crate) struct Tables<'a> {
+pub(crate) struct Tables<'n, 's, 'i, 'o, 'p, 'a> {
     /// The partitions' names.
-    pub(crate) names: &'a Names<'a>,
+    pub(crate) names: &'n Names<'a>,
     /// The topics that it reads.
-    pub(crate) sources: &'a TopicSet<'a>,
+    pub(crate) sources: &'s TopicSet<'a>,
     /// The visible records of these.
-    pub(crate) inputs: &'a [PlaceRef<'a>],
+    pub(crate) inputs: &'i [PlaceRef<'a>],
     /// The committed offset of each partition, in the order of the names.
-    pub(crate) offsets: &'a [i64],
+    pub(crate) offsets: &'o [i64],
     /// What its group's transactions committed past.
-    pub(crate) passes: &'a PassTable<'a>,
+    pub(crate) passes: &'p PassTable<'a>,
 }
 
 /// A place in a partition of the evidence.
@@ -38,7 +39,7 @@ pub(crate) struct Known<'a> {
 }
 
 /// Whether one of the items is tied with the key, by a binary search: of items in order.
-fn is_among<T: Ord>(items: &[T], key: &T) -> bool
+pub(crate) fn is_among<T: Ord>(items: &[T], key: &T) -> bool
     ensures { IsSorted T.cmp items.now → result ≡ is_found T.cmp items.now key.now }
 {
     items.binary_search(key).is_ok()
@@ -54,7 +55,11 @@ fn is_below_at(offsets: &[i64], place: usize, offset: u64) -> bool
     }
 }
 
-fn known_at<'a>(tables: &Tables<'a>, part: NamedPart<'a>, offset: u64) -> Known<'a>
+fn known_at<'a>(
+    tables: &Tables<'_, '_, '_, '_, '_, 'a>,
+    part: NamedPart<'a>,
+    offset: u64,
+) -> Known<'a>
     ensures place { plain_place result.place ≡ record { partition = part.entry.name.now; offset = offset } }
     ensures input { IsSorted by_place tables.entry.now.inputs.now → result.is_input ≡ is_found by_place tables.entry.now.inputs.now result.place }
     ensures committed { result.is_committed ≡ is_below_in (slice_get tables.entry.now.offsets.now part.entry.place) offset }
@@ -71,7 +76,10 @@ fn known_at<'a>(tables: &Tables<'a>, part: NamedPart<'a>, offset: u64) -> Known<
 }
 
 /// What is known of the place: nothing where its partition isn't there.
-pub(crate) fn known_of<'a>(tables: &Tables<'a>, source: &SourceRef<'_>) -> Option<Known<'a>>
+pub(crate) fn known_of<'a>(
+    tables: &Tables<'_, '_, '_, '_, '_, 'a>,
+    source: &SourceRef<'_>,
+) -> Option<Known<'a>>
     ensures { (a : Application) → AreTables a tables.entry.now → KnowsPlace a (plain_source source.now) result }
 {
     let part = tables.names.find(source.topic, source.partition)?;
@@ -90,7 +98,7 @@ fn flags(known: &Option<Known<'_>>) -> (bool, bool)
 
 /// What is known of a claim's source.
 pub(crate) fn tests_of(
-    tables: &Tables<'_>,
+    tables: &Tables<'_, '_, '_, '_, '_, '_>,
     known: &Option<Known<'_>>,
     source: &SourceRef<'_>,
     writer: Option<(i64, i16)>,
@@ -118,7 +126,7 @@ fn source_of<'a>(place: &PlaceRef<'a>) -> SourceRef<'a>
 }
 
 /// Whether an input is below its committed offset.
-pub(crate) fn is_committed(tables: &Tables<'_>, input: &PlaceRef<'_>) -> bool
+pub(crate) fn is_committed(tables: &Tables<'_, '_, '_, '_, '_, '_>, input: &PlaceRef<'_>) -> bool
     ensures { (a : Application) → AreTables a tables.now → Has a.inputs (plain_place input.now) → result ≡ is_committed_in a (plain_place input.now) }
 {
     let source = source_of(input);

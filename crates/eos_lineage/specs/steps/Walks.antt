@@ -1,10 +1,10 @@
 -- The walks over visible records and over claims.
 use Rattle.std.specs.Prelude.{◌≡◌, ℕ, ℤ, pos, int_lt, Bool, true, false, ◌&&◌, ◌==◌, not, List, [], ◌∷◌, ◌++◌, length, map, filter, flat_map, fold, Option, Some, None, option_map, if◌then◌else◌, IsPermutation, IsSorted}
 use Rattle.std.specs.List.{list_any}
-use Rattle.std.specs.Ordering.{nat_cmp, is_eq, then_cmp, on}
+use Rattle.std.specs.Ordering.{nat_cmp, then_cmp, on}
 use Rattle.std.specs.declared.cmp.Ordering.{Ordering}
 use Rattle.eos_base.specs.declared.partition_name.PartitionName.{PartitionName}
-use Rattle.eos_base.specs.Members.{Has}
+use Rattle.eos_base.specs.Members.{Has, is_found}
 use Rattle.eos_base.specs.Least.{NoneStands, IsLeast, lesser_of}
 use Rattle.eos_items.specs.declared.item.Item.{Item}
 use Rattle.eos_fold.specs.Parts.{PartLog}
@@ -16,7 +16,7 @@ use Rattle.eos_claims.specs.declared.fault.OutputFault.{OutputFault}
 use Rattle.eos_claims.specs.declared.neighbours.NumberedClaim.{NumberedClaim}
 use Rattle.eos_claims.specs.Outputs.{Writer, PlacedClaim, Application, committed_offset}
 use Rattle.eos_claims.specs.Faults.{place_cmp, fault_cmp, Stands}
-use Rattle.eos_claims.specs.Candidates.{Counted, counted, shown_by, is_source, is_input, is_committed, is_passed, names as names_input, passes}
+use Rattle.eos_claims.specs.Candidates.{Counted, counted, shown_by, is_source, is_input, is_committed, names as names_input, passes}
 use Rattle.eos_claims.specs.Plain.{plain_place, plain_fault, plain_claim}
 use Rattle.eos_commits.specs.Visible.{is_visible, part_name}
 use Rattle.eos_lineage.specs.Lineage.{Topic, is_part_of, place_in, claims_at, inputs_below, outputs_in}
@@ -113,14 +113,16 @@ claim_order = then_cmp (on (λ c. c.source) place_cmp) (then_cmp (on (λ c. c.ou
 abbrev pub by_claim : NumberedClaim → NumberedClaim → Ordering
 by_claim a b = claim_order (plain_claim a) (plain_claim b)
 
-abbrev pub is_named : List Counted → Place → Bool
-is_named ns i = list_any (λ n. is_eq (place_cmp n.source i)) ns
-
--- an input below its committed offset is claimed exactly where one of these names it
-abbrev pub AreOfInputs : Application → List Counted → Type 0
-AreOfInputs a ns = (i : Place) → Has a.inputs i → is_committed a i ≡ true → is_named ns i ≡ list_any (names_input i) a.claims
+-- an input below its committed offset is claimed exactly where it is among these
+pub record AreNamed (a : Application) (ps : List PlaceRef) : Type 0 where
+  pub in_order : IsSorted by_place ps
+  pub named : (i : Place) → Has a.inputs i → is_committed a i ≡ true → is_found place_cmp (map plain_place ps) i ≡ list_any (names_input i) a.claims
 
 -- ---- counts and the answer
+
+abbrev pub one_if : Bool → ℕ
+one_if true = 1
+one_if false = 0
 
 abbrev pub is_no_note : Counted → Bool
 is_no_note n = not ((n.output == 0) && (n.of == 0))

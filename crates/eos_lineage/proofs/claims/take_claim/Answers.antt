@@ -1,9 +1,9 @@
-use Rattle.std.proofs.Common.{◌≡◌, ◌++◌, map, Option, Vec, Global}
+use Rattle.std.proofs.Common.{Option, Vec, Global}
 use Rattle.eos_claims.specs.declared.found.Found.{Found}
 use Rattle.eos_claims.specs.declared.neighbours.NumberedClaim.{NumberedClaim}
 use Rattle.eos_lineage.specs.declared.claims.Walk.{Walk}
-use Rattle.eos_claims.specs.Plain.{plain_claim, plain_lent}
-use Rattle.eos_lineage.specs.steps.Walks.{plain_walk, placed_ref, kept_of}
+use Rattle.eos_claims.specs.Plain.{plain_lent}
+use Rattle.eos_lineage.specs.steps.Walks.{plain_walk, placed_ref}
 use Rattle.eos_lineage.proofs.ClaimWalk.{took, on_ok}
 use Rattle.eos_lineage.proofs.claims.take_claim.Goals as goal
 

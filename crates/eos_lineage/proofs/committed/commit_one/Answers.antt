@@ -1,9 +1,8 @@
-use Rattle.std.proofs.Common.{rules, ◌∙◌, ◌≡◌, ap, subst, sym, Some, w32, to_z, of_z, List, ℕ, ℤ}
+use Rattle.std.proofs.Common.{rules, ◌∙◌, ◌≡◌, subst, Some, w32, to_z, of_z, List, ℕ, ℤ}
 use Rattle.std.specs.Prelude.{slice_get, slice_set}
 use Rattle.eos_base.specs.declared.partition_name.PartitionName.{PartitionName}
 use Rattle.eos_base.specs.Members.{Has}
 use Rattle.eos_commits.specs.Plain.{plain_commit}
-use Rattle.eos_lineage.specs.steps.Tables.{AreAscending, set_named}
 use Rattle.eos_lineage.proofs.CommittedTable.{set_at, set_none}
 use Rattle.eos_lineage.proofs.committed.commit_one.Goals as goal
 

@@ -1,5 +1,4 @@
-use Rattle.std.proofs.Common.{◌≡◌, ◌∙◌, ap, sym, subst, map, take, length, List, [], ℤ}
-use Rattle.eos_base.specs.declared.partition_name.PartitionName.{PartitionName}
+use Rattle.std.proofs.Common.{◌≡◌, ◌∙◌, ap, sym, map, take, length, List, []}
 use Rattle.eos_claims.specs.Outputs.{Commit, committed_offset}
 use Rattle.eos_commits.specs.Plain.{plain_commit}
 use Rattle.eos_lineage.specs.steps.Tables.{set_named}

@@ -1,6 +1,6 @@
-use Rattle.std.proofs.Common.{◌≡◌, ◌∙◌, ap, sym, subst, false, true}
+use Rattle.std.proofs.Common.{◌≡◌, subst, false}
 use Rattle.eos_base.proofs.Decides.{differs}
-use Rattle.eos_claims.specs.Plain.{plain_source, plain_place}
+use Rattle.eos_claims.specs.Plain.{plain_place}
 use Rattle.eos_claims.specs.Candidates.{is_input, is_committed}
 use Rattle.eos_claims.proofs.ClaimTests.{is_input_has}
 use Rattle.eos_lineage.proofs.tables.is_committed.Goals as goal

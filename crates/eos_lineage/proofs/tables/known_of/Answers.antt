@@ -1,4 +1,4 @@
-use Rattle.std.proofs.Common.{rules, ◌≡◌, ◌∙◌, ap, sym, subst, Some, List, ℕ, ℤ, w32, to_z, of_z}
+use Rattle.std.proofs.Common.{rules, ◌≡◌, sym, subst, Some, List, ℕ, ℤ, w32, to_z, of_z}
 use Rattle.std.specs.Prelude.{slice_get}
 use Rattle.eos_base.specs.declared.partition_name.PartitionName.{PartitionName}
 use Rattle.eos_base.specs.Members.{Has}

@@ -1,6 +1,4 @@
-use Rattle.std.proofs.Common.{rules, ◌≡◌, sym}
 use Rattle.eos_claims.specs.Plain.{plain_source}
-use Rattle.eos_lineage.specs.steps.Walks.{flags_of}
 use Rattle.eos_lineage.proofs.TableLookups.{tests}
 use Rattle.eos_lineage.proofs.tables.tests_of.Goals as goal
 

@@ -1,4 +1,4 @@
-use Rattle.std.proofs.Common.{rules, ◌≡◌, refl, sym, ap, ◌∙◌, Some, subst, map, is_ok, false, length, ◌<◌, List, ℕ, ℤ, w32, to_z, of_z}
+use Rattle.std.proofs.Common.{rules, ◌≡◌, ap, ◌∙◌, Some, subst, map, is_ok, List, ℕ, ℤ, w32, to_z, of_z}
 use Rattle.std.specs.Prelude.{slice_get}
 use Rattle.eos_base.specs.declared.partition_name.PartitionName.{PartitionName}
 use Rattle.eos_base.specs.Members.{Has}

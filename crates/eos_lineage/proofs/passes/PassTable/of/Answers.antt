@@ -1,4 +1,4 @@
-use Rattle.std.proofs.Common.{subst, sym, map, IsPermutation}
+use Rattle.std.proofs.Common.{subst, map, IsPermutation}
 use Rattle.std.proofs.lemmas.List.Sorted.{IsPermutation-map}
 use Rattle.eos_lineage.specs.steps.Tables.{plain_pass}
 use Rattle.eos_lineage.proofs.passes.PassTable.of.Goals as goal

@@ -1,4 +1,4 @@
-use Rattle.std.proofs.Common.{◌≡◌, refl, sym, ap, ◌∙◌, Some, None, Err, subst, map, IsSorted, length, ◌<◌, List, true, false, ℕ, Result}
+use Rattle.std.proofs.Common.{◌≡◌, ap, ◌∙◌, subst, map, length, List, true, false, ℕ, Result}
 use Rattle.std.specs.Prelude.{nat_lt, slice_index_or}
 use Rattle.std.specs.Ordering.{is_eq}
 use Rattle.std.specs.List.{list_any}

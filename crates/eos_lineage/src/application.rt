@@ -1,0 +1,202 @@
+//! The outputs of one application: the least fault, and what is counted.
+
+ghost use Rattle.std.specs.Prelude.{◌≡◌, ◌≤◌, map, flat_map, filter, length, fold, option_map, IfOk, IsSorted, IsPermutation};
+ghost use Rattle.eos_base.specs.Members.{Has};
+ghost use Rattle.eos_base.specs.Least.{lesser_of};
+ghost use Rattle.eos_claims.specs.Outputs.{Application, ReadsSources};
+ghost use Rattle.eos_claims.specs.Faults.{fault_cmp};
+ghost use Rattle.eos_claims.specs.Candidates.{AreApart, unclaimed, is_committed as is_committed_in};
+ghost use Rattle.eos_claims.specs.Plain.{plain_place, plain_fault, plain_claim};
+ghost use Rattle.eos_commits.specs.Faults.{AreInOrder};
+ghost use Rattle.eos_commits.specs.Visible.{part_name};
+ghost use Rattle.eos_lineage.specs.Lineage.{application_of, inputs_below};
+ghost use Rattle.eos_lineage.specs.steps.Walks.{one_if, AreTables, AreNamed, by_claim, claims_of_part, is_no_note, IsOutputsAnswer};
+
+use crate::claims::take_parts;
+use crate::committed::offsets_of;
+use crate::inputs::inputs_of;
+use crate::name::Names;
+use crate::passes::PassTable;
+use crate::tables::{Tables, is_among, is_committed};
+use bytes::Bytes;
+use eos_base::{PartitionName, in_order};
+use eos_claims::{
+    Found, NumberedClaim, OutputFault, Place, PlaceRef, least_of_input, least_of_runs,
+};
+use eos_commits::{TopicSet, commits_of};
+use eos_evidence::App;
+use eos_fold::Part;
+use rayon::prelude::par_sort;
+use std::alloc::{AllocError, Global};
+use std::thread::Threads;
+
+/// What was found of an application's outputs: the least fault, the number of inputs below their committed offsets, and
+/// of claims of these that are no notes.
+#[derive(Drop)]
+pub(crate) struct Tally {
+    pub(crate) fault: Option<OutputFault>,
+    pub(crate) inputs: u64,
+    pub(crate) outputs: u64,
+}
+
+// The claims in their order.
+fn sorted<'a>(
+    alloc: Global,
+    rt: &(impl Threads + Sync),
+    mut claims: Vec<NumberedClaim<'a>>,
+) -> Result<Vec<NumberedClaim<'a>>, AllocError>
+    ensures same { IfOk result (λ v. IsPermutation claims.entry.items v.items) }
+    ensures in_order { IfOk result (λ v. IsSorted by_claim v.items) }
+{
+    par_sort(rt, alloc, claims.as_mut_slice())?;
+    Ok(claims)
+}
+
+// The number of claims that are no notes.
+fn count_outputs(claims: &[NumberedClaim<'_>]) -> u64
+    ensures { result ≡ length (filter is_no_note (map plain_claim claims.now)) }
+{
+    let mut count = 0u64;
+    for claim in claims {
+        if claim.output > 0 || claim.of > 0 {
+            count += 1;
+        }
+    }
+    count
+}
+
+// The inputs that these claims name.
+fn sources_of<'a>(
+    alloc: Global,
+    claims: &[NumberedClaim<'a>],
+) -> Result<Vec<PlaceRef<'a>>, AllocError>
+    ensures { IfOk result (λ all. map plain_place all.items ≡ map (λ n. n.source) (map plain_claim claims.now)) }
+{
+    let mut all = Vec::new(alloc);
+    for claim in claims {
+        all.push(claim.source)?;
+    }
+    Ok(all)
+}
+
+fn one_where(test: bool) -> u64
+    ensures one { result ≡ one_if test }
+    ensures most { result ≤ 1 }
+{
+    if test { 1 } else { 0 }
+}
+
+// The number of inputs below their committed offsets.
+fn count_inputs(tables: &Tables<'_, '_, '_, '_, '_, '_>) -> u64
+    ensures { (a : Application) → AreTables a tables.now → result ≡ length (inputs_below a) }
+{
+    let mut count = 0u64;
+    for input in tables.inputs {
+        count += one_where(is_committed(tables, input));
+    }
+    count
+}
+
+// The lesser of the least so far and what an input shows.
+fn take_input<'a>(
+    tables: &Tables<'_, '_, '_, '_, '_, 'a>,
+    named: &[PlaceRef<'a>],
+    best: Option<Found<'a>>,
+    input: &PlaceRef<'a>,
+) -> Option<Found<'a>>
+    ensures { (a : Application) → AreTables a tables.entry.now → AreNamed a named.entry.now → Has a.inputs (plain_place input.entry.now)
+        → option_map plain_fault result ≡ fold (lesser_of fault_cmp) (option_map plain_fault best.entry) (unclaimed a (plain_place input.entry.now)) }
+{
+    let committed = is_committed(tables, input);
+    let claimed = is_among(named, input);
+    least_of_input(best, *input, committed, claimed)
+}
+
+// The lesser of the least so far and what inputs show.
+fn take_inputs<'a>(
+    tables: &Tables<'_, '_, '_, '_, '_, 'a>,
+    named: &[PlaceRef<'a>],
+    best: Option<Found<'a>>,
+) -> Option<Found<'a>>
+    ensures { (a : Application) → AreTables a tables.entry.now → AreNamed a named.entry.now
+        → option_map plain_fault result ≡ fold (lesser_of fault_cmp) (option_map plain_fault best.entry) (flat_map (unclaimed a) a.inputs) }
+{
+    let mut best = best;
+    for input in tables.inputs {
+        best = take_input(tables, named, best, input);
+    }
+    best
+}
+
+// The place with a name of its own.
+fn own_place(place: &PlaceRef<'_>) -> Result<Place, AllocError>
+    ensures { IfOk result (λ p. p ≡ plain_place place.now) }
+{
+    let name = place.partition;
+    Ok(Place {
+        partition: PartitionName {
+            topic: name.topic.clone()?,
+            partition: name.partition,
+        },
+        offset: place.offset,
+    })
+}
+
+// The fault with names of its own.
+fn published(alloc: Global, found: &Found<'_>) -> Result<OutputFault, AllocError>
+    ensures { IfOk result (λ f. f ≡ plain_fault found.now) }
+{
+    let at = match found.at {
+        None => None,
+        Some(place) => Some(own_place(&place)?),
+    };
+    Ok(OutputFault {
+        source: Place {
+            partition: PartitionName {
+                topic: Bytes::copy_from_slice(alloc, found.source.topic)?,
+                partition: found.source.partition,
+            },
+            offset: found.source.offset,
+        },
+        output: found.output,
+        kind: found.kind,
+        at,
+    })
+}
+
+fn published_if(alloc: Global, found: Option<Found<'_>>) -> Result<Option<OutputFault>, AllocError>
+    ensures { IfOk result (λ o. o ≡ option_map plain_fault found.entry) }
+{
+    match found {
+        None => Ok(None),
+        Some(found) => Ok(Some(published(alloc, &found)?)),
+    }
+}
+
+// Of tables of an application and the partitions of its output topics.
+pub(crate) fn make_tally<'a>(
+    alloc: Global,
+    rt: &(impl Threads + Sync),
+    tables: &Tables<'_, '_, '_, '_, '_, 'a>,
+    outputs: &TopicSet<'_>,
+    all: &'a [PartitionName],
+    parts: &'a [Part],
+) -> Result<Tally, AllocError>
+    requires { all.now ≡ map part_name parts.now }
+    ensures { (a : Application) → AreTables a tables.now → ReadsSources a → AreApart a → a.claims ≡ flat_map (claims_of_part outputs.now) parts.now
+        → IfOk result (λ t. IsOutputsAnswer a t.fault t.inputs t.outputs) }
+{
+    let walk = take_parts(alloc, tables, outputs, all, parts)?;
+    let outputs = count_outputs(walk.below.as_slice());
+    let below = sorted(alloc, rt, walk.below)?;
+    let best = least_of_runs(walk.best, below.as_slice());
+    let named = in_order(sources_of(alloc, below.as_slice())?);
+    let best = take_inputs(tables, named.as_slice(), best);
+    let inputs = count_inputs(tables);
+    let fault = published_if(alloc, best)?;
+    Ok(Tally {
+        fault,
+        inputs,
+        outputs,
+    })
+}

@@ -1,0 +1,121 @@
+//! The lineage of all applications: the least fault, or the counts.
+
+ghost use Rattle.std.specs.Prelude.{◌≡◌, ◌+◌, true, map, IfOk};
+ghost use Rattle.eos_base.specs.Least.{NoneStands};
+ghost use Rattle.eos_commits.specs.Faults.{AreInOrder, Stands as StandsAtRecord};
+ghost use Rattle.eos_commits.specs.Visible.{part_name};
+ghost use Rattle.eos_evidence.specs.Parts.{groups_of};
+ghost use Rattle.eos_evidence.specs.Topics.{are_unequal};
+ghost use Rattle.eos_lineage.specs.Faults.{named_group, IsAnswer};
+ghost use Rattle.eos_lineage.specs.Lineage.{application_of};
+ghost use Rattle.eos_lineage.specs.steps.Walks.{IsOutputsAnswer};
+
+use crate::application::{Tally, make_tally};
+use crate::committed::offsets_of;
+use crate::fault::LineageFault;
+use crate::inputs::inputs_of;
+use crate::name::{Names, names_of};
+use crate::passes::PassTable;
+use crate::tables::Tables;
+use eos_base::PartitionName;
+use eos_commits::{TopicSet, commits_of, least_visible_fault};
+use eos_evidence::{App, GroupId, Spec};
+use eos_fold::Part;
+use std::alloc::{AllocError, Global};
+use std::thread::Threads;
+
+// The outputs of one application.
+fn check_application(
+    alloc: Global,
+    rt: &(impl Threads + Sync),
+    app: &App,
+    all: &[PartitionName],
+    names: &Names<'_>,
+    parts: &[Part],
+) -> Result<Tally, AllocError>
+    requires all { all.now ≡ map part_name parts.now }
+    requires names { names.now ≡ all.now }
+    ensures { AreInOrder parts.now → IfOk result (λ t. IsOutputsAnswer (application_of app.now parts.now) t.fault t.inputs t.outputs) }
+{
+    let topics = app.sources.as_slice();
+    let sources = TopicSet::of(alloc, topics)?;
+    let outputs = TopicSet::of(alloc, app.outputs.as_slice())?;
+    let inputs = inputs_of(alloc, &sources, all, parts)?;
+    let commits = commits_of(alloc, app.group.as_bytes(), topics, parts)?;
+    let offsets = offsets_of(alloc, all, names, commits.as_slice())?;
+    let passes = PassTable::of(alloc, commits.as_slice())?;
+    let tables = Tables {
+        names,
+        sources: &sources,
+        inputs: inputs.as_slice(),
+        offsets: offsets.as_slice(),
+        passes: &passes,
+    };
+    make_tally(alloc, rt, &tables, &outputs, all, parts)
+}
+
+// The group that a fault of an application's outputs names.
+fn group_of(apps: &[App], app: &App) -> Result<Option<GroupId>, AllocError>
+    ensures { IfOk result (λ group. group ≡ named_group apps.now app.now) }
+{
+    if apps.len() > 1 {
+        Ok(Some(app.group.clone()?))
+    } else {
+        Ok(None)
+    }
+}
+
+// No machine has memory for as many records as 64 bits can't count.
+fn sum(a: u64, b: u64) -> Result<u64, AllocError>
+    ensures { IfOk result (λ s. s ≡ a + b) }
+{
+    a.checked_add(b).ok_or(AllocError)
+}
+
+// The outputs of the applications, one after the other.
+fn check_outputs(
+    alloc: Global,
+    rt: &(impl Threads + Sync),
+    apps: &[App],
+    parts: &[Part],
+) -> Result<Result<(u64, u64), LineageFault>, AllocError>
+    requires { are_unequal (groups_of apps.now) ≡ true }
+    ensures { AreInOrder parts.now → NoneStands (StandsAtRecord apps.now parts.now) → IfOk result (IsAnswer apps.now parts.now) }
+{
+    let all = names_of(alloc, parts)?;
+    let names = Names::of(alloc, all.as_slice())?;
+    let mut inputs = 0u64;
+    let mut outputs = 0u64;
+    for app in apps {
+        let tally = check_application(alloc, rt, app, all.as_slice(), &names, parts)?;
+        let found = tally.fault;
+        if let Some(fault) = found {
+            let group = group_of(apps, app)?;
+            return Ok(Err(LineageFault::Output { group, fault }));
+        }
+        inputs = sum(inputs, tally.inputs)?;
+        outputs = sum(outputs, tally.outputs)?;
+    }
+    Ok(Ok((inputs, outputs)))
+}
+
+/// The number of inputs below their committed offsets, over all applications, and that of visible claims that are no
+/// notes, where no fault of the lineage stands; else the least fault. Parts that don't stand in the order of their names
+/// have an answer too, of which nothing is said.
+///
+/// # Errors
+/// Only want of memory.
+pub fn check_lineage(
+    alloc: Global,
+    rt: &(impl Threads + Sync),
+    spec: &Spec,
+    parts: &[Part],
+) -> Result<Result<(u64, u64), LineageFault>, AllocError>
+    ensures { AreInOrder parts.now → IfOk result (IsAnswer spec.now.apps parts.now) }
+{
+    let apps = spec.apps().as_slice();
+    if let Some(fault) = least_visible_fault(alloc, apps, parts)? {
+        return Ok(Err(LineageFault::Record(fault)));
+    }
+    check_outputs(alloc, rt, apps, parts)
+}
