@@ -3,6 +3,7 @@ use Rattle.std.proofs.Common.{◌≡◌, ℕ, List, Option, Some, None, Result, 
 use Rattle.std.specs.Prelude.{IfOk}
 use Rattle.std.specs.Result.{MatchResult}
 use Rattle.eos_base.specs.Least.{NoneStands, IsLeast, IsLeastOrNone}
+use Rattle.eos_evidence.specs.declared.application.App.{App}
 use Rattle.eos_evidence.specs.Evidence.{EvidenceParts, IsEvidence}
 use Rattle.eos_fold.specs.declared.fault.PartitionFault.{PartitionFault}
 use Rattle.eos_fold.specs.Parts.{PartLog}
@@ -18,7 +19,7 @@ use Rattle.eos_lineage.specs.Faults as lineage
 use Rattle.eos_check.specs.declared.verdict.Fault.TheVariants.{Partition as InPartition, Log, Match, Lineage}
 use Rattle.eos_check.specs.declared.verdict.Verdict.TheVariants.{Yes, No}
 use Rattle.eos_check.specs.Good.{AreLogsOf}
-use Rattle.eos_check.specs.Verdicts.{StandsInPartitions, StandsInLog, StandsInMatching, partition_cmp, IsVerdictOf}
+use Rattle.eos_check.specs.Verdicts.{StandsInPartitions, StandsInLog, StandsInMatching, partition_cmp, IsVerdictOf, IsVerdict}
 use Rattle.eos_check.specs.steps.Phases.{first_fault, IsMatched, IsTransacted}
 use Rattle.eos_check.proofs.FirstFault.{least_of_first}
 use Rattle.eos_check.proofs.LogsInOrder.{sorted, in_order, log_in_order}
@@ -67,3 +68,14 @@ pub lineage_kept : (e : EvidenceParts) (ls : List PartLog) (of : AreLogsOf e.par
 lineage_kept e ls of is n t inputs outputs answer =
     let a = answer (in_order e ls is of) in
     yes e ls of (record { transactions = n; inputs = inputs; outputs = outputs }) is t.1 t.2 t.3 a.0 (record { transactions = t.0; inputs = a.1; outputs = a.2 })
+
+-- ---- the verdict
+
+pub refused : (e : EvidenceParts) (ls : List PartLog) (of : AreLogsOf e.partitions ls) (r : Result ℕ Fault) (f : Fault) → r ≡ Err f → IsTransacted e ls of r → IsVerdict e (No f)
+refused e ls of r f at h = (ls, of, subst (IsTransacted e ls of) at h)
+
+pub transacted : (e : EvidenceParts) (ls : List PartLog) (of : AreLogsOf e.partitions ls) (r : Result ℕ Fault) (n : ℕ) → r ≡ Ok n → IsTransacted e ls of r → IsTransacted e ls of (Ok n)
+transacted e ls of r n at h = subst (IsTransacted e ls of) at h
+
+pub answered : (apps others : List App) (ls : List PartLog) (r s : Result (ℕ × ℕ) LineageFault) → apps ≡ others → r ≡ s → lineage.IsAnswer others ls r → lineage.IsAnswer apps ls s
+answered apps others ls r s p q h = subst (λ (xs : List App). lineage.IsAnswer xs ls s) (sym p) (subst (lineage.IsAnswer others ls) q h)

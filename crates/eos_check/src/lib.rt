@@ -2,8 +2,10 @@
 #![tactic(auto)]
 
 pub mod laws;
+mod one_thread;
 mod parts;
 mod phases;
 mod verdict;
 
+pub use one_thread::check_one;
 pub use verdict::{Counts, Fault, Verdict};

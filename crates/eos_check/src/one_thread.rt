@@ -1,0 +1,62 @@
+//! The check of an evidence by one thread.
+
+ghost use Rattle.std.specs.Prelude.{◌≡◌, IfOk, Ok};
+ghost use Rattle.eos_check.specs.Good.{AreLogsOf};
+ghost use Rattle.eos_check.specs.Verdicts.{IsVerdict, IsVerdictOf};
+ghost use Rattle.eos_check.specs.steps.Phases.{IsTransacted};
+ghost use Rattle.eos_evidence.specs.Evidence.{EvidenceParts, IsEvidence};
+
+use crate::parts::parts_of;
+use crate::phases::transactions;
+use crate::verdict::{Counts, Fault, Verdict};
+use eos_evidence::{Evidence, Spec};
+use eos_fold::Part;
+use eos_lineage::check_lineage;
+use std::alloc::{AllocError, Global};
+use std::thread::Threads;
+
+/// The verdict of logs in which no partition, no transaction log and no transaction has a fault.
+fn of_lineage<R: Threads + Sync>(
+    alloc: Global,
+    rt: &R,
+    spec: &Spec,
+    parts: &[Part],
+    transactions: u64,
+) -> Result<Verdict, AllocError>
+    ensures { (e : EvidenceParts) (of : AreLogsOf e.partitions parts.now) → IsEvidence e → e.spec ≡ spec.now → IsTransacted e parts.now of (Ok transactions)
+        → IfOk result (IsVerdictOf e parts.now of) }
+{
+    match check_lineage(alloc, rt, spec, parts)? {
+        Err(fault) => Ok(Verdict::No(Fault::Lineage(fault))),
+        Ok((inputs, outputs)) => Ok(Verdict::Yes(Counts {
+            transactions,
+            inputs,
+            outputs,
+        })),
+    }
+}
+
+/// The verdict of an evidence: yes with three counts exactly where each log is whole and fenced, no sequence is repeated or
+/// missing in a producer epoch, every transaction is committed in all its partitions or aborted in all, and the visible
+/// outputs are, for each input below its group's committed offset, its numbered outputs or one note, each once, from
+/// transactions that committed past it, and nothing else; otherwise no with the first fault.
+///
+/// The runtime is asked for threads to sort by; the answer is the same where it has none.
+///
+/// # Errors
+/// Only want of memory.
+pub fn check_one<R: Threads + Sync>(
+    alloc: Global,
+    rt: &R,
+    evidence: &Evidence,
+) -> Result<Verdict, AllocError>
+    ensures { IfOk result (IsVerdict evidence.now) }
+{
+    let spec = evidence.spec();
+    let parts = parts_of(alloc, evidence)?;
+    let logs = parts.as_slice();
+    match transactions(alloc, logs)? {
+        Err(fault) => Ok(Verdict::No(fault)),
+        Ok(transactions) => of_lineage(alloc, rt, spec, logs, transactions),
+    }
+}
