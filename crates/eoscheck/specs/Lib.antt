@@ -1,4 +1,5 @@
 pub mod Answer
+pub mod Checking
 pub mod Endings
 pub mod Faults
 pub mod Lines

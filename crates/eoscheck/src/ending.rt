@@ -4,6 +4,7 @@ ghost use Rattle.std.specs.Prelude.{◌≡◌, Some};
 ghost use Rattle.eoscheck.specs.Endings.{status_of, message_of, status_after, message_after};
 
 use crate::fault::RunFault;
+use eos_evidence::SpecFault;
 use std::fmt::{Display, Formatter, Write};
 
 /// How a run ended. Printed, it is what standard error is told: one line, or nothing.
@@ -21,6 +22,8 @@ pub(crate) enum Ending<'a> {
     CannotRead(&'a str),
     /// This file or stream can't be written.
     CannotWrite(&'a str),
+    /// The manifest of a folder is refused.
+    Manifest(SpecFault),
     /// An input is larger than it may be.
     Limit,
     /// Memory ran out.
@@ -57,6 +60,7 @@ impl<'a> Ending<'a> {
             | Ending::NotText
             | Ending::CannotRead(_)
             | Ending::CannotWrite(_)
+            | Ending::Manifest(_)
             | Ending::Limit => 2,
             Ending::OutOfMemory => 3,
         }
@@ -72,6 +76,7 @@ impl Display for Ending<'_> {
             Ending::NotText => write!(f, "error: a word of the command line is not UTF-8 text\n"),
             Ending::CannotRead(path) => write!(f, "eoscheck: cannot read {path}\n"),
             Ending::CannotWrite(path) => write!(f, "eoscheck: cannot write {path}\n"),
+            Ending::Manifest(fault) => write!(f, "eoscheck: evidence.json: {}\n", fault.name()),
             Ending::Limit => write!(f, "eoscheck: limit\n"),
             Ending::OutOfMemory => write!(f, "eoscheck: out of memory\n"),
         }

@@ -3,24 +3,27 @@
 ghost use Rattle.std.specs.Prelude.{◌≡◌, ◌≢◌, Ok};
 
 use crate::chain::chain_to;
+use crate::check::check_to;
 use crate::dump::dump_to;
 use crate::ending::Ending;
 use crate::fault::RunFault;
-use crate::words::{Answer, Request, make_command, read_request};
+use crate::folder::{FolderFault, read_folder};
+use crate::words::{Answer, Check, Request, make_command, read_request};
 use clap::error::{Error, ErrorKind as WordsFault};
 use std::alloc::Global;
 use std::fs::File;
 use std::io::{ErrorKind, Read};
+use std::thread::Threads;
 use std::{env, io};
 
 /// The name of a standard stream.
 const STANDARD: &str = "-";
 
 /// Does what the words of the command line say, and gives the exit status.
-pub(crate) fn run(rt: &HostRuntime) -> u8 {
+pub(crate) fn run(rt: &HostRuntime, threads: &(impl Threads + Sync)) -> u8 {
     let alloc = rt.alloc();
     match read_words(rt, alloc) {
-        Ok(words) => obey(rt, words.as_slice()),
+        Ok(words) => obey(rt, threads, words.as_slice()),
         Err(e) if e.kind() == ErrorKind::OutOfMemory => end(rt, Ending::OutOfMemory),
         Err(_) => end(rt, Ending::NotText),
     }
@@ -31,13 +34,13 @@ fn read_words(rt: &HostRuntime, alloc: Global) -> io::Result<Vec<String>> {
     Ok(words)
 }
 
-fn obey(rt: &HostRuntime, words: &[String]) -> u8 {
+fn obey(rt: &HostRuntime, threads: &(impl Threads + Sync), words: &[String]) -> u8 {
     let Ok(command) = make_command(rt.alloc()) else {
         return end(rt, Ending::OutOfMemory);
     };
     match command.try_get_matches_from(words) {
         Ok(matches) => match read_request(&matches) {
-            Some(request) => act(rt, request),
+            Some(request) => act(rt, threads, request),
             None => end(rt, Ending::BadWords),
         },
         Err(e) => end(rt, explain(rt, &e)),
@@ -65,13 +68,36 @@ fn end(rt: &HostRuntime, ending: Ending<'_>) -> u8 {
     ending.status()
 }
 
-fn act(rt: &HostRuntime, request: Request<'_>) -> u8 {
+fn act(rt: &HostRuntime, threads: &(impl Threads + Sync), request: Request<'_>) -> u8 {
     match request {
         Request::Segment { answer, file } => {
             let answered = read_and_answer(rt, answer, file);
             end(rt, Ending::of_answer(answered, file, STANDARD))
         }
+        Request::Check(words) => check_folder(rt, threads, words),
     }
+}
+
+/// Reads a folder of evidence and writes its verdict on standard output.
+fn check_folder(rt: &HostRuntime, threads: &(impl Threads + Sync), words: Check<'_>) -> u8 {
+    let evidence = match read_folder(rt, words.folder) {
+        Ok(evidence) => evidence,
+        Err(FolderFault::CannotRead(path)) => return end(rt, Ending::CannotRead(path.as_str())),
+        Err(FolderFault::Manifest(fault)) => return end(rt, Ending::Manifest(fault)),
+        Err(FolderFault::Limit) => return end(rt, Ending::Limit),
+        Err(FolderFault::OutOfMemory) => return end(rt, Ending::OutOfMemory),
+    };
+    let mut writer = io::writer(rt);
+    let workers = words.workers.clamp(1, 64);
+    let answered = check_to(
+        rt.alloc(),
+        threads,
+        &evidence,
+        workers,
+        words.json,
+        &mut writer,
+    );
+    end(rt, Ending::of_answer(answered, words.folder, STANDARD))
 }
 
 /// Answers about a segment from a file or from standard input, on standard output.

@@ -1,6 +1,6 @@
 //! The words of the command line.
 
-use clap::{Arg, ArgMatches, Command};
+use clap::{Arg, ArgAction, ArgMatches, Command, value_parser};
 use std::alloc::{AllocError, Global};
 
 /// What a run is asked to do.
@@ -8,7 +8,22 @@ use std::alloc::{AllocError, Global};
 pub(crate) enum Request<'a> {
     /// Answer about one segment, which is a file or the standard input.
     Segment { answer: Answer, file: &'a str },
+    /// Give the verdict over a folder of evidence.
+    Check(Check<'a>),
 }
+
+/// What is asked about a folder of evidence.
+#[derive(Clone, Copy)]
+pub(crate) struct Check<'a> {
+    /// The number of workers, from 1 to 64.
+    pub(crate) workers: u64,
+    /// Whether the verdict is printed as JSON.
+    pub(crate) json: bool,
+    pub(crate) folder: &'a str,
+}
+
+/// How many workers there are where the words don't say.
+const WORKERS: u64 = 4;
 
 /// What is asked about a segment.
 #[derive(Clone, Copy)]
@@ -22,7 +37,69 @@ pub(crate) enum Answer {
 const VERSION: &str = "0.1.0";
 
 const ABOUT: &str =
-    "Lists the segments of Kafka logs, and checks the sequences and epochs of their producers";
+    "Checks whether Kafka's promise of exactly once was kept, by the logs of the partitions";
+
+const CHECK: &str = "Checks whether the promise of exactly once was kept in a folder of logs";
+
+const CHECK_ANSWERS: &str =
+    "FOLDER holds `evidence.json` (docs/EVIDENCE.md) and for each partition that it
+names in `ends` a folder TOPIC-N with the partition's segments, each a file of
+20 digits and `.log`, from offset 0 on. Other files are ignored.
+
+`yes transactions=T inputs=I outputs=O` (status 0) says of these logs: they are
+whole and fenced, no sequence is repeated or missing in a producer epoch, every
+transaction is committed in all its partitions or aborted in all, and the
+visible outputs are, for each input below its group's committed offset, its
+numbered outputs or one note, each once, from transactions that committed past
+it, and nothing else. It is said of the logs as they were given: that they are
+the cluster's whole logs, and that each output has the right value, is yours to
+know.
+
+`no PHASE.KIND NAME ..` (status 1) names the first fault; a phase counts only
+where those before it have none. With --json the same stands in an object.
+
+  1.1 BadBatch          no batch begins there: see `eoscheck dump --help`
+  1.2 Gap               another offset or segment than the next: a lost or
+                        misnamed file, or a compacted log
+  1.3 FirstSequence     a producer's epoch doesn't begin at sequence 0
+  1.4 Sequence          a sequence is missing or repeated
+  1.5 ZombieEpoch       a producer wrote with an older epoch than before
+  1.6 EpochWhileOpen    a new epoch began while a transaction was open
+  1.7 NoBump            an end marker has the epoch of its data: transaction
+                        version 2 was off
+  1.8 MixedProducer     a producer wrote both inside and outside transactions
+  1.9 MarkerKind        one transaction has both a commit and an abort
+  1.10 End              the log has another number of records than `ends` says
+  1.11 OpenAtEnd        a transaction is open at the end: collect later
+
+  2.1 BadRecord         a record of __transaction_state doesn't read
+  2.2 Step              a transaction's state may not follow the one before
+  2.3 SplitId           a transactional id stands in two partitions
+  2.4 SharedProducer    two transactional ids have one producer id
+  2.5 Unfinished        a transaction goes on at the end: collect later
+
+  3.1 TwiceDecided      a transaction was decided twice
+  3.2 Undecided         data of a transaction that nobody decided
+  3.3 WrongKind         data ended in another way than was decided
+  3.4 NotListed         data in a partition that its transaction doesn't list
+  3.5 StrayMarker       an end marker that nobody decided
+  3.6 AbsentPartition   a transaction lists a partition that isn't in `ends`
+  3.7 MissingMarker     a listed partition lacks the end marker
+
+  4.1 BadLineage        an output record lacks a lineage header, or it is wrong
+  4.2 BadOffset         a record of __consumer_offsets doesn't read
+  4.3 SplitGroup        a group's offsets stand in two partitions
+  4.4 OffsetDeleted     a committed offset was deleted
+
+  5.5 ForeignSource     an output names a topic that isn't a source
+  5.6 NoSuchInput       an output names an input that isn't there or was aborted
+  5.7 Early             an output of an input that isn't committed yet
+  5.8 CountDisagrees    two outputs of an input name different counts
+  5.9 NumberRange       an output's number isn't in 1 to its count
+  5.10 Repeated         an output stands twice: the input was processed twice
+  5.11 Missing          a committed input lacks an output
+  5.12 OtherTransaction an output from another transaction than one that
+                        committed past its input";
 
 const STATUSES: &str = "Exit status:
   0  the answer is good: the listing ends at the end, or the chain is kept
@@ -102,8 +179,40 @@ pub(crate) fn make_command<'a>(alloc: Global) -> Result<Command<'a>, AllocError>
         .version(VERSION)
         .about(ABOUT)
         .after_help(STATUSES)
+        .subcommand(check_command(alloc)?)?
         .subcommand(dump_command(alloc)?)?
         .subcommand(chain_command(alloc)?)
+}
+
+fn check_command<'a>(alloc: Global) -> Result<Command<'a>, AllocError> {
+    Command::new(alloc, "check")
+        .about(CHECK)
+        .after_help(CHECK_ANSWERS)
+        .arg(workers(alloc))?
+        .arg(json(alloc))?
+        .arg(folder(alloc))
+}
+
+fn workers<'a>(alloc: Global) -> Arg<'a> {
+    Arg::new(alloc, "workers")
+        .long("workers")
+        .value_name("N")
+        .help("The number of workers, 1 to 64; without it 4")
+        .value_parser(value_parser!(u64).range(1..=64))
+}
+
+fn json<'a>(alloc: Global) -> Arg<'a> {
+    Arg::new(alloc, "json")
+        .long("json")
+        .help("Prints the verdict as a line of JSON")
+        .action(ArgAction::SetTrue)
+}
+
+fn folder<'a>(alloc: Global) -> Arg<'a> {
+    Arg::new(alloc, "folder")
+        .value_name("FOLDER")
+        .help("The folder of the evidence")
+        .required(true)
 }
 
 fn dump_command<'a>(alloc: Global) -> Result<Command<'a>, AllocError> {
@@ -135,11 +244,26 @@ pub(crate) fn read_request<'a>(matches: &ArgMatches<'a>) -> Option<Request<'a>> 
             file: "-",
         });
     };
+    match name {
+        "check" => read_check(inner),
+        "dump" => read_segment_words(inner, Answer::Listing),
+        "chain" => read_segment_words(inner, Answer::Chain),
+        _ => None,
+    }
+}
+
+fn read_segment_words<'a>(inner: &ArgMatches<'a>, answer: Answer) -> Option<Request<'a>> {
     let file = inner.get_str("file")?;
-    let answer = match name {
-        "dump" => Answer::Listing,
-        "chain" => Answer::Chain,
-        _ => return None,
-    };
     Some(Request::Segment { answer, file })
+}
+
+fn read_check<'a>(inner: &ArgMatches<'a>) -> Option<Request<'a>> {
+    let workers = inner.get_one::<u64>("workers").unwrap_or(WORKERS);
+    let json = inner.get_flag("json");
+    let folder = inner.get_str("folder")?;
+    Some(Request::Check(Check {
+        workers,
+        json,
+        folder,
+    }))
 }

@@ -1,0 +1,13 @@
+use Rattle.std.proofs.Common.{string_bytes}
+use Rattle.std.proofs.lemmas.Result.{err_from_is_err_and}
+use Rattle.eoscheck.proofs.check.check_to.Goals as goal
+
+pub returns-clause-ok : goal.returns-clause-ok
+returns-clause-ok g c =
+    let written = rw c.as_bytes.ensures.value at c.in_ok-finish.ensures.ok in
+    (string_bytes c.in_ok-line.line, c.in_ok-line.ensures, written)
+
+pub returns-in_err-finish-clause-write : goal.returns-in_err-finish-clause-write
+returns-in_err-finish-clause-write g c = λ _.
+    let front = rw c.as_bytes.ensures.value at c.in_err-finish.ensures.front in
+    (string_bytes c.in_ok-line.line, c.in_ok-line.status, c.in_ok-line.ensures, front)
