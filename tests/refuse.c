@@ -32,6 +32,14 @@ __attribute__((destructor)) static void end(void) {
     }
 }
 
+/* A program that may start threads ends by _exit, which runs no destructor. */
+void _exit(int status) {
+    void (*real)(int) = dlsym(RTLD_NEXT, "_exit");
+    end();
+    real(status);
+    __builtin_unreachable();
+}
+
 static int refused(void) {
     if (atomic_fetch_add(&count, 1) + 1 == at) {
         errno = ENOMEM;
