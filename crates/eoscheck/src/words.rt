@@ -197,7 +197,7 @@ fn workers<'a>(alloc: Global) -> Arg<'a> {
     Arg::new(alloc, "workers")
         .long("workers")
         .value_name("N")
-        .help("The number of workers, 1 to 64; without it 4")
+        .help("The number of workers, 1 to 64; today one thread does the work")
         .value_parser(value_parser!(u64).range(1..=64))
 }
 
