@@ -3,11 +3,11 @@
 
     tests/random_evidence.py PROGRAM [NUMBER [SEED [KEEP]]]
 
-Each is a folder of tests/evidence with 0 to 3 changes of its logs and manifest, under right checksums and mostly with
-offsets, sequences and ends made right again, so that the later phases are reached; then its logs are cut into other
-segments, which may not change the verdict where the logs are whole. Everything follows from SEED. It prints the
-differences, how often each answer was seen and which fault never was, and ends in 1 where there is a difference. The
-folders that differ are kept in KEEP, where that is given.
+Each is a folder of tests/evidence, or one that tests/made_evidence.py makes, with 0 to 3 changes of its logs and manifest,
+under right checksums and mostly with offsets, sequences and ends made right again, so that the later phases are reached.
+Then its logs are cut into other segments, which may not change the verdict where the logs are whole. Everything follows
+from SEED. It prints the differences, how often each answer was seen and which fault never was, and ends in 1 where there
+is a difference. The folders that differ are kept in KEEP, where that is given.
 """
 import collections
 import copy
@@ -21,6 +21,7 @@ import subprocess
 import sys
 import tempfile
 
+import made_evidence
 import mutants
 import plain_logs
 import reference
@@ -78,7 +79,11 @@ def part_text(data):
 class Folder:
     """A folder of evidence that can be changed and written."""
 
-    def __init__(self, path):
+    def __init__(self, path=None, rng=None):
+        if path is None:
+            self.manifest, logs = made_evidence.Maker(rng, sealed).make()
+            self.logs = {name: [Piece(text) for text in log] for name, log in logs.items()}
+            return
         with open(os.path.join(path, "evidence.json"), encoding="utf-8") as file:
             self.manifest = json.load(file)
         self.logs = {}
@@ -489,7 +494,7 @@ def end(rng, folder):
     ends = folder.manifest["ends"]
     if ends:
         name = rng.choice(sorted(ends))
-        ends[name] = max(0, rng.choice([ends[name] + 1, ends[name] - 1, 0, 2**63 - 1]))
+        ends[name] = max(0, min(rng.choice([ends[name] + 1, ends[name] - 1, 0, 2**63 - 1]), 2**63 - 1))
         return []
 
 
@@ -566,12 +571,16 @@ def cut(rng, folder):
 
 
 def made(rng, folders, place):
-    """The name of a folder, the changed folder and what was changed. Every second time it is one of the good folders, else
-    each folder in turn."""
-    good = [name for name in folders if "-yes-" in name]
-    name = rng.choice(good) if place % 2 else sorted(folders)[place // 2 % len(folders)]
-    folder, done = folders[name].copy(), []
-    for _ in range(rng.choice([0, 1, 1, 1, 2, 2, 3] if place % 2 else [0, 0, 1, 1, 2])):
+    """The name of a folder, the changed folder and what was changed. It is by turns one made good, each of the folders in
+    turn, and one of the good folders."""
+    good, name = [name for name in folders if "-yes-" in name], "made"
+    if place % 4 == 0:
+        folder = Folder(rng=rng)
+    else:
+        name = rng.choice(good) if place % 4 == 2 else sorted(folders)[place // 2 % len(folders)]
+        folder = folders[name].copy()
+    done = []
+    for _ in range(rng.choice([0, 0, 1, 1, 2] if place % 2 else [0, 1, 1, 1, 2, 2, 3])):
         change = rng.choice(CHANGES)
         touched = change(rng, folder)
         if touched is None:
