@@ -443,7 +443,7 @@ def state(rng, folder):
 
 
 def listed_otherwise(rng, value, folder, change=None):
-    """The value with another list of partitions, in the plain form."""
+    """The value with another list of partitions, in the plain form, some of them named twice."""
     try:
         found = plain_logs.state_value(value)
     except mutants.Refused:
@@ -451,9 +451,11 @@ def listed_otherwise(rng, value, folder, change=None):
     change = change or a_change(rng, folder)
     names = sorted(change(found.partitions))
     rng.shuffle(names)
-    text = struct.pack(">hqhibi", 0, found.producer, found.epoch, 60000, found.status, len(names) or -1)
-    for topic, n in names:
-        text += struct.pack(">h", len(topic)) + topic + struct.pack(">ii", 1, n)
+    entries = [(topic, [n] * rng.choice([1, 1, 1, 2])) for topic, n in names]
+    entries += rng.choice([[], [], entries[:1], [(b"none", [])]])
+    text = struct.pack(">hqhibi", 0, found.producer, found.epoch, 60000, found.status, len(entries) or -1)
+    for topic, numbers in entries:
+        text += struct.pack(">h", len(topic)) + topic + struct.pack(f">i{len(numbers)}i", len(numbers), *numbers)
     return text + struct.pack(">qq", 0, 0)
 
 
@@ -592,16 +594,22 @@ def made(rng, folders, place):
     return name, folder, done
 
 
-def check(program, path, workers):
-    done = subprocess.run([program, "check", "--workers", workers, path], capture_output=True, timeout=60)
-    return done.returncode, done.stdout.decode(), done.stderr.decode()
+def json_of(line):
+    if line.startswith("no"):
+        return json.dumps({"answer": "no", "fault": line[3:]}, separators=(",", ":"))
+    counts = {key: int(n) for key, n in (part.split("=") for part in line.split()[1:])}
+    return json.dumps({"answer": "yes", **counts}, separators=(",", ":"), sort_keys=True)
 
 
-def compare(program, path, seen, workers):
-    """The two answers, which are equal or not."""
+def compare(program, path, seen, rng):
+    """What the program answers and what it should, each as status, output and message."""
     line = reference.verdict(path)
     seen[line.split()[2] if line.startswith("no") else "yes"] += 1
-    return check(program, path, workers), (0 if line.startswith("yes") else 1, line + "\n", "")
+    words, shown = rng.choice([([], line), ([], line), (["--json"], json_of(line))])
+    command = [program, "check", *words, "--workers", rng.choice("14"), path]
+    done = subprocess.run(command, capture_output=True, timeout=60)
+    found = done.returncode, done.stdout.decode(), done.stderr.decode()
+    return line, found, (0 if line.startswith("yes") else 1, shown + "\n", "")
 
 
 def main():
@@ -623,13 +631,13 @@ def main():
             paths, answers = [], []
             for form in "given", "cut":
                 if form == "cut":
-                    whole = not answers[0][1][1].startswith(("no 1.1 ", "no 1.2 "))
                     cut(rng, folder)
                 paths.append(os.path.join(scratch, form))
                 folder.write(paths[-1])
-                answers.append(compare(program, paths[-1], seen, rng.choice("14")))
-            said, wanted = zip(*answers)
-            if said != wanted or (whole and wanted[0] != wanted[1]):
+                answers.append(compare(program, paths[-1], seen, rng))
+            lines, said, wanted = zip(*answers)
+            whole = not lines[0].startswith(("no 1.1 ", "no 1.2 "))
+            if said != wanted or (whole and lines[0] != lines[1]):
                 wrong += 1
                 print(f"evidence {i} with seed {seed}, {name} with {done}: {said}, not {wanted}")
                 if keep:
