@@ -492,6 +492,30 @@ def listed_through(rng, folder):
     return [name]
 
 
+def outside(rng, folder):
+    """In one partition a producer writes outside its transactions, which no longer list it."""
+    name, i = a_place(rng, folder, "txn")
+    if name is None:
+        return None
+    topic, n = name.rsplit("-", 1)
+    one, log = (topic.encode(), int(n)), folder.logs[name]
+    writer = log[i].batch.producer
+    log[:] = [p for p in log if not (p.batch and p.batch.producer == writer and p.batch.word in ("commit", "abort"))]
+    for j, piece in enumerate(log):
+        if piece.batch and piece.batch.producer == writer and piece.batch.word == "txn":
+            log[j] = piece.changed(attributes=piece.get("attributes") & ~16)
+    for states in [n for n in sorted(folder.logs) if n.startswith(INTERNAL[1] + "-")]:
+        for j, piece in enumerate(folder.logs[states]):
+            if not piece.batch or piece.batch.word not in ("txn", "plain"):
+                continue
+            changed = [list(record) for record in piece.batch.records]
+            for record in changed:
+                if record[1] and len(record[1]) > 20 and struct.unpack_from(">q", record[1], 2)[0] == writer:
+                    record[1] = listed_otherwise(rng, record[1], folder, lambda held: held - {one})
+            folder.logs[states][j] = piece.with_records(changed)
+    return [name]
+
+
 def end(rng, folder):
     ends = folder.manifest["ends"]
     if ends:
@@ -559,7 +583,7 @@ def empty_segment(rng, folder):
 
 CHANGES = [drop, repeat, swap, move, epoch, producer, sequence, base, attributes, all_numbers, bytes_changed, end]
 CHANGES += [drop_partition, topics, join_apps, empty_segment]
-CHANGES += 3 * [some_record, lineage, claims_together, offset, state, listed_through, marker_kind] + 2 * [second_home]
+CHANGES += 3 * [some_record, lineage, claims_together, offset, state, listed_through, marker_kind] + 2 * [second_home, outside]
 
 
 def cut(rng, folder):
