@@ -1,0 +1,2 @@
+pub mod SeatSums
+pub mod TicketSteps

@@ -1,0 +1,2 @@
+pub mod TicketRule
+pub mod Places
