@@ -6,7 +6,7 @@ use eos_batch::Kind;
 
 /// What may happen to a cluster. Numbers count from 0: applications, sessions in the order of their start, messages in the
 /// order in which they were queued, the partitions of a topic.
-#[derive(Debug, Drop)]
+#[derive(Clone, Debug, PartialEq, Eq, Drop)]
 pub enum Event {
     /// An input comes in.
     Feed {

@@ -8,7 +8,7 @@ use eos_batch::Kind;
 pub type Places = Listed<usize>;
 
 /// Where an output record comes from: the five lineage headers of its record.
-#[derive(Clone, Debug, Drop)]
+#[derive(Clone, Debug, PartialEq, Eq, Drop)]
 pub struct Claim {
     /// The topic of the input.
     pub topic: Bytes,
