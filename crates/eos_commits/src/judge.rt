@@ -154,6 +154,9 @@ fn judge_part<'a>(
     ensures { IfOk result (λ found. Meets (option_map plain_found found) homes.new (walk_part roles.now homes.old part.now)) }
 {
     let role = role_of(roles, part);
+    if !role.output && !role.offsets {
+        return Ok(None);
+    }
     let mut records = part.items().cursor();
     while let Some(item) = records.next() {
         let offset = item.offset();

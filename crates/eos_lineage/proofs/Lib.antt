@@ -1,5 +1,6 @@
 pub mod BelowClaims
 pub mod ClaimWalk
+pub mod WalksJoined
 pub mod CommittedTable
 pub mod FirstFault
 pub mod LineageLaw

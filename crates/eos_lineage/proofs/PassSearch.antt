@@ -181,3 +181,10 @@ at_next xs k i x up at inside is = go (is_eq (key_cmp (plain_pass x).key (plain_
     go : (t : Bool) → is_eq (key_cmp (plain_pass x).key (plain_pass k).key) ≡ t → t ≡ list_any test xs
     go true e = sym (list_any_at test xs i x here.0 (subst (λ z. test z ≡ true) (sym (here.1 x)) (at_least (plain_pass x) (plain_pass k) x_not_less (is_tied _ e))))
     go false e = sym (list_any_none test xs (λ m d h. fails e m d h))
+
+-- the one at this place reaches as far
+pub at_reached : (xs : List Pass) (k : Pass) (i : ℕ) (x : Pass) → true ≡ nat_lt i (length xs) → x ≡ slice_index_or xs i x → is_eq (key_cmp (plain_pass x).key (plain_pass k).key) ≡ true → k.last ≤ x.last
+    → list_any (reaches (plain_pass k)) (map plain_pass xs) ≡ true
+at_reached xs k i x inside is tie far =
+    let t : reaches (plain_pass k) (plain_pass x) ≡ true = rw (tie, le-ltb x.last k.last far) refl in
+    any_map (plain_pass k) xs ∙ list_any_at (λ y. reaches (plain_pass k) (plain_pass y)) xs i x (below_is i (length xs) inside) (subst (λ z. reaches (plain_pass k) (plain_pass z) ≡ true) is t)

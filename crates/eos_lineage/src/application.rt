@@ -17,7 +17,7 @@ use crate::committed::offsets_of;
 use crate::inputs::inputs_of;
 use crate::name::Names;
 use crate::passes::PassTable;
-use crate::tables::{Tables, is_among, is_committed};
+use crate::tables::{Marks, Tables, advanced, is_among, is_committed};
 use bytes::Bytes;
 use eos_base::{PartitionName, in_order};
 use eos_claims::{
@@ -91,8 +91,9 @@ fn count_inputs(tables: &Tables<'_, '_, '_, '_, '_, '_>) -> u64
     ensures { (a : Application) → AreTables a tables.now → result ≡ length (inputs_below a) }
 {
     let mut count = 0u64;
+    let mut marks = Marks::new();
     for input in tables.inputs {
-        count += one_where(is_committed(tables, input));
+        count += one_where(is_committed(tables, &mut marks, input));
     }
     count
 }
@@ -100,15 +101,17 @@ fn count_inputs(tables: &Tables<'_, '_, '_, '_, '_, '_>) -> u64
 // The lesser of the least so far and what an input shows.
 fn take_input<'a>(
     tables: &Tables<'_, '_, '_, '_, '_, 'a>,
+    marks: &mut Marks,
     named: &[PlaceRef<'a>],
+    near: usize,
     best: Option<Found<'a>>,
     input: &PlaceRef<'a>,
 ) -> Option<Found<'a>>
     ensures { (a : Application) → AreTables a tables.entry.now → AreNamed a named.entry.now → Has a.inputs (plain_place input.entry.now)
         → option_map plain_fault result ≡ fold (lesser_of fault_cmp) (option_map plain_fault best.entry) (unclaimed a (plain_place input.entry.now)) }
 {
-    let committed = is_committed(tables, input);
-    let claimed = is_among(named, input);
+    let committed = is_committed(tables, marks, input);
+    let claimed = is_among(named, near, input);
     least_of_input(best, *input, committed, claimed)
 }
 
@@ -122,8 +125,11 @@ fn take_inputs<'a>(
         → option_map plain_fault result ≡ fold (lesser_of fault_cmp) (option_map plain_fault best.entry) (flat_map (unclaimed a) a.inputs) }
 {
     let mut best = best;
+    let mut marks = Marks::new();
+    let mut near = 0;
     for input in tables.inputs {
-        best = take_input(tables, named, best, input);
+        near = advanced(named, near, input);
+        best = take_input(tables, &mut marks, named, near, best, input);
     }
     best
 }
@@ -174,9 +180,9 @@ fn published_if(alloc: Global, found: Option<Found<'_>>) -> Result<Option<Output
 }
 
 // Of tables of an application and the partitions of its output topics.
-pub(crate) fn make_tally<'a>(
+pub(crate) fn make_tally<'a, R: Threads + Sync>(
     alloc: Global,
-    rt: &(impl Threads + Sync),
+    rt: &R,
     tables: &Tables<'_, '_, '_, '_, '_, 'a>,
     outputs: &TopicSet<'_>,
     all: &'a [PartitionName],
@@ -186,7 +192,7 @@ pub(crate) fn make_tally<'a>(
     ensures { (a : Application) → AreTables a tables.now → ReadsSources a → AreApart a → a.claims ≡ flat_map (claims_of_part outputs.now) parts.now
         → IfOk result (λ t. IsOutputsAnswer a t.fault t.inputs t.outputs) }
 {
-    let walk = take_parts(alloc, tables, outputs, all, parts)?;
+    let walk = take_parts(alloc, rt, tables, outputs, all, parts)?;
     let outputs = count_outputs(walk.below.as_slice());
     let below = sorted(alloc, rt, walk.below)?;
     let best = least_of_runs(walk.best, below.as_slice());

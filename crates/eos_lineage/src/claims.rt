@@ -1,20 +1,26 @@
 //! The walk over the claims of an application's output topics.
 
-ghost use Rattle.std.specs.Prelude.{◌≡◌, ◌++◌, ◌∷◌, [], flat_map, map, IfOk, OnOk};
-ghost use Rattle.eos_claims.specs.Outputs.{Application};
+ghost use Rattle.std.specs.Prelude.{◌≡◌, ◌≤◌, ◌*◌, ◌++◌, ◌∷◌, [], ℕ, List, flat_map, map, take, drop, length, IfOk, OnOk};
+ghost use Rattle.eos_claims.specs.Outputs.{Application, PlacedClaim};
 ghost use Rattle.eos_claims.specs.Plain.{plain_claim, plain_lent};
 ghost use Rattle.eos_commits.specs.Visible.{part_name};
-ghost use Rattle.eos_lineage.specs.steps.Walks.{kept_of, counted_ref, AreTables, HasWalked, plain_walk, begun, placed_ref, claim_at, claims_of_part};
+ghost use Rattle.eos_lineage.specs.steps.Walks.{kept_of, counted_ref, AreTables, HasWalked, plain_walk, begun, placed_ref, claim_at, claims_of_part, joined_walk, EachWalked, in_turn};
 
-use crate::tables::{Known, Tables, known_of, tests_of};
+use crate::tables::{Known, Marks, Tables, known_of, tests_of};
 use eos_base::PartitionName;
 use eos_claims::{
-    ClaimRef, Found, LentClaim, NumberedClaim, PlaceRef, SourceRef, least_of_claim, view_claim,
+    ClaimRef, Found, LentClaim, NumberedClaim, PlaceRef, SourceRef, least_of_claim, lesser,
+    view_claim,
 };
 use eos_commits::{TopicSet, is_visible};
 use eos_fold::Part;
 use eos_items::ItemRef;
 use std::alloc::{AllocError, Global};
+use std::thread;
+use std::thread::Threads;
+
+/// How many threads are asked for at most.
+const MOST: usize = 64;
 
 /// What the walk has met: the least fault that claims show one by one, and the claims of inputs below their committed
 /// offsets.
@@ -22,6 +28,14 @@ use std::alloc::{AllocError, Global};
 pub(crate) struct Walk<'a> {
     pub(crate) best: Option<Found<'a>>,
     pub(crate) below: Vec<NumberedClaim<'a>>,
+}
+
+// What threads walk over: the partitions and their names, with the tables beside them.
+#[derive(Clone, Copy)]
+struct Ground<'n, 's, 'i, 'o, 'p, 'a> {
+    tables: Tables<'n, 's, 'i, 'o, 'p, 'a>,
+    names: &'a [PartitionName],
+    parts: &'a [Part],
 }
 
 // Keeps a claim of an input that is below its committed offset.
@@ -65,6 +79,7 @@ fn lent_of<'a>(claim: &ClaimRef<'a>, at: PlaceRef<'a>) -> LentClaim<'a>
 fn take_claim<'a>(
     walk: &mut Walk<'a>,
     tables: &Tables<'_, '_, '_, '_, '_, 'a>,
+    marks: &mut Marks,
     claim: &ClaimRef<'a>,
     at: PlaceRef<'a>,
     writer: Option<(i64, i16)>,
@@ -72,8 +87,8 @@ fn take_claim<'a>(
     ensures { (a : Application) → AreTables a tables.now → OnOk result (HasWalked a (plain_walk walk.old) (plain_walk walk.new) (placed_ref claim.now at.entry writer ∷ [])) }
 {
     let lent = lent_of(claim, at);
-    let known = known_of(tables, &lent.source);
-    let tests = tests_of(tables, &known, &lent.source, writer);
+    let known = known_of(tables, marks, &lent.source);
+    let tests = tests_of(tables, marks, &known, &lent.source, writer);
     walk.best = least_of_claim(walk.best, tests, &lent);
     keep_below(&mut walk.below, &known, &lent)
 }
@@ -82,6 +97,7 @@ fn take_claim<'a>(
 fn take_item<'a>(
     walk: &mut Walk<'a>,
     tables: &Tables<'_, '_, '_, '_, '_, 'a>,
+    marks: &mut Marks,
     name: &'a PartitionName,
     item: ItemRef<'a>,
 ) -> Result<(), AllocError>
@@ -97,7 +113,7 @@ fn take_item<'a>(
     let writer = item.writer();
     match view_claim(item.into_headers()) {
         None => Ok(()),
-        Some(claim) => take_claim(walk, tables, &claim, at, writer),
+        Some(claim) => take_claim(walk, tables, marks, &claim, at, writer),
     }
 }
 
@@ -115,16 +131,87 @@ fn take_part<'a>(
     if !outputs.has(part.topic().as_slice()) {
         return Ok(());
     }
+    let mut marks = Marks::new();
     let mut records = part.items().cursor();
     while let Some(item) = records.next() {
-        take_item(walk, tables, name, item)?;
+        take_item(walk, tables, &mut marks, name, item)?;
     }
     Ok(())
 }
 
-/// Takes the claims of the partitions of these topics, in their order.
-pub(crate) fn take_parts<'a>(
+// Takes the claims of the first of these partitions, at most so many of them.
+fn take_first<'a>(
     alloc: Global,
+    tables: &Tables<'_, '_, '_, '_, '_, 'a>,
+    outputs: &TopicSet<'_>,
+    names: &'a [PartitionName],
+    parts: &'a [Part],
+    most: usize,
+) -> Result<Walk<'a>, AllocError>
+    requires { names.now ≡ map part_name parts.now }
+    ensures { (a : Application) → AreTables a tables.now → IfOk result (λ walk. HasWalked a begun (plain_walk walk) (flat_map (claims_of_part outputs.now) (take most parts.now))) }
+{
+    let mut walk = Walk {
+        best: None,
+        below: Vec::new(alloc),
+    };
+    for i in 0..most.min(parts.len()) {
+        take_part(&mut walk, tables, outputs, &names[i], &parts[i])?;
+    }
+    Ok(walk)
+}
+
+// Takes the claims of a chunk of the partitions, which are cut into chunks of this size.
+fn take_chunk<'a>(
+    alloc: Global,
+    ground: &Ground<'_, '_, '_, '_, '_, 'a>,
+    outputs: &TopicSet<'_>,
+    size: usize,
+    chunk: usize,
+) -> Result<Walk<'a>, AllocError>
+    requires names { ground.now.names.now ≡ map part_name ground.now.parts.now }
+    requires inside { chunk * size ≤ length ground.now.parts.now }
+    ensures { (a : Application) → AreTables a ground.now.tables → IfOk result (λ walk. HasWalked a begun (plain_walk walk) (flat_map (claims_of_part outputs.now) (take size (drop (chunk * size) ground.now.parts.now)))) }
+{
+    let from = chunk * size;
+    let (_, names) = ground.names.split_at(from);
+    let (_, parts) = ground.parts.split_at(from);
+    take_first(alloc, &ground.tables, outputs, names, parts, size)
+}
+
+// Puts a walk at the end of another one.
+fn join_walk<'a>(walk: &mut Walk<'a>, next: Walk<'a>) -> Result<(), AllocError>
+    ensures { OnOk result (plain_walk walk.new ≡ joined_walk (plain_walk walk.old) (plain_walk next.entry)) }
+{
+    let Walk { best, mut below } = next;
+    if let Some(found) = best {
+        walk.best = lesser(walk.best, found);
+    }
+    walk.below.append(&mut below)
+}
+
+// The walks one after the other, or want of memory where one of them is.
+fn join_walks<'a>(
+    alloc: Global,
+    walks: Vec<Result<Walk<'a>, AllocError>>,
+) -> Result<Walk<'a>, AllocError>
+    ensures { (a : Application) (claims : ℕ → List PlacedClaim) → EachWalked a claims walks.entry.items
+        → IfOk result (λ walk. HasWalked a begun (plain_walk walk) (in_turn claims (length walks.entry.items))) }
+{
+    let mut all = Walk {
+        best: None,
+        below: Vec::new(alloc),
+    };
+    for walk in walks {
+        join_walk(&mut all, walk?)?;
+    }
+    Ok(all)
+}
+
+/// Takes the claims of the partitions of these topics, in their order. They are read by at most 64 threads.
+pub(crate) fn take_parts<'a, R: Threads + Sync>(
+    alloc: Global,
+    rt: &R,
     tables: &Tables<'_, '_, '_, '_, '_, 'a>,
     outputs: &TopicSet<'_>,
     names: &'a [PartitionName],
@@ -133,12 +220,18 @@ pub(crate) fn take_parts<'a>(
     requires { names.now ≡ map part_name parts.now }
     ensures { (a : Application) → AreTables a tables.now → IfOk result (λ walk. HasWalked a begun (plain_walk walk) (flat_map (claims_of_part outputs.now) parts.now)) }
 {
-    let mut walk = Walk {
-        best: None,
-        below: Vec::new(alloc),
+    let ground = Ground {
+        tables: *tables,
+        names,
+        parts,
     };
-    for i in 0..parts.len() {
-        take_part(&mut walk, tables, outputs, &names[i], &parts[i])?;
-    }
-    Ok(walk)
+    let size = parts.len() / MOST + 1;
+    let chunks = parts.len() / size + 1;
+    let walks = thread::map_indices(
+        rt,
+        alloc,
+        chunks,
+        &|chunk| { take_chunk(alloc, &ground, outputs, size, chunk) },
+    )?;
+    join_walks(alloc, walks)
 }

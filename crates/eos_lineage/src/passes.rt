@@ -1,6 +1,6 @@
 //! Which transactions committed past which records.
 
-ghost use Rattle.std.specs.Prelude.{◌≡◌, ◌++◌, map, flat_map, option_map, IfOk, OnOk, IsPermutation, IsSorted};
+ghost use Rattle.std.specs.Prelude.{◌≡◌, ◌++◌, true, map, flat_map, option_map, IfOk, OnOk, IsPermutation, IsSorted};
 ghost use Rattle.std.specs.List.{list_any};
 ghost use Rattle.eos_claims.specs.Plain.{plain_source};
 ghost use Rattle.eos_commits.specs.Plain.{plain_commit};
@@ -117,21 +117,59 @@ impl<'a> PassTable<'a> {
         }
     }
 
-    /// Whether a transaction of this writer committed past the record.
-    pub(crate) fn is_passed(&self, writer: Option<(i64, i16)>, source: &SourceRef<'_>) -> bool
+    // Whether the one at this place has this key, and an offset of at least its.
+    fn reaches_at(&self, place: usize, wanted: &Pass<'_>) -> bool
+        ensures { result ≡ true → list_any (reaches (plain_pass wanted.now)) self.now ≡ true }
+    {
+        match self.passes.get(place) {
+            None => false,
+            Some(pass) => pass.key.cmp(&wanted.key).is_eq() && wanted.last <= pass.last,
+        }
+    }
+
+    // Where one with this key and offset stands, or would stand.
+    fn place_for(&self, wanted: &Pass<'_>) -> usize {
+        match self.passes.binary_search(wanted) {
+            Ok(place) => place,
+            Err(place) => place,
+        }
+    }
+
+    // Whether one of them has this key, and an offset of at least its: looked for first where the last one stood.
+    fn reaches_near(&self, mark: &mut usize, wanted: &Pass<'_>) -> bool
+        ensures { result ≡ list_any (reaches (plain_pass wanted.now)) self.now }
+    {
+        if self.reaches_at(*mark, wanted) {
+            return true;
+        }
+        *mark = self.place_for(wanted);
+        self.reaches(wanted)
+    }
+
+    /// Whether a transaction of this writer committed past the record. The mark is where the last such look-up ended; it
+    /// may be any.
+    pub(crate) fn is_passed(
+        &self,
+        mark: &mut usize,
+        writer: Option<(i64, i16)>,
+        source: &SourceRef<'_>,
+    ) -> bool
         ensures { result ≡ is_reached self.now writer (plain_source source.now) }
     {
         match writer {
             None => false,
-            Some((producer, epoch)) => self.reaches(&Pass {
-                key: PassKey {
-                    producer,
-                    epoch,
-                    topic: source.topic,
-                    partition: source.partition,
+            Some((producer, epoch)) => self.reaches_near(
+                mark,
+                &Pass {
+                    key: PassKey {
+                        producer,
+                        epoch,
+                        topic: source.topic,
+                        partition: source.partition,
+                    },
+                    last: source.offset,
                 },
-                last: source.offset,
-            }),
+            ),
         }
     }
 }

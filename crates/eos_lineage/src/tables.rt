@@ -1,6 +1,6 @@
 //! What is known of the place that a claim names, by the tables of one application.
 
-ghost use Rattle.std.specs.Prelude.{◌≡◌, IsSorted, slice_get};
+ghost use Rattle.std.specs.Prelude.{◌≡◌, true, IsSorted, slice_get, is_some};
 ghost use Rattle.eos_base.specs.Members.{Has, is_found};
 ghost use Rattle.eos_claims.specs.declared.place.Place.{Place};
 ghost use Rattle.eos_claims.specs.Outputs.{Application};
@@ -38,11 +38,82 @@ pub(crate) struct Known<'a> {
     pub(crate) is_committed: bool,
 }
 
-/// Whether one of the items is tied with the key, by a binary search: of items in order.
-pub(crate) fn is_among<T: Ord>(items: &[T], key: &T) -> bool
+/// Where the last look-ups ended. Claims mostly name inputs one after the other, so the next look-up begins there. The
+/// answers don't depend on these numbers.
+#[derive(Clone, Copy)]
+pub(crate) struct Marks {
+    input: usize,
+    offset: u64,
+    pass: usize,
+}
+
+impl Marks {
+    /// Nothing was looked up yet.
+    pub(crate) fn new() -> Marks {
+        Marks {
+            input: 0,
+            offset: 0,
+            pass: 0,
+        }
+    }
+
+    // Where the input at this offset stands, if it is of the last one's partition and none is missing between.
+    fn input_near(&self, offset: u64) -> usize {
+        self.input
+            .wrapping_add(offset.wrapping_sub(self.offset) as usize)
+    }
+}
+
+// Whether the item at this place is tied with the key.
+fn stands_at<T: Ord>(items: &[T], place: usize, key: &T) -> bool
+    ensures { result ≡ true → is_found T.cmp items.now key.now ≡ true }
+{
+    match items.get(place) {
+        None => false,
+        Some(item) => item.cmp(key).is_eq(),
+    }
+}
+
+// Where an item stands that is tied with the key, if there is one: looked for first at a place where it may stand, then
+// by a binary search, of items in order.
+fn place_of<T: Ord>(items: &[T], near: usize, key: &T) -> Option<usize>
+    ensures { IsSorted T.cmp items.now → is_some result ≡ is_found T.cmp items.now key.now }
+{
+    if stands_at(items, near, key) {
+        return Some(near);
+    }
+    items.binary_search(key).ok()
+}
+
+/// Whether one of the items, which are in order, is tied with the key.
+pub(crate) fn is_among<T: Ord>(items: &[T], near: usize, key: &T) -> bool
     ensures { IsSorted T.cmp items.now → result ≡ is_found T.cmp items.now key.now }
 {
-    items.binary_search(key).is_ok()
+    place_of(items, near, key).is_some()
+}
+
+/// From a place on, the first of the items that isn't less than the key. Only a guess where the key stands: it says
+/// nothing of items before the place.
+pub(crate) fn advanced<T: Ord>(items: &[T], from: usize, key: &T) -> usize {
+    let mut place = from;
+    while place < items.len() && items[place].cmp(key).is_lt() {
+        place += 1;
+    }
+    place
+}
+
+// Whether the place is one of the inputs.
+fn is_input(inputs: &[PlaceRef<'_>], marks: &mut Marks, place: &PlaceRef<'_>) -> bool
+    ensures { IsSorted by_place inputs.now → result ≡ is_found by_place inputs.now place.now }
+{
+    match place_of(inputs, marks.input_near(place.offset), place) {
+        None => false,
+        Some(input) => {
+            marks.input = input;
+            marks.offset = place.offset;
+            true
+        }
+    }
 }
 
 // Whether the offset is below the one that stands at this place.
@@ -57,6 +128,7 @@ fn is_below_at(offsets: &[i64], place: usize, offset: u64) -> bool
 
 fn known_at<'a>(
     tables: &Tables<'_, '_, '_, '_, '_, 'a>,
+    marks: &mut Marks,
     part: NamedPart<'a>,
     offset: u64,
 ) -> Known<'a>
@@ -70,7 +142,7 @@ fn known_at<'a>(
     };
     Known {
         place,
-        is_input: is_among(tables.inputs, &place),
+        is_input: is_input(tables.inputs, marks, &place),
         is_committed: is_below_at(tables.offsets, part.place, offset),
     }
 }
@@ -78,12 +150,13 @@ fn known_at<'a>(
 /// What is known of the place: nothing where its partition isn't there.
 pub(crate) fn known_of<'a>(
     tables: &Tables<'_, '_, '_, '_, '_, 'a>,
+    marks: &mut Marks,
     source: &SourceRef<'_>,
 ) -> Option<Known<'a>>
     ensures { (a : Application) → AreTables a tables.entry.now → KnowsPlace a (plain_source source.now) result }
 {
     let part = tables.names.find(source.topic, source.partition)?;
-    Some(known_at(tables, part, source.offset))
+    Some(known_at(tables, marks, part, source.offset))
 }
 
 // Whether it is an input, and whether that is below its committed offset.
@@ -99,6 +172,7 @@ fn flags(known: &Option<Known<'_>>) -> (bool, bool)
 /// What is known of a claim's source.
 pub(crate) fn tests_of(
     tables: &Tables<'_, '_, '_, '_, '_, '_>,
+    marks: &mut Marks,
     known: &Option<Known<'_>>,
     source: &SourceRef<'_>,
     writer: Option<(i64, i16)>,
@@ -110,7 +184,7 @@ pub(crate) fn tests_of(
         is_source: tables.sources.has(source.topic),
         is_input,
         is_committed,
-        is_passed: tables.passes.is_passed(writer, source),
+        is_passed: tables.passes.is_passed(&mut marks.pass, writer, source),
     }
 }
 
@@ -126,11 +200,15 @@ fn source_of<'a>(place: &PlaceRef<'a>) -> SourceRef<'a>
 }
 
 /// Whether an input is below its committed offset.
-pub(crate) fn is_committed(tables: &Tables<'_, '_, '_, '_, '_, '_>, input: &PlaceRef<'_>) -> bool
+pub(crate) fn is_committed(
+    tables: &Tables<'_, '_, '_, '_, '_, '_>,
+    marks: &mut Marks,
+    input: &PlaceRef<'_>,
+) -> bool
     ensures { (a : Application) → AreTables a tables.now → Has a.inputs (plain_place input.now) → result ≡ is_committed_in a (plain_place input.now) }
 {
     let source = source_of(input);
-    match known_of(tables, &source) {
+    match known_of(tables, marks, &source) {
         None => false,
         Some(known) => known.is_committed,
     }
