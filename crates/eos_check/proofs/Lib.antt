@@ -6,7 +6,9 @@ pub mod FirstFault
 pub mod GoodLaw
 pub mod VerdictsMade
 pub mod RunsMade
-pub mod OneShard
+pub mod SegmentsEqual
+pub mod PiecesFit
+pub mod SettledShards
 pub mod PhaseAnswers
 pub mod FrontsUnique
 pub mod VerdictsUnique

@@ -5,7 +5,11 @@ pub mod laws;
 mod one_thread;
 mod parts;
 mod phases;
+mod pool;
+mod shards;
 mod verdict;
+mod workers;
 
 pub use one_thread::check_one;
 pub use verdict::{Counts, Fault, Verdict};
+pub use workers::check;

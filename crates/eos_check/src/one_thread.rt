@@ -1,12 +1,12 @@
 //! The check of an evidence by one thread.
 
-ghost use Rattle.std.specs.Prelude.{◌≡◌, IfOk, Ok};
+ghost use Rattle.std.specs.Prelude.{◌≡◌, ◌<◌, IfOk, Ok};
 ghost use Rattle.eos_check.specs.Good.{AreLogsOf};
 ghost use Rattle.eos_check.specs.Verdicts.{IsVerdict, IsVerdictOf};
 ghost use Rattle.eos_check.specs.steps.Phases.{IsTransacted};
 ghost use Rattle.eos_evidence.specs.Evidence.{EvidenceParts, IsEvidence};
 
-use crate::parts::parts_of;
+use crate::parts::parts_from;
 use crate::phases::transactions;
 use crate::verdict::{Counts, Fault, Verdict};
 use eos_evidence::{Evidence, Spec};
@@ -36,6 +36,25 @@ fn of_lineage<R: Threads + Sync>(
     }
 }
 
+/// The verdict of the evidence whose logs these are, with the transactions matched in so many shards.
+pub(crate) fn verdict_of<R: Threads + Sync>(
+    alloc: Global,
+    rt: &R,
+    evidence: &Evidence,
+    logs: &[Part],
+    shards: u32,
+) -> Result<Verdict, AllocError>
+    requires shards { 0 < shards }
+    requires logs { AreLogsOf evidence.now.partitions logs.now }
+    ensures { IfOk result (IsVerdict evidence.now) }
+{
+    let spec = evidence.spec();
+    match transactions(alloc, rt, logs, shards)? {
+        Err(fault) => Ok(Verdict::No(fault)),
+        Ok(transactions) => of_lineage(alloc, rt, spec, logs, transactions),
+    }
+}
+
 /// The verdict of an evidence: yes with three counts exactly where each log is whole and fenced, no sequence is repeated or
 /// missing in a producer epoch, every transaction is committed in all its partitions or aborted in all, and the visible
 /// outputs are, for each input below its group's committed offset, its numbered outputs or one note, each once, from
@@ -52,11 +71,6 @@ pub fn check_one<R: Threads + Sync>(
 ) -> Result<Verdict, AllocError>
     ensures { IfOk result (IsVerdict evidence.now) }
 {
-    let spec = evidence.spec();
-    let parts = parts_of(alloc, evidence)?;
-    let logs = parts.as_slice();
-    match transactions(alloc, logs)? {
-        Err(fault) => Ok(Verdict::No(fault)),
-        Ok(transactions) => of_lineage(alloc, rt, spec, logs, transactions),
-    }
+    let parts = parts_from(alloc, evidence, Vec::new(alloc))?;
+    verdict_of(alloc, rt, evidence, parts.as_slice(), 1)
 }

@@ -1,31 +1,98 @@
-//! The logs of an evidence, each folded from its segments.
+//! The logs of an evidence, each folded from its segments: out of the runs that workers made and, where none is there, by this
+//! thread's own work.
 
-ghost use Rattle.std.specs.Prelude.{◌≡◌, [], ◌∷◌, ◌++◌, IfOk};
+ghost use Rattle.std.specs.Prelude.{◌≡◌, ◌+◌, ◌<◌, ◌≤◌, ◌^◌, ◌++◌, [], ◌∷◌, length, IfOk, IfSome, IsTrue};
+ghost use Rattle.eos_check.specs.Good.{IsLogOf, AreLogsOf};
+ghost use Rattle.eos_check.specs.steps.Runs.{AreOwn, IsBehind, IsRunOf};
 ghost use Rattle.eos_evidence.specs.Evidence.{IsPartition};
 ghost use Rattle.eos_fold.specs.Sums.{IsFit};
 ghost use Rattle.eos_fold.specs.Whole.{segments_in};
-ghost use Rattle.eos_check.specs.Good.{IsLogOf, AreLogsOf};
-ghost use Rattle.eos_check.specs.steps.Phases.{AreOwn, Joins};
 
 use eos_evidence::{Evidence, Partition, Segment};
 use eos_fold::{Named, Part};
 use std::alloc::{AllocError, Global};
 
-/// The run with the piece of this number behind it.
-fn with_piece(
-    alloc: Global,
-    run: Option<Named>,
-    piece: u64,
-    segment: Segment,
-) -> Result<Named, AllocError>
-    requires fit { IsFit segment }
-    requires joins { Joins run piece segment }
-    ensures segments { IfOk result (λ n. n.segments ≡ segments_in run ++ segment ∷ []) }
+/// The run of one piece, worked out here.
+fn own_run(alloc: Global, piece: u64, segment: &Segment) -> Result<Named, AllocError>
+    requires { IsFit segment.now }
+    ensures first { IfOk result (λ n. n.first ≡ piece) }
     ensures last { IfOk result (λ n. n.last ≡ piece) }
+    ensures segments { IfOk result (λ n. n.segments ≡ segment.now ∷ []) }
 {
-    let Ok(next) = Named::of(alloc, piece, segment) else {
-        return Err(AllocError);
-    };
+    match Named::of(alloc, piece, segment.copy()?) {
+        Ok(run) => Ok(run),
+        Err(_) => Err(AllocError),
+    }
+}
+
+/// Whether the run has so many pieces, one or more, from this one on.
+fn spans(run: &Named, piece: u64, count: usize) -> bool
+    ensures { IsTrue result → (run.now.first ≡ piece) × (run.now.last + 1 ≡ piece + count) × (1 ≤ count) }
+{
+    let (first, last) = run.pieces();
+    first == piece
+        && last >= piece
+        && last - piece < count as u64
+        && count as u64 - (last - piece) == 1
+}
+
+/// Whether the run begins at this piece and holds the first of these segments, byte for byte.
+fn is_run_of(run: &Named, piece: u64, segments: &[Segment]) -> bool
+    ensures { IsTrue result → IsRunOf piece segments.now run.now }
+{
+    let own = run.segments();
+    if own.len() > segments.len() || !spans(run, piece, own.len()) {
+        return false;
+    }
+    let (front, _) = segments.split_at(own.len());
+    own == front
+}
+
+/// The next of these runs, which stand last first, where it begins at this piece and holds the first of these segments. Runs that
+/// begin before and those with other segments are dropped.
+fn made_run(runs: &mut Vec<Named>, piece: u64, segments: &[Segment]) -> Option<Named>
+    ensures { IfSome result (IsRunOf piece segments.now) }
+{
+    while let Some(next) = runs.last() {
+        let (first, _) = next.pieces();
+        if first > piece {
+            return None;
+        }
+        let Some(run) = runs.pop() else {
+            return None;
+        };
+        if is_run_of(&run, piece, segments) {
+            return Some(run);
+        }
+    }
+    None
+}
+
+/// The run that begins at this piece with the first of these segments: one of those, or else of this piece alone.
+#[tactic(auto, using(crate::proofs::RunsMade::alone))]
+fn next_run(
+    alloc: Global,
+    runs: &mut Vec<Named>,
+    piece: u64,
+    segments: &[Segment],
+) -> Result<Named, AllocError>
+    requires some { 0 < length segments.now }
+    requires own { AreOwn segments.now }
+    ensures { IfOk result (IsRunOf piece segments.now) }
+{
+    if let Some(run) = made_run(runs, piece, segments) {
+        return Ok(run);
+    }
+    let run = own_run(alloc, piece, &segments[0])?;
+    Ok(run)
+}
+
+/// The run with the next one behind it.
+fn longer(alloc: Global, run: Option<Named>, next: Named) -> Result<Named, AllocError>
+    requires { IsBehind run next }
+    ensures segments { IfOk result (λ n. n.segments ≡ segments_in run ++ next.segments) }
+    ensures last { IfOk result (λ n. n.last ≡ next.last) }
+{
     let Some(run) = run else {
         return Ok(next);
     };
@@ -35,37 +102,62 @@ fn with_piece(
     }
 }
 
-/// The run of all segments of a partition, or none.
-fn run_of(alloc: Global, segments: &[Segment]) -> Result<Option<Named>, AllocError>
-    requires { AreOwn segments.now }
+/// The run of all segments of a partition, whose pieces begin at the first, or none where there are no segments.
+#[tactic(auto, using(crate::proofs::RunsMade::own_rest, crate::proofs::RunsMade::all_of))]
+fn run_of(
+    alloc: Global,
+    runs: &mut Vec<Named>,
+    first: u64,
+    segments: &[Segment],
+) -> Result<Option<Named>, AllocError>
+    requires own { AreOwn segments.now }
+    requires few { first + length segments.now < 2 ^ 64 }
     ensures { IfOk result (λ run. segments_in run ≡ segments.now) }
 {
     let mut run = None;
-    for i in 0..segments.len() {
-        let segment = segments[i].copy()?;
-        run = Some(with_piece(alloc, run, i as u64, segment)?);
+    let mut done = 0;
+    while done < segments.len() {
+        let (_, rest) = segments.split_at(done);
+        let next = next_run(alloc, runs, first + done as u64, rest)?;
+        done += next.segments().len();
+        run = Some(longer(alloc, run, next)?);
     }
     Ok(run)
 }
 
-/// The log of a partition.
-fn part_of(alloc: Global, partition: &Partition) -> Result<Part, AllocError>
-    requires { IsPartition partition.now }
+/// The log of a partition whose pieces begin at the first.
+fn part_of(
+    alloc: Global,
+    runs: &mut Vec<Named>,
+    first: u64,
+    partition: &Partition,
+) -> Result<Part, AllocError>
+    requires partition { IsPartition partition.now }
+    requires few { first + length partition.now.segments < 2 ^ 64 }
     ensures { IfOk result (IsLogOf partition.now) }
 {
-    let run = run_of(alloc, partition.segments.as_slice())?;
+    let run = run_of(alloc, runs, first, partition.segments.as_slice())?;
     let end = &partition.end;
     Part::new(alloc, end.topic.clone()?, end.partition, end.end, run)
 }
 
-/// The logs of the evidence's partitions, in order.
-pub(crate) fn parts_of(alloc: Global, evidence: &Evidence) -> Result<Vec<Part>, AllocError>
+/// The logs of the evidence's partitions, in order, out of these runs, which stand by their pieces. What no run holds, or holds
+/// with other segments than the evidence's, is worked out here.
+pub(crate) fn parts_from(
+    alloc: Global,
+    evidence: &Evidence,
+    mut runs: Vec<Named>,
+) -> Result<Vec<Part>, AllocError>
     ensures { IfOk result (λ parts. AreLogsOf evidence.now.partitions parts.items) }
 {
+    runs.reverse();
     let mut parts = Vec::new(alloc);
+    let mut first = 0;
     let partitions = evidence.partitions();
     for i in 0..partitions.len() {
-        parts.push(part_of(alloc, &partitions[i])?)?;
+        let partition = &partitions[i];
+        parts.push(part_of(alloc, &mut runs, first, partition)?)?;
+        first += partition.segments.len() as u64;
     }
     Ok(parts)
 }

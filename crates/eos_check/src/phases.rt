@@ -1,15 +1,17 @@
 //! The phases of the check over the logs, one after the other.
 
-ghost use Rattle.std.specs.Prelude.{◌≡◌, IfOk, option_map};
+ghost use Rattle.std.specs.Prelude.{◌≡◌, ◌<◌, IfOk, option_map};
 ghost use Rattle.eos_check.specs.Good.{AreLogsOf};
 ghost use Rattle.eos_check.specs.steps.Phases.{first_fault, IsMatched, IsTransacted};
 ghost use Rattle.eos_evidence.specs.Evidence.{EvidenceParts, IsEvidence};
 
+use crate::shards::least_fault;
 use crate::verdict::Fault;
 use eos_fold::{Part, PartitionFault};
-use eos_table::{TxnTable, match_shard, txn_log};
+use eos_table::{TxnTable, txn_log};
 use eos_txnlog::Decision;
 use std::alloc::{AllocError, Global};
+use std::thread::Threads;
 
 /// The fault of the first partition that has one.
 fn first_fault(parts: &[Part]) -> Option<&PartitionFault>
@@ -37,23 +39,33 @@ fn copied(fault: &PartitionFault) -> Result<PartitionFault, AllocError>
 }
 
 /// The number of decisions, or the least fault between them and the logs.
-fn matched(
+fn matched<R: Threads + Sync>(
     alloc: Global,
+    rt: &R,
     decisions: Vec<Decision>,
     parts: &[Part],
+    shards: u32,
 ) -> Result<Result<u64, Fault>, AllocError>
+    requires { 0 < shards }
     ensures { IfOk result (IsMatched decisions.items parts.now) }
 {
     let transactions = decisions.len() as u64;
     let table = TxnTable::from_decisions(decisions)?;
-    match match_shard(alloc, &table, parts, 0, 1)? {
+    match least_fault(alloc, rt, &table, parts, shards)? {
         None => Ok(Ok(transactions)),
         Some(fault) => Ok(Err(Fault::Match(fault))),
     }
 }
 
-/// The number of transactions, or the least fault of the partitions, the transaction log and the matching.
-pub(crate) fn transactions(alloc: Global, parts: &[Part]) -> Result<Result<u64, Fault>, AllocError>
+/// The number of transactions, or the least fault of the partitions, the transaction log and the matching, which runs in
+/// this many shards.
+pub(crate) fn transactions<R: Threads + Sync>(
+    alloc: Global,
+    rt: &R,
+    parts: &[Part],
+    shards: u32,
+) -> Result<Result<u64, Fault>, AllocError>
+    requires { 0 < shards }
     ensures { (e : EvidenceParts) (of : AreLogsOf e.partitions parts.now) → IsEvidence e → IfOk result (IsTransacted e parts.now of) }
 {
     if let Some(fault) = first_fault(parts) {
@@ -61,6 +73,6 @@ pub(crate) fn transactions(alloc: Global, parts: &[Part]) -> Result<Result<u64, 
     }
     match txn_log(alloc, parts)? {
         Err(fault) => Ok(Err(Fault::Log(fault))),
-        Ok(decisions) => matched(alloc, decisions, parts),
+        Ok(decisions) => matched(alloc, rt, decisions, parts, shards),
     }
 }

@@ -1,8 +1,7 @@
 -- What the check makes and looks at on its way. For its private steps.
-use Rattle.std.specs.Prelude.{◌≡◌, ◌+◌, ℕ, ℤ, List, [], ◌∷◌, take, length, All, Option, Some, None, Result, Ok, Err, ⊤}
+use Rattle.std.specs.Prelude.{◌≡◌, ℕ, List, [], ◌∷◌, length, Option, None, Result, Ok, Err}
 use Rattle.std.specs.Option.{option_or}
 use Rattle.eos_base.specs.Least.{NoneStands, IsLeast}
-use Rattle.eos_evidence.specs.declared.segment.Segment.{Segment}
 use Rattle.eos_evidence.specs.Evidence.{EvidenceParts}
 use Rattle.eos_fold.specs.declared.fault.PartitionFault.{PartitionFault}
 use Rattle.eos_fold.specs.Parts.{PartLog}
@@ -15,25 +14,6 @@ use Rattle.eos_check.specs.declared.verdict.Fault.TheVariants.{Match}
 use Rattle.eos_check.specs.declared.verdict.Verdict.TheVariants.{No}
 use Rattle.eos_check.specs.Good.{AreLogsOf}
 use Rattle.eos_check.specs.Verdicts.{StandsInPartitions, StandsInLog, StandsInMatching, IsVerdictOf}
-use Rattle.eos_fold.specs.Standing.{AreOf}
-use Rattle.eos_fold.specs.Sums.{NamedView, OneTopic, IsFit}
-
--- segments of one partition, each within the limits
-pub record AreOwn (segments : List Segment) : Type 0 where
-  pub topic : List ℕ
-  pub number : ℤ
-  pub named : AreOf topic number segments
-  pub fit : All IsFit segments
-
--- a piece of this number can be put behind the run
-abbrev pub Joins : Option NamedView → ℕ → Segment → Type 0
-Joins None piece segment = ⊤
-Joins (Some run) piece segment = (piece ≡ run.last + 1) × OneTopic run.segments (segment ∷ [])
-
--- the run of the first so many of these segments
-abbrev pub IsRunTo : ℕ → List Segment → Option NamedView → Type 0
-IsRunTo n segments None = n ≡ 0
-IsRunTo n segments (Some run) = (run.last + 1 ≡ n) × (run.segments ≡ take n segments)
 
 -- the fault of the first partition that has one
 abbrev pub first_fault : List PartLog → Option PartitionFault

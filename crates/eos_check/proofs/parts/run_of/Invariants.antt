@@ -1,5 +1,9 @@
-use Rattle.eos_check.specs.steps.Phases.{IsRunTo}
+use Rattle.std.proofs.Common.{ℕ, ◌-◌, ◌≤◌, length}
+use Rattle.eos_check.specs.steps.Runs.{IsRunTo}
 use Rattle.eos_check.proofs.parts.run_of.Given as goal
 
-abbrev pub invariant-loop-i : goal.invariant-loop-i
-invariant-loop-i l = IsRunTo l.i l.segments l.run
+abbrev pub invariant-loop-done : goal.invariant-loop-done
+invariant-loop-done l = (l.done ≤ length l.segments) × IsRunTo l.first l.done l.segments l.run
+
+abbrev pub decreases-loop-done : goal.decreases-loop-done
+decreases-loop-done l = length l.segments - l.done

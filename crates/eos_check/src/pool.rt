@@ -1,0 +1,169 @@
+//! The workers: each draws pieces and summarises them, and then joins runs that lie side by side.
+
+ghost use Rattle.std.specs.Prelude.{◌≡◌, ◌<◌, ◌≤◌, false, vec_len, length, All, IfOk, IfSome};
+ghost use Rattle.eos_evidence.specs.Evidence.{segments_of};
+ghost use Rattle.eos_fold.specs.Sums.{IsFit, Follows};
+ghost use Rattle.eos_tickets.specs.Places.{IsFresh};
+
+use eos_board::{Board, Gate, Receipt};
+use eos_evidence::{Evidence, Segment};
+use eos_fold::Named;
+use eos_tickets::{Seat, Tickets};
+use std::alloc::{AllocError, Global};
+use std::sync::ledger::{Blank, Ledger};
+use std::sync::{Mutex, Wait};
+use std::thread;
+use std::thread::Threads;
+
+/// A board takes fewer posts than this.
+const MAX_POSTS: u64 = 1 << 63;
+
+/// What a worker starts with.
+#[derive(Drop)]
+struct Job<L: Ledger> {
+    seat: Seat,
+    receipt: Receipt<L>,
+}
+
+/// The segment of this piece, which is within the limits.
+fn segment_of(evidence: &Evidence, piece: u64) -> &Segment
+    requires { piece < length (segments_of evidence.now.partitions) }
+    ensures { IsFit result.now }
+{
+    let _partitions = evidence.partitions();
+    evidence.piece(piece)
+}
+
+/// The run of a piece, or none where memory is refused: the piece is then left to others.
+fn summarised(alloc: Global, evidence: &Evidence, piece: u64) -> Option<Named>
+    requires { piece < length (segments_of evidence.now.partitions) }
+{
+    let Ok(segment) = segment_of(evidence, piece).copy() else {
+        return None;
+    };
+    Named::of(alloc, piece, segment).ok()
+}
+
+/// Posts a run under the lock. A run that the board doesn't take is dropped: its pieces are then left to others.
+fn post<L: Ledger>(rt: &impl Wait, board: &Mutex<Board<L>>, receipt: &mut Receipt<L>, run: Named) {
+    let mut board = board.lock(rt);
+    if board.posts() < MAX_POSTS {
+        let _refused = board.post(receipt, run);
+    }
+}
+
+/// Takes two runs of which the second follows the first, under the lock.
+fn take_pair<L: Ledger>(rt: &impl Wait, board: &Mutex<Board<L>>) -> Option<(Named, Named)>
+    ensures { IfSome result (λ pair. Follows pair.0 pair.1) }
+{
+    board.lock(rt).take_pair()
+}
+
+/// Puts two runs back under the lock. Runs that the board doesn't take are dropped: their pieces are then left to others.
+fn put_back<L: Ledger>(rt: &impl Wait, board: &Mutex<Board<L>>, before: Named, after: Named) {
+    let _refused = board.lock(rt).put_back(before, after);
+}
+
+/// Joins runs that lie side by side, outside the lock, until there are none, or until memory is refused.
+fn join_pairs<L: Ledger, G: Gate>(
+    alloc: Global,
+    rt: &impl Wait,
+    board: &Mutex<Board<L>>,
+    gate: &G,
+    receipt: &mut Receipt<L>,
+) {
+    for _ in rt.forever() {
+        let Some((before, after)) = take_pair(rt, board) else {
+            break;
+        };
+        match Named::merge(alloc, before, after) {
+            Ok(run) => {
+                gate.made(&run);
+                post(rt, board, receipt, run);
+            }
+            Err((before, after)) => {
+                put_back(rt, board, before, after);
+                break;
+            }
+        }
+    }
+}
+
+/// A worker: draws, summarises and posts until all pieces are drawn, and then joins pairs until there are none. It holds the
+/// lock only to post and to take.
+fn work<L: Ledger, G: Gate>(
+    alloc: Global,
+    rt: &impl Wait,
+    evidence: &Evidence,
+    tickets: &Tickets,
+    board: &Mutex<Board<L>>,
+    gate: &G,
+    job: Job<L>,
+)
+    requires made { job.seat.of ≡ tickets.now }
+    requires open { job.seat.is_done ≡ false }
+    requires pieces { tickets.now.count ≡ length (segments_of evidence.now.partitions) }
+{
+    let Job {
+        mut seat,
+        mut receipt,
+    } = job;
+    for _ in rt.forever() {
+        let Some(piece) = tickets.draw(&mut seat) else {
+            break;
+        };
+        gate.pass(piece);
+        if let Some(run) = summarised(alloc, evidence, piece) {
+            gate.made(&run);
+            post(rt, board, &mut receipt, run);
+        }
+    }
+    join_pairs(alloc, rt, board, gate, &mut receipt);
+}
+
+/// A seat and a receipt for each worker.
+fn jobs_of<L: Ledger>(
+    alloc: Global,
+    tickets: &Tickets,
+    mut seats: Vec<Seat>,
+    mut receipts: Vec<Receipt<L>>,
+) -> Result<Vec<Job<L>>, AllocError>
+    requires { All (IsFresh tickets.now) seats.items }
+    ensures { IfOk result (λ jobs. All (λ job. (job.seat.of ≡ tickets.now) × (job.seat.is_done ≡ false)) jobs.items) }
+{
+    let mut jobs = Vec::new(alloc);
+    while let Some(seat) = seats.pop() {
+        let Some(receipt) = receipts.pop() else {
+            break;
+        };
+        jobs.push(Job { seat, receipt })?;
+    }
+    Ok(jobs)
+}
+
+/// The runs that so many workers make of the evidence, in piece order. A piece may be in none of them.
+pub(crate) fn runs_of<R: Threads + Wait + Sync, L: Ledger + Send + Sync, G: Gate>(
+    alloc: Global,
+    rt: &R,
+    evidence: &Evidence,
+    workers: u64,
+    gate: &G,
+    blank: Blank,
+) -> Result<Vec<Named>, AllocError>
+    requires name { blank.name ≡ L.name }
+    requires parts { (blank.parts ≡ L.parts) × (L.parts ≡ workers) }
+    requires workers { (1 ≤ workers) × (workers ≤ 64) }
+{
+    let (tickets, seats) = Tickets::new(alloc, evidence.pieces(), workers)?;
+    let (board, receipts) = Board::<L>::new(alloc, blank, evidence, workers)?;
+    let board = Mutex::new(board);
+    let jobs = jobs_of(alloc, &tickets, seats, receipts)?;
+    thread::map_vec(
+        rt,
+        jobs,
+        &|job: Job<L>|
+            requires { (job.seat.of ≡ tickets) × (job.seat.is_done ≡ false) × (tickets.count ≡ length (segments_of evidence.now.partitions)) }
+        { work(alloc, rt, evidence, &tickets, &board, gate, job) },
+    )?;
+    Ok(board.into_inner().into_runs())
+}

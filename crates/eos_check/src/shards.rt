@@ -1,0 +1,76 @@
+//! The matching of the decisions with the logs, in shards of the producer ids, each of which a thread may take.
+
+ghost use Rattle.std.specs.Prelude.{◌≡◌, ◌<◌, IfOk};
+ghost use Rattle.eos_base.specs.Least.{IsLeastOrNone};
+ghost use Rattle.eos_table.specs.MatchFaults.{fault_cmp, Stands};
+ghost use Rattle.eos_check.specs.steps.Shards.{lesser_answer, AreSettled};
+
+use eos_fold::Part;
+use eos_table::{MatchFault, TxnTable, match_shard};
+use std::alloc::{AllocError, Global};
+use std::cmp::Ordering;
+use std::thread;
+use std::thread::Threads;
+
+// How a fault stands to another in the order of these faults.
+fn order(fault: &MatchFault, other: &MatchFault) -> Ordering
+    ensures { result ≡ fault_cmp fault.now other.now }
+{
+    fault
+        .producer
+        .cmp(&other.producer)
+        .then(fault.epoch.cmp(&other.epoch))
+        .then(fault.kind.number().cmp(&other.kind.number()))
+        .then(fault.partition.cmp(&other.partition))
+}
+
+// The lesser of the least fault so far and a shard's.
+fn lesser(best: Option<MatchFault>, answer: Option<MatchFault>) -> Option<MatchFault>
+    ensures { result ≡ lesser_answer best answer }
+{
+    match (best, answer) {
+        (best, None) => best,
+        (None, Some(fault)) => Some(fault),
+        (Some(least), Some(fault)) => {
+            if order(&least, &fault).is_gt() {
+                Some(fault)
+            } else {
+                Some(least)
+            }
+        }
+    }
+}
+
+// The least fault that one of the shards answered, or want of memory where one did.
+fn least_of(
+    answers: Vec<Result<Option<MatchFault>, AllocError>>,
+) -> Result<Option<MatchFault>, AllocError>
+    ensures { IfOk result (AreSettled answers.items) }
+{
+    let mut best = None;
+    for answer in answers {
+        best = lesser(best, answer?);
+    }
+    Ok(best)
+}
+
+/// The least fault between the decisions and the partitions' logs, or none. Each shard may have a thread of its own; with one
+/// shard no thread is started.
+pub(crate) fn least_fault<R: Threads + Sync>(
+    alloc: Global,
+    rt: &R,
+    table: &TxnTable,
+    parts: &[Part],
+    shards: u32,
+) -> Result<Option<MatchFault>, AllocError>
+    requires { 0 < shards }
+    ensures { IfOk result (IsLeastOrNone fault_cmp (Stands table.now parts.now)) }
+{
+    let answers = thread::map_indices(
+        rt,
+        alloc,
+        shards as usize,
+        &|shard| { match_shard(alloc, table, parts, shard as u32, shards) },
+    )?;
+    least_of(answers)
+}

@@ -1,0 +1,42 @@
+//! The check of an evidence by workers.
+
+ghost use Rattle.std.specs.Prelude.{◌≤◌, IfOk};
+ghost use Rattle.eos_check.specs.Verdicts.{IsVerdict};
+
+use crate::one_thread::verdict_of;
+use crate::parts::parts_from;
+use crate::pool::runs_of;
+use crate::verdict::Verdict;
+use eos_board::Gate;
+use eos_evidence::Evidence;
+use std::alloc::{AllocError, Global};
+use std::marker::Brand;
+use std::sync::Wait;
+use std::sync::ledger::Blank;
+use std::thread::Threads;
+
+/// The verdict of an evidence, as `check_one` gives it, by so many workers, 1 to 64.
+///
+/// Each worker draws pieces of the evidence, one at a time; it passes the gate, summarises the piece outside the lock, and posts
+/// the run on a board under a lock. Once all are drawn it takes pairs of runs that lie side by side, joins them outside the lock
+/// and posts them. What no worker delivered, and what has other bytes than the evidence, the caller's own thread works out, and
+/// it joins what is left. The transactions are matched in as many shards as there are workers.
+///
+/// It returns if the gate's calls do, and the threads that it starts get their turns.
+///
+/// # Errors
+/// Only want of memory.
+pub fn check<R: Threads + Wait + Sync, G: Gate>(
+    alloc: Global,
+    rt: &R,
+    evidence: &Evidence,
+    workers: u64,
+    gate: &G,
+) -> Result<Verdict, AllocError>
+    requires { (1 ≤ workers) × (workers ≤ 64) }
+    ensures { IfOk result (IsVerdict evidence.now) }
+{
+    let runs = runs_of::<R, Brand, G>(alloc, rt, evidence, workers, gate, Blank::new(workers))?;
+    let parts = parts_from(alloc, evidence, runs)?;
+    verdict_of(alloc, rt, evidence, parts.as_slice(), workers as u32)
+}
