@@ -1,0 +1,14 @@
+pub mod PlaceNames
+pub mod Partitions
+pub mod Placing
+pub mod WholeFronts
+pub mod LogTouches
+pub mod TxnRecords
+pub mod TxnRules
+pub mod ListedNames
+pub mod Settled
+pub mod TransactionRule
+pub mod Decisions
+pub mod Atomics
+pub mod KeptRules
+pub mod EverySchedule

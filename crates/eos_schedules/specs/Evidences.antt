@@ -1,0 +1,61 @@
+-- The evidence of a cluster: all its logs, cut into segments of the configured number of records, with true ends.
+use Rattle.std.specs.Prelude.{◌≡◌, ℕ, ◌+◌, ◌-◌, ◌*◌, ◌/◌, ◌≤◌, ◌<◌, pos, List, [], ◌∷◌, map, length, take, drop, Result, Ok}
+use Rattle.std.specs.List.{flat_map, range_with_len}
+use Rattle.eos_base.specs.Steps.{◌>>=◌}
+use Rattle.eos_evidence.specs.declared.application.App.{App}
+use Rattle.eos_evidence.specs.declared.ends.End.{End}
+use Rattle.eos_evidence.specs.declared.segment.Segment.{Segment}
+use Rattle.eos_evidence.specs.declared.fault.AddFault.{AddFault}
+use Rattle.eos_evidence.specs.Parts.{Parts, accepted}
+use Rattle.eos_evidence.specs.Evidence.{EvidenceParts, without_segments, added}
+use Rattle.eos_machine.specs.declared.config.Config.{Config}
+use Rattle.eos_machine.specs.declared.item.Item.{Item}
+use Rattle.eos_machine.specs.Places.{place_count, topic_of, number_of, input_topic, output_topic}
+use Rattle.eos_machine.specs.World.{World, log_at}
+use Rattle.eos_schedules.specs.Batches.{group, texts_from, HaveTexts}
+
+-- the one group, which reads `in` and writes `out`
+abbrev pub application : App
+application = record { group = group; sources = input_topic ∷ []; outputs = output_topic ∷ [] }
+
+-- the end of a partition is the number of its records
+abbrev pub end_of : Config → World → ℕ → End
+end_of c w p = record { topic = topic_of c p; partition = pos (number_of c p); end = pos (length (log_at w p)) }
+
+abbrev pub parts_of : Config → World → Parts
+parts_of c w = record { apps = application ∷ []; ends = map (end_of c w) (range_with_len 0 (place_count c)) }
+
+-- how many segments so many records take
+abbrev pub segment_count : Config → ℕ → ℕ
+segment_count c n = (n + (c.segment_records - 1)) / c.segment_records
+
+-- the i-th segment of a log: as many records as are configured, or those that are left
+abbrev pub segment_at : Config → ℕ → List Item → ℕ → Segment
+segment_at c p log i = record {
+  topic = topic_of c p;
+  partition = pos (number_of c p);
+  base = pos (i * c.segment_records);
+  bytes = texts_from c (i * c.segment_records) (take c.segment_records (drop (i * c.segment_records) log));
+}
+
+abbrev pub log_segments : Config → ℕ → List Item → List Segment
+log_segments c p log = map (segment_at c p log) (range_with_len 0 (segment_count c (length log)))
+
+abbrev pub cluster_segments : Config → World → List Segment
+cluster_segments c w = flat_map (λ p. log_segments c p (log_at w p)) (range_with_len 0 (place_count c))
+
+-- evidence with these segments more
+abbrev pub adding : EvidenceParts → List Segment → Result EvidenceParts AddFault
+adding e [] = Ok e
+adding e (s ∷ ss) = added e s >>= λ f. adding f ss
+
+-- the evidence that is made of the cluster's parts and of exactly its segments, in which each item's bytes are a text of its batch
+pub record IsEvidenceOf (c : Config) (w : World) (e : EvidenceParts) : Type 0 where
+  pub spec : Parts
+  pub accepted : accepted (parts_of c w) ≡ Ok spec
+  pub added : adding (without_segments spec) (cluster_segments c w) ≡ Ok e
+  pub written : (p : ℕ) → p < place_count c → HaveTexts c 0 (log_at w p)
+
+-- two segments an event at the most, cut short only at the end of a partition: as many as evidence may have
+abbrev pub HasRoomForAll : Config → World → Type 0
+HasRoomForAll c w = (2 * w.events) / c.segment_records + place_count c ≤ 65536
