@@ -1,5 +1,5 @@
 -- Segments added one after the other.
-use Rattle.std.proofs.Common.{◌≡◌, ◌++◌, ◌∷◌, [], ℕ, ◌+◌, ◌-◌, ◌<◌, suc, List, map, Result, Ok, Err, ◌∙◌, sym, ap, subst, arith, refl}
+use Rattle.std.proofs.Common.{◌≡◌, ◌++◌, ◌∷◌, [], ℕ, ◌+◌, ◌-◌, ◌<◌, suc, List, map, length, Result, Ok, Err, ◌∙◌, sym, ap, subst, arith, refl}
 use Rattle.std.specs.List.{flat_map, range_with_len}
 use Rattle.eos_base.specs.Steps.{◌>>=◌}
 use Rattle.eos_evidence.specs.declared.segment.Segment.{Segment}
@@ -9,7 +9,7 @@ use Rattle.eos_machine.specs.declared.config.Config.{Config}
 use Rattle.eos_machine.specs.declared.item.Item.{Item}
 use Rattle.eos_machine.specs.Places.{place_count}
 use Rattle.eos_machine.specs.World.{World, log_at}
-use Rattle.eos_cluster.specs.Evidences.{log_segments, adding}
+use Rattle.eos_schedules.specs.Evidences.{segment_count, segment_at, log_segments, cluster_segments, adding}
 
 -- the numbers from i on begin with i
 range_step : (i n : ℕ) → i < n → range_with_len i (n - i) ≡ i ∷ range_with_len (i + 1) (n - (i + 1))
@@ -41,3 +41,12 @@ pub logs_step : (c d : Config) (w : World) (e g : EvidenceParts) (all : Result E
 logs_step c d w e g all p log m is l h a =
     log_added (λ q. log_segments d q (log_at w q)) e g all p (place_count d) (subst (λ k. p < place_count k) m l) h
     (subst (λ k. adding e (log_segments k p (log_at w p)) ≡ Ok g) m (subst (λ xs. adding e (log_segments c p xs) ≡ Ok g) is a))
+
+-- before any of them
+pub first_left : (c : Config) (p : ℕ) (log : List Item) (e : EvidenceParts) (n : ℕ) → n ≡ segment_count c (length log)
+    → adding e (log_segments c p log) ≡ adding e (map (segment_at c p log) (range_with_len 0 (n - 0)))
+first_left c p log e n h = let k : segment_count c (length log) ≡ n - 0 = omega (arith, h) in ap (λ j. adding e (map (segment_at c p log) (range_with_len 0 j))) k
+
+pub first_logs : (c : Config) (w : World) (e : EvidenceParts)
+    → adding e (cluster_segments c w) ≡ adding e (flat_map (λ p. log_segments c p (log_at w p)) (range_with_len 0 (place_count c - 0)))
+first_logs c w e = let k : place_count c ≡ place_count c - 0 = omega arith in ap (λ j. adding e (flat_map (λ p. log_segments c p (log_at w p)) (range_with_len 0 j))) k

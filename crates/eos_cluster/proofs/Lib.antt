@@ -6,3 +6,5 @@ pub mod Reaching
 pub mod Texts
 pub mod Grouping
 pub mod Adding
+pub mod Openings
+pub mod Settled

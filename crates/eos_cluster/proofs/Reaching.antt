@@ -9,6 +9,7 @@ use Rattle.eos_machine.specs.declared.state.Message.{Message}
 use Rattle.eos_machine.specs.declared.state.Message.TheVariants as messages
 use Rattle.eos_machine.specs.declared.state.Session.{Session}
 use Rattle.eos_machine.specs.declared.event.Event.{Event}
+use Rattle.eos_machine.specs.declared.event.Event.TheVariants as events
 use Rattle.eos_machine.specs.declared.event.Reply.{Reply}
 use Rattle.eos_machine.specs.declared.event.Reply.TheVariants.{Done, Fenced, OutOfOrder, DuplicateKept, WrongState, Busy, StaleGeneration, EpochsSpent, Unknown, OutOfMemory, Full}
 use Rattle.eos_machine.specs.Places.{IsConfig, txn_place}
@@ -24,10 +25,13 @@ use Rattle.eos_machine.proofs.TouchRules.{keeps_sequences, neighbours_fit}
 use Rattle.eos_machine.proofs.StepRules.{all_steps}
 use Rattle.eos_machine.proofs.BoundedEvents.{bounded_run, bounded_opening, epoch_top}
 use Rattle.eos_machine.proofs.Counting.{IsCounted, counted_run, counted_opening}
-use Rattle.eos_cluster.specs.Courses.{Course, IsTaken, IsStep, IsReached}
-use Rattle.eos_cluster.specs.Named.{Names, IsNamed, IsSmall}
+use Rattle.eos_evidence.specs.Evidence.{EvidenceParts, IsEvidence}
+use Rattle.eos_schedules.specs.Evidences.{IsEvidenceOf}
+use Rattle.eos_schedules.specs.Schedules.{IsOfSchedule, HasRightLogs, HasNoFaultInLogs}
+use Rattle.eos_schedules.proofs.EverySchedule.{right_logs, no_fault_in_logs}
+use Rattle.eos_cluster.specs.Courses.{Course, IsTaken, IsStep, IsCounted as IsCountedStep, IsProper, IsReached}
+use Rattle.eos_cluster.specs.Named.{Names, IsNamed, IsSmall, Needs}
 use Rattle.eos_cluster.specs.Held.{Held, becomes}
-use Rattle.eos_cluster.proofs.Replies.{IsProper, proper}
 
 -- ---- what holds
 
@@ -54,6 +58,15 @@ atomic_there c w i r h = rest_is_atomic c w (is_good c w i r) h
 pub neighbours_fit_there : (c : Config) (w : World) → IsConfig c → IsReached c w → IsAtRest w → NeighboursFit c w
 neighbours_fit_there c w i r h = neighbours_fit c w (keeps_sequences_there c w i r) (atomic_there c w i r h)
 
+pub of_schedule : (c : Config) (w : World) (e : EvidenceParts) → IsConfig c → IsReached c w → IsAtRest w → IsEvidenceOf c w e → IsOfSchedule e
+of_schedule c w e i r h k = record { config = c; world = w; events = r.taken; sizes = i; run = r.run; rest = h; evidence = k }
+
+pub right_there : (c : Config) (w : World) (e : EvidenceParts) → IsConfig c → IsReached c w → IsAtRest w → IsEvidenceOf c w e → HasRightLogs e
+right_there c w e i r h k = right_logs e (of_schedule c w e i r h k)
+
+pub faultless_there : (c : Config) (w : World) (e : EvidenceParts) → IsEvidence e → IsConfig c → IsReached c w → IsAtRest w → IsEvidenceOf c w e → HasNoFaultInLogs e
+faultless_there c w e x i r h k = no_fault_in_logs e x (of_schedule c w e i r h k)
+
 -- ---- what an event needs
 
 named_in : (c : Config) (w : World) (m : Message) → IsDue c w m → Names c m
@@ -67,7 +80,7 @@ named_at c w [] n h = tt
 named_at c w (m ∷ ms) zero h = named_in c w m (All-head (IsDue c w) m ms h)
 named_at c w (m ∷ ms) (suc n) h = named_at c w ms n (All-tail (IsDue c w) m ms h)
 
-pub named : (c : Config) (w : World) (n : ℕ) → IsConfig c → IsReached c w → IsNamed c (slice_get w.messages n)
+named : (c : Config) (w : World) (n : ℕ) → IsConfig c → IsReached c w → IsNamed c (slice_get w.messages n)
 named c w n i r = named_at c w w.messages n (is_good c w i r).due
 
 small_in : (n : ℕ) (s : Session) → n < 2 ^ 31 → IsSafe n s → IsSmall (Some s)
@@ -78,17 +91,30 @@ small_at n [] k l h = tt
 small_at n (s ∷ ss) zero l h = small_in n s l (All-head (IsSafe n) s ss h)
 small_at n (s ∷ ss) (suc k) l h = small_at n ss k l (All-tail (IsSafe n) s ss h)
 
-pub small : (c : Config) (w : World) (n : ℕ) → w.events < 2 ^ 31 → IsReached c w → IsSmall (slice_get w.sessions n)
+small : (c : Config) (w : World) (n : ℕ) → w.events < 2 ^ 31 → IsReached c w → IsSmall (slice_get w.sessions n)
 small c w n l r = small_at w.events w.sessions n l (is_bounded c w r).sessions
 
-pub each_coordinator : (c : Config) (w : World) → IsConfig c → IsReached c w → length w.coordinators ≡ c.applications
+each_coordinator : (c : Config) (w : World) → IsConfig c → IsReached c w → length w.coordinators ≡ c.applications
 each_coordinator c w i r = (is_good c w i r).coordinators
 
-pub epochs_fit : (c : Config) (w : World) (a : ℕ) → IsReached c w → (coord_at w a).epoch ≤ 32767
+epochs_fit : (c : Config) (w : World) (a : ℕ) → IsReached c w → (coord_at w a).epoch ≤ 32767
 epochs_fit c w a r = epoch_top w.events w a (is_bounded c w r)
 
-pub generation_fits : (c : Config) (w : World) → w.events < 2 ^ 31 → IsReached c w → w.generation < 2 ^ 31
+generation_fits : (c : Config) (w : World) → w.events < 2 ^ 31 → IsReached c w → w.generation < 2 ^ 31
 generation_fits c w l r = let g = (is_bounded c w r).generation in omega (arith, g, l)
+
+pub needs : (c : Config) (w : World) (e : Event) → IsConfig c → w.events < 2 ^ 31 → IsReached c w → Needs c w e
+needs c w (events.Feed p) i l r = tt
+needs c w (events.Start a) i l r = epochs_fit c w a r
+needs c w (events.Produce n p x) i l r = small c w n l r
+needs c w (events.Commit n q v) i l r = tt
+needs c w (events.End n k) i l r = tt
+needs c w (events.Resume n) i l r = small c w n l r
+needs c w (events.Fetch n q) i l r = tt
+needs c w events.Members i l r = generation_fits c w l r
+needs c w (events.BrokerRestart t p) i l r = tt
+needs c w events.CoordinatorRestart i l r = tt
+needs c w (events.Deliver n) i l r = (named c w n i r, each_coordinator c w i r, λ a. epochs_fit c w a r)
 
 -- ---- an event more
 
@@ -133,11 +159,22 @@ step_taken s e Unknown t p h = h
 step_taken s e OutOfMemory t p h = absurd p
 step_taken s e Full t p h = absurd p
 
-pub proper_reply : (c : Config) (w v : World) (e : Event) (r : Reply) → (v, r) ≡ happens c w e → IsProper r
-proper_reply c w v e r h = subst IsProper (sym (ap (λ x. x.1) h)) (proper c w e)
-
 abbrev answer : World → Reply → Answer
 answer w r = (w, r)
+
+-- a reply that is proper says that the event was counted
+pub is_counted : (s : Course) (r : Reply) (t : Course) → IsProper r → t.world.events ≡ s.world.events + 1 → IsCountedStep s r t
+is_counted s (Done n) t p h = h
+is_counted s Fenced t p h = h
+is_counted s OutOfOrder t p h = h
+is_counted s DuplicateKept t p h = h
+is_counted s WrongState t p h = h
+is_counted s Busy t p h = h
+is_counted s StaleGeneration t p h = h
+is_counted s EpochsSpent t p h = h
+is_counted s Unknown t p h = h
+is_counted s OutOfMemory t p h = absurd p
+is_counted s Full t p h = absurd p
 
 -- the event has happened and is counted
 pub taken_one : (h g k : Held) (e : Event) (r : Reply) (n : ℕ) → n ≡ h.world.events → h.world.events < 2 ^ 31 → (g.world, r) ≡ happens h.config h.world e → g.config ≡ h.config → k ≡ becomes g (record g.world { events = n + 1 }) 0
@@ -146,3 +183,6 @@ taken_one h g k e r n m l ok config set = (
   ap (λ (x : Held). x.config) set ∙ config,
   ap (λ (x : Held). answer x.world r) set ∙ (ap (λ (i : ℕ). answer (record g.world { events = i + 1 }) r) m ∙ one_step h.config h.world g.world e r l ok),
 )
+
+pub counted_one : (h g k : Held) (n : ℕ) → n ≡ h.world.events → k ≡ becomes g (record g.world { events = n + 1 }) 0 → k.world.events ≡ h.world.events + 1
+counted_one h g k n m set = ap (λ (x : Held). x.world.events) set ∙ ap (λ i. i + 1) m

@@ -1,6 +1,6 @@
 -- An event that happens is never answered OutOfMemory or Full.
-use Rattle.std.proofs.Common.{ℕ, ◌+◌, Bool, true, false, Option, Some, None, pos, negsuc, if◌then◌else◌}
-use Rattle.std.specs.Prelude.{slice_get, ⊤}
+use Rattle.std.proofs.Common.{◌≡◌, ap, subst, sym, ℕ, ◌+◌, Bool, true, false, Option, Some, None, pos, negsuc, if◌then◌else◌}
+use Rattle.std.specs.Prelude.{slice_get, Result, Ok, Err, IfOk}
 use Rattle.eos_batch.specs.declared.marker.Kind.{Kind}
 use Rattle.eos_machine.specs.declared.config.Config.{Config}
 use Rattle.eos_machine.specs.declared.state.Message.{Message}
@@ -14,21 +14,9 @@ use Rattle.eos_machine.specs.declared.event.Reply.TheVariants.{Done, Fenced, Out
 use Rattle.eos_machine.specs.World.{World, coord_at}
 use Rattle.eos_machine.specs.Answers.{Answer, when}
 use Rattle.eos_machine.specs.Sessions.{resume_ended, produce, commit_offset, end_session, resume, fetch}
-use Rattle.eos_machine.specs.Deliveries.{deliver}
+use Rattle.eos_machine.specs.Deliveries.{deliver, deliver_end}
 use Rattle.eos_machine.specs.Machine.{start_session, happens}
-
-abbrev pub IsProper : Reply → Type 0
-IsProper (Done n) = ⊤
-IsProper Fenced = ⊤
-IsProper OutOfOrder = ⊤
-IsProper DuplicateKept = ⊤
-IsProper WrongState = ⊤
-IsProper Busy = ⊤
-IsProper StaleGeneration = ⊤
-IsProper EpochsSpent = ⊤
-IsProper Unknown = ⊤
-IsProper OutOfMemory = ⊥
-IsProper Full = ⊥
+use Rattle.eos_cluster.specs.Courses.{IsProper}
 
 abbrev IsProperAnswer : Answer → Type 0
 IsProperAnswer x = IsProper x.1
@@ -85,3 +73,15 @@ proper c w events.Members = tt
 proper c w (events.BrokerRestart t p) = either _ _ _ tt tt
 proper c w events.CoordinatorRestart = tt
 proper c w (events.Deliver n) = delivered c w n (slice_get w.messages n)
+
+-- as clauses have it
+pub proper_of : (c : Config) (w v : World) (e : Event) (r : Reply) → (v, r) ≡ happens c w e → IsProper r
+proper_of c w v e r h = subst IsProper (sym (ap (λ x. x.1) h)) (proper c w e)
+
+pub all_proper : {E : Type 0} (c : Config) (w v : World) (e : Event) (x : Result Reply E) → IfOk x (λ r. (v, r) ≡ happens c w e) → IfOk x IsProper
+all_proper c w v e (Ok r) h = proper_of c w v e r h
+all_proper c w v e (Err f) h = h
+
+pub end_proper : {E : Type 0} (c : Config) (w v : World) (a e : ℕ) (k : Kind) (x : Result Reply E) → IfOk x (λ r. (v, r) ≡ deliver_end c w a e k) → IfOk x IsProper
+end_proper c w v a e k (Ok r) h = subst IsProper (sym (ap (λ x. x.1) h)) (delivered c w 0 (Some (messages.End a e k)))
+end_proper c w v a e k (Err f) h = h

@@ -1,5 +1,5 @@
 -- A cluster after some events.
-use Rattle.std.specs.Prelude.{◌≡◌, List}
+use Rattle.std.specs.Prelude.{◌≡◌, ◌+◌, ◌^◌, Bool, List, ⊤}
 use Rattle.eos_machine.specs.declared.config.Config.{Config}
 use Rattle.eos_machine.specs.World.{World, opening}
 use Rattle.eos_machine.specs.declared.event.Event.{Event}
@@ -10,6 +10,8 @@ use Rattle.eos_machine.specs.Machine.{step, run}
 pub record Course : Type 0 where
   pub config : Config
   pub world : World
+  -- no rule was ever broken by a switch
+  pub honest : Bool
 
 -- the machine's step: the reply and the state after it
 abbrev pub IsTaken : Course → Event → Reply → Course → Type 0
@@ -28,6 +30,34 @@ IsStep s e StaleGeneration t = IsTaken s e StaleGeneration t
 IsStep s e EpochsSpent t = IsTaken s e EpochsSpent t
 IsStep s e Unknown t = IsTaken s e Unknown t
 IsStep s e Full t = IsTaken s e Full t
+
+-- a reply that an event has when it happens
+abbrev pub IsProper : Reply → Type 0
+IsProper (Done n) = ⊤
+IsProper Fenced = ⊤
+IsProper OutOfOrder = ⊤
+IsProper DuplicateKept = ⊤
+IsProper WrongState = ⊤
+IsProper Busy = ⊤
+IsProper StaleGeneration = ⊤
+IsProper EpochsSpent = ⊤
+IsProper Unknown = ⊤
+IsProper OutOfMemory = ⊥
+IsProper Full = ⊥
+
+-- whatever rules are broken: want of memory and Full leave everything as it was, and any other event is counted
+abbrev pub IsCounted : Course → Reply → Course → Type 0
+IsCounted s OutOfMemory t = t ≡ s
+IsCounted s Full t = (t ≡ s) × (s.world.events ≡ 2 ^ 31)
+IsCounted s (Done n) t = t.world.events ≡ s.world.events + 1
+IsCounted s Fenced t = t.world.events ≡ s.world.events + 1
+IsCounted s OutOfOrder t = t.world.events ≡ s.world.events + 1
+IsCounted s DuplicateKept t = t.world.events ≡ s.world.events + 1
+IsCounted s WrongState t = t.world.events ≡ s.world.events + 1
+IsCounted s Busy t = t.world.events ≡ s.world.events + 1
+IsCounted s StaleGeneration t = t.world.events ≡ s.world.events + 1
+IsCounted s EpochsSpent t = t.world.events ≡ s.world.events + 1
+IsCounted s Unknown t = t.world.events ≡ s.world.events + 1
 
 -- some list of events leads here
 pub record IsReached (c : Config) (w : World) : Type 0 where

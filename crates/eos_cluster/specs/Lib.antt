@@ -4,8 +4,7 @@ pub mod Taken
 pub mod Restarting
 pub mod Named
 pub mod Listing
-pub mod Batches
 pub mod Fetching
 pub mod Names
 pub mod Grouping
-pub mod Evidences
+pub mod Switching

@@ -1,5 +1,5 @@
 -- What a message and a session name is there, and their numbers are small.
-use Rattle.std.specs.Prelude.{ℕ, ◌<◌, ◌^◌, Option, None, Some, ⊤}
+use Rattle.std.specs.Prelude.{◌≡◌, ℕ, ◌<◌, ◌≤◌, ◌^◌, length, slice_get, Option, None, Some, ⊤}
 use Rattle.std.specs.List.{All}
 use Rattle.eos_machine.specs.declared.config.Config.{Config}
 use Rattle.eos_machine.specs.declared.item.Item.{Item}
@@ -7,6 +7,9 @@ use Rattle.eos_machine.specs.declared.item.Item.TheVariants.{Fed, State, Output,
 use Rattle.eos_machine.specs.declared.state.Session.{Session}
 use Rattle.eos_machine.specs.declared.state.Message.{Message}
 use Rattle.eos_machine.specs.declared.state.Message.TheVariants as messages
+use Rattle.eos_machine.specs.declared.event.Event.{Event}
+use Rattle.eos_machine.specs.declared.event.Event.TheVariants as events
+use Rattle.eos_machine.specs.World.{World, coord_at}
 
 -- the application and the partition of a message
 abbrev pub Names : Config → Message → Type 0
@@ -31,3 +34,17 @@ IsFrom n (State a x m) = ⊤
 IsFrom n (Output a e s x v m) = ⊤
 IsFrom n (Offset a e q v m) = a < n
 IsFrom n (Marker a e k m) = ⊤
+
+-- what an event needs so that its numbers fit their fields
+abbrev pub Needs : Config → World → Event → Type 0
+Needs c w (events.Feed p) = ⊤
+Needs c w (events.Start a) = (coord_at w a).epoch ≤ 32767
+Needs c w (events.Produce n p x) = IsSmall (slice_get w.sessions n)
+Needs c w (events.Commit n q v) = ⊤
+Needs c w (events.End n k) = ⊤
+Needs c w (events.Resume n) = IsSmall (slice_get w.sessions n)
+Needs c w (events.Fetch n q) = ⊤
+Needs c w events.Members = w.generation < 2 ^ 31
+Needs c w (events.BrokerRestart t p) = ⊤
+Needs c w events.CoordinatorRestart = ⊤
+Needs c w (events.Deliver n) = IsNamed c (slice_get w.messages n) × (length w.coordinators ≡ c.applications) × ((a : ℕ) → (coord_at w a).epoch ≤ 32767)

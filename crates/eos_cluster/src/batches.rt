@@ -1,16 +1,18 @@
 //! The batches of a cluster's logs, of one record each, and their bytes.
 
-ghost use Rattle.std.specs.Prelude.{◌≡◌, ◌<◌, ◌+◌, ◌^◌, None, Some, length, IfOk};
+ghost use Rattle.std.specs.Prelude.{◌≡◌, ◌<◌, ◌+◌, ◌^◌, None, Some, length, IfOk, OnOk};
+ghost use Rattle.eos_machine.specs.declared.item.Item.TheVariants.{State};
 ghost use Rattle.eos_machine.specs.Places.{IsConfig};
 ghost use Rattle.eos_batch.specs.Encoding.{batch_text_of};
-ghost use Rattle.eos_cluster.specs.Batches.{record_of, fed_record, state_record, output_record, offset_record, marker_record, batch, item_batch, texts_from};
+ghost use Rattle.eos_schedules.specs.Batches.{record_of, fed_record, state_record, output_record, offset_record, marker_record, batch, item_batch, texts_from, Reads, HasText, HaveTexts};
 
 use crate::values;
-use crate::writer::{self, Writer, as_i64, sequence_as_i32};
+use crate::writer::{self, as_i64, sequence_as_i32};
 use bytes::Bytes;
 use eos_base::Listed;
 use eos_batch::{Batch, Header, Kind, Record, encode_batch};
 use eos_machine::{Claim, Config, Entry, Item};
+use eos_schedules::Writer;
 use std::alloc::{AllocError, Global};
 
 fn record_of(key: Option<Bytes>, value: Bytes, headers: Vec<Header>) -> Record
@@ -40,7 +42,8 @@ fn state_record(
     event: u64,
 ) -> Result<Record, AllocError>
     requires { IsConfig config }
-    ensures { IfOk result (λ r. r ≡ state_record config application entry.now event) }
+    ensures record { IfOk result (λ r. r ≡ state_record config application entry.now event) }
+    ensures reads { OnOk result (Reads config (State application entry.now event)) }
 {
     let key = values::transaction_key(alloc, application)?;
     let value = values::transaction_value(alloc, config, application, entry, event)?;
@@ -105,7 +108,8 @@ fn item_batch(
     item: &Item,
 ) -> Result<Batch, AllocError>
     requires { IsConfig config }
-    ensures { IfOk result (λ b. b ≡ item_batch config offset item.now) }
+    ensures batch { IfOk result (λ b. b ≡ item_batch config offset item.now) }
+    ensures reads { OnOk result (Reads config item.now) }
 {
     match item {
         Item::Fed { event } => {
@@ -158,10 +162,11 @@ fn item_batch(
 }
 
 /// The bytes of an item's batch.
-#[tactic(auto, using(crate::proofs::Texts::written_text))]
+#[tactic(auto, using(crate::proofs::Texts::written_text, crate::proofs::Texts::is_written))]
 fn item_text(alloc: Global, config: Config, offset: usize, item: &Item) -> Result<Bytes, AllocError>
     requires { IsConfig config }
-    ensures { IfOk result (λ t. t ≡ batch_text_of (item_batch config offset item.now)) }
+    ensures text { IfOk result (λ t. t ≡ batch_text_of (item_batch config offset item.now)) }
+    ensures written { OnOk result (HasText config offset item.now) }
 {
     let batch = item_batch(alloc, config, offset, item)?;
     match encode_batch(alloc, &batch) {
@@ -179,7 +184,8 @@ pub(crate) fn items_text(
 ) -> Result<Bytes, AllocError>
     requires config { IsConfig config }
     requires offset { offset + length items.now < 2 ^ 64 }
-    ensures { IfOk result (λ t. t ≡ texts_from config offset items.now) }
+    ensures text { IfOk result (λ t. t ≡ texts_from config offset items.now) }
+    ensures written { OnOk result (HaveTexts config offset items.now) }
 {
     let mut out = Vec::new(alloc);
     for i in 0..items.len() {

@@ -1,17 +1,20 @@
 //! A cluster that takes events one by one.
 
-ghost use Rattle.std.specs.Prelude.{◌≡◌, ◌↔◌, ◌≤◌, true, Err, IfOk};
+ghost use Rattle.std.specs.Prelude.{◌≡◌, ◌↔◌, ◌≤◌, ◌<◌, ◌^◌, ◌&&◌, not, true, false, Err, IfOk};
 ghost use Rattle.eos_machine.specs.Places.{IsConfig};
 ghost use Rattle.eos_machine.specs.World.{opening};
 ghost use Rattle.eos_machine.specs.Rest.{IsAtRest, KeepsSequences, StepsFit, AllAtomic, NeighboursFit};
 ghost use Rattle.eos_cluster.specs.declared.cluster.NewFault.{NewFault};
 ghost use Rattle.eos_cluster.specs.Names.{new_fault_name};
 ghost use Rattle.eos_cluster.specs.declared.evidence.EvidenceRefusal.{EvidenceRefusal};
-ghost use Rattle.eos_cluster.specs.Evidences.{IsEvidenceOf, HasRoomForAll};
-ghost use Rattle.eos_cluster.specs.Courses.{IsStep};
+ghost use Rattle.eos_schedules.specs.Evidences.{IsEvidenceOf, HasRoomForAll};
+ghost use Rattle.eos_schedules.specs.Schedules.{HasRightLogs, HasNoFaultInLogs};
+ghost use Rattle.eos_cluster.specs.Courses.{IsStep, IsCounted};
+ghost use Rattle.eos_cluster.specs.Switching.{any_on};
 
 use crate::evidence::EvidenceRefusal;
 use crate::store::Store;
+use crate::switches::Switches;
 use eos_evidence::Evidence;
 use eos_machine::{Config, Event, Reply};
 use std::alloc::Global;
@@ -43,21 +46,26 @@ impl NewFault {
 /// How many events a cluster takes: 2^31.
 pub const MAX_EVENTS: u64 = 2147483648;
 
-/// A cluster after some events, each of which did what the machine's definitions say.
+/// A cluster after some events. While it is honest, each of them did what the machine's definitions say.
 #[derive(Drop)]
 pub struct Cluster {
     store: Store,
+    switches: Switches,
+    is_honest: bool,
 }
 
 impl Model for Cluster {
     ghost use Rattle.eos_machine.specs.Places.{IsConfig};
+    ghost use Rattle.std.specs.Prelude.{◌≡◌, ◌≤◌, ◌^◌, true};
     ghost use Rattle.eos_cluster.specs.Courses.{Course, IsReached};
 
     ghost Value = { Course };
 
-    ghost view = { λ s. record { config = s.store.config; world = s.store.world } };
+    ghost view = { λ s. record { config = s.store.config; world = s.store.world; honest = s.is_honest } };
 
-    ghost invariant = { λ s. IsConfig s.store.config × IsReached s.store.config s.store.world };
+    ghost invariant = { λ s. IsConfig s.store.config
+        × (s.store.world.events ≤ 2 ^ 31)
+        × (s.is_honest ≡ true → IsReached s.store.config s.store.world) };
 }
 
 /// Whether a number lies in these bounds.
@@ -84,27 +92,32 @@ impl Cluster {
     /// # Errors
     /// `Range` where a size isn't one that a cluster may have; `OutOfMemory` where a growth was refused, and only then.
     pub fn new(alloc: Global, config: Config) -> Result<Cluster, NewFault>
-        ensures ok { IfOk result (λ c. c ≡ record { config = config; world = opening config }) }
+        ensures ok { IfOk result (λ c. c ≡ record { config = config; world = opening config; honest = true }) }
         ensures range { result ≡ Err NewFault.Range ↔ (IsConfig config → ⊥) }
     {
         if !is_config(config) {
             return Err(NewFault::Range);
         }
         match Store::new(alloc, config) {
-            Ok(store) => Ok(Cluster { store }),
+            Ok(store) => Ok(Cluster {
+                store,
+                switches: Switches::none(),
+                is_honest: true,
+            }),
             Err(_) => Err(NewFault::OutOfMemory),
         }
     }
 
-    /// Takes an event. What it does and what is answered is the machine's step. `OutOfMemory` and `Full` leave everything
-    /// as it was.
-    pub fn step(&mut self, event: Event) -> Reply
-        ensures { IsStep self.old event result self.new }
+    /// Takes an event of an honest cluster.
+    fn take(&mut self, event: Event) -> Reply
+        requires honest { self.old.honest ≡ true }
+        requires few { self.old.world.events < 2 ^ 31 }
+        ensures taken { IsStep self.old event result self.new }
+        ensures counted { IsCounted self.old result self.new }
+        ensures config { self.new.config ≡ self.old.config }
+        ensures honest { self.new.honest ≡ self.old.honest }
     {
         let events = self.store.events();
-        if events == MAX_EVENTS {
-            return Reply::Full;
-        }
         match self.store.happen(event) {
             Ok(reply) => {
                 self.store.set_events(events + 1);
@@ -114,10 +127,62 @@ impl Cluster {
         }
     }
 
+    /// Takes an event of a cluster that isn't honest.
+    fn take_switched(&mut self, event: Event) -> Reply
+        requires honest { self.old.honest ≡ false }
+        requires few { self.old.world.events < 2 ^ 31 }
+        ensures counted { IsCounted self.old result self.new }
+        ensures config { self.new.config ≡ self.old.config }
+        ensures honest { self.new.honest ≡ self.old.honest }
+    {
+        let events = self.store.events();
+        match self.store.happen_switched(self.switches, event) {
+            Ok(reply) => {
+                self.store.set_events(events + 1);
+                reply
+            }
+            Err(_) => Reply::OutOfMemory,
+        }
+    }
+
+    /// Takes an event. What it does and what is answered is the machine's step while the cluster is honest. `OutOfMemory`
+    /// and `Full` leave everything as it was; any other event is counted.
+    pub fn step(&mut self, event: Event) -> Reply
+        ensures taken { self.old.honest ≡ true → IsStep self.old event result self.new }
+        ensures counted { IsCounted self.old result self.new }
+        ensures config { self.new.config ≡ self.old.config }
+        ensures honest { self.new.honest ≡ self.old.honest }
+    {
+        let events = self.store.events();
+        if events == MAX_EVENTS {
+            return Reply::Full;
+        }
+        if self.is_honest {
+            return self.take(event);
+        }
+        self.take_switched(event)
+    }
+
+    /// Sets the switches. Once one was on, the cluster isn't honest any more, whatever is set later.
+    pub fn set(&mut self, switches: Switches)
+        ensures { self.new ≡ record self.old { honest = self.old.honest && not (any_on switches) } }
+    {
+        self.switches = switches;
+        self.is_honest = self.is_honest && !switches.any_on();
+    }
+
+    /// Whether no switch was ever on.
+    pub fn is_honest(&self) -> bool
+        ensures { result ≡ self.now.honest }
+    {
+        self.is_honest
+    }
+
     /// How many events it has taken: those that were answered otherwise than `OutOfMemory` or `Full`.
     pub fn events(&self) -> u64
         ensures number { result ≡ self.now.world.events }
         ensures few { result ≤ MAX_EVENTS }
+        ensures opening { result ≡ 0 → self.now.honest ≡ true → self.now.world ≡ opening self.now.config }
     {
         self.store.events()
     }
@@ -130,27 +195,31 @@ impl Cluster {
         self.store.config()
     }
 
-    /// Whether no transaction is open or still ending. Whatever events the cluster has taken: no fault of a sequence or of an
-    /// epoch stands at any batch of its logs, and each record of its transaction log may follow the one before it. At rest,
-    /// the batches, the markers and the decisions of each application fit together.
+    /// Whether no transaction is open or still ending. Whatever events an honest cluster has taken: no fault of a sequence or
+    /// of an epoch stands at any batch of its logs, and each record of its transaction log may follow the one before it. At
+    /// rest, the batches, the markers and the decisions of each application fit together.
     pub fn at_rest(&self) -> bool
         ensures rest { result ≡ true ↔ IsAtRest self.now.world }
-        ensures sequences { KeepsSequences self.now.config self.now.world }
-        ensures steps { StepsFit self.now.config self.now.world }
-        ensures atomic { IsAtRest self.now.world → AllAtomic self.now.config self.now.world }
-        ensures neighbours { IsAtRest self.now.world → NeighboursFit self.now.config self.now.world }
+        ensures sequences { self.now.honest ≡ true → KeepsSequences self.now.config self.now.world }
+        ensures steps { self.now.honest ≡ true → StepsFit self.now.config self.now.world }
+        ensures atomic { self.now.honest ≡ true → IsAtRest self.now.world → AllAtomic self.now.config self.now.world }
+        ensures neighbours { self.now.honest ≡ true → IsAtRest self.now.world → NeighboursFit self.now.config self.now.world }
     {
         self.store.at_rest()
     }
 
-    /// The logs of a cluster at rest as evidence: in segments of the configured number of records, the last of a partition
-    /// with as many as are left, with true ends; the group is `g`, which reads `in` and writes `out`.
+    /// The logs of a cluster at rest as evidence, honest or not: in segments of the configured number of records, the last of
+    /// a partition with as many as are left, with true ends; the group is `g`, which reads `in` and writes `out`. Of an honest
+    /// cluster, whatever events it has taken: each log is whole, sequenced and fenced, the transaction log keeps its rule,
+    /// every transaction is committed in all its partitions or aborted in all, and so no fault of the logs stands.
     ///
     /// # Errors
     /// `NotAtRest` where a transaction is open or still ending; `OutOfMemory` where a growth was refused.
     pub fn evidence(&self) -> Result<Evidence, EvidenceRefusal>
         requires { HasRoomForAll self.now.config self.now.world }
         ensures ok { IfOk result (IsEvidenceOf self.now.config self.now.world) }
+        ensures right { self.now.honest ≡ true → IfOk result HasRightLogs }
+        ensures faultless { self.now.honest ≡ true → IfOk result HasNoFaultInLogs }
         ensures rest { result ≡ Err EvidenceRefusal.NotAtRest ↔ (IsAtRest self.now.world → ⊥) }
     {
         if !self.store.at_rest() {

@@ -4,7 +4,7 @@ ghost use Rattle.std.specs.Prelude.{◌≡◌, ℕ, ◌+◌, ◌-◌, ◌≤◌,
 ghost use Rattle.eos_machine.specs.Places.{offsets_place};
 ghost use Rattle.eos_machine.specs.World.{coord_at};
 ghost use Rattle.eos_machine.specs.Deliveries.{with_partition, deliver_output, deliver_offset, deliver};
-ghost use Rattle.eos_cluster.specs.Taken.{taken};
+ghost use Rattle.eos_cluster.specs.Taken.{taken, IsRefusal};
 ghost use Rattle.eos_cluster.specs.Named.{IsNamed, IsFrom};
 
 use crate::answers::{is_ongoing, is_prepare};
@@ -37,7 +37,7 @@ impl Store {
 
     /// What a broker and the coordinator make of data: the item that is appended, or the refusal.
     #[tactic(auto, unfolding(eos_machine::specs::Answers::when))]
-    fn output_item(
+    pub(crate) fn output_item(
         &self,
         application: usize,
         epoch: u16,
@@ -48,6 +48,7 @@ impl Store {
     ) -> Result<Result<Item, Reply>, AllocError>
         requires { application < self.now.config.applications }
         ensures from { IfOk result (λ r. IfOk r (IsFrom self.now.config.applications)) }
+        ensures proper { IfOk result (λ r. IsRefusal r) }
         ensures answer { IfOk result (λ r. (n : ℕ) → deliver_output self.now.config self.now.world n application epoch place sequence claim.now value ≡ taken self.now.config self.now.world n application place r) }
     {
         let producer = self.producer(application, place);
@@ -80,7 +81,7 @@ impl Store {
 
     /// The same for an offset.
     #[tactic(auto, unfolding(eos_machine::specs::Answers::when))]
-    fn offset_item(
+    pub(crate) fn offset_item(
         &self,
         number: u64,
         application: usize,
@@ -91,6 +92,7 @@ impl Store {
     ) -> Result<Item, Reply>
         requires { application < self.now.config.applications }
         ensures from { IfOk result (IsFrom self.now.config.applications) }
+        ensures proper { IsRefusal result }
         ensures answer { deliver_offset self.now.config self.now.world number application epoch generation source offset ≡ taken self.now.config self.now.world number application offsets_place result }
     {
         if self.is_accepted(number) {

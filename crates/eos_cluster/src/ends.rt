@@ -5,6 +5,7 @@ ghost use Rattle.eos_machine.specs.World.{coord_at, prepared, finished, state_of
 ghost use Rattle.eos_machine.specs.declared.item.Status.TheVariants.{Complete};
 ghost use Rattle.eos_machine.specs.Deliveries.{deliver_end, deliver_marker};
 ghost use Rattle.eos_cluster.specs.Held.{becomes};
+ghost use Rattle.eos_cluster.specs.Taken.{ended, IsRefusalIfAny};
 
 use crate::answers::{is_commit, is_decided, is_ongoing, is_prepare, waits_for};
 use crate::copies;
@@ -53,6 +54,25 @@ impl Store {
         self.write(application, step);
     }
 
+    /// Why the coordinator refuses the end of a transaction, if it does.
+    #[tactic(auto, unfolding(eos_machine::specs::Answers::when))]
+    pub(crate) fn end_refusal(&self, application: usize, epoch: u16, kind: Kind) -> Option<Reply>
+        ensures answer { deliver_end self.now.config self.now.world application epoch kind ≡ ended self.now.config self.now.world application kind result }
+        ensures proper { IsRefusalIfAny result }
+    {
+        let status = self.status(application);
+        if is_decided(status, kind) && is_next(self.epoch(application), epoch) {
+            return Some(Reply::DuplicateKept);
+        }
+        if !self.is_current(application, epoch) || is_prepare(status) {
+            return Some(Reply::Fenced);
+        }
+        if is_commit(kind) && !is_ongoing(status) {
+            return Some(Reply::WrongState);
+        }
+        None
+    }
+
     /// The end of a transaction arrives at the coordinator.
     #[tactic(auto, unfolding(eos_machine::specs::Answers::when))]
     pub(crate) fn deliver_end(
@@ -67,17 +87,10 @@ impl Store {
         ensures err { OnErr result (self.new.world ≡ self.old.world) }
         ensures config { self.new.config ≡ self.old.config }
     {
-        let status = self.status(application);
+        if let Some(refusal) = self.end_refusal(application, epoch, kind) {
+            return Ok(refusal);
+        }
         let now = self.epoch(application);
-        if is_decided(status, kind) && is_next(now, epoch) {
-            return Ok(Reply::DuplicateKept);
-        }
-        if !self.is_current(application, epoch) || is_prepare(status) {
-            return Ok(Reply::Fenced);
-        }
-        if is_commit(kind) && !is_ongoing(status) {
-            return Ok(Reply::WrongState);
-        }
         let number = self.message_count();
         let partitions = self.ongoing_partitions(application)?;
         if partitions.as_slice().is_empty() {

@@ -3,7 +3,8 @@
 ghost use Rattle.std.specs.Prelude.{◌≡◌, Ok, IfOk};
 ghost use Rattle.eos_cluster.specs.declared.evidence.EvidenceRefusal.{EvidenceRefusal};
 ghost use Rattle.eos_evidence.specs.Parts.{accepted};
-ghost use Rattle.eos_cluster.specs.Evidences.{parts_of, IsEvidenceOf};
+ghost use Rattle.eos_evidence.specs.Evidence.{IsEvidence};
+ghost use Rattle.eos_schedules.specs.Evidences.{parts_of, IsEvidenceOf};
 ghost use Rattle.eos_cluster.specs.Names.{evidence_refusal_name};
 
 use crate::segments::application;
@@ -51,7 +52,8 @@ impl Store {
 
     /// All logs, as evidence.
     pub(crate) fn evidence(&self) -> Result<Evidence, AllocError>
-        ensures { IfOk result (IsEvidenceOf self.now.config self.now.world) }
+        ensures cluster { IfOk result (IsEvidenceOf self.now.config self.now.world) }
+        ensures evidence { IfOk result IsEvidence }
     {
         let spec = self.spec()?;
         let mut builder = EvidenceBuilder::new(self.alloc(), spec)?;

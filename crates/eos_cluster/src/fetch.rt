@@ -1,10 +1,11 @@
 //! What a session fetches: the offset that its group has committed for a partition of `in`.
 
-ghost use Rattle.std.specs.Prelude.{◌≡◌, ◌∷◌, ◌<◌, List, None, length, replicate, slice_get, slice_index_or, vec_len, IfOk};
-ghost use Rattle.std.specs.List.{All};
+ghost use Rattle.std.specs.Prelude.{◌≡◌, ◌∷◌, ◌<◌, true, List, None, length, replicate, slice_get, slice_index_or, vec_len, IfOk};
 ghost use Rattle.eos_machine.specs.declared.item.Item.{Item};
+ghost use Rattle.eos_machine.specs.Places.{offsets_place};
+ghost use Rattle.eos_machine.specs.World.{log_at};
 ghost use Rattle.eos_machine.specs.Sessions.{fetch};
-ghost use Rattle.eos_cluster.specs.Fetching.{AreEnds, IsFetched};
+ghost use Rattle.eos_cluster.specs.Fetching.{AreEnds, IsFetched, IsSettled};
 ghost use Rattle.eos_cluster.specs.Named.{IsFrom};
 
 use crate::places::OFFSETS_PLACE;
@@ -93,30 +94,46 @@ fn note_commit(fetched: Fetched, item: &Item, source: usize, ends: &[Option<Kind
     }
 }
 
-/// What a log says of a source, read from its end to its front.
-fn read_back(
-    alloc: Global,
-    log: &[Item],
-    source: usize,
-    applications: usize,
-) -> Result<Fetched, AllocError>
-    requires { All (IsFrom applications) log.now }
-    ensures { IfOk result (λ f. IsFetched source f log.now) }
-{
-    let mut ends = no_ends(alloc, applications)?;
-    let mut fetched = Fetched {
-        is_open: false,
-        committed: None,
-    };
-    for i in (0..log.len()).rev() {
-        let item = &log[i];
-        fetched = note_commit(fetched, item, source, ends.as_slice());
-        note_marker(&mut ends, item);
-    }
-    Ok(fetched)
-}
-
 impl Store {
+    /// Whether nothing further back can change what was found: a commit was, and the next marker of each application that has
+    /// any data there.
+    fn is_settled(&self, fetched: Fetched, ends: &[Option<Kind>]) -> bool
+        ensures { result ≡ true → IsSettled self.now.config.applications self.now.world fetched ends.now }
+    {
+        if fetched.committed.is_none() {
+            return false;
+        }
+        for application in 0..self.config().applications {
+            if next_end(ends, application).is_none()
+                && self.producer(application, OFFSETS_PLACE).last.is_some()
+            {
+                return false;
+            }
+        }
+        true
+    }
+
+    /// What the log of the offsets says of a source, read from its end as far as anything there can matter.
+    fn read_back(&self, source: usize) -> Result<Fetched, AllocError>
+        ensures { IfOk result (λ f. IsFetched source f (log_at self.now.world offsets_place)) }
+    {
+        let log = self.log(OFFSETS_PLACE);
+        let mut ends = no_ends(self.alloc(), self.config().applications)?;
+        let mut fetched = Fetched {
+            is_open: false,
+            committed: None,
+        };
+        for i in (0..log.len()).rev() {
+            if self.is_settled(fetched, ends.as_slice()) {
+                return Ok(fetched);
+            }
+            let item = &log[i];
+            fetched = note_commit(fetched, item, source, ends.as_slice());
+            note_marker(&mut ends, item);
+        }
+        Ok(fetched)
+    }
+
     /// A session asks for the committed offset of a partition of `in`.
     #[tactic(auto, unfolding(eos_machine::specs::Answers::when))]
     pub(crate) fn fetch(&self, number: usize, source: usize) -> Result<Reply, AllocError>
@@ -132,8 +149,7 @@ impl Store {
         if session.generation != self.generation() {
             return Ok(Reply::StaleGeneration);
         }
-        let log = self.log(OFFSETS_PLACE);
-        let fetched = read_back(self.alloc(), log, source, config.applications)?;
+        let fetched = self.read_back(source)?;
         if fetched.is_open {
             return Ok(Reply::Busy);
         }

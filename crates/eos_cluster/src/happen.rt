@@ -1,10 +1,9 @@
 //! Whatever happens to a cluster: each event, and its effect.
 
-ghost use Rattle.std.specs.Prelude.{◌≡◌, ℕ, ◌≤◌, ◌<◌, ◌^◌, length, slice_get, OnErr, IfOk};
-ghost use Rattle.eos_machine.specs.World.{coord_at};
+ghost use Rattle.std.specs.Prelude.{◌≡◌, OnErr, IfOk};
 ghost use Rattle.eos_machine.specs.Machine.{happens};
 ghost use Rattle.eos_machine.specs.declared.event.Event.TheVariants.{BrokerRestart};
-ghost use Rattle.eos_cluster.specs.Named.{IsNamed, IsSmall};
+ghost use Rattle.eos_cluster.specs.Named.{Needs};
 
 use crate::places::{is_partition, start_of};
 use crate::store::Store;
@@ -29,11 +28,7 @@ impl Store {
 
     /// An event happens. It isn't counted here.
     pub(crate) fn happen(&mut self, event: Event) -> Result<Reply, AllocError>
-        requires named { (n : ℕ) → IsNamed self.old.config (slice_get self.old.world.messages n) }
-        requires small { (n : ℕ) → IsSmall (slice_get self.old.world.sessions n) }
-        requires coordinators { length self.old.world.coordinators ≡ self.old.config.applications }
-        requires epochs { (a : ℕ) → (coord_at self.old.world a).epoch ≤ 32767 }
-        requires generation { self.old.world.generation < 2 ^ 31 }
+        requires { Needs self.old.config self.old.world event }
         ensures ok { IfOk result (λ r. (self.new.world, r) ≡ happens self.old.config self.old.world event) }
         ensures err { OnErr result (self.new.world ≡ self.old.world) }
         ensures config { self.new.config ≡ self.old.config }

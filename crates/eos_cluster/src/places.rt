@@ -131,3 +131,11 @@ pub(crate) fn start_of(config: Config, topic: &Bytes) -> usize
         output_start(config)
     }
 }
+
+/// Whether a place is an odd partition of `out`.
+pub(crate) fn is_odd_output(config: Config, place: usize) -> bool
+    requires { IsConfig config }
+{
+    let start = output_start(config);
+    place >= start && (place - start) % 2 == 1
+}

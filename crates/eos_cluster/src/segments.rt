@@ -1,11 +1,12 @@
 //! The logs of a cluster, cut into segments.
 
-ghost use Rattle.std.specs.Prelude.{◌≡◌, ◌+◌, ◌≤◌, ◌<◌, ◌^◌, Ok, length, take, drop, map, IfOk, OnOk};
+ghost use Rattle.std.specs.Prelude.{◌≡◌, ℕ, ◌+◌, ◌*◌, ◌≤◌, ◌<◌, ◌^◌, Ok, length, take, drop, map, IfOk, OnOk};
 ghost use Rattle.std.specs.List.{flat_map, range_with_len};
 ghost use Rattle.eos_machine.specs.Places.{IsConfig, place_count};
 ghost use Rattle.eos_evidence.specs.Evidence.{added};
 ghost use Rattle.eos_machine.specs.World.{log_at};
-ghost use Rattle.eos_cluster.specs.Evidences.{application, end_of, segment_count, segment_at, log_segments, cluster_segments, adding};
+ghost use Rattle.eos_schedules.specs.Batches.{HaveTexts};
+ghost use Rattle.eos_schedules.specs.Evidences.{application, end_of, segment_count, segment_at, log_segments, cluster_segments, adding};
 
 use crate::batches::items_text;
 use crate::places::{number_of, place_count, topic_of};
@@ -51,7 +52,8 @@ fn segment_at(
     i: usize,
 ) -> Result<Segment, AllocError>
     requires { IsConfig config }
-    ensures { IfOk result (λ s. s ≡ segment_at config place log.now i) }
+    ensures segment { IfOk result (λ s. s ≡ segment_at config place log.now i) }
+    ensures written { OnOk result (HaveTexts config (i * config.segment_records) (take config.segment_records (drop (i * config.segment_records) log.now))) }
 {
     let Some(base) = i.checked_mul(config.segment_records) else {
         return Err(AllocError);
@@ -88,7 +90,8 @@ fn add_log(
     log: &[Item],
 ) -> Result<(), AllocError>
     requires { IsConfig config }
-    ensures { OnOk result (adding builder.old (log_segments config place log.now) ≡ Ok builder.new) }
+    ensures added { OnOk result (adding builder.old (log_segments config place log.now) ≡ Ok builder.new) }
+    ensures written { OnOk result (HaveTexts config 0 log.now) }
 {
     let count = segment_count(config, log.len());
     for i in 0..count {
@@ -139,7 +142,8 @@ impl Store {
 
     /// Adds the segments of all logs.
     pub(crate) fn add_logs(&self, builder: &mut EvidenceBuilder) -> Result<(), AllocError>
-        ensures { OnOk result (adding builder.old (cluster_segments self.now.config self.now.world) ≡ Ok builder.new) }
+        ensures added { OnOk result (adding builder.old (cluster_segments self.now.config self.now.world) ≡ Ok builder.new) }
+        ensures written { OnOk result ((p : ℕ) → p < place_count self.now.config → HaveTexts self.now.config 0 (log_at self.now.world p)) }
     {
         let config = self.config();
         for place in 0..place_count(config) {

@@ -1,14 +1,15 @@
 //! The keys, values and headers of a cluster's records.
 
-ghost use Rattle.std.specs.Prelude.{◌≡◌, ◌++◌, ◌∷◌, [], ◌+◌, List, length, ◌≤◌, IfOk, OnOk, pos};
+ghost use Rattle.std.specs.Prelude.{◌≡◌, ◌++◌, ◌∷◌, [], ◌+◌, List, length, ◌≤◌, Ok, IfOk, OnOk, pos};
 ghost use Rattle.eos_wire.specs.Numbers.{i32_text, i64_text, i16_text};
+ghost use Rattle.eos_txnlog.specs.Reading.{read_value};
 ghost use Rattle.eos_txnlog.specs.Writing as txnlog;
 ghost use Rattle.eos_offsets.specs.Writing as offsets;
 ghost use Rattle.eos_machine.specs.Places.{IsConfig, input_topic};
 ghost use Rattle.eos_machine.specs.Rest.{status_of, by_topic, value_of, with_number};
 ghost use Rattle.eos_txnlog.specs.declared.partitions.TopicPartitions.{TopicPartitions};
 ghost use Rattle.eos_cluster.specs.Grouping.{starts_with};
-ghost use Rattle.eos_cluster.specs.Batches.{group, transactional_id, bytes_of, header, claim_headers, control_type};
+ghost use Rattle.eos_schedules.specs.Batches.{group, transactional_id, bytes_of, header, claim_headers, control_type};
 
 use crate::places::{number_of, topic_of};
 use crate::writer::{as_i16, as_i32, as_i64, producer_id};
@@ -175,7 +176,8 @@ pub(crate) fn transaction_value(
     event: u64,
 ) -> Result<Bytes, AllocError>
     requires { IsConfig config }
-    ensures { IfOk result (λ b. b ≡ bytes_of (txnlog.write_value (pos 1) (value_of config application entry.now event))) }
+    ensures value { IfOk result (λ b. b ≡ bytes_of (txnlog.write_value (pos 1) (value_of config application entry.now event))) }
+    ensures reads { OnOk result (read_value (bytes_of (txnlog.write_value (pos 1) (value_of config application entry.now event))) ≡ Ok (value_of config application entry.now event)) }
 {
     let value = TxnValue {
         producer: producer_id(application)?,

@@ -5,19 +5,10 @@
 
 ghost use Rattle.std.specs.Prelude.{◌≡◌, pos, IfOk};
 ghost use Rattle.eos_machine.specs.Rest.{producer_id};
-ghost use Rattle.eos_cluster.specs.Batches.{plain, transactional, control};
+ghost use Rattle.eos_schedules.specs.Batches.{plain, transactional, control};
 
+use eos_schedules::Writer;
 use std::alloc::AllocError;
-
-/// The fields of a batch that say who wrote it.
-#[derive(Clone, Copy, Debug, PartialEq, Eq)]
-pub(crate) struct Writer {
-    /// 0 of a plain batch, 16 of transactional data, 48 of an end marker.
-    pub(crate) attributes: i16,
-    pub(crate) producer: i64,
-    pub(crate) epoch: i16,
-    pub(crate) sequence: i32,
-}
 
 /// The producer id of the first application.
 const FIRST_PRODUCER: i64 = 1000;
