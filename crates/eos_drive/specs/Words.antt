@@ -1,0 +1,15 @@
+-- The words of a script: those of the generator PCG XSH RR 64/32 (O'Neill, "PCG: a family of simple fast space-efficient
+-- statistically good algorithms for random number generation"), seeded by a number as `rand_core` does.
+use Rattle.std.specs.Prelude.{ℕ, zero, suc, List, [], ◌∷◌}
+use Rattle.rand_core.specs.Pcg32Seed.{pcg32_seed}
+use Rattle.rand_pcg.specs.Lcg.{Lcg}
+use Rattle.rand_pcg.specs.Pcg.{pcg32, pcg32_of_seed}
+
+-- the generator of a seed: its state and its stream are 16 bytes that the seed gives
+abbrev pub seeded : ℕ → Lcg
+seeded seed = pcg32_of_seed (pcg32_seed 16 seed)
+
+-- the next words of a generator
+abbrev pub words_from : ℕ → Lcg → List ℕ
+words_from zero g = []
+words_from (suc n) g = (pcg32 g).0 ∷ words_from n (pcg32 g).1

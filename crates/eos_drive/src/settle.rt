@@ -1,0 +1,75 @@
+//! The end of a run: what is left is processed without loss.
+
+ghost use Rattle.std.specs.Prelude.{◌≡◌};
+
+use crate::instance::Choice;
+use crate::run::Run;
+use eos_cluster::{Cluster, MAX_EVENTS};
+use std::alloc::AllocError;
+
+/// How an instance takes its turns at the end.
+const STEADY: Choice = Choice {
+    inputs: 3,
+    aborts: false,
+};
+
+/// Processes all inputs that are left without loss, and brings the cluster to rest.
+pub(crate) fn settle(run: &mut Run, cluster: &mut Cluster) -> Result<(), AllocError>
+    ensures config { cluster.new.config ≡ cluster.old.config }
+    ensures honest { cluster.new.honest ≡ cluster.old.honest }
+{
+    let applications = run.plan.config().applications;
+    run.instances.truncate(applications);
+    run.restart_coordinator(cluster)?;
+    carry_all(run, cluster)?;
+    for _ in 0..applications.saturating_add(2) {
+        if finish_each(run, cluster)? {
+            break;
+        }
+    }
+    Ok(())
+}
+
+/// All messages arrive that are on their way.
+fn carry_all(run: &mut Run, cluster: &mut Cluster) -> Result<(), AllocError>
+    ensures config { cluster.new.config ≡ cluster.old.config }
+    ensures honest { cluster.new.honest ≡ cluster.old.honest }
+{
+    for _ in 0..MAX_EVENTS {
+        if run.network.next().is_none() {
+            break;
+        }
+        run.carry(cluster)?;
+    }
+    Ok(())
+}
+
+/// Each application processes what is left to it. Whether nothing was kept from any of them.
+fn finish_each(run: &mut Run, cluster: &mut Cluster) -> Result<bool, AllocError>
+    ensures config { cluster.new.config ≡ cluster.old.config }
+    ensures honest { cluster.new.honest ≡ cluster.old.honest }
+{
+    let mut is_finished = true;
+    for number in 0..run.instances.len() {
+        is_finished = finish(run, cluster, number)? && is_finished;
+    }
+    Ok(is_finished)
+}
+
+/// An application takes its turns until nothing is left to it, or it is kept out. Whether nothing is left.
+fn finish(run: &mut Run, cluster: &mut Cluster, number: usize) -> Result<bool, AllocError>
+    ensures config { cluster.new.config ≡ cluster.old.config }
+    ensures honest { cluster.new.honest ≡ cluster.old.honest }
+{
+    let most = run.plan.inputs().saturating_mul(64).saturating_add(1000);
+    for _ in 0..most {
+        run.take_turn(cluster, number, STEADY)?;
+        carry_all(run, cluster)?;
+        match run.instances.get(number) {
+            Some(instance) if instance.rests() => return Ok(instance.has_finished()),
+            Some(_) => {}
+            None => return Ok(true),
+        }
+    }
+    Ok(false)
+}
