@@ -15,8 +15,6 @@ mod chain;
 #[cfg(test)]
 mod claims;
 #[cfg(test)]
-mod cluster;
-#[cfg(test)]
 mod evidence;
 #[cfg(test)]
 mod fault_names;
