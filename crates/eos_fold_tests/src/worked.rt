@@ -21,7 +21,7 @@ pub(crate) enum Held {
 pub(crate) type Line = (i64, i64, i16, Held, (u8, u8));
 
 /// An open transaction is the only fault, until records are missing and then a zombie comes.
-pub(crate) static LINES: [Line; 13] = [
+pub(crate) static LINES: [Line; 14] = [
     (0, 1000, 0, Held::Data(0, 2), (11, 11)),
     (2, 2000, 5, Held::Data(0, 1), (11, 11)),
     (3, -1, -1, Held::Plain(2), (11, 11)),
@@ -29,12 +29,13 @@ pub(crate) static LINES: [Line; 13] = [
     (6, 1000, 1, Held::Commit, (11, 11)),
     (7, 1000, 1, Held::Data(0, 2), (11, 11)),
     (9, 2000, 6, Held::Abort, (11, 11)),
-    (10, 2000, 6, Held::Data(0, 1), (11, 11)),
-    (11, 1000, 2, Held::Abort, (11, 11)),
-    (12, 2000, 7, Held::Commit, (0, 0)),
+    (10, 1000, 1, Held::Data(2, 1), (11, 11)),
+    (11, 2000, 6, Held::Data(0, 1), (11, 11)),
+    (12, 1000, 2, Held::Abort, (11, 11)),
     (13, 2000, 7, Held::Commit, (0, 0)),
-    (14, 2000, 7, Held::Data(3, 1), (3, 11)),
-    (15, 1000, 1, Held::Data(0, 1), (3, 5)),
+    (14, 2000, 7, Held::Commit, (0, 0)),
+    (15, 2000, 7, Held::Data(3, 1), (3, 11)),
+    (16, 1000, 1, Held::Data(0, 1), (3, 5)),
 ];
 
 fn record(alloc: Global, key: Option<Bytes>, value: Bytes) -> Record {
