@@ -5,3 +5,5 @@
 mod drive;
 #[cfg(test)]
 mod shared;
+#[cfg(test)]
+mod switches;
