@@ -160,9 +160,9 @@ fn twelve_workers_hold_pieces_at_once(rt: HostRuntime) -> Result<(), Fail> {
 #[test]
 fn any_number_of_workers(rt: HostRuntime) -> Result<(), Fail> {
     let evidence = evidence(rt.alloc())?;
-    assert_eq!(rt; check(rt.alloc(), &rt, &evidence, 1, &OpenGate)?, YES);
-    assert_eq!(rt; check(rt.alloc(), &rt, &evidence, 2, &OpenGate)?, YES);
-    assert_eq!(rt; check(rt.alloc(), &rt, &evidence, 64, &OpenGate)?, YES);
+    for workers in [1, 2, 3, 8, 64] {
+        assert_eq!(rt; check(rt.alloc(), &rt, &evidence, workers, &OpenGate)?, YES);
+    }
     Ok(())
 }
 
