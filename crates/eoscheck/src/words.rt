@@ -1,6 +1,10 @@
 //! The words of the command line.
 
+ghost use Rattle.std.specs.Prelude.{◌≡◌, IfSome};
+ghost use Rattle.eos_cluster.specs.Names.{switch_name};
+
 use clap::{Arg, ArgAction, ArgMatches, Command, value_parser};
+use eos_cluster::Switch;
 use std::alloc::{AllocError, Global};
 
 /// What a run is asked to do.
@@ -10,6 +14,8 @@ pub(crate) enum Request<'a> {
     Segment { answer: Answer, file: &'a str },
     /// Give the verdict over a folder of evidence.
     Check(Check<'a>),
+    /// Write what a simulated cluster leaves.
+    Simulate(Simulation<'a>),
 }
 
 /// What is asked about a folder of evidence.
@@ -19,6 +25,19 @@ pub(crate) struct Check<'a> {
     pub(crate) workers: u64,
     /// Whether the verdict is printed as JSON.
     pub(crate) json: bool,
+    pub(crate) folder: &'a str,
+}
+
+/// What a simulated cluster is to do.
+#[derive(Clone, Copy)]
+pub(crate) struct Simulation<'a> {
+    /// The seed of its script.
+    pub(crate) seed: u64,
+    /// The number of the script's words, at most 10,000.
+    pub(crate) events: u64,
+    /// The rule that it breaks afterwards, if any.
+    pub(crate) switch: Option<Switch>,
+    /// The folder that is made.
     pub(crate) folder: &'a str,
 }
 
@@ -102,7 +121,8 @@ where those before it have none. With --json the same stands in an object.
                         committed past its input";
 
 const STATUSES: &str = "Exit status:
-  0  the answer is good: the listing ends at the end, or the chain is kept
+  0  the answer is good: the verdict is yes, the listing ends at the end, the
+     chain is kept, or the folder was written
   1  a fault was found, and the last line names it
   2  the words are wrong, a file cannot be read or written, or it is larger than
      a segment may be (2^30 bytes)
@@ -173,6 +193,48 @@ the offset at which it stands, and there follow
   1.8 MixedProducer   a producer wrote both inside and outside transactions
   1.9 MarkerKind      one transaction has both a commit and an abort";
 
+const SIMULATE: &str = "Writes a folder of logs as a simulated cluster leaves it, for `check`";
+
+const SIMULATE_WRITES: &str =
+    "The cluster is a simulation in this process, without a network and a clock: two
+applications of one group read the topic `in` and write `out`, of two partitions
+each, in transactions. The words of a script, N of the generator that the seed
+begins, say what happens: inputs come in, requests are lost and come twice,
+sessions are abandoned and go on as zombies, transactions are aborted, the
+members of the group change, brokers and the coordinator restart. Then what is
+left is processed, and the cluster comes to rest. The same seed and N give the
+same bytes on every machine.
+
+FOLDER must not be there. It gets `evidence.json` and a folder for each
+partition, with segments of 16 records. `wrote partitions=6` (status 0) says
+that all of it was written; `eoscheck check FOLDER` then says yes, and
+`eoscheck dump` lists what stands in a segment.
+
+With --switch the cluster breaks one rule in a few events after the script, as a
+bad broker or coordinator would. `check` then says no, by this fault:
+
+  keep-duplicates    1.4 Sequence     a record that came twice stands twice
+  no-fence           1.5 ZombieEpoch  a zombie writes after a newer epoch
+  no-bump            1.7 NoBump       end markers have the epoch of the data
+  lose-marker        1.11 OpenAtEnd   end markers are missing in the logs
+  swap-marker        3.3 WrongKind    out-1 has an abort where out-0 has a commit
+  hide-listing       3.4 NotListed    transactions don't list out-1, but write it
+  ignore-generation  5.10 Repeated    two members process the same input
+
+It shows what a fault looks like and that the checker finds it, and says nothing
+of real brokers.";
+
+/// The names of the switches.
+static SWITCHES: [&str; 7] = [
+    "keep-duplicates",
+    "no-fence",
+    "no-bump",
+    "lose-marker",
+    "swap-marker",
+    "hide-listing",
+    "ignore-generation",
+];
+
 /// The command line of the program.
 pub(crate) fn make_command<'a>(alloc: Global) -> Result<Command<'a>, AllocError> {
     Command::new(alloc, "eoscheck")
@@ -181,7 +243,8 @@ pub(crate) fn make_command<'a>(alloc: Global) -> Result<Command<'a>, AllocError>
         .after_help(STATUSES)
         .subcommand(check_command(alloc)?)?
         .subcommand(dump_command(alloc)?)?
-        .subcommand(chain_command(alloc)?)
+        .subcommand(chain_command(alloc)?)?
+        .subcommand(simulate_command(alloc)?)
 }
 
 fn check_command<'a>(alloc: Global) -> Result<Command<'a>, AllocError> {
@@ -197,7 +260,7 @@ fn workers<'a>(alloc: Global) -> Arg<'a> {
     Arg::new(alloc, "workers")
         .long("workers")
         .value_name("N")
-        .help("The number of workers, 1 to 64; today one thread does the work")
+        .help("How many threads work, 1 to 64 (else 4); the answer is the same")
         .value_parser(value_parser!(u64).range(1..=64))
 }
 
@@ -236,6 +299,49 @@ fn file<'a>(alloc: Global) -> Arg<'a> {
         .required(true)
 }
 
+fn simulate_command<'a>(alloc: Global) -> Result<Command<'a>, AllocError> {
+    Command::new(alloc, "simulate")
+        .about(SIMULATE)
+        .after_help(SIMULATE_WRITES)
+        .arg(seed(alloc))?
+        .arg(events(alloc))?
+        .arg(switch(alloc))?
+        .arg(new_folder(alloc))
+}
+
+fn seed<'a>(alloc: Global) -> Arg<'a> {
+    Arg::new(alloc, "seed")
+        .long("seed")
+        .value_name("S")
+        .help("What the script begins with, 0 to 2^64 - 1")
+        .required(true)
+        .value_parser(value_parser!(u64))
+}
+
+fn events<'a>(alloc: Global) -> Arg<'a> {
+    Arg::new(alloc, "events")
+        .long("events")
+        .value_name("N")
+        .help("How many words the script has, 0 to 10000")
+        .required(true)
+        .value_parser(value_parser!(u64).range(0..=10_000))
+}
+
+fn switch<'a>(alloc: Global) -> Arg<'a> {
+    Arg::new(alloc, "switch")
+        .long("switch")
+        .value_name("X")
+        .help("The rule that the cluster breaks after the script")
+        .value_parser(SWITCHES.as_slice())
+}
+
+fn new_folder<'a>(alloc: Global) -> Arg<'a> {
+    Arg::new(alloc, "folder")
+        .value_name("FOLDER")
+        .help("The folder that is made")
+        .required(true)
+}
+
 /// What the words ask for. Without words it is the listing of the standard input.
 pub(crate) fn read_request<'a>(matches: &ArgMatches<'a>) -> Option<Request<'a>> {
     let Some((name, inner)) = matches.subcommand() else {
@@ -248,6 +354,7 @@ pub(crate) fn read_request<'a>(matches: &ArgMatches<'a>) -> Option<Request<'a>> 
         "check" => read_check(inner),
         "dump" => read_segment_words(inner, Answer::Listing),
         "chain" => read_segment_words(inner, Answer::Chain),
+        "simulate" => read_simulate(inner),
         _ => None,
     }
 }
@@ -266,4 +373,41 @@ fn read_check<'a>(inner: &ArgMatches<'a>) -> Option<Request<'a>> {
         json,
         folder,
     }))
+}
+
+fn read_simulate<'a>(inner: &ArgMatches<'a>) -> Option<Request<'a>> {
+    let seed = inner.get_one::<u64>("seed")?;
+    let events = inner.get_one::<u64>("events")?;
+    let switch = match inner.get_str("switch") {
+        Some(name) => Some(switch_named(name)?),
+        None => None,
+    };
+    let folder = inner.get_str("folder")?;
+    Some(Request::Simulate(Simulation {
+        seed,
+        events,
+        switch,
+        folder,
+    }))
+}
+
+/// The switch of this name.
+pub(crate) fn switch_named(name: &str) -> Option<Switch>
+    ensures { IfSome result (λ switch. switch_name switch ≡ name.now) }
+{
+    let switches = [
+        Switch::KeepDuplicates,
+        Switch::NoFence,
+        Switch::NoBump,
+        Switch::LoseMarker,
+        Switch::SwapMarker,
+        Switch::HideListing,
+        Switch::IgnoreGeneration,
+    ];
+    for switch in switches {
+        if switch.name() == name {
+            return Some(switch);
+        }
+    }
+    None
 }
