@@ -12,13 +12,13 @@ use Rattle.eos_board.specs.declared.worker.Worker.{Worker}
 use Rattle.eos_board.specs.declared.worker.Holding.{Holding}
 use Rattle.eos_board.specs.declared.worker.Holding.TheVariants.{Nothing, Piece, Run, Pair}
 use Rattle.eos_board.specs.Runs.{Overlap, IsTaken}
-use Rattle.eos_board.specs.PoolState.{StockView, PoolView, run_pieces, held_pieces, worker_pieces, stock_pieces, all_pieces, idle_worker, opening, full_stock, IsRunOf, HoldsRunsOf, IsSound}
+use Rattle.eos_board.specs.PoolState.{StockView, PoolView, run_pieces, held_pieces, worker_pieces, stock_pieces, all_pieces, idle_worker, opening, full_stock, HoldsRunsOf, IsSound}
 use Rattle.eos_board.specs.PoolEvents.{counted}
 use Rattle.eos_board.specs.steps.PoolReady.{IsKept, IsReady, HasRoom}
 use Rattle.eos_board.proofs.RunsKept.{some_is, none_is_some}
 use Rattle.eos_board.proofs.RunsJoined.{joins_follows}
 use Rattle.eos_board.proofs.PieceSums.{is, sum_flat, sum_has, sum_ones, counts_whole, once_at_most, once_in_run}
-use Rattle.eos_board.proofs.PiecesMoved.{Goes, stock_sum, get_within}
+use Rattle.eos_board.proofs.PiecesMoved.{stock_sum, get_within}
 use Rattle.eos_board.proofs.EventsMoved.{Moves}
 
 -- ---- lists

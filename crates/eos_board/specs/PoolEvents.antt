@@ -1,6 +1,6 @@
 -- The events of the pool's core: what each does to its worker (w before, x after) and to what no worker holds (s before, t
 -- after), reply by reply.
-use Rattle.std.specs.Prelude.{◌≡◌, ◌+◌, ◌<◌, ◌^◌, ℕ, Bool, true, false, not, List, [], ◌∷◌, ◌++◌, length, slice_get, slice_set, Some, MatchOption}
+use Rattle.std.specs.Prelude.{◌≡◌, ◌+◌, ◌<◌, ◌^◌, ℕ, Bool, true, false, List, [], ◌∷◌, ◌++◌, length, slice_get, slice_set, Some, MatchOption}
 use Rattle.eos_evidence.specs.declared.segment.Segment.{Segment}
 use Rattle.eos_fold.specs.Sums.{NamedView}
 use Rattle.eos_board.specs.declared.worker.Worker.{Worker}

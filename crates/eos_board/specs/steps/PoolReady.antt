@@ -1,5 +1,5 @@
 -- What the private steps of the pool's core rely on, and what is known of it between events.
-use Rattle.std.specs.Prelude.{◌≡◌, ◌+◌, ◌<◌, ◌≤◌, ◌^◌, ℕ, List, length, ⊤}
+use Rattle.std.specs.Prelude.{◌≡◌, ◌+◌, ◌<◌, ◌≤◌, ◌^◌, ℕ, length, ⊤}
 use Rattle.std.specs.List.{sum_by, range_with_len}
 use Rattle.eos_base.specs.Members.{Has}
 use Rattle.eos_fold.specs.Sums.{NamedView, Follows}

@@ -1,8 +1,8 @@
-use Rattle.std.proofs.Common.{◌≡◌, List, sym, ap, subst, ◌∙◌}
+use Rattle.std.proofs.Common.{◌≡◌, List, sym, subst, ◌∙◌}
 use Rattle.eos_fold.specs.Sums.{NamedView}
 use Rattle.eos_board.specs.declared.worker.Holding.{Holding}
 use Rattle.eos_board.specs.declared.worker.Holding.TheVariants.{Pair}
-use Rattle.eos_board.specs.Runs.{IsTaken, placed}
+use Rattle.eos_board.specs.Runs.{IsTaken}
 use Rattle.eos_board.specs.PoolState.{StockView}
 use Rattle.eos_board.specs.steps.PoolReady.{IsReady, MayPlaceBoth}
 use Rattle.eos_board.proofs.RunsStanding.{placed_free}

@@ -1,4 +1,4 @@
-use Rattle.std.proofs.Common.{◌≡◌, refl, sym, ap, subst, ◌∙◌}
+use Rattle.std.proofs.Common.{refl, ap, subst, ◌∙◌}
 use Rattle.eos_board.specs.Runs.{NoneJoin}
 use Rattle.eos_board.specs.PoolState.{StockView}
 use Rattle.eos_board.specs.steps.RunPlaces.{PlacesView}
