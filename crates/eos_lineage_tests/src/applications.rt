@@ -111,65 +111,116 @@ const WITHOUT_HEADERS: Log = Log {
     rows: &[Plain(&[Value])],
 };
 
+/// Both are good.
+const GOOD: &[Log] = &[COMMITS, LAST_OUTPUTS, INPUTS, FIRST_OUTPUTS, SECOND_OUTPUTS];
+
+/// An input of the first has no outputs.
+const NOTED: &[Log] = &[COMMITS, LAST_OUTPUTS, INPUTS, WITH_A_NOTE, SECOND_OUTPUTS];
+
+/// An output of the second is missing.
+const SHORT: &[Log] = &[
+    COMMITS,
+    WITHOUT_THE_THIRD,
+    INPUTS,
+    FIRST_OUTPUTS,
+    SECOND_OUTPUTS,
+];
+
+/// The second has an output of what only the first reads.
+const FOREIGN: &[Log] = &[COMMITS, OF_THE_OTHER, INPUTS, FIRST_OUTPUTS, SECOND_OUTPUTS];
+
+/// An output of the first is there twice, and one of the second is missing.
+const BOTH_WRONG: &[Log] = &[
+    COMMITS,
+    WITHOUT_THE_THIRD,
+    INPUTS,
+    INCOMPLETE,
+    SECOND_OUTPUTS,
+];
+
+/// A record of the last topic is no claim, and an output of the first is missing.
+const UNCLAIMED: &[Log] = &[COMMITS, WITHOUT_HEADERS, INPUTS, INCOMPLETE];
+
+/// Applications and logs, with the numbers of inputs and outputs.
+const COUNTED: &[(&[Reads], &[Log], u64, u64)] = &[
+    (TWO, GOOD, 5, 6),
+    (SWAPPED, GOOD, 5, 6),
+    (TWO, NOTED, 5, 5),
+];
+
 #[test]
 fn counts_are_of_both(rt: HostRuntime) -> Result<(), Fail> {
-    let alloc = rt.alloc();
-    let good = [COMMITS, LAST_OUTPUTS, INPUTS, FIRST_OUTPUTS, SECOND_OUTPUTS];
-    for apps in [TWO, SWAPPED] {
-        assert!(rt; answer(alloc, &rt, apps, &good)? == Ok((5, 6)));
+    for (apps, logs, inputs, outputs) in COUNTED {
+        assert!(rt; answer(rt.alloc(), &rt, *apps, *logs)? == Ok((*inputs, *outputs)));
     }
-    let noted = [COMMITS, LAST_OUTPUTS, INPUTS, WITH_A_NOTE, SECOND_OUTPUTS];
-    assert!(rt; answer(alloc, &rt, TWO, &noted)? == Ok((5, 5)));
     Ok(())
 }
+
+/// Applications and logs, and their fault: the group, the input, the number of the output, the kind and the claim.
+type Wrong = (
+    &'static [Reads],
+    &'static [Log],
+    &'static str,
+    (Name, u64),
+    u32,
+    OutputKind,
+    Option<(Name, u64)>,
+);
+
+const WRONG: &[Wrong] = &[
+    (
+        TWO,
+        SHORT,
+        "h",
+        (OUT_SECOND, 0),
+        1,
+        OutputKind::Missing,
+        None,
+    ),
+    (
+        TWO,
+        FOREIGN,
+        "h",
+        (IN, 0),
+        1,
+        OutputKind::ForeignSource,
+        Some((LAST, 2)),
+    ),
+    // the applications are looked at in order
+    (
+        TWO,
+        BOTH_WRONG,
+        "g",
+        (IN, 0),
+        2,
+        OutputKind::Repeated,
+        Some((OUT_SECOND, 0)),
+    ),
+    (
+        SWAPPED,
+        BOTH_WRONG,
+        "h",
+        (OUT_SECOND, 0),
+        1,
+        OutputKind::Missing,
+        None,
+    ),
+];
 
 #[test]
 fn a_fault_names_its_group(rt: HostRuntime) -> Result<(), Fail> {
     let alloc = rt.alloc();
-    let group = Some("h");
-    let logs = [
-        COMMITS,
-        WITHOUT_THE_THIRD,
-        INPUTS,
-        FIRST_OUTPUTS,
-        SECOND_OUTPUTS,
-    ];
-    let missing = of_output(alloc, group, (OUT_SECOND, 0), 1, OutputKind::Missing, None)?;
-    assert!(rt; answer(alloc, &rt, TWO, &logs)? == Err(missing));
-    let logs = [COMMITS, OF_THE_OTHER, INPUTS, FIRST_OUTPUTS, SECOND_OUTPUTS];
-    let at = Some((LAST, 2));
-    let foreign = of_output(alloc, group, (IN, 0), 1, OutputKind::ForeignSource, at)?;
-    assert!(rt; answer(alloc, &rt, TWO, &logs)? == Err(foreign));
+    for (apps, logs, group, source, output, kind, at) in WRONG {
+        let fault = of_output(alloc, Some(*group), *source, *output, *kind, *at)?;
+        assert!(rt; answer(alloc, &rt, *apps, *logs)? == Err(fault));
+    }
     Ok(())
 }
 
-/// An output of `g` is there twice, and one of `h` is missing.
-#[test]
-fn applications_are_looked_at_in_order(rt: HostRuntime) -> Result<(), Fail> {
-    let alloc = rt.alloc();
-    let logs = [
-        COMMITS,
-        WITHOUT_THE_THIRD,
-        INPUTS,
-        INCOMPLETE,
-        SECOND_OUTPUTS,
-    ];
-    let kind = OutputKind::Repeated;
-    let at = Some((OUT_SECOND, 0));
-    let twice = of_output(alloc, Some("g"), (IN, 0), 2, kind, at)?;
-    assert!(rt; answer(alloc, &rt, TWO, &logs)? == Err(twice));
-    let kind = OutputKind::Missing;
-    let missing = of_output(alloc, Some("h"), (OUT_SECOND, 0), 1, kind, None)?;
-    assert!(rt; answer(alloc, &rt, SWAPPED, &logs)? == Err(missing));
-    Ok(())
-}
-
-/// A record of the last topic is no claim, and an output of `g` is missing.
 #[test]
 fn records_are_looked_at_before_outputs(rt: HostRuntime) -> Result<(), Fail> {
-    let logs = [COMMITS, WITHOUT_HEADERS, INPUTS, INCOMPLETE];
     let fault = of_record(LAST, 0, VisibleFaultKind::BadLineage);
     let expected = Err(LineageFault::Record(fault));
-    assert!(rt; answer(rt.alloc(), &rt, TWO, &logs)? == expected);
+    assert!(rt; answer(rt.alloc(), &rt, TWO, UNCLAIMED)? == expected);
     Ok(())
 }

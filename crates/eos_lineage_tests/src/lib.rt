@@ -9,6 +9,8 @@ mod build;
 #[cfg(test)]
 mod commits;
 #[cfg(test)]
+mod cuts;
+#[cfg(test)]
 mod expect;
 #[cfg(test)]
 mod headers;
@@ -16,5 +18,7 @@ mod headers;
 mod outputs;
 #[cfg(test)]
 mod records;
+#[cfg(test)]
+mod runs;
 #[cfg(test)]
 mod transactions;
