@@ -15,6 +15,8 @@ mod expect;
 #[cfg(test)]
 mod headers;
 #[cfg(test)]
+mod names;
+#[cfg(test)]
 mod outputs;
 #[cfg(test)]
 mod records;
