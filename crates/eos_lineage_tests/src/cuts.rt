@@ -3,7 +3,7 @@
 use crate::build::Row::{Abort, Commit, Data, Idempotent, Plain};
 use crate::build::Says::Value;
 use crate::build::{Row, Says, batches};
-use crate::runs::{ORDERS, Order, Text, part, texts};
+use crate::runs::{ORDERS, Order, Text, are_joined, part, texts};
 use bytes::Bytes;
 use eos_batch::{BatchFault, Kind};
 use eos_fold::{Close, Fate, PairFault, Part, PartitionFault, PartitionFaultKind};
@@ -747,5 +747,14 @@ fn a_batch_that_is_cut_off(rt: HostRuntime) -> Result<(), Fail> {
             assert!(rt; has_fates(&joined, &[Fate::Committed, Fate::Committed]));
         }
     }
+    Ok(())
+}
+
+#[test]
+fn summaries_of_two_segments(rt: HostRuntime) -> Result<(), Fail> {
+    let alloc = rt.alloc();
+    let batches = batches(alloc, ROWS)?;
+    let texts = texts(alloc, batches.as_slice())?;
+    assert!(rt; are_joined(alloc, b"out", texts.as_slice(), 1)?);
     Ok(())
 }

@@ -2,12 +2,12 @@
 
 ghost use Rattle.std.specs.Prelude.{◌≡◌, ◌≤◌, ◌<◌, ◌+◌, ◌^◌, pos, length, IfOk};
 ghost use Rattle.eos_fold.specs.Standing.{AreOf};
-ghost use Rattle.eos_fold.specs.Sums.{IsFit};
+ghost use Rattle.eos_fold.specs.Sums.{IsFit, IsSummed};
 
 use bytes::Bytes;
 use eos_batch::{Batch, encode_batch};
 use eos_evidence::Segment;
-use eos_fold::{Named, Part};
+use eos_fold::{Named, Part, Summary, summarise};
 use std::alloc::{AllocError, Global};
 use std::test::Fail;
 
@@ -186,4 +186,34 @@ pub(crate) fn part(
     }
     let run = joined(alloc, &topic, texts, order, 0, places.as_slice())?;
     Ok(Part::new(alloc, topic, 0, end, Some(run))?)
+}
+
+/// The summary of the batches between two places.
+fn summary(
+    alloc: Global,
+    topic: &Bytes,
+    texts: &[Text],
+    from: usize,
+    to: usize,
+) -> Result<Summary, Fail>
+    ensures { IfOk result IsSummed }
+{
+    let (Some(before), Some(own)) = (texts.get(..from), texts.get(from..to)) else {
+        return Err(AllocError.into());
+    };
+    let segment = segment(alloc, topic, before, own)?;
+    Ok(summarise(alloc, std::slice::from_ref(&segment))?)
+}
+
+/// Whether the summaries of a log's two halves can be joined.
+pub(crate) fn are_joined(
+    alloc: Global,
+    topic: &'static [u8],
+    texts: &[Text],
+    half: usize,
+) -> Result<bool, Fail> {
+    let topic = Bytes::from_static(topic);
+    let before = summary(alloc, &topic, texts, 0, half)?;
+    let after = summary(alloc, &topic, texts, half, texts.len())?;
+    Ok(Summary::join(alloc, before, after).is_ok())
 }
