@@ -148,6 +148,16 @@ def worked():
         expect(said[0] == 1 and said[1].startswith(f"no {fault} "), f"check of {name}: {said}")
 
 
+def limited(most):
+    """Settings of a run under which no file gets more than so many bytes."""
+
+    def limit():
+        signal.signal(signal.SIGXFSZ, signal.SIG_IGN)
+        resource.setrlimit(resource.RLIMIT_FSIZE, (most, most))
+
+    return {"preexec_fn": limit}
+
+
 def refused_folders():
     folder = os.path.join(scratch, "there")
     os.mkdir(folder)

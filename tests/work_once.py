@@ -3,7 +3,7 @@
 its k-th allocation would be refused, the check by one worker answers though its (k + 400)-th would be. The tests check that
 the worker made its run. Over a thousand segments a caller that summarised them again would take some thousands more.
 
-    python3 tests/work_once.py refuse.so crates/eos_tests/out/eos_tests_tests
+    python3 tests/work_once.py refuse.so crates/eos_worker_tests/out/eos_worker_tests_tests
 
 refuse.so is tests/refuse.c, built.
 """

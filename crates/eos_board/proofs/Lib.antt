@@ -3,3 +3,10 @@ pub mod RunsStanding
 pub mod RunsKept
 pub mod SeamsKept
 pub mod PairsTaken
+pub mod PiecesFit
+pub mod PieceSums
+pub mod PiecesMoved
+pub mod EventsMoved
+pub mod PoolKept
+pub mod CoursesMore
+pub mod StepsTaken

@@ -1,2 +1,4 @@
 pub mod Runs
+pub mod PoolState
+pub mod PoolEvents
 pub mod steps

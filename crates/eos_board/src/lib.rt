@@ -8,9 +8,15 @@ mod board;
 mod follow;
 mod gate;
 mod places;
+mod pool_core;
+mod pool_event;
 mod refused;
+mod stock;
+mod worker;
 
 pub use board::{Board, Receipt};
 pub use eos_tickets::{Seat, Tickets};
 pub use gate::{Gate, OpenGate};
+pub use pool_core::PoolCore;
+pub use pool_event::{PoolEvent, PoolReply};
 pub use refused::{Refused, Why};

@@ -1,5 +1,5 @@
-//! The tests of the lineage of outputs, of the offsets that groups commit, and of logs cut into segments. Expected faults
-//! and counts are worked out by hand from the rules, never taken from a run.
+//! The tests of the lineage of outputs, and of the offsets that groups commit. Expected faults and counts are worked out by hand from
+//! the rules, never taken from a run.
 #![tactic(auto)]
 
 #[cfg(test)]
@@ -8,8 +8,6 @@ mod applications;
 mod build;
 #[cfg(test)]
 mod commits;
-#[cfg(test)]
-mod cuts;
 #[cfg(test)]
 mod expect;
 #[cfg(test)]
@@ -20,7 +18,5 @@ mod names;
 mod outputs;
 #[cfg(test)]
 mod records;
-#[cfg(test)]
-mod runs;
 #[cfg(test)]
 mod transactions;

@@ -15,24 +15,10 @@ mod chain;
 #[cfg(test)]
 mod claims;
 #[cfg(test)]
-mod evidence;
-#[cfg(test)]
-mod fault_names;
-#[cfg(test)]
 mod fold;
 #[cfg(test)]
 mod items;
 #[cfg(test)]
-mod offsets;
-#[cfg(test)]
 mod report;
 #[cfg(test)]
-mod segment_reader;
-#[cfg(test)]
 mod table;
-#[cfg(test)]
-mod touch;
-#[cfg(test)]
-mod txnlog;
-#[cfg(test)]
-mod wire;

@@ -4,7 +4,7 @@ use Rattle.eos_evidence.specs.Names.{spec_fault_name}
 use Rattle.eoscheck.specs.declared.fault.RunFault.{RunFault}
 use Rattle.eoscheck.specs.declared.fault.RunFault.TheVariants as faults
 use Rattle.eoscheck.specs.declared.ending.Ending.{Ending}
-use Rattle.eoscheck.specs.declared.ending.Ending.TheVariants.{Answered, Helped, BadWords, NotText, CannotRead, CannotWrite, Manifest, Limit, OutOfMemory}
+use Rattle.eoscheck.specs.declared.ending.Ending.TheVariants.{Answered, Helped, BadWords, NotText, CannotRead, CannotWrite, Manifest, NotAtRest, Limit, OutOfMemory}
 
 -- the exit status
 abbrev pub status_of : Ending → ℕ
@@ -15,6 +15,7 @@ status_of NotText = 2
 status_of (CannotRead path) = 2
 status_of (CannotWrite path) = 2
 status_of (Manifest fault) = 2
+status_of NotAtRest = 2
 status_of Limit = 2
 status_of OutOfMemory = 3
 
@@ -27,6 +28,7 @@ message_of NotText = codes "error: a word of the command line is not UTF-8 text\
 message_of (CannotRead path) = codes "eoscheck: cannot read " ++ (path.now ++ codes "\n")
 message_of (CannotWrite path) = codes "eoscheck: cannot write " ++ (path.now ++ codes "\n")
 message_of (Manifest fault) = codes "eoscheck: evidence.json: " ++ (spec_fault_name fault ++ codes "\n")
+message_of NotAtRest = codes "eoscheck: the cluster is not at rest\n"
 message_of Limit = codes "eoscheck: limit\n"
 message_of OutOfMemory = codes "eoscheck: out of memory\n"
 

@@ -5,4 +5,5 @@ pub mod Faults
 pub mod Lines
 pub mod Listing
 pub mod Running
+pub mod Simulated
 pub mod steps

@@ -8,34 +8,37 @@ ghost use Rattle.eoscheck.specs.Checking.{IsCheckAnswer, verdict_answer};
 ghost use Rattle.eoscheck.specs.steps.Holding.{IsOfReading};
 
 use crate::fault::RunFault;
-use eos_check::{Verdict, check_one};
+use eos_board::OpenGate;
+use eos_check::{Verdict, check};
 use eos_evidence::Evidence;
 use eos_report::{verdict_json, verdict_line};
 use eos_text::finish;
 use std::alloc::{AllocError, Global};
 use std::io::Write;
+use std::sync::Wait;
 use std::thread::Threads;
 
-/// Writes the verdict over an evidence, as a line of text or as a line of JSON. The status is 0 for yes, 1 for no.
+/// Writes the verdict over an evidence, by so many workers, 1 to 64, as a line of text or as a line of JSON. The status is 0 for
+/// yes, 1 for no.
 ///
 /// # Errors
 /// At `Write` a front of the line was written, at `OutOfMemory` nothing. There is no other refusal.
 pub fn check_to<W: Write>(
     alloc: Global,
-    rt: &(impl Threads + Sync),
+    rt: &(impl Threads + Wait + Sync),
     evidence: &Evidence,
-    _workers: u64,
+    workers: u64,
     json: bool,
     writer: &mut W,
 ) -> Result<u8, RunFault>
-    requires some { 1 ≤ _workers }
-    requires most { _workers ≤ 64 }
+    requires some { 1 ≤ workers }
+    requires most { workers ≤ 64 }
     ensures ok { IfOk result (λ status. Writes (IsCheckAnswer evidence.now json) (W.contents writer.old) (W.contents writer.new) status) }
     ensures write { result ≡ Err RunFault.Write → WritesFrontOf (IsCheckAnswer evidence.now json) (W.contents writer.old) (W.contents writer.new) }
     ensures memory { result ≡ Err RunFault.OutOfMemory → Keeps (W.contents writer.old) (W.contents writer.new) }
     ensures only { OnErr result (IsOfReading result → ⊥) }
 {
-    let (line, status) = answer(alloc, rt, evidence, json)?;
+    let (line, status) = answer(alloc, rt, evidence, workers, json)?;
     finish(writer, line.as_bytes())?;
     Ok(status)
 }
@@ -43,13 +46,15 @@ pub fn check_to<W: Write>(
 /// The line of the verdict and the exit status.
 fn answer(
     alloc: Global,
-    rt: &(impl Threads + Sync),
+    rt: &(impl Threads + Wait + Sync),
     evidence: &Evidence,
+    workers: u64,
     json: bool,
 ) -> Result<(String, u8), AllocError>
+    requires { (1 ≤ workers) × (workers ≤ 64) }
     ensures { IfOk result (λ r. IsCheckAnswer evidence.now json (string_bytes r.0) r.1) }
 {
-    let verdict = check_one(alloc, rt, evidence)?;
+    let verdict = check(alloc, rt, evidence, workers, &OpenGate)?;
     let line = answer_line(alloc, &verdict, json)?;
     let status = status_of(&verdict);
     Ok((line, status))

@@ -24,6 +24,8 @@ pub(crate) enum Ending<'a> {
     CannotWrite(&'a str),
     /// The manifest of a folder is refused.
     Manifest(SpecFault),
+    /// The simulated cluster has a transaction that is open or still ending.
+    NotAtRest,
     /// An input is larger than it may be.
     Limit,
     /// Memory ran out.
@@ -61,6 +63,7 @@ impl<'a> Ending<'a> {
             | Ending::CannotRead(_)
             | Ending::CannotWrite(_)
             | Ending::Manifest(_)
+            | Ending::NotAtRest
             | Ending::Limit => 2,
             Ending::OutOfMemory => 3,
         }
@@ -77,6 +80,7 @@ impl Display for Ending<'_> {
             Ending::CannotRead(path) => write!(f, "eoscheck: cannot read {path}\n"),
             Ending::CannotWrite(path) => write!(f, "eoscheck: cannot write {path}\n"),
             Ending::Manifest(fault) => write!(f, "eoscheck: evidence.json: {}\n", fault.name()),
+            Ending::NotAtRest => write!(f, "eoscheck: the cluster is not at rest\n"),
             Ending::Limit => write!(f, "eoscheck: limit\n"),
             Ending::OutOfMemory => write!(f, "eoscheck: out of memory\n"),
         }

@@ -1,23 +1,25 @@
 //! Reading a folder of evidence: its manifest, and the segments of the partitions that the manifest names.
 
+ghost use Rattle.std.specs.Prelude.{◌≤◌};
+
+use crate::paths::{manifest_path, partition_path, segment_path};
 use bytes::Bytes;
 use eos_evidence::{
-    AddFault, End, Evidence, EvidenceBuilder, ReadFault, Segment, SpecFault, parse_spec,
-    read_segment,
+    AddFault, End, Evidence, EvidenceBuilder, MAX_SEGMENTS, ReadFault, Segment, Spec, SpecFault,
+    parse_spec, read_segment,
 };
-use std::alloc::{AllocError, AllocFailed, Global};
-use std::fs;
+use std::alloc::{AllocError, AllocFailed};
 use std::fs::{DirEntry, File};
 use std::io::{Error, ErrorKind};
-
-/// The manifest's name in the folder.
-const MANIFEST: &str = "evidence.json";
+use std::thread::Threads;
+use std::{fs, thread};
 
 /// How many digits the name of a segment has before `.log`.
 const DIGITS: usize = 20;
 
 /// Why a folder is no evidence. Of several reasons it is the first: those of the manifest, then those of the
-/// partitions in order, each with its segments by base.
+/// partitions in order, each with its segments by base. Want of memory may come before any of them.
+#[derive(Drop)]
 pub(crate) enum FolderFault {
     /// This file or folder can't be read.
     CannotRead(String),
@@ -41,53 +43,62 @@ impl<T: Drop> From<AllocFailed<T>> for FolderFault {
     }
 }
 
-/// Reads the evidence of a folder: its manifest, and for each partition of it the segments in the folder `TOPIC-N`. A
-/// partition without a folder has no segments.
-pub(crate) fn read_folder(rt: &HostRuntime, folder: &str) -> Result<Evidence, FolderFault> {
-    let alloc = rt.alloc();
-    let path = join(alloc, folder, MANIFEST)?;
-    let manifest = read_file(rt, path)?;
-    let spec = match parse_spec(alloc, manifest.as_slice()) {
-        Ok(spec) => spec,
-        Err(SpecFault::OutOfMemory) => return Err(FolderFault::OutOfMemory),
-        Err(fault) => return Err(FolderFault::Manifest(fault)),
-    };
+/// A file that is named as a segment of a partition.
+#[derive(Drop)]
+struct SegmentFile<'a> {
+    end: &'a End,
+    base: i64,
+    /// What was read of it. Before that it counts as one for which there was no memory.
+    bytes: Result<Bytes, FolderFault>,
+}
+
+/// Reads the evidence of a folder: its manifest, and for each partition of it the segments in the folder `TOPIC-N`, by at most
+/// so many threads. A partition without a folder has no segments.
+pub(crate) fn read_folder(
+    rt: &HostRuntime,
+    threads: &(impl Threads + Sync),
+    folder: &str,
+    workers: u64,
+) -> Result<Evidence, FolderFault>
+    requires { 1 ≤ workers }
+{
+    let spec = read_manifest(rt, folder)?;
     let ends = spec.ends().clone()?;
-    let mut builder = EvidenceBuilder::new(alloc, spec)?;
-    for end in ends.as_slice() {
-        read_partition(rt, folder, end, &mut builder)?;
+    let mut files = Vec::new(rt.alloc());
+    let listed = list_segments(rt, folder, ends.as_slice(), &mut files);
+    thread::for_each_mut(
+        threads,
+        files.as_mut_slice(),
+        workers as usize,
+        &|_, file: &mut SegmentFile<'_>| { file.read(rt, folder) },
+    );
+    let evidence = evidence_of(rt, spec, files)?;
+    listed?;
+    Ok(evidence)
+}
+
+fn read_manifest(rt: &HostRuntime, folder: &str) -> Result<Spec, FolderFault> {
+    let path = manifest_path(rt.alloc(), folder)?;
+    let manifest = read_file(rt, path)?;
+    match parse_spec(rt.alloc(), manifest.as_slice()) {
+        Ok(spec) => Ok(spec),
+        Err(SpecFault::OutOfMemory) => Err(FolderFault::OutOfMemory),
+        Err(fault) => Err(FolderFault::Manifest(fault)),
+    }
+}
+
+/// The evidence of the files in order, or the first refusal among them.
+fn evidence_of(
+    rt: &HostRuntime,
+    spec: Spec,
+    files: Vec<SegmentFile<'_>>,
+) -> Result<Evidence, FolderFault> {
+    let mut builder = EvidenceBuilder::new(rt.alloc(), spec)?;
+    for file in files {
+        let SegmentFile { end, base, bytes } = file;
+        add_segment(&mut builder, end, base, bytes?)?;
     }
     Ok(builder.finish())
-}
-
-/// Adds the segments of a partition, by base.
-fn read_partition(
-    rt: &HostRuntime,
-    folder: &str,
-    end: &End,
-    builder: &mut EvidenceBuilder,
-) -> Result<(), FolderFault> {
-    let alloc = rt.alloc();
-    let name = partition_folder(alloc, folder, end)?;
-    let bases = match list_bases(rt, &name) {
-        Ok(bases) => bases,
-        Err(e) => return refused_listing(e, name),
-    };
-    for base in bases.as_slice() {
-        let path = segment_path(alloc, &name, *base)?;
-        let bytes = read_file(rt, path)?;
-        add_segment(builder, end, *base, bytes)?;
-    }
-    Ok(())
-}
-
-/// A partition without a folder has no segments; any other folder must be read.
-fn refused_listing(e: Error, folder: String) -> Result<(), FolderFault> {
-    match e.kind() {
-        ErrorKind::NotFound => Ok(()),
-        ErrorKind::OutOfMemory => Err(FolderFault::OutOfMemory),
-        _ => Err(FolderFault::CannotRead(folder)),
-    }
 }
 
 fn add_segment(
@@ -106,6 +117,44 @@ fn add_segment(
         Ok(()) => Ok(()),
         Err(AddFault::OutOfMemory) => Err(FolderFault::OutOfMemory),
         Err(AddFault::Limit | AddFault::Name | AddFault::Duplicate) => Err(FolderFault::Limit),
+    }
+}
+
+// ---- which segments there are
+
+/// Adds the segments of the partitions in order, each partition's by base. Where it is refused, those before that place were
+/// added.
+fn list_segments<'a>(
+    rt: &HostRuntime,
+    folder: &str,
+    ends: &'a [End],
+    files: &mut Vec<SegmentFile<'a>>,
+) -> Result<(), FolderFault> {
+    for end in ends {
+        for base in bases_of(rt, folder, end)? {
+            if files.len() as u64 >= MAX_SEGMENTS {
+                return Err(FolderFault::Limit);
+            }
+            files.push(SegmentFile {
+                end,
+                base,
+                bytes: Err(FolderFault::OutOfMemory),
+            })?;
+        }
+    }
+    Ok(())
+}
+
+/// The base offsets of a partition's segments, in order. A partition without a folder has none; any other folder must be read.
+fn bases_of(rt: &HostRuntime, folder: &str, end: &End) -> Result<Vec<i64>, FolderFault> {
+    let path = partition_path(rt.alloc(), folder, end)?;
+    match list_bases(rt, &path) {
+        Ok(bases) => Ok(bases),
+        Err(e) => match e.kind() {
+            ErrorKind::NotFound => Ok(Vec::new(rt.alloc())),
+            ErrorKind::OutOfMemory => Err(FolderFault::OutOfMemory),
+            _ => Err(FolderFault::CannotRead(path)),
+        },
     }
 }
 
@@ -145,6 +194,25 @@ fn base_of_name(name: &[u8]) -> Option<i64> {
     Some(base)
 }
 
+// ---- what is in them
+
+impl SegmentFile<'_> {
+    /// Reads the file.
+    fn read(&mut self, rt: &HostRuntime, folder: &str) {
+        self.bytes = read_segment_file(rt, folder, self.end, self.base);
+    }
+}
+
+fn read_segment_file(
+    rt: &HostRuntime,
+    folder: &str,
+    end: &End,
+    base: i64,
+) -> Result<Bytes, FolderFault> {
+    let path = segment_path(rt.alloc(), folder, end, base)?;
+    read_file(rt, path)
+}
+
 /// The bytes of a file, at most as many as a segment may have.
 fn read_file(rt: &HostRuntime, path: String) -> Result<Bytes, FolderFault> {
     let mut file = match File::open(rt, path.as_str()) {
@@ -158,20 +226,4 @@ fn read_file(rt: &HostRuntime, path: String) -> Result<Bytes, FolderFault> {
         Err(ReadFault::Limit) => Err(FolderFault::Limit),
         Err(ReadFault::OutOfMemory) => Err(FolderFault::OutOfMemory),
     }
-}
-
-// ---- names
-
-fn join(alloc: Global, folder: &str, name: &str) -> Result<String, AllocError> {
-    format!(in alloc; "{folder}/{name}")
-}
-
-fn partition_folder(alloc: Global, folder: &str, end: &End) -> Result<String, AllocError> {
-    let topic = String::from_utf8_lossy(alloc, end.topic.as_slice())?;
-    let number = end.partition;
-    format!(in alloc; "{folder}/{topic}-{number}")
-}
-
-fn segment_path(alloc: Global, folder: &str, base: i64) -> Result<String, AllocError> {
-    format!(in alloc; "{folder}/{base:020}.log")
 }

@@ -1,5 +1,5 @@
-//! `eoscheck`: checks whether the promise of exactly once was kept in Kafka logs, lists log segments, and checks the
-//! sequences and epochs of their producers.
+//! `eoscheck`: checks whether the promise of exactly once was kept in Kafka logs, lists log segments, checks the sequences and
+//! epochs of their producers, and writes the logs of a simulated cluster.
 #![tactic(auto)]
 
 mod chain;
@@ -8,10 +8,14 @@ mod dump;
 mod ending;
 mod fault;
 mod folder;
+mod help;
 mod lines;
+mod paths;
 mod run;
+mod simulate;
 mod text;
 mod words;
+mod writing;
 
 use std::process::ExitCode;
 

@@ -8,11 +8,14 @@ use crate::dump::dump_to;
 use crate::ending::Ending;
 use crate::fault::RunFault;
 use crate::folder::{FolderFault, read_folder};
-use crate::words::{Answer, Check, Request, make_command, read_request};
+use crate::simulate::{SimulationFault, simulate, told_to};
+use crate::words::{Answer, Check, Request, Simulation, make_command, read_request};
+use crate::writing::{WritingFault, make_folder, write_evidence};
 use clap::error::{Error, ErrorKind as WordsFault};
 use std::alloc::Global;
 use std::fs::File;
 use std::io::{ErrorKind, Read};
+use std::sync::Wait;
 use std::thread::Threads;
 use std::{env, io};
 
@@ -20,7 +23,7 @@ use std::{env, io};
 const STANDARD: &str = "-";
 
 /// Does what the words of the command line say, and gives the exit status.
-pub(crate) fn run(rt: &HostRuntime, threads: &(impl Threads + Sync)) -> u8 {
+pub(crate) fn run(rt: &HostRuntime, threads: &(impl Threads + Wait + Sync)) -> u8 {
     let alloc = rt.alloc();
     match read_words(rt, alloc) {
         Ok(words) => obey(rt, threads, words.as_slice()),
@@ -34,7 +37,7 @@ fn read_words(rt: &HostRuntime, alloc: Global) -> io::Result<Vec<String>> {
     Ok(words)
 }
 
-fn obey(rt: &HostRuntime, threads: &(impl Threads + Sync), words: &[String]) -> u8 {
+fn obey(rt: &HostRuntime, threads: &(impl Threads + Wait + Sync), words: &[String]) -> u8 {
     let Ok(command) = make_command(rt.alloc()) else {
         return end(rt, Ending::OutOfMemory);
     };
@@ -68,19 +71,21 @@ fn end(rt: &HostRuntime, ending: Ending<'_>) -> u8 {
     ending.status()
 }
 
-fn act(rt: &HostRuntime, threads: &(impl Threads + Sync), request: Request<'_>) -> u8 {
+fn act(rt: &HostRuntime, threads: &(impl Threads + Wait + Sync), request: Request<'_>) -> u8 {
     match request {
         Request::Segment { answer, file } => {
             let answered = read_and_answer(rt, answer, file);
             end(rt, Ending::of_answer(answered, file, STANDARD))
         }
         Request::Check(words) => check_folder(rt, threads, words),
+        Request::Simulate(words) => simulate_folder(rt, words),
     }
 }
 
 /// Reads a folder of evidence and writes its verdict on standard output.
-fn check_folder(rt: &HostRuntime, threads: &(impl Threads + Sync), words: Check<'_>) -> u8 {
-    let evidence = match read_folder(rt, words.folder) {
+fn check_folder(rt: &HostRuntime, threads: &(impl Threads + Wait + Sync), words: Check<'_>) -> u8 {
+    let workers = words.workers.clamp(1, 64);
+    let evidence = match read_folder(rt, threads, words.folder, workers) {
         Ok(evidence) => evidence,
         Err(FolderFault::CannotRead(path)) => return end(rt, Ending::CannotRead(path.as_str())),
         Err(FolderFault::Manifest(fault)) => return end(rt, Ending::Manifest(fault)),
@@ -88,7 +93,6 @@ fn check_folder(rt: &HostRuntime, threads: &(impl Threads + Sync), words: Check<
         Err(FolderFault::OutOfMemory) => return end(rt, Ending::OutOfMemory),
     };
     let mut writer = io::writer(rt);
-    let workers = words.workers.clamp(1, 64);
     let answered = check_to(
         rt.alloc(),
         threads,
@@ -98,6 +102,32 @@ fn check_folder(rt: &HostRuntime, threads: &(impl Threads + Sync), words: Check<
         &mut writer,
     );
     end(rt, Ending::of_answer(answered, words.folder, STANDARD))
+}
+
+/// Writes what a simulated cluster leaves as a new folder, and on standard output that it did.
+fn simulate_folder(rt: &HostRuntime, words: Simulation<'_>) -> u8 {
+    if let Err(fault) = make_folder(rt, words.folder) {
+        return end_unwritten(rt, fault);
+    }
+    let evidence = match simulate(rt.alloc(), words.seed, words.events, words.switch) {
+        Ok(evidence) => evidence,
+        Err(SimulationFault::NotAtRest) => return end(rt, Ending::NotAtRest),
+        Err(SimulationFault::Limit) => return end(rt, Ending::Limit),
+        Err(SimulationFault::OutOfMemory) => return end(rt, Ending::OutOfMemory),
+    };
+    if let Err(fault) = write_evidence(rt, words.folder, &evidence) {
+        return end_unwritten(rt, fault);
+    }
+    let told = told_to(rt.alloc(), &evidence, &mut io::writer(rt));
+    end(rt, Ending::of_answer(told, words.folder, STANDARD))
+}
+
+/// Says why a folder wasn't written whole.
+fn end_unwritten(rt: &HostRuntime, fault: WritingFault) -> u8 {
+    match fault {
+        WritingFault::CannotWrite(path) => end(rt, Ending::CannotWrite(path.as_str())),
+        WritingFault::OutOfMemory => end(rt, Ending::OutOfMemory),
+    }
 }
 
 /// Answers about a segment from a file or from standard input, on standard output.

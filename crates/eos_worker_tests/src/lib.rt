@@ -1,0 +1,13 @@
+//! The tests of the check by workers, and of the tickets and gates that they work by.
+#![tactic(auto)]
+
+#[cfg(test)]
+mod build;
+#[cfg(test)]
+mod row_six;
+#[cfg(test)]
+mod tickets;
+#[cfg(test)]
+mod work_once;
+#[cfg(test)]
+mod workers;

@@ -1,0 +1,27 @@
+//! Where the files of evidence lie in its folder.
+
+use eos_evidence::End;
+use std::alloc::{AllocError, Global};
+
+/// The path of the manifest.
+pub(crate) fn manifest_path(alloc: Global, folder: &str) -> Result<String, AllocError> {
+    format!(in alloc; "{folder}/evidence.json")
+}
+
+/// The path of a partition's folder.
+pub(crate) fn partition_path(alloc: Global, folder: &str, end: &End) -> Result<String, AllocError> {
+    let topic = String::from_utf8_lossy(alloc, end.topic.as_slice())?;
+    let number = end.partition;
+    format!(in alloc; "{folder}/{topic}-{number}")
+}
+
+/// The path of a partition's segment whose first offset is this.
+pub(crate) fn segment_path(
+    alloc: Global,
+    folder: &str,
+    end: &End,
+    base: i64,
+) -> Result<String, AllocError> {
+    let partition = partition_path(alloc, folder, end)?;
+    format!(in alloc; "{partition}/{base:020}.log")
+}
