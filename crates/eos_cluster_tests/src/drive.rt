@@ -2,9 +2,10 @@
 
 use crate::shared::{PAIR, evidence_of, fault_of};
 use eos_board::OpenGate;
-use eos_check::{Counts, Verdict, check};
+use eos_check::{Verdict, check};
 use eos_cluster::{Cluster, Switch, Switches};
 use eos_drive::{Script, run_script, run_tail};
+use eos_evidence::Evidence;
 use std::alloc::Global;
 use std::test::Fail;
 
@@ -27,17 +28,34 @@ fn after_script(alloc: Global, seed: u64, length: u64) -> Result<Cluster, Fail> 
     Ok(cluster)
 }
 
-/// Whether the answer is yes with some of each.
-fn is_yes_of_some(verdict: &Verdict) -> bool {
+/// How many outputs so many inputs have: the one at offset o has o modulo 3.
+fn outputs_of(inputs: u64) -> u64 {
+    let mut outputs = 0u64;
+    for offset in 0..inputs {
+        outputs = outputs.saturating_add(offset % 3);
+    }
+    outputs
+}
+
+/// How many inputs there are, and how many outputs of them.
+fn all_of(evidence: &Evidence) -> (u64, u64) {
+    let mut inputs = 0u64;
+    let mut outputs = 0u64;
+    for end in evidence.spec().ends().as_slice() {
+        if end.topic.as_slice() == b"in".as_slice() {
+            let count = u64::try_from(end.end).unwrap_or(0);
+            inputs = inputs.saturating_add(count);
+            outputs = outputs.saturating_add(outputs_of(count));
+        }
+    }
+    (inputs, outputs)
+}
+
+/// The inputs and the outputs of a yes.
+fn counted(verdict: &Verdict) -> Option<(u64, u64)> {
     match verdict {
-        Verdict::Yes(
-            Counts {
-                transactions,
-                inputs,
-                outputs,
-            },
-        ) => *transactions > 0 && *inputs > 0 && *outputs > 0,
-        Verdict::No(_) => false,
+        Verdict::Yes(counts) => Some((counts.inputs, counts.outputs)),
+        Verdict::No(_) => None,
     }
 }
 
@@ -50,20 +68,24 @@ fn one_and_eight_workers_say_yes_of_a_script(rt: HostRuntime) -> Result<(), Fail
     let evidence = evidence_of(&cluster)?;
     assert_eq!(rt; evidence.spec().ends().as_slice().len(), 6);
     let one = check(rt.alloc(), &rt, &evidence, 1, &OpenGate)?;
-    assert!(rt; is_yes_of_some(&one));
+    let all = all_of(&evidence);
+    assert!(rt; all.1 > 0);
+    assert_eq!(rt; counted(&one), Some(all));
     let eight = check(rt.alloc(), &rt, &evidence, 8, &OpenGate)?;
     assert_eq!(rt; one, eight);
     Ok(())
 }
 
 #[test]
-fn scripts_of_other_seeds_leave_no_fault(rt: HostRuntime) -> Result<(), Fail> {
+fn scripts_of_other_seeds_process_all(rt: HostRuntime) -> Result<(), Fail> {
     for seed in 0..40u64 {
         let cluster = after_script(rt.alloc(), seed, 100)?;
         assert!(rt; cluster.at_rest());
+        let evidence = evidence_of(&cluster)?;
+        let verdict = check(rt.alloc(), &rt, &evidence, 1, &OpenGate)?;
         assert_eq!(rt;
-            fault_of(rt.alloc(), &rt, &cluster)?,
-            (0, 0),
+            counted(&verdict),
+            Some(all_of(&evidence)),
             "at seed {seed}"
         );
     }

@@ -8,6 +8,7 @@ mod dump;
 mod ending;
 mod fault;
 mod folder;
+mod help;
 mod lines;
 mod paths;
 mod run;

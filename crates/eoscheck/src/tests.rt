@@ -1,5 +1,7 @@
 //! The worked examples of `dump` and `chain`, and streams that fail. The bytes were made by another program.
 
+mod simulated;
+
 use super::chain::chain_to;
 use super::dump::dump_to;
 use super::fault::RunFault;

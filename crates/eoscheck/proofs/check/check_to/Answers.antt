@@ -1,5 +1,4 @@
 use Rattle.std.proofs.Common.{string_bytes}
-use Rattle.std.proofs.lemmas.Result.{err_from_is_err_and}
 use Rattle.eoscheck.proofs.check.check_to.Goals as goal
 
 pub returns-clause-ok : goal.returns-clause-ok

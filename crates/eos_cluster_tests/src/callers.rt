@@ -2,11 +2,11 @@
 
 ghost use Rattle.std.specs.Prelude.{◌≡◌, ◌≤◌, vec_len, IfOk};
 
-use eos_cluster::{Cluster, EvidenceRefusal};
+use crate::shared::{PAIR, evidence_of};
+use eos_cluster::Cluster;
 use eos_drive::{Script, run_threads};
-use eos_evidence::Evidence;
 use eos_history::{Finished, Pass, Shared};
-use eos_machine::{Config, Event};
+use eos_machine::Event;
 use std::alloc::{AllocError, Global};
 use std::marker::Brand;
 use std::sync::Wait;
@@ -14,25 +14,6 @@ use std::sync::ledger::{Blank, Ledger};
 use std::test::Fail;
 use std::thread;
 use std::thread::Threads;
-
-const PAIR: Config = Config {
-    applications: 2,
-    inputs: 2,
-    outputs: 2,
-    transaction_logs: 1,
-    segment_records: 16,
-};
-
-/// The evidence, where so few segments are sure to do.
-fn evidence_of(cluster: &Cluster) -> Result<Evidence, EvidenceRefusal> {
-    let config = cluster.config();
-    let segments = 2 * cluster.events() / config.segment_records as u64;
-    let partitions = 1 + config.transaction_logs + config.inputs + config.outputs;
-    if segments + partitions as u64 > 65536 {
-        return Err(EvidenceRefusal::OutOfMemory);
-    }
-    cluster.evidence()
-}
 
 /// How many entries came by the pass of this number.
 fn count_of(finished: &Finished, pass: u64) -> u64 {

@@ -1,9 +1,10 @@
 //! Any events in any order: what a simulated cluster leaves in its logs, as the checker sees it.
 
+use crate::shared::{SINGLE, evidence_of};
 use bytes::Bytes;
 use eos_batch::Kind;
 use eos_check::{Fault, Verdict, check_one};
-use eos_cluster::{Cluster, EvidenceRefusal};
+use eos_cluster::Cluster;
 use eos_evidence::Evidence;
 use eos_machine::{Claim, Config, Event, Reply};
 use rand_core::SeedableRng;
@@ -12,14 +13,6 @@ use rand_pcg::Lcg64Xsh32;
 use std::alloc::Global;
 use std::test::Fail;
 use std::thread::Threads;
-
-const SINGLE: Config = Config {
-    applications: 1,
-    inputs: 1,
-    outputs: 1,
-    transaction_logs: 1,
-    segment_records: 1,
-};
 
 const SEVERAL: Config = Config {
     applications: 3,
@@ -37,17 +30,6 @@ fn claim() -> Claim {
         output: 1,
         of: 1,
     }
-}
-
-/// The evidence, where so few segments are sure to do.
-fn evidence_of(cluster: &Cluster) -> Result<Evidence, EvidenceRefusal> {
-    let config = cluster.config();
-    let segments = 2 * cluster.events() / config.segment_records as u64;
-    let partitions = 1 + config.transaction_logs + config.inputs + config.outputs;
-    if segments + partitions as u64 > 65536 {
-        return Err(EvidenceRefusal::OutOfMemory);
-    }
-    cluster.evidence()
 }
 
 /// Whether a verdict names no fault of a partition, of the transaction log or between decisions and logs.

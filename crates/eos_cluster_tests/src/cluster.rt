@@ -1,5 +1,6 @@
 //! A simulated cluster: what it answers to short schedules, and its logs as evidence.
 
+use crate::shared::{PAIR, SINGLE, evidence_of};
 use bytes::Bytes;
 use eos_batch::{Kind, decode_segment};
 use eos_cluster::{Cluster, EvidenceRefusal, NewFault};
@@ -7,22 +8,6 @@ use eos_evidence::Evidence;
 use eos_machine::{Claim, Config, Event, Reply};
 use std::alloc::{AllocError, Global};
 use std::test::Fail;
-
-pub(crate) const PAIR: Config = Config {
-    applications: 2,
-    inputs: 2,
-    outputs: 2,
-    transaction_logs: 1,
-    segment_records: 16,
-};
-
-const SINGLE: Config = Config {
-    applications: 1,
-    inputs: 1,
-    outputs: 1,
-    transaction_logs: 1,
-    segment_records: 1,
-};
 
 const NONE: Config = Config {
     applications: 0,
@@ -48,7 +33,7 @@ fn start() -> Event {
     Event::Start { application: 0 }
 }
 
-pub(crate) fn deliver(message: u64) -> Event {
+fn deliver(message: u64) -> Event {
     Event::Deliver { message }
 }
 
@@ -74,17 +59,6 @@ fn answers(cluster: &mut Cluster, steps: Vec<(Event, Reply)>) -> bool {
         }
     }
     true
-}
-
-/// The evidence, where so few segments are sure to do.
-pub(crate) fn evidence_of(cluster: &Cluster) -> Result<Evidence, EvidenceRefusal> {
-    let config = cluster.config();
-    let segments = 2 * cluster.events() / config.segment_records as u64;
-    let partitions = 1 + config.transaction_logs + config.inputs + config.outputs;
-    if segments + partitions as u64 > 65536 {
-        return Err(EvidenceRefusal::OutOfMemory);
-    }
-    cluster.evidence()
 }
 
 /// The producer, the epoch, the sequence and the attributes of each batch of the i-th segment.
@@ -161,6 +135,18 @@ fn what_comes_after_an_end_is_answered(rt: HostRuntime) -> Result<(), Fail> {
     steps.push((deliver(99), Reply::Unknown))?;
     assert!(rt; answers(&mut cluster, steps));
     assert_eq!(rt; cluster.events(), 9);
+    Ok(())
+}
+
+#[test]
+fn a_new_session_fences_the_old_one(rt: HostRuntime) -> Result<(), Fail> {
+    let mut cluster = Cluster::new(rt.alloc(), PAIR)?;
+    let mut steps = Vec::new(rt.alloc());
+    steps.push((start(), Reply::Done(0)))?;
+    steps.push((produce(), Reply::Done(0)))?;
+    steps.push((start(), Reply::Done(1)))?;
+    steps.push((deliver(0), Reply::Fenced))?;
+    assert!(rt; answers(&mut cluster, steps));
     Ok(())
 }
 

@@ -1,0 +1,174 @@
+//! What `--help` says.
+
+pub(crate) const ABOUT: &str =
+    "Checks whether Kafka's promise of exactly once was kept, by the logs of the partitions";
+
+pub(crate) const CHECK: &str =
+    "Checks whether the promise of exactly once was kept in a folder of logs";
+
+pub(crate) const CHECK_ANSWERS: &str =
+    "FOLDER holds `evidence.json` (docs/EVIDENCE.md) and for each partition that it
+names in `ends` a folder TOPIC-N with the partition's segments, each a file of
+20 digits and `.log`, from offset 0 on. Other files are ignored.
+
+`yes transactions=T inputs=I outputs=O` (status 0) says of these logs: they are
+whole and fenced, no sequence is repeated or missing in a producer epoch, every
+transaction is committed in all its partitions or aborted in all, and the
+visible outputs are, for each input below its group's committed offset, its
+numbered outputs or one note, each once, from transactions that committed past
+it, and nothing else. It is said of the logs as they were given: that they are
+the cluster's whole logs, and that each output has the right value, is yours to
+know.
+
+`no PHASE.KIND NAME ..` (status 1) names the first fault; a phase counts only
+where those before it have none. With --json the same stands in an object.
+
+  1.1 BadBatch          no batch begins there: see `eoscheck dump --help`
+  1.2 Gap               another offset or segment than the next: a lost or
+                        misnamed file, or a compacted log
+  1.3 FirstSequence     a producer's epoch doesn't begin at sequence 0
+  1.4 Sequence          a sequence is missing or repeated
+  1.5 ZombieEpoch       a producer wrote with an older epoch than before
+  1.6 EpochWhileOpen    a new epoch began while a transaction was open
+  1.7 NoBump            an end marker has the epoch of its data: transaction
+                        version 2 was off
+  1.8 MixedProducer     a producer wrote both inside and outside transactions
+  1.9 MarkerKind        one transaction has both a commit and an abort
+  1.10 End              the log has another number of records than `ends` says
+  1.11 OpenAtEnd        a transaction is open at the end: collect later
+
+  2.1 BadRecord         a record of __transaction_state doesn't read
+  2.2 Step              a transaction's state may not follow the one before
+  2.3 SplitId           a transactional id stands in two partitions
+  2.4 SharedProducer    two transactional ids have one producer id
+  2.5 Unfinished        a transaction goes on at the end: collect later
+
+  3.1 TwiceDecided      a transaction was decided twice
+  3.2 Undecided         data of a transaction that nobody decided
+  3.3 WrongKind         data ended in another way than was decided
+  3.4 NotListed         data in a partition that its transaction doesn't list
+  3.5 StrayMarker       an end marker that nobody decided
+  3.6 AbsentPartition   a transaction lists a partition that isn't in `ends`
+  3.7 MissingMarker     a listed partition lacks the end marker
+
+  4.1 BadLineage        an output record lacks a lineage header, or it is wrong
+  4.2 BadOffset         a record of __consumer_offsets doesn't read
+  4.3 SplitGroup        a group's offsets stand in two partitions
+  4.4 OffsetDeleted     a committed offset was deleted
+
+  5.5 ForeignSource     an output names a topic that isn't a source
+  5.6 NoSuchInput       an output names an input that isn't there or was aborted
+  5.7 Early             an output of an input that isn't committed yet
+  5.8 CountDisagrees    two outputs of an input name different counts
+  5.9 NumberRange       an output's number isn't in 1 to its count
+  5.10 Repeated         an output stands twice: the input was processed twice
+  5.11 Missing          a committed input lacks an output
+  5.12 OtherTransaction an output from another transaction than one that
+                        committed past its input";
+
+pub(crate) const STATUSES: &str = "Exit status:
+  0  the answer is good: the verdict is yes, the listing ends at the end, the
+     chain is kept, or the folder was written
+  1  a fault was found, and the last line names it
+  2  the words are wrong, a file cannot be read or written, or it is larger than
+     a segment may be (2^30 bytes)
+  3  memory ran out
+
+A segment is one file of a partition's log as a Kafka broker keeps it, such as
+00000000000000000000.log: record batches (magic 2, not compressed), one after
+the other. Without words, eoscheck reads a segment from its standard input, as
+`eoscheck dump -` does.";
+
+pub(crate) const DUMP: &str =
+    "Prints the batches and records of a segment, or the first fault and its byte";
+
+pub(crate) const DUMP_COLUMNS: &str =
+    "For each batch a line, and after it a line for each of its records:
+
+  batch byte=B base=O count=N producer=P epoch=E sequence=S KIND
+  record offset=O key=X value=X headers=N
+
+  byte      where the batch begins in the file
+  base      the offset of its first record
+  count     how many records it has
+  producer  the producer id, epoch and base sequence; -1 where there is none
+  KIND      plain; txn, data of a transaction; commit or abort, the end marker
+            of one; control, another control batch
+  key       a key or a value in hexadecimal digits, or null
+  headers   how many headers the record has
+
+The last line is `end bytes=N` (status 0), or `bad byte=B NAME` (status 1),
+where no batch begins at byte B:
+
+  Truncated   the bytes end before the batch does
+  Length      the batch's length is below that of an empty batch
+  Magic       another format than magic 2
+  Crc         the checksum differs
+  Compressed  the records are compressed
+  Count       the number of records and the offsets don't fit each other
+  Varint      a number in a record has no end, or is too long
+  Record      a length in a record is wrong, or bytes of it are left
+  Delta       a record's offset isn't its place in the batch
+  Trailing    bytes are left after the last record
+  Control     a control batch that isn't one control record
+  Producer    a producer id or epoch is below 0 where it may not be";
+
+pub(crate) const CHAIN: &str =
+    "Checks that no sequence is missing or repeated in a segment, and that zombies are fenced";
+
+pub(crate) const CHAIN_ANSWERS: &str =
+    "The segment is taken for a whole partition that begins at its first batch: a
+later segment of a good log often answers FirstSequence, since what its
+producers wrote before isn't in it. So does a segment of __consumer_offsets
+with transactions, since Kafka gives no sequences there.
+
+The answer is `ok batches=N producers=N` (status 0), with the number of unequal
+producer ids, or the first fault, `no 1.K NAME offset=O ..` (status 1). O is
+the offset at which it stands, and there follow
+
+  segment= byte= batch=  for BadBatch: the segment's first offset, the byte at
+                         which no batch begins, and why, in the words of `dump`
+  found=                 for Gap: the offset of the batch that stands there
+  producer=              for the others: the producer id
+
+  1.1 BadBatch        no batch begins there (see `eoscheck dump --help`)
+  1.2 Gap             another offset than the next one stands there
+  1.3 FirstSequence   a producer's epoch doesn't begin at sequence 0
+  1.4 Sequence        a sequence is missing or repeated
+  1.5 ZombieEpoch     a producer wrote with an older epoch than before
+  1.6 EpochWhileOpen  a new epoch began while a transaction was open
+  1.7 NoBump          an end marker has the epoch of its data
+  1.8 MixedProducer   a producer wrote both inside and outside transactions
+  1.9 MarkerKind      one transaction has both a commit and an abort";
+
+pub(crate) const SIMULATE: &str =
+    "Writes a folder of logs as a simulated cluster leaves it, for `check`";
+
+pub(crate) const SIMULATE_WRITES: &str =
+    "The cluster is a simulation in this process, without a network and a clock: two
+applications of one group read the topic `in` and write `out`, of two partitions
+each, in transactions. A script of N words, drawn from the seed, says what
+happens: inputs come in, requests are lost and come twice, sessions are
+abandoned and go on as zombies, transactions are aborted, the members of the
+group change, brokers and the coordinator restart. Then what is left is
+processed, and the cluster comes to rest. The same seed and N give the same
+bytes on every machine.
+
+FOLDER must not be there. It gets `evidence.json` and a folder for each
+partition, with segments of 16 records. `wrote partitions=6` (status 0) says
+that all of it was written; `eoscheck check FOLDER` then says yes, and
+`eoscheck dump` lists what stands in a segment.
+
+With --switch the cluster breaks one rule in a few events after the script, as a
+bad broker or coordinator would. `check` then says no, by this fault:
+
+  keep-duplicates    1.4 Sequence     a record that came twice stands twice
+  no-fence           1.5 ZombieEpoch  a zombie writes after a newer epoch
+  no-bump            1.7 NoBump       end markers have the epoch of the data
+  lose-marker        1.11 OpenAtEnd   end markers are missing in the logs
+  swap-marker        3.3 WrongKind    out-1 has an abort where out-0 has a commit
+  hide-listing       3.4 NotListed    transactions don't list out-1, but write it
+  ignore-generation  5.10 Repeated    two members process the same input
+
+It shows what a fault looks like and that the checker finds it, and says nothing
+of real brokers.";
