@@ -2,7 +2,7 @@
 
 ghost use Rattle.std.specs.Prelude.{◌≡◌};
 ghost use Rattle.eos_base.specs.declared.record_fault.RecordFault.TheVariants.{OutOfMemory};
-ghost use Rattle.eos_base.specs.FaultNames.{record_fault_name};
+ghost use Rattle.eos_base.specs.FaultNames.{record_fault_name, record_number};
 
 use std::alloc::{AllocError, AllocFailed};
 use thiserror::Error;
@@ -27,6 +27,20 @@ pub enum RecordFault {
 }
 
 impl RecordFault {
+    /// The fault's number, from 1 to 6, by which faults of one place and kind are ordered.
+    pub fn number(self) -> u8
+        ensures { result ≡ record_number self }
+    {
+        match self {
+            RecordFault::Short => 1,
+            RecordFault::Version => 2,
+            RecordFault::Status => 3,
+            RecordFault::Length => 4,
+            RecordFault::Trailing => 5,
+            RecordFault::OutOfMemory => 6,
+        }
+    }
+
     /// The fault's name, as a verdict prints it.
     pub fn name(self) -> &'static str
         ensures { result.now ≡ record_fault_name self }

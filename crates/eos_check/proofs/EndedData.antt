@@ -17,7 +17,8 @@ use Rattle.eos_touch.specs.declared.touch.Touch.TheVariants.{Data, End}
 use Rattle.eos_touch.specs.Pair.{is_open, mixed_producer}
 use Rattle.eos_touch.specs.Neighbours.{EachAfter, Accepts}
 use Rattle.eos_touch.proofs.TableRows.{is_clean}
-use Rattle.eos_fold.specs.Touches.{data_touch, end_touch, touch_of, touch_in, touches_of, last_of, last_touch}
+use Rattle.eos_touch.specs.Touches.{data_touch, end_touch, touch_of}
+use Rattle.eos_fold.specs.Touches.{touch_in, touches_of, last_of, last_touch}
 use Rattle.eos_fold.specs.Fronts.{listed, markers_of}
 use Rattle.eos_fold.specs.Standing.{IsOpen}
 use Rattle.eos_check.specs.PartitionRules.{IsTransactional, HasMarker}

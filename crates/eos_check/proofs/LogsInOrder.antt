@@ -22,10 +22,9 @@ use Rattle.eos_evidence.specs.declared.ends.End.{End}
 use Rattle.eos_evidence.specs.declared.partition.Partition.{Partition}
 use Rattle.eos_evidence.specs.Ends.{end_cmp}
 use Rattle.eos_evidence.specs.Evidence.{EvidenceParts, IsEvidence}
-use Rattle.eos_fold.specs.Parts.{PartLog, Rises}
+use Rattle.eos_fold.specs.Parts.{part_name, PartLog, Rises}
 use Rattle.eos_table.specs.TransactionLog.{is_transaction_part, transaction_parts}
 use Rattle.eos_table.specs.TransactionLog as table
-use Rattle.eos_commits.specs.Visible.{part_name}
 use Rattle.eos_commits.specs.Faults as commits
 use Rattle.eos_check.specs.Good.{IsLogOf, AreLogsOf}
 

@@ -15,7 +15,8 @@ use Rattle.eos_touch.specs.Rules.{Sequenced, Fenced}
 use Rattle.eos_touch.specs.Neighbours.{HasRecords, EachAfter, Accepts, IsSequencedIf}
 use Rattle.eos_touch.proofs.TableRows.{IsClean, is_clean, is_accepted}
 use Rattle.eos_touch.proofs.NeighboursLaw.{law}
-use Rattle.eos_fold.specs.Touches.{touch_of, touch_in, touches_of, last_of, last_touch}
+use Rattle.eos_touch.specs.Touches.{touch_of}
+use Rattle.eos_fold.specs.Touches.{touch_in, touches_of, last_of, last_touch}
 use Rattle.eos_fold.proofs.GoodSegment.{touch_has_records}
 use Rattle.eos_fold.proofs.TouchLists.{last_touch-push_none, last_touch-push, touches_of-append}
 

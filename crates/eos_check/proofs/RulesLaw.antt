@@ -110,7 +110,7 @@ ended topic number end bs stop right none before b after e t =
     here : Touch
     here = Data b.epoch true b.sequence (length b.records)
 
-    says : Rattle.eos_fold.specs.Touches.touch_of b ≡ Some (b.producer, here)
+    says : Rattle.eos_touch.specs.Touches.touch_of b ≡ Some (b.producer, here)
     says = data_says b (right_at before b after (subst EachRight e right)).producer t
 
     cut : touches_of b.producer bs ≡ touches_of b.producer before ++ (here ∷ touches_of b.producer after)

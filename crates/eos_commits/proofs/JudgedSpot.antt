@@ -17,7 +17,8 @@ use Rattle.eos_commits.specs.declared.fault.VisibleFaultKind.TheVariants.{BadLin
 use Rattle.eos_commits.specs.Visible.{is_visible}
 use Rattle.eos_commits.specs.Commits.{Group, Topic, is_offsets_part, key_of, value_of, IsUnderGroup}
 use Rattle.eos_commits.specs.Kept.{is_output_part}
-use Rattle.eos_commits.specs.Faults.{rank, detail_of, record_number}
+use Rattle.eos_base.specs.FaultNames.{record_number}
+use Rattle.eos_commits.specs.Faults.{rank, detail_of}
 use Rattle.eos_commits.specs.steps.Roles.{RoleSets, source_cmp, sources_of}
 use Rattle.eos_commits.specs.steps.Walks.{Homes, home_of, is_below, with_home, Judged, kind_of_value, judged, judge_key, judge_visible, judge_item, is_none, role_of}
 use Rattle.eos_commits.proofs.RoleSearch.{found_is_read, read_is_found}

@@ -8,13 +8,13 @@ use Rattle.std.proofs.lemmas.Cmp.{int_ranked}
 use Rattle.eos_base.specs.declared.record_fault.RecordFault.{RecordFault}
 use Rattle.eos_base.specs.Least.{NoneStands}
 use Rattle.eos_evidence.specs.declared.application.App.{App}
-use Rattle.eos_fold.specs.Parts.{PartLog}
+use Rattle.eos_fold.specs.Parts.{part_name, PartLog}
 use Rattle.eos_claims.specs.declared.claim.Claim.{Claim}
 use Rattle.eos_claims.specs.Headers.{claim_of}
 use Rattle.eos_commits.specs.declared.fault.VisibleFault.{VisibleFault}
 use Rattle.eos_commits.specs.declared.fault.VisibleFaultKind.{VisibleFaultKind}
 use Rattle.eos_commits.specs.declared.fault.VisibleFaultKind.TheVariants.{BadLineage, BadOffset, SplitGroup, OffsetDeleted}
-use Rattle.eos_commits.specs.Visible.{part_name, VisibleIn}
+use Rattle.eos_commits.specs.Visible.{VisibleIn}
 use Rattle.eos_commits.specs.Commits.{Group, offsets_parts, value_of, IsUnderGroup}
 use Rattle.eos_commits.specs.Kept.{OutputsClaim, RecordsKept}
 use Rattle.eos_commits.specs.Faults.{AtRecord, StandsAs, Stands}

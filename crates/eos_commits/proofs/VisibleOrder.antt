@@ -6,30 +6,12 @@ use Rattle.std.proofs.lemmas.Cmp.{nat_cmp_total, on_total, then_total}
 use Rattle.eos_base.specs.Least.{IsExact}
 use Rattle.eos_base.specs.PartitionNames.{name_cmp}
 use Rattle.eos_base.specs.declared.record_fault.RecordFault.{RecordFault}
-use Rattle.eos_base.specs.declared.record_fault.RecordFault.TheVariants as records
+use Rattle.eos_base.proofs.RecordFaults.{nth, record_of, record_back}
 use Rattle.eos_base.proofs.Exact.{then_parts, nat_exact}
 use Rattle.eos_base.proofs.NamesInOrder.{name_total, name_exact}
 use Rattle.eos_commits.specs.declared.fault.VisibleFaultKind.{VisibleFaultKind}
 use Rattle.eos_commits.specs.declared.fault.VisibleFaultKind.TheVariants.{BadLineage, BadOffset, SplitGroup, OffsetDeleted}
-use Rattle.eos_commits.specs.Faults.{rank, detail_of, record_number, visible_cmp}
-
--- the n-th of a list, from 1, or else the given one
-abbrev nth : {X : Type 0} → X → List X → ℕ → X
-nth d [] n = d
-nth d (x ∷ xs) zero = d
-nth d (x ∷ xs) (suc zero) = x
-nth d (x ∷ xs) (suc (suc n)) = nth d xs (suc n)
-
-abbrev record_of : ℕ → RecordFault
-record_of = nth records.Short (records.Short ∷ records.Version ∷ records.Status ∷ records.Length ∷ records.Trailing ∷ records.OutOfMemory ∷ [])
-
-record_back : (e : RecordFault) → record_of (record_number e) ≡ e
-record_back records.Short = refl
-record_back records.Version = refl
-record_back records.Status = refl
-record_back records.Length = refl
-record_back records.Trailing = refl
-record_back records.OutOfMemory = refl
+use Rattle.eos_commits.specs.Faults.{rank, detail_of, visible_cmp}
 
 -- the kind of this number and refusal
 abbrev made : ℕ → ℕ → VisibleFaultKind

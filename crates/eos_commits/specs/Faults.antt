@@ -5,17 +5,17 @@ use Rattle.std.specs.Ordering.{nat_cmp, on, then_cmp}
 use Rattle.std.specs.declared.cmp.Ordering.{Ordering}
 use Rattle.std.specs.declared.cmp.Ordering.TheVariants.{Less}
 use Rattle.eos_base.specs.declared.record_fault.RecordFault.{RecordFault}
-use Rattle.eos_base.specs.declared.record_fault.RecordFault.TheVariants as records
+use Rattle.eos_base.specs.FaultNames.{record_number}
 use Rattle.eos_base.specs.PartitionNames.{name_cmp}
 use Rattle.eos_base.specs.Members.{Has}
 use Rattle.eos_evidence.specs.declared.application.App.{App}
 use Rattle.eos_items.specs.declared.item.Item.{Item}
-use Rattle.eos_fold.specs.Parts.{PartLog, Rises}
+use Rattle.eos_fold.specs.Parts.{part_name, PartLog, Rises}
 use Rattle.eos_claims.specs.Headers.{claim_of}
 use Rattle.eos_commits.specs.declared.fault.VisibleFault.{VisibleFault}
 use Rattle.eos_commits.specs.declared.fault.VisibleFaultKind.{VisibleFaultKind}
 use Rattle.eos_commits.specs.declared.fault.VisibleFaultKind.TheVariants.{BadLineage, BadOffset, SplitGroup, OffsetDeleted}
-use Rattle.eos_commits.specs.Visible.{part_name, VisibleIn}
+use Rattle.eos_commits.specs.Visible.{VisibleIn}
 use Rattle.eos_commits.specs.Commits.{Group, offsets_parts, key_of, value_of, IsUnderGroup}
 use Rattle.eos_commits.specs.Kept.{output_parts}
 
@@ -54,14 +54,6 @@ rank BadLineage = 1
 rank (BadOffset fault) = 2
 rank SplitGroup = 3
 rank OffsetDeleted = 4
-
-abbrev pub record_number : RecordFault → ℕ
-record_number records.Short = 1
-record_number records.Version = 2
-record_number records.Status = 3
-record_number records.Length = 4
-record_number records.Trailing = 5
-record_number records.OutOfMemory = 6
 
 -- the refusal that is printed
 abbrev pub detail_of : VisibleFaultKind → ℕ

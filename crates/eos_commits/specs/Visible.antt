@@ -18,9 +18,6 @@ is_visible (Waiting producer) = false
 abbrev pub visible : PartLog → List Item
 visible p = filter (λ x. is_visible x.fate) p.items
 
-abbrev pub part_name : PartLog → PartitionName
-part_name p = record { topic = p.topic; partition = p.number }
-
 -- one visible record of these partitions
 pub record VisibleIn (ps : List PartLog) : Type 0 where
   pub part : PartLog

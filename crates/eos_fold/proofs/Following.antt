@@ -4,7 +4,8 @@ use Rattle.eos_batch.specs.declared.batch.Batch.{Batch}
 use Rattle.eos_touch.specs.declared.touch.Touch.{Touch}
 use Rattle.eos_touch.specs.Pair.{NoneStands}
 use Rattle.eos_touch.specs.Neighbours.{Accepts}
-use Rattle.eos_fold.specs.Touches.{touch_of, last_touch}
+use Rattle.eos_touch.specs.Touches.{touch_of}
+use Rattle.eos_fold.specs.Touches.{last_touch}
 use Rattle.eos_fold.specs.Walks.{MayFollow}
 
 pub follows_none : (before : List Batch) (b : Batch) → touch_of b ≡ None → MayFollow before b

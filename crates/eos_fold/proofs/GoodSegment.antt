@@ -16,7 +16,8 @@ use Rattle.eos_touch.specs.declared.touch.Touch.TheVariants.{Data, End}
 use Rattle.eos_touch.specs.Rules.{Sequenced, Fenced}
 use Rattle.eos_touch.specs.Neighbours.{HasRecords, EachAfter, Accepts}
 use Rattle.eos_touch.proofs.NeighboursLaw.{law}
-use Rattle.eos_fold.specs.Touches.{data_touch, end_touch, touch_of, touch_in, touches_of, last_touch}
+use Rattle.eos_touch.specs.Touches.{data_touch, end_touch, touch_of}
+use Rattle.eos_fold.specs.Touches.{touch_in, touches_of, last_touch}
 use Rattle.eos_fold.specs.Walks.{MayFollow, EachMayFollow}
 use Rattle.eos_fold.proofs.TouchLists.{last_touch-push_none, last_touch-push}
 

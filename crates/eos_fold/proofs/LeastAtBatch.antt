@@ -8,7 +8,8 @@ use Rattle.eos_fold.specs.declared.fault.PartitionFault.{PartitionFault}
 use Rattle.eos_fold.specs.declared.fault.PartitionFaultKind.{PartitionFaultKind}
 use Rattle.eos_fold.specs.declared.fault.PartitionFaultKind.TheVariants.{BadBatch, Gap, Pair, End, OpenAtEnd}
 use Rattle.eos_fold.specs.Names.{number_of}
-use Rattle.eos_fold.specs.Touches.{touch_of, last_touch}
+use Rattle.eos_touch.specs.Touches.{touch_of}
+use Rattle.eos_fold.specs.Touches.{last_touch}
 use Rattle.eos_fold.specs.Front.{offset_of, next_offset, IsContinuous}
 use Rattle.eos_fold.specs.Faults.{StandsAtBatch}
 use Rattle.eos_fold.specs.Walks.{MayFollow, EachMayFollow, IsLeastPair, IsLeastAtBatch}

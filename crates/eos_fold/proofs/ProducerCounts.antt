@@ -11,7 +11,8 @@ use Rattle.std.proofs.lemmas.List.Folds.{list_any-append}
 use Rattle.std.proofs.lemmas.Map.Keys.{IsDistinct-push}
 use Rattle.eos_batch.specs.declared.batch.Batch.{Batch}
 use Rattle.eos_touch.specs.declared.touch.Touch.{Touch}
-use Rattle.eos_fold.specs.Touches.{touch_of, last_touch, IsProducerCount}
+use Rattle.eos_touch.specs.Touches.{touch_of}
+use Rattle.eos_fold.specs.Touches.{last_touch, IsProducerCount}
 use Rattle.eos_fold.proofs.TouchLists.{last_touch-push_none, last_touch-push}
 
 pub count-push_none : (bs : List Batch) (b : Batch) (n : ℕ) → touch_of b ≡ None → IsProducerCount bs n → IsProducerCount (bs ++ b ∷ []) n

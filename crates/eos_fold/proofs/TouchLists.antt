@@ -4,7 +4,8 @@ use Rattle.std.specs.Option.{option_or}
 use Rattle.std.specs.Ordering.{int_eq, int_cmp, is_eq}
 use Rattle.eos_batch.specs.declared.batch.Batch.{Batch}
 use Rattle.eos_touch.specs.declared.touch.Touch.{Touch}
-use Rattle.eos_fold.specs.Touches.{touch_of, touch_in, touches_of, last_of, last_touch}
+use Rattle.eos_touch.specs.Touches.{touch_of}
+use Rattle.eos_fold.specs.Touches.{touch_in, touches_of, last_of, last_touch}
 
 pub append-nil : {X : Type 0} (xs : List X) → xs ++ [] ≡ xs
 append-nil [] = refl

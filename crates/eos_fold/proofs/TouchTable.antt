@@ -5,7 +5,8 @@ use Rattle.std.specs.Ordering.{int_eq, int_cmp, is_eq}
 use Rattle.std.specs.BTreeMap.{BTreeMap, get, btree_map_len}
 use Rattle.eos_batch.specs.declared.batch.Batch.{Batch}
 use Rattle.eos_touch.specs.declared.touch.Touch.{Touch}
-use Rattle.eos_fold.specs.Touches.{touch_of, last_touch, IsProducerCount}
+use Rattle.eos_touch.specs.Touches.{touch_of}
+use Rattle.eos_fold.specs.Touches.{last_touch, IsProducerCount}
 use Rattle.eos_fold.specs.Walks.{HasLast}
 use Rattle.eos_fold.proofs.TouchLists.{last_touch-push, last_touch-push_none}
 use Rattle.eos_fold.proofs.ProducerCounts.{count-push, count-push_none}

@@ -15,7 +15,8 @@ use Rattle.eos_summary.specs.Touches.{head_of, heads_of}
 use Rattle.eos_summary.specs.Whole.{StandsFirst, StandsInWhole, IsLeftOpen}
 use Rattle.eos_summary.proofs.HeadLists.{last_touch-append}
 use Rattle.eos_fold.specs.Front.{offset_of}
-use Rattle.eos_fold.specs.Touches.{touch_of, touch_in, touches_of, last_of, last_touch}
+use Rattle.eos_touch.specs.Touches.{touch_of}
+use Rattle.eos_fold.specs.Touches.{touch_in, touches_of, last_of, last_touch}
 use Rattle.eos_fold.specs.Standing.{StandsAtTouch, IsOpen}
 use Rattle.eos_fold.proofs.TouchLists.{append-nil}
 

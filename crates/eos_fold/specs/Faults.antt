@@ -10,7 +10,8 @@ use Rattle.eos_fold.specs.declared.fault.PartitionFault.{PartitionFault}
 use Rattle.eos_fold.specs.declared.fault.PartitionFaultKind.{PartitionFaultKind}
 use Rattle.eos_fold.specs.declared.fault.PartitionFaultKind.TheVariants.{BadBatch, Gap, Pair, End, OpenAtEnd}
 use Rattle.eos_fold.specs.Names.{number_of}
-use Rattle.eos_fold.specs.Touches.{touch_of, last_touch}
+use Rattle.eos_touch.specs.Touches.{touch_of}
+use Rattle.eos_fold.specs.Touches.{last_touch}
 use Rattle.eos_fold.specs.Front.{offset_of, begin_of, next_offset, IsContinuous, IsBeginning, IsNext}
 
 -- the bytes after these batches are no batch

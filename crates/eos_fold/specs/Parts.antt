@@ -3,6 +3,7 @@
 use Rattle.std.specs.Prelude.{◌≡◌, ◌<◌, ℕ, ℤ, true, List, Option}
 use Rattle.std.specs.List.{AllPairs}
 use Rattle.std.specs.Ordering.{is_lt}
+use Rattle.eos_base.specs.declared.partition_name.PartitionName.{PartitionName}
 use Rattle.eos_batch.specs.declared.marker.Marker.{Marker}
 use Rattle.eos_items.specs.declared.item.Item.{Item}
 use Rattle.eos_fold.specs.declared.close.Close.{Close}
@@ -19,6 +20,9 @@ pub record PartLog : Type 0 where
   pub items : List Item
   pub closes : List Close
   pub markers : List Marker
+
+abbrev pub part_name : PartLog → PartitionName
+part_name p = record { topic = p.topic; partition = p.number }
 
 -- offsets rise strictly
 abbrev pub Rises : List Item → Type 0

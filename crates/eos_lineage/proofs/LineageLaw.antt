@@ -14,14 +14,14 @@ use Rattle.eos_base.proofs.Decides.{differs}
 use Rattle.eos_base.proofs.LeastOf.{both_least, one_least}
 use Rattle.eos_base.proofs.Membership.{flat_has, map_has, filter_has, found_has}
 use Rattle.eos_evidence.specs.declared.application.App.{App}
-use Rattle.eos_fold.specs.Parts.{PartLog}
+use Rattle.eos_fold.specs.Parts.{part_name, PartLog}
 use Rattle.eos_claims.specs.declared.place.Place.{Place}
 use Rattle.eos_claims.specs.declared.fault.OutputFault.{OutputFault}
 use Rattle.eos_claims.specs.Outputs.{ReadsSources}
 use Rattle.eos_claims.specs.Faults as outputs
 use Rattle.eos_claims.proofs.OutputsLaw.{law as outputs_law}
 use Rattle.eos_claims.proofs.FaultOrder.{fault_total, fault_exact}
-use Rattle.eos_commits.specs.Visible.{visible, part_name}
+use Rattle.eos_commits.specs.Visible.{visible}
 use Rattle.eos_commits.specs.Commits.{Group, is_same}
 use Rattle.eos_commits.specs.Faults as records
 use Rattle.eos_commits.specs.declared.fault.VisibleFault.{VisibleFault}

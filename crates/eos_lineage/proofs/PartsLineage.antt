@@ -13,7 +13,7 @@ use Rattle.eos_base.specs.PartitionNames.{name_cmp}
 use Rattle.eos_base.proofs.NamesInOrder.{name_total}
 use Rattle.eos_base.proofs.Membership.{append_cases, flat_has, map_has, has_map, filter_has, only}
 use Rattle.eos_items.specs.declared.item.Item.{Item}
-use Rattle.eos_fold.specs.Parts.{PartLog, Rises}
+use Rattle.eos_fold.specs.Parts.{part_name, PartLog, Rises}
 use Rattle.eos_evidence.specs.declared.application.App.{App}
 use Rattle.eos_claims.specs.declared.claim.Claim.{Claim}
 use Rattle.eos_claims.specs.declared.place.Place.{Place}
@@ -25,7 +25,7 @@ use Rattle.eos_claims.specs.Candidates.{AreApart}
 use Rattle.eos_claims.specs.Plain.{plain_place}
 use Rattle.eos_claims.proofs.ClaimOrder.{nat_less}
 use Rattle.eos_claims.proofs.FaultOrder.{place_total}
-use Rattle.eos_commits.specs.Visible.{is_visible, visible, part_name}
+use Rattle.eos_commits.specs.Visible.{is_visible, visible}
 use Rattle.eos_commits.specs.Faults.{AreInOrder}
 use Rattle.eos_lineage.specs.Lineage.{Topic, is_part_of, parts_of, place_in, inputs_in, claims_with, claims_at, claims_in, placed, application_of}
 use Rattle.eos_lineage.specs.steps.Tables.{AreAscending}

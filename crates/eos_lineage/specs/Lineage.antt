@@ -7,13 +7,13 @@ use Rattle.eos_base.specs.Members.{Has, is_found}
 use Rattle.eos_base.specs.declared.partition_name.PartitionName.{PartitionName}
 use Rattle.eos_evidence.specs.declared.application.App.{App}
 use Rattle.eos_items.specs.declared.item.Item.{Item}
-use Rattle.eos_fold.specs.Parts.{PartLog}
+use Rattle.eos_fold.specs.Parts.{part_name, PartLog}
 use Rattle.eos_claims.specs.declared.place.Place.{Place}
 use Rattle.eos_claims.specs.declared.claim.Claim.{Claim}
 use Rattle.eos_claims.specs.Headers.{claim_of}
 use Rattle.eos_claims.specs.Outputs.{PlacedClaim, Application, Exact}
 use Rattle.eos_claims.specs.Candidates.{is_committed}
-use Rattle.eos_commits.specs.Visible.{visible, part_name}
+use Rattle.eos_commits.specs.Visible.{visible}
 use Rattle.eos_commits.specs.Commits.{commits_of}
 use Rattle.eos_commits.specs.Kept.{RecordsKept}
 

@@ -8,7 +8,7 @@ ghost use Rattle.eos_claims.specs.Faults.{fault_cmp};
 ghost use Rattle.eos_claims.specs.Candidates.{AreApart, unclaimed, is_committed as is_committed_in};
 ghost use Rattle.eos_claims.specs.Plain.{plain_place, plain_fault, plain_claim};
 ghost use Rattle.eos_commits.specs.Faults.{AreInOrder};
-ghost use Rattle.eos_commits.specs.Visible.{part_name};
+ghost use Rattle.eos_fold.specs.Parts.{part_name};
 ghost use Rattle.eos_lineage.specs.Lineage.{application_of, inputs_below};
 ghost use Rattle.eos_lineage.specs.steps.Walks.{one_if, AreTables, AreNamed, by_claim, claims_of_part, is_no_note, IsOutputsAnswer};
 

@@ -3,7 +3,7 @@
 ghost use Rattle.std.specs.Prelude.{◌≡◌, ◌+◌, true, map, IfOk};
 ghost use Rattle.eos_base.specs.Least.{NoneStands};
 ghost use Rattle.eos_commits.specs.Faults.{AreInOrder, Stands as StandsAtRecord};
-ghost use Rattle.eos_commits.specs.Visible.{part_name};
+ghost use Rattle.eos_fold.specs.Parts.{part_name};
 ghost use Rattle.eos_evidence.specs.Parts.{groups_of};
 ghost use Rattle.eos_evidence.specs.Topics.{are_unequal};
 ghost use Rattle.eos_lineage.specs.Faults.{named_group, IsAnswer};

@@ -3,7 +3,7 @@
 ghost use Rattle.std.specs.Prelude.{◌≡◌, ◌≤◌, ◌*◌, ◌++◌, ◌∷◌, [], ℕ, List, flat_map, map, take, drop, length, IfOk, OnOk};
 ghost use Rattle.eos_claims.specs.Outputs.{Application, PlacedClaim};
 ghost use Rattle.eos_claims.specs.Plain.{plain_claim, plain_lent};
-ghost use Rattle.eos_commits.specs.Visible.{part_name};
+ghost use Rattle.eos_fold.specs.Parts.{part_name};
 ghost use Rattle.eos_lineage.specs.steps.Walks.{kept_of, counted_ref, AreTables, HasWalked, plain_walk, begun, placed_ref, claim_at, claims_of_part, joined_walk, EachWalked, in_turn};
 
 use crate::tables::{Known, Marks, Tables, known_of, tests_of};

@@ -2,7 +2,7 @@
 
 ghost use Rattle.std.specs.Prelude.{◌≡◌, ◌++◌, map, flat_map, IfOk, OnOk};
 ghost use Rattle.eos_claims.specs.Plain.{plain_place};
-ghost use Rattle.eos_commits.specs.Visible.{part_name};
+ghost use Rattle.eos_fold.specs.Parts.{part_name};
 ghost use Rattle.eos_lineage.specs.steps.Walks.{input_at, inputs_at};
 
 use eos_base::PartitionName;

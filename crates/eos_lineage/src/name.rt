@@ -2,7 +2,7 @@
 
 ghost use Rattle.std.specs.Prelude.{◌≡◌, Some, map, slice_get, IfOk, IfSome, IfNone};
 ghost use Rattle.eos_base.specs.Members.{Has};
-ghost use Rattle.eos_commits.specs.Visible.{part_name};
+ghost use Rattle.eos_fold.specs.Parts.{part_name};
 ghost use Rattle.eos_lineage.specs.steps.Tables.{plain_name, AreAscending};
 
 use eos_base::PartitionName;

@@ -22,10 +22,11 @@ use Rattle.eos_summary.specs.Closes.{CloseOf, close_by, close_of, closes_of}
 use Rattle.eos_summary.specs.Touches.{head_of, heads_of}
 use Rattle.eos_fold.specs.declared.close.Close.{Close}
 use Rattle.eos_fold.specs.Fronts.{listed, markers_of}
-use Rattle.eos_fold.specs.Parts.{PartLog}
-use Rattle.eos_fold.specs.Touches.{touch_of}
+use Rattle.eos_fold.specs.Parts.{part_name, PartLog}
+use Rattle.eos_touch.specs.Touches.{touch_of}
 use Rattle.eos_fold.specs.Whole.{as_close, closes_in}
-use Rattle.eos_table.specs.Atomic.{part_name, listed_names, IsOf, EndsAs, Ends, AreOfOne, NoTwo, Atomic}
+use Rattle.eos_txnlog.specs.PartitionSets.{names_of}
+use Rattle.eos_table.specs.Atomic.{IsOf, EndsAs, Ends, AreOfOne, NoTwo, Atomic}
 use Rattle.eos_table.specs.TransactionLog.{transaction_parts}
 use Rattle.eos_table.specs.TransactionLog as table
 use Rattle.eos_machine.specs.declared.config.Config.{Config}
@@ -254,13 +255,13 @@ is_atomic c w ls s at = record { once = once c w ls s at; decided = decided; mar
 
     -- a decision that lists the place
     listing : (q a m : ℕ) (k : Kind) (l : PartLog) → IsLog c w q l → (o : IsOrdered (decisions_of c w a) q m k)
-        → Has (table.decisions_of (transaction_parts ls)) (as_decision c a o.decision) × Has (listed_names (by_topic c o.decision.partitions)) (part_name l)
+        → Has (table.decisions_of (transaction_parts ls)) (as_decision c a o.decision) × Has (names_of (by_topic c o.decision.partitions)) (part_name l)
     listing q a m k l h o = (
       all_decisions c w ls a o.decision s at (has_contained (decisions_of c w a) o.decision o.member),
-      subst (Has (listed_names (by_topic c o.decision.partitions))) (sym (name_is c w q l h)) (at_listed c o.decision.partitions q (has_contained o.decision.partitions q o.listed)),
+      subst (Has (names_of (by_topic c o.decision.partitions))) (sym (name_is c w q l h)) (at_listed c o.decision.partitions q (has_contained o.decision.partitions q o.listed)),
     )
 
-    decided : (l : PartLog) (cl : Close) → Has ls l → Has l.closes cl → (d : Decision) × Has (table.decisions_of (transaction_parts ls)) d × IsOf d cl × EndsAs d cl × Has (listed_names d.partitions) (part_name l)
+    decided : (l : PartLog) (cl : Close) → Has ls l → Has l.closes cl → (d : Decision) × Has (table.decisions_of (transaction_parts ls)) d × IsOf d cl × EndsAs d cl × Has (names_of d.partitions) (part_name l)
     decided l cl h m =
         let r = in_logs c w 0 (place_count c) ls at l h in
         let f = map_has as_close (closes_of (heads_of (log_batches c w r.0))) cl ((r.3.closes.members cl).0 m) in
@@ -274,11 +275,11 @@ is_atomic c w ls s at = record { once = once c w ls s at; decided = decided; mar
           x.1,
         )
 
-    marked : (d : Decision) (n : PartitionName) → Has (table.decisions_of (transaction_parts ls)) d → Has (listed_names d.partitions) n → (l : PartLog) × Has ls l × (part_name l ≡ n) × (m : EndMarker) × Has l.markers m × Ends d m
+    marked : (d : Decision) (n : PartitionName) → Has (table.decisions_of (transaction_parts ls)) d → Has (names_of d.partitions) n → (l : PartLog) × Has ls l × (part_name l ≡ n) × (m : EndMarker) × Has l.markers m × Ends d m
     marked d n h k =
         let r = decision_of_all c w ls d s at h in
         let dd = r.1.decision in
-        let p = listed_at c dd.partitions n (subst (λ (z : Decision). Has (listed_names z.partitions) n) r.1.is k) in
+        let p = listed_at c dd.partitions n (subst (λ (z : Decision). Has (names_of z.partitions) n) r.1.is k) in
         let there = All-contains (λ e. (q : ℕ) → Contains e.partitions q → Contains (marks_at w r.0 q) (app.End e.to e.kind)) (decisions_of c w r.0) dd (s.atomic r.0).delivered (contains_had (decisions_of c w r.0) dd r.1.member) in
         let mark = has_contained (marks_at w r.0 p.0) (app.End dd.to dd.kind) (there p.0 (contains_had dd.partitions p.0 p.1)) in
         let here = is_there c w r.0 p.0 (app.End dd.to dd.kind) s mark in
@@ -291,7 +292,7 @@ is_atomic c w ls s at = record { once = once c w ls s at; decided = decided; mar
           record { producer = ap (λ (z : Decision). z.producer) r.1.is; epoch = ap (λ (z : Decision). z.marker_epoch) r.1.is; kind = ap (λ (z : Decision). z.kind) r.1.is },
         )
 
-    no_stray : (l : PartLog) (m : EndMarker) → Has ls l → Has l.markers m → (d : Decision) × Has (table.decisions_of (transaction_parts ls)) d × Ends d m × Has (listed_names d.partitions) (part_name l)
+    no_stray : (l : PartLog) (m : EndMarker) → Has ls l → Has l.markers m → (d : Decision) × Has (table.decisions_of (transaction_parts ls)) d × Ends d m × Has (names_of d.partitions) (part_name l)
     no_stray l m h k =
         let r = in_logs c w 0 (place_count c) ls at l h in
         let i = each_marker c (decisions_of c w) r.0 0 (log_at w r.0) (matched r.0) m (subst (λ ms. Has ms m) r.3.markers k) in

@@ -15,7 +15,8 @@ use Rattle.eos_wire.specs.Numbers.{i16_text, i32_text, i16_at, i32_at}
 use Rattle.eos_touch.specs.declared.touch.Touch.{Touch}
 use Rattle.eos_touch.specs.declared.touch.Touch.TheVariants.{Data, End}
 use Rattle.eos_touch.specs.Neighbours.{EachAfter, Accepts}
-use Rattle.eos_fold.specs.Touches.{touch_of, touch_in, touches_of, last_of, last_touch}
+use Rattle.eos_touch.specs.Touches.{touch_of}
+use Rattle.eos_fold.specs.Touches.{touch_in, touches_of, last_of, last_touch}
 use Rattle.eos_fold.specs.Standing.{IsOpen}
 use Rattle.eos_machine.specs.declared.config.Config.{Config}
 use Rattle.eos_machine.specs.Places.{is_sequenced}

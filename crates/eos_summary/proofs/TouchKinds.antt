@@ -14,7 +14,8 @@ use Rattle.eos_items.specs.declared.entry.Ending.TheVariants.{Plain, Waiting}
 use Rattle.eos_items.specs.Batches.{DataBatch, data_of, writer_of, ending_of}
 use Rattle.eos_summary.specs.Items as spec
 use Rattle.eos_summary.specs.Items.{item_of, items_of}
-use Rattle.eos_summary.specs.Touches.{data_touch, end_touch, touch_of, offset_of, head_of}
+use Rattle.eos_touch.specs.Touches.{data_touch, end_touch, touch_of}
+use Rattle.eos_summary.specs.Touches.{offset_of, head_of}
 
 data_marks_none : (b : Batch) (p : ℤ) (t : Touch) → data_touch b ≡ Some (p, t) → IsSome (mark_in (offset_of b) (Some (p, t))) → ⊥
 data_marks_none b p (Data e u s c) said some = cc

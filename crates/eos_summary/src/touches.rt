@@ -12,7 +12,7 @@
 ghost use Rattle.std.specs.Prelude.{◌≡◌, ℕ};
 ghost use Rattle.eos_batch.specs.declared.batch.Batch.{Batch};
 ghost use Rattle.eos_items.specs.Heads as read;
-ghost use Rattle.eos_summary.specs.Touches.{touch_of};
+ghost use Rattle.eos_touch.specs.Touches.{touch_of};
 
 use eos_items::BatchHead;
 use eos_touch::Touch;

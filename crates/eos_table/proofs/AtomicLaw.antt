@@ -14,11 +14,12 @@ use Rattle.eos_base.proofs.Membership.{has_filter, filter_has}
 use Rattle.eos_batch.specs.declared.marker.Marker.{Marker}
 use Rattle.eos_txnlog.specs.declared.decision.Decision.{Decision}
 use Rattle.eos_fold.specs.declared.close.Close.{Close}
-use Rattle.eos_fold.specs.Parts.{PartLog}
+use Rattle.eos_fold.specs.Parts.{part_name, PartLog}
 use Rattle.eos_table.specs.declared.match_fault.MatchFault.{MatchFault}
 use Rattle.eos_table.specs.declared.match_fault.MatchFaultKind.{MatchFaultKind}
 use Rattle.eos_table.specs.declared.match_fault.MatchFaultKind.TheVariants.{TwiceDecided, Undecided, WrongKind, NotListed, StrayMarker, AbsentPartition, MissingMarker}
-use Rattle.eos_table.specs.Atomic.{part_name, listed_names, IsOf, EndsAs, Ends, AreOfOne, NoTwo, Atomic}
+use Rattle.eos_txnlog.specs.PartitionSets.{names_of}
+use Rattle.eos_table.specs.Atomic.{IsOf, EndsAs, Ends, AreOfOne, NoTwo, Atomic}
 use Rattle.eos_table.specs.MatchFaults.{is_of, deciders, AtData, AtListed, StandsAs, Stands}
 use Rattle.eos_table.proofs.MatchDecides.{name_decided, ends_as_decided, ends_decided}
 
@@ -139,7 +140,7 @@ refuted ds ps a f WrongKind s =
 refuted ds ps a f NotListed s =
     let r = a.decided s.0.part s.0.close s.0.has_part s.0.has_close in
     let same = one_among ds s.1 r.0 f.producer f.epoch s.2 r.1 (r.2.producer ∙ s.0.producer) (r.2.epoch ∙ s.0.epoch) in
-    s.3 (subst (λ (d : Decision). Has (listed_names d.partitions) (part_name s.0.part)) (sym same) r.4)
+    s.3 (subst (λ (d : Decision). Has (names_of d.partitions) (part_name s.0.part)) (sym same) r.4)
 refuted ds ps a f StrayMarker s =
     let r = a.no_stray s.0.part s.0.marker s.0.has_part s.0.has_marker in
     s.1 r.0 r.1 r.2 r.3
@@ -153,7 +154,7 @@ refuted ds ps a f MissingMarker s =
 -- ---- where no fault stands all is atomic
 
 decided_from : (ds : List Decision) (ps : List PartLog) → NoneStands (Stands ds ps) → (p : PartLog) (c : Close) → Has ps p → Has p.closes c → (xs : List Decision) → deciders ds c.producer c.epoch ≡ xs
-    → (d : Decision) × Has ds d × IsOf d c × EndsAs d c × Has (listed_names d.partitions) (part_name p)
+    → (d : Decision) × Has ds d × IsOf d c × EndsAs d c × Has (names_of d.partitions) (part_name p)
 decided_from ds ps none p c hp hc [] e = absurd (none (record { producer = c.producer; epoch = c.epoch; kind = Undecided; partition = Some (part_name p) })
     (record { part = p; close = c; has_part = hp; has_close = hc; producer = refl; epoch = refl; partition = refl }, e))
 decided_from ds ps none p c hp hc (d ∷ x ∷ xs) e =
@@ -171,7 +172,7 @@ decided_from ds ps none p c hp hc (d ∷ []) e =
         | inl y ↦ y
         | inr n ↦ absurd (none (record { producer = c.producer; epoch = c.epoch; kind = WrongKind; partition = Some (part_name p) }) (at WrongKind, d, e, n))
       ],
-      elim (has_decided name_decided (listed_names d.partitions) (part_name p)) [
+      elim (has_decided name_decided (names_of d.partitions) (part_name p)) [
         | inl y ↦ y
         | inr n ↦ absurd (none (record { producer = c.producer; epoch = c.epoch; kind = NotListed; partition = Some (part_name p) }) (at NotListed, d, e, n))
       ],
@@ -183,7 +184,7 @@ marker_decided d ms = elim (find_or (Ends d) (ends_decided d) ms) [
   | inr n ↦ inr (λ r. n r.0 r.1 r.2)
 ]
 
-marked_from : (ds : List Decision) (ps : List PartLog) → NoneStands (Stands ds ps) → (d : Decision) (n : PartitionName) → Has ds d → Has (listed_names d.partitions) n
+marked_from : (ds : List Decision) (ps : List PartLog) → NoneStands (Stands ds ps) → (d : Decision) (n : PartitionName) → Has ds d → Has (names_of d.partitions) n
     → (p : PartLog) × Has ps p × ((part_name p) ≡ n) × (m : Marker) × Has p.markers m × Ends d m
 marked_from ds ps none d n hd hn =
     let at : (k : MatchFaultKind) → AtListed ds (record { producer = d.producer; epoch = d.epoch; kind = k; partition = Some n }) =
@@ -198,9 +199,9 @@ marked_from ds ps none d n hd hn =
     ]
 
 no_stray_from : (ds : List Decision) (ps : List PartLog) → NoneStands (Stands ds ps) → (p : PartLog) (m : Marker) → Has ps p → Has p.markers m
-    → (d : Decision) × Has ds d × Ends d m × Has (listed_names d.partitions) (part_name p)
+    → (d : Decision) × Has ds d × Ends d m × Has (names_of d.partitions) (part_name p)
 no_stray_from ds ps none p m hp hm =
-    elim (find_or (λ (d : Decision). Ends d m × Has (listed_names d.partitions) (part_name p)) (λ d. both (ends_decided d m) (has_decided name_decided (listed_names d.partitions) (part_name p))) ds) [
+    elim (find_or (λ (d : Decision). Ends d m × Has (names_of d.partitions) (part_name p)) (λ d. both (ends_decided d m) (has_decided name_decided (names_of d.partitions) (part_name p))) ds) [
       | inl r ↦ (r.0, r.1, r.2.0, r.2.1)
       | inr nope ↦ absurd (none (record { producer = m.producer; epoch = m.epoch; kind = StrayMarker; partition = Some (part_name p) })
           (record { part = p; marker = m; has_part = hp; has_marker = hm; producer = refl; epoch = refl; partition = refl }, λ d hd e l. nope d hd (e, l)))

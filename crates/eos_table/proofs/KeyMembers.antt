@@ -7,8 +7,8 @@ use Rattle.eos_batch.specs.declared.marker.Kind.{Kind}
 use Rattle.eos_batch.specs.declared.marker.Marker.{Marker}
 use Rattle.eos_txnlog.specs.declared.decision.Decision.{Decision}
 use Rattle.eos_fold.specs.declared.close.Close.{Close}
-use Rattle.eos_fold.specs.Parts.{PartLog}
-use Rattle.eos_table.specs.Atomic.{part_name, listed_names}
+use Rattle.eos_fold.specs.Parts.{part_name, PartLog}
+use Rattle.eos_txnlog.specs.PartitionSets.{names_of}
 use Rattle.eos_table.specs.Keys.{mine, decided, judged, listed, listed_of, ended, ended_of, marked, marked_of, names}
 
 abbrev pub pair_of : Decision → ℤ × ℤ
@@ -45,27 +45,27 @@ module _ (n s : ℕ) (ds : List Decision) where
   pub to_judged : (d : Decision) → Has ds d → mine n s d.producer ≡ true → Has (judged n s ds) (close_of d)
   to_judged d h m = has_flat (λ (d : Decision). if mine n s d.producer then close_of d ∷ [] else []) ds d (close_of d) h (has_if (mine n s d.producer) (close_of d ∷ []) (close_of d) m (inl refl))
 
-  pub in_listed : (k : ℤ × ℤ × PartitionName) → Has (listed n s ds) k → (d : Decision) × Has ds d × (m : PartitionName) × Has (listed_names d.partitions) m × (listed_key d m ≡ k)
+  pub in_listed : (k : ℤ × ℤ × PartitionName) → Has (listed n s ds) k → (d : Decision) × Has ds d × (m : PartitionName) × Has (names_of d.partitions) m × (listed_key d m ≡ k)
   in_listed k h =
-      let r = flat_has (λ (d : Decision). if mine n s d.producer then listed_of d (listed_names d.partitions) else []) ds k h in
-      let i = if_has (mine n s r.0.producer) (listed_of r.0 (listed_names r.0.partitions)) k r.2 in
-      let m = map_has (listed_key r.0) (listed_names r.0.partitions) k i.1 in
+      let r = flat_has (λ (d : Decision). if mine n s d.producer then listed_of d (names_of d.partitions) else []) ds k h in
+      let i = if_has (mine n s r.0.producer) (listed_of r.0 (names_of r.0.partitions)) k r.2 in
+      let m = map_has (listed_key r.0) (names_of r.0.partitions) k i.1 in
       (r.0, r.1, m.0, m.1, m.2)
 
-  pub to_listed : (d : Decision) → Has ds d → mine n s d.producer ≡ true → (m : PartitionName) → Has (listed_names d.partitions) m → Has (listed n s ds) (listed_key d m)
-  to_listed d h t m hm = has_flat (λ (d : Decision). if mine n s d.producer then listed_of d (listed_names d.partitions) else []) ds d (listed_key d m) h
-      (has_if (mine n s d.producer) (listed_of d (listed_names d.partitions)) (listed_key d m) t (has_map (listed_key d) (listed_names d.partitions) m hm))
+  pub to_listed : (d : Decision) → Has ds d → mine n s d.producer ≡ true → (m : PartitionName) → Has (names_of d.partitions) m → Has (listed n s ds) (listed_key d m)
+  to_listed d h t m hm = has_flat (λ (d : Decision). if mine n s d.producer then listed_of d (names_of d.partitions) else []) ds d (listed_key d m) h
+      (has_if (mine n s d.producer) (listed_of d (names_of d.partitions)) (listed_key d m) t (has_map (listed_key d) (names_of d.partitions) m hm))
 
-  pub in_ended : (k : ℤ × ℤ × Kind × PartitionName) → Has (ended n s ds) k → (d : Decision) × Has ds d × (m : PartitionName) × Has (listed_names d.partitions) m × (ended_key d m ≡ k)
+  pub in_ended : (k : ℤ × ℤ × Kind × PartitionName) → Has (ended n s ds) k → (d : Decision) × Has ds d × (m : PartitionName) × Has (names_of d.partitions) m × (ended_key d m ≡ k)
   in_ended k h =
-      let r = flat_has (λ (d : Decision). if mine n s d.producer then ended_of d (listed_names d.partitions) else []) ds k h in
-      let i = if_has (mine n s r.0.producer) (ended_of r.0 (listed_names r.0.partitions)) k r.2 in
-      let m = map_has (ended_key r.0) (listed_names r.0.partitions) k i.1 in
+      let r = flat_has (λ (d : Decision). if mine n s d.producer then ended_of d (names_of d.partitions) else []) ds k h in
+      let i = if_has (mine n s r.0.producer) (ended_of r.0 (names_of r.0.partitions)) k r.2 in
+      let m = map_has (ended_key r.0) (names_of r.0.partitions) k i.1 in
       (r.0, r.1, m.0, m.1, m.2)
 
-  pub to_ended : (d : Decision) → Has ds d → mine n s d.producer ≡ true → (m : PartitionName) → Has (listed_names d.partitions) m → Has (ended n s ds) (ended_key d m)
-  to_ended d h t m hm = has_flat (λ (d : Decision). if mine n s d.producer then ended_of d (listed_names d.partitions) else []) ds d (ended_key d m) h
-      (has_if (mine n s d.producer) (ended_of d (listed_names d.partitions)) (ended_key d m) t (has_map (ended_key d) (listed_names d.partitions) m hm))
+  pub to_ended : (d : Decision) → Has ds d → mine n s d.producer ≡ true → (m : PartitionName) → Has (names_of d.partitions) m → Has (ended n s ds) (ended_key d m)
+  to_ended d h t m hm = has_flat (λ (d : Decision). if mine n s d.producer then ended_of d (names_of d.partitions) else []) ds d (ended_key d m) h
+      (has_if (mine n s d.producer) (ended_of d (names_of d.partitions)) (ended_key d m) t (has_map (ended_key d) (names_of d.partitions) m hm))
 
 module _ (n s : ℕ) (ps : List PartLog) where
   pub in_marked : (k : ℤ × ℤ × Kind × PartitionName) → Has (marked n s ps) k → (p : PartLog) × Has ps p × (m : Marker) × Has p.markers m × (marked_key p m ≡ k)

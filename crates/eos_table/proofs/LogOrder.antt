@@ -6,35 +6,17 @@ use Rattle.std.specs.Cmp.Lexicographic.{slice_cmp}
 use Rattle.std.proofs.lemmas.Cmp.{nat_cmp_total, int_cmp_total, nat_list_cmp_total, on_total, then_total}
 use Rattle.eos_base.specs.Least.{IsExact}
 use Rattle.eos_base.specs.declared.record_fault.RecordFault.{RecordFault}
-use Rattle.eos_base.specs.declared.record_fault.RecordFault.TheVariants as records
+use Rattle.eos_base.proofs.RecordFaults.{nth, record_of, record_back}
 use Rattle.eos_base.proofs.Exact.{then_parts, nat_exact, int_exact, bytes_exact}
 use Rattle.eos_txnlog.specs.declared.step.TxnFault.{TxnFault}
 use Rattle.eos_txnlog.specs.declared.step.TxnFault.TheVariants as steps
 use Rattle.eos_table.specs.declared.log_fault.LogFaultKind.{LogFaultKind}
 use Rattle.eos_table.specs.declared.log_fault.LogFaultKind.TheVariants.{BadRecord, Step, SplitId, SharedProducer, Unfinished}
 use Rattle.eos_table.specs.TransactionLog.{Id}
-use Rattle.eos_table.specs.LogFaults.{rank, id_of, detail_of, record_number, step_number, log_cmp}
-
--- the n-th of a list, from 1, or else the given one
-abbrev nth : {X : Type 0} → X → List X → ℕ → X
-nth d [] n = d
-nth d (x ∷ xs) zero = d
-nth d (x ∷ xs) (suc zero) = x
-nth d (x ∷ xs) (suc (suc n)) = nth d xs (suc n)
-
-abbrev record_of : ℕ → RecordFault
-record_of = nth records.Short (records.Short ∷ records.Version ∷ records.Status ∷ records.Length ∷ records.Trailing ∷ records.OutOfMemory ∷ [])
+use Rattle.eos_table.specs.LogFaults.{rank, id_of, detail_of, step_number, log_cmp}
 
 abbrev why_of : ℕ → TxnFault
 why_of = nth steps.Order (steps.Order ∷ steps.Producer ∷ steps.Epoch ∷ [])
-
-record_back : (e : RecordFault) → record_of (record_number e) ≡ e
-record_back records.Short = refl
-record_back records.Version = refl
-record_back records.Status = refl
-record_back records.Length = refl
-record_back records.Trailing = refl
-record_back records.OutOfMemory = refl
 
 why_back : (e : TxnFault) → why_of (step_number e) ≡ e
 why_back steps.Order = refl

@@ -11,11 +11,12 @@ use Rattle.eos_batch.specs.declared.marker.Marker.{Marker}
 use Rattle.eos_txnlog.specs.declared.decision.Decision.{Decision}
 use Rattle.eos_fold.specs.declared.close.Close.{Close}
 use Rattle.eos_fold.specs.Closes.{close_cmp}
-use Rattle.eos_fold.specs.Parts.{PartLog}
+use Rattle.eos_fold.specs.Parts.{part_name, PartLog}
 use Rattle.eos_table.specs.declared.match_fault.MatchFault.{MatchFault}
 use Rattle.eos_table.specs.declared.match_fault.MatchFaultKind.{MatchFaultKind}
 use Rattle.eos_table.specs.declared.match_fault.MatchFaultKind.TheVariants.{TwiceDecided, Undecided, WrongKind, NotListed, StrayMarker, AbsentPartition, MissingMarker}
-use Rattle.eos_table.specs.Atomic.{part_name, listed_names, EndsAs, Ends}
+use Rattle.eos_txnlog.specs.PartitionSets.{names_of}
+use Rattle.eos_table.specs.Atomic.{EndsAs, Ends}
 use Rattle.eos_table.specs.MatchFaults.{deciders, is_of, AtData, AtListed, Stands, rank, fault_cmp}
 use Rattle.eos_table.specs.Shards.{InShard}
 use Rattle.eos_table.specs.Keys.{mine, decided, judged, listed, ended, marked, names, pair_cmp, listed_cmp, ended_cmp}
@@ -153,7 +154,7 @@ module _ (n s : ℕ) (ds : List Decision) (ps : List PartLog) (D : List (ℤ × 
         upto_itself fault_total (fault_of k.producer k.epoch (Some (part_name p)) StrayMarker),
       )
 
-  sound_name : (d : Decision) → Has ds d → mine n s d.producer ≡ true → (x : PartitionName) → Has (listed_names d.partitions) x → (g : MatchFault) → Has (faults_at_name N M d x) g → Sound g
+  sound_name : (d : Decision) → Has ds d → mine n s d.producer ≡ true → (x : PartitionName) → Has (names_of d.partitions) x → (g : MatchFault) → Has (faults_at_name N M d x) g → Sound g
   sound_name d hd m x hx g h = go (is_found name_cmp N x) (is_found ended_cmp M (ended_key d x)) refl refl h
     where
       at : (k : MatchFaultKind) → AtListed ds (fault_of d.producer d.epoch (Some x) k)
@@ -199,7 +200,7 @@ module _ (n s : ℕ) (ds : List Decision) (ps : List PartLog) (D : List (ℤ × 
 
   pub sound_names : (g : MatchFault) → Has (at_names n s N M ds) g → Sound g
   sound_names g h =
-      let r = flat_has (λ (d : Decision). if mine n s d.producer then name_faults N M d (listed_names d.partitions) else []) ds g h in
-      let i = if_has (mine n s r.0.producer) (name_faults N M r.0 (listed_names r.0.partitions)) g r.2 in
-      let q = flat_has (λ (x : PartitionName). faults_at_name N M r.0 x) (listed_names r.0.partitions) g i.1 in
+      let r = flat_has (λ (d : Decision). if mine n s d.producer then name_faults N M d (names_of d.partitions) else []) ds g h in
+      let i = if_has (mine n s r.0.producer) (name_faults N M r.0 (names_of r.0.partitions)) g r.2 in
+      let q = flat_has (λ (x : PartitionName). faults_at_name N M r.0 x) (names_of r.0.partitions) g i.1 in
       sound_name r.0 r.1 i.0 q.0 q.1 g q.2

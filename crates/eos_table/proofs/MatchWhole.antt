@@ -10,11 +10,12 @@ use Rattle.eos_batch.specs.declared.marker.Marker.{Marker}
 use Rattle.eos_txnlog.specs.declared.decision.Decision.{Decision}
 use Rattle.eos_fold.specs.declared.close.Close.{Close}
 use Rattle.eos_fold.specs.Closes.{close_cmp}
-use Rattle.eos_fold.specs.Parts.{PartLog}
+use Rattle.eos_fold.specs.Parts.{part_name, PartLog}
 use Rattle.eos_table.specs.declared.match_fault.MatchFault.{MatchFault}
 use Rattle.eos_table.specs.declared.match_fault.MatchFaultKind.{MatchFaultKind}
 use Rattle.eos_table.specs.declared.match_fault.MatchFaultKind.TheVariants.{TwiceDecided, Undecided, WrongKind, NotListed, StrayMarker, AbsentPartition, MissingMarker}
-use Rattle.eos_table.specs.Atomic.{part_name, listed_names, EndsAs}
+use Rattle.eos_txnlog.specs.PartitionSets.{names_of}
+use Rattle.eos_table.specs.Atomic.{EndsAs}
 use Rattle.eos_table.specs.MatchFaults.{AtData, AtMarker, AtListed, StandsAs, rank, fault_cmp}
 use Rattle.eos_table.specs.Shards.{InShard}
 use Rattle.eos_table.specs.Keys.{mine, pair_cmp, listed_cmp, ended_cmp}
@@ -73,8 +74,8 @@ module _ (n s : ℕ) (ds : List Decision) (ps : List PartLog) (D : List (ℤ × 
       let h = fault_of at.decision.producer at.decision.epoch (Some at.name) k in
       let m = is_shard g at.decision.producer i at.producer in
       let one : Has (faults_at_name N M at.decision at.name) h = given at.decision.producer at.decision.epoch at.name _ k q in
-      let two : Has (name_faults N M at.decision (listed_names at.decision.partitions)) h = has_flat (λ (x : PartitionName). faults_at_name N M at.decision x) (listed_names at.decision.partitions) at.name h at.has_name one in
-      let all : Has (at_names n s N M ds) h = has_flat (λ (d : Decision). if mine n s d.producer then name_faults N M d (listed_names d.partitions) else []) ds at.decision h at.has_decision
+      let two : Has (name_faults N M at.decision (names_of at.decision.partitions)) h = has_flat (λ (x : PartitionName). faults_at_name N M at.decision x) (names_of at.decision.partitions) at.name h at.has_name one in
+      let all : Has (at_names n s N M ds) h = has_flat (λ (d : Decision). if mine n s d.producer then name_faults N M d (names_of d.partitions) else []) ds at.decision h at.has_decision
       (has_if (mine n s at.decision.producer) _ h m two) in
       (h, append_right (at_closes n s D J L ps ++ at_markers n s E ps) _ h all, no_greater g _ _ _ k at.producer at.epoch at.partition le)
 
@@ -104,14 +105,14 @@ module _ (n s : ℕ) (ds : List Decision) (ps : List PartLog) (D : List (ℤ × 
       go true true true q r w =
           let t = in_listed n s ds (st.0.close.producer, st.0.close.epoch, (part_name st.0.part)) (are.lists.there _ w) in
           let same = one_among ds st.1 t.0 g.producer g.epoch st.2 t.1 (ap (λ z. z.0) t.4 ∙ st.0.producer) (ap (λ z. z.1) t.4 ∙ st.0.epoch) in
-          absurd (st.3 (subst (λ (d : Decision). Has (listed_names d.partitions) (part_name st.0.part)) (sym same) (subst (λ z. Has (listed_names t.0.partitions) z) (ap (λ z. z.2) t.4) t.3)))
+          absurd (st.3 (subst (λ (d : Decision). Has (names_of d.partitions) (part_name st.0.part)) (sym same) (subst (λ z. Has (names_of t.0.partitions) z) (ap (λ z. z.2) t.4) t.3)))
   whole g StrayMarker e i st = inr (go (is_found ended_cmp E (st.0.marker.producer, st.0.marker.epoch, st.0.marker.kind, (part_name st.0.part))) refl)
     where
       go : (a : Bool) → is_found ended_cmp E (st.0.marker.producer, st.0.marker.epoch, st.0.marker.kind, (part_name st.0.part)) ≡ a → Covered g
       go false q = at_marker g i st.0 StrayMarker (rw q refl) (let f = ap rank e in omega (arith, f))
       go true q =
           let t = in_ended n s ds (st.0.marker.producer, st.0.marker.epoch, st.0.marker.kind, (part_name st.0.part)) (are.wanted.there _ q) in
-          absurd (st.1 t.0 t.1 (record { producer = ap (λ z. z.0) t.4; epoch = ap (λ z. z.1) t.4; kind = ap (λ z. z.2) t.4 }) (subst (λ z. Has (listed_names t.0.partitions) z) (ap (λ z. z.3) t.4) t.3))
+          absurd (st.1 t.0 t.1 (record { producer = ap (λ z. z.0) t.4; epoch = ap (λ z. z.1) t.4; kind = ap (λ z. z.2) t.4 }) (subst (λ z. Has (names_of t.0.partitions) z) (ap (λ z. z.3) t.4) t.3))
   whole g AbsentPartition e i st = inr (go (is_found name_cmp N st.0.name) refl)
     where
       go : (a : Bool) → is_found name_cmp N st.0.name ≡ a → Covered g

@@ -1,24 +1,13 @@
 -- Every transaction is committed in all its partitions or aborted in all (KIP-98, "Transaction Coordinator" and "Control
 -- Messages"; KIP-890: the end markers carry an epoch above that of the data).
-use Rattle.std.specs.Prelude.{◌≡◌, List, [], ◌∷◌, map, ⊤}
-use Rattle.std.specs.List.{flat_map}
+use Rattle.std.specs.Prelude.{◌≡◌, List, [], ◌∷◌, ⊤}
 use Rattle.eos_base.specs.declared.partition_name.PartitionName.{PartitionName}
 use Rattle.eos_base.specs.Members.{Has}
 use Rattle.eos_batch.specs.declared.marker.Marker.{Marker}
 use Rattle.eos_txnlog.specs.declared.decision.Decision.{Decision}
-use Rattle.eos_txnlog.specs.declared.partitions.TopicPartitions.{TopicPartitions}
+use Rattle.eos_txnlog.specs.PartitionSets.{names_of}
 use Rattle.eos_fold.specs.declared.close.Close.{Close}
-use Rattle.eos_fold.specs.Parts.{PartLog}
-
-abbrev pub part_name : PartLog → PartitionName
-part_name p = record { topic = p.topic; partition = p.number }
-
-abbrev pub names_of_topic : TopicPartitions → List PartitionName
-names_of_topic t = map (λ n. record { topic = t.topic; partition = n }) t.numbers
-
--- the partitions that a record of the transaction log lists
-abbrev pub listed_names : List TopicPartitions → List PartitionName
-listed_names ts = flat_map names_of_topic ts
+use Rattle.eos_fold.specs.Parts.{part_name, PartLog}
 
 -- the decision is of this data
 pub record IsOf (d : Decision) (c : Close) : Type 0 where
@@ -52,10 +41,10 @@ pub record Atomic (ds : List Decision) (ps : List PartLog) : Type 0 where
   pub once : NoTwo AreOfOne ds
   -- of all transactional data there is a decision, which lists its partition, and the data ended so
   pub decided : (p : PartLog) (c : Close) → Has ps p → Has p.closes c
-      → (d : Decision) × Has ds d × IsOf d c × EndsAs d c × Has (listed_names d.partitions) (part_name p)
+      → (d : Decision) × Has ds d × IsOf d c × EndsAs d c × Has (names_of d.partitions) (part_name p)
   -- each partition that a decision lists is there and has the decision's marker
-  pub marked : (d : Decision) (n : PartitionName) → Has ds d → Has (listed_names d.partitions) n
+  pub marked : (d : Decision) (n : PartitionName) → Has ds d → Has (names_of d.partitions) n
       → (p : PartLog) × Has ps p × (part_name p ≡ n) × (m : Marker) × Has p.markers m × Ends d m
   -- each marker is that of a decision which lists its partition
   pub no_stray : (p : PartLog) (m : Marker) → Has ps p → Has p.markers m
-      → (d : Decision) × Has ds d × Ends d m × Has (listed_names d.partitions) (part_name p)
+      → (d : Decision) × Has ds d × Ends d m × Has (names_of d.partitions) (part_name p)

@@ -10,12 +10,12 @@ use Rattle.eos_batch.specs.declared.marker.Marker.{Marker}
 use Rattle.eos_txnlog.specs.declared.decision.Decision.{Decision}
 use Rattle.eos_fold.specs.declared.close.Close.{Close}
 use Rattle.eos_fold.specs.Closes.{close_cmp}
-use Rattle.eos_fold.specs.Parts.{PartLog}
+use Rattle.eos_fold.specs.Parts.{part_name, PartLog}
 use Rattle.eos_table.specs.declared.match_fault.MatchFault.{MatchFault}
 use Rattle.eos_table.specs.declared.match_fault.MatchFaultKind.{MatchFaultKind}
 use Rattle.eos_table.specs.declared.match_fault.MatchFaultKind.TheVariants.{TwiceDecided, Undecided, WrongKind, NotListed, StrayMarker, AbsentPartition, MissingMarker}
 use Rattle.eos_table.specs.declared.best.Found.{Found}
-use Rattle.eos_table.specs.Atomic.{part_name, listed_names}
+use Rattle.eos_txnlog.specs.PartitionSets.{names_of}
 use Rattle.eos_table.specs.Keys.{mine, plain_name, pair_cmp, listed_cmp, ended_cmp}
 
 -- the fault that is published
@@ -73,7 +73,7 @@ abbrev pub at_markers : ℕ → ℕ → List (ℤ × ℤ × Kind × PartitionNam
 at_markers n s ended ps = flat_map (λ (p : PartLog). marker_faults n s ended (part_name p) p.markers) ps
 
 abbrev pub at_names : ℕ → ℕ → List PartitionName → List (ℤ × ℤ × Kind × PartitionName) → List Decision → List MatchFault
-at_names n s names marked ds = flat_map (λ (d : Decision). if mine n s d.producer then name_faults names marked d (listed_names d.partitions) else []) ds
+at_names n s names marked ds = flat_map (λ (d : Decision). if mine n s d.producer then name_faults names marked d (names_of d.partitions) else []) ds
 
 -- neighbours that are equal, the first such
 abbrev pub pair_at : List (ℤ × ℤ) → ℕ → ℤ × ℤ

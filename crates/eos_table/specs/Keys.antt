@@ -11,8 +11,8 @@ use Rattle.eos_batch.specs.declared.marker.Marker.{Marker}
 use Rattle.eos_txnlog.specs.declared.decision.Decision.{Decision}
 use Rattle.eos_fold.specs.declared.close.Close.{Close}
 use Rattle.eos_fold.specs.Closes.{rank_of}
-use Rattle.eos_fold.specs.Parts.{PartLog}
-use Rattle.eos_table.specs.Atomic.{part_name, listed_names}
+use Rattle.eos_fold.specs.Parts.{part_name, PartLog}
+use Rattle.eos_txnlog.specs.PartitionSets.{names_of}
 use Rattle.eos_table.specs.declared.key.NameRef.{NameRef}
 use Rattle.eos_table.specs.declared.key.Listed.{Listed}
 use Rattle.eos_table.specs.declared.key.Ended.{Ended}
@@ -65,13 +65,13 @@ abbrev pub listed_of : Decision → List PartitionName → List (ℤ × ℤ × P
 listed_of d names = map (λ m. (d.producer, d.epoch, m)) names
 
 abbrev pub listed : ℕ → ℕ → List Decision → List (ℤ × ℤ × PartitionName)
-listed n s ds = flat_map (λ (d : Decision). if mine n s d.producer then listed_of d (listed_names d.partitions) else []) ds
+listed n s ds = flat_map (λ (d : Decision). if mine n s d.producer then listed_of d (names_of d.partitions) else []) ds
 
 abbrev pub ended_of : Decision → List PartitionName → List (ℤ × ℤ × Kind × PartitionName)
 ended_of d names = map (λ m. (d.producer, d.marker_epoch, d.kind, m)) names
 
 abbrev pub ended : ℕ → ℕ → List Decision → List (ℤ × ℤ × Kind × PartitionName)
-ended n s ds = flat_map (λ (d : Decision). if mine n s d.producer then ended_of d (listed_names d.partitions) else []) ds
+ended n s ds = flat_map (λ (d : Decision). if mine n s d.producer then ended_of d (names_of d.partitions) else []) ds
 
 -- ---- of the partitions: their markers, their names
 

@@ -4,7 +4,7 @@ use Rattle.std.specs.Ordering.{nat_cmp, int_cmp, on, then_cmp}
 use Rattle.std.specs.declared.cmp.Ordering.{Ordering}
 use Rattle.std.specs.Cmp.Lexicographic.{slice_cmp}
 use Rattle.eos_base.specs.declared.record_fault.RecordFault.{RecordFault}
-use Rattle.eos_base.specs.declared.record_fault.RecordFault.TheVariants as records
+use Rattle.eos_base.specs.FaultNames.{record_number}
 use Rattle.eos_base.specs.Members.{Has}
 use Rattle.eos_txnlog.specs.declared.step.TxnFault.{TxnFault}
 use Rattle.eos_txnlog.specs.declared.step.TxnFault.TheVariants as steps
@@ -71,14 +71,6 @@ id_of (Step id why) = id
 id_of (SplitId id) = id
 id_of (SharedProducer id) = id
 id_of (Unfinished id) = id
-
-abbrev pub record_number : RecordFault → ℕ
-record_number records.Short = 1
-record_number records.Version = 2
-record_number records.Status = 3
-record_number records.Length = 4
-record_number records.Trailing = 5
-record_number records.OutOfMemory = 6
 
 abbrev pub step_number : TxnFault → ℕ
 step_number steps.Order = 1

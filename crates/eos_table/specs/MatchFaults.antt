@@ -10,11 +10,12 @@ use Rattle.eos_base.specs.PartitionNames.{name_cmp}
 use Rattle.eos_batch.specs.declared.marker.Marker.{Marker}
 use Rattle.eos_txnlog.specs.declared.decision.Decision.{Decision}
 use Rattle.eos_fold.specs.declared.close.Close.{Close}
-use Rattle.eos_fold.specs.Parts.{PartLog}
+use Rattle.eos_fold.specs.Parts.{part_name, PartLog}
 use Rattle.eos_table.specs.declared.match_fault.MatchFault.{MatchFault}
 use Rattle.eos_table.specs.declared.match_fault.MatchFaultKind.{MatchFaultKind}
 use Rattle.eos_table.specs.declared.match_fault.MatchFaultKind.TheVariants.{TwiceDecided, Undecided, WrongKind, NotListed, StrayMarker, AbsentPartition, MissingMarker}
-use Rattle.eos_table.specs.Atomic.{part_name, listed_names, EndsAs, Ends}
+use Rattle.eos_txnlog.specs.PartitionSets.{names_of}
+use Rattle.eos_table.specs.Atomic.{EndsAs, Ends}
 
 -- the decisions of a producer id and data epoch
 abbrev pub is_of : ℤ → ℤ → Decision → Bool
@@ -48,7 +49,7 @@ pub record AtListed (ds : List Decision) (f : MatchFault) : Type 0 where
   pub decision : Decision
   pub name : PartitionName
   pub has_decision : Has ds decision
-  pub has_name : Has (listed_names decision.partitions) name
+  pub has_name : Has (names_of decision.partitions) name
   pub producer : decision.producer ≡ f.producer
   pub epoch : decision.epoch ≡ f.epoch
   pub partition : f.partition ≡ Some name
@@ -58,8 +59,8 @@ abbrev pub StandsAs : List Decision → List PartLog → MatchFault → MatchFau
 StandsAs ds ps f TwiceDecided = (2 ≤ length (deciders ds f.producer f.epoch)) × (f.partition ≡ None)
 StandsAs ds ps f Undecided = (at : AtData ps f) × (deciders ds f.producer f.epoch ≡ [])
 StandsAs ds ps f WrongKind = (at : AtData ps f) × (d : Decision) × (deciders ds f.producer f.epoch ≡ d ∷ []) × (EndsAs d at.close → ⊥)
-StandsAs ds ps f NotListed = (at : AtData ps f) × (d : Decision) × (deciders ds f.producer f.epoch ≡ d ∷ []) × (Has (listed_names d.partitions) (part_name at.part) → ⊥)
-StandsAs ds ps f StrayMarker = (at : AtMarker ps f) × ((d : Decision) → Has ds d → Ends d at.marker → Has (listed_names d.partitions) (part_name at.part) → ⊥)
+StandsAs ds ps f NotListed = (at : AtData ps f) × (d : Decision) × (deciders ds f.producer f.epoch ≡ d ∷ []) × (Has (names_of d.partitions) (part_name at.part) → ⊥)
+StandsAs ds ps f StrayMarker = (at : AtMarker ps f) × ((d : Decision) → Has ds d → Ends d at.marker → Has (names_of d.partitions) (part_name at.part) → ⊥)
 StandsAs ds ps f AbsentPartition = (at : AtListed ds f) × ((p : PartLog) → Has ps p → part_name p ≢ at.name)
 StandsAs ds ps f MissingMarker = (at : AtListed ds f) × (p : PartLog) × Has ps p × (part_name p ≡ at.name)
     × ((q : PartLog) (m : Marker) → Has ps q → part_name q ≡ at.name → Has q.markers m → Ends at.decision m → ⊥)

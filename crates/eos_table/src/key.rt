@@ -1,7 +1,8 @@
 //! Keys for look-ups, of the producer ids of one shard. Names are borrowed, so that a key costs no copy of a topic.
 
 ghost use Rattle.std.specs.Prelude.{◌≡◌, ◌++◌, ◌<◌, IfOk, OnOk, map};
-ghost use Rattle.eos_table.specs.Atomic.{part_name, names_of_topic, listed_names};
+ghost use Rattle.eos_txnlog.specs.PartitionSets.{names_in_topic, names_of};
+ghost use Rattle.eos_fold.specs.Parts.{part_name};
 ghost use Rattle.eos_table.specs.Keys.{mine, plain_name, decided, judged, listed, listed_of, plain_listed, ended, ended_of, plain_ended, marked, marked_of, names};
 
 use bytes::Bytes;
@@ -100,7 +101,7 @@ fn push_listed_topic<'a>(
     decision: &Decision,
     topic: &'a TopicPartitions,
 ) -> Result<(), AllocError>
-    ensures { OnOk result (map plain_listed keys.new.items ≡ map plain_listed keys.old.items ++ listed_of decision.now (names_of_topic topic.now)) }
+    ensures { OnOk result (map plain_listed keys.new.items ≡ map plain_listed keys.old.items ++ listed_of decision.now (names_in_topic topic.now)) }
 {
     for partition in topic.numbers.as_slice() {
         keys.push(Listed {
@@ -116,7 +117,7 @@ fn push_listed_topic<'a>(
 }
 
 fn push_listed<'a>(keys: &mut Vec<Listed<'a>>, decision: &'a Decision) -> Result<(), AllocError>
-    ensures { OnOk result (map plain_listed keys.new.items ≡ map plain_listed keys.old.items ++ listed_of decision.now (listed_names decision.now.partitions)) }
+    ensures { OnOk result (map plain_listed keys.new.items ≡ map plain_listed keys.old.items ++ listed_of decision.now (names_of decision.now.partitions)) }
 {
     for topic in decision.partitions.as_slice() {
         push_listed_topic(keys, decision, topic)?;
@@ -148,7 +149,7 @@ fn push_ended_topic<'a>(
     decision: &Decision,
     topic: &'a TopicPartitions,
 ) -> Result<(), AllocError>
-    ensures { OnOk result (map plain_ended keys.new.items ≡ map plain_ended keys.old.items ++ ended_of decision.now (names_of_topic topic.now)) }
+    ensures { OnOk result (map plain_ended keys.new.items ≡ map plain_ended keys.old.items ++ ended_of decision.now (names_in_topic topic.now)) }
 {
     for partition in topic.numbers.as_slice() {
         keys.push(Ended {
@@ -165,7 +166,7 @@ fn push_ended_topic<'a>(
 }
 
 fn push_ended<'a>(keys: &mut Vec<Ended<'a>>, decision: &'a Decision) -> Result<(), AllocError>
-    ensures { OnOk result (map plain_ended keys.new.items ≡ map plain_ended keys.old.items ++ ended_of decision.now (listed_names decision.now.partitions)) }
+    ensures { OnOk result (map plain_ended keys.new.items ≡ map plain_ended keys.old.items ++ ended_of decision.now (names_of decision.now.partitions)) }
 {
     for topic in decision.partitions.as_slice() {
         push_ended_topic(keys, decision, topic)?;

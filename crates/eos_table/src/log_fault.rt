@@ -1,7 +1,7 @@
 //! Where the transaction log breaks its own rule.
 
 ghost use Rattle.std.specs.Prelude.{◌≡◌};
-ghost use Rattle.eos_table.specs.LogFaults.{rank, id_of, detail_of, record_number, step_number, name_of};
+ghost use Rattle.eos_table.specs.LogFaults.{rank, id_of, detail_of, step_number, name_of};
 
 use bytes::Bytes;
 use eos_base::RecordFault;
@@ -30,19 +30,6 @@ pub enum LogFaultKind {
     SharedProducer { id: Bytes },
     /// The partition ends while a transaction of this id goes on, or before its end is written.
     Unfinished { id: Bytes },
-}
-
-fn record_number(fault: RecordFault) -> u8
-    ensures { result ≡ record_number fault }
-{
-    match fault {
-        RecordFault::Short => 1,
-        RecordFault::Version => 2,
-        RecordFault::Status => 3,
-        RecordFault::Length => 4,
-        RecordFault::Trailing => 5,
-        RecordFault::OutOfMemory => 6,
-    }
 }
 
 fn step_number(fault: TxnFault) -> u8
@@ -87,7 +74,7 @@ impl LogFaultKind {
         ensures { result ≡ detail_of self.now }
     {
         match self {
-            LogFaultKind::BadRecord { record } => record_number(*record),
+            LogFaultKind::BadRecord { record } => record.number(),
             LogFaultKind::Step { why, .. } => step_number(*why),
             LogFaultKind::SplitId { .. }
             | LogFaultKind::SharedProducer { .. }

@@ -3,7 +3,8 @@
 ghost use Rattle.std.specs.Prelude.{◌≡◌, ◌<◌, IsSorted, fold, map, option_map};
 ghost use Rattle.eos_base.specs.Least.{lesser_of};
 ghost use Rattle.eos_fold.specs.Closes.{close_cmp};
-ghost use Rattle.eos_table.specs.Atomic.{part_name, listed_names, names_of_topic as listed_in_topic};
+ghost use Rattle.eos_txnlog.specs.PartitionSets.{names_in_topic, names_of as listed_names};
+ghost use Rattle.eos_fold.specs.Parts.{part_name};
 ghost use Rattle.eos_table.specs.MatchFaults.{fault_cmp};
 ghost use Rattle.eos_table.specs.Keys.{plain_name, plain_listed, plain_ended, pair_cmp, by_listed, by_ended, by_name};
 ghost use Rattle.eos_table.specs.Candidates.{plain, faults_of, kind_at_close as kind_of_close, kind_at_marker as kind_of_marker, kind_at_name as kind_of_name, faults_at_close, faults_at_marker, faults_at_name, close_faults, marker_faults, name_faults, at_closes, at_markers, at_names};
@@ -246,7 +247,7 @@ fn names_of_topic<'a>(
     requires names { IsSorted by_name names.now }
     requires marked { IsSorted by_ended marked.now }
     ensures { option_map plain result ≡ fold (lesser_of fault_cmp) (option_map plain first.entry)
-        (name_faults (map plain_name names.now) (map plain_ended marked.now) decision.now (listed_in_topic topic.now)) }
+        (name_faults (map plain_name names.now) (map plain_ended marked.now) decision.now (names_in_topic topic.now)) }
 {
     let mut best = first;
     for partition in topic.numbers.as_slice() {

@@ -8,7 +8,7 @@ use Rattle.eos_base.specs.Members.{is_found}
 use Rattle.eos_base.specs.Steps.{◌>>=◌}
 use Rattle.eos_offsets.specs.declared.key.OffsetKey.{OffsetKey}
 use Rattle.eos_items.specs.declared.item.Item.{Item}
-use Rattle.eos_fold.specs.Parts.{PartLog}
+use Rattle.eos_fold.specs.Parts.{part_name, PartLog}
 use Rattle.eos_claims.specs.declared.claim.Claim.{Claim}
 use Rattle.eos_claims.specs.Headers.{claim_of}
 use Rattle.eos_commits.specs.declared.fault.VisibleFault.{VisibleFault}
@@ -17,7 +17,7 @@ use Rattle.eos_commits.specs.declared.fault.VisibleFaultKind.TheVariants.{BadLin
 use Rattle.eos_commits.specs.declared.homes.Home.{Home}
 use Rattle.eos_commits.specs.declared.judge.Found.{Found}
 use Rattle.eos_commits.specs.declared.judge.PartRole.{PartRole}
-use Rattle.eos_commits.specs.Visible.{is_visible, part_name}
+use Rattle.eos_commits.specs.Visible.{is_visible}
 use Rattle.eos_commits.specs.Commits.{Group, is_same, is_offsets_part, key_of, value_of}
 use Rattle.eos_commits.specs.steps.Roles.{RoleSets, source_cmp}
 

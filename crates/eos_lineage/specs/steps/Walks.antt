@@ -8,7 +8,7 @@ use Rattle.eos_base.specs.declared.partition_name.PartitionName.{PartitionName}
 use Rattle.eos_base.specs.Members.{Has, is_found}
 use Rattle.eos_base.specs.Least.{NoneStands, IsLeast, lesser_of}
 use Rattle.eos_items.specs.declared.item.Item.{Item}
-use Rattle.eos_fold.specs.Parts.{PartLog}
+use Rattle.eos_fold.specs.Parts.{part_name, PartLog}
 use Rattle.eos_claims.specs.declared.place.Place.{Place}
 use Rattle.eos_claims.specs.declared.place.PlaceRef.{PlaceRef}
 use Rattle.eos_claims.specs.declared.alone.SourceTests.{SourceTests}
@@ -19,7 +19,7 @@ use Rattle.eos_claims.specs.Outputs.{Writer, PlacedClaim, Application, committed
 use Rattle.eos_claims.specs.Faults.{place_cmp, fault_cmp, Stands}
 use Rattle.eos_claims.specs.Candidates.{Counted, counted, shown_by, is_source, is_input, is_committed, names as names_input, passes}
 use Rattle.eos_claims.specs.Plain.{plain_place, plain_fault, plain_claim}
-use Rattle.eos_commits.specs.Visible.{is_visible, part_name}
+use Rattle.eos_commits.specs.Visible.{is_visible}
 use Rattle.eos_lineage.specs.Lineage.{Topic, is_part_of, place_in, claims_at, inputs_below, outputs_in}
 use Rattle.eos_lineage.specs.declared.tables.Tables.{Tables}
 use Rattle.eos_lineage.specs.declared.tables.Known.{Known}

@@ -1,6 +1,6 @@
 use Rattle.std.proofs.Common.{◌≡◌, ◌++◌, length, map, flat_map}
 use Rattle.eos_claims.specs.Plain.{plain_place}
-use Rattle.eos_commits.specs.Visible.{part_name}
+use Rattle.eos_fold.specs.Parts.{part_name}
 use Rattle.eos_lineage.specs.steps.Walks.{input_at}
 use Rattle.eos_lineage.proofs.inputs.push_inputs.Given as goal
 

@@ -1,5 +1,5 @@
 use Rattle.std.proofs.Common.{◌≡◌, take, map}
-use Rattle.eos_commits.specs.Visible.{part_name}
+use Rattle.eos_fold.specs.Parts.{part_name}
 use Rattle.eos_lineage.proofs.name.names_of.Given as goal
 
 abbrev pub invariant-loop-part : goal.invariant-loop-part

@@ -13,7 +13,7 @@ use Rattle.eos_summary.specs.Summaries.{only}
 use Rattle.eos_summary.specs.Tables.{rest_alone, KeepsPlaces, IsReadyFor, ends_at}
 use Rattle.eos_summary.specs.Joins.{Took, IsTaking}
 use Rattle.eos_summary.specs.Touches.{head_of}
-use Rattle.eos_summary.specs.Touches as spec
+use Rattle.eos_touch.specs.Touches as spec
 use Rattle.eos_summary.proofs.Waiting.{all_below}
 use Rattle.eos_summary.proofs.TouchKinds.{marks_no_data}
 use Rattle.eos_summary.proofs.OneBatch.{silent, says, was_alone, left_alone, alone_taking, takes_same, are_of, short_fits, ready_alone}

@@ -1,7 +1,7 @@
 use Rattle.std.proofs.Common.{◌≡◌, ◌++◌, take, map}
-use Rattle.eos_table.specs.Atomic.{listed_names}
+use Rattle.eos_txnlog.specs.PartitionSets.{names_of}
 use Rattle.eos_table.specs.Keys.{plain_listed, listed_of}
 use Rattle.eos_table.proofs.key.push_listed.Given as goal
 
 abbrev pub invariant-loop-topic : goal.invariant-loop-topic
-invariant-loop-topic l = map plain_listed l.keys.items ≡ map plain_listed l.fn.keys.items ++ listed_of l.decision (listed_names (take l.topic-index l.decision.partitions))
+invariant-loop-topic l = map plain_listed l.keys.items ≡ map plain_listed l.fn.keys.items ++ listed_of l.decision (names_of (take l.topic-index l.decision.partitions))

@@ -1,5 +1,5 @@
 use Rattle.std.proofs.Common.{◌≡◌, ◌++◌, take, map}
-use Rattle.eos_table.specs.Atomic.{part_name}
+use Rattle.eos_fold.specs.Parts.{part_name}
 use Rattle.eos_table.specs.Keys.{plain_ended, marked_of}
 use Rattle.eos_table.proofs.key.push_marked.Given as goal
 
