@@ -4,3 +4,4 @@ pub mod LeastOf
 pub mod Membership
 pub mod NamesInOrder
 pub mod SortedSearch
+pub mod RecordFaults

@@ -2,3 +2,4 @@ pub mod Pair
 pub mod Rules
 pub mod Neighbours
 pub mod Names
+pub mod Touches
