@@ -1,20 +1,21 @@
 -- The least fault of an application's outputs and the counts, from the walks.
 use Rattle.std.proofs.Common.{◌≡◌, ◌+◌, ◌<◌, ℕ, zero, suc, List, [], ◌∷◌, ◌++◌, length, map, take, get_or, fold, Option, Some, None, refl, sym, subst, ap, ◌∙◌, inl, inr, true, false, Bool, not, ◌&&◌, arith, IsPermutation, IsSorted, cond}
 use Rattle.std.specs.List.{flat_map, filter, list_any}
-use Rattle.std.specs.Ordering.{is_eq}
+use Rattle.std.specs.Ordering.{is_eq, is_lt, ordering_then}
+use Rattle.std.specs.declared.cmp.Ordering.{Ordering}
+use Rattle.std.specs.declared.cmp.Ordering.TheVariants.{Less, Equal, Greater}
 use Rattle.std.proofs.lemmas.List.Sums.{fold-append}
-use Rattle.std.proofs.lemmas.List.Sorted.{list_any-IsPermutation, IsPermutation-map}
+use Rattle.std.proofs.lemmas.List.Sorted.{IsPermutation-map}
 use Rattle.std.proofs.lemmas.List.{append-nil, map-append}
 use Rattle.std.proofs.lemmas.Grind.{flat_map-append}
 use Rattle.std.proofs.lemmas.List.Elements.{filter-append}
 use Rattle.std.proofs.Math.Seq.{take-suc}
-use Rattle.eos_base.specs.Members.{Has, is_found}
+use Rattle.eos_base.specs.Members.{Has}
 use Rattle.eos_base.specs.Least.{IsLeastOrNone, NoneStands, lesser_of}
-use Rattle.eos_base.proofs.Membership.{found_has, has_found, map_has, has_map, filter_has, has_filter}
+use Rattle.eos_base.proofs.Membership.{map_has, has_map, filter_has, has_filter}
 use Rattle.eos_claims.specs.declared.fault.OutputFault.{OutputFault}
 use Rattle.eos_claims.specs.declared.neighbours.NumberedClaim.{NumberedClaim}
 use Rattle.eos_claims.specs.declared.place.Place.{Place}
-use Rattle.eos_claims.specs.declared.place.PlaceRef.{PlaceRef}
 use Rattle.eos_claims.specs.Outputs.{Application, ReadsSources, Exact, IsBelow}
 use Rattle.eos_claims.specs.Faults.{place_cmp, fault_cmp, Stands}
 use Rattle.eos_claims.specs.Candidates.{Counted, counted, when, missing, shown_by, unclaimed, runs, candidates, names, is_committed, AreApart}
@@ -23,9 +24,8 @@ use Rattle.eos_claims.proofs.CandidatesWhole.{least}
 use Rattle.eos_claims.proofs.OutputsLaw.{law}
 use Rattle.eos_claims.proofs.ClaimTests.{any_has, has_any, less_is}
 use Rattle.eos_claims.proofs.ClaimOrder.{same_place_true, true_same_place}
-use Rattle.eos_claims.proofs.FaultOrder.{place_exact, place_total}
 use Rattle.eos_lineage.specs.Lineage.{inputs_below, outputs_in}
-use Rattle.eos_lineage.specs.steps.Walks.{HasWalked, begun, is_below, is_no_note, by_claim, by_place, AreNamed, IsOutputsAnswer, one_if}
+use Rattle.eos_lineage.specs.steps.Walks.{HasWalked, begun, is_below, is_no_note, by_claim, by_source, is_named, AreNamed, IsOutputsAnswer, one_if}
 use Rattle.eos_lineage.proofs.BelowClaims.{are_below, all_below, length_mapped, is_below_true, moved, moved_back}
 
 -- ---- an input
@@ -79,35 +79,40 @@ both_ways true c f g = sym (f refl)
 both_ways false true f g = g refl
 both_ways false false f g = refl
 
-pub are_named : (a : Application) (kept sorted : List NumberedClaim) (sources ps : List PlaceRef) → map plain_claim kept ≡ map counted (filter (is_below a) a.claims)
-    → IsPermutation kept sorted → map plain_place sources ≡ map (λ (n : Counted). n.source) (map plain_claim sorted) → IsPermutation sources ps → IsSorted by_place ps → AreNamed a ps
-are_named a kept sorted sources ps same perm are moved_ps up = record { in_order = up; named = λ i has m. both_ways (is_found place_cmp (map plain_place ps) i) (list_any (names i) a.claims) (there i) (back i has m) }
+first_alike : (o r : Ordering) → is_lt (ordering_then o r) ≡ false → is_lt o ≡ false
+first_alike Less r e = e
+first_alike Equal r e = refl
+first_alike Greater r e = refl
+
+sources_in_order : (cs : List NumberedClaim) → IsSorted by_claim cs → IsSorted by_source cs
+sources_in_order cs up = λ k d le lt. first_alike _ _ (up k d le lt)
+
+pub are_named : (a : Application) (kept sorted : List NumberedClaim) → map plain_claim kept ≡ map counted (filter (is_below a) a.claims) → IsPermutation kept sorted → IsSorted by_claim sorted → AreNamed a sorted
+are_named a kept sorted same perm up = record { in_order = sources_in_order sorted up; named = λ i has m. both_ways (is_named sorted i) (list_any (names i) a.claims) (there i) (back i has m) }
   where
     ordered : IsPermutation (map plain_claim kept) (map plain_claim sorted)
     ordered = IsPermutation-map plain_claim kept sorted perm
 
-    places : (i : Place) → is_found place_cmp (map plain_place sources) i ≡ is_found place_cmp (map plain_place ps) i
-    places i = list_any-IsPermutation (λ y. is_eq (place_cmp y i)) (map plain_place sources) (map plain_place ps) (IsPermutation-map plain_place sources ps moved_ps)
+    at : Place → NumberedClaim → Bool
+    at i c = is_eq (place_cmp (plain_place c.source) i)
 
-    there : (i : Place) → is_found place_cmp (map plain_place ps) i ≡ true → list_any (names i) a.claims ≡ true
+    there : (i : Place) → is_named sorted i ≡ true → list_any (names i) a.claims ≡ true
     there i e =
-        let h = subst (λ is. Has is i) are (found_has place_cmp place_exact (map plain_place sources) i (places i ∙ e)) in
-        let n = map_has (λ (n : Counted). n.source) (map plain_claim sorted) i h in
-        let k = subst (λ ns. Has ns n.0) same (moved_back (map plain_claim kept) (map plain_claim sorted) ordered n.0 n.1) in
-        let c = map_has counted (filter (is_below a) a.claims) n.0 k in
+        let n = any_has (at i) sorted e in
+        let k = moved_back (map plain_claim kept) (map plain_claim sorted) ordered (plain_claim n.0) (has_map plain_claim sorted n.0 n.1) in
+        let c = map_has counted (filter (is_below a) a.claims) (plain_claim n.0) (subst (λ ns. Has ns (plain_claim n.0)) same k) in
         let f = filter_has (is_below a) a.claims c.0 c.1 in
-        has_any (names i) a.claims c.0 f.0 (true_same_place c.0.source i (ap (λ (n : Counted). n.source) c.2 ∙ n.2))
+        has_any (names i) a.claims c.0 f.0 (true_same_place c.0.source i (ap (λ (m : Counted). m.source) c.2 ∙ same_place_true (plain_place n.0.source) i n.2))
 
-    back : (i : Place) → Has a.inputs i → is_committed a i ≡ true → list_any (names i) a.claims ≡ true → is_found place_cmp (map plain_place ps) i ≡ true
+    back : (i : Place) → Has a.inputs i → is_committed a i ≡ true → list_any (names i) a.claims ≡ true → is_named sorted i ≡ true
     back i has m e =
         let c = any_has (names i) a.claims e in
         let s : c.0.source ≡ i = same_place_true c.0.source i c.2 in
         let below : IsBelow a c.0.source = subst (IsBelow a) (sym s) (record { input = has; below = less_is _ _ m }) in
         let k = has_map counted (filter (is_below a) a.claims) c.0 (has_filter (is_below a) a.claims c.0 c.1 (is_below_true a c.0 below)) in
         let n = moved (map plain_claim kept) (map plain_claim sorted) ordered (counted c.0) (subst (λ ns. Has ns (counted c.0)) (sym same) k) in
-        let p = has_map (λ (n : Counted). n.source) (map plain_claim sorted) (counted c.0) n in
-        let q : Has (map plain_place sources) i = subst (λ is. Has is i) (sym are) (subst (Has (map (λ (n : Counted). n.source) (map plain_claim sorted))) s p) in
-        sym (places i) ∙ has_found place_cmp place_total (map plain_place sources) i q
+        let q = map_has plain_claim sorted (counted c.0) n in
+        has_any (at i) sorted q.0 q.1 (true_same_place (plain_place q.0.source) i (ap (λ (m : Counted). m.source) q.2 ∙ s))
 
 -- ---- the answer
 

@@ -1,22 +1,22 @@
 -- Walks over runs of partitions, put together.
-use Rattle.std.proofs.Common.{◌≡◌, ◌+◌, ◌*◌, ◌<◌, ◌≤◌, ℕ, zero, suc, List, [], ◌∷◌, ◌++◌, length, map, take, drop, slice_index_or, get_or, fold, Option, Some, None, Result, Ok, Err, refl, sym, subst, ap, ◌∙◌, true, false, Bool, arith}
+use Rattle.std.proofs.Common.{◌≡◌, ◌+◌, ◌*◌, ◌<◌, ◌≤◌, ℕ, zero, suc, List, [], ◌∷◌, ◌++◌, length, take, drop, fold, Option, Some, None, Result, Ok, refl, sym, subst, ap, ◌∙◌, true, false, Bool, arith}
 use Rattle.std.specs.Prelude.{IfOk}
 use Rattle.std.specs.declared.alloc.AllocError.{AllocError}
-use Rattle.std.specs.List.{flat_map, filter}
+use Rattle.std.specs.List.{flat_map}
 use Rattle.std.specs.Ordering.{is_gt}
 use Rattle.std.proofs.lemmas.Grind.{flat_map-append}
 use Rattle.std.proofs.Math.Seq.{take-add, get_or-append_seam}
 use Rattle.std.proofs.lemmas.List.{get_or_append_left, length-append}
-use Rattle.eos_base.specs.Least.{UpTo, lesser_of}
+use Rattle.eos_base.specs.Least.{lesser_of}
 use Rattle.eos_base.proofs.LeastOf.{upto_trans, other_way}
 use Rattle.eos_base.proofs.Decides.{differs}
 use Rattle.eos_claims.specs.declared.fault.OutputFault.{OutputFault}
 use Rattle.eos_claims.specs.Outputs.{PlacedClaim, Application}
 use Rattle.eos_claims.specs.Faults.{fault_cmp}
-use Rattle.eos_claims.specs.Candidates.{Counted, counted, shown_by}
+use Rattle.eos_claims.specs.Candidates.{Counted, shown_by}
 use Rattle.eos_claims.proofs.FaultOrder.{fault_total}
 use Rattle.eos_lineage.specs.declared.claims.Walk.{Walk}
-use Rattle.eos_lineage.specs.steps.Walks.{WalkView, plain_walk, begun, HasWalked, is_below, lesser_found, joined_walk, EachWalked, in_turn}
+use Rattle.eos_lineage.specs.steps.Walks.{WalkView, plain_walk, begun, HasWalked, lesser_found, joined_walk, EachWalked, in_turn}
 use Rattle.eos_lineage.proofs.ClaimWalk.{walked_none, walked_then}
 
 -- ---- the least of both

@@ -1,6 +1,6 @@
 //! The outputs of one application: the least fault, and what is counted.
 
-ghost use Rattle.std.specs.Prelude.{◌≡◌, ◌≤◌, map, flat_map, filter, length, fold, option_map, IfOk, IsSorted, IsPermutation};
+ghost use Rattle.std.specs.Prelude.{◌≡◌, ◌≤◌, true, map, flat_map, filter, length, fold, option_map, IfOk, IsSorted, IsPermutation};
 ghost use Rattle.eos_base.specs.Members.{Has};
 ghost use Rattle.eos_base.specs.Least.{lesser_of};
 ghost use Rattle.eos_claims.specs.Outputs.{Application, ReadsSources};
@@ -10,23 +10,23 @@ ghost use Rattle.eos_claims.specs.Plain.{plain_place, plain_fault, plain_claim};
 ghost use Rattle.eos_commits.specs.Faults.{AreInOrder};
 ghost use Rattle.eos_fold.specs.Parts.{part_name};
 ghost use Rattle.eos_lineage.specs.Lineage.{application_of, inputs_below};
-ghost use Rattle.eos_lineage.specs.steps.Walks.{one_if, AreTables, AreNamed, by_claim, claims_of_part, is_no_note, IsOutputsAnswer};
+ghost use Rattle.eos_lineage.specs.steps.Walks.{one_if, AreTables, AreNamed, by_claim, by_source, is_named, claims_of_part, is_no_note, IsOutputsAnswer};
 
 use crate::claims::take_parts;
 use crate::committed::offsets_of;
 use crate::inputs::inputs_of;
 use crate::name::Names;
 use crate::passes::PassTable;
-use crate::tables::{Marks, Tables, advanced, is_among, is_committed};
+use crate::tables::{Marks, Tables, is_committed};
 use bytes::Bytes;
-use eos_base::{PartitionName, in_order};
+use eos_base::PartitionName;
 use eos_claims::{
     Found, NumberedClaim, OutputFault, Place, PlaceRef, least_of_input, least_of_runs,
 };
 use eos_commits::{TopicSet, commits_of};
 use eos_evidence::App;
 use eos_fold::Part;
-use rayon::prelude::par_sort;
+use rayon::prelude::par_sort_unstable;
 use std::alloc::{AllocError, Global};
 use std::thread::Threads;
 
@@ -39,17 +39,17 @@ pub(crate) struct Tally {
     pub(crate) outputs: u64,
 }
 
-// The claims in their order.
+// The claims in their order, sorted in place: claims that are tied are equal, so none that takes memory to keep the order of
+// such is wanted.
 fn sorted<'a>(
-    alloc: Global,
     rt: &(impl Threads + Sync),
     mut claims: Vec<NumberedClaim<'a>>,
-) -> Result<Vec<NumberedClaim<'a>>, AllocError>
-    ensures same { IfOk result (λ v. IsPermutation claims.entry.items v.items) }
-    ensures in_order { IfOk result (λ v. IsSorted by_claim v.items) }
+) -> Vec<NumberedClaim<'a>>
+    ensures same { IsPermutation claims.entry.items result.items }
+    ensures in_order { IsSorted by_claim result.items }
 {
-    par_sort(rt, alloc, claims.as_mut_slice())?;
-    Ok(claims)
+    par_sort_unstable(rt, claims.as_mut_slice());
+    claims
 }
 
 // The number of claims that are no notes.
@@ -65,18 +65,37 @@ fn count_outputs(claims: &[NumberedClaim<'_>]) -> u64
     count
 }
 
-// The inputs that these claims name.
-fn sources_of<'a>(
-    alloc: Global,
-    claims: &[NumberedClaim<'a>],
-) -> Result<Vec<PlaceRef<'a>>, AllocError>
-    ensures { IfOk result (λ all. map plain_place all.items ≡ map (λ n. n.source) (map plain_claim claims.now)) }
+// Whether the claim at this place is of the input.
+fn names_at<'a>(claims: &[NumberedClaim<'a>], place: usize, input: &PlaceRef<'a>) -> bool
+    ensures { result ≡ true → is_named claims.now (plain_place input.now) ≡ true }
 {
-    let mut all = Vec::new(alloc);
-    for claim in claims {
-        all.push(claim.source)?;
+    match claims.get(place) {
+        None => false,
+        Some(claim) => claim.source.cmp(input).is_eq(),
     }
-    Ok(all)
+}
+
+// Whether one of the claims, which are in order, is of the input: looked for first at a place where it may stand, then by
+// a binary search.
+fn is_claimed<'a>(claims: &[NumberedClaim<'a>], near: usize, input: &PlaceRef<'a>) -> bool
+    ensures { IsSorted by_source claims.now → result ≡ is_named claims.now (plain_place input.now) }
+{
+    if names_at(claims, near, input) {
+        return true;
+    }
+    claims
+        .binary_search_by_key(input, |claim| claim.source)
+        .is_ok()
+}
+
+// From a place on, the first of the claims that isn't of a lesser input. Only a guess where the input's stand: it says
+// nothing of claims before the place.
+fn advanced<'a>(claims: &[NumberedClaim<'a>], from: usize, input: &PlaceRef<'a>) -> usize {
+    let mut place = from;
+    while place < claims.len() && claims[place].source.cmp(input).is_lt() {
+        place += 1;
+    }
+    place
 }
 
 fn one_where(test: bool) -> u64
@@ -102,34 +121,34 @@ fn count_inputs(tables: &Tables<'_, '_, '_, '_, '_, '_>) -> u64
 fn take_input<'a>(
     tables: &Tables<'_, '_, '_, '_, '_, 'a>,
     marks: &mut Marks,
-    named: &[PlaceRef<'a>],
+    claims: &[NumberedClaim<'a>],
     near: usize,
     best: Option<Found<'a>>,
     input: &PlaceRef<'a>,
 ) -> Option<Found<'a>>
-    ensures { (a : Application) → AreTables a tables.entry.now → AreNamed a named.entry.now → Has a.inputs (plain_place input.entry.now)
+    ensures { (a : Application) → AreTables a tables.entry.now → AreNamed a claims.now → Has a.inputs (plain_place input.entry.now)
         → option_map plain_fault result ≡ fold (lesser_of fault_cmp) (option_map plain_fault best.entry) (unclaimed a (plain_place input.entry.now)) }
 {
     let committed = is_committed(tables, marks, input);
-    let claimed = is_among(named, near, input);
+    let claimed = is_claimed(claims, near, input);
     least_of_input(best, *input, committed, claimed)
 }
 
 // The lesser of the least so far and what inputs show.
 fn take_inputs<'a>(
     tables: &Tables<'_, '_, '_, '_, '_, 'a>,
-    named: &[PlaceRef<'a>],
+    claims: &[NumberedClaim<'a>],
     best: Option<Found<'a>>,
 ) -> Option<Found<'a>>
-    ensures { (a : Application) → AreTables a tables.entry.now → AreNamed a named.entry.now
+    ensures { (a : Application) → AreTables a tables.entry.now → AreNamed a claims.now
         → option_map plain_fault result ≡ fold (lesser_of fault_cmp) (option_map plain_fault best.entry) (flat_map (unclaimed a) a.inputs) }
 {
     let mut best = best;
     let mut marks = Marks::new();
     let mut near = 0;
     for input in tables.inputs {
-        near = advanced(named, near, input);
-        best = take_input(tables, &mut marks, named, near, best, input);
+        near = advanced(claims, near, input);
+        best = take_input(tables, &mut marks, claims, near, best, input);
     }
     best
 }
@@ -194,10 +213,9 @@ pub(crate) fn make_tally<'a, R: Threads + Sync>(
 {
     let walk = take_parts(alloc, rt, tables, outputs, all, parts)?;
     let outputs = count_outputs(walk.below.as_slice());
-    let below = sorted(alloc, rt, walk.below)?;
+    let below = sorted(rt, walk.below);
     let best = least_of_runs(walk.best, below.as_slice());
-    let named = in_order(sources_of(alloc, below.as_slice())?);
-    let best = take_inputs(tables, named.as_slice(), best);
+    let best = take_inputs(tables, below.as_slice(), best);
     let inputs = count_inputs(tables);
     let fault = published_if(alloc, best)?;
     Ok(Tally {

@@ -187,6 +187,10 @@ fn join_walk<'a>(walk: &mut Walk<'a>, next: Walk<'a>) -> Result<(), AllocError>
     if let Some(found) = best {
         walk.best = lesser(walk.best, found);
     }
+    if walk.below.is_empty() {
+        walk.below = below;
+        return Ok(());
+    }
     walk.below.append(&mut below)
 }
 

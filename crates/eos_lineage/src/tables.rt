@@ -85,23 +85,6 @@ fn place_of<T: Ord>(items: &[T], near: usize, key: &T) -> Option<usize>
     items.binary_search(key).ok()
 }
 
-/// Whether one of the items, which are in order, is tied with the key.
-pub(crate) fn is_among<T: Ord>(items: &[T], near: usize, key: &T) -> bool
-    ensures { IsSorted T.cmp items.now → result ≡ is_found T.cmp items.now key.now }
-{
-    place_of(items, near, key).is_some()
-}
-
-/// From a place on, the first of the items that isn't less than the key. Only a guess where the key stands: it says
-/// nothing of items before the place.
-pub(crate) fn advanced<T: Ord>(items: &[T], from: usize, key: &T) -> usize {
-    let mut place = from;
-    while place < items.len() && items[place].cmp(key).is_lt() {
-        place += 1;
-    }
-    place
-}
-
 // Whether the place is one of the inputs.
 fn is_input(inputs: &[PlaceRef<'_>], marks: &mut Marks, place: &PlaceRef<'_>) -> bool
     ensures { IsSorted by_place inputs.now → result ≡ is_found by_place inputs.now place.now }

@@ -1,11 +1,11 @@
 -- The walks over visible records and over claims.
 use Rattle.std.specs.Prelude.{◌≡◌, ◌<◌, ℕ, zero, suc, slice_index_or, IfOk, Result, ℤ, pos, int_lt, Bool, true, false, ◌&&◌, ◌==◌, not, List, [], ◌∷◌, ◌++◌, length, map, filter, flat_map, fold, Option, Some, None, option_map, if◌then◌else◌, IsPermutation, IsSorted}
 use Rattle.std.specs.List.{list_any}
-use Rattle.std.specs.Ordering.{nat_cmp, then_cmp, on}
+use Rattle.std.specs.Ordering.{is_eq, nat_cmp, then_cmp, on}
 use Rattle.std.specs.declared.alloc.AllocError.{AllocError}
 use Rattle.std.specs.declared.cmp.Ordering.{Ordering}
 use Rattle.eos_base.specs.declared.partition_name.PartitionName.{PartitionName}
-use Rattle.eos_base.specs.Members.{Has, is_found}
+use Rattle.eos_base.specs.Members.{Has}
 use Rattle.eos_base.specs.Least.{NoneStands, IsLeast, lesser_of}
 use Rattle.eos_items.specs.declared.item.Item.{Item}
 use Rattle.eos_fold.specs.Parts.{part_name, PartLog}
@@ -132,10 +132,17 @@ claim_order = then_cmp (on (λ c. c.source) place_cmp) (then_cmp (on (λ c. c.ou
 abbrev pub by_claim : NumberedClaim → NumberedClaim → Ordering
 by_claim a b = claim_order (plain_claim a) (plain_claim b)
 
--- an input below its committed offset is claimed exactly where it is among these
-pub record AreNamed (a : Application) (ps : List PlaceRef) : Type 0 where
-  pub in_order : IsSorted by_place ps
-  pub named : (i : Place) → Has a.inputs i → is_committed a i ≡ true → is_found place_cmp (map plain_place ps) i ≡ list_any (names_input i) a.claims
+abbrev pub by_source : NumberedClaim → NumberedClaim → Ordering
+by_source a b = by_place a.source b.source
+
+-- one of the claims is of this input
+abbrev pub is_named : List NumberedClaim → Place → Bool
+is_named cs i = list_any (λ c. is_eq (place_cmp (plain_place c.source) i)) cs
+
+-- an input below its committed offset is claimed exactly where one of these is of it
+pub record AreNamed (a : Application) (cs : List NumberedClaim) : Type 0 where
+  pub in_order : IsSorted by_source cs
+  pub named : (i : Place) → Has a.inputs i → is_committed a i ≡ true → is_named cs i ≡ list_any (names_input i) a.claims
 
 -- ---- counts and the answer
 

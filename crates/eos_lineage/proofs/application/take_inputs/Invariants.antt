@@ -8,5 +8,5 @@ use Rattle.eos_lineage.specs.steps.Walks.{AreTables, AreNamed}
 use Rattle.eos_lineage.proofs.application.take_inputs.Given as goal
 
 abbrev pub invariant-loop-input : goal.invariant-loop-input
-invariant-loop-input l = (a : Application) → AreTables a l.tables → AreNamed a l.named
+invariant-loop-input l = (a : Application) → AreTables a l.tables → AreNamed a l.claims
     → option_map plain_fault l.best ≡ fold (lesser_of fault_cmp) (option_map plain_fault l.fn.best) (flat_map (unclaimed a) (map plain_place (take l.input-index l.tables.inputs.now)))
