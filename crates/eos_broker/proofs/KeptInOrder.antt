@@ -1,19 +1,15 @@
 -- What a broker accepts stays in order.
-use Rattle.std.proofs.Common.{◌≡◌, ◌≢◌, ◌++◌, ◌∷◌, [], ℕ, ◌+◌, ◌<◌, ◌≤◌, ◌==◌, ◌&&◌, ◌||◌, not, Bool, true, false, List, length, ◌∙◌, sym, ap, subst, arith, refl, Option, Some, None, if◌then◌else◌, ◌^◌, append-nil, length-append}
+use Rattle.std.proofs.Common.{◌≡◌, ◌≢◌, ◌++◌, ◌∷◌, [], ℕ, ◌+◌, ◌≤◌, ◌==◌, not, Bool, true, false, List, length, sym, subst, arith, refl, Some, None, if◌then◌else◌, ◌^◌, length-append}
 use Rattle.std.specs.Prelude.{nat_lt}
-use Rattle.std.specs.List.{filter_map}
-use Rattle.std.proofs.lemmas.Bool.{and_parts, or_parts, eqb-true, ne_eqb}
-use Rattle.std.proofs.lemmas.List.Elements.{filter_map-append}
-use Rattle.eos_batch.specs.declared.marker.Kind.{Kind}
+use Rattle.std.proofs.lemmas.Bool.{and_parts, or_parts, eqb-true}
 use Rattle.eos_touch.specs.Neighbours.{EachAfter, KeepsOrder}
 use Rattle.eos_machine.specs.Application.{Mark, Batch, End}
 use Rattle.eos_machine.specs.declared.item.Item.{Item}
 use Rattle.eos_machine.specs.declared.item.Item.TheVariants.{Fed, State, Output, Offset, Marker}
-use Rattle.eos_machine.specs.declared.state.Producer.{Producer}
 use Rattle.eos_machine.specs.Logs.{mark_in, marks_of, unseen, producer_of, next_sequence, not_above}
 use Rattle.eos_machine.specs.Rest.{touches_of}
 use Rattle.eos_machine.proofs.Worlds.{each, is_same, not_same}
-use Rattle.eos_machine.proofs.Brokers.{IsNumbered, Broker, not_lt, above, producer_push, broker_none, broker_batch, broker_end}
+use Rattle.eos_machine.proofs.Brokers.{Broker, not_lt, above, producer_push, broker_none, broker_batch, broker_end}
 use Rattle.eos_machine.proofs.TouchRules.{touches_are, each_keeps}
 use Rattle.eos_broker.specs.Kept.{producer_in, accepts, kept}
 use Rattle.eos_broker.proofs.StateOfLog.{few, pass, push}

@@ -1,15 +1,15 @@
 -- The state of a producer id after one item more.
-use Rattle.std.proofs.Common.{◌≡◌, ◌≢◌, ◌++◌, ◌∷◌, [], ℕ, suc, zero, ◌+◌, ◌<◌, ◌≤◌, ◌==◌, List, length, ◌∙◌, sym, ap, subst, arith, refl, slice_index_or, slice_set, replicate, true, false, Option, Some, None, if◌then◌else◌, ◌^◌, append-nil}
-use Rattle.std.specs.List.{All, filter_map}
+use Rattle.std.proofs.Common.{◌≡◌, ◌++◌, ◌∷◌, [], ℕ, suc, zero, ◌+◌, ◌<◌, ◌≤◌, ◌==◌, List, length, ◌∙◌, sym, ap, arith, refl, slice_index_or, slice_set, replicate, true, false, Option, Some, None, if◌then◌else◌, ◌^◌, append-nil}
+use Rattle.std.specs.List.{All}
 use Rattle.std.proofs.lemmas.List.{get_or-set_same, get_or-set_other, length-set}
-use Rattle.std.proofs.lemmas.Bool.{eqb-true, eqb-false, ne_eqb}
+use Rattle.std.proofs.lemmas.Bool.{eqb-true, eqb-false}
 use Rattle.std.proofs.lemmas.List.Elements.{All-from_all_within, filter_map-append}
 use Rattle.eos_machine.specs.Application.{Mark, Batch, End}
 use Rattle.eos_machine.specs.declared.item.Item.{Item}
 use Rattle.eos_machine.specs.declared.state.Producer.{Producer}
 use Rattle.eos_machine.specs.Logs.{mark_in, marks_of, unseen, is_epoch, after_mark, producer_from, producer_of}
 use Rattle.eos_machine.proofs.Brokers.{producer_push}
-use Rattle.eos_broker.specs.Kept.{AreKept}
+use Rattle.eos_broker.specs.Kept.{AreKept, noted}
 
 -- an item that is no mark of the application, or is one
 pub pass : (a : ℕ) (log : List Item) (x : Item) → mark_in a x ≡ None → marks_of a (log ++ x ∷ []) ≡ marks_of a log
@@ -28,21 +28,18 @@ one_more a log x t e = ap producer_of (push a log x t e) ∙ producer_push unsee
 pub kept_same : (ps : List Producer) (log : List Item) (x : Item) → AreKept ps log → ((a : ℕ) → a < length ps → mark_in a x ≡ None) → AreKept ps (log ++ x ∷ [])
 kept_same ps log x h none a i = h a i ∙ sym (none_more a log x (none a i))
 
--- an item of one that is not kept
-pub kept_past : (ps : List Producer) (log : List Item) (x : Item) (b : ℕ) (t : Mark) → AreKept ps log → length ps ≤ b → ((a : ℕ) → mark_in a x ≡ (if b == a then Some t else None)) → AreKept ps (log ++ x ∷ [])
-kept_past ps log x b t h o is = kept_same ps log x h (λ a i. is a ∙ ap (λ z. if z then Some t else None) (ne_eqb b a (λ m. omega (arith, m, i, o))))
-
--- an item of one
-pub kept_one : (ps : List Producer) (log : List Item) (x : Item) (b : ℕ) (t : Mark) (s : Producer) → AreKept ps log → b < length ps → ((a : ℕ) → mark_in a x ≡ (if b == a then Some t else None)) → s ≡ after_mark (slice_index_or ps b unseen) t → AreKept (slice_set ps b s) (log ++ x ∷ [])
-kept_one ps log x b t s h j is e a i =
+-- an item of one, whose state is kept or not
+pub kept_noted : (ps : List Producer) (log : List Item) (x : Item) (b : ℕ) (t : Mark) → AreKept ps log → ((a : ℕ) → mark_in a x ≡ (if b == a then Some t else None)) → AreKept (noted ps b t) (log ++ x ∷ [])
+kept_noted ps log x b t h is a i =
+    let s : Producer = after_mark (slice_index_or ps b unseen) t in
     let n : length (slice_set ps b s) ≡ length ps = length-set ps b s in
     let k : a < length ps = omega (arith, i, n) in
     elim (b == a) as (λ z. (b == a) ≡ z → slice_index_or (slice_set ps b s) a unseen ≡ producer_of (marks_of a (log ++ x ∷ []))) [
       | true ↦ λ q.
           let m : b ≡ a = eqb-true b a q in
-          let w : slice_index_or (slice_set ps b s) a unseen ≡ s = rw (← m) (get_or-set_same ps b s unseen j) in
+          let w : slice_index_or (slice_set ps b s) a unseen ≡ s = rw (← m) (get_or-set_same ps b s unseen (omega (arith, m, k))) in
           let v : mark_in a x ≡ Some t = is a ∙ ap (λ z. if z then Some t else None) q in
-          w ∙ (e ∙ (ap (λ r. after_mark r t) (ap (λ k. slice_index_or ps k unseen) m ∙ h a k) ∙ sym (one_more a log x t v)))
+          w ∙ (ap (λ r. after_mark r t) (ap (λ k. slice_index_or ps k unseen) m ∙ h a k) ∙ sym (one_more a log x t v))
       | false ↦ λ q.
           let v : mark_in a x ≡ None = is a ∙ ap (λ z. if z then Some t else None) q in
           let w : slice_index_or (slice_set ps b s) a unseen ≡ slice_index_or ps a unseen = get_or-set_other ps b a s unseen (λ m. eqb-false b a q (sym m)) in

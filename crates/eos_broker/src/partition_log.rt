@@ -3,10 +3,12 @@
 ghost use Rattle.std.specs.Prelude.{◌≡◌, ◌∷◌, ◌++◌, ◌-◌, ◌+◌, ◌≤◌, ◌<◌, ◌^◌, [], List, length, vec_len, OnOk, OnErr, IfOk};
 ghost use Rattle.std.specs.List.{All};
 ghost use Rattle.eos_machine.specs.declared.item.Item.{Item};
+ghost use Rattle.eos_machine.specs.Application.{Batch, End};
 ghost use Rattle.eos_machine.specs.Logs.{marks_of, producer_of};
-ghost use Rattle.eos_broker.specs.Kept.{AreKept, LogView};
+ghost use Rattle.eos_broker.specs.Kept.{AreKept, LogView, noted};
 
 use crate::producer::{after_data, after_marker, unseen};
+use eos_batch::Kind;
 use eos_machine::{Item, Producer};
 use std::alloc::{AllocError, Global};
 use std::marker::Model;
@@ -31,6 +33,25 @@ impl Model for PartitionLog {
     ghost invariant = { λ l. (vec_len l.items + l.room ≤ vec_capacity l.items) × AreKept l.producers.items l.items.items };
 }
 
+/// Takes data of an application into what is kept of its producer id, if that is kept here.
+fn note_data(producers: &mut Vec<Producer>, application: usize, epoch: u16, sequence: Option<u32>)
+    requires { All (λ p. p.count < 2 ^ 63) producers.old.items }
+    ensures { producers.new.items ≡ noted producers.old.items application (Batch epoch sequence) }
+{
+    if application < producers.len() {
+        producers[application] = after_data(producers[application], epoch, sequence);
+    }
+}
+
+/// The same for an end marker.
+fn note_marker(producers: &mut Vec<Producer>, application: usize, epoch: u16, kind: Kind)
+    ensures { producers.new.items ≡ noted producers.old.items application (End epoch kind) }
+{
+    if application < producers.len() {
+        producers[application] = after_marker(producers[application], epoch, kind);
+    }
+}
+
 /// Takes an item into what is kept of its producer id.
 fn note(producers: &mut Vec<Producer>, item: &Item)
     requires { All (λ p. p.count < 2 ^ 63) producers.old.items }
@@ -43,34 +64,18 @@ fn note(producers: &mut Vec<Producer>, item: &Item)
             epoch,
             sequence,
             ..
-        } => {
-            if *application < producers.len() {
-                producers[*application] = after_data(
-                    producers[*application],
-                    *epoch,
-                    Some(*sequence),
-                );
-            }
-        }
+        } => note_data(producers, *application, *epoch, Some(*sequence)),
         Item::Offset {
             application,
             epoch,
             ..
-        } => {
-            if *application < producers.len() {
-                producers[*application] = after_data(producers[*application], *epoch, None);
-            }
-        }
+        } => note_data(producers, *application, *epoch, None),
         Item::Marker {
             application,
             epoch,
             kind,
             ..
-        } => {
-            if *application < producers.len() {
-                producers[*application] = after_marker(producers[*application], *epoch, *kind);
-            }
-        }
+        } => note_marker(producers, *application, *epoch, *kind),
         Item::Fed { .. } => {}
         Item::State { .. } => {}
     }

@@ -1,4 +1,4 @@
-use Rattle.std.proofs.Common.{rules, arith}
+use Rattle.std.proofs.Common.{arith}
 use Rattle.eos_broker.proofs.StateOfLog.{all_counts}
 use Rattle.eos_broker.proofs.partition_log.PartitionLog.append.Goals as goal
 
