@@ -1,7 +1,8 @@
 //! A worked log: two producers' transactions, and a batch of neither.
 
 use bytes::Bytes;
-use eos_batch::{Batch, BatchFault, Headers, Record, Records, encode_batch};
+use eos_batch::{Batch, BatchFault, Kind, Record};
+use eos_test_logs::{bare, batch, encoded, marker};
 use std::alloc::{AllocError, Global};
 
 /// What a batch holds.
@@ -38,70 +39,41 @@ pub(crate) static LINES: [Line; 14] = [
     (16, 1000, 1, Held::Data(0, 1), (3, 5)),
 ];
 
-fn record(alloc: Global, key: Option<Bytes>, value: Bytes) -> Record {
-    Record {
-        attributes: 0,
-        timestamp_delta: 0,
-        key,
-        value: Some(value),
-        headers: Headers::new(Vec::new(alloc)),
-    }
-}
-
 /// So many records, each with the batch's base offset as its value.
 fn records(alloc: Global, offset: i64, count: u32) -> Result<Vec<Record>, AllocError> {
     let mut records = Vec::new(alloc);
     for _ in 0..count {
         let value = Bytes::copy_from_slice(alloc, offset.to_be_bytes().as_slice())?;
-        records.push(record(alloc, None, value))?;
+        records.push(bare(alloc, None, value))?;
     }
     Ok(records)
 }
 
-/// The one record of an end marker, of coordinator epoch 0.
-fn marker(alloc: Global, key: &'static [u8]) -> Result<Vec<Record>, AllocError> {
-    let value = Bytes::from_static(b"\x00\x00\x00\x00\x00\x00");
-    let record = record(alloc, Some(Bytes::from_static(key)), value);
-    Ok(vec![in alloc; record]?)
-}
-
-/// The attributes, the base sequence and the records of a batch.
-fn fields_of(
-    alloc: Global,
-    offset: i64,
-    held: Held,
-) -> Result<(i16, i32, Vec<Record>), AllocError> {
-    match held {
-        Held::Plain(count) => Ok((0, -1, records(alloc, offset, count)?)),
-        Held::Data(sequence, count) => { Ok((0x10, sequence, records(alloc, offset, count)?)) }
-        Held::Commit => Ok((0x30, -1, marker(alloc, b"\x00\x00\x00\x01")?)),
-        Held::Abort => Ok((0x30, -1, marker(alloc, b"\x00\x00\x00\x00")?)),
-    }
-}
-
-fn batch(alloc: Global, line: Line) -> Result<Batch, AllocError> {
+fn batch_of(alloc: Global, line: Line) -> Result<Batch, AllocError> {
     let (base_offset, producer, epoch, held, _) = line;
-    let (attributes, sequence, records) = fields_of(alloc, base_offset, held)?;
+    let (attributes, sequence, count) = match held {
+        Held::Plain(count) => (0, -1, count),
+        Held::Data(sequence, count) => (0x10, sequence, count),
+        Held::Commit => return marker(alloc, base_offset, producer, epoch, Kind::Commit),
+        Held::Abort => return marker(alloc, base_offset, producer, epoch, Kind::Abort),
+    };
     Ok(Batch {
         base_offset,
-        leader_epoch: 0,
         attributes,
-        base_timestamp: 0,
-        max_timestamp: 0,
         producer,
         epoch,
         sequence,
-        records: Records::new(records),
+        ..batch(records(alloc, base_offset, count)?)
     })
 }
 
 /// The bytes of the batches of these lines, and then these.
 pub(crate) fn worked_log(alloc: Global, lines: &[Line], more: &[u8]) -> Result<Bytes, BatchFault> {
-    let mut bytes = Vec::new(alloc);
+    let mut batches = Vec::new(alloc);
     for line in lines {
-        let batch = batch(alloc, *line)?;
-        bytes.extend_from_slice(encode_batch(alloc, &batch)?.as_slice())?;
+        batches.push(batch_of(alloc, *line)?)?;
     }
+    let mut bytes = encoded(alloc, batches.as_slice())?;
     bytes.extend_from_slice(more)?;
     Ok(Bytes::from_vec(bytes)?)
 }
