@@ -4,8 +4,6 @@
 #[cfg(test)]
 mod board;
 #[cfg(test)]
-mod build;
-#[cfg(test)]
 mod pool_core;
 #[cfg(test)]
 mod row_six;

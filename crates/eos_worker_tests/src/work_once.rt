@@ -1,12 +1,11 @@
 //! A thousand batches, checked by the caller alone and by one worker. `tests/work_once.py` refuses an allocation in each of these
 //! tests, and so tells whether the caller does a worker's work again.
 
-use crate::build::{encoded, plain};
-use bytes::Bytes;
 use eos_board::Gate;
 use eos_check::{Counts, Verdict, check, check_one};
-use eos_evidence::{Evidence, EvidenceBuilder, Segment, parse_spec};
+use eos_evidence::{Evidence, EvidenceBuilder, parse_spec};
 use eos_fold::Named;
+use eos_test_logs::{plain, segment};
 use std::alloc::Global;
 use std::sync::atomic::{AtomicU64, Ordering};
 use std::test::Fail;
@@ -28,12 +27,7 @@ fn thousand(alloc: Global, each: usize) -> Result<Evidence, Fail> {
     for offset in 0..1000 {
         batches.push(plain(alloc, offset)?)?;
         if batches.len() == each {
-            builder.add(Segment {
-                topic: Bytes::from_static(b"x"),
-                partition: 0,
-                base,
-                bytes: Bytes::from_vec(encoded(alloc, batches.as_slice())?)?,
-            })?;
+            builder.add(segment(alloc, (b"x", 0), base, batches.as_slice())?)?;
             batches.clear();
             base = offset + 1;
         }
