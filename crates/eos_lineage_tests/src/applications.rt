@@ -2,11 +2,12 @@
 
 use crate::build::Row::{Commit, Data, Plain};
 use crate::build::Says::{Claim, Value};
-use crate::build::{IN, Log, Name, OFFSETS, OUT, Reads, Says, TWO};
+use crate::build::{IN, Log, OFFSETS, OUT, Reads, Says, TWO};
 use crate::expect::{answer, of_output, of_record};
 use eos_claims::OutputKind;
 use eos_commits::VisibleFaultKind;
 use eos_lineage::LineageFault;
+use eos_test_logs::Name;
 use std::test::Fail;
 
 const OUT_SECOND: Name = (b"out", 1);

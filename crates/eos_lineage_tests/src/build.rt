@@ -2,15 +2,13 @@
 
 use bytes::Bytes;
 use eos_base::Listed;
-use eos_batch::{Batch, Header, Headers, Record, Records, encode_batch};
-use eos_evidence::{App, Apps, GroupId, Segment, Spec, Topics};
+use eos_batch::{Batch, Header, Kind, Record};
+use eos_evidence::Spec;
 use eos_fold::{Named, Part};
 use eos_offsets::{Commit, OffsetKey, encode_key, encode_value};
+use eos_test_logs::{AppRow, Name, apps_of, bare, batch, marker, record, segment};
 use std::alloc::{AllocError, Global};
 use std::test::Fail;
-
-/// A topic and the number of a partition.
-pub(crate) type Name = (&'static [u8], i32);
 
 pub(crate) const OFFSETS: Name = (b"__consumer_offsets", 0);
 
@@ -55,12 +53,7 @@ pub(crate) struct Log {
     pub(crate) rows: &'static [Row],
 }
 
-/// An application: its group, and the topics that it reads and writes.
-pub(crate) type Reads = (
-    &'static str,
-    &'static [&'static [u8]],
-    &'static [&'static [u8]],
-);
+pub(crate) type Reads = AppRow<'static>;
 
 /// The application of group `g` that reads `in` and writes `out`.
 pub(crate) const ONE: &[Reads] = &[("g", &[b"in"], &[b"out"])];
@@ -98,17 +91,6 @@ pub(crate) fn claim(
     Ok(headers)
 }
 
-/// A record with this key, this value and these headers.
-pub(crate) fn record(key: Option<Bytes>, value: Option<Bytes>, headers: Vec<Header>) -> Record {
-    Record {
-        attributes: 0,
-        timestamp_delta: 0,
-        key,
-        value,
-        headers: Headers::new(headers),
-    }
-}
-
 fn offset_key(alloc: Global, group: &'static [u8], source: Name) -> Result<Bytes, Fail> {
     let (topic, partition) = source;
     let key = OffsetKey {
@@ -137,7 +119,7 @@ fn offset_value(
 
 fn record_of(alloc: Global, says: &Says) -> Result<Record, Fail> {
     match says {
-        Says::Value => Ok(record(None, Some(Bytes::from_static(b"a")), Vec::new(alloc))),
+        Says::Value => Ok(bare(alloc, None, Bytes::from_static(b"a"))),
         Says::Claim(source, offset, output, of) => {
             let headers = claim(alloc, *source, *offset, *output, *of)?;
             Ok(record(None, Some(Bytes::from_static(b"o")), headers))
@@ -145,7 +127,7 @@ fn record_of(alloc: Global, says: &Says) -> Result<Record, Fail> {
         Says::Commit(group, source, offset) => {
             let key = offset_key(alloc, *group, *source)?;
             let value = offset_value(alloc, *group, *source, *offset)?;
-            Ok(record(Some(key), Some(value), Vec::new(alloc)))
+            Ok(bare(alloc, Some(key), value))
         }
         Says::Deleted(group, source) => {
             let key = offset_key(alloc, *group, *source)?;
@@ -167,38 +149,6 @@ fn records_of(alloc: Global, all: &[Says]) -> Result<Vec<Record>, Fail> {
     Ok(records)
 }
 
-/// A batch of no producer at offset 0.
-pub(crate) fn batch(records: Vec<Record>) -> Batch {
-    Batch {
-        base_offset: 0,
-        leader_epoch: 0,
-        attributes: 0,
-        base_timestamp: 0,
-        max_timestamp: 0,
-        producer: -1,
-        epoch: -1,
-        sequence: -1,
-        records: Records::new(records),
-    }
-}
-
-/// An end marker with this key.
-fn marker(
-    alloc: Global,
-    producer: i64,
-    epoch: i16,
-    key: &'static [u8],
-) -> Result<Batch, AllocError> {
-    let value = Bytes::from_static(b"\x00\x00\x00\x00\x00\x00");
-    let record = record(Some(Bytes::from_static(key)), Some(value), Vec::new(alloc));
-    Ok(Batch {
-        attributes: 0x30,
-        producer,
-        epoch,
-        ..batch(vec![in alloc; record]?)
-    })
-}
-
 fn batch_of(alloc: Global, row: &Row) -> Result<Batch, Fail> {
     match row {
         Row::Plain(all) => Ok(batch(records_of(alloc, all)?)),
@@ -215,10 +165,8 @@ fn batch_of(alloc: Global, row: &Row) -> Result<Batch, Fail> {
             sequence: *sequence,
             ..batch(records_of(alloc, all)?)
         }),
-        Row::Commit(producer, epoch) => {
-            Ok(marker(alloc, *producer, *epoch, b"\x00\x00\x00\x01")?)
-        }
-        Row::Abort(producer, epoch) => Ok(marker(alloc, *producer, *epoch, b"\x00\x00\x00\x00")?),
+        Row::Commit(producer, epoch) => { Ok(marker(alloc, 0, *producer, *epoch, Kind::Commit)?) }
+        Row::Abort(producer, epoch) => Ok(marker(alloc, 0, *producer, *epoch, Kind::Abort)?),
     }
 }
 
@@ -238,28 +186,10 @@ pub(crate) fn batches(alloc: Global, rows: &[Row]) -> Result<Vec<Batch>, Fail> {
     Ok(all)
 }
 
-/// The bytes of these batches, one after the other.
-fn encoded(alloc: Global, batches: &[Batch]) -> Result<Vec<u8>, Fail> {
-    let mut bytes = Vec::new(alloc);
-    for batch in batches {
-        bytes.extend_from_slice(encode_batch(alloc, batch)?.as_slice())?;
-    }
-    Ok(bytes)
-}
-
 /// A partition of one segment, named 0.
 pub(crate) fn part(alloc: Global, name: Name, batches: &[Batch]) -> Result<Part, Fail> {
     let (topic, partition) = name;
-    let bytes = Bytes::from_vec(encoded(alloc, batches)?)?;
-    if bytes.len() > 1 << 30 {
-        return Err(AllocError)?;
-    }
-    let segment = Segment {
-        topic: Bytes::from_static(topic),
-        partition,
-        base: 0,
-        bytes,
-    };
+    let segment = segment(alloc, name, 0, batches)?;
     let Ok(run) = Named::of(alloc, 0, segment) else {
         return Err(AllocError)?;
     };
@@ -282,29 +212,8 @@ pub(crate) fn parts(alloc: Global, logs: &[Log]) -> Result<Vec<Part>, Fail> {
     Ok(parts)
 }
 
-fn topics(alloc: Global, names: &[&'static [u8]]) -> Result<Topics, AllocError> {
-    let mut all = Vec::new(alloc);
-    for name in names {
-        all.push(Bytes::from_static(*name))?;
-    }
-    Ok(Listed::new(all))
-}
-
-/// The applications.
-pub(crate) fn apps(alloc: Global, rows: &[Reads]) -> Result<Apps, AllocError> {
-    let mut all = Vec::new(alloc);
-    for (group, sources, outputs) in rows {
-        all.push(App {
-            group: GroupId::new(String::from_str(alloc, *group)?),
-            sources: topics(alloc, *sources)?,
-            outputs: topics(alloc, *outputs)?,
-        })?;
-    }
-    Ok(Listed::new(all))
-}
-
 /// What is told of these applications, without ends of partitions.
 pub(crate) fn spec(alloc: Global, rows: &[Reads]) -> Result<Spec, Fail> {
-    let apps = apps(alloc, rows)?;
+    let apps = apps_of(alloc, rows)?;
     Ok(Spec::new(alloc, apps, Listed::new(Vec::new(alloc)))?)
 }

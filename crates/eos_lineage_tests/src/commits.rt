@@ -2,10 +2,11 @@
 
 use crate::build::Row::{Abort, Commit, Data, Idempotent, Plain};
 use crate::build::Says::{Bytes as Raw, Deleted, Value};
-use crate::build::{IN, Log, Name, OFFSETS, OUT, Says, parts};
+use crate::build::{IN, Log, OFFSETS, OUT, Says, parts};
 use bytes::Bytes;
 use eos_commits::{CommitRef, TopicSet, commits_of, committed, is_visible, last_committed};
 use eos_fold::{Fate, Part};
+use eos_test_logs::Name;
 use std::alloc::{AllocError, Global};
 use std::test::Fail;
 

@@ -1,13 +1,12 @@
 //! What the lineage of some logs has to be.
 
-use crate::build::{Log, Name, Reads, parts, spec};
-use bytes::Bytes;
-use eos_base::PartitionName;
+use crate::build::{Log, Reads, parts, spec};
 use eos_claims::{OutputFault, OutputKind, Place};
 use eos_commits::{VisibleFault, VisibleFaultKind};
 use eos_evidence::GroupId;
 use eos_fold::Part;
 use eos_lineage::{LineageFault, check_lineage};
+use eos_test_logs::{Name, partition_name};
 use std::alloc::{AllocError, Global};
 use std::test::Fail;
 use std::thread::Threads;
@@ -15,18 +14,10 @@ use std::thread::Threads;
 /// What is answered.
 pub(crate) type Answer = Result<(u64, u64), LineageFault>;
 
-pub(crate) fn name_of(name: Name) -> PartitionName {
-    let (topic, partition) = name;
-    PartitionName {
-        topic: Bytes::from_static(topic),
-        partition,
-    }
-}
-
 /// The offset of a partition.
 pub(crate) fn place(name: Name, offset: u64) -> Place {
     Place {
-        partition: name_of(name),
+        partition: partition_name(name),
         offset,
     }
 }
@@ -34,7 +25,7 @@ pub(crate) fn place(name: Name, offset: u64) -> Place {
 /// A fault of a visible record.
 pub(crate) fn of_record(name: Name, offset: u64, kind: VisibleFaultKind) -> VisibleFault {
     VisibleFault {
-        partition: name_of(name),
+        partition: partition_name(name),
         offset,
         kind,
     }

@@ -1,10 +1,11 @@
 //! Outputs whose headers are no claim: each of the five headers, changed in each way.
 
-use crate::build::{IN, ONE, OUT, apps, batch, claim, part, record};
+use crate::build::{IN, ONE, OUT, claim, part};
 use crate::expect::of_record;
 use bytes::Bytes;
 use eos_batch::Header;
 use eos_commits::{VisibleFaultKind, least_visible_fault};
+use eos_test_logs::{apps_of, batch, record};
 use std::alloc::Global;
 use std::test::Fail;
 
@@ -83,7 +84,7 @@ fn is_unclaimed(alloc: Global, headers: Vec<Header>) -> Result<bool, Fail> {
     let first = record(None, None, claim(alloc, IN, 0, 1, 1)?);
     let written = batch(vec![in alloc; first, record(None, None, headers)]?);
     let parts = [part(alloc, OUT, &[written])?];
-    let apps = apps(alloc, ONE)?;
+    let apps = apps_of(alloc, ONE)?;
     let fault = of_record(OUT, 1, VisibleFaultKind::BadLineage);
     Ok(least_visible_fault(alloc, apps.as_slice(), &parts)? == Some(fault))
 }

@@ -2,10 +2,11 @@
 
 use crate::build::Row::{Commit, Data, Plain};
 use crate::build::Says::{Claim, Value};
-use crate::build::{IN, Log, Name, OFFSETS, ONE, OUT, Says, batches, part, parts};
+use crate::build::{IN, Log, OFFSETS, ONE, OUT, Says, batches, part, parts};
 use crate::expect::{answer_of, of_output};
 use eos_claims::OutputKind;
 use eos_fold::Part;
+use eos_test_logs::Name;
 use std::alloc::Global;
 use std::test::Fail;
 use std::thread::Threads;

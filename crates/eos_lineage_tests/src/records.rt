@@ -2,14 +2,13 @@
 
 use crate::build::Row::{Abort, Commit, Data, Plain};
 use crate::build::Says::{Bytes, Claim, Deleted, Value};
-use crate::build::{
-    IN, Log, Name, OFFSETS, ONE, OUT, Reads, Says, TWO, apps, batches, part, parts,
-};
+use crate::build::{IN, Log, OFFSETS, ONE, OUT, Reads, Says, TWO, batches, part, parts};
 use crate::expect::{answer_of, of_record};
 use eos_base::RecordFault;
 use eos_commits::{VisibleFault, VisibleFaultKind, least_visible_fault};
 use eos_fold::Part;
 use eos_lineage::LineageFault;
+use eos_test_logs::{Name, apps_of};
 use std::alloc::Global;
 use std::test::Fail;
 use std::thread::Threads;
@@ -23,7 +22,7 @@ fn is_least(
     parts: &[Part],
     fault: VisibleFault,
 ) -> Result<bool, Fail> {
-    let apps = apps(alloc, ONE)?;
+    let apps = apps_of(alloc, ONE)?;
     let least = least_visible_fault(alloc, apps.as_slice(), parts)?;
     if least.as_ref() != Some(&fault) {
         return Ok(false);
@@ -38,7 +37,7 @@ fn is_read(
     rows: &[Reads],
     parts: &[Part],
 ) -> Result<bool, Fail> {
-    let apps = apps(alloc, rows)?;
+    let apps = apps_of(alloc, rows)?;
     let fault = least_visible_fault(alloc, apps.as_slice(), parts)?;
     Ok(fault.is_none() && answer_of(alloc, rt, rows, parts)?.is_ok())
 }

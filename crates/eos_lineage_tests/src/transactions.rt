@@ -2,9 +2,10 @@
 
 use crate::build::Row::{Abort, Commit, Data, Idempotent, Plain};
 use crate::build::Says::{Claim, Value};
-use crate::build::{IN, Log, Name, OFFSETS, ONE, OUT, Says};
+use crate::build::{IN, Log, OFFSETS, ONE, OUT, Says};
 use crate::expect::{answer, of_output};
 use eos_claims::OutputKind;
+use eos_test_logs::Name;
 use std::alloc::Global;
 use std::test::Fail;
 use std::thread::Threads;
