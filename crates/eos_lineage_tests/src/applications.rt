@@ -1,28 +1,25 @@
 //! Two applications, of which one reads what the other writes.
 
-use crate::build::Row::{Commit, Data, Plain};
+use crate::build::Row::{Committed, Plain};
 use crate::build::Says::{Claim, Value};
-use crate::build::{IN, Log, OFFSETS, OUT, Reads, Says, TWO};
-use crate::expect::{answer, of_output, of_record};
-use eos_claims::OutputKind;
+use crate::build::{IN, Log, OFFSETS, OUT, OUT_SECOND, Reads, Says, TWO};
+use crate::expect::{Wrong, answer, of_output, of_record};
+use eos_claims::OutputKind::{ForeignSource, Missing, Repeated};
 use eos_commits::VisibleFaultKind;
 use eos_lineage::LineageFault;
 use eos_test_logs::Name;
 use std::test::Fail;
-
-const OUT_SECOND: Name = (b"out", 1);
 
 const LAST: Name = (b"fin", 0);
 
 /// Both applications, the other way round.
 const SWAPPED: &[Reads] = &[("h", &[b"out"], &[b"fin"]), ("g", &[b"in"], &[b"out"])];
 
-const COMMITS: Log = Log {
-    name: OFFSETS,
-    rows: &[
-        Data(1000, 0, -1, &[Says::Commit(b"g", IN, 2)]),
-        Commit(1000, 1),
-        Data(
+const COMMITS: Log = Log(
+    OFFSETS,
+    &[
+        Committed(1000, 0, -1, &[Says::Commit(b"g", IN, 2)]),
+        Committed(
             3000,
             0,
             -1,
@@ -31,86 +28,58 @@ const COMMITS: Log = Log {
                 Says::Commit(b"h", OUT_SECOND, 1),
             ],
         ),
-        Commit(3000, 1),
     ],
-};
+);
 
-const INPUTS: Log = Log {
-    name: IN,
-    rows: &[Plain(&[Value, Value])],
-};
+const INPUTS: Log = Log(IN, &[Plain(&[Value, Value])]);
 
-const FIRST_OUTPUTS: Log = Log {
-    name: OUT,
-    rows: &[
-        Data(1000, 0, 0, &[Claim(IN, 0, 1, 2), Claim(IN, 1, 1, 1)]),
-        Commit(1000, 1),
-    ],
-};
+const FIRST_OUTPUTS: Log = Log(
+    OUT,
+    &[Committed(1000, 0, 0, &[Claim(IN, 0, 1, 2), Claim(IN, 1, 1, 1)])],
+);
 
-const WITH_A_NOTE: Log = Log {
-    name: OUT,
-    rows: &[
-        Data(1000, 0, 0, &[Claim(IN, 0, 1, 2), Claim(IN, 1, 0, 0)]),
-        Commit(1000, 1),
-    ],
-};
+const WITH_A_NOTE: Log = Log(
+    OUT,
+    &[Committed(1000, 0, 0, &[Claim(IN, 0, 1, 2), Claim(IN, 1, 0, 0)])],
+);
 
-const INCOMPLETE: Log = Log {
-    name: OUT,
-    rows: &[
-        Data(1000, 0, 0, &[Claim(IN, 0, 1, 2), Claim(IN, 0, 2, 2)]),
-        Commit(1000, 1),
-    ],
-};
+const INCOMPLETE: Log = Log(
+    OUT,
+    &[Committed(1000, 0, 0, &[Claim(IN, 0, 1, 2), Claim(IN, 0, 2, 2)])],
+);
 
-const SECOND_OUTPUTS: Log = Log {
-    name: OUT_SECOND,
-    rows: &[Data(1000, 0, 0, &[Claim(IN, 0, 2, 2)]), Commit(1000, 1)],
-};
+const SECOND_OUTPUTS: Log = Log(OUT_SECOND, &[Committed(1000, 0, 0, &[Claim(IN, 0, 2, 2)])]);
 
-const LAST_OUTPUTS: Log = Log {
-    name: LAST,
-    rows: &[
-        Data(
-            3000,
-            0,
-            0,
-            &[
-                Claim(OUT, 0, 1, 1),
-                Claim(OUT, 1, 1, 1),
-                Claim(OUT_SECOND, 0, 1, 1),
-            ],
-        ),
-        Commit(3000, 1),
-    ],
-};
+const LAST_OUTPUTS: Log = Log(
+    LAST,
+    &[Committed(
+        3000,
+        0,
+        0,
+        &[
+            Claim(OUT, 0, 1, 1),
+            Claim(OUT, 1, 1, 1),
+            Claim(OUT_SECOND, 0, 1, 1),
+        ],
+    )],
+);
 
-const WITHOUT_THE_THIRD: Log = Log {
-    name: LAST,
-    rows: &[
-        Data(3000, 0, 0, &[Claim(OUT, 0, 1, 1), Claim(OUT, 1, 1, 1)]),
-        Commit(3000, 1),
-    ],
-};
+const WITHOUT_THE_THIRD: Log = Log(
+    LAST,
+    &[Committed(3000, 0, 0, &[Claim(OUT, 0, 1, 1), Claim(OUT, 1, 1, 1)])],
+);
 
-const OF_THE_OTHER: Log = Log {
-    name: LAST,
-    rows: &[
-        Data(
-            3000,
-            0,
-            0,
-            &[Claim(OUT, 0, 1, 1), Claim(OUT, 1, 1, 1), Claim(IN, 0, 1, 1)],
-        ),
-        Commit(3000, 1),
-    ],
-};
+const OF_THE_OTHER: Log = Log(
+    LAST,
+    &[Committed(
+        3000,
+        0,
+        0,
+        &[Claim(OUT, 0, 1, 1), Claim(OUT, 1, 1, 1), Claim(IN, 0, 1, 1)],
+    )],
+);
 
-const WITHOUT_HEADERS: Log = Log {
-    name: LAST,
-    rows: &[Plain(&[Value])],
-};
+const WITHOUT_HEADERS: Log = Log(LAST, &[Plain(&[Value])]);
 
 /// Both are good.
 const GOOD: &[Log] = &[COMMITS, LAST_OUTPUTS, INPUTS, FIRST_OUTPUTS, SECOND_OUTPUTS];
@@ -157,62 +126,35 @@ fn counts_are_of_both(rt: HostRuntime) -> Result<(), Fail> {
     Ok(())
 }
 
-/// Applications and logs, and their fault: the group, the input, the number of the output, the kind and the claim.
-type Wrong = (
-    &'static [Reads],
-    &'static [Log],
-    &'static str,
-    (Name, u64),
-    u32,
-    OutputKind,
-    Option<(Name, u64)>,
-);
-
-const WRONG: &[Wrong] = &[
-    (
-        TWO,
-        SHORT,
-        "h",
-        (OUT_SECOND, 0),
-        1,
-        OutputKind::Missing,
-        None,
-    ),
+/// Applications and logs, with the group of their fault.
+const WRONG: &[(&[Reads], &[Log], &str, Wrong)] = &[
+    (TWO, SHORT, "h", ((OUT_SECOND, 0), 1, Missing, None)),
     (
         TWO,
         FOREIGN,
         "h",
-        (IN, 0),
-        1,
-        OutputKind::ForeignSource,
-        Some((LAST, 2)),
+        ((IN, 0), 1, ForeignSource, Some((LAST, 2))),
     ),
     // the applications are looked at in order
     (
         TWO,
         BOTH_WRONG,
         "g",
-        (IN, 0),
-        2,
-        OutputKind::Repeated,
-        Some((OUT_SECOND, 0)),
+        ((IN, 0), 2, Repeated, Some((OUT_SECOND, 0))),
     ),
     (
         SWAPPED,
         BOTH_WRONG,
         "h",
-        (OUT_SECOND, 0),
-        1,
-        OutputKind::Missing,
-        None,
+        ((OUT_SECOND, 0), 1, Missing, None),
     ),
 ];
 
 #[test]
 fn a_fault_names_its_group(rt: HostRuntime) -> Result<(), Fail> {
     let alloc = rt.alloc();
-    for (apps, logs, group, source, output, kind, at) in WRONG {
-        let fault = of_output(alloc, Some(*group), *source, *output, *kind, *at)?;
+    for (apps, logs, group, wrong) in WRONG {
+        let fault = of_output(alloc, Some(*group), *wrong)?;
         assert!(rt; answer(alloc, &rt, *apps, *logs)? == Err(fault));
     }
     Ok(())

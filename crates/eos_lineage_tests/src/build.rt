@@ -12,9 +12,13 @@ use std::test::Fail;
 
 pub(crate) const OFFSETS: Name = (b"__consumer_offsets", 0);
 
+pub(crate) const OFFSETS_SECOND: Name = (b"__consumer_offsets", 1);
+
 pub(crate) const IN: Name = (b"in", 0);
 
 pub(crate) const OUT: Name = (b"out", 0);
+
+pub(crate) const OUT_SECOND: Name = (b"out", 1);
 
 /// What a record of a table says.
 #[derive(Clone, Copy)]
@@ -31,7 +35,7 @@ pub(crate) enum Says {
     Bytes(Option<&'static [u8]>, Option<&'static [u8]>),
 }
 
-/// A batch of a table.
+/// A batch of a table, or a whole transaction.
 #[derive(Clone, Copy)]
 pub(crate) enum Row {
     /// Records of no producer.
@@ -40,6 +44,8 @@ pub(crate) enum Row {
     Idempotent(i64, i16, i32, &'static [Says]),
     /// Records of a transaction of a producer id and epoch, from a base sequence.
     Data(i64, i16, i32, &'static [Says]),
+    /// The same, and a second batch: their end marker COMMIT, at the next epoch.
+    Committed(i64, i16, i32, &'static [Says]),
     /// The end marker COMMIT of a producer id, at its epoch.
     Commit(i64, i16),
     /// The end marker ABORT of a producer id, at its epoch.
@@ -48,10 +54,7 @@ pub(crate) enum Row {
 
 /// A partition's log.
 #[derive(Clone, Copy)]
-pub(crate) struct Log {
-    pub(crate) name: Name,
-    pub(crate) rows: &'static [Row],
-}
+pub(crate) struct Log(pub(crate) Name, pub(crate) &'static [Row]);
 
 pub(crate) type Reads = AppRow<'static>;
 
@@ -149,39 +152,74 @@ fn records_of(alloc: Global, all: &[Says]) -> Result<Vec<Record>, Fail> {
     Ok(records)
 }
 
-fn batch_of(alloc: Global, row: &Row) -> Result<Batch, Fail> {
-    match row {
-        Row::Plain(all) => Ok(batch(records_of(alloc, all)?)),
-        Row::Idempotent(producer, epoch, sequence, all) => Ok(Batch {
-            producer: *producer,
-            epoch: *epoch,
-            sequence: *sequence,
-            ..batch(records_of(alloc, all)?)
-        }),
-        Row::Data(producer, epoch, sequence, all) => Ok(Batch {
-            attributes: 0x10,
-            producer: *producer,
-            epoch: *epoch,
-            sequence: *sequence,
-            ..batch(records_of(alloc, all)?)
-        }),
-        Row::Commit(producer, epoch) => { Ok(marker(alloc, 0, *producer, *epoch, Kind::Commit)?) }
-        Row::Abort(producer, epoch) => Ok(marker(alloc, 0, *producer, *epoch, Kind::Abort)?),
-    }
+/// Records of a producer id and epoch, from a base sequence, in a batch of these attributes.
+fn produced(
+    alloc: Global,
+    attributes: i16,
+    from: (i64, i16, i32),
+    all: &[Says],
+) -> Result<Batch, Fail> {
+    let (producer, epoch, sequence) = from;
+    Ok(Batch {
+        attributes,
+        producer,
+        epoch,
+        sequence,
+        ..batch(records_of(alloc, all)?)
+    })
 }
 
-/// The batches of a log, each at the number of records before it.
+/// Puts a batch at the end, at the number of records before it.
+fn put(batches: &mut Vec<Batch>, batch: Batch) -> Result<(), AllocError> {
+    let base_offset = match batches.last() {
+        Some(last) => last.base_offset.saturating_add(last.records.len() as i64),
+        None => 0,
+    };
+    batches.push(Batch {
+        base_offset,
+        ..batch
+    })?;
+    Ok(())
+}
+
+fn put_row(alloc: Global, batches: &mut Vec<Batch>, row: Row) -> Result<(), Fail> {
+    match row {
+        Row::Plain(all) => put(batches, batch(records_of(alloc, all)?))?,
+        Row::Idempotent(producer, epoch, sequence, all) => {
+            put(
+                batches,
+                produced(alloc, 0, (producer, epoch, sequence), all)?,
+            )?
+        }
+        Row::Data(producer, epoch, sequence, all) => {
+            put(
+                batches,
+                produced(alloc, 0x10, (producer, epoch, sequence), all)?,
+            )?
+        }
+        Row::Committed(producer, epoch, sequence, all) => {
+            put(
+                batches,
+                produced(alloc, 0x10, (producer, epoch, sequence), all)?,
+            )?;
+            let next = epoch.saturating_add(1);
+            put(batches, marker(alloc, 0, producer, next, Kind::Commit)?)?;
+        }
+        Row::Commit(producer, epoch) => {
+            put(batches, marker(alloc, 0, producer, epoch, Kind::Commit)?)?
+        }
+        Row::Abort(producer, epoch) => {
+            put(batches, marker(alloc, 0, producer, epoch, Kind::Abort)?)?
+        }
+    }
+    Ok(())
+}
+
+/// The batches of a log.
 pub(crate) fn batches(alloc: Global, rows: &[Row]) -> Result<Vec<Batch>, Fail> {
     let mut all = Vec::new(alloc);
-    let mut next: i64 = 0;
     for row in rows {
-        let batch = batch_of(alloc, row)?;
-        let count = batch.records.len() as i64;
-        all.push(Batch {
-            base_offset: next,
-            ..batch
-        })?;
-        next = next.saturating_add(count);
+        put_row(alloc, &mut all, *row)?;
     }
     Ok(all)
 }
@@ -198,9 +236,9 @@ pub(crate) fn part(alloc: Global, name: Name, batches: &[Batch]) -> Result<Part,
 
 /// Puts the partitions of these logs at the end.
 pub(crate) fn push_parts(alloc: Global, parts: &mut Vec<Part>, logs: &[Log]) -> Result<(), Fail> {
-    for log in logs {
-        let batches = batches(alloc, log.rows)?;
-        parts.push(part(alloc, log.name, batches.as_slice())?)?;
+    for Log(name, rows) in logs {
+        let batches = batches(alloc, *rows)?;
+        parts.push(part(alloc, *name, batches.as_slice())?)?;
     }
     Ok(())
 }

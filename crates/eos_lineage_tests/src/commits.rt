@@ -1,8 +1,8 @@
 //! What groups have committed.
 
-use crate::build::Row::{Abort, Commit, Data, Idempotent, Plain};
+use crate::build::Row::{Abort, Committed, Data, Idempotent, Plain};
 use crate::build::Says::{Bytes as Raw, Deleted, Value};
-use crate::build::{IN, Log, OFFSETS, OUT, Says, parts};
+use crate::build::{IN, Log, OFFSETS, OFFSETS_SECOND, OUT, Says, parts};
 use bytes::Bytes;
 use eos_commits::{CommitRef, TopicSet, commits_of, committed, is_visible, last_committed};
 use eos_fold::{Fate, Part};
@@ -10,35 +10,26 @@ use eos_test_logs::Name;
 use std::alloc::{AllocError, Global};
 use std::test::Fail;
 
-const OFFSETS_SECOND: Name = (b"__consumer_offsets", 1);
-
 /// Commits of group `g`, of another group, and of what isn't visible.
 const LOGS: &[Log] = &[
-    Log {
-        name: OFFSETS,
-        rows: &[
-            Data(
+    Log(
+        OFFSETS,
+        &[
+            Committed(
                 1000,
                 0,
                 -1,
                 &[Says::Commit(b"g", IN, 5), Says::Commit(b"g", (b"in", 1), 4)],
             ),
-            Commit(1000, 1),
             Plain(&[Says::Commit(b"g", IN, 2), Says::Commit(b"h", IN, 9)]),
             Data(1000, 1, -1, &[Says::Commit(b"g", IN, 7)]),
             Abort(1000, 2),
             Idempotent(2000, 3, -1, &[Says::Commit(b"g", OUT, 1), Raw(None, None)]),
             Data(1000, 2, -1, &[Says::Commit(b"g", IN, 8)]),
         ],
-    },
-    Log {
-        name: OFFSETS_SECOND,
-        rows: &[Plain(&[Deleted(b"g", IN)])],
-    },
-    Log {
-        name: IN,
-        rows: &[Plain(&[Value])],
-    },
+    ),
+    Log(OFFSETS_SECOND, &[Plain(&[Deleted(b"g", IN)])]),
+    Log(IN, &[Plain(&[Value])]),
 ];
 
 fn of_topic<'a>(

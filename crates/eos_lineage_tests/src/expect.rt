@@ -31,20 +31,20 @@ pub(crate) fn of_record(name: Name, offset: u64, kind: VisibleFaultKind) -> Visi
     }
 }
 
+/// The fault of an output: the input, the number of the output, the kind and the claim.
+pub(crate) type Wrong = ((Name, u64), u32, OutputKind, Option<(Name, u64)>);
+
 /// A fault of outputs, of a group where there is more than one application.
 pub(crate) fn of_output(
     alloc: Global,
     group: Option<&str>,
-    source: (Name, u64),
-    output: u32,
-    kind: OutputKind,
-    at: Option<(Name, u64)>,
+    wrong: Wrong,
 ) -> Result<LineageFault, AllocError> {
     let group = match group {
         None => None,
         Some(text) => Some(GroupId::new(String::from_str(alloc, text)?)),
     };
-    let (name, offset) = source;
+    let ((name, offset), output, kind, at) = wrong;
     Ok(LineageFault::Output {
         group,
         fault: OutputFault {

@@ -48,7 +48,7 @@ fn faults_of_records(rt: HostRuntime) {
 #[test]
 fn faults_of_outputs(rt: HostRuntime) -> Result<(), Fail> {
     for (kind, number, name) in OUTPUTS {
-        let fault = of_output(rt.alloc(), None, (IN, 0), 1, kind, None)?;
+        let fault = of_output(rt.alloc(), None, ((IN, 0), 1, kind, None))?;
         assert!(rt; is_named(&fault, 5, number, name), "{number}");
     }
     Ok(())

@@ -1,10 +1,12 @@
 //! The outputs of one application: each fault on the smallest evidence that has it.
 
-use crate::build::Row::{Commit, Data, Plain};
+use crate::build::Row::{Committed, Plain};
 use crate::build::Says::{Claim, Value};
 use crate::build::{IN, Log, OFFSETS, ONE, OUT, Says, batches, part, parts};
-use crate::expect::{answer_of, of_output};
-use eos_claims::OutputKind;
+use crate::expect::{Wrong, answer_of, of_output};
+use eos_claims::OutputKind::{
+    CountDisagrees, Early, ForeignSource, Missing, NoSuchInput, NumberRange, Repeated,
+};
 use eos_fold::Part;
 use eos_test_logs::Name;
 use std::alloc::Global;
@@ -15,27 +17,19 @@ const OTHER: Name = (b"zz", 0);
 
 const IN_SECOND: Name = (b"in", 1);
 
-const OUT_SECOND: Name = (b"out", 1);
-
 /// Three inputs, of which two are below the committed offset.
 const READ: &[Log] = &[
-    Log {
-        name: OFFSETS,
-        rows: &[
-            Data(1000, 0, -1, &[Says::Commit(b"g", IN, 2)]),
-            Commit(1000, 1),
-        ],
-    },
-    Log {
-        name: IN,
-        rows: &[Plain(&[Value, Value, Value])],
-    },
+    Log(
+        OFFSETS,
+        &[Committed(1000, 0, -1, &[Says::Commit(b"g", IN, 2)])],
+    ),
+    Log(IN, &[Plain(&[Value, Value, Value])]),
 ];
 
 /// The partitions with these outputs of the transaction that committed the two inputs.
 fn with_outputs(alloc: Global, outputs: &'static [Says]) -> Result<Vec<Part>, Fail> {
     let mut parts = parts(alloc, READ)?;
-    let rows = [Data(1000, 0, 0, outputs), Commit(1000, 1)];
+    let rows = [Committed(1000, 0, 0, outputs)];
     let written = batches(alloc, &rows)?;
     parts.push(part(alloc, OUT, written.as_slice())?)?;
     Ok(parts)
@@ -62,35 +56,23 @@ fn good_outputs_are_counted(rt: HostRuntime) -> Result<(), Fail> {
     Ok(())
 }
 
-/// Outputs, and their fault: the input, the number of the output, the kind and the offset of the claim.
-type Wrong = (&'static [Says], (Name, u64), u32, OutputKind, Option<u64>);
-
 /// Claims on no input, or on one that isn't below the committed offset.
-const MISPLACED: &[Wrong] = &[
+const MISPLACED: &[(&[Says], Wrong)] = &[
     (
         &[
             Claim(IN, 0, 1, 1),
             Claim(IN, 1, 1, 1),
             Claim(OTHER, 0, 1, 1),
         ],
-        (OTHER, 0),
-        1,
-        OutputKind::ForeignSource,
-        Some(2),
+        ((OTHER, 0), 1, ForeignSource, Some((OUT, 2))),
     ),
     (
         &[Claim(IN, 0, 1, 1), Claim(IN, 1, 1, 1), Claim(OUT, 0, 1, 1)],
-        (OUT, 0),
-        1,
-        OutputKind::ForeignSource,
-        Some(2),
+        ((OUT, 0), 1, ForeignSource, Some((OUT, 2))),
     ),
     (
         &[Claim(IN, 0, 1, 1), Claim(IN, 1, 1, 1), Claim(IN, 3, 2, 2)],
-        (IN, 3),
-        2,
-        OutputKind::NoSuchInput,
-        Some(2),
+        ((IN, 3), 2, NoSuchInput, Some((OUT, 2))),
     ),
     (
         &[
@@ -98,114 +80,78 @@ const MISPLACED: &[Wrong] = &[
             Claim(IN, 0, 1, 1),
             Claim(IN, 1, 1, 1),
         ],
-        (IN_SECOND, 0),
-        0,
-        OutputKind::NoSuchInput,
-        Some(0),
+        ((IN_SECOND, 0), 0, NoSuchInput, Some((OUT, 0))),
     ),
     (
         &[Claim(IN, 0, 1, 1), Claim(IN, 2, 1, 1), Claim(IN, 1, 1, 1)],
-        (IN, 2),
-        1,
-        OutputKind::Early,
-        Some(1),
+        ((IN, 2), 1, Early, Some((OUT, 1))),
     ),
 ];
 
 /// Claims on one input that don't number its outputs.
-const MISNUMBERED: &[Wrong] = &[
+const MISNUMBERED: &[(&[Says], Wrong)] = &[
     (
         &[Claim(IN, 0, 1, 1), Claim(IN, 1, 2, 2), Claim(IN, 1, 1, 1)],
-        (IN, 1),
-        2,
-        OutputKind::CountDisagrees,
-        Some(1),
+        ((IN, 1), 2, CountDisagrees, Some((OUT, 1))),
     ),
     (
         &[Claim(IN, 0, 1, 1), Claim(IN, 1, 1, 1), Claim(IN, 1, 0, 0)],
-        (IN, 1),
-        1,
-        OutputKind::CountDisagrees,
-        Some(1),
+        ((IN, 1), 1, CountDisagrees, Some((OUT, 1))),
     ),
     (
         &[Claim(IN, 0, 1, 1), Claim(IN, 1, 1, 1), Claim(IN, 1, 2, 1)],
-        (IN, 1),
-        2,
-        OutputKind::NumberRange,
-        Some(2),
+        ((IN, 1), 2, NumberRange, Some((OUT, 2))),
     ),
     (
         &[Claim(IN, 0, 1, 1), Claim(IN, 1, 0, 1)],
-        (IN, 1),
-        0,
-        OutputKind::NumberRange,
-        Some(1),
+        ((IN, 1), 0, NumberRange, Some((OUT, 1))),
     ),
     (
         &[Claim(IN, 1, 1, 0), Claim(IN, 0, 1, 1)],
-        (IN, 1),
-        1,
-        OutputKind::NumberRange,
-        Some(0),
+        ((IN, 1), 1, NumberRange, Some((OUT, 0))),
     ),
     (
         &[Claim(IN, 0, 1, 1), Claim(IN, 1, 1, 1), Claim(IN, 0, 1, 1)],
-        (IN, 0),
-        1,
-        OutputKind::Repeated,
-        Some(2),
+        ((IN, 0), 1, Repeated, Some((OUT, 2))),
     ),
     (
         &[Claim(IN, 0, 1, 1), Claim(IN, 1, 0, 0), Claim(IN, 1, 0, 0)],
-        (IN, 1),
-        0,
-        OutputKind::Repeated,
-        Some(2),
+        ((IN, 1), 0, Repeated, Some((OUT, 2))),
     ),
 ];
 
 /// Inputs without all of their outputs.
-const INCOMPLETE: &[Wrong] = &[
-    (&[Claim(IN, 0, 1, 1)], (IN, 1), 1, OutputKind::Missing, None),
+const INCOMPLETE: &[(&[Says], Wrong)] = &[
+    (&[Claim(IN, 0, 1, 1)], ((IN, 1), 1, Missing, None)),
     (
         &[Claim(IN, 0, 3, 3), Claim(IN, 0, 1, 3), Claim(IN, 1, 1, 1)],
-        (IN, 0),
-        2,
-        OutputKind::Missing,
-        None,
+        ((IN, 0), 2, Missing, None),
     ),
     (
         &[Claim(IN, 0, 2, 2), Claim(IN, 1, 1, 1)],
-        (IN, 0),
-        1,
-        OutputKind::Missing,
-        None,
+        ((IN, 0), 1, Missing, None),
     ),
     (
         &[Claim(IN, 0, 1, 1), Claim(IN, 1, 1, 2147483647)],
-        (IN, 1),
-        2,
-        OutputKind::Missing,
-        None,
+        ((IN, 1), 2, Missing, None),
     ),
     // the source in-0 comes before the foreign one
     (
         &[Claim(OTHER, 0, 1, 1), Claim(IN, 0, 1, 1)],
-        (IN, 1),
-        1,
-        OutputKind::Missing,
-        None,
+        ((IN, 1), 1, Missing, None),
     ),
 ];
 
 /// Whether each row has its fault.
-fn are_named(alloc: Global, rt: &(impl Threads + Sync), rows: &[Wrong]) -> Result<bool, Fail> {
+fn are_named(
+    alloc: Global,
+    rt: &(impl Threads + Sync),
+    rows: &[(&'static [Says], Wrong)],
+) -> Result<bool, Fail> {
     let mut all = true;
-    for (outputs, source, output, kind, at) in rows {
+    for (outputs, wrong) in rows {
         let parts = with_outputs(alloc, *outputs)?;
-        let at = at.map(|offset| (OUT, offset));
-        let fault = of_output(alloc, None, *source, *output, *kind, at)?;
+        let fault = of_output(alloc, None, *wrong)?;
         all = all && answer_of(alloc, rt, ONE, parts.as_slice())? == Err(fault);
     }
     Ok(all)

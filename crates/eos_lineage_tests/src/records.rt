@@ -1,8 +1,10 @@
 //! Visible records that can't be read for what they have to be.
 
-use crate::build::Row::{Abort, Commit, Data, Plain};
-use crate::build::Says::{Bytes, Claim, Deleted, Value};
-use crate::build::{IN, Log, OFFSETS, ONE, OUT, Reads, Says, TWO, batches, part, parts};
+use crate::build::Row::{Abort, Committed, Data, Plain};
+use crate::build::Says::{Bytes, Deleted, Value};
+use crate::build::{
+    IN, Log, OFFSETS, OFFSETS_SECOND, ONE, OUT, Reads, Says, TWO, batches, part, parts,
+};
 use crate::expect::{answer_of, of_record};
 use eos_base::RecordFault;
 use eos_commits::{VisibleFault, VisibleFaultKind, least_visible_fault};
@@ -12,8 +14,6 @@ use eos_test_logs::{Name, apps_of};
 use std::alloc::Global;
 use std::test::Fail;
 use std::thread::Threads;
-
-const OFFSETS_SECOND: Name = (b"__consumer_offsets", 1);
 
 /// Whether this is the least fault of the records, and of the lineage.
 fn is_least(
@@ -108,23 +108,17 @@ fn refused_records_of_the_offsets_log(rt: HostRuntime) -> Result<(), Fail> {
 const WRONG: &[(&[Log], Name, u64, VisibleFaultKind)] = &[
     // no headers
     (
-        &[Log {
-            name: OUT,
-            rows: &[Plain(&[Value])],
-        }],
+        &[Log(OUT, &[Plain(&[Value])])],
         OUT,
         0,
         VisibleFaultKind::BadLineage,
     ),
     // a tombstone behind a commit
     (
-        &[Log {
-            name: OFFSETS,
-            rows: &[
-                Data(1000, 0, -1, &[Says::Commit(b"g", IN, 2), Deleted(b"g", IN)]),
-                Commit(1000, 1),
-            ],
-        }],
+        &[Log(
+            OFFSETS,
+            &[Committed(1000, 0, -1, &[Says::Commit(b"g", IN, 2), Deleted(b"g", IN)])],
+        )],
         OFFSETS,
         1,
         VisibleFaultKind::OffsetDeleted,
@@ -132,14 +126,11 @@ const WRONG: &[(&[Log], Name, u64, VisibleFaultKind)] = &[
     // the group's records lie in two partitions
     (
         &[
-            Log {
-                name: OFFSETS,
-                rows: &[Plain(&[Says::Commit(b"g", IN, 2)])],
-            },
-            Log {
-                name: OFFSETS_SECOND,
-                rows: &[Plain(&[Says::Commit(b"g", (b"in", 1), 0)])],
-            },
+            Log(OFFSETS, &[Plain(&[Says::Commit(b"g", IN, 2)])]),
+            Log(
+                OFFSETS_SECOND,
+                &[Plain(&[Says::Commit(b"g", (b"in", 1), 0)])],
+            ),
         ],
         OFFSETS_SECOND,
         0,
@@ -148,14 +139,11 @@ const WRONG: &[(&[Log], Name, u64, VisibleFaultKind)] = &[
     // where it is split a tombstone is no more than that
     (
         &[
-            Log {
-                name: OFFSETS,
-                rows: &[Plain(&[Says::Commit(b"g", IN, 2)])],
-            },
-            Log {
-                name: OFFSETS_SECOND,
-                rows: &[Plain(&[Says::Commit(b"h", IN, 0), Deleted(b"g", IN)])],
-            },
+            Log(OFFSETS, &[Plain(&[Says::Commit(b"g", IN, 2)])]),
+            Log(
+                OFFSETS_SECOND,
+                &[Plain(&[Says::Commit(b"h", IN, 0), Deleted(b"g", IN)])],
+            ),
         ],
         OFFSETS_SECOND,
         1,
@@ -164,14 +152,8 @@ const WRONG: &[(&[Log], Name, u64, VisibleFaultKind)] = &[
     // but a refused value is named first
     (
         &[
-            Log {
-                name: OFFSETS,
-                rows: &[Plain(&[Says::Commit(b"g", IN, 2)])],
-            },
-            Log {
-                name: OFFSETS_SECOND,
-                rows: &[Plain(&[Bytes(KEY, Some(b"\x00\x04"))])],
-            },
+            Log(OFFSETS, &[Plain(&[Says::Commit(b"g", IN, 2)])]),
+            Log(OFFSETS_SECOND, &[Plain(&[Bytes(KEY, Some(b"\x00\x04"))])]),
         ],
         OFFSETS_SECOND,
         0,
@@ -182,17 +164,14 @@ const WRONG: &[(&[Log], Name, u64, VisibleFaultKind)] = &[
     // the lesser partition is named
     (
         &[
-            Log {
-                name: OFFSETS,
-                rows: &[
+            Log(
+                OFFSETS,
+                &[
                     Plain(&[Says::Commit(b"g", IN, 0)]),
                     Plain(&[Deleted(b"g", IN)]),
                 ],
-            },
-            Log {
-                name: OUT,
-                rows: &[Plain(&[Value])],
-            },
+            ),
+            Log(OUT, &[Plain(&[Value])]),
         ],
         OFFSETS,
         1,
@@ -214,9 +193,9 @@ fn records_have_their_fault(rt: HostRuntime) -> Result<(), Fail> {
 /// Logs of records that nothing is asked of.
 const PASSED_OVER: &[&[Log]] = &[
     // a key of another version, and keys of another group and of a topic that isn't read
-    &[Log {
-        name: OFFSETS,
-        rows: &[
+    &[Log(
+        OFFSETS,
+        &[
             Plain(&[Bytes(Some(b"\x00\x02"), None)]),
             Plain(&[Deleted(b"other", IN), Deleted(b"g", OUT)]),
             Plain(&[Bytes(
@@ -224,37 +203,25 @@ const PASSED_OVER: &[&[Log]] = &[
                 Some(b"\x00\x04"),
             )]),
         ],
-    }],
+    )],
     // each group lies in one partition
     &[
-        Log {
-            name: OFFSETS,
-            rows: &[Plain(&[Says::Commit(b"other", IN, 2)])],
-        },
-        Log {
-            name: OFFSETS_SECOND,
-            rows: &[Plain(&[Says::Commit(b"g", IN, 2)])],
-        },
+        Log(OFFSETS, &[Plain(&[Says::Commit(b"other", IN, 2)])]),
+        Log(OFFSETS_SECOND, &[Plain(&[Says::Commit(b"g", IN, 2)])]),
     ],
     // what is aborted isn't visible
     &[
-        Log {
-            name: OFFSETS,
-            rows: &[
+        Log(
+            OFFSETS,
+            &[
                 Data(1000, 0, -1, &[Bytes(None, None), Deleted(b"g", IN)]),
                 Abort(1000, 1),
             ],
-        },
-        Log {
-            name: OUT,
-            rows: &[Data(1000, 0, 0, &[Value]), Abort(1000, 1)],
-        },
+        ),
+        Log(OUT, &[Data(1000, 0, 0, &[Value]), Abort(1000, 1)]),
     ],
     // an input needs no headers
-    &[Log {
-        name: IN,
-        rows: &[Plain(&[Value])],
-    }],
+    &[Log(IN, &[Plain(&[Value])])],
 ];
 
 #[test]
@@ -269,14 +236,14 @@ fn nothing_is_asked_of_other_records(rt: HostRuntime) -> Result<(), Fail> {
 
 /// A group's tombstone for a topic that only the other group reads.
 const OF_THE_OTHER: &[Log] = &[
-    Log {
-        name: OFFSETS,
-        rows: &[Plain(&[Says::Commit(b"g", IN, 0), Deleted(b"g", OUT)])],
-    },
-    Log {
-        name: OFFSETS_SECOND,
-        rows: &[Plain(&[Says::Commit(b"h", OUT, 0), Deleted(b"h", IN)])],
-    },
+    Log(
+        OFFSETS,
+        &[Plain(&[Says::Commit(b"g", IN, 0), Deleted(b"g", OUT)])],
+    ),
+    Log(
+        OFFSETS_SECOND,
+        &[Plain(&[Says::Commit(b"h", OUT, 0), Deleted(b"h", IN)])],
+    ),
 ];
 
 #[test]

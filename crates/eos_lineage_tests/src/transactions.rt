@@ -1,39 +1,29 @@
 //! The outputs of one application, as transactions make inputs, outputs and commits visible.
 
-use crate::build::Row::{Abort, Commit, Data, Idempotent, Plain};
+use crate::build::Row::{Abort, Committed, Data, Idempotent, Plain};
 use crate::build::Says::{Claim, Value};
-use crate::build::{IN, Log, OFFSETS, ONE, OUT, Says};
-use crate::expect::{answer, of_output};
-use eos_claims::OutputKind;
-use eos_test_logs::Name;
+use crate::build::{IN, Log, OFFSETS, ONE, OUT, OUT_SECOND, Says};
+use crate::expect::{Wrong, answer, of_output};
+use eos_claims::OutputKind::{
+    CountDisagrees, Early, Missing, NoSuchInput, OtherTransaction, Repeated,
+};
 use std::alloc::Global;
 use std::test::Fail;
 use std::thread::Threads;
 
-const OUT_SECOND: Name = (b"out", 1);
-
-const TWO_INPUTS: Log = Log {
-    name: IN,
-    rows: &[Plain(&[Value, Value])],
-};
+const TWO_INPUTS: Log = Log(IN, &[Plain(&[Value, Value])]);
 
 /// The first transaction of producer 1000 commits the two inputs.
-const COMMITTED: Log = Log {
-    name: OFFSETS,
-    rows: &[
-        Data(1000, 0, -1, &[Says::Commit(b"g", IN, 2)]),
-        Commit(1000, 1),
-    ],
-};
+const COMMITTED: Log = Log(
+    OFFSETS,
+    &[Committed(1000, 0, -1, &[Says::Commit(b"g", IN, 2)])],
+);
 
 /// The same in its second transaction.
-const COMMITTED_NEXT: Log = Log {
-    name: OFFSETS,
-    rows: &[
-        Data(1000, 1, -1, &[Says::Commit(b"g", IN, 2)]),
-        Commit(1000, 2),
-    ],
-};
+const COMMITTED_NEXT: Log = Log(
+    OFFSETS,
+    &[Committed(1000, 1, -1, &[Says::Commit(b"g", IN, 2)])],
+);
 
 const FIRST_OUTPUTS: &[Says] = &[Claim(IN, 0, 1, 2), Claim(IN, 1, 1, 1)];
 
@@ -49,14 +39,8 @@ const GOOD: &[(&[Log], u64, u64)] = &[
         &[
             COMMITTED,
             TWO_INPUTS,
-            Log {
-                name: OUT,
-                rows: &[Data(1000, 0, 0, FIRST_OUTPUTS), Commit(1000, 1)],
-            },
-            Log {
-                name: OUT_SECOND,
-                rows: &[Data(1000, 0, 0, SECOND_OUTPUT), Commit(1000, 1)],
-            },
+            Log(OUT, &[Committed(1000, 0, 0, FIRST_OUTPUTS)]),
+            Log(OUT_SECOND, &[Committed(1000, 0, 0, SECOND_OUTPUT)]),
         ],
         2,
         3,
@@ -66,19 +50,15 @@ const GOOD: &[(&[Log], u64, u64)] = &[
         &[
             COMMITTED_NEXT,
             TWO_INPUTS,
-            Log {
-                name: OUT,
-                rows: &[
+            Log(
+                OUT,
+                &[
                     Data(1000, 0, 0, FIRST_OUTPUTS),
                     Abort(1000, 1),
-                    Data(1000, 1, 0, FIRST_OUTPUTS),
-                    Commit(1000, 2),
+                    Committed(1000, 1, 0, FIRST_OUTPUTS),
                 ],
-            },
-            Log {
-                name: OUT_SECOND,
-                rows: &[Data(1000, 1, 0, SECOND_OUTPUT), Commit(1000, 2)],
-            },
+            ),
+            Log(OUT_SECOND, &[Committed(1000, 1, 0, SECOND_OUTPUT)]),
         ],
         2,
         3,
@@ -86,37 +66,25 @@ const GOOD: &[(&[Log], u64, u64)] = &[
     // a marker stands between the inputs and the committed offset
     (
         &[
-            Log {
-                name: OFFSETS,
-                rows: &[
-                    Data(1000, 0, -1, &[Says::Commit(b"g", IN, 5)]),
-                    Commit(1000, 1),
-                ],
-            },
-            Log {
-                name: IN,
-                rows: &[
-                    Data(2000, 0, 0, &[Value, Value, Value, Value]),
-                    Commit(2000, 1),
-                ],
-            },
-            Log {
-                name: OUT,
-                rows: &[
-                    Data(
-                        1000,
-                        0,
-                        0,
-                        &[
-                            Claim(IN, 0, 1, 1),
-                            Claim(IN, 1, 1, 1),
-                            Claim(IN, 2, 1, 1),
-                            Claim(IN, 3, 1, 1),
-                        ],
-                    ),
-                    Commit(1000, 1),
-                ],
-            },
+            Log(
+                OFFSETS,
+                &[Committed(1000, 0, -1, &[Says::Commit(b"g", IN, 5)])],
+            ),
+            Log(IN, &[Committed(2000, 0, 0, &[Value, Value, Value, Value])]),
+            Log(
+                OUT,
+                &[Committed(
+                    1000,
+                    0,
+                    0,
+                    &[
+                        Claim(IN, 0, 1, 1),
+                        Claim(IN, 1, 1, 1),
+                        Claim(IN, 2, 1, 1),
+                        Claim(IN, 3, 1, 1),
+                    ],
+                )],
+            ),
         ],
         4,
         4,
@@ -124,21 +92,15 @@ const GOOD: &[(&[Log], u64, u64)] = &[
     // an aborted record is no input
     (
         &[
-            Log {
-                name: OFFSETS,
-                rows: &[
-                    Data(1000, 0, -1, &[Says::Commit(b"g", IN, 3)]),
-                    Commit(1000, 1),
-                ],
-            },
-            Log {
-                name: IN,
-                rows: &[Data(2000, 0, 0, &[Value]), Abort(2000, 1), Plain(&[Value])],
-            },
-            Log {
-                name: OUT,
-                rows: &[Data(1000, 0, 0, &[Claim(IN, 2, 1, 1)]), Commit(1000, 1)],
-            },
+            Log(
+                OFFSETS,
+                &[Committed(1000, 0, -1, &[Says::Commit(b"g", IN, 3)])],
+            ),
+            Log(
+                IN,
+                &[Data(2000, 0, 0, &[Value]), Abort(2000, 1), Plain(&[Value])],
+            ),
+            Log(OUT, &[Committed(1000, 0, 0, &[Claim(IN, 2, 1, 1)])]),
         ],
         1,
         1,
@@ -153,216 +115,149 @@ fn good_logs_are_counted(rt: HostRuntime) -> Result<(), Fail> {
     Ok(())
 }
 
-/// Logs, and their fault: the input, the number of the output, the kind and the claim.
-type Wrong = (
-    &'static [Log],
-    (Name, u64),
-    u32,
-    OutputKind,
-    Option<(Name, u64)>,
-);
-
-/// Records that aren't visible, or are twice.
-const SEEN: &[Wrong] = &[
+/// Logs of records that aren't visible, or are twice.
+const SEEN: &[(&[Log], Wrong)] = &[
     // the first attempt was committed too
     (
         &[
             COMMITTED_NEXT,
             TWO_INPUTS,
-            Log {
-                name: OUT,
-                rows: &[
-                    Data(1000, 0, 0, FIRST_OUTPUTS),
-                    Commit(1000, 1),
-                    Data(1000, 1, 0, FIRST_OUTPUTS),
-                    Commit(1000, 2),
+            Log(
+                OUT,
+                &[
+                    Committed(1000, 0, 0, FIRST_OUTPUTS),
+                    Committed(1000, 1, 0, FIRST_OUTPUTS),
                 ],
-            },
-            Log {
-                name: OUT_SECOND,
-                rows: &[Data(1000, 1, 0, SECOND_OUTPUT), Commit(1000, 2)],
-            },
+            ),
+            Log(OUT_SECOND, &[Committed(1000, 1, 0, SECOND_OUTPUT)]),
         ],
-        (IN, 0),
-        1,
-        OutputKind::Repeated,
-        Some((OUT, 3)),
+        ((IN, 0), 1, Repeated, Some((OUT, 3))),
     ),
     // the inputs were aborted
     (
         &[
             COMMITTED,
-            Log {
-                name: IN,
-                rows: &[Data(2000, 0, 0, &[Value, Value]), Abort(2000, 1)],
-            },
-            Log {
-                name: OUT,
-                rows: &[
-                    Data(1000, 0, 0, &[Claim(IN, 0, 1, 1), Claim(IN, 1, 1, 1)]),
-                    Commit(1000, 1),
-                ],
-            },
+            Log(IN, &[Data(2000, 0, 0, &[Value, Value]), Abort(2000, 1)]),
+            Log(
+                OUT,
+                &[Committed(1000, 0, 0, &[Claim(IN, 0, 1, 1), Claim(IN, 1, 1, 1)])],
+            ),
         ],
-        (IN, 0),
-        1,
-        OutputKind::NoSuchInput,
-        Some((OUT, 0)),
+        ((IN, 0), 1, NoSuchInput, Some((OUT, 0))),
     ),
     // the outputs were aborted
     (
         &[
             COMMITTED,
             TWO_INPUTS,
-            Log {
-                name: OUT,
-                rows: &[Data(1000, 0, 0, FIRST_OUTPUTS), Abort(1000, 1)],
-            },
+            Log(OUT, &[Data(1000, 0, 0, FIRST_OUTPUTS), Abort(1000, 1)]),
         ],
-        (IN, 0),
-        1,
-        OutputKind::Missing,
-        None,
+        ((IN, 0), 1, Missing, None),
     ),
     // the commit was aborted
     (
         &[
-            Log {
-                name: OFFSETS,
-                rows: &[
+            Log(
+                OFFSETS,
+                &[
                     Data(1000, 0, -1, &[Says::Commit(b"g", IN, 2)]),
                     Abort(1000, 1),
                 ],
-            },
+            ),
             TWO_INPUTS,
-            Log {
-                name: OUT,
-                rows: &[Data(1001, 0, 0, &[Claim(IN, 1, 1, 1)]), Commit(1001, 1)],
-            },
+            Log(OUT, &[Committed(1001, 0, 0, &[Claim(IN, 1, 1, 1)])]),
         ],
-        (IN, 1),
-        1,
-        OutputKind::Early,
-        Some((OUT, 0)),
+        ((IN, 1), 1, Early, Some((OUT, 0))),
     ),
     // the claim of the greater partition is the later one, and counts otherwise
     (
         &[
             COMMITTED,
             TWO_INPUTS,
-            Log {
-                name: OUT,
-                rows: &[Data(1000, 0, 0, FIRST_OUTPUTS), Commit(1000, 1)],
-            },
-            Log {
-                name: OUT_SECOND,
-                rows: &[Data(1000, 0, 0, &[Claim(IN, 0, 2, 3)]), Commit(1000, 1)],
-            },
+            Log(OUT, &[Committed(1000, 0, 0, FIRST_OUTPUTS)]),
+            Log(OUT_SECOND, &[Committed(1000, 0, 0, &[Claim(IN, 0, 2, 3)])]),
         ],
-        (IN, 0),
-        2,
-        OutputKind::CountDisagrees,
-        Some((OUT_SECOND, 0)),
+        ((IN, 0), 2, CountDisagrees, Some((OUT_SECOND, 0))),
     ),
 ];
 
-const OUTPUT_OF_EACH: Log = Log {
-    name: OUT,
-    rows: &[
-        Data(1000, 0, 0, &[Claim(IN, 0, 1, 1), Claim(IN, 1, 1, 1)]),
-        Commit(1000, 1),
-    ],
-};
+const OUTPUT_OF_EACH: Log = Log(
+    OUT,
+    &[Committed(1000, 0, 0, &[Claim(IN, 0, 1, 1), Claim(IN, 1, 1, 1)])],
+);
 
-/// Outputs of another transaction than one that committed past their input.
-const PASSED: &[Wrong] = &[
+/// Logs of outputs of another transaction than one that committed past their input.
+const PASSED: &[(&[Log], Wrong)] = &[
     // committed by another producer
     (
         &[
-            Log {
-                name: OFFSETS,
-                rows: &[
-                    Data(1001, 0, -1, &[Says::Commit(b"g", IN, 2)]),
-                    Commit(1001, 1),
-                ],
-            },
+            Log(
+                OFFSETS,
+                &[Committed(1001, 0, -1, &[Says::Commit(b"g", IN, 2)])],
+            ),
             TWO_INPUTS,
             OUTPUT_OF_EACH,
         ],
-        (IN, 0),
-        1,
-        OutputKind::OtherTransaction,
-        Some((OUT, 0)),
+        ((IN, 0), 1, OtherTransaction, Some((OUT, 0))),
     ),
     // by the producer's next transaction
     (
         &[COMMITTED_NEXT, TWO_INPUTS, OUTPUT_OF_EACH],
-        (IN, 0),
-        1,
-        OutputKind::OtherTransaction,
-        Some((OUT, 0)),
+        ((IN, 0), 1, OtherTransaction, Some((OUT, 0))),
     ),
     // the second input by the next transaction
     (
         &[
-            Log {
-                name: OFFSETS,
-                rows: &[
-                    Data(1000, 0, -1, &[Says::Commit(b"g", IN, 1)]),
-                    Commit(1000, 1),
-                    Data(1000, 1, -1, &[Says::Commit(b"g", IN, 2)]),
-                    Commit(1000, 2),
+            Log(
+                OFFSETS,
+                &[
+                    Committed(1000, 0, -1, &[Says::Commit(b"g", IN, 1)]),
+                    Committed(1000, 1, -1, &[Says::Commit(b"g", IN, 2)]),
                 ],
-            },
+            ),
             TWO_INPUTS,
             OUTPUT_OF_EACH,
         ],
-        (IN, 1),
-        1,
-        OutputKind::OtherTransaction,
-        Some((OUT, 1)),
+        ((IN, 1), 1, OtherTransaction, Some((OUT, 1))),
     ),
     // by the same producer id and epoch, outside its transaction
     (
         &[
-            Log {
-                name: OFFSETS,
-                rows: &[Idempotent(1000, 0, 0, &[Says::Commit(b"g", IN, 2)])],
-            },
+            Log(
+                OFFSETS,
+                &[Idempotent(1000, 0, 0, &[Says::Commit(b"g", IN, 2)])],
+            ),
             TWO_INPUTS,
             OUTPUT_OF_EACH,
         ],
-        (IN, 0),
-        1,
-        OutputKind::OtherTransaction,
-        Some((OUT, 0)),
+        ((IN, 0), 1, OtherTransaction, Some((OUT, 0))),
     ),
     // written outside the transaction
     (
         &[
             COMMITTED,
             TWO_INPUTS,
-            Log {
-                name: OUT,
-                rows: &[
-                    Data(1000, 0, 0, &[Claim(IN, 0, 1, 1)]),
-                    Commit(1000, 1),
+            Log(
+                OUT,
+                &[
+                    Committed(1000, 0, 0, &[Claim(IN, 0, 1, 1)]),
                     Plain(&[Claim(IN, 1, 0, 0)]),
                 ],
-            },
+            ),
         ],
-        (IN, 1),
-        0,
-        OutputKind::OtherTransaction,
-        Some((OUT, 2)),
+        ((IN, 1), 0, OtherTransaction, Some((OUT, 2))),
     ),
 ];
 
 /// Whether each row has its fault.
-fn are_named(alloc: Global, rt: &(impl Threads + Sync), rows: &[Wrong]) -> Result<bool, Fail> {
+fn are_named(
+    alloc: Global,
+    rt: &(impl Threads + Sync),
+    rows: &[(&[Log], Wrong)],
+) -> Result<bool, Fail> {
     let mut all = true;
-    for (logs, source, output, kind, at) in rows {
-        let fault = of_output(alloc, None, *source, *output, *kind, *at)?;
+    for (logs, wrong) in rows {
+        let fault = of_output(alloc, None, *wrong)?;
         all = all && answer(alloc, rt, ONE, *logs)? == Err(fault);
     }
     Ok(all)
