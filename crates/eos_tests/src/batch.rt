@@ -1,12 +1,11 @@
 //! Worked batches and batches of a real client, against values from outside.
 
-use crate::build::{batch, record};
 use bytes::Bytes;
 use eos_batch::laws::prefix_free;
 use eos_batch::{
-    Batch, BatchFault, Batches, Header, Headers, Kind, Marker, Record, SegmentText, decode_batch,
-    decode_segment,
+    Batch, BatchFault, Batches, Header, Kind, Marker, SegmentText, decode_batch, decode_segment,
 };
+use eos_test_logs::{batch, plain, record};
 use std::alloc::{AllocError, Global};
 use std::test::Fail;
 
@@ -88,28 +87,24 @@ pub(crate) fn decoded(alloc: Global, bytes: &'static [u8]) -> Result<(Batch, usi
 
 /// The batch of `ONE_RECORD`.
 pub(crate) fn one_record(alloc: Global) -> Result<Batch, AllocError> {
-    let mut records = Vec::new(alloc);
-    records.push(record(alloc, None, Bytes::from_static(b"a")))?;
-    Ok(batch(records))
+    plain(alloc, 0)
 }
 
 /// The batch of `CLIENT_DATA`.
 pub(crate) fn client_data(alloc: Global) -> Result<Batch, AllocError> {
-    let mut headers = Vec::new(alloc);
-    headers.push(Header {
+    let topic = Header {
         key: Bytes::from_static(b"eo.topic"),
         value: Some(Bytes::from_static(b"in")),
-    })?;
-    headers.push(Header {
+    };
+    let partition = Header {
         key: Bytes::from_static(b"eo.partition"),
         value: Some(Bytes::from_static(b"\x00\x00\x00\x01")),
-    })?;
-    let mut records = Vec::new(alloc);
-    let key = Some(Bytes::from_static(b"p1000-0"));
-    records.push(Record {
-        headers: Headers::new(headers),
-        ..record(alloc, key, Bytes::from_static(b"value of p1000 0"))
-    })?;
+    };
+    let record = record(
+        Some(Bytes::from_static(b"p1000-0")),
+        Some(Bytes::from_static(b"value of p1000 0")),
+        vec![in alloc; topic, partition]?,
+    );
     Ok(Batch {
         base_offset: 5,
         leader_epoch: 3,
@@ -119,7 +114,7 @@ pub(crate) fn client_data(alloc: Global) -> Result<Batch, AllocError> {
         producer: 1000,
         epoch: 0,
         sequence: 3,
-        ..batch(records)
+        ..batch(vec![in alloc; record]?)
     })
 }
 

@@ -3,9 +3,10 @@
 use crate::batch::{
     CLIENT_COMMIT, CLIENT_DATA, LONGER_SPELLING, ONE_RECORD, client_data, decoded, one_record,
 };
-use crate::build::{batch, commit, encoded, record};
+use crate::build::commit;
 use bytes::Bytes;
 use eos_batch::{Batch, BatchFault, decode_segment, encode_batch};
+use eos_test_logs::{bare, batch, encoded};
 use std::alloc::{AllocError, Global};
 use std::test::Fail;
 
@@ -49,7 +50,7 @@ fn too_long(alloc: Global) -> Result<Batch, AllocError> {
     let value = Bytes::from_vec(vec![in alloc; 0u8; 1 << 20]?)?;
     let mut records = Vec::new(alloc);
     for _ in 0..1024 {
-        records.push(record(alloc, None, value.clone()?))?;
+        records.push(bare(alloc, None, value.clone()?))?;
     }
     Ok(batch(records))
 }

@@ -1,9 +1,10 @@
 //! Segments of one producer's batches, each as a whole partition.
 
-use crate::build::{commit, data, encoded, plain};
+use crate::build::{commit, data};
 use bytes::Bytes;
 use eos_batch::{Batch, BatchFault};
 use eos_fold::{Chain, PartitionFault, PartitionFaultKind, chain};
+use eos_test_logs::{encoded, plain};
 use eos_touch::PairFault;
 use std::alloc::Global;
 use std::test::Fail;

@@ -6,11 +6,12 @@ ghost use Rattle.eos_fold.specs.Standing.{AreOf};
 ghost use Rattle.eos_fold.specs.Sums.{IsFit};
 ghost use Rattle.eos_fold.specs.Whole.{segments_in};
 
-use crate::build::{batch, commit, data, encoded, record};
+use crate::build::{abort, commit, data};
 use bytes::Bytes;
 use eos_batch::{Batch, Kind};
 use eos_evidence::Segment;
 use eos_fold::{Close, Fate, Named, Part, PartitionFault, PartitionFaultKind};
+use eos_test_logs::segment;
 use eos_touch::PairFault;
 use std::alloc::{AllocError, Global};
 use std::test::Fail;
@@ -21,36 +22,14 @@ fn topic() -> Bytes
     Bytes::from_static(b"out")
 }
 
-/// The end marker ABORT of producer 1000 at this offset.
-fn abort(alloc: Global, base_offset: i64, epoch: i16) -> Result<Batch, AllocError> {
-    let key = Some(Bytes::from_static(b"\x00\x00\x00\x00"));
-    let value = Bytes::from_static(b"\x00\x00\x00\x00\x00\x00");
-    Ok(Batch {
-        base_offset,
-        attributes: 0x30,
-        producer: 1000,
-        epoch,
-        ..batch(vec![in alloc; record(alloc, key, value)]?)
-    })
-}
-
 /// A segment of this name, of these batches.
-fn segment(alloc: Global, base: i64, batches: &[Batch]) -> Result<Segment, Fail>
+fn out_0(alloc: Global, base: i64, batches: &[Batch]) -> Result<Segment, Fail>
     requires { pos 0 ≤ℤ base }
     ensures fit { IfOk result IsFit }
     ensures topic { IfOk result (λ s. s.topic ≡ codes "out") }
     ensures number { IfOk result (λ s. s.partition ≡ pos 0) }
 {
-    let bytes = encoded(alloc, batches)?;
-    if bytes.len() > 1073741824 {
-        return Err(AllocError.into());
-    }
-    Ok(Segment {
-        topic: topic(),
-        partition: 0,
-        base,
-        bytes: Bytes::from_vec(bytes)?,
-    })
+    Ok(segment(alloc, (b"out", 0), base, batches)?)
 }
 
 /// A run of two segments, of which the first is named 0.
@@ -58,8 +37,8 @@ fn run(alloc: Global, first: &[Batch], base: i64, second: &[Batch]) -> Result<Op
     requires { pos 0 ≤ℤ base }
     ensures { IfOk result (λ run. AreOf (codes "out") (pos 0) (segments_in run)) }
 {
-    let before = segment(alloc, 0, first)?;
-    let after = segment(alloc, base, second)?;
+    let before = out_0(alloc, 0, first)?;
+    let after = out_0(alloc, base, second)?;
     let (Ok(before), Ok(after)) = (Named::of(alloc, 0, before), Named::of(alloc, 1, after)) else {
         return Err(AllocError.into());
     };

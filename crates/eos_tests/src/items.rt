@@ -1,73 +1,50 @@
 //! The heads of batches that `encode_batch` wrote, beside what `decode_batch` reads.
 
 use bytes::Bytes;
-use eos_batch::{
-    Batch, Header, Headers, Kind, Marker, Record, Records, decode_batch, encode_batch,
-};
+use eos_batch::{Batch, Header, Kind, Marker, decode_batch};
 use eos_items::{BatchHead, read_head};
+use eos_test_logs::{bare, batch, encoded, record};
 use std::alloc::{AllocError, Global};
 use std::test::Fail;
 
-fn record(alloc: Global, value: &'static [u8]) -> Record {
-    Record {
-        attributes: 0,
-        timestamp_delta: 0,
-        key: None,
-        value: Some(Bytes::from_static(value)),
-        headers: Headers::new(Vec::new(alloc)),
-    }
-}
-
-/// Records with these values, the first of them with a key and a header.
-fn records(alloc: Global, values: &[&'static [u8]]) -> Result<Records, AllocError> {
-    let mut records = Vec::new(alloc);
-    for value in values {
-        let mut one = record(alloc, value);
-        if records.is_empty() {
-            let mut headers = Vec::new(alloc);
-            headers.push(Header {
-                key: Bytes::from_static(b"h"),
-                value: None,
-            })?;
-            one.key = Some(Bytes::from_static(b"k"));
-            one.headers = Headers::new(headers);
-        }
-        records.push(one)?;
-    }
-    Ok(Records::new(records))
-}
-
-fn batch(base_offset: i64, attributes: i16, records: Records) -> Batch {
-    let producer = if attributes == 0 { -1 } else { 1000 };
-    Batch {
-        base_offset,
-        leader_epoch: 0,
-        attributes,
-        base_timestamp: 0,
-        max_timestamp: 0,
-        producer,
-        epoch: if attributes == 0 { -1 } else { 7 },
-        sequence: if attributes == 0x10 { 0 } else { -1 },
-        records,
-    }
-}
-
-/// The end marker COMMIT of producer 1000 and epoch 7.
+/// The end marker COMMIT of producer 1000 and epoch 7, of coordinator epoch 5.
 fn commit(alloc: Global, base_offset: i64) -> Result<Batch, AllocError> {
-    let mut control = Vec::new(alloc);
-    control.push(Record {
-        key: Some(Bytes::from_static(b"\x00\x00\x00\x01")),
-        ..record(alloc, b"\x00\x00\x00\x00\x00\x05")
-    })?;
-    Ok(batch(base_offset, 0x30, Records::new(control)))
+    let key = Some(Bytes::from_static(b"\x00\x00\x00\x01"));
+    let control = bare(alloc, key, Bytes::from_static(b"\x00\x00\x00\x00\x00\x05"));
+    Ok(Batch {
+        base_offset,
+        attributes: 0x30,
+        producer: 1000,
+        epoch: 7,
+        ..batch(vec![in alloc; control]?)
+    })
+}
+
+/// Two transactional records of producer 1000 and epoch 7, the first of them with a key and a header.
+fn data(alloc: Global, base_offset: i64) -> Result<Batch, AllocError> {
+    let header = Header {
+        key: Bytes::from_static(b"h"),
+        value: None,
+    };
+    let first = record(
+        Some(Bytes::from_static(b"k")),
+        Some(Bytes::from_static(b"d")),
+        vec![in alloc; header]?,
+    );
+    let second = bare(alloc, None, Bytes::from_static(b"e"));
+    Ok(Batch {
+        base_offset,
+        attributes: 0x10,
+        producer: 1000,
+        epoch: 7,
+        sequence: 0,
+        ..batch(vec![in alloc; first, second]?)
+    })
 }
 
 /// The segment of the marker at 3 and the transactional records at 4 and 5.
 fn second(alloc: Global) -> Result<Bytes, Fail> {
-    let mut bytes = Vec::new(alloc);
-    let data = batch(4, 0x10, records(alloc, &[b"d", b"e"])?);
-    bytes.extend_from_slice(encode_batch(alloc, &commit(alloc, 3)?)?.as_slice())?;
-    bytes.extend_from_slice(encode_batch(alloc, &data)?.as_slice())?;
+    let bytes = encoded(alloc, &[commit(alloc, 3)?, data(alloc, 4)?])?;
     Ok(Bytes::from_vec(bytes)?)
 }
 

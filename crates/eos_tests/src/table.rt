@@ -2,26 +2,20 @@
 
 ghost use Rattle.std.specs.Prelude.{◌<◌};
 
-use crate::build::{batch, commit, data, encoded, record};
+use crate::build::{abort, commit, data};
 use bytes::Bytes;
-use eos_base::{Listed, PartitionName};
 use eos_batch::{Batch, Kind};
-use eos_evidence::Segment;
 use eos_fold::{Named, Part};
 use eos_table::{
     LogFault, LogFaultKind, MatchFault, MatchFaultKind, TxnTable, match_shard, txn_log,
 };
-use eos_txnlog::{
-    Decision, Partitions, Status, TopicPartitions, TxnFault, TxnValue, encode_key, encode_value,
-};
+use eos_test_logs::{Lists, Name, bare, batch, partition_name, partitions, segment, state};
+use eos_txnlog::{Decision, Status, TxnFault, encode_key, encode_value};
 use std::alloc::{AllocError, Global};
 use std::test::Fail;
 
-/// A topic and the number of a partition.
-type Name = (&'static [u8], i32);
-
 /// A record of producer 1000 in the transaction log: its id, status and epoch, and the partitions that it lists.
-type Step = (&'static [u8], Status, i16, &'static [Name]);
+type Step = (&'static [u8], Status, i16, &'static [Lists<'static>]);
 
 const OFFSETS: Name = (b"__consumer_offsets", 0);
 
@@ -29,43 +23,31 @@ const FIRST: Name = (b"out", 0);
 
 const SECOND: Name = (b"out", 1);
 
-const ALL: &[Name] = &[FIRST, SECOND, OFFSETS];
+const ONLY_FIRST: &[Lists<'static>] = &[(b"out", &[0])];
 
-const BUT_SECOND: &[Name] = &[FIRST, OFFSETS];
+const ONLY_SECOND: &[Lists<'static>] = &[(b"out", &[1])];
+
+const ALL: &[Lists<'static>] = &[
+    (b"out", &[0]),
+    (b"out", &[1]),
+    (b"__consumer_offsets", &[0]),
+];
+
+const BUT_SECOND: &[Lists<'static>] = &[(b"out", &[0]), (b"__consumer_offsets", &[0])];
 
 /// A transaction on all three partitions.
 const COMMITTED: [Step; 5] = [
     (b"app", Status::Empty, 0, &[]),
-    (b"app", Status::Ongoing, 0, &[FIRST]),
+    (b"app", Status::Ongoing, 0, ONLY_FIRST),
     (b"app", Status::Ongoing, 0, ALL),
     (b"app", Status::PrepareCommit, 1, ALL),
     (b"app", Status::CompleteCommit, 1, &[]),
 ];
 
-fn partitions(alloc: Global, names: &[Name]) -> Result<Partitions, AllocError> {
-    let mut list = Listed::new(Vec::new(alloc));
-    for (topic, number) in names {
-        list.push(TopicPartitions {
-            topic: Bytes::from_static(topic),
-            numbers: Listed::new(vec![in alloc; *number]?),
-        })?;
-    }
-    Ok(list)
-}
-
 /// A partition of one segment, named 0.
 fn part(alloc: Global, name: Name, batches: &[Batch], end: i64) -> Result<Part, Fail> {
     let (topic, partition) = name;
-    let bytes = Bytes::from_vec(encoded(alloc, batches)?)?;
-    if bytes.len() > 1 << 30 {
-        return Err(AllocError)?;
-    }
-    let segment = Segment {
-        topic: Bytes::from_static(topic),
-        partition,
-        base: 0,
-        bytes,
-    };
+    let segment = segment(alloc, name, 0, batches)?;
     let Ok(run) = Named::of(alloc, 0, segment) else {
         return Err(AllocError)?;
     };
@@ -76,17 +58,9 @@ fn part(alloc: Global, name: Name, batches: &[Batch], end: i64) -> Result<Part, 
 fn log(alloc: Global, steps: &[Step]) -> Result<Part, Fail> {
     let mut records = Vec::new(alloc);
     for (id, status, epoch, lists) in steps {
-        let value = TxnValue {
-            producer: 1000,
-            epoch: *epoch,
-            timeout: 60000,
-            status: *status,
-            partitions: partitions(alloc, lists)?,
-            last_update: 5,
-            start: -1,
-        };
+        let value = state(*status, *epoch, partitions(alloc, *lists)?);
         let key = encode_key(alloc, &Bytes::from_static(id))?;
-        records.push(record(alloc, Some(key), encode_value(alloc, &value, 1)?))?;
+        records.push(bare(alloc, Some(key), encode_value(alloc, &value, 1)?))?;
     }
     part(
         alloc,
@@ -103,16 +77,7 @@ fn ended(alloc: Global) -> Result<[Batch; 2], AllocError> {
 
 /// The same, but aborted.
 fn aborted(alloc: Global, epoch: i16) -> Result<[Batch; 2], AllocError> {
-    let key = Bytes::from_static(b"\x00\x00\x00\x00");
-    let value = Bytes::from_static(b"\x00\x00\x00\x00\x00\x00");
-    let marker = Batch {
-        base_offset: 1,
-        attributes: 0x30,
-        producer: 1000,
-        epoch,
-        ..batch(vec![in alloc; record(alloc, Some(key), value)]?)
-    };
-    Ok([data(alloc, 0, 0, 1)?, marker])
+    Ok([data(alloc, 0, 0, 1)?, abort(alloc, 1, epoch)?])
 }
 
 /// The partitions, in order, with these batches in the second one of `out`, where it is there.
@@ -176,10 +141,7 @@ fn is_fault(
             producer: 1000,
             epoch: 0,
             kind,
-            partition: partition.map(|(topic, partition)| PartitionName {
-                topic: Bytes::from_static(topic),
-                partition,
-            }),
+            partition: partition.map(partition_name),
         };
         all = all && only_fault(alloc, &table, parts.as_slice(), shards)? == Some(expected);
     }
@@ -217,7 +179,7 @@ fn faults_of_the_log(rt: HostRuntime) -> Result<(), Fail> {
         (b"app", Status::Empty, 0, &[]),
         (b"app", Status::Ongoing, 0, BUT_SECOND),
         (b"app", Status::PrepareCommit, 1, BUT_SECOND),
-        (b"app", Status::PrepareAbort, 2, &[SECOND]),
+        (b"app", Status::PrepareAbort, 2, ONLY_SECOND),
     ];
     let step = LogFault {
         partition: 0,
@@ -270,8 +232,8 @@ fn decided_twice(rt: HostRuntime) -> Result<(), Fail> {
         (b"app", Status::Ongoing, 0, BUT_SECOND),
         (b"app", Status::PrepareCommit, 1, BUT_SECOND),
         (b"app", Status::CompleteCommit, 1, &[]),
-        (b"app", Status::Ongoing, 0, &[SECOND]),
-        (b"app", Status::PrepareAbort, 2, &[SECOND]),
+        (b"app", Status::Ongoing, 0, ONLY_SECOND),
+        (b"app", Status::PrepareAbort, 2, ONLY_SECOND),
         (b"app", Status::CompleteAbort, 2, &[]),
     ];
     let second = aborted(alloc, 2)?;
