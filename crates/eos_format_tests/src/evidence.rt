@@ -3,9 +3,10 @@
 use bytes::Bytes;
 use eos_base::Listed;
 use eos_evidence::{
-    AddFault, App, Apps, End, Ends, EvidenceBuilder, GroupId, Segment, Spec, SpecFault, Topics,
-    parse_spec, spec_text,
+    AddFault, App, Apps, End, Ends, EvidenceBuilder, GroupId, Segment, Spec, SpecFault, parse_spec,
+    spec_text,
 };
+use eos_test_logs::{AppRow, apps_of};
 use std::alloc::{AllocError, Global};
 use std::test::Fail;
 
@@ -14,38 +15,6 @@ const EXAMPLE: &[u8] =
 
 const CHAIN: &[u8] =
     b"{\"version\":2,\"apps\":[{\"group\":\"g\",\"sources\":[\"in\"],\"outputs\":[\"out\"]},{\"group\":\"h\",\"sources\":[\"out\"],\"outputs\":[\"fin\"]}],\"ends\":{}}";
-
-fn topics(alloc: Global, name: &'static [u8]) -> Result<Topics, AllocError> {
-    let mut items = Vec::new(alloc);
-    items.push(Bytes::from_static(name))?;
-    Ok(Listed::new(items))
-}
-
-fn app(
-    alloc: Global,
-    group: &str,
-    source: &'static [u8],
-    output: &'static [u8],
-) -> Result<App, AllocError> {
-    Ok(App {
-        group: GroupId::new(String::from_str(alloc, group)?),
-        sources: topics(alloc, source)?,
-        outputs: topics(alloc, output)?,
-    })
-}
-
-fn one(alloc: Global, app: App) -> Result<Apps, AllocError> {
-    let mut apps = Vec::new(alloc);
-    apps.push(app)?;
-    Ok(Listed::new(apps))
-}
-
-fn two(alloc: Global, first: App, second: App) -> Result<Apps, AllocError> {
-    let mut apps = Vec::new(alloc);
-    apps.push(first)?;
-    apps.push(second)?;
-    Ok(Listed::new(apps))
-}
 
 fn end_of(topic: &'static [u8], partition: i32, end: i64) -> End {
     End {
@@ -69,7 +38,7 @@ fn no_ends(alloc: Global) -> Ends {
 
 /// The example's parts.
 fn example(alloc: Global, output: &'static [u8]) -> Result<Spec, SpecFault> {
-    let apps = one(alloc, app(alloc, "g", b"in", output)?)?;
+    let apps = apps_of(alloc, &[("g", &[b"in"], &[output])])?;
     Spec::new(alloc, apps, two_ends(alloc)?)
 }
 
@@ -151,10 +120,9 @@ fn reads_the_example(rt: HostRuntime) -> Result<(), Fail> {
 fn reads_a_chain_of_applications(rt: HostRuntime) -> Result<(), Fail> {
     let alloc = rt.alloc();
     let spec = parse_spec(alloc, CHAIN)?;
-    let made = two(
+    let made = apps_of(
         alloc,
-        app(alloc, "g", b"in", b"out")?,
-        app(alloc, "h", b"out", b"fin")?,
+        &[("g", &[b"in"], &[b"out"]), ("h", &[b"out"], &[b"fin"])],
     )?;
     assert_eq!(rt; spec.apps(), &made);
     let none = parse_spec(alloc, b"{\"version\":2,\"apps\":[],\"ends\":{}}")?;
@@ -178,13 +146,9 @@ fn writes_the_first_version_for_one_application(rt: HostRuntime) -> Result<(), F
     Ok(())
 }
 
-/// The answer of `Spec::new` for two applications and no ends.
-fn of_two(
-    alloc: Global,
-    first: Result<App, AllocError>,
-    second: Result<App, AllocError>,
-) -> Result<&'static str, AllocError> {
-    let apps = two(alloc, first?, second?)?;
+/// The answer of `Spec::new` for these applications and no ends.
+fn of_apps(alloc: Global, rows: &[AppRow<'_>]) -> Result<&'static str, AllocError> {
+    let apps = apps_of(alloc, rows)?;
     Ok(named(Spec::new(alloc, apps, no_ends(alloc))))
 }
 
@@ -192,16 +156,11 @@ fn of_two(
 fn refuses_what_stands_twice(rt: HostRuntime) -> Result<(), AllocError> {
     let alloc = rt.alloc();
     assert_eq!(rt; named(example(alloc, b"in")), "Field");
-    let group = of_two(
-        alloc,
-        app(alloc, "g", b"a", b"b"),
-        app(alloc, "g", b"c", b"d"),
-    )?;
+    let group = of_apps(alloc, &[("g", &[b"a"], &[b"b"]), ("g", &[b"c"], &[b"d"])])?;
     assert_eq!(rt; group, "Field");
-    let output = of_two(
+    let output = of_apps(
         alloc,
-        app(alloc, "g", b"a", b"out"),
-        app(alloc, "h", b"c", b"out"),
+        &[("g", &[b"a"], &[b"out"]), ("h", &[b"c"], &[b"out"])],
     )?;
     assert_eq!(rt; output, "Field");
     Ok(())
@@ -210,10 +169,9 @@ fn refuses_what_stands_twice(rt: HostRuntime) -> Result<(), AllocError> {
 #[test]
 fn accepts_a_source_of_two_applications(rt: HostRuntime) -> Result<(), AllocError> {
     let alloc = rt.alloc();
-    let source = of_two(
+    let source = of_apps(
         alloc,
-        app(alloc, "g", b"a", b"out"),
-        app(alloc, "h", b"a", b"fin"),
+        &[("g", &[b"a"], &[b"out"]), ("h", &[b"a"], &[b"fin"])],
     )?;
     assert_eq!(rt; source, "accepted");
     Ok(())

@@ -2,6 +2,7 @@
 
 use bytes::Bytes;
 use eos_base::Listed;
+use eos_test_logs::{partitions, state};
 use eos_txnlog::*;
 use std::alloc::{AllocError, Global};
 use std::test::Fail;
@@ -221,18 +222,6 @@ fn hostile_counts(rt: HostRuntime) -> Result<(), Fail> {
     Ok(())
 }
 
-/// The partitions of these topics, by topic.
-fn partitions(alloc: Global, topics: &[(&'static [u8], &[i32])]) -> Result<Partitions, AllocError> {
-    let mut list = Listed::new(Vec::new(alloc));
-    for (topic, numbers) in topics {
-        list.push(TopicPartitions {
-            topic: Bytes::from_static(topic),
-            numbers: Listed::new(Vec::from_slice(alloc, numbers)?),
-        })?;
-    }
-    Ok(list)
-}
-
 #[test]
 fn partitions_are_a_set(rt: HostRuntime) -> Result<(), Fail> {
     let alloc = rt.alloc();
@@ -284,17 +273,9 @@ fn what_says_nothing_new_is_skipped(rt: HostRuntime) -> Result<(), Fail> {
     Ok(())
 }
 
-/// A value of producer 1000 without partitions.
+/// A state without partitions.
 fn plain(alloc: Global, status: Status, epoch: i16) -> TxnValue {
-    TxnValue {
-        producer: 1000,
-        epoch,
-        timeout: 60000,
-        status,
-        partitions: Partitions::new(Vec::new(alloc)),
-        last_update: 5,
-        start: -1,
-    }
+    state(status, epoch, Partitions::new(Vec::new(alloc)))
 }
 
 #[test]
