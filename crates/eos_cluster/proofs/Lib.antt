@@ -8,3 +8,4 @@ pub mod Grouping
 pub mod Adding
 pub mod Openings
 pub mod Settled
+pub mod Delivered

@@ -1,8 +1,7 @@
 -- What the front of the log of the offsets can't change.
 use Rattle.std.proofs.Common.{◌≡◌, ◌≢◌, ◌∷◌, [], ℕ, zero, suc, ◌+◌, ◌<◌, ◌≤◌, ◌==◌, ◌&&◌, List, length, drop, slice_index_or, Bool, true, false, Option, Some, None, if◌then◌else◌, ◌∙◌, sym, ap, subst, arith, refl}
-use Rattle.std.specs.List.{All, filter_map}
+use Rattle.std.specs.List.{All}
 use Rattle.std.specs.Option.{option_or}
-use Rattle.std.proofs.lemmas.Bool.{eqb-true}
 use Rattle.std.proofs.lemmas.List.{drop_more}
 use Rattle.std.proofs.lemmas.List.Elements.{All-cons}
 use Rattle.eos_batch.specs.declared.marker.Kind.{Kind}
@@ -12,10 +11,10 @@ use Rattle.eos_machine.specs.declared.state.Producer.{Producer}
 use Rattle.eos_machine.specs.Application.{Mark, Batch, End}
 use Rattle.eos_machine.specs.Places.{offsets_place}
 use Rattle.eos_machine.specs.World.{World, log_at}
-use Rattle.eos_machine.specs.Logs.{marks_of, mark_in, unseen, after_mark, producer_from, producer_of, producer_at, kind_in, first_kind, is_open, is_committed, has_open_commit, committed_from}
+use Rattle.eos_machine.specs.Logs.{marks_of, mark_in, unseen, after_mark, producer_from, producer_of, kind_in, first_kind, is_open, is_committed, has_open_commit}
 use Rattle.eos_machine.proofs.Worlds.{is_same}
 use Rattle.eos_cluster.specs.declared.fetch.Fetched.{Fetched}
-use Rattle.eos_cluster.specs.Fetching.{AreEnds, IsFetched, or_this, IsThere, IsSettled, IsNotOf, HasNone}
+use Rattle.eos_cluster.specs.Fetching.{AreEnds, IsFetched, IsThere, IsSettled, IsNotOf, HasNone}
 use Rattle.eos_cluster.specs.Named.{IsFrom}
 
 -- ---- an application whose producer id has no data has no offset

@@ -1,5 +1,5 @@
 -- The bytes of a batch that is written.
-use Rattle.std.proofs.Common.{◌≡◌, ℕ, ◌+◌, ◌-◌, ◌*◌, ◌/◌, zero, suc, List, [], ◌∷◌, ◌++◌, Result, Ok, Err, inl, inr, ap, sym, subst, ◌∙◌, append_assoc, arith, take, drop, length, slice_index_or, ◌<◌, ◌≤◌}
+use Rattle.std.proofs.Common.{◌≡◌, ℕ, ◌+◌, ◌-◌, ◌*◌, ◌/◌, zero, suc, List, [], ◌∷◌, ◌++◌, Result, Ok, Err, inl, inr, ap, sym, subst, refl, ◌∙◌, append_assoc, arith, take, drop, length, slice_index_or, ◌<◌, ◌≤◌}
 use Rattle.std.proofs.Math.Nat.{div-add-mod, mod-lt, mul_comm, mul-le-mul_right}
 use Rattle.std.proofs.Math.ListN.{drop_of_length-le}
 use Rattle.std.proofs.lemmas.List.{drop_more, drop-drop}
@@ -15,8 +15,17 @@ use Rattle.eos_machine.specs.declared.config.Config.{Config}
 use Rattle.eos_machine.specs.declared.item.Item.{Item}
 use Rattle.eos_machine.specs.Places.{IsConfig, place_count}
 use Rattle.eos_machine.specs.World.{World, log_at}
-use Rattle.eos_schedules.specs.Batches.{item_batch, texts_from, Reads, HasText, HaveTexts}
+use Rattle.eos_machine.specs.declared.item.Item.TheVariants.{Fed, State, Output, Offset, Marker}
+use Rattle.eos_cluster.specs.BatchParts.{event_of, item_writer, item_record}
+use Rattle.eos_schedules.specs.Batches.{batch, item_batch, texts_from, Reads, HasText, HaveTexts}
 use Rattle.eos_schedules.specs.Evidences.{segment_count}
+
+pub batch_of_parts : (c : Config) (o : ℕ) (x : Item) → batch o (event_of x) (item_writer x) (item_record c x) ≡ item_batch c o x
+batch_of_parts c o (Fed n) = refl
+batch_of_parts c o (State a e n) = refl
+batch_of_parts c o (Output a e s x v n) = refl
+batch_of_parts c o (Offset a e q v n) = refl
+batch_of_parts c o (Marker a e k n) = refl
 
 or_none : Result (List ℕ) BatchFault → List ℕ
 or_none (Ok t) = t

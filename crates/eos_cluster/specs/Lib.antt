@@ -8,3 +8,5 @@ pub mod Fetching
 pub mod Names
 pub mod Grouping
 pub mod Switching
+pub mod Requests
+pub mod BatchParts

@@ -4,6 +4,7 @@ ghost use Rattle.std.specs.Prelude.{◌≡◌, ◌<◌, ◌+◌, ◌^◌, None, 
 ghost use Rattle.eos_machine.specs.declared.item.Item.TheVariants.{State};
 ghost use Rattle.eos_machine.specs.Places.{IsConfig};
 ghost use Rattle.eos_batch.specs.Encoding.{batch_text_of};
+ghost use Rattle.eos_cluster.specs.BatchParts.{event_of, item_writer, item_record};
 ghost use Rattle.eos_schedules.specs.Batches.{record_of, fed_record, state_record, output_record, offset_record, marker_record, batch, item_batch, texts_from, Reads, HasText, HaveTexts};
 
 use crate::values;
@@ -100,7 +101,66 @@ fn batch(
     })
 }
 
+/// The number of the event that appended an item.
+fn event_of(item: &Item) -> u64
+    ensures { result ≡ event_of item.now }
+{
+    match item {
+        Item::Fed { event } => *event,
+        Item::State { event, .. } => *event,
+        Item::Output { event, .. } => *event,
+        Item::Offset { event, .. } => *event,
+        Item::Marker { event, .. } => *event,
+    }
+}
+
+/// By whom an item's batch is written.
+fn item_writer(item: &Item) -> Result<Writer, AllocError>
+    ensures { IfOk result (λ w. w ≡ item_writer item.now) }
+{
+    match item {
+        Item::Fed { .. } => Ok(writer::plain()),
+        Item::State { .. } => Ok(writer::plain()),
+        Item::Output {
+            application,
+            epoch,
+            sequence,
+            ..
+        } => writer::transactional(*application, *epoch, sequence_as_i32(*sequence)?),
+        Item::Offset {
+            application,
+            epoch,
+            ..
+        } => writer::transactional(*application, *epoch, -1),
+        Item::Marker {
+            application,
+            epoch,
+            ..
+        } => writer::control(*application, *epoch),
+    }
+}
+
+/// The one record of an item's batch.
+fn item_record(alloc: Global, config: Config, item: &Item) -> Result<Record, AllocError>
+    requires { IsConfig config }
+    ensures record { IfOk result (λ r. r ≡ item_record config item.now) }
+    ensures reads { OnOk result (Reads config item.now) }
+{
+    match item {
+        Item::Fed { event } => fed_record(alloc, *event),
+        Item::State {
+            application,
+            entry,
+            event,
+        } => state_record(alloc, config, *application, entry, *event),
+        Item::Output { claim, value, .. } => output_record(alloc, claim, *value),
+        Item::Offset { source, offset, .. } => offset_record(alloc, *source, *offset),
+        Item::Marker { kind, .. } => marker_record(alloc, *kind),
+    }
+}
+
 /// The batch of an item at an offset.
+#[tactic(auto, using(crate::proofs::Texts::batch_of_parts))]
 fn item_batch(
     alloc: Global,
     config: Config,
@@ -111,54 +171,9 @@ fn item_batch(
     ensures batch { IfOk result (λ b. b ≡ item_batch config offset item.now) }
     ensures reads { OnOk result (Reads config item.now) }
 {
-    match item {
-        Item::Fed { event } => {
-            let record = fed_record(alloc, *event)?;
-            batch(alloc, offset, *event, writer::plain(), record)
-        }
-        Item::State {
-            application,
-            entry,
-            event,
-        } => {
-            let record = state_record(alloc, config, *application, entry, *event)?;
-            batch(alloc, offset, *event, writer::plain(), record)
-        }
-        Item::Output {
-            application,
-            epoch,
-            sequence,
-            claim,
-            value,
-            event,
-        } => {
-            let record = output_record(alloc, claim, *value)?;
-            let sequence = sequence_as_i32(*sequence)?;
-            let writer = writer::transactional(*application, *epoch, sequence)?;
-            batch(alloc, offset, *event, writer, record)
-        }
-        Item::Offset {
-            application,
-            epoch,
-            source,
-            offset: committed,
-            event,
-        } => {
-            let record = offset_record(alloc, *source, *committed)?;
-            let writer = writer::transactional(*application, *epoch, -1)?;
-            batch(alloc, offset, *event, writer, record)
-        }
-        Item::Marker {
-            application,
-            epoch,
-            kind,
-            event,
-        } => {
-            let record = marker_record(alloc, *kind)?;
-            let writer = writer::control(*application, *epoch)?;
-            batch(alloc, offset, *event, writer, record)
-        }
-    }
+    let record = item_record(alloc, config, item)?;
+    let writer = item_writer(item)?;
+    batch(alloc, offset, event_of(item), writer, record)
 }
 
 /// The bytes of an item's batch.

@@ -1,15 +1,18 @@
 //! Messages as they arrive: data and offsets at a broker.
 
-ghost use Rattle.std.specs.Prelude.{◌≡◌, ℕ, ◌+◌, ◌-◌, ◌≤◌, ◌<◌, length, slice_get, OnOk, OnErr, IfOk};
+ghost use Rattle.std.specs.Prelude.{◌≡◌, ℕ, ◌+◌, ◌-◌, ◌≤◌, ◌<◌, Some, length, slice_get, OnOk, OnErr, IfOk};
 ghost use Rattle.eos_machine.specs.Places.{offsets_place};
+ghost use Rattle.eos_machine.specs.declared.item.Item.TheVariants.{Output, Offset};
 ghost use Rattle.eos_machine.specs.World.{coord_at};
 ghost use Rattle.eos_machine.specs.Deliveries.{with_partition, deliver_output, deliver_offset, deliver};
 ghost use Rattle.eos_cluster.specs.Taken.{taken, IsRefusal};
-ghost use Rattle.eos_cluster.specs.Named.{IsNamed, IsFrom};
+ghost use Rattle.eos_cluster.specs.Named.{Names, IsNamed, IsFrom};
+ghost use Rattle.eos_cluster.specs.Requests.{header_of, IsData};
 
 use crate::answers::{is_ongoing, is_prepare};
 use crate::copies;
-use crate::places::{OFFSETS_PLACE, output_place};
+use crate::messages::{RequestHeader, header_of};
+use crate::places::OFFSETS_PLACE;
 use crate::store::Store;
 use crate::store::coordinators::step_of;
 use eos_broker::{is_epoch, next_sequence};
@@ -35,22 +38,59 @@ impl Store {
         Ok(())
     }
 
-    /// What a broker and the coordinator make of data: the item that is appended, or the refusal.
+    /// The item of a record that is appended.
+    pub(crate) fn record_item(
+        &self,
+        header: RequestHeader,
+        sequence: u32,
+        claim: &Claim,
+        value: u64,
+    ) -> Result<Item, AllocError>
+        ensures { IfOk result (λ x. x ≡ Output header.application header.epoch sequence claim.now value self.now.world.events) }
+    {
+        Ok(Item::Output {
+            application: header.application,
+            epoch: header.epoch,
+            sequence,
+            claim: claim.clone()?,
+            value,
+            event: self.events(),
+        })
+    }
+
+    /// The item of an offset that is appended.
+    pub(crate) fn offset_commit(&self, header: RequestHeader, source: usize, offset: u64) -> Item
+        ensures { result ≡ Offset header.application header.epoch source offset self.now.world.events }
+    {
+        Item::Offset {
+            application: header.application,
+            epoch: header.epoch,
+            source,
+            offset,
+            event: self.events(),
+        }
+    }
+
+    /// What a broker and the coordinator make of a record: the item that is appended, or the refusal.
     #[tactic(auto, unfolding(eos_machine::specs::Answers::when))]
     pub(crate) fn output_item(
         &self,
-        application: usize,
-        epoch: u16,
-        place: usize,
+        header: RequestHeader,
         sequence: u32,
         claim: &Claim,
         value: u64,
     ) -> Result<Result<Item, Reply>, AllocError>
-        requires { application < self.now.config.applications }
+        requires { header.application < self.now.config.applications }
         ensures from { IfOk result (λ r. IfOk r (IsFrom self.now.config.applications)) }
         ensures proper { IfOk result (λ r. IsRefusal r) }
-        ensures answer { IfOk result (λ r. (n : ℕ) → deliver_output self.now.config self.now.world n application epoch place sequence claim.now value ≡ taken self.now.config self.now.world n application place r) }
+        ensures answer { IfOk result (λ r. (n : ℕ) → deliver_output self.now.config self.now.world n header.application header.epoch header.place sequence claim.now value ≡ taken self.now.config self.now.world n header.application header.place r) }
     {
+        let RequestHeader {
+            application,
+            epoch,
+            place,
+            ..
+        } = header;
         let producer = self.producer(application, place);
         let sequence_number = u64::from(sequence);
         if epoch < producer.high {
@@ -68,33 +108,29 @@ impl Store {
         if is_prepare(self.status(application)) {
             return Ok(Err(Reply::Busy));
         }
-        let claim = claim.clone()?;
-        Ok(Ok(Item::Output {
-            application,
-            epoch,
-            sequence,
-            claim,
-            value,
-            event: self.events(),
-        }))
+        Ok(Ok(self.record_item(header, sequence, claim, value)?))
     }
 
     /// The same for an offset.
     #[tactic(auto, unfolding(eos_machine::specs::Answers::when))]
     pub(crate) fn offset_item(
         &self,
-        number: u64,
-        application: usize,
-        epoch: u16,
+        header: RequestHeader,
         generation: u64,
         source: usize,
         offset: u64,
     ) -> Result<Item, Reply>
-        requires { application < self.now.config.applications }
+        requires { header.application < self.now.config.applications }
         ensures from { IfOk result (IsFrom self.now.config.applications) }
         ensures proper { IsRefusal result }
-        ensures answer { deliver_offset self.now.config self.now.world number application epoch generation source offset ≡ taken self.now.config self.now.world number application offsets_place result }
+        ensures answer { deliver_offset self.now.config self.now.world header.number header.application header.epoch generation source offset ≡ taken self.now.config self.now.world header.number header.application offsets_place result }
     {
+        let RequestHeader {
+            number,
+            application,
+            epoch,
+            ..
+        } = header;
         if self.is_accepted(number) {
             return Err(Reply::DuplicateKept);
         }
@@ -111,25 +147,46 @@ impl Store {
         if is_prepare(self.status(application)) {
             return Err(Reply::Busy);
         }
-        Ok(Item::Offset {
-            application,
-            epoch,
-            source,
-            offset,
-            event: self.events(),
-        })
+        Ok(self.offset_commit(header, source, offset))
+    }
+
+    /// What becomes of a message that brings a record or an offset.
+    fn data_item(
+        &self,
+        header: RequestHeader,
+        message: &Message,
+    ) -> Result<Result<Item, Reply>, AllocError>
+        requires brings { IsData message.now }
+        requires named { Names self.now.config message.now }
+        requires head { header ≡ header_of self.now.config header.number message.now }
+        ensures from { IfOk result (λ r. IfOk r (IsFrom self.now.config.applications)) }
+        ensures answer { IfOk result (λ r. deliver self.now.config self.now.world header.number (Some message.now) ≡ taken self.now.config self.now.world header.number header.application header.place r) }
+    {
+        match message {
+            Message::Output {
+                sequence,
+                claim,
+                value,
+                ..
+            } => self.output_item(header, *sequence, claim, *value),
+            Message::Offset {
+                generation,
+                source,
+                offset,
+                ..
+            } => Ok(self.offset_item(header, *generation, *source, *offset)),
+            Message::End { .. } | Message::Marker { .. } => unreachable!(),
+        }
     }
 
     /// Appends what was not refused.
     fn take_in(
         &mut self,
-        number: u64,
-        application: usize,
-        place: usize,
+        header: RequestHeader,
         item: Result<Item, Reply>,
     ) -> Result<Reply, AllocError>
         requires { IfOk item (IsFrom self.old.config.applications) }
-        ensures ok { IfOk result (λ r. (self.new.world, r) ≡ taken self.old.config self.old.world number application place item) }
+        ensures ok { IfOk result (λ r. (self.new.world, r) ≡ taken self.old.config self.old.world header.number header.application header.place item) }
         ensures err { OnErr result (self.new.world ≡ self.old.world) }
         ensures config { self.new.config ≡ self.old.config }
     {
@@ -137,11 +194,11 @@ impl Store {
             Ok(item) => item,
             Err(refusal) => return Ok(refusal),
         };
-        let offset = self.log(place).len() as u64;
+        let offset = self.log(header.place).len() as u64;
         self.make_room(2)?;
-        self.include(application, place)?;
-        self.put(place, item);
-        self.note_accepted(number);
+        self.include(header.application, header.place)?;
+        self.put(header.place, item);
+        self.note_accepted(header.number);
         Ok(Reply::Done(offset))
     }
 
@@ -154,58 +211,22 @@ impl Store {
         ensures err { OnErr result (self.new.world ≡ self.old.world) }
         ensures config { self.new.config ≡ self.old.config }
     {
-        let config = self.config();
         let Some(message) = self.message(number) else {
             return Ok(Reply::Unknown);
         };
+        let header = header_of(self.config(), number, message);
         match message {
-            Message::Output {
-                application,
-                epoch,
-                partition,
-                sequence,
-                claim,
-                value,
-            } => {
-                let application = *application;
-                let place = output_place(config, *partition);
-                let item = self.output_item(application, *epoch, place, *sequence, claim, *value)?;
-                self.take_in(number, application, place, item)
+            Message::Output { .. } | Message::Offset { .. } => {
+                let item = self.data_item(header, message)?;
+                self.take_in(header, item)
             }
-            Message::Offset {
-                application,
-                epoch,
-                generation,
-                source,
-                offset,
-            } => {
-                let application = *application;
-                let item = self.offset_item(
-                    number,
-                    application,
-                    *epoch,
-                    *generation,
-                    *source,
-                    *offset,
-                );
-                self.take_in(number, application, OFFSETS_PLACE, item)
+            Message::End { kind, .. } => {
+                let kind = *kind;
+                self.deliver_end(header.application, header.epoch, kind)
             }
-            Message::End {
-                application,
-                epoch,
-                kind,
-            } => {
-                let (application, epoch, kind) = (*application, *epoch, *kind);
-                self.deliver_end(application, epoch, kind)
-            }
-            Message::Marker {
-                application,
-                epoch,
-                kind,
-                place,
-            } => {
-                let (application, epoch, kind, place) = (*application, *epoch, *kind, *place);
-                self.deliver_marker(application, epoch, kind, place)
+            Message::Marker { kind, .. } => {
+                let kind = *kind;
+                self.deliver_marker(header.application, header.epoch, kind, header.place)
             }
         }
     }

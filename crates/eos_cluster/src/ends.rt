@@ -1,11 +1,14 @@
 //! Ends of transactions, and end markers, as they arrive.
 
-ghost use Rattle.std.specs.Prelude.{◌≡◌, ◌==◌, ◌+◌, ◌-◌, ◌≤◌, ◌<◌, [], length, OnOk, OnErr, IfOk};
+ghost use Rattle.std.specs.Prelude.{◌≡◌, ◌==◌, ◌&&◌, ◌||◌, nat_lt, ◌+◌, ◌-◌, ◌≤◌, ◌<◌, [], length, OnOk, OnErr, IfOk};
 ghost use Rattle.eos_machine.specs.World.{coord_at, prepared, finished, state_of};
 ghost use Rattle.eos_machine.specs.declared.item.Status.TheVariants.{Complete};
+ghost use Rattle.eos_machine.specs.Logs.{producer_at, not_above};
+ghost use Rattle.eos_machine.specs.Tests.{has, waits_for};
 ghost use Rattle.eos_machine.specs.Deliveries.{deliver_end, deliver_marker};
 ghost use Rattle.eos_cluster.specs.Held.{becomes};
-ghost use Rattle.eos_cluster.specs.Taken.{ended, IsRefusalIfAny};
+ghost use Rattle.eos_cluster.specs.Named.{IsFrom};
+ghost use Rattle.eos_cluster.specs.Taken.{ended, settled, IsRefusalIfAny};
 
 use crate::answers::{is_commit, is_decided, is_ongoing, is_prepare, waits_for};
 use crate::copies;
@@ -105,6 +108,57 @@ impl Store {
         Ok(Reply::Done(number))
     }
 
+    /// Whether a broker fences an end marker of this epoch.
+    pub(crate) fn fences_marker(&self, application: usize, epoch: u16, place: usize) -> bool
+        requires { application < self.now.config.applications }
+        ensures { result ≡ (nat_lt epoch (producer_at self.now.world application place).high || not_above epoch (producer_at self.now.world application place).last) }
+    {
+        let producer = self.producer(application, place);
+        epoch < producer.high || is_not_above(producer, epoch)
+    }
+
+    /// Whether the coordinator waits for an end marker.
+    pub(crate) fn awaits_marker(
+        &self,
+        application: usize,
+        epoch: u16,
+        kind: Kind,
+        place: usize,
+    ) -> bool
+        ensures { result ≡ (waits_for (coord_at self.now.world application).status (coord_at self.now.world application).epoch epoch kind && has place (coord_at self.now.world application).awaited) }
+    {
+        let now = self.epoch(application);
+        waits_for(self.status(application), now, epoch, kind) && self.is_awaited(application, place)
+    }
+
+    /// Appends an end marker that the coordinator waits for, which ticks it off and completes after the last one.
+    #[tactic(auto, unfolding(eos_machine::specs::Answers::when))]
+    fn put_awaited(
+        &mut self,
+        application: usize,
+        kind: Kind,
+        place: usize,
+        marker: Item,
+    ) -> Result<(), AllocError>
+        requires from { IsFrom self.old.config.applications marker }
+        requires there { application < length self.old.world.coordinators }
+        ensures ok { OnOk result (self.new.world ≡ settled self.old.config self.old.world application kind place marker) }
+        ensures err { OnErr result (self.new.world ≡ self.old.world) }
+        ensures config { self.new.config ≡ self.old.config }
+    {
+        let left = self.others_awaited(application, place)?;
+        let is_last = left.as_slice().is_empty();
+        let now = self.epoch(application);
+        let done = step_of(Status::Complete(kind), now, copies::none(self.alloc()))?;
+        self.make_room(2)?;
+        self.put(place, marker);
+        self.tick_off(application, place, left);
+        if is_last {
+            self.finish(application, kind, done);
+        }
+        Ok(())
+    }
+
     /// An end marker arrives at a broker.
     #[tactic(auto, unfolding(eos_machine::specs::Answers::when))]
     pub(crate) fn deliver_marker(
@@ -120,36 +174,21 @@ impl Store {
         ensures err { OnErr result (self.new.world ≡ self.old.world) }
         ensures config { self.new.config ≡ self.old.config }
     {
-        let producer = self.producer(application, place);
-        if epoch < producer.high || is_not_above(producer, epoch) {
+        if self.fences_marker(application, epoch, place) {
             return Ok(Reply::Fenced);
         }
         let offset = self.log(place).len() as u64;
-        let now = self.epoch(application);
         let marker = Item::Marker {
             application,
             epoch,
             kind,
             event: self.events(),
         };
-        if !(waits_for(self.status(application), now, epoch, kind)
-            && self.is_awaited(application, place))
-        {
+        if self.awaits_marker(application, epoch, kind, place) {
+            self.put_awaited(application, kind, place, marker)?;
+        } else {
             self.make_room(1)?;
             self.put(place, marker);
-            return Ok(Reply::Done(offset));
-        }
-        let left = self.others_awaited(application, place)?;
-        if left.as_slice().is_empty() {
-            let done = step_of(Status::Complete(kind), now, copies::none(self.alloc()))?;
-            self.make_room(2)?;
-            self.put(place, marker);
-            self.tick_off(application, place, left);
-            self.finish(application, kind, done);
-        } else {
-            self.make_room(2)?;
-            self.put(place, marker);
-            self.tick_off(application, place, left);
         }
         Ok(Reply::Done(offset))
     }

@@ -11,6 +11,7 @@ mod ends;
 mod evidence;
 mod fetch;
 mod happen;
+mod messages;
 mod places;
 mod restart;
 mod segments;

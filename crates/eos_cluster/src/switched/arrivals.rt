@@ -4,11 +4,12 @@ ghost use Rattle.std.specs.Prelude.{◌≡◌, ℕ, ◌+◌, ◌≤◌, ◌<◌,
 ghost use Rattle.eos_machine.specs.World.{coord_at};
 ghost use Rattle.eos_cluster.specs.Courses.{IsProper};
 ghost use Rattle.eos_cluster.specs.Named.{IsNamed, IsFrom};
+ghost use Rattle.eos_cluster.specs.Requests.{IsData};
 ghost use Rattle.eos_cluster.specs.Taken.{IsRefusal};
 
 use crate::answers::{is_ongoing, is_prepare};
 use crate::copies;
-use crate::places::{OFFSETS_PLACE, output_place};
+use crate::messages::{RequestHeader, header_of};
 use crate::store::Store;
 use crate::switches::Switches;
 use eos_machine::{Claim, Item, Message, Reply, Status};
@@ -27,15 +28,15 @@ impl Store {
     fn lifted(
         &self,
         switches: Switches,
-        application: usize,
-        epoch: u16,
+        header: RequestHeader,
         refusal: Reply,
     ) -> Result<bool, Reply>
         requires { IsProper refusal }
         ensures { IsRefusal result }
     {
         let is_kept = switches.keep_duplicates && refusal == Reply::DuplicateKept;
-        let is_old = refusal == Reply::Fenced || (is_kept && !self.is_current(application, epoch));
+        let is_current = self.is_current(header.application, header.epoch);
+        let is_old = refusal == Reply::Fenced || (is_kept && !is_current);
         if is_old && switches.no_fence {
             return Ok(false);
         }
@@ -45,46 +46,37 @@ impl Store {
         if !is_kept {
             return Err(refusal);
         }
-        if is_prepare(self.status(application)) {
+        if is_prepare(self.status(header.application)) {
             return Err(Reply::Busy);
         }
         Ok(true)
     }
 
-    /// What becomes of data.
+    /// What becomes of a record.
     fn switched_output(
         &self,
         switches: Switches,
-        application: usize,
-        epoch: u16,
-        place: usize,
+        header: RequestHeader,
         sequence: u32,
         claim: &Claim,
         value: u64,
     ) -> Result<Result<Arrival, Reply>, AllocError>
-        requires { application < self.now.config.applications }
+        requires { header.application < self.now.config.applications }
         ensures from { IfOk result (λ r. IfOk r (λ x. IsFrom self.now.config.applications x.item)) }
         ensures proper { IfOk result (λ r. IsRefusal r) }
     {
-        let refusal = match self.output_item(application, epoch, place, sequence, claim, value)? {
+        let refusal = match self.output_item(header, sequence, claim, value)? {
             Ok(item) => return Ok(Ok(Arrival {
                 item,
                 is_listed: true,
             })),
             Err(refusal) => refusal,
         };
-        let is_listed = match self.lifted(switches, application, epoch, refusal) {
+        let is_listed = match self.lifted(switches, header, refusal) {
             Ok(is_listed) => is_listed,
             Err(refusal) => return Ok(Err(refusal)),
         };
-        let item = Item::Output {
-            application,
-            epoch,
-            sequence,
-            claim: claim.clone()?,
-            value,
-            event: self.events(),
-        };
+        let item = self.record_item(header, sequence, claim, value)?;
         Ok(Ok(Arrival { item, is_listed }))
     }
 
@@ -92,14 +84,12 @@ impl Store {
     fn switched_offset(
         &self,
         switches: Switches,
-        number: u64,
-        application: usize,
-        epoch: u16,
+        header: RequestHeader,
         generation: u64,
         source: usize,
         offset: u64,
     ) -> Result<Arrival, Reply>
-        requires { application < self.now.config.applications }
+        requires { header.application < self.now.config.applications }
         ensures from { IfOk result (λ x. IsFrom self.now.config.applications x.item) }
         ensures proper { IsRefusal result }
     {
@@ -108,14 +98,7 @@ impl Store {
         } else {
             generation
         };
-        let refusal = match self.offset_item(
-            number,
-            application,
-            epoch,
-            generation,
-            source,
-            offset,
-        ) {
+        let refusal = match self.offset_item(header, generation, source, offset) {
             Ok(item) => return Ok(Arrival {
                 item,
                 is_listed: true,
@@ -126,15 +109,38 @@ impl Store {
             return Err(refusal);
         }
         Ok(Arrival {
-            item: Item::Offset {
-                application,
-                epoch,
-                source,
-                offset,
-                event: self.events(),
-            },
+            item: self.offset_commit(header, source, offset),
             is_listed: false,
         })
+    }
+
+    /// What becomes of a message that brings a record or an offset.
+    fn arrival(
+        &self,
+        switches: Switches,
+        header: RequestHeader,
+        message: &Message,
+    ) -> Result<Result<Arrival, Reply>, AllocError>
+        requires brings { IsData message.now }
+        requires application { header.application < self.now.config.applications }
+        ensures from { IfOk result (λ r. IfOk r (λ x. IsFrom self.now.config.applications x.item)) }
+        ensures proper { IfOk result (λ r. IsRefusal r) }
+    {
+        match message {
+            Message::Output {
+                sequence,
+                claim,
+                value,
+                ..
+            } => self.switched_output(switches, header, *sequence, claim, *value),
+            Message::Offset {
+                generation,
+                source,
+                offset,
+                ..
+            } => Ok(self.switched_offset(switches, header, *generation, *source, *offset)),
+            Message::End { .. } | Message::Marker { .. } => unreachable!(),
+        }
     }
 
     /// The partition at a place belongs to the transaction, where it is listed.
@@ -166,9 +172,7 @@ impl Store {
     fn take_arrival(
         &mut self,
         switches: Switches,
-        number: u64,
-        application: usize,
-        place: usize,
+        header: RequestHeader,
         arrival: Result<Arrival, Reply>,
     ) -> Result<Reply, AllocError>
         requires from { IfOk arrival (λ x. IsFrom self.old.config.applications x.item) }
@@ -182,11 +186,11 @@ impl Store {
             Err(refusal) => return Ok(refusal),
         };
         let Arrival { item, is_listed } = arrival;
-        let offset = self.log(place).len() as u64;
+        let offset = self.log(header.place).len() as u64;
         self.make_room(2)?;
-        self.include_switched(switches, application, place, is_listed)?;
-        self.put(place, item);
-        self.note_accepted(number);
+        self.include_switched(switches, header.application, header.place, is_listed)?;
+        self.put(header.place, item);
+        self.note_accepted(header.number);
         Ok(Reply::Done(offset))
     }
 
@@ -203,67 +207,28 @@ impl Store {
         ensures err { OnErr result (self.new.world ≡ self.old.world) }
         ensures config { self.new.config ≡ self.old.config }
     {
-        let config = self.config();
         let Some(message) = self.message(number) else {
             return Ok(Reply::Unknown);
         };
+        let header = header_of(self.config(), number, message);
         match message {
-            Message::Output {
-                application,
-                epoch,
-                partition,
-                sequence,
-                claim,
-                value,
-            } => {
-                let application = *application;
-                let place = output_place(config, *partition);
-                let arrival = self.switched_output(
+            Message::Output { .. } | Message::Offset { .. } => {
+                let arrival = self.arrival(switches, header, message)?;
+                self.take_arrival(switches, header, arrival)
+            }
+            Message::End { kind, .. } => {
+                let kind = *kind;
+                self.deliver_end_switched(switches, header.application, header.epoch, kind)
+            }
+            Message::Marker { kind, .. } => {
+                let kind = *kind;
+                self.deliver_marker_switched(
                     switches,
-                    application,
-                    *epoch,
-                    place,
-                    *sequence,
-                    claim,
-                    *value,
-                )?;
-                self.take_arrival(switches, number, application, place, arrival)
-            }
-            Message::Offset {
-                application,
-                epoch,
-                generation,
-                source,
-                offset,
-            } => {
-                let application = *application;
-                let arrival = self.switched_offset(
-                    switches,
-                    number,
-                    application,
-                    *epoch,
-                    *generation,
-                    *source,
-                    *offset,
-                );
-                self.take_arrival(switches, number, application, OFFSETS_PLACE, arrival)
-            }
-            Message::End {
-                application,
-                epoch,
-                kind,
-            } => {
-                let (application, epoch, kind) = (*application, *epoch, *kind);
-                self.deliver_end_switched(switches, application, epoch, kind)
-            }
-            Message::Marker {
-                application,
-                epoch,
-                kind,
-                place,
-            } => {
-                let (application, epoch, kind, place) = (*application, *epoch, *kind, *place);
-                self.deliver_marker_switched(switches, application, epoch, kind, place)
+                    header.application,
+                    header.epoch,
+                    kind,
+                    header.place,
+                )
             }
         }
     }

@@ -7,14 +7,12 @@ ghost use Rattle.eos_machine.specs.Deliveries.{without};
 ghost use Rattle.eos_cluster.specs.Courses.{IsProper};
 ghost use Rattle.eos_cluster.specs.Named.{IsFrom};
 
-use crate::answers::waits_for;
 use crate::copies;
 use crate::places::{is_odd_output, txn_place};
 use crate::store::Store;
 use crate::switches::Switches;
 use eos_base::Listed;
 use eos_batch::Kind;
-use eos_broker::is_not_above;
 use eos_machine::{Config, Coordinator, Entry, Item, Places, Reply, Status};
 use std::alloc::{AllocError, Global};
 
@@ -62,19 +60,16 @@ impl Store {
         let config = self.config();
         let said = said(self.alloc(), config, switches, partitions.as_slice())?;
         let awaited = copies::copy(&partitions)?;
-        let event = self.events();
-        self.put(
-            txn_place(config, application),
-            Item::State {
-                application,
-                entry: Entry {
-                    status,
-                    epoch,
-                    partitions: said,
-                },
-                event,
+        let item = Item::State {
+            application,
+            entry: Entry {
+                status,
+                epoch,
+                partitions: said,
             },
-        );
+            event: self.events(),
+        };
+        self.put(txn_place(config, application), item);
         self.set_coordinator(
             application,
             Coordinator {
@@ -176,8 +171,7 @@ impl Store {
     ) -> bool
         requires { application < self.now.config.applications }
     {
-        let producer = self.producer(application, place);
-        !switches.no_bump && (epoch < producer.high || is_not_above(producer, epoch))
+        !switches.no_bump && self.fences_marker(application, epoch, place)
     }
 
     /// The coordinator ticks an end marker off, where it waits for it, and completes after the last one.
@@ -193,10 +187,7 @@ impl Store {
         ensures config { self.new.config ≡ self.old.config }
         ensures spare { self.old.spare ≤ self.new.spare + 1 }
     {
-        let now = self.epoch(application);
-        if !(waits_for(self.status(application), now, epoch, kind)
-            && self.is_awaited(application, place))
-        {
+        if !self.awaits_marker(application, epoch, kind, place) {
             return Ok(());
         }
         let left = self.others_awaited(application, place)?;
@@ -204,6 +195,7 @@ impl Store {
             self.tick_off(application, place, left);
             return Ok(());
         }
+        let now = self.epoch(application);
         let none = copies::none(self.alloc());
         self.write_switched(
             Switches::none(),

@@ -1,4 +1,4 @@
-use Rattle.std.proofs.Common.{◌≡◌, ◌++◌, rules}
+use Rattle.std.proofs.Common.{rules}
 use Rattle.eos_cluster.proofs.Texts.{text_more, one_written}
 use Rattle.eos_cluster.proofs.batches.items_text.Goals as goal
 

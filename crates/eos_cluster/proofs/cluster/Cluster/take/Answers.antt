@@ -1,4 +1,4 @@
-use Rattle.std.proofs.Common.{◌≡◌, ◌<◌, ◌^◌, ◌∙◌, true, ap, refl, arith, subst, sym}
+use Rattle.std.proofs.Common.{◌≡◌, ◌<◌, ◌^◌, true, arith, subst, sym}
 use Rattle.eos_machine.specs.Places.{IsConfig}
 use Rattle.eos_cluster.specs.Courses.{Course, IsReached}
 use Rattle.eos_cluster.proofs.Replies.{proper_of}

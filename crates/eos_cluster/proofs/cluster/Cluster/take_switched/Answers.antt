@@ -1,7 +1,7 @@
-use Rattle.std.proofs.Common.{◌≡◌, ◌<◌, ◌^◌, ◌∙◌, true, false, ap, refl, arith, subst, sym}
+use Rattle.std.proofs.Common.{◌≡◌, ◌<◌, ◌^◌, ◌∙◌, false, ap, arith, subst, sym}
 use Rattle.eos_machine.specs.Places.{IsConfig}
 use Rattle.eos_cluster.specs.Held.{Held}
-use Rattle.eos_cluster.specs.Courses.{Course, IsReached}
+use Rattle.eos_cluster.specs.Courses.{Course}
 use Rattle.eos_cluster.proofs.Reaching.{counted_one, is_counted}
 use Rattle.eos_cluster.proofs.cluster.Cluster.take_switched.Goals as goal
 

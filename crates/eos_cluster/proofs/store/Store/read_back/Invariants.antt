@@ -1,6 +1,4 @@
 use Rattle.std.proofs.Common.{◌≡◌, drop, vec_len}
-use Rattle.eos_machine.specs.Places.{offsets_place}
-use Rattle.eos_machine.specs.World.{log_at}
 use Rattle.eos_cluster.specs.Fetching.{AreEnds, IsFetched}
 use Rattle.eos_cluster.proofs.store.Store.read_back.Given as goal
 
