@@ -1,6 +1,7 @@
 //! Records and batches, and their bytes.
 
-ghost use Rattle.std.specs.Prelude.{◌≡◌, [], Some, IfOk};
+ghost use Rattle.std.specs.Prelude.{◌≡◌, [], Some, pos, IfOk};
+ghost use Rattle.eos_batch.specs.Marker.{end_kind, coordinator_epoch_of, marker_of};
 
 use bytes::Bytes;
 use eos_batch::{Batch, BatchFault, Header, Headers, Kind, Record, Records, encode_batch};
@@ -58,14 +59,29 @@ pub fn plain(alloc: Global, base_offset: i64) -> Result<Batch, AllocError>
     })
 }
 
-fn marker_key(kind: Kind) -> Bytes {
+/// The key of an end marker.
+#[tactic(auto, using(crate::proofs::Markers::commit_key, crate::proofs::Markers::abort_key))]
+fn marker_key(kind: Kind) -> Bytes
+    ensures { end_kind (Some result) ≡ Some kind }
+{
     match kind {
         Kind::Commit => Bytes::from_static(b"\x00\x00\x00\x01"),
         Kind::Abort => Bytes::from_static(b"\x00\x00\x00\x00"),
     }
 }
 
+/// The record of an end marker.
+#[tactic(auto, using(crate::proofs::Markers::first_epoch))]
+fn marker_record(alloc: Global, kind: Kind) -> Record
+    ensures kind { end_kind result.key ≡ Some kind }
+    ensures epoch { coordinator_epoch_of result.value ≡ Some (pos 0) }
+{
+    let value = Bytes::from_static(b"\x00\x00\x00\x00\x00\x00");
+    bare(alloc, Some(marker_key(kind)), value)
+}
+
 /// The end marker of this kind of a producer id, at its epoch, of coordinator epoch 0.
+#[tactic(auto, using(crate::proofs::Markers::marker_is))]
 pub fn marker(
     alloc: Global,
     base_offset: i64,
@@ -74,22 +90,14 @@ pub fn marker(
     kind: Kind,
 ) -> Result<Batch, AllocError>
     ensures offset { IfOk result (λ b. b.base_offset ≡ base_offset) }
+    ensures marker { IfOk result (λ b. marker_of b ≡ Some (record { producer = producer; epoch = epoch; kind = kind; coordinator_epoch = pos 0 })) }
 {
-    let key = match kind {
-        Kind::Commit => Bytes::from_static(b"\x00\x00\x00\x01"),
-        Kind::Abort => Bytes::from_static(b"\x00\x00\x00\x00"),
-    };
-    let record = bare(
-        alloc,
-        Some(key),
-        Bytes::from_static(b"\x00\x00\x00\x00\x00\x00"),
-    );
     Ok(Batch {
         base_offset,
         attributes: 0x30,
         producer,
         epoch,
-        ..batch(vec![in alloc; record]?)
+        ..batch(vec![in alloc; marker_record(alloc, kind)]?)
     })
 }
 
