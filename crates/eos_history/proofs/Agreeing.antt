@@ -1,9 +1,8 @@
 -- A caller's calls against a history, one entry after the other.
-use Rattle.std.proofs.Common.{◌≡◌, ◌↔◌, ◌++◌, ◌∷◌, [], ℕ, zero, suc, ◌+◌, ◌≤◌, ◌<◌, false, true, Bool, List, length, drop, get_or, Some, ◌∙◌, sym, ap, subst, arith, refl, if◌then◌else◌}
+use Rattle.std.proofs.Common.{◌≡◌, ◌↔◌, ◌++◌, ◌∷◌, [], ℕ, zero, suc, ◌+◌, ◌≤◌, ◌<◌, false, true, Bool, List, length, drop, get_or, Some, ◌∙◌, ap, subst, arith, refl, if◌then◌else◌}
 use Rattle.std.specs.Prelude.{slice_get}
 use Rattle.std.proofs.lemmas.Bool.{ne_eqb, eq-eqb}
 use Rattle.std.proofs.lemmas.List.{drop_more}
-use Rattle.eos_machine.specs.declared.item.Claim.{Claim}
 use Rattle.eos_history.specs.declared.history.Entry.{Entry}
 use Rattle.eos_history.specs.declared.history.Call.{Call}
 use Rattle.eos_history.specs.Replay.{call_at, calls_from, calls_of}
@@ -96,9 +95,3 @@ is_told y k x h = λ i. record { place = h.0 i; event = h.2 i; reply = h.1 i }
 
 pub told_parts : (y : Call) (k : ℕ) (x : Entry) → y ≡ call_at k x → (y.place ≡ k) × (y.reply ≡ x.reply) × (y.event ≡ x.event)
 told_parts y k x e = (ap (λ (z : Call). z.place) e, ap (λ (z : Call). z.reply) e, ap (λ (z : Call). z.event) e)
-
-pub same_claims : (a b : Claim) → (a.topic ≡ b.topic) × (a.partition ≡ b.partition) × (a.offset ≡ b.offset) × (a.output ≡ b.output) × (a.of ≡ b.of) → a ≡ b
-same_claims a b h = λ i. record { topic = h.0 i; partition = h.1 i; offset = h.2 i; output = h.3 i; of = h.4 i }
-
-pub claim_parts : (a b : Claim) → a ≡ b → (a.topic ≡ b.topic) × (a.partition ≡ b.partition) × (a.offset ≡ b.offset) × (a.output ≡ b.output) × (a.of ≡ b.of)
-claim_parts a b e = (ap (λ (z : Claim). z.topic) e, ap (λ (z : Claim). z.partition) e, ap (λ (z : Claim). z.offset) e, ap (λ (z : Claim). z.output) e, ap (λ (z : Claim). z.of) e)

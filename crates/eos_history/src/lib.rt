@@ -3,7 +3,6 @@
 #![tactic(auto)]
 
 mod history;
-mod same;
 mod shared;
 
 pub use history::{Call, Called, Entries, Entry, Finished};

@@ -1,14 +1,13 @@
 //! Many threads drive one cluster: the cluster lies under a lock, beside the history of all that it was asked and answered.
 //! Each caller has a pass, which keeps what it was told; in the end the passes are held against the history.
 
-ghost use Rattle.std.specs.Prelude.{◌≡◌, ◌↔◌, ◌+◌, ◌≤◌, true, length, slice_get, vec_len, vec_capacity, IfOk};
+ghost use Rattle.std.specs.Prelude.{◌≡◌, ◌↔◌, ◌+◌, ◌≤◌, ◌∷◌, ◌++◌, [], true, length, slice_get, vec_len, vec_capacity, IfOk};
 ghost use Rattle.std.specs.List.{sum_by};
 ghost use Rattle.std.specs.Result.{OnOk};
 ghost use Rattle.eos_cluster.specs.Courses.{IsStep, IsCounted};
 ghost use Rattle.eos_history.specs.Replay.{IsReplay, is_stored, recorded, noted, told, new_passes, call_at, calls_of, Agree};
 
 use crate::history::{Call, Called, Entry, Finished};
-use crate::same::{copy, is_same_event, is_same_reply};
 use eos_base::Listed;
 use eos_cluster::Cluster;
 use eos_machine::{Event, Reply};
@@ -89,6 +88,13 @@ fn is_stored(reply: Reply) -> bool
     !matches!(reply, Reply::OutOfMemory | Reply::Full)
 }
 
+/// A copy of an event.
+fn copy(event: &Event) -> Result<Event, AllocError>
+    ensures { IfOk result (λ e. e ≡ event.now) }
+{
+    event.clone()
+}
+
 /// Makes room for an entry and for a call, and two copies of the event.
 fn prepare(
     entries: &mut Vec<Entry>,
@@ -103,6 +109,20 @@ fn prepare(
     entries.reserve(1)?;
     calls.reserve(1)?;
     Ok((copy(event)?, copy(event)?))
+}
+
+/// Puts an entry and the caller's call at the ends of their lists, which have room for them.
+fn store(entries: &mut Vec<Entry>, entry: Entry, calls: &mut Vec<Call>, call: Call)
+    requires room { (vec_len entries.old + 1 ≤ vec_capacity entries.old) × (vec_len calls.old + 1 ≤ vec_capacity calls.old) }
+    ensures entries { entries.new.items ≡ entries.old.items ++ entry ∷ [] }
+    ensures calls { calls.new.items ≡ calls.old.items ++ call ∷ [] }
+{
+    let Ok(()) = entries.push(entry) else {
+        unreachable!()
+    };
+    let Ok(()) = calls.push(call) else {
+        unreachable!()
+    };
 }
 
 /// Gives an event to the cluster, and stores it with its reply among the entries and among the caller's calls. Room for both
@@ -136,28 +156,22 @@ fn answer(
             event: first,
             reply,
         };
-        let Ok(()) = entries.push(entry) else {
-            unreachable!()
-        };
         let call = Call {
             place,
             event: second,
             reply,
         };
-        let Ok(()) = calls.push(call) else {
-            unreachable!()
-        };
+        store(entries, entry, calls, call);
     }
     Called { place, reply }
 }
 
 /// Whether a call is this entry at this place, part by part.
+#[tactic(auto, using(crate::proofs::Equal::events_decide))]
 fn has_parts(entry: &Entry, place: u64, call: &Call) -> bool
     ensures { result ≡ true ↔ ((call.now.place ≡ place) × (call.now.reply ≡ entry.now.reply) × (call.now.event ≡ entry.now.event)) }
 {
-    call.place == place
-        && is_same_reply(call.reply, entry.reply)
-        && is_same_event(&call.event, &entry.event)
+    call.place == place && call.reply == entry.reply && call.event == entry.event
 }
 
 /// Whether a caller's call is this entry at this place.
