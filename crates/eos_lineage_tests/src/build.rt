@@ -172,7 +172,10 @@ fn produced(
 /// Puts a batch at the end, at the number of records before it.
 fn put(batches: &mut Vec<Batch>, batch: Batch) -> Result<(), AllocError> {
     let base_offset = match batches.last() {
-        Some(last) => last.base_offset.saturating_add(last.records.len() as i64),
+        Some(last) => {
+            let count = last.records.as_slice().len() as i64;
+            last.base_offset.saturating_add(count)
+        }
         None => 0,
     };
     batches.push(Batch {
