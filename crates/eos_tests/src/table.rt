@@ -141,7 +141,7 @@ fn is_fault(
             producer: 1000,
             epoch: 0,
             kind,
-            partition: partition.map(partition_name),
+            partition: partition.map(|name| partition_name(name)),
         };
         all = all && only_fault(alloc, &table, parts.as_slice(), shards)? == Some(expected);
     }
