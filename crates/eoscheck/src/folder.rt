@@ -1,6 +1,7 @@
 //! Reading a folder of evidence: its manifest, and the segments of the partitions that the manifest names.
 
-ghost use Rattle.std.specs.Prelude.{◌≤◌};
+ghost use Rattle.std.specs.Prelude.{◌≡◌, ◌≤◌};
+ghost use Rattle.eoscheck.specs.declared.folder.FolderFault.TheVariants.{OutOfMemory};
 
 use crate::paths::{manifest_path, partition_path, segment_path};
 use bytes::Bytes;
@@ -32,12 +33,16 @@ pub(crate) enum FolderFault {
 }
 
 impl From<AllocError> for FolderFault {
+    ghost from_gives = { λ _ e. e ≡ OutOfMemory };
+
     fn from(_e: AllocError) -> FolderFault {
         FolderFault::OutOfMemory
     }
 }
 
 impl<T: Drop> From<AllocFailed<T>> for FolderFault {
+    ghost from_gives = { λ _ e. e ≡ OutOfMemory };
+
     fn from(_e: AllocFailed<T>) -> FolderFault {
         FolderFault::OutOfMemory
     }

@@ -8,6 +8,7 @@ ghost use Rattle.eos_schedules.specs.Evidences.{HasRoomForAll};
 ghost use Rattle.eos_schedules.specs.Schedules.{HasRightLogs, HasNoFaultInLogs};
 ghost use Rattle.eoscheck.specs.Simulated.{wrote_line};
 ghost use Rattle.eoscheck.specs.steps.Holding.{IsOfReading};
+ghost use Rattle.eoscheck.specs.declared.simulate.SimulationFault.TheVariants.{OutOfMemory};
 
 use crate::fault::RunFault;
 use eos_cluster::{Cluster, EvidenceRefusal, NewFault, Switch, Switches};
@@ -39,12 +40,16 @@ pub(crate) enum SimulationFault {
 }
 
 impl From<AllocError> for SimulationFault {
+    ghost from_gives = { λ _ e. e ≡ OutOfMemory };
+
     fn from(_e: AllocError) -> SimulationFault {
         SimulationFault::OutOfMemory
     }
 }
 
 impl<T: Drop> From<AllocFailed<T>> for SimulationFault {
+    ghost from_gives = { λ _ e. e ≡ OutOfMemory };
+
     fn from(_e: AllocFailed<T>) -> SimulationFault {
         SimulationFault::OutOfMemory
     }
