@@ -21,6 +21,7 @@ import struct
 import subprocess
 import sys
 import tempfile
+import threading
 
 import made_evidence
 import mock_cluster
@@ -51,17 +52,22 @@ WORKED_HEADERS = {
 }
 
 counts = {"passed": 0, "failed": 0, "skipped": 0}
+lock = threading.Lock()
+
+
+def tell(what, said=None):
+    with lock:
+        counts[what] += 1
+        if said:
+            print(said, flush=True)
 
 
 def expect(holds, what):
-    counts["passed" if holds else "failed"] += 1
-    if not holds:
-        print(f"FAILED: {what}")
+    tell(*(["passed"] if holds else ["failed", f"FAILED: {what}"]))
 
 
 def skip(what, why):
-    counts["skipped"] += 1
-    print(f"skipped: {what}: {why}")
+    tell("skipped", f"skipped: {what}: {why}")
 
 
 def run(words, seconds=60, **more):
