@@ -1,2 +1,3 @@
+pub mod Gathering
 pub mod SeatSums
 pub mod TicketSteps
