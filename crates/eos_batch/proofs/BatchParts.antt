@@ -2,7 +2,7 @@
 use Rattle.std.proofs.Common.{◌≡◌, ℕ, ◌-◌, ◌^◌, ◌<◌, ◌≤◌, Bool, true, false, ltb, eqb, not, ◌&&◌, List, [], ◌++◌, length, take, drop, Ok, refl, sym, ap, subst, ◌∙◌, arith, rules, ℤ, pos, negsuc, ◌+ℤ◌, ◌≤ℤ◌, FitsSigned}
 use Rattle.std.specs.Prelude.{int_lt, int_le}
 use Rattle.std.specs.Ordering.{int_eq}
-use Rattle.std.specs.Int.{w8, w32, w64}
+use Rattle.std.specs.Int.{w8, w16, w32, w64}
 use Rattle.std.proofs.lemmas.Int.{ints}
 use Rattle.std.proofs.lemmas.Bool.{eqb-true, eq-eqb, le-ltb, ltb-false, not-true}
 use Rattle.std.proofs.lemmas.Bool.Decides.{Decides-int_eq}
@@ -19,7 +19,7 @@ use Rattle.eos_batch.specs.Rules.{IsCounted, HasWidths}
 use Rattle.eos_batch.specs.Text.{AreRecordTexts, IsCoveredText}
 use Rattle.eos_base.specs.Steps.{or_fault}
 use Rattle.eos_batch.specs.Reading.{length_from, frame_at, sealed_at, head_at, count_fits, offsets_fit, records_at, all_records_at, with_records, covered_at}
-use Rattle.eos_batch.proofs.TextParts.{bind_ok, ok_is, must_ok, must_bind, or_fault_ok}
+use Rattle.eos_batch.proofs.TextParts.{bind_ok, done, ok_is, must_ok, must_bind, or_fault_ok}
 use Rattle.eos_batch.proofs.RecordTexts.{records_sound, records_whole}
 
 and-true : (a b : Bool) → (a && b) ≡ true → (a ≡ true) × (b ≡ true)
@@ -139,6 +139,31 @@ pub record HeadTaken (base leader : ℤ) (bytes : List ℕ) (x : Head × List �
       ++ (i64_text x.0.batch.producer ++ (i16_text x.0.batch.epoch ++ (i32_text x.0.batch.sequence ++ (i32_text x.0.count ++ x.1)))))))
   pub rest_fits : IsBytes x.1
 
+abbrev head_made : ℤ → ℤ → ℤ × List ℕ → ℤ × List ℕ → ℤ × List ℕ → ℤ × List ℕ → ℤ × List ℕ → ℤ × List ℕ → ℤ × List ℕ → ℤ × List ℕ → Head × List ℕ
+head_made base leader a l t m p h s c =
+    (record { last_offset_delta = l.0; count = c.0; batch = record { base_offset = base; leader_epoch = leader; attributes = a.0; base_timestamp = t.0; max_timestamp = m.0; producer = p.0; epoch = h.0; sequence = s.0; records = [] } }, c.1)
+
+-- the fields that were taken one after the other are a head
+head_taken : (base leader : ℤ) (bytes : List ℕ) (a l t m p h s c : ℤ × List ℕ) (x : Head × List ℕ) → TakesNumber (FitsSigned w16) i16_text bytes a → TakesNumber (FitsSigned w32) i32_text a.1 l
+    → TakesNumber (FitsSigned w64) i64_text l.1 t → TakesNumber (FitsSigned w64) i64_text t.1 m → TakesNumber (FitsSigned w64) i64_text m.1 p → TakesNumber (FitsSigned w16) i16_text p.1 h
+    → TakesNumber (FitsSigned w32) i32_text h.1 s → TakesNumber (FitsSigned w32) i32_text s.1 c → done (head_made base leader a l t m p h s c) ≡ done x → HeadTaken base leader bytes x
+head_taken base leader bytes a l t m p h s c x ta tl tt' tm tp th ts tc is =
+    subst (HeadTaken base leader bytes) (ok_is (head_made base leader a l t m p h s c) x is) (record {
+      base_is = refl;
+      leader_is = refl;
+      widths = λ b r. record { base_offset = b; leader_epoch = r; attributes = ta.small; base_timestamp = tt'.small; max_timestamp = tm.small; producer = tp.small; epoch = th.small; sequence = ts.small };
+      last_fits = tl.small;
+      count_small = tc.small;
+      parts = ta.parts ∙ ap (λ (xs : List ℕ). i16_text a.0 ++ xs)
+          (tl.parts ∙ ap (λ (xs : List ℕ). i32_text l.0 ++ xs)
+          (tt'.parts ∙ ap (λ (xs : List ℕ). i64_text t.0 ++ xs)
+          (tm.parts ∙ ap (λ (xs : List ℕ). i64_text m.0 ++ xs)
+          (tp.parts ∙ ap (λ (xs : List ℕ). i64_text p.0 ++ xs)
+          (th.parts ∙ ap (λ (xs : List ℕ). i16_text h.0 ++ xs)
+          (ts.parts ∙ ap (λ (xs : List ℕ). i32_text s.0 ++ xs) tc.parts))))));
+      rest_fits = tc.rest_fits;
+    })
+
 pub head_sound : (base leader : ℤ) (bytes : List ℕ) (x : Head × List ℕ) → IsBytes bytes → head_at base leader bytes ≡ Ok x → HeadTaken base leader bytes x
 unfolding head_at
 head_sound base leader bytes x fits e =
@@ -158,22 +183,7 @@ head_sound base leader bytes x fits e =
     let th = i16_sound p.0.1 h.0 tp.rest_fits (or_fault_ok faults.Truncated (i16_at p.0.1) h.0 h.1) in
     let ts = i32_sound h.0.1 s.0 th.rest_fits (or_fault_ok faults.Truncated (i32_at h.0.1) s.0 s.1) in
     let tc = i32_sound s.0.1 c.0 ts.rest_fits (or_fault_ok faults.Truncated (i32_at s.0.1) c.0 c.1) in
-    let made : Head × List ℕ = (record { last_offset_delta = l.0.0; count = c.0.0; batch = record { base_offset = base; leader_epoch = leader; attributes = a.0.0; base_timestamp = t.0.0; max_timestamp = m.0.0; producer = p.0.0; epoch = h.0.0; sequence = s.0.0; records = [] } }, c.0.1) in
-    subst (HeadTaken base leader bytes) (ok_is made x c.2) (record {
-      base_is = refl;
-      leader_is = refl;
-      widths = λ b r. record { base_offset = b; leader_epoch = r; attributes = ta.small; base_timestamp = tt'.small; max_timestamp = tm.small; producer = tp.small; epoch = th.small; sequence = ts.small };
-      last_fits = tl.small;
-      count_small = tc.small;
-      parts = ta.parts ∙ ap (λ (xs : List ℕ). i16_text a.0.0 ++ xs)
-          (tl.parts ∙ ap (λ (xs : List ℕ). i32_text l.0.0 ++ xs)
-          (tt'.parts ∙ ap (λ (xs : List ℕ). i64_text t.0.0 ++ xs)
-          (tm.parts ∙ ap (λ (xs : List ℕ). i64_text m.0.0 ++ xs)
-          (tp.parts ∙ ap (λ (xs : List ℕ). i64_text p.0.0 ++ xs)
-          (th.parts ∙ ap (λ (xs : List ℕ). i16_text h.0.0 ++ xs)
-          (ts.parts ∙ ap (λ (xs : List ℕ). i32_text s.0.0 ++ xs) tc.parts))))));
-      rest_fits = tc.rest_fits;
-    })
+    head_taken base leader bytes a.0 l.0 t.0 m.0 p.0 h.0 s.0 c.0 x ta tl tt' tm tp th ts tc c.2
 
 -- the fields of a batch, and so many records to come
 abbrev pub head_of : Batch → ℤ → ℤ → Head

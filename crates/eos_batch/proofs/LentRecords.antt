@@ -11,7 +11,7 @@ use Rattle.eos_base.specs.Steps.{or_fault}
 use Rattle.eos_batch.specs.Answers.{Fails}
 use Rattle.eos_batch.specs.Reading.{used_up, int_at, long_at, optional_at, count_at, bytes_at, header_at, headers_at, body_at}
 use Rattle.eos_batch.specs.Places.{whole_at, found_at, parts_at, read_headers}
-use Rattle.eos_batch.proofs.TextParts.{bind_ok, ok_is, must_ok}
+use Rattle.eos_batch.proofs.TextParts.{bind_ok, done, ok_is, must_ok}
 use Rattle.eos_batch.proofs.ReadLoops.{real_fault}
 
 header_first : (n : ℕ) (rest : List ℕ) (x : List Header × List ℕ) → headers_at (suc n) rest ≡ Ok x
@@ -56,7 +56,22 @@ parts_from : (text : List ℕ) (a t : ℤ × List ℕ) (d : ℤ × List ℕ) (k 
 unfolding parts_at
 parts_from text a t d k v n ea et ed ek ev en = rw (ea, et, ed, ek, ev, en) refl
 
-whole_parts : (text : List ℕ) (r : Record) → whole_at text ≡ Ok r → (p : Parts) × (hs : List Header × List ℕ) × (parts_at text ≡ Ok p) × (headers_at p.count p.rest ≡ Ok hs) × (r ≡ made_of p hs.0)
+abbrev parts_made : ℤ × List ℕ → ℤ × List ℕ → Option (List ℕ) × List ℕ → Option (List ℕ) × List ℕ → ℕ × List ℕ → Parts
+parts_made a t k v n = record { attributes = a.0; timestamp_delta = t.0; key = k.0; value = v.0; count = n.0; rest = n.1 }
+
+abbrev HasParts : List ℕ → Record → Type 0
+HasParts text r = (p : Parts) × (hs : List Header × List ℕ) × (parts_at text ≡ Ok p) × (headers_at p.count p.rest ≡ Ok hs) × (r ≡ made_of p hs.0)
+
+-- a record whose fields were read one after the other
+whole_made : (text : List ℕ) (r : Record) (a t d : ℤ × List ℕ) (k v : Option (List ℕ) × List ℕ) (n : ℕ × List ℕ) (h : List Header × List ℕ) (b : (ℤ × Record) × List ℕ) (w : ℤ × Record)
+    → or_fault faults.Record (i8_at text) ≡ Ok a → long_at a.1 ≡ Ok t → int_at t.1 ≡ Ok d → optional_at d.1 ≡ Ok k → optional_at k.1 ≡ Ok v → count_at v.1 ≡ Ok n → headers_at n.0 n.1 ≡ Ok h
+    → done ((d.0, made_of (parts_made a t k v n) h.0), h.1) ≡ done b → b.0 ≡ w → done w.1 ≡ done r → HasParts text r
+whole_made text r a t d k v n h b w ea et ed ek ev en eh eb ew er =
+    let last : w.1 ≡ r = ok_is w.1 r er in
+    let made : ((d.0, made_of (parts_made a t k v n) h.0), h.1) ≡ b = ok_is ((d.0, made_of (parts_made a t k v n) h.0), h.1) b eb in
+    (parts_made a t k v n, h, parts_from text a t d k v n ea et ed ek ev en, eh, sym last ∙ (ap (λ (z : ℤ × Record). z.1) (sym ew) ∙ ap (λ (z : (ℤ × Record) × List ℕ). z.0.1) (sym made)))
+
+whole_parts : (text : List ℕ) (r : Record) → whole_at text ≡ Ok r → HasParts text r
 unfolding whole_at body_at
 whole_parts text r e =
     let b = bind_ok (body_at text) _ r e in
@@ -69,10 +84,7 @@ whole_parts text r e =
     let v = bind_ok (optional_at k.0.1) _ b.0 k.2 in
     let n = bind_ok (count_at v.0.1) _ b.0 v.2 in
     let h = bind_ok (headers_at n.0.0 n.0.1) _ b.0 n.2 in
-    let p : Parts = record { attributes = a.0.0; timestamp_delta = t.0.0; key = k.0.0; value = v.0.0; count = n.0.0; rest = n.0.1 } in
-    let last : w.0.1 ≡ r = ok_is w.0.1 r w.2 in
-    let made : ((d.0.0, made_of p h.0.0), h.0.1) ≡ b.0 = ok_is ((d.0.0, made_of p h.0.0), h.0.1) b.0 h.2 in
-    (p, h.0, parts_from text a.0 t.0 d.0 k.0 v.0 n.0 a.1 t.1 d.1 k.1 v.1 n.1, h.1, sym last ∙ (ap (λ (z : ℤ × Record). z.1) (sym g.1) ∙ ap (λ (z : (ℤ × Record) × List ℕ). z.0.1) (sym made)))
+    whole_made text r a.0 t.0 d.0 k.0 v.0 n.0 h.0 b.0 w.0 a.1 t.1 d.1 k.1 v.1 n.1 h.1 h.2 g.1 w.2
 
 pub view_is : (text : List ℕ) (r : Record) (p : Parts) → whole_at text ≡ Ok r → parts_at text ≡ Ok p
     → ((x : List Header × List ℕ) × (headers_at p.count p.rest ≡ Ok x)) × (whole_at text ≡ Ok (made_of p (read_headers (headers_at p.count p.rest))))

@@ -1,19 +1,21 @@
 -- The laws of headers, records and their texts.
-use Rattle.std.proofs.Common.{◌≡◌, ℕ, zero, suc, true, eqb, List, [], ◌∷◌, ◌++◌, length, Ok, refl, sym, ap, subst, ◌∙◌, append_assoc, ℤ, pos}
+use Rattle.std.proofs.Common.{◌≡◌, ℕ, zero, suc, true, eqb, List, [], ◌∷◌, ◌++◌, length, Option, Ok, refl, sym, ap, subst, ◌∙◌, append_assoc, ℤ, pos}
+use Rattle.std.specs.Prelude.{FitsSigned}
+use Rattle.std.specs.Int.{w8}
 use Rattle.std.specs.Ordering.{int_eq}
 use Rattle.std.proofs.lemmas.Bool.{eqb-true}
 use Rattle.std.proofs.lemmas.Bool.Decides.{Decides-int_eq}
 use Rattle.std.proofs.lemmas.List.{append-nil, nil_from_length}
 use Rattle.eos_wire.specs.Numbers.{IsBytes, i8_text, i8_at}
-use Rattle.eos_wire.specs.Varint.{IsVarint}
+use Rattle.eos_wire.specs.Varint.{IsVarint, IsVarlong}
 use Rattle.eos_wire.proofs.NumberTexts.{IsBytes-append_left, IsBytes-append_right, i8_sound, i8_whole}
 use Rattle.eos_batch.specs.declared.fault.BatchFault.TheVariants as faults
 use Rattle.eos_batch.specs.declared.record.Header.{Header}
 use Rattle.eos_batch.specs.declared.record.Record.{Record}
-use Rattle.eos_batch.specs.Text.{IsHeaderText, AreHeaderTexts, IsBodyText, IsRecordText, AreRecordTexts}
+use Rattle.eos_batch.specs.Text.{IsOptionalText, IsHeaderText, AreHeaderTexts, IsBodyText, IsRecordText, AreRecordTexts}
 use Rattle.eos_base.specs.Steps.{or_fault}
 use Rattle.eos_batch.specs.Reading.{int_at, long_at, count_at, bytes_at, optional_at, header_at, headers_at, body_at, used_up, placed_at, record_at, records_at}
-use Rattle.eos_batch.proofs.TextParts.{bind_ok, ok_is, must_ok, or_fault_ok, Taken, IsSound, IsWhole, glue, int_sound, int_whole, long_sound, long_whole, count_sound, count_whole, bytes_sound, bytes_whole, optional_sound, optional_whole}
+use Rattle.eos_batch.proofs.TextParts.{bind_ok, done, ok_is, must_ok, or_fault_ok, Taken, IsCount, IsSound, IsWhole, glue, int_sound, int_whole, long_sound, long_whole, count_sound, count_whole, bytes_sound, bytes_whole, optional_sound, optional_whole}
 
 -- ---- headers
 
@@ -73,6 +75,41 @@ headers_whole text (x ∷ xs) rest h =
 abbrev IsPlaced : List ℕ → ℤ × Record → Type 0
 IsPlaced text x = (place : ℕ) → x.0 ≡ pos place → IsBodyText place text x.1
 
+abbrev made_of : ℤ × List ℕ → ℤ × List ℕ → ℤ × List ℕ → Option (List ℕ) × List ℕ → Option (List ℕ) × List ℕ → List Header × List ℕ → (ℤ × Record) × List ℕ
+made_of a t d k v h = ((d.0, record { attributes = a.0; timestamp_delta = t.0; key = k.0; value = v.0; headers = h.0 }), h.1)
+
+-- the fields that were taken one after the other are a record's
+body_taken : (bytes : List ℕ) (a t d : ℤ × List ℕ) (k v : Option (List ℕ) × List ℕ) (n : ℕ × List ℕ) (h : List Header × List ℕ) (x : (ℤ × Record) × List ℕ)
+    → FitsSigned w8 a.0 → bytes ≡ i8_text a.0 ++ a.1 → Taken IsVarlong a.1 t → Taken IsVarint t.1 d → Taken IsOptionalText d.1 k → Taken IsOptionalText k.1 v → Taken IsCount v.1 n
+    → Taken AreHeaderTexts n.1 h → length h.0 ≡ n.0 → done (made_of a t d k v h) ≡ done x → Taken IsPlaced bytes x
+body_taken bytes a t d k v n h x small first tt' td tk tv tn th count is =
+    let p5 = glue v.1 tn.text n.1 th.text h.1 tn.parts th.parts in
+    let p4 = glue k.1 tv.text v.1 (tn.text ++ th.text) h.1 tv.parts p5 in
+    let p3 = glue d.1 tk.text k.1 (tv.text ++ (tn.text ++ th.text)) h.1 tk.parts p4 in
+    let p2 = glue t.1 td.text d.1 (tk.text ++ (tv.text ++ (tn.text ++ th.text))) h.1 td.parts p3 in
+    let p1 = glue a.1 tt'.text t.1 (td.text ++ (tk.text ++ (tv.text ++ (tn.text ++ th.text)))) h.1 tt'.parts p2 in
+    subst (Taken IsPlaced bytes) (ok_is (made_of a t d k v h) x is) (record {
+      text = i8_text a.0 ++ (tt'.text ++ (td.text ++ (tk.text ++ (tv.text ++ (tn.text ++ th.text)))));
+      parts = glue bytes (i8_text a.0) a.1 (tt'.text ++ (td.text ++ (tk.text ++ (tv.text ++ (tn.text ++ th.text))))) h.1 first p1;
+      holds = λ place at. record {
+        timestamp = tt'.text;
+        delta = td.text;
+        key = tk.text;
+        value = tv.text;
+        count = tn.text;
+        headers = th.text;
+        attributes_fit = small;
+        timestamp_text = tt'.holds;
+        delta_text = subst (IsVarint td.text) at td.holds;
+        key_text = tk.holds;
+        value_text = tv.holds;
+        count_text = subst (λ (m : ℕ). IsVarint tn.text (pos m)) (sym count) tn.holds;
+        headers_text = th.holds;
+        parts = refl;
+      };
+      rest_fits = th.rest_fits;
+    })
+
 body_sound : IsSound IsPlaced body_at
 unfolding body_at
 body_sound bytes x fits e =
@@ -90,33 +127,7 @@ body_sound bytes x fits e =
     let tv = optional_sound k.0.1 v.0 tk.rest_fits v.1 in
     let tn = count_sound v.0.1 n.0 tv.rest_fits n.1 in
     let th = headers_sound n.0.0 n.0.1 h.0 tn.rest_fits h.1 in
-    let made : (ℤ × Record) × List ℕ = ((d.0.0, record { attributes = a.0.0; timestamp_delta = t.0.0; key = k.0.0; value = v.0.0; headers = h.0.0 }), h.0.1) in
-    let p5 = glue v.0.1 tn.text n.0.1 th.0.text h.0.1 tn.parts th.0.parts in
-    let p4 = glue k.0.1 tv.text v.0.1 (tn.text ++ th.0.text) h.0.1 tv.parts p5 in
-    let p3 = glue d.0.1 tk.text k.0.1 (tv.text ++ (tn.text ++ th.0.text)) h.0.1 tk.parts p4 in
-    let p2 = glue t.0.1 td.text d.0.1 (tk.text ++ (tv.text ++ (tn.text ++ th.0.text))) h.0.1 td.parts p3 in
-    let p1 = glue a.0.1 tt'.text t.0.1 (td.text ++ (tk.text ++ (tv.text ++ (tn.text ++ th.0.text)))) h.0.1 tt'.parts p2 in
-    subst (Taken IsPlaced bytes) (ok_is made x h.2) (record {
-      text = i8_text a.0.0 ++ (tt'.text ++ (td.text ++ (tk.text ++ (tv.text ++ (tn.text ++ th.0.text)))));
-      parts = glue bytes (i8_text a.0.0) a.0.1 (tt'.text ++ (td.text ++ (tk.text ++ (tv.text ++ (tn.text ++ th.0.text))))) h.0.1 ta.parts p1;
-      holds = λ place at. record {
-        timestamp = tt'.text;
-        delta = td.text;
-        key = tk.text;
-        value = tv.text;
-        count = tn.text;
-        headers = th.0.text;
-        attributes_fit = ta.small;
-        timestamp_text = tt'.holds;
-        delta_text = subst (IsVarint td.text) at td.holds;
-        key_text = tk.holds;
-        value_text = tv.holds;
-        count_text = subst (λ (m : ℕ). IsVarint tn.text (pos m)) (sym th.1) tn.holds;
-        headers_text = th.0.holds;
-        parts = refl;
-      };
-      rest_fits = th.0.rest_fits;
-    })
+    body_taken bytes a.0 t.0 d.0 k.0 v.0 n.0 h.0 x ta.small ta.parts tt' td tk tv tn th.0 th.1 h.2
 
 body_whole : (place : ℕ) (text : List ℕ) (r : Record) (rest : List ℕ) → IsBodyText place text r → body_at (text ++ rest) ≡ Ok ((pos place, r), rest)
 unfolding body_at

@@ -18,7 +18,7 @@ pub bind_ok : {A B : Type 0} (r : Result A BatchFault) (f : A → Result B Batch
 bind_ok (Ok x) f y e = (x, refl, e)
 bind_ok (Err d) f y e = absurd cc
 
-abbrev done : {A : Type 0} → A → Result A BatchFault
+abbrev pub done : {A : Type 0} → A → Result A BatchFault
 done x = Ok x
 
 pub ok_is : {A : Type 0} (x y : A) → done x ≡ done y → x ≡ y
@@ -84,7 +84,7 @@ long_whole text z rest h = rw (varlong_whole text z rest h, drop_at text rest (l
 
 -- ---- counts, bytes and options
 
-abbrev IsCount : List ℕ → ℕ → Type 0
+abbrev pub IsCount : List ℕ → ℕ → Type 0
 IsCount text n = IsVarint text (pos n)
 
 count_cases : (bytes : List ℕ) (z : ℤ × List ℕ) (x : ℕ × List ℕ) → Taken IsVarint bytes z → count_from z.0 z.1 ≡ Ok x → Taken IsCount bytes x

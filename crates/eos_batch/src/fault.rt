@@ -1,16 +1,16 @@
 //! Why bytes are no record batch, or a batch has no bytes.
 
-ghost use Rattle.std.specs.Prelude.{◌≡◌};
+ghost use Rattle.std.specs.Prelude.{◌≡◌, Some};
 ghost use Rattle.eos_batch.specs.declared.fault.BatchFault.TheVariants.{OutOfMemory};
 ghost use Rattle.eos_batch.specs.Names.{name_of};
 
 use std::alloc::{AllocError, AllocFailed};
+use std::fmt::{Display, Formatter, Write};
 use thiserror::Error;
 
 /// The first step of reading or writing a record batch that fails. The names stand in the order of reading's steps, save that
 /// `Truncated` is also asked for after `Length`. The text of a fault is its name.
 #[derive(Clone, Copy, Debug, PartialEq, Eq, Error)]
-#[error("{name}", name = self.name())]
 pub enum BatchFault {
     /// The bytes end before the batch does.
     Truncated,
@@ -60,6 +60,14 @@ impl BatchFault {
             BatchFault::Producer => "Producer",
             BatchFault::OutOfMemory => "OutOfMemory",
         }
+    }
+}
+
+impl Display for BatchFault {
+    ghost output = { λ fault. Some (name_of fault) };
+
+    fn fmt<W: Write>(&self, f: &mut Formatter<W>) -> std::fmt::Result {
+        f.write_str(self.name())
     }
 }
 

@@ -1,6 +1,7 @@
 -- Applications that are walked through in turn, each against those after it.
 use Rattle.std.proofs.Common.{◌≡◌, ℕ, ◌+◌, ◌-◌, ◌<◌, List, [], ◌∷◌, ◌++◌, Bool, true, false, not, ◌&&◌, ◌||◌, length, get_or, take, drop, refl, ap, sym, ◌∙◌, bytes_eq, drop-cons, add-one, length-drop, arith}
-use Rattle.std.proofs.lemmas.List.{take_all}
+use Rattle.std.proofs.lemmas.Grind.{flat_map-append}
+use Rattle.std.proofs.lemmas.List.{append-nil, take_all, take_more}
 use Rattle.std.proofs.lemmas.List.Folds.{list_any-append}
 use Rattle.std.specs.List.{list_any}
 use Rattle.eos_evidence.specs.declared.application.App.{App}
@@ -51,3 +52,13 @@ first_holds a b h = ap (λ x. x || b) h
 pub second_holds : (a b : Bool) → b ≡ true → (a || b) ≡ true
 second_holds true b h = refl
 second_holds false b h = h
+
+-- the outputs of one application more
+pub outputs_more : (apps : List App) (i : ℕ) (app : App) (before pushed outs : List (List ℕ)) → i < length apps → app ≡ get_or apps i app
+    → before ≡ outputs_of (take i apps) → pushed ≡ app.outputs → outs ≡ before ++ pushed → outs ≡ outputs_of (take (i + 1) apps)
+outputs_more apps i app before pushed outs lt is so_far own joined =
+    let last : outputs_of (app ∷ []) ≡ app.outputs = append-nil app.outputs in
+    let taken : take (i + 1) apps ≡ take i apps ++ app ∷ [] = take_more apps i app lt ∙ ap (λ a. take i apps ++ a ∷ []) (sym is) in
+    let all : outputs_of (take (i + 1) apps) ≡ outputs_of (take i apps) ++ app.outputs =
+    ap outputs_of taken ∙ (flat_map-append (λ a. a.outputs) (take i apps) (app ∷ []) ∙ ap (λ os. outputs_of (take i apps) ++ os) last) in
+    joined ∙ ((λ j. so_far j ++ own j) ∙ sym all)

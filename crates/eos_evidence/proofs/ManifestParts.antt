@@ -1,5 +1,6 @@
 -- What a manifest says, part by part.
-use Rattle.std.proofs.Common.{◌≡◌, List, ℕ, Bool, true, false, Option, None, Some, Result, Ok, Err, IsUtf8, if◌then◌else◌, refl, sym, ap, ◌∙◌}
+use Rattle.std.proofs.Common.{◌≡◌, List, [], ◌∷◌, ◌++◌, ℕ, Bool, true, false, Option, None, Some, option_map, Result, Ok, Err, IsUtf8, if◌then◌else◌, refl, sym, ap, subst, ◌∙◌, append_assoc}
+use Rattle.std.specs.Prelude.{option_and_then}
 use Rattle.std.proofs.lemmas.Str.{IsUtf8-from_is_utf8}
 use Rattle.std.specs.Str.{is_utf8}
 use Rattle.serde_json.specs.Data.{Data}
@@ -43,3 +44,16 @@ not_json bytes unread = by (is_utf8 bytes) refl
 pub said_is : (bytes : List ℕ) (d : Data) → is_utf8 bytes ≡ true → read_text bytes ≡ Some d → spec_said_by bytes ≡ manifest_of d
 unfolding spec_said_by
 said_is bytes d text is = rw text (ap said_by is)
+
+-- ---- one more of a list that is read one by one
+
+abbrev pub with_rest : {X : Type 0} → List X → Option (List X) → Option (List X)
+with_rest done rest = option_map (λ xs. done ++ xs) rest
+
+abbrev pub one_before : {X : Type 0} → Option X → Option (List X) → Option (List X)
+one_before said rest = option_and_then (λ x. option_map (λ xs. x ∷ xs) rest) said
+
+pub one_more : {X : Type 0} (done : List X) (x : X) (said : Option X) (rest whole : Option (List X)) → Some x ≡ said → with_rest done (one_before said rest) ≡ whole
+    → with_rest (done ++ x ∷ []) rest ≡ whole
+one_more done x said None whole is h = subst (λ o. with_rest done (one_before o None) ≡ whole) (sym is) h
+one_more done x said (Some rest) whole is h = ap Some (append_assoc done (x ∷ []) rest) ∙ subst (λ o. with_rest done (one_before o (Some rest)) ≡ whole) (sym is) h

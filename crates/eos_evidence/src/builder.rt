@@ -3,9 +3,10 @@
 ghost use Rattle.std.specs.Prelude.{◌≡◌, Ok, Err, IfOk, IfErr, OnErr, MatchOption, None, find, map};
 ghost use Rattle.std.specs.List.Sorted.{IsStrictlySortedBy};
 ghost use Rattle.eos_evidence.specs.Ends.{end_cmp};
-ghost use Rattle.eos_evidence.specs.Evidence.{IsEvidence, is_in, is_past_limit, without_segments, added, AddAnswers};
+ghost use Rattle.eos_evidence.specs.Evidence.{IsEvidence, is_in, is_past_limit, without_segments, added, empty_partition, AddAnswers};
 ghost use Rattle.eos_evidence.specs.steps.SegmentPlaces.{IsFirst, MayTake};
 
+use crate::ends::End;
 use crate::evidence::{Evidence, MAX_SEGMENTS};
 use crate::fault::AddFault;
 use crate::partition::Partition;
@@ -13,7 +14,6 @@ use crate::pieces::number_pieces;
 use crate::segment::Segment;
 use crate::segment_reader::MAX_SEGMENT_BYTES;
 use crate::spec::Spec;
-use eos_base::Listed;
 use std::alloc::{AllocError, Global};
 use std::marker::Model;
 
@@ -46,14 +46,8 @@ impl EvidenceBuilder {
     pub fn new(alloc: Global, spec: Spec) -> Result<EvidenceBuilder, AllocError>
         ensures { IfOk result (λ builder. builder ≡ without_segments spec) }
     {
-        let mut partitions = Vec::new(alloc);
-        let mut firsts = Vec::new(alloc);
-        for end in spec.ends().as_slice() {
-            let segments = Listed::new(Vec::new(alloc));
-            let end = end.clone()?;
-            partitions.push(Partition { end, segments })?;
-            firsts.push(0)?;
-        }
+        let partitions = empty_partitions(alloc, spec.ends().as_slice())?;
+        let firsts = vec![in alloc; 0; partitions.len()]?;
         Ok(EvidenceBuilder {
             spec,
             partitions,
@@ -113,6 +107,17 @@ impl EvidenceBuilder {
         number_pieces(&mut firsts, self.partitions.as_slice());
         Evidence::of_parts(self.spec, self.partitions, firsts, self.count)
     }
+}
+
+/// A partition with no segments for each end.
+fn empty_partitions(alloc: Global, ends: &[End]) -> Result<Vec<Partition>, AllocError>
+    ensures { IfOk result (λ partitions. partitions.items ≡ map empty_partition ends.now) }
+{
+    let mut partitions = Vec::new(alloc);
+    for end in ends {
+        partitions.push(Partition::empty(alloc, end)?)?;
+    }
+    Ok(partitions)
 }
 
 /// The place of the segment's partition among those in order.

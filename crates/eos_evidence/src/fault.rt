@@ -1,17 +1,17 @@
 //! Why a manifest or a segment is refused. A fault's text is its name.
 
-ghost use Rattle.std.specs.Prelude.{◌≡◌};
+ghost use Rattle.std.specs.Prelude.{◌≡◌, Some};
 ghost use Rattle.eos_evidence.specs.declared.fault.SpecFault.TheVariants.{OutOfMemory};
 ghost use Rattle.eos_evidence.specs.declared.fault.AddFault.TheVariants as add;
 ghost use Rattle.eos_evidence.specs.declared.fault.ReadFault.TheVariants as read;
 ghost use Rattle.eos_evidence.specs.Names.{spec_fault_name, add_fault_name, read_fault_name};
 
 use std::alloc::{AllocError, AllocFailed};
+use std::fmt::{Display, Formatter, Write};
 use thiserror::Error;
 
 /// Why a manifest is refused: the first of its tests that fails.
 #[derive(Clone, Copy, Debug, PartialEq, Eq, Error)]
-#[error("{name}", name = self.name())]
 pub enum SpecFault {
     /// The bytes are no JSON text.
     Json,
@@ -40,6 +40,14 @@ impl SpecFault {
     }
 }
 
+impl Display for SpecFault {
+    ghost output = { λ fault. Some (spec_fault_name fault) };
+
+    fn fmt<W: Write>(&self, f: &mut Formatter<W>) -> std::fmt::Result {
+        f.write_str(self.name())
+    }
+}
+
 impl From<AllocError> for SpecFault {
     ghost from_gives = { λ _ e. e ≡ OutOfMemory };
 
@@ -58,7 +66,6 @@ impl<T: Drop> From<AllocFailed<T>> for SpecFault {
 
 /// Why a segment is refused: the first of its tests that fails.
 #[derive(Clone, Copy, Debug, PartialEq, Eq, Error)]
-#[error("{name}", name = self.name())]
 pub enum AddFault {
     /// The manifest has no such partition, or the base is below 0.
     Name,
@@ -84,6 +91,14 @@ impl AddFault {
     }
 }
 
+impl Display for AddFault {
+    ghost output = { λ fault. Some (add_fault_name fault) };
+
+    fn fmt<W: Write>(&self, f: &mut Formatter<W>) -> std::fmt::Result {
+        f.write_str(self.name())
+    }
+}
+
 impl From<AllocError> for AddFault {
     ghost from_gives = { λ _ e. e ≡ add.OutOfMemory };
 
@@ -102,7 +117,6 @@ impl<T: Drop> From<AllocFailed<T>> for AddFault {
 
 /// Why a segment was not read.
 #[derive(Clone, Copy, Debug, PartialEq, Eq, Error)]
-#[error("{name}", name = self.name())]
 pub enum ReadFault {
     /// The reader failed.
     Read,
@@ -122,6 +136,14 @@ impl ReadFault {
             ReadFault::Limit => "Limit",
             ReadFault::OutOfMemory => "OutOfMemory",
         }
+    }
+}
+
+impl Display for ReadFault {
+    ghost output = { λ fault. Some (read_fault_name fault) };
+
+    fn fmt<W: Write>(&self, f: &mut Formatter<W>) -> std::fmt::Result {
+        f.write_str(self.name())
     }
 }
 

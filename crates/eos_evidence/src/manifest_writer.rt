@@ -6,7 +6,7 @@ ghost use Rattle.serde_json.specs.Find.{of_integer};
 ghost use Rattle.std.specs.Fmt.{signed_decimal};
 ghost use Rattle.std.specs.List.{list_all};
 ghost use Rattle.std.specs.List.Sorted.{IsStrictlySortedBy};
-ghost use Rattle.serde_json.specs.Data.{number, depth};
+ghost use Rattle.serde_json.specs.Data.{Members, object, string, number, depth, put as with_member};
 ghost use Rattle.serde_json.specs.Read.{max_depth};
 ghost use Rattle.serde_json.specs.View.{view, items_view, members_view};
 ghost use Rattle.eos_evidence.specs.Topics.{is_topic};
@@ -19,7 +19,7 @@ use crate::application::App;
 use crate::ends::End;
 use crate::spec::Spec;
 use bytes::Bytes;
-use serde_json::{Map, Value, json};
+use serde_json::{Map, Value};
 use std::alloc::{AllocError, Global};
 
 /// The manifest of a spec: `parse_spec` reads the same spec from it. It is of version 1 where there is
@@ -44,46 +44,34 @@ fn value_of_spec(alloc: Global, spec: &Spec) -> Result<Value, AllocError>
     let ends = members_of_ends(alloc, spec.ends().as_slice())?;
     let apps = spec.apps().as_slice();
     if apps.len() == 1 {
-        value_of_only_app(alloc, &apps[0], ends)
+        value_of_only_app(alloc, &apps[0], Value::Object(ends))
     } else {
-        value_of_apps(alloc, apps, ends)
+        value_of_apps(alloc, apps, Value::Object(ends))
     }
 }
 
-/// A manifest of version 1.
-fn value_of_only_app(
-    alloc: Global,
-    app: &App,
-    ends: Map<String, Value>,
-) -> Result<Value, AllocError>
+/// A manifest of version 1: the application's own members, the version and the ends.
+fn value_of_only_app(alloc: Global, app: &App, ends: Value) -> Result<Value, AllocError>
     requires { are_topics app.now ≡ true }
-    ensures { IfOk result (λ v. view v ≡ written_one app.now (members_view ends.entries)) }
+    ensures { (members : Members) → view ends ≡ object members → IfOk result (λ v. view v ≡ written_one app.now members) }
 {
-    let sources = Value::Array(texts_of_topics(alloc, app.sources.as_slice())?);
-    let outputs = Value::Array(texts_of_topics(alloc, app.outputs.as_slice())?);
-    let group = app.group.as_str();
-    let ends = Value::Object(ends);
-    json!(in alloc; {
-        "version": 1,
-        "group": group,
-        "sources": sources,
-        "outputs": outputs,
-        "ends": ends
-    })
+    let mut members = members_of_app(alloc, app)?;
+    put(alloc, &mut members, "version", Value::from(1))?;
+    put(alloc, &mut members, "ends", ends)?;
+    Ok(Value::Object(members))
 }
 
 /// A manifest of version 2.
-fn value_of_apps(alloc: Global, apps: &[App], ends: Map<String, Value>) -> Result<Value, AllocError>
+fn value_of_apps(alloc: Global, apps: &[App], ends: Value) -> Result<Value, AllocError>
     requires { list_all are_topics apps.now ≡ true }
-    ensures { IfOk result (λ v. view v ≡ written_two apps.now (members_view ends.entries)) }
+    ensures { (members : Members) → view ends ≡ object members → IfOk result (λ v. view v ≡ written_two apps.now members) }
 {
-    let apps = Value::Array(items_of_apps(alloc, apps)?);
-    let ends = Value::Object(ends);
-    json!(in alloc; {
-        "version": 2,
-        "apps": apps,
-        "ends": ends
-    })
+    let apps = items_of_apps(alloc, apps)?;
+    let mut members = Map::new(alloc);
+    put(alloc, &mut members, "version", Value::from(2))?;
+    put(alloc, &mut members, "apps", Value::Array(apps))?;
+    put(alloc, &mut members, "ends", ends)?;
+    Ok(Value::Object(members))
 }
 
 fn items_of_apps(alloc: Global, apps: &[App]) -> Result<Vec<Value>, AllocError>
@@ -102,14 +90,35 @@ fn value_of_app(alloc: Global, app: &App) -> Result<Value, AllocError>
     requires { are_topics app.now ≡ true }
     ensures { IfOk result (λ v. view v ≡ written_app app.now) }
 {
-    let sources = Value::Array(texts_of_topics(alloc, app.sources.as_slice())?);
-    let outputs = Value::Array(texts_of_topics(alloc, app.outputs.as_slice())?);
-    let group = app.group.as_str();
-    json!(in alloc; {
-        "group": group,
-        "sources": sources,
-        "outputs": outputs
-    })
+    Ok(Value::Object(members_of_app(alloc, app)?))
+}
+
+fn members_of_app(alloc: Global, app: &App) -> Result<Map<String, Value>, AllocError>
+    requires { are_topics app.now ≡ true }
+    ensures { IfOk result (λ members. object (members_view members.entries) ≡ written_app app.now) }
+{
+    let mut members = Map::new(alloc);
+    let group = String::from_str(alloc, app.group.as_str())?;
+    put(alloc, &mut members, "group", Value::String(group))?;
+    let sources = texts_of_topics(alloc, app.sources.as_slice())?;
+    put(alloc, &mut members, "sources", Value::Array(sources))?;
+    let outputs = texts_of_topics(alloc, app.outputs.as_slice())?;
+    put(alloc, &mut members, "outputs", Value::Array(outputs))?;
+    Ok(members)
+}
+
+/// Puts a member in, or in the place of one of its name.
+fn put(
+    alloc: Global,
+    members: &mut Map<String, Value>,
+    name: &str,
+    value: Value,
+) -> Result<(), AllocError>
+    ensures { OnOk result (members_view members.new.entries ≡ with_member name.now (view value) (members_view members.old.entries)) }
+{
+    let name = String::from_str(alloc, name)?;
+    members.insert(name, value)?;
+    Ok(())
 }
 
 fn texts_of_topics(alloc: Global, topics: &[Bytes]) -> Result<Vec<Value>, AllocError>
@@ -118,10 +127,16 @@ fn texts_of_topics(alloc: Global, topics: &[Bytes]) -> Result<Vec<Value>, AllocE
 {
     let mut texts = Vec::new(alloc);
     for topic in topics {
-        let text = text_of_topic(alloc, topic)?;
-        texts.push(Value::String(text))?;
+        texts.push(value_of_topic(alloc, topic)?)?;
     }
     Ok(texts)
+}
+
+fn value_of_topic(alloc: Global, topic: &Bytes) -> Result<Value, AllocError>
+    requires { is_topic topic.now ≡ true }
+    ensures { IfOk result (λ v. view v ≡ string topic.now) }
+{
+    Ok(Value::String(text_of_topic(alloc, topic)?))
 }
 
 /// A topic's name is ASCII, so nothing of it is lost.

@@ -1,7 +1,7 @@
 //! A partition of the evidence.
 
-ghost use Rattle.std.specs.Prelude.{◌≡◌, ◌≢◌, ◌↔◌, true, OnOk, OnErr};
-ghost use Rattle.eos_evidence.specs.Evidence.{has_base, insert_segment, IsRising};
+ghost use Rattle.std.specs.Prelude.{◌≡◌, ◌≢◌, ◌↔◌, true, IfOk, OnOk, OnErr};
+ghost use Rattle.eos_evidence.specs.Evidence.{has_base, empty_partition, insert_segment, IsRising};
 ghost use Rattle.eos_evidence.specs.Ends.{end_cmp};
 ghost use Rattle.eos_evidence.specs.steps.SegmentPlaces.{own_end};
 
@@ -9,6 +9,7 @@ use crate::ends::End;
 use crate::fault::AddFault;
 use crate::segment::{Segment, place_of_base};
 use eos_base::Listed;
+use std::alloc::{AllocError, Global};
 use std::cmp::Ordering;
 
 /// A partition: its name and end, and its segments by base.
@@ -19,6 +20,16 @@ pub struct Partition {
 }
 
 impl Partition {
+    /// The partition of this end, with no segments.
+    pub(crate) fn empty(alloc: Global, end: &End) -> Result<Partition, AllocError>
+        ensures { IfOk result (λ partition. partition ≡ empty_partition end.now) }
+    {
+        Ok(Partition {
+            end: end.clone()?,
+            segments: Listed::new(Vec::new(alloc)),
+        })
+    }
+
     /// How this partition stands to the segment's, by topic bytes, then number.
     pub(crate) fn order_to(&self, segment: &Segment) -> Ordering
         ensures { result ≡ end_cmp self.now.end (own_end segment.now) }

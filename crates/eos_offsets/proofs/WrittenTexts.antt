@@ -27,6 +27,11 @@ key_is_text key fits group topic =
       parts = refl;
     }
 
+-- the buffer after each field
+pub key_written : (key : OffsetKey) (a b c d : List ℕ) → a ≡ i16_text (pos 1) → b ≡ a ++ string_text key.group → c ≡ b ++ string_text key.topic → d ≡ c ++ i32_text key.partition → d ≡ key_bytes key
+unfolding key_bytes
+key_written key a b c d pa pb pc pd = rw (pd, pc, pb, pa) (simp append_assoc)
+
 -- ---- values
 
 -- the buffer after each field

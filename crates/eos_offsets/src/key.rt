@@ -108,7 +108,6 @@ fn put_string(out: &mut BytesMut, text: &Bytes) -> Result<(), AllocError>
 }
 
 /// Writes a key, field after field.
-#[tactic(auto, unfolding(crate::specs::Writing::key_bytes, eos_wire::specs::Numbers::i16_text, eos_wire::specs::Numbers::i32_text))]
 fn write_key(alloc: Global, key: &OffsetKey) -> Result<Bytes, AllocError>
     requires group { length key.now.group < 2 ^ 15 }
     requires topic { length key.now.topic < 2 ^ 15 }

@@ -3,6 +3,7 @@ use Rattle.std.proofs.Common.{◌≡◌, ◌∙◌, sym, subst, true, arith}
 use Rattle.std.specs.List.{list_all}
 use Rattle.std.proofs.lemmas.Result.{IfOk-weaker}
 use Rattle.serde_json.specs.View.{view, members_view}
+use Rattle.serde_json.proofs.Views.{view-Object}
 use Rattle.eos_evidence.specs.steps.WrittenApps.{are_topics}
 use Rattle.eos_evidence.specs.steps.WrittenEnds.{HoldsEnds}
 use Rattle.eos_evidence.proofs.SpecsWritten.{passed_tests, apps_topics, topics_at, one_is_written, all_are_written, written_as}
@@ -24,9 +25,9 @@ returns-then-apps-eq1 c =
     let ends = subst (HoldsEnds (members_view c.in_ok-ends.ends.entries)) (c.as_slice.ensures ∙ c.ends.ensures.value) c.in_ok-ends.ensures in
     let written = one_is_written c.args.spec.now c.as_slice-apps.result.now c.index-apps-0.result _ c.ends.ensures.accepted ends (c.as_slice-apps.ensures ∙ c.apps.ensures.value) c.if-apps-eq1.true c.index-apps-0.is in
     record {
-      says = IfOk-weaker c.value_of_only_app.result _ _ (λ v is. (written_as _ _ (view v) written is).says) c.value_of_only_app.ensures;
-      version = IfOk-weaker c.value_of_only_app.result _ _ (λ v is. (written_as _ _ (view v) written is).version) c.value_of_only_app.ensures;
-      shallow = IfOk-weaker c.value_of_only_app.result _ _ (λ v is. (written_as _ _ (view v) written is).shallow) c.value_of_only_app.ensures;
+      says = IfOk-weaker c.value_of_only_app.result _ _ (λ v is. (written_as _ _ (view v) written is).says) (c.value_of_only_app.ensures (members_view c.in_ok-ends.ends.entries) (view-Object c.in_ok-ends.ends));
+      version = IfOk-weaker c.value_of_only_app.result _ _ (λ v is. (written_as _ _ (view v) written is).version) (c.value_of_only_app.ensures (members_view c.in_ok-ends.ends.entries) (view-Object c.in_ok-ends.ends));
+      shallow = IfOk-weaker c.value_of_only_app.result _ _ (λ v is. (written_as _ _ (view v) written is).shallow) (c.value_of_only_app.ensures (members_view c.in_ok-ends.ends.entries) (view-Object c.in_ok-ends.ends));
     }
 
 pub returns-else-apps-eq1 : goal.returns-else-apps-eq1
@@ -34,7 +35,7 @@ returns-else-apps-eq1 c =
     let ends = subst (HoldsEnds (members_view c.in_ok-ends.ends.entries)) (c.as_slice.ensures ∙ c.ends.ensures.value) c.in_ok-ends.ensures in
     let written = all_are_written c.args.spec.now c.as_slice-apps.result.now _ c.ends.ensures.accepted ends (c.as_slice-apps.ensures ∙ c.apps.ensures.value) c.if-apps-eq1.false in
     record {
-      says = IfOk-weaker c.value_of_apps.result _ _ (λ v is. (written_as _ _ (view v) written is).says) c.value_of_apps.ensures;
-      version = IfOk-weaker c.value_of_apps.result _ _ (λ v is. (written_as _ _ (view v) written is).version) c.value_of_apps.ensures;
-      shallow = IfOk-weaker c.value_of_apps.result _ _ (λ v is. (written_as _ _ (view v) written is).shallow) c.value_of_apps.ensures;
+      says = IfOk-weaker c.value_of_apps.result _ _ (λ v is. (written_as _ _ (view v) written is).says) (c.value_of_apps.ensures (members_view c.in_ok-ends.ends.entries) (view-Object c.in_ok-ends.ends));
+      version = IfOk-weaker c.value_of_apps.result _ _ (λ v is. (written_as _ _ (view v) written is).version) (c.value_of_apps.ensures (members_view c.in_ok-ends.ends.entries) (view-Object c.in_ok-ends.ends));
+      shallow = IfOk-weaker c.value_of_apps.result _ _ (λ v is. (written_as _ _ (view v) written is).shallow) (c.value_of_apps.ensures (members_view c.in_ok-ends.ends.entries) (view-Object c.in_ok-ends.ends));
     }
