@@ -9,7 +9,7 @@ use Rattle.eos_machine.specs.declared.config.Config.{Config}
 use Rattle.eos_machine.specs.declared.item.Item.{Item}
 use Rattle.eos_machine.specs.Places.{place_count}
 use Rattle.eos_machine.specs.World.{World, log_at}
-use Rattle.eos_schedules.specs.Evidences.{segment_count, segment_at, log_segments, cluster_segments, adding}
+use Rattle.eos_logs.specs.Evidences.{segment_count, segment_at, log_segments, cluster_segments, adding}
 
 -- the numbers from i on begin with i
 range_step : (i n : ℕ) → i < n → range_with_len i (n - i) ≡ i ∷ range_with_len (i + 1) (n - (i + 1))

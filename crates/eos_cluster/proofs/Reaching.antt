@@ -25,10 +25,9 @@ use Rattle.eos_machine.proofs.TouchRules.{keeps_sequences, neighbours_fit}
 use Rattle.eos_machine.proofs.StepRules.{all_steps}
 use Rattle.eos_machine.proofs.BoundedEvents.{bounded_run, bounded_opening, epoch_top}
 use Rattle.eos_machine.proofs.Counting.{IsCounted, counted_run, counted_opening}
-use Rattle.eos_evidence.specs.Evidence.{EvidenceParts, IsEvidence}
-use Rattle.eos_schedules.specs.Evidences.{IsEvidenceOf}
-use Rattle.eos_schedules.specs.Schedules.{IsOfSchedule, HasRightLogs, HasNoFaultInLogs}
-use Rattle.eos_schedules.proofs.EverySchedule.{right_logs, no_fault_in_logs}
+use Rattle.eos_evidence.specs.Evidence.{EvidenceParts}
+use Rattle.eos_logs.specs.Evidences.{IsEvidenceOf}
+use Rattle.eos_logs.specs.Schedules.{IsOfSchedule}
 use Rattle.eos_cluster.specs.Courses.{Course, IsTaken, IsStep, IsCounted as IsCountedStep, IsProper, IsReached}
 use Rattle.eos_cluster.specs.Named.{Names, IsNamed, IsSmall, Needs}
 use Rattle.eos_cluster.specs.Held.{Held, becomes}
@@ -60,12 +59,6 @@ neighbours_fit_there c w i r h = neighbours_fit c w (keeps_sequences_there c w i
 
 pub of_schedule : (c : Config) (w : World) (e : EvidenceParts) → IsConfig c → IsReached c w → IsAtRest w → IsEvidenceOf c w e → IsOfSchedule e
 of_schedule c w e i r h k = record { config = c; world = w; events = r.taken; sizes = i; run = r.run; rest = h; evidence = k }
-
-pub right_there : (c : Config) (w : World) (e : EvidenceParts) → IsConfig c → IsReached c w → IsAtRest w → IsEvidenceOf c w e → HasRightLogs e
-right_there c w e i r h k = right_logs e (of_schedule c w e i r h k)
-
-pub faultless_there : (c : Config) (w : World) (e : EvidenceParts) → IsEvidence e → IsConfig c → IsReached c w → IsAtRest w → IsEvidenceOf c w e → HasNoFaultInLogs e
-faultless_there c w e x i r h k = no_fault_in_logs e x (of_schedule c w e i r h k)
 
 -- ---- what an event needs
 

@@ -17,8 +17,8 @@ use Rattle.eos_machine.specs.Places.{IsConfig, place_count}
 use Rattle.eos_machine.specs.World.{World, log_at}
 use Rattle.eos_machine.specs.declared.item.Item.TheVariants.{Fed, State, Output, Offset, Marker}
 use Rattle.eos_cluster.specs.BatchParts.{event_of, item_writer, item_record}
-use Rattle.eos_schedules.specs.Batches.{batch, item_batch, texts_from, Reads, HasText, HaveTexts}
-use Rattle.eos_schedules.specs.Evidences.{segment_count}
+use Rattle.eos_logs.specs.Batches.{batch, item_batch, texts_from, Reads, HasText, HaveTexts}
+use Rattle.eos_logs.specs.Evidences.{segment_count}
 
 pub batch_of_parts : (c : Config) (o : ℕ) (x : Item) → batch o (event_of x) (item_writer x) (item_record c x) ≡ item_batch c o x
 batch_of_parts c o (Fed n) = refl

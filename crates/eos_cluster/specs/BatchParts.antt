@@ -4,8 +4,8 @@ use Rattle.eos_batch.specs.declared.record.Record.{Record}
 use Rattle.eos_machine.specs.declared.config.Config.{Config}
 use Rattle.eos_machine.specs.declared.item.Item.{Item}
 use Rattle.eos_machine.specs.declared.item.Item.TheVariants.{Fed, State, Output, Offset, Marker}
-use Rattle.eos_schedules.specs.declared.writer.Writer.{Writer}
-use Rattle.eos_schedules.specs.Batches.{plain, transactional, control, fed_record, state_record, output_record, offset_record, marker_record}
+use Rattle.eos_logs.specs.declared.writer.Writer.{Writer}
+use Rattle.eos_logs.specs.Batches.{plain, transactional, control, fed_record, state_record, output_record, offset_record, marker_record}
 
 abbrev pub event_of : Item → ℕ
 event_of (Fed n) = n

@@ -5,7 +5,7 @@ ghost use Rattle.eos_machine.specs.declared.item.Item.TheVariants.{State};
 ghost use Rattle.eos_machine.specs.Places.{IsConfig};
 ghost use Rattle.eos_batch.specs.Encoding.{batch_text_of};
 ghost use Rattle.eos_cluster.specs.BatchParts.{event_of, item_writer, item_record};
-ghost use Rattle.eos_schedules.specs.Batches.{record_of, fed_record, state_record, output_record, offset_record, marker_record, batch, item_batch, texts_from, Reads, HasText, HaveTexts};
+ghost use Rattle.eos_logs.specs.Batches.{record_of, fed_record, state_record, output_record, offset_record, marker_record, batch, item_batch, texts_from, Reads, HasText, HaveTexts};
 
 use crate::values;
 use crate::writer::{self, as_i64, sequence_as_i32};
@@ -13,7 +13,7 @@ use bytes::Bytes;
 use eos_base::Listed;
 use eos_batch::{Batch, Header, Kind, Record, encode_batch};
 use eos_machine::{Claim, Config, Entry, Item};
-use eos_schedules::Writer;
+use eos_logs::Writer;
 use std::alloc::{AllocError, Global};
 
 fn record_of(key: Option<Bytes>, value: Bytes, headers: Vec<Header>) -> Record

@@ -1,14 +1,15 @@
 //! A cluster that takes events one by one.
 
 ghost use Rattle.std.specs.Prelude.{◌≡◌, ◌↔◌, ◌≤◌, ◌<◌, ◌^◌, ◌&&◌, not, true, false, Err, IfOk};
+ghost use Rattle.eos_evidence.specs.Evidence.{IsEvidence};
 ghost use Rattle.eos_machine.specs.Places.{IsConfig};
 ghost use Rattle.eos_machine.specs.World.{opening};
 ghost use Rattle.eos_machine.specs.Rest.{IsAtRest, KeepsSequences, StepsFit, AllAtomic, NeighboursFit};
 ghost use Rattle.eos_cluster.specs.declared.cluster.NewFault.{NewFault};
 ghost use Rattle.eos_cluster.specs.Names.{new_fault_name};
 ghost use Rattle.eos_cluster.specs.declared.evidence.EvidenceRefusal.{EvidenceRefusal};
-ghost use Rattle.eos_schedules.specs.Evidences.{IsEvidenceOf, HasRoomForAll};
-ghost use Rattle.eos_schedules.specs.Schedules.{HasRightLogs, HasNoFaultInLogs};
+ghost use Rattle.eos_logs.specs.Evidences.{IsEvidenceOf, HasRoomForAll};
+ghost use Rattle.eos_logs.specs.Schedules.{IsOfSchedule};
 ghost use Rattle.eos_cluster.specs.Courses.{IsStep, IsCounted};
 ghost use Rattle.eos_cluster.specs.Switching.{any_on};
 
@@ -210,16 +211,15 @@ impl Cluster {
 
     /// The logs of a cluster at rest as evidence, honest or not: in segments of the configured number of records, the last of
     /// a partition with as many as are left, with true ends; the group is `g`, which reads `in` and writes `out`. Of an honest
-    /// cluster, whatever events it has taken: each log is whole, sequenced and fenced, the transaction log keeps its rule,
-    /// every transaction is committed in all its partitions or aborted in all, and so no fault of the logs stands.
+    /// cluster it is the evidence of a schedule, of which `eos_schedules` says that no fault of the logs stands in it.
     ///
     /// # Errors
     /// `NotAtRest` where a transaction is open or still ending; `OutOfMemory` where a growth was refused.
     pub fn evidence(&self) -> Result<Evidence, EvidenceRefusal>
         requires { HasRoomForAll self.now.config self.now.world }
         ensures ok { IfOk result (IsEvidenceOf self.now.config self.now.world) }
-        ensures right { self.now.honest ≡ true → IfOk result HasRightLogs }
-        ensures faultless { self.now.honest ≡ true → IfOk result HasNoFaultInLogs }
+        ensures evidence { IfOk result IsEvidence }
+        ensures schedule { self.now.honest ≡ true → IfOk result IsOfSchedule }
         ensures rest { result ≡ Err EvidenceRefusal.NotAtRest ↔ (IsAtRest self.now.world → ⊥) }
     {
         if !self.store.at_rest() {

@@ -93,19 +93,52 @@ impl Store {
         if let Some(refusal) = self.end_refusal(application, epoch, kind) {
             return Ok(refusal);
         }
-        let now = self.epoch(application);
         let number = self.message_count();
         let partitions = self.ongoing_partitions(application)?;
         if partitions.as_slice().is_empty() {
-            let done = step_of(Status::Complete(kind), now + 1, copies::none(self.alloc()))?;
-            self.make_room(2)?;
-            self.prepare(application, kind, partitions)?;
-            self.finish(application, kind, done);
+            self.end_at_once(application, kind, partitions)?;
         } else {
-            self.make_room(partitions.as_slice().len() + 1)?;
-            self.prepare(application, kind, partitions)?;
+            self.end_by_markers(application, kind, partitions)?;
         }
         Ok(Reply::Done(number))
+    }
+
+    /// Decides and completes a transaction with no partitions.
+    fn end_at_once(
+        &mut self,
+        application: usize,
+        kind: Kind,
+        partitions: Places,
+    ) -> Result<(), AllocError>
+        requires there { application < length self.old.world.coordinators }
+        requires epoch { (coord_at self.old.world application).epoch ≤ 32767 }
+        requires none { partitions ≡ [] }
+        ensures ok { OnOk result (self.new.world ≡ finished self.old.config (prepared self.old.config self.old.world application kind []) application kind) }
+        ensures err { OnErr result (self.new.world ≡ self.old.world) }
+        ensures config { self.new.config ≡ self.old.config }
+    {
+        let now = self.epoch(application);
+        let done = step_of(Status::Complete(kind), now + 1, copies::none(self.alloc()))?;
+        self.make_room(2)?;
+        self.prepare(application, kind, partitions)?;
+        self.finish(application, kind, done);
+        Ok(())
+    }
+
+    /// Decides a transaction with these partitions, whose end markers are on their way then.
+    fn end_by_markers(
+        &mut self,
+        application: usize,
+        kind: Kind,
+        partitions: Places,
+    ) -> Result<(), AllocError>
+        requires epoch { (coord_at self.old.world application).epoch ≤ 32767 }
+        ensures ok { OnOk result (self.new.world ≡ prepared self.old.config self.old.world application kind partitions) }
+        ensures err { OnErr result (self.new.world ≡ self.old.world) }
+        ensures config { self.new.config ≡ self.old.config }
+    {
+        self.make_room(partitions.as_slice().len() + 1)?;
+        self.prepare(application, kind, partitions)
     }
 
     /// Whether a broker fences an end marker of this epoch.

@@ -4,7 +4,7 @@ ghost use Rattle.std.specs.Prelude.{◌≡◌, Ok, IfOk};
 ghost use Rattle.eos_cluster.specs.declared.evidence.EvidenceRefusal.{EvidenceRefusal};
 ghost use Rattle.eos_evidence.specs.Parts.{accepted};
 ghost use Rattle.eos_evidence.specs.Evidence.{IsEvidence};
-ghost use Rattle.eos_schedules.specs.Evidences.{parts_of, IsEvidenceOf};
+ghost use Rattle.eos_logs.specs.Evidences.{parts_of, IsEvidenceOf};
 ghost use Rattle.eos_cluster.specs.Names.{evidence_refusal_name};
 
 use crate::segments::application;

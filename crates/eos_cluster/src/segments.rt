@@ -5,8 +5,8 @@ ghost use Rattle.std.specs.List.{flat_map, range_with_len};
 ghost use Rattle.eos_machine.specs.Places.{IsConfig, place_count};
 ghost use Rattle.eos_evidence.specs.Evidence.{added};
 ghost use Rattle.eos_machine.specs.World.{log_at};
-ghost use Rattle.eos_schedules.specs.Batches.{HaveTexts};
-ghost use Rattle.eos_schedules.specs.Evidences.{application, end_of, segment_count, segment_at, log_segments, cluster_segments, adding};
+ghost use Rattle.eos_logs.specs.Batches.{HaveTexts};
+ghost use Rattle.eos_logs.specs.Evidences.{application, end_of, segment_count, segment_at, log_segments, cluster_segments, adding};
 
 use crate::batches::items_text;
 use crate::places::{number_of, place_count, topic_of};

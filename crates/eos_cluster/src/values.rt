@@ -9,7 +9,7 @@ ghost use Rattle.eos_machine.specs.Places.{IsConfig, input_topic};
 ghost use Rattle.eos_machine.specs.Rest.{status_of, by_topic, value_of, with_number};
 ghost use Rattle.eos_txnlog.specs.declared.partitions.TopicPartitions.{TopicPartitions};
 ghost use Rattle.eos_cluster.specs.Grouping.{starts_with};
-ghost use Rattle.eos_schedules.specs.Batches.{group, transactional_id, bytes_of, header, claim_headers, control_type};
+ghost use Rattle.eos_logs.specs.Batches.{group, transactional_id, bytes_of, header, claim_headers, control_type};
 
 use crate::places::{number_of, topic_of};
 use crate::writer::{as_i16, as_i32, as_i64, producer_id};

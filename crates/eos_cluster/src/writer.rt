@@ -5,9 +5,9 @@
 
 ghost use Rattle.std.specs.Prelude.{◌≡◌, pos, IfOk};
 ghost use Rattle.eos_machine.specs.Rest.{producer_id};
-ghost use Rattle.eos_schedules.specs.Batches.{plain, transactional, control};
+ghost use Rattle.eos_logs.specs.Batches.{plain, transactional, control};
 
-use eos_schedules::Writer;
+use eos_logs::Writer;
 use std::alloc::AllocError;
 
 /// The producer id of the first application.

@@ -39,7 +39,7 @@ use Rattle.eos_machine.specs.Application.{Mark, IsOrdered, IsClosed, Fate, Match
 use Rattle.eos_machine.specs.Application.{Decision as Decided}
 use Rattle.eos_machine.specs.Logs.{marks_of}
 use Rattle.eos_machine.specs.Rest.{producer_id, decisions_of, marks_at, by_topic}
-use Rattle.eos_schedules.specs.Batches.{item_batch, batches_from}
+use Rattle.eos_logs.specs.Batches.{item_batch, batches_from}
 use Rattle.eos_schedules.proofs.LogTouches.{end_marker, item_touch, item_marker, marker_is, touch_is, same_producer}
 use Rattle.eos_schedules.proofs.ListedNames.{has_contained, contains_had, name_at, listed_at, at_listed}
 use Rattle.eos_schedules.proofs.Settled.{IsSettled, IsLog, AreAt, in_logs, at_logs, log_batches}

@@ -29,7 +29,7 @@ use Rattle.eos_machine.specs.Logs.{marks_of}
 use Rattle.eos_machine.specs.Rest as rest
 use Rattle.eos_machine.specs.Rest.{producer_id, NeighboursFit}
 use Rattle.eos_machine.proofs.TouchRules as marks
-use Rattle.eos_schedules.specs.Batches.{item_batch, batches_from}
+use Rattle.eos_logs.specs.Batches.{item_batch, batches_from}
 
 -- ---- one batch
 

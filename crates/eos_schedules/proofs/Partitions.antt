@@ -24,7 +24,7 @@ use Rattle.eos_machine.specs.declared.config.Config.{Config}
 use Rattle.eos_machine.specs.Places.{IsConfig, place_count, topic_of, number_of}
 use Rattle.eos_machine.specs.declared.item.Item.{Item}
 use Rattle.eos_machine.specs.World.{World, log_at}
-use Rattle.eos_schedules.specs.Evidences.{end_of, parts_of, segment_count, segment_at, log_segments, cluster_segments, adding, IsEvidenceOf}
+use Rattle.eos_logs.specs.Evidences.{end_of, parts_of, segment_count, segment_at, log_segments, cluster_segments, adding, IsEvidenceOf}
 use Rattle.eos_schedules.proofs.PlaceNames.{one_place, ends_rise}
 
 abbrev pub partition_at : Config → World → ℕ → Partition

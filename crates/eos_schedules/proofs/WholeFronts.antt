@@ -16,8 +16,8 @@ use Rattle.eos_machine.specs.declared.config.Config.{Config}
 use Rattle.eos_machine.specs.Places.{IsConfig}
 use Rattle.eos_machine.specs.declared.item.Item.{Item}
 use Rattle.eos_machine.specs.declared.item.Item.TheVariants.{Fed, State, Output, Offset, Marker}
-use Rattle.eos_schedules.specs.Batches.{item_batch, texts_from, batches_from, HasText, HaveTexts}
-use Rattle.eos_schedules.specs.Evidences.{segment_count, segment_at, log_segments}
+use Rattle.eos_logs.specs.Batches.{item_batch, texts_from, batches_from, HasText, HaveTexts}
+use Rattle.eos_logs.specs.Evidences.{segment_count, segment_at, log_segments}
 
 -- ---- one batch
 

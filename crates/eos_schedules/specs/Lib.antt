@@ -1,3 +1,1 @@
-pub mod Batches
-pub mod Evidences
 pub mod Schedules

@@ -2,35 +2,18 @@
 -- evidence of its logs at rest is right in all that the checker asks of logs. It says nothing of real brokers, nor that a
 -- cluster ever comes to rest.
 -- Sources: KIP-98 (sequences, fencing, the coordinator), KIP-890 (the end of a transaction raises the epoch).
-use Rattle.std.specs.Prelude.{◌≡◌, List, ⊤}
+use Rattle.std.specs.Prelude.{List, ⊤}
 use Rattle.eos_base.specs.Least.{NoneStands}
 use Rattle.eos_evidence.specs.Evidence.{EvidenceParts}
 use Rattle.eos_fold.specs.Parts.{PartLog}
 use Rattle.eos_table.specs.TransactionLog.{IsTransactionLog, transaction_parts, decisions_of}
 use Rattle.eos_table.specs.Atomic.{Atomic}
-use Rattle.eos_machine.specs.declared.config.Config.{Config}
-use Rattle.eos_machine.specs.declared.event.Event.{Event}
-use Rattle.eos_machine.specs.Places.{IsConfig}
-use Rattle.eos_machine.specs.World.{World, opening}
-use Rattle.eos_machine.specs.Machine.{run}
-use Rattle.eos_machine.specs.Rest.{IsAtRest}
 use Rattle.eos_check.specs.Good.{AreLogsOf, EachKeepsRules}
 use Rattle.eos_check.specs.Verdicts.{StandsInPartitions, StandsInLog, StandsInMatching}
 use Rattle.eos_check.specs.declared.verdict.Fault.{Fault}
 use Rattle.eos_check.specs.declared.verdict.Fault.TheVariants.{Partition as InPartition, Log, Match, Lineage}
 use Rattle.eos_check.specs.declared.verdict.Verdict.{Verdict}
 use Rattle.eos_check.specs.declared.verdict.Verdict.TheVariants.{Yes, No}
-use Rattle.eos_schedules.specs.Evidences.{IsEvidenceOf}
-
--- the evidence of a cluster at rest, to which some list of events has led
-pub record IsOfSchedule (e : EvidenceParts) : Type 0 where
-  pub config : Config
-  pub world : World
-  pub events : List Event
-  pub sizes : IsConfig config
-  pub run : world ≡ run config (opening config) events
-  pub rest : IsAtRest world
-  pub evidence : IsEvidenceOf config world e
 
 -- all that the checker asks of logs, but for what their outputs say
 pub record AreRight (e : EvidenceParts) (logs : List PartLog) (of : AreLogsOf e.partitions logs) : Type 0 where

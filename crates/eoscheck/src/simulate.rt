@@ -4,7 +4,7 @@ ghost use Rattle.std.specs.Prelude.{◌≡◌, ◌≤◌, ◌+◌, ◌*◌, ◌/
 ghost use Rattle.std.specs.Io.KnownBytes.{Appends, Keeps};
 ghost use Rattle.eos_text.specs.Writing.{WritesFront};
 ghost use Rattle.eos_machine.specs.Places.{place_count};
-ghost use Rattle.eos_schedules.specs.Evidences.{HasRoomForAll};
+ghost use Rattle.eos_logs.specs.Evidences.{HasRoomForAll};
 ghost use Rattle.eos_schedules.specs.Schedules.{HasRightLogs, HasNoFaultInLogs};
 ghost use Rattle.eoscheck.specs.Simulated.{wrote_line};
 ghost use Rattle.eoscheck.specs.steps.Holding.{IsOfReading};
@@ -96,7 +96,7 @@ fn evidence_of(cluster: &Cluster) -> Result<Evidence, SimulationFault>
     if !has_room(cluster) {
         return Err(SimulationFault::Limit);
     }
-    match cluster.evidence() {
+    match eos_simulation::evidence_of(cluster) {
         Ok(evidence) => Ok(evidence),
         Err(EvidenceRefusal::NotAtRest) => Err(SimulationFault::NotAtRest),
         Err(EvidenceRefusal::OutOfMemory) => Err(SimulationFault::OutOfMemory),

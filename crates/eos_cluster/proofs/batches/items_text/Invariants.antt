@@ -1,5 +1,5 @@
 use Rattle.std.proofs.Common.{◌≡◌, ◌++◌, ◌+◌, drop}
-use Rattle.eos_schedules.specs.Batches.{texts_from, HaveTexts}
+use Rattle.eos_logs.specs.Batches.{texts_from, HaveTexts}
 use Rattle.eos_cluster.proofs.batches.items_text.Given as goal
 
 abbrev pub invariant-loop-i : goal.invariant-loop-i

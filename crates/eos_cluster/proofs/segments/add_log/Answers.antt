@@ -1,5 +1,5 @@
 use Rattle.std.proofs.Common.{arith}
-use Rattle.eos_schedules.specs.Evidences.{segment_at}
+use Rattle.eos_logs.specs.Evidences.{segment_at}
 use Rattle.eos_cluster.proofs.Adding.{one_added, first_left}
 use Rattle.eos_cluster.proofs.Texts.{from_first, segment_written, none_left}
 use Rattle.eos_cluster.proofs.segments.add_log.Goals as goal

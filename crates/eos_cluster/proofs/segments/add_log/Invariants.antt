@@ -1,7 +1,7 @@
 use Rattle.std.proofs.Common.{◌≡◌, ◌-◌, ◌*◌, map, drop}
 use Rattle.std.specs.List.{range_with_len}
-use Rattle.eos_schedules.specs.Batches.{HaveTexts}
-use Rattle.eos_schedules.specs.Evidences.{segment_at, log_segments, adding}
+use Rattle.eos_logs.specs.Batches.{HaveTexts}
+use Rattle.eos_logs.specs.Evidences.{segment_at, log_segments, adding}
 use Rattle.eos_cluster.proofs.segments.add_log.Given as goal
 
 abbrev pub invariant-loop-i : goal.invariant-loop-i

@@ -1,4 +1,4 @@
-use Rattle.eos_schedules.specs.Evidences.{end_of}
+use Rattle.eos_logs.specs.Evidences.{end_of}
 use Rattle.eos_cluster.proofs.Ranges.{map_more}
 use Rattle.eos_cluster.proofs.store.Store.ends.Goals as goal
 

@@ -12,7 +12,7 @@ use Rattle.eos_machine.specs.declared.config.Config.{Config}
 use Rattle.eos_machine.specs.declared.item.Item.{Item}
 use Rattle.eos_machine.specs.Places.{place_count, topic_of, number_of, input_topic, output_topic}
 use Rattle.eos_machine.specs.World.{World, log_at}
-use Rattle.eos_schedules.specs.Batches.{group, texts_from, HaveTexts}
+use Rattle.eos_logs.specs.Batches.{group, texts_from, HaveTexts}
 
 -- the one group, which reads `in` and writes `out`
 abbrev pub application : App

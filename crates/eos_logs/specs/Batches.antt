@@ -21,7 +21,7 @@ use Rattle.eos_machine.specs.declared.item.Item.TheVariants.{Fed, State, Output,
 use Rattle.eos_machine.specs.declared.item.Entry.{Entry}
 use Rattle.eos_machine.specs.Places.{input_topic}
 use Rattle.eos_machine.specs.Rest.{producer_id, value_of}
-use Rattle.eos_schedules.specs.declared.writer.Writer.{Writer}
+use Rattle.eos_logs.specs.declared.writer.Writer.{Writer}
 
 -- the group of all applications
 abbrev pub group : List ℕ

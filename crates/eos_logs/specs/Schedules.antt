@@ -1,0 +1,20 @@
+-- The evidence of a schedule: what is left of a cluster at rest, whatever happened to it and in whatever order.
+use Rattle.std.specs.Prelude.{◌≡◌, List}
+use Rattle.eos_evidence.specs.Evidence.{EvidenceParts}
+use Rattle.eos_machine.specs.declared.config.Config.{Config}
+use Rattle.eos_machine.specs.declared.event.Event.{Event}
+use Rattle.eos_machine.specs.Places.{IsConfig}
+use Rattle.eos_machine.specs.World.{World, opening}
+use Rattle.eos_machine.specs.Machine.{run}
+use Rattle.eos_machine.specs.Rest.{IsAtRest}
+use Rattle.eos_logs.specs.Evidences.{IsEvidenceOf}
+
+-- the evidence of a cluster at rest, to which some list of events has led
+pub record IsOfSchedule (e : EvidenceParts) : Type 0 where
+  pub config : Config
+  pub world : World
+  pub events : List Event
+  pub sizes : IsConfig config
+  pub run : world ≡ run config (opening config) events
+  pub rest : IsAtRest world
+  pub evidence : IsEvidenceOf config world e

@@ -1,0 +1,100 @@
+"""Proves crates side by side: as many as there are processors and memory, each once those below it are proved, and first
+those with the longest chain of others above them. What earlier runs kept is used again.
+"""
+import copy
+import os
+import re
+import sys
+import tempfile
+import threading
+import time
+
+from kit import TOP, rt, rtlib
+
+# Where a crate has no line in the table, its seconds are guessed by its lines.
+SECONDS_OF_A_LINE = 0.2
+
+
+def expected():
+    """Of each crate the seconds of processor that its proof took when the table was last written."""
+    try:
+        with open(f"{TOP}/.ci/minutes.txt", encoding="utf-8") as file:
+            rows = re.findall(r"^(\w+) +([0-9.]+)", file.read(), re.M)
+    except OSError:
+        rows = []
+    return {name: 60 * float(minutes) for name, minutes in rows}
+
+
+class Progress:
+    """Says on standard error which crates are done, and what time is left by the table and by the pace so far."""
+
+    def __init__(self, crates):
+        table = expected()
+        self.cost = {it.name: table.get(it.name, SECONDS_OF_A_LINE * it.count(rb"\n")) for it in crates}
+        self.below = {it.name: [dep.name for dep in it.below()] for it in crates}
+        self.left, self.done, self.start = {it.name for it in crates}, 0.0, time.time()
+        self.lock = threading.Lock()
+
+    def seconds_left(self):
+        """At least the longest chain of crates that are left, and what all processors need for the sum."""
+        behind = {}
+        for name in sorted(self.left, key=lambda it: len(self.below[it])):
+            below = [behind[it] for it in self.below[name] if it in behind]
+            behind[name] = self.cost[name] + max(below, default=0)
+        whole = sum(self.cost[it] for it in self.left)
+        # A chain's crates get the processors that no other waits for, which halves their time.
+        return max(max(behind.values(), default=0) / 2, whole / rt.processors())
+
+    def say(self, text, name=None):
+        with self.lock:
+            if name:
+                self.left.discard(name)
+            left = self.seconds_left()
+            number, whole = len(self.cost) - len(self.left), len(self.cost)
+            minutes = f"; about {max(1, round(left / 60))} min left" if self.left else ""
+            print(f"[{number} of {whole}] {text}{minutes}", file=sys.stderr, flush=True)
+
+
+def prove(crates, work=None):
+    """Proves these crates, and returns the names of those that are not proved. `work(crate, flags)` gives the status of one;
+    without it each is built as a library.
+    """
+    work = work or (lambda crate, flags: crate.build_rlib(flags, anew=False))
+    progress = Progress(crates)
+
+    def task(crate, given, jobs):
+        lacking = [it.name for it in crate.below() if not given.get((it.name, "proof"), True)]
+        if lacking:
+            progress.say(f"{crate.name}: not tried, since {lacking[0]} isn't proved", crate.name)
+            return False
+        start, crate = time.time(), copy.copy(crate)
+        os.makedirs(f"{crate.folder}/out", exist_ok=True)
+        with tempfile.TemporaryFile("a+", errors="replace") as crate.out:
+            status = work(crate, ["--jobs", str(jobs)])
+            if status:
+                crate.out.seek(0)
+                print(f"== {crate.name}\n{crate.out.read()}", file=sys.stderr, flush=True)
+        took = time.time() - start
+        progress.say(f"{crate.name}: {'NOT PROVED' if status else 'proved'} in {took:.0f} s", crate.name)
+        return not status
+
+    names = {it.name for it in crates}
+    tasks = {}
+    for crate in crates:
+        waits = [(it.name, "proof") for it in crate.below() if it.name in names]
+        call = lambda given, jobs, it=crate: task(it, given, jobs)
+        tasks[crate.name, "proof"] = (waits, progress.cost[crate.name], rt.need(crate), call)
+    progress.say(f"proving {len(crates)} crates on {rt.processors()} processors")
+    given = rt.in_lanes(tasks)
+    return [it.name for it in crates if not given[it.name, "proof"]]
+
+
+def crates_of_the_repository():
+    """All crates, lowest first."""
+    os.chdir(TOP)
+    return sorted(rtlib.crates_below(TOP), key=lambda it: len(it.below()))
+
+
+def keep(crates):
+    """Keeps the crates from any other run of the kit's commands, until this one ends or what is returned is closed."""
+    return rtlib.lock(crates)
