@@ -63,7 +63,10 @@ def row_of(line, names):
     if not arrow or not call.strip() or not answer.strip():
         raise ValueError("no row")
     answer = PARTS.sub(lambda match: bytes_of(match[1], names), answer)
-    return written_out(call, names).strip(), answer.strip()
+    call = written_out(call, names).strip()
+    if "<" in call:
+        raise ValueError("bytes that can't be put together")
+    return call, answer.strip()
 
 
 def rows_of(table):
