@@ -3,11 +3,11 @@
 
     tests/join_orders.py PROBE SEGMENTS TABLE
 
-The logs are the segments that SEGMENTS/cases names, in a topic whose sequences are checked and in one whose sequences aren't, and
-the logs of one segment in TABLE. Each is cut at each border by itself and at all of them at once, also before a batch that can't
-be read; how many batches a segment has is read from its listing, so that none is missed. The probe's call `part` says everything
-of a log: its fault, the ends of its transactions, its markers and its records. The script prints what differs and how much was
-compared, and ends in 1 where something differs or there are fewer logs than files or rows.
+The logs are the segments that SEGMENTS/cases names, in a topic whose sequences are checked and in one whose sequences
+aren't, and the logs of one segment in TABLE. Each is cut at each border by itself and at all of them at once, also before
+a batch that can't be read; how many batches a segment has is read from its listing, so that none is missed. The probe's
+call `part` says everything of a log: its fault, the ends of its transactions, its markers and its records. The script
+prints what differs and how much was compared, and ends in 1 where something differs or there are too few logs.
 """
 import os
 import re
@@ -22,7 +22,7 @@ NAMES = "out-0", "__consumer_offsets-0"
 
 
 def places_of(data):
-    """The places before and behind each batch, up to the first bytes that are none: the byte, and the next record's offset."""
+    """The places before and behind each batch, up to bytes that are none: the byte, and the next record's offset."""
     places = [(0, 0)]
     while places[-1][0] < len(data):
         try:
@@ -69,9 +69,12 @@ def calls_of(name, end, data):
 
 
 def counted(answer, cuts):
-    """The answer, with the byte of a batch that can't be read counted from the log's begin: it and the segment's name are all
-    that follows the cut."""
-    place = lambda found: f" segment=0 byte={cuts[int(found[1])] + int(found[2])} batch="
+    """The answer, with the byte of a batch that can't be read counted from the log's begin: it and the segment's name are
+    all that follows the cut."""
+
+    def place(found):
+        return f" segment=0 byte={cuts[int(found[1])] + int(found[2])} batch="
+
     return re.sub(r" segment=(\d+) byte=(\d+) batch=(?=[A-Za-z]+$)", place, answer)
 
 

@@ -1,28 +1,31 @@
 """Logs in the tables of cases, as words: what stands in braces, written out as bytes.
 
-    {out-0: committed 1000/0@0 (output 1/1 of in-0:0) ; in-0: plain (a, b)}
+    {out-0: committed 1000/0@0 (output 1/1 of in-0:0); in-0: plain (a, b)}
 
-Partitions are parted by ';' and become words 'NAME:END:BASE/BYTES,BASE/BYTES', a base and bytes for each segment. END is the
-offset behind the last batch; 'out-0 to 7:' says another. Braces without a name become the bytes of their batches.
+Partitions are parted by ';' and become words 'NAME:END:BASE/BYTES,BASE/BYTES', a base and bytes for each segment. END is
+the offset behind the last batch; 'out-0 to 7:' says another. Braces without a name become the bytes of their batches.
 
 A partition is a row of
-    KIND P/E@S (RECORD, ..)   a batch: of no producer ('plain'), or of producer id P at epoch E from base sequence S ('@S' left
-                              out: -1), outside transactions ('idempotent') or in one ('data'); 'committed' also writes the
-                              marker COMMIT at the next epoch
+    KIND P/E@S (RECORD, ..)   a batch: of no producer ('plain'), or of producer id P at epoch E from base sequence S
+                              (without '@S' it is -1), outside transactions ('idempotent') or in one ('data');
+                              'committed' also writes the marker COMMIT at the next epoch
     commit P/E, abort P/E     an end marker
     at N                      the next batch has base offset N, not that of the next record
     /  and  /N                another segment begins here, named by the next offset, or N
     bytes HEX                 bytes that are no batch
 and a record is one of
     WORD                      its value; it has no key
-    output N/OF of NAME:AT    the claim to be output N of OF of a record, with the value 'o', or 'null output ..'; behind it maybe
-                              'but HEADER CHANGE', a change of CHANGES, or 'but others beside', another header and all turned
+    output N/OF of NAME:AT    the claim to be output N of OF of a record, with the value 'o', or 'null output ..'; behind
+                              it maybe 'but HEADER CHANGE', one of CHANGES, or 'but others beside', which adds a header
+                              and turns them all
     note of NAME:AT           the claim to be output 0 of 0
-    GROUP reads NAME to N     an offset commit;  GROUP forgets NAME  the tombstone of one
-    ID is STATUS P/E on NAME+NAME        a state of a transactional id; without partitions 'on' is left out
+    GROUP reads NAME to N     an offset commit
+    GROUP forgets NAME        the tombstone of one
+    ID is STATUS P/E on NAME+NAME
+                              a state of a transactional id; without partitions 'on' is left out
     key HEX value HEX         '-' is null, '.' is no bytes
-In groups and ids '%20' is the byte 20. 'let NAME = ..' on a line of its own names a piece for the lines below it; names are in
-capitals. The encoder is that of tests/random_evidence.py and tests/made_evidence.py, which shares nothing with the program.
+In groups and ids '%20' is the byte 20. A line 'let NAME = ..' names a piece for the lines below it, in capitals. The
+encoder is that of tests/random_evidence.py and tests/made_evidence.py, which shares nothing with the program.
 """
 import re
 import struct
@@ -188,7 +191,10 @@ def define(line, names):
     names[name] = named(piece, names)
 
 
-def expand(words, names):
+def expand(words, names={}):
     """The words with what stands in braces written out as bytes, and these names as what they are."""
-    inside = lambda found: " ".join(partition(part) for part in found[1].split(";")) if found[1].strip() else ""
-    return re.sub(r"\{([^{}]*)\}", inside, named(words, names))
+
+    def written(found):
+        return " ".join(partition(part) for part in found[1].split(";") if part.strip())
+
+    return re.sub(r"\{([^{}]*)\}", written, named(words, names))

@@ -9,8 +9,8 @@ of no row, a table without rows and a probe that ends early or in a status other
 
 Bytes may be put together between '<' and '>', of hexadecimal digits, texts such as 'in', and names in capitals. Each may
 be cut, as in KEY[2:], and repeated, as in 'a'*300. They stand for their digits, or for '-' where there are none. A line
-'NAME = <..>' gives bytes a name. What stands in braces in ARGS is written out as bytes by tests/table_logs.py, with the pieces
-that lines 'let NAME = ..' name.
+'NAME = <..>' gives bytes a name. What stands in braces in ARGS is written out as bytes by tests/table_logs.py, with the
+pieces that lines 'let NAME = ..' name.
 """
 import collections
 import glob
