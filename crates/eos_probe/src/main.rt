@@ -25,7 +25,7 @@ fn answer<R: Threads + Wait + Clock + Sync>(
     if let Some(text) = formats::answer(alloc, call, rest)? {
         return Ok(text);
     }
-    if let Some(text) = layers::answer(alloc, call, rest)? {
+    if let Some(text) = layers::answer(rt, alloc, call, rest)? {
         return Ok(text);
     }
     if let Some(text) = cluster::answer(rt, alloc, call, rest)? {

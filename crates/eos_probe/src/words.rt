@@ -1,6 +1,7 @@
 //! Words of a line as values.
 
 use bytes::Bytes;
+use hex::FromHexError;
 use std::alloc::{AllocError, Global};
 
 /// The bytes of hexadecimal digits, none where they aren't such; `-` stands for no bytes.
@@ -10,6 +11,12 @@ pub(crate) fn bytes_of(alloc: Global, digits: &str) -> Result<Option<Bytes>, All
     }
     match hex::decode(alloc, digits.as_bytes()) {
         Ok(bytes) => Ok(Some(Bytes::from_vec(bytes)?)),
+        Err(FromHexError::OutOfMemory) => Err(AllocError),
         Err(_) => Ok(None),
     }
+}
+
+/// The first word of a text, and the rest.
+pub(crate) fn first_of(text: &str) -> (&str, &str) {
+    text.split_once(' ').unwrap_or((text, ""))
 }
