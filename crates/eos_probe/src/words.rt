@@ -1,0 +1,22 @@
+//! Words of a line as values.
+
+use bytes::Bytes;
+use hex::FromHexError;
+use std::alloc::{AllocError, Global};
+
+/// The bytes of hexadecimal digits, none where they aren't such; `-` stands for no bytes.
+pub(crate) fn bytes_of(alloc: Global, digits: &str) -> Result<Option<Bytes>, AllocError> {
+    if digits == "-" {
+        return Ok(Some(Bytes::copy_from_slice(alloc, &[])?));
+    }
+    match hex::decode(alloc, digits.as_bytes()) {
+        Ok(bytes) => Ok(Some(Bytes::from_vec(bytes)?)),
+        Err(FromHexError::OutOfMemory) => Err(AllocError),
+        Err(_) => Ok(None),
+    }
+}
+
+/// The first word of a text, and the rest.
+pub(crate) fn first_of(text: &str) -> (&str, &str) {
+    text.split_once(' ').unwrap_or((text, ""))
+}

@@ -1,0 +1,121 @@
+//! The check by workers behind a gate that holds some of them and notes what passes it, and by the caller alone.
+
+use crate::cluster::{numbers_of, place};
+use eos_board::Gate;
+use eos_check::{check, check_one};
+use eos_evidence::Evidence;
+use eos_fold::Named;
+use eos_report::verdict_line;
+use std::alloc::{AllocError, Global};
+use std::sync::Wait;
+use std::sync::atomic::{AtomicU64, Ordering};
+use std::thread;
+use std::thread::Threads;
+use std::time::{Clock, Duration};
+
+/// A count of 1 at this piece, in four bits of its own; those past the twelfth have none.
+fn once(piece: u64) -> u64 {
+    if piece < 12 { 1 << (4 * piece) } else { 0 }
+}
+
+/// Whether one of these bits is set, at once or within 10,000 turns of a millisecond.
+fn is_set(rt: &impl Clock, word: &AtomicU64, bits: u64) -> bool {
+    for _ in 0..10_000 {
+        if word.load(Ordering::SeqCst) & bits != 0 {
+            return true;
+        }
+        thread::sleep(rt, Duration::from_millis(1));
+    }
+    false
+}
+
+/// Holds one piece until the run of another was made; or, where `is_chain`, each of twelve pieces until the next has passed, and
+/// the run of piece 0 until that of the pieces 2 to 6 was made.
+#[derive(Drop)]
+struct Held<'a, R: Clock + Sync> {
+    rt: &'a R,
+    held: u64,
+    other: u64,
+    is_chain: bool,
+    /// How often each piece has passed.
+    passed: AtomicU64,
+    /// How often each piece's own run was made.
+    made: AtomicU64,
+    /// Not 0 once the run of the pieces 2 to 6 was made.
+    five: AtomicU64,
+    /// Not 0 once a wait was given up.
+    late: AtomicU64,
+}
+
+impl<'a, R: Clock + Sync> Held<'a, R> {
+    fn wait(&self, word: &AtomicU64, bits: u64) {
+        if !is_set(self.rt, word, bits) {
+            self.late.store(1, Ordering::SeqCst);
+        }
+    }
+}
+
+impl<'a, R: Clock + Sync> Gate for Held<'a, R> {
+    fn pass(&self, piece: u64) {
+        if self.is_chain && piece < 11 {
+            self.wait(&self.passed, once(piece + 1));
+        }
+        if !self.is_chain && piece == self.held {
+            self.wait(&self.made, once(self.other));
+        }
+        self.passed.fetch_add(once(piece), Ordering::SeqCst);
+    }
+
+    fn made(&self, run: &Named) {
+        let (first, last) = run.pieces();
+        if (first, last) == (2, 6) {
+            self.five.store(1, Ordering::SeqCst);
+        }
+        if self.is_chain && (first, last) == (0, 0) {
+            self.wait(&self.five, 1);
+        }
+        if first == last {
+            self.made.fetch_add(once(first), Ordering::SeqCst);
+        }
+    }
+}
+
+/// What so many workers say, and what their gate has seen: how often each of the first twelve pieces has passed, the first at the
+/// right, how often its own run was made, and whether a wait was given up. Behind the number of workers stands `HELD,OTHER`, or
+/// `chain`, or nothing.
+pub(super) fn check_behind<R: Threads + Wait + Clock + Sync>(
+    rt: &R,
+    alloc: Global,
+    evidence: &Evidence,
+    words: &str,
+) -> Result<String, AllocError> {
+    let (workers, gate) = words.trim_end().split_once(' ').unwrap_or((words, "-1"));
+    let workers = workers.trim_end().parse::<u64>().unwrap_or(1).clamp(1, 64);
+    let numbers = numbers_of(gate);
+    let gate = Held {
+        rt,
+        held: place(numbers[0]) as u64,
+        other: place(numbers[1]) as u64,
+        is_chain: gate == "chain",
+        passed: AtomicU64::new(0),
+        made: AtomicU64::new(0),
+        five: AtomicU64::new(0),
+        late: AtomicU64::new(0),
+    };
+    let verdict = check(alloc, rt, evidence, workers, &gate)?;
+    let line = verdict_line(alloc, &verdict)?;
+    let passed = gate.passed.load(Ordering::SeqCst);
+    let made = gate.made.load(Ordering::SeqCst);
+    let late = gate.late.load(Ordering::SeqCst);
+    format!(in alloc; "{} passed={passed:x} made={made:x} late={late}", line.as_str().trim_end())
+}
+
+/// What the caller alone says.
+pub(super) fn check_alone<R: Threads + Sync>(
+    rt: &R,
+    alloc: Global,
+    evidence: &Evidence,
+) -> Result<String, AllocError> {
+    let line = verdict_line(alloc, &check_one(alloc, rt, evidence)?)?;
+    String::from_str(alloc, line.as_str().trim_end())
+}

@@ -1,0 +1,109 @@
+#!/usr/bin/env -S python3 -B
+"""Random events in any order: a simulated cluster comes to rest, and the checker accuses none of its logs.
+
+    tests/random_schedules.py PROBE [LISTS]
+
+LISTS (1000) lists of 40 events, one for each seed from 0 on; then each open transaction is ended, and all messages are
+delivered. Prints what is wrong, and as its last line 'N passed, N failed'.
+"""
+import re
+import subprocess
+import sys
+
+SIZES = "3,2,2,2,5"
+MESSAGES = 400
+
+
+class Words:
+    """PCG XSH RR 64/32, seeded as the generator of the scripts is."""
+
+    def __init__(self, seed):
+        self.state, self.increment = seed, 0xA17654E46FBE17F3
+        state, increment = (self.seeding() | self.seeding() << 32 for _ in range(2))
+        self.increment = increment | 1
+        self.state = state + self.increment
+        self.step()
+
+    def step(self):
+        self.state = (self.state * 0x5851F42D4C957F2D + self.increment) % 2**64
+
+    def output(self):
+        word, turn = ((self.state >> 18 ^ self.state) >> 27) % 2**32, self.state >> 59
+        return (word >> turn | word << 32 - turn) % 2**32
+
+    def seeding(self):
+        self.step()
+        return self.output()
+
+    def next(self):
+        word = self.output()
+        self.step()
+        return word
+
+
+def number(words):
+    """A number, small most of the time."""
+    word = words.next()
+    return word if word % 64 == 0 else (word >> 8) % 3
+
+
+def event(words):
+    choice = words.next() % 20
+    if choice == 0:
+        return f"feed:{number(words)}"
+    if choice in (1, 2):
+        return f"start:{number(words)}"
+    if choice in (3, 4, 5):
+        return f"produce:{number(words)},{number(words)}"
+    if choice == 6:
+        return f"offset:{number(words)},{number(words)},{-1 if words.next() % 8 == 0 else 1}"
+    if choice in (7, 8):
+        session = number(words)
+        return f"{'abort' if words.next() % 3 == 0 else 'commit'}:{session}"
+    if choice == 9:
+        return f"resume:{number(words)}"
+    if choice == 10:
+        return f"fetch:{number(words)},{number(words)}"
+    if choice == 11:
+        return "members"
+    if choice == 12:
+        return f"broker:{number(words)}"
+    if choice == 13:
+        return "coordinator"
+    return f"deliver:{words.next() % 12}"
+
+
+def line(seed):
+    words = Words(seed)
+    events = [event(words) for _ in range(40)]
+    events += ["start:0", "start:1", "start:2", "coordinator"]
+    events += [f"deliver:{message}" for message in range(MESSAGES)]
+    return f"cluster {SIZES} " + " ".join("-" + word for word in events) + f" deliver:{MESSAGES} at-rest ends verdict:1\n"
+
+
+def main():
+    program = sys.argv[1]
+    count = int(sys.argv[2]) if len(sys.argv) > 2 else 1000
+    seven = Words(7)
+    if [seven.next() for _ in range(5)] != [2442223337, 414063806, 2743600285, 3524868804, 2371632060]:
+        sys.exit("the words of seed 7 are others")
+    lines = "".join(line(seed) for seed in range(count))
+    answers = subprocess.run([program], input=lines, capture_output=True, text=True, timeout=600).stdout.splitlines()
+    failed = abs(len(answers) - count)
+    with_outputs = [0] * (1 + (count - 1) // 200)
+    for seed, answer in enumerate(answers):
+        found = re.fullmatch(r"Unknown true \[(.*)\] (yes|no),(\d+)\S+", answer)
+        if not found or (found[2] == "no" and found[3] in "123"):
+            failed += 1
+            print(f"FAILED: seed {seed}: {answer}")
+        elif any(int(end) for end in found[1].split(",")[-2:]):
+            with_outputs[seed // 200] += 1
+    if min(with_outputs) <= 4:
+        failed += 1
+        print(f"FAILED: of each 200 lists {with_outputs} wrote an output")
+    print(f"{count + 1 - failed} passed, {failed} failed")
+    sys.exit(1 if failed else 0)
+
+
+if __name__ == "__main__":
+    main()
