@@ -15,6 +15,7 @@ import struct
 import subprocess
 import sys
 import tempfile
+import threading
 
 FOLDER = "tests/evidence/row-yes-2"
 SEGMENT = "out-0/00000000000000000000.log"
@@ -52,10 +53,12 @@ def is_right(status, line, want):
     return status == 1 and line.startswith(("no 1.1 BadBatch out-0 ", "no 1.2 Gap out-0 "))
 
 
-def try_case(program, room, number, case):
+def try_case(program, room, case):
     name, damaged, want = case
-    folder = f"{room}/{number}"
-    shutil.copytree(FOLDER, folder)
+    # A folder for each thread, in which only this segment changes.
+    folder = f"{room}/{threading.get_ident()}"
+    if not os.path.isdir(folder):
+        shutil.copytree(FOLDER, folder)
     with open(f"{folder}/{SEGMENT}", "wb") as file:
         file.write(damaged)
     wrong = []
@@ -63,7 +66,6 @@ def try_case(program, room, number, case):
         ran = subprocess.run([program, "check", "--workers", workers, folder], capture_output=True, text=True, timeout=60)
         if ran.stderr or not is_right(ran.returncode, ran.stdout.rstrip("\n"), want):
             wrong.append(f"{name}, {workers} workers: status {ran.returncode}, {ran.stdout.strip()} {ran.stderr.strip()}, wanted {want}")
-    shutil.rmtree(folder)
     return wrong
 
 
@@ -72,7 +74,7 @@ def main():
     with open(f"{FOLDER}/{SEGMENT}", "rb") as file:
         tried = list(cases(file.read()))
     with tempfile.TemporaryDirectory() as room, concurrent.futures.ThreadPoolExecutor(os.cpu_count()) as pool:
-        found = pool.map(lambda it: try_case(program, room, *it), enumerate(tried))
+        found = pool.map(lambda it: try_case(program, room, it), tried)
         wrong = [it for lines in found for it in lines]
     print("\n".join(wrong[:5]))
     print(f"{2 * len(tried) - len(wrong)} passed, {len(wrong)} failed")
