@@ -12,8 +12,8 @@ use crate::writer::{self, as_i64, sequence_as_i32};
 use bytes::Bytes;
 use eos_base::Listed;
 use eos_batch::{Batch, Header, Kind, Record, encode_batch};
-use eos_machine::{Claim, Config, Entry, Item};
 use eos_logs::Writer;
+use eos_machine::{Claim, Config, Entry, Item};
 use std::alloc::{AllocError, Global};
 
 fn record_of(key: Option<Bytes>, value: Bytes, headers: Vec<Header>) -> Record
