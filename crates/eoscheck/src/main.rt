@@ -22,6 +22,3 @@ use std::process::ExitCode;
 fn main(rt: HostRuntime) -> ExitCode {
     ExitCode::from(run::run(&rt, &rt))
 }
-
-#[cfg(test)]
-mod tests;

@@ -1,0 +1,66 @@
+/* Makes the standard streams of a program falter.
+ *
+ *     cc -shared -fPIC -o streams.so tests/streams.c -ldl
+ *     STREAM_ROOM=3 LD_PRELOAD=./streams.so crates/eoscheck/out/eoscheck dump - < FILE
+ *
+ * STREAM_ROOM=N            standard output takes N bytes, and then it is full
+ * STREAM_STEP=N            a read of standard input and a write to standard output take at most N bytes
+ * STREAM_READS=N           N reads of standard input are interrupted before each one that isn't
+ * STREAM_WRITES=N          N writes to standard output are interrupted before each one that isn't
+ * STREAM_BROKEN=1          standard input can't be read
+ */
+#define _GNU_SOURCE
+#include <dlfcn.h>
+#include <errno.h>
+#include <stdlib.h>
+#include <unistd.h>
+
+static long number(const char *name, long other) {
+    const char *text = getenv(name);
+    return text ? atol(text) : other;
+}
+
+/* Whether this call is interrupted, of which so many were in a row. */
+static int interrupted(const char *name, long *row) {
+    if (*row < number(name, 0)) {
+        *row += 1;
+        errno = EINTR;
+        return 1;
+    }
+    *row = 0;
+    return 0;
+}
+
+static size_t least(size_t a, long b) {
+    return b < 0 || a < (size_t)b ? a : (size_t)b;
+}
+
+ssize_t read(int file, void *bytes, size_t size) {
+    static ssize_t (*real)(int, void *, size_t);
+    static long row;
+    if (!real) real = dlsym(RTLD_NEXT, "read");
+    if (file != STDIN_FILENO) return real(file, bytes, size);
+    if (number("STREAM_BROKEN", 0)) {
+        errno = EIO;
+        return -1;
+    }
+    if (interrupted("STREAM_READS", &row)) return -1;
+    return real(file, bytes, least(size, number("STREAM_STEP", -1)));
+}
+
+ssize_t write(int file, const void *bytes, size_t size) {
+    static ssize_t (*real)(int, const void *, size_t);
+    static long row, taken;
+    long room = number("STREAM_ROOM", -1);
+    if (!real) real = dlsym(RTLD_NEXT, "write");
+    if (file != STDOUT_FILENO) return real(file, bytes, size);
+    if (interrupted("STREAM_WRITES", &row)) return -1;
+    if (room >= 0 && size > 0 && taken >= room) {
+        errno = ENOSPC;
+        return -1;
+    }
+    size = least(size, number("STREAM_STEP", -1));
+    ssize_t count = real(file, bytes, room < 0 ? size : least(size, room - taken));
+    if (count > 0) taken += count;
+    return count;
+}
