@@ -24,6 +24,13 @@ abbrev pub the : Slot → Option (List ℕ)
 the None = None
 the (Some value) = value
 
+-- the number in a slot
+abbrev pub int32_in : Slot → Option ℕ
+int32_in slot = the slot >>= int32
+
+abbrev pub int64_in : Slot → Option ℕ
+int64_in slot = the slot >>= int64
+
 pub record Kept : Type 0 where
   pub topic : Slot
   pub partition : Slot

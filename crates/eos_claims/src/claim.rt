@@ -14,7 +14,7 @@
 
 ghost use Rattle.std.specs.Prelude.{◌≡◌, ◌≢◌, ◌<◌, ◌^◌, Option, Some, None, List, ℕ, option_map, IfOk, IfSome, OnErr, codes, fold};
 ghost use Rattle.eos_claims.specs.Headers.{claim_of, int32 as int32_of, int64 as int64_of};
-ghost use Rattle.eos_claims.specs.Slots.{Kept, put as put_in, kept as kept_in, keep as keep_in, blank as nothing, claim_in, plain_value, plain_slot, plain_slots, plain_claim};
+ghost use Rattle.eos_claims.specs.Slots.{Kept, the as the_value, int32_in as int32_within, int64_in as int64_within, put as put_in, kept as kept_in, keep as keep_in, blank as nothing, claim_in, plain_value, plain_slot, plain_slots, plain_claim};
 
 use bytes::Bytes;
 use eos_batch::{Header, HeaderRefs};
@@ -124,15 +124,35 @@ fn int64(value: &[u8]) -> Option<u64>
     }
 }
 
+// The value in a slot, where it was seen once and isn't null.
+fn the<'a>(slot: Option<Option<&'a [u8]>>) -> Option<&'a [u8]>
+    ensures { plain_value result ≡ the_value (plain_slot slot.entry) }
+{
+    slot?
+}
+
+fn int32_in(slot: Option<Option<&[u8]>>) -> Option<u32>
+    ensures number { result ≡ int32_within (plain_slot slot.entry) }
+    ensures below { IfSome result (λ n. n < 2 ^ 31) }
+{
+    int32(the(slot)?)
+}
+
+fn int64_in(slot: Option<Option<&[u8]>>) -> Option<u64>
+    ensures number { result ≡ int64_within (plain_slot slot.entry) }
+{
+    int64(the(slot)?)
+}
+
 #[tactic(auto, unfolding(crate::specs::Slots::claim_in))]
 fn claim_from<'a>(slots: &Slots<'a>) -> Option<ClaimRef<'a>>
     ensures { option_map plain_claim result ≡ claim_in (plain_slots slots.entry.now) }
 {
-    let topic = slots.topic??;
-    let partition = int32(slots.partition??)?;
-    let offset = int64(slots.offset??)?;
-    let output = int32(slots.output??)?;
-    let of = int32(slots.of??)?;
+    let topic = the(slots.topic)?;
+    let partition = int32_in(slots.partition)?;
+    let offset = int64_in(slots.offset)?;
+    let output = int32_in(slots.output)?;
+    let of = int32_in(slots.of)?;
     Some(ClaimRef {
         topic,
         partition: partition as i32,

@@ -1,3 +1,4 @@
+pub mod PushedMore
 pub mod Unasked
 pub mod VisibleOrder
 pub mod RecordsLaw

@@ -6,7 +6,7 @@ ghost use Rattle.eos_base.specs.Least.{lesser_of};
 ghost use Rattle.eos_claims.specs.Outputs.{Application, ReadsSources};
 ghost use Rattle.eos_claims.specs.Faults.{fault_cmp};
 ghost use Rattle.eos_claims.specs.Candidates.{AreApart, unclaimed, is_committed as is_committed_in};
-ghost use Rattle.eos_claims.specs.Plain.{plain_place, plain_fault, plain_claim};
+ghost use Rattle.eos_claims.specs.Plain.{plain_place, plain_source, plain_fault, plain_claim};
 ghost use Rattle.eos_commits.specs.Faults.{AreInOrder};
 ghost use Rattle.eos_fold.specs.Parts.{part_name};
 ghost use Rattle.eos_lineage.specs.Lineage.{application_of, inputs_below};
@@ -21,7 +21,7 @@ use crate::tables::{Marks, Tables, is_committed};
 use bytes::Bytes;
 use eos_base::PartitionName;
 use eos_claims::{
-    Found, NumberedClaim, OutputFault, Place, PlaceRef, least_of_input, least_of_runs,
+    Found, NumberedClaim, OutputFault, Place, PlaceRef, SourceRef, least_of_input, least_of_runs,
 };
 use eos_commits::{TopicSet, commits_of};
 use eos_evidence::App;
@@ -167,22 +167,36 @@ fn own_place(place: &PlaceRef<'_>) -> Result<Place, AllocError>
     })
 }
 
+fn own_place_if(place: &Option<PlaceRef<'_>>) -> Result<Option<Place>, AllocError>
+    ensures { IfOk result (λ p. p ≡ option_map plain_place place.now) }
+{
+    match place {
+        None => Ok(None),
+        Some(place) => Ok(Some(own_place(place)?)),
+    }
+}
+
+// The source with a name of its own.
+fn own_source(alloc: Global, source: &SourceRef<'_>) -> Result<Place, AllocError>
+    ensures { IfOk result (λ p. p ≡ plain_source source.now) }
+{
+    Ok(Place {
+        partition: PartitionName {
+            topic: Bytes::copy_from_slice(alloc, source.topic)?,
+            partition: source.partition,
+        },
+        offset: source.offset,
+    })
+}
+
 // The fault with names of its own.
 fn published(alloc: Global, found: &Found<'_>) -> Result<OutputFault, AllocError>
     ensures { IfOk result (λ f. f ≡ plain_fault found.now) }
 {
-    let at = match found.at {
-        None => None,
-        Some(place) => Some(own_place(&place)?),
-    };
+    let source = own_source(alloc, &found.source)?;
+    let at = own_place_if(&found.at)?;
     Ok(OutputFault {
-        source: Place {
-            partition: PartitionName {
-                topic: Bytes::copy_from_slice(alloc, found.source.topic)?,
-                partition: found.source.partition,
-            },
-            offset: found.source.offset,
-        },
+        source,
         output: found.output,
         kind: found.kind,
         at,

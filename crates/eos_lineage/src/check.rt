@@ -1,9 +1,12 @@
 //! The lineage of all applications: the least fault, or the counts.
 
-ghost use Rattle.std.specs.Prelude.{◌≡◌, ◌+◌, true, map, IfOk};
+ghost use Rattle.std.specs.Prelude.{◌≡◌, ◌+◌, true, map, IfOk, IsPermutation};
 ghost use Rattle.eos_base.specs.Least.{NoneStands};
+ghost use Rattle.eos_commits.specs.Commits.{commits_of as commits_in};
+ghost use Rattle.eos_commits.specs.Plain.{plain_commit};
 ghost use Rattle.eos_commits.specs.Faults.{AreInOrder, Stands as StandsAtRecord};
 ghost use Rattle.eos_fold.specs.Parts.{part_name};
+ghost use Rattle.eos_evidence.specs.declared.application.App.{App};
 ghost use Rattle.eos_evidence.specs.Parts.{groups_of};
 ghost use Rattle.eos_evidence.specs.Topics.{are_unequal};
 ghost use Rattle.eos_lineage.specs.Faults.{named_group, IsAnswer};
@@ -18,11 +21,41 @@ use crate::name::{Names, names_of};
 use crate::passes::PassTable;
 use crate::tables::Tables;
 use eos_base::PartitionName;
-use eos_commits::{TopicSet, commits_of, least_visible_fault};
+use eos_commits::{CommitRef, TopicSet, commits_of, least_visible_fault};
 use eos_evidence::{App, GroupId, Spec};
 use eos_fold::Part;
 use std::alloc::{AllocError, Global};
 use std::thread::Threads;
+
+// The outputs of an application with these topics and commits.
+fn check_claims(
+    alloc: Global,
+    rt: &(impl Threads + Sync),
+    sources: &TopicSet<'_>,
+    outputs: &TopicSet<'_>,
+    commits: &[CommitRef<'_>],
+    all: &[PartitionName],
+    names: &Names<'_>,
+    parts: &[Part],
+) -> Result<Tally, AllocError>
+    requires all { all.now ≡ map part_name parts.now }
+    requires names { names.now ≡ all.now }
+    ensures { (app : App) → AreInOrder parts.now → IsPermutation app.sources sources.now → IsPermutation app.outputs outputs.now
+        → map plain_commit commits.now ≡ commits_in app.group app.sources parts.now
+        → IfOk result (λ t. IsOutputsAnswer (application_of app parts.now) t.fault t.inputs t.outputs) }
+{
+    let inputs = inputs_of(alloc, sources, all, parts)?;
+    let offsets = offsets_of(alloc, all, names, commits)?;
+    let passes = PassTable::of(alloc, commits)?;
+    let tables = Tables {
+        names,
+        sources,
+        inputs: inputs.as_slice(),
+        offsets: offsets.as_slice(),
+        passes: &passes,
+    };
+    make_tally(alloc, rt, &tables, outputs, all, parts)
+}
 
 // The outputs of one application.
 fn check_application(
@@ -40,18 +73,17 @@ fn check_application(
     let topics = app.sources.as_slice();
     let sources = TopicSet::of(alloc, topics)?;
     let outputs = TopicSet::of(alloc, app.outputs.as_slice())?;
-    let inputs = inputs_of(alloc, &sources, all, parts)?;
     let commits = commits_of(alloc, app.group.as_bytes(), topics, parts)?;
-    let offsets = offsets_of(alloc, all, names, commits.as_slice())?;
-    let passes = PassTable::of(alloc, commits.as_slice())?;
-    let tables = Tables {
+    check_claims(
+        alloc,
+        rt,
+        &sources,
+        &outputs,
+        commits.as_slice(),
+        all,
         names,
-        sources: &sources,
-        inputs: inputs.as_slice(),
-        offsets: offsets.as_slice(),
-        passes: &passes,
-    };
-    make_tally(alloc, rt, &tables, &outputs, all, parts)
+        parts,
+    )
 }
 
 // The group that a fault of an application's outputs names.
@@ -73,6 +105,35 @@ fn sum(a: u64, b: u64) -> Result<u64, AllocError>
 }
 
 // The outputs of the applications, one after the other.
+fn check_each(
+    alloc: Global,
+    rt: &(impl Threads + Sync),
+    apps: &[App],
+    all: &[PartitionName],
+    names: &Names<'_>,
+    parts: &[Part],
+) -> Result<Result<(u64, u64), LineageFault>, AllocError>
+    requires unequal { are_unequal (groups_of apps.now) ≡ true }
+    requires all { all.now ≡ map part_name parts.now }
+    requires names { names.now ≡ all.now }
+    ensures { AreInOrder parts.now → NoneStands (StandsAtRecord apps.now parts.now) → IfOk result (IsAnswer apps.now parts.now) }
+{
+    let mut inputs = 0u64;
+    let mut outputs = 0u64;
+    for app in apps {
+        let tally = check_application(alloc, rt, app, all, names, parts)?;
+        let found = tally.fault;
+        if let Some(fault) = found {
+            let group = group_of(apps, app)?;
+            return Ok(Err(LineageFault::Output { group, fault }));
+        }
+        inputs = sum(inputs, tally.inputs)?;
+        outputs = sum(outputs, tally.outputs)?;
+    }
+    Ok(Ok((inputs, outputs)))
+}
+
+// The outputs of the applications over these partitions.
 fn check_outputs(
     alloc: Global,
     rt: &(impl Threads + Sync),
@@ -84,19 +145,7 @@ fn check_outputs(
 {
     let all = names_of(alloc, parts)?;
     let names = Names::of(alloc, all.as_slice())?;
-    let mut inputs = 0u64;
-    let mut outputs = 0u64;
-    for app in apps {
-        let tally = check_application(alloc, rt, app, all.as_slice(), &names, parts)?;
-        let found = tally.fault;
-        if let Some(fault) = found {
-            let group = group_of(apps, app)?;
-            return Ok(Err(LineageFault::Output { group, fault }));
-        }
-        inputs = sum(inputs, tally.inputs)?;
-        outputs = sum(outputs, tally.outputs)?;
-    }
-    Ok(Ok((inputs, outputs)))
+    check_each(alloc, rt, apps, all.as_slice(), &names, parts)
 }
 
 /// The number of inputs below their committed offsets, over all applications, and that of visible claims that are no

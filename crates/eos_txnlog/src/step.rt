@@ -1,6 +1,6 @@
 //! Which record of a transactional id may follow which.
 
-ghost use Rattle.std.specs.Prelude.{◌≡◌};
+ghost use Rattle.std.specs.Prelude.{◌≡◌, Some};
 ghost use Rattle.std.specs.Option.{option_copied};
 ghost use Rattle.std.specs.List.{list_any};
 ghost use Rattle.eos_txnlog.specs.Names.{step_fault_name};
@@ -9,11 +9,11 @@ ghost use Rattle.eos_txnlog.specs.Steps.{next_statuses, changes_producer, keeps_
 
 use crate::status::Status;
 use crate::value::TxnValue;
+use std::fmt::{Display, Formatter, Write};
 use thiserror::Error;
 
 /// Why a record of a transactional id may not follow the one before it. The text of a fault is its name.
 #[derive(Clone, Copy, Debug, PartialEq, Eq, Error)]
-#[error("{name}", name = self.name())]
 pub enum TxnFault {
     /// The status may not follow the one before.
     Order,
@@ -33,6 +33,14 @@ impl TxnFault {
             TxnFault::Producer => "Producer",
             TxnFault::Epoch => "Epoch",
         }
+    }
+}
+
+impl Display for TxnFault {
+    ghost output = { λ fault. Some (step_fault_name fault) };
+
+    fn fmt<W: Write>(&self, f: &mut Formatter<W>) -> std::fmt::Result {
+        f.write_str(self.name())
     }
 }
 

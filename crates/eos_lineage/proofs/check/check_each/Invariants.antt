@@ -1,7 +1,7 @@
 use Rattle.std.proofs.Common.{take}
 use Rattle.eos_commits.specs.Faults.{AreInOrder}
 use Rattle.eos_lineage.proofs.FirstFault.{PassedSoFar}
-use Rattle.eos_lineage.proofs.check.check_outputs.Given as goal
+use Rattle.eos_lineage.proofs.check.check_each.Given as goal
 
 abbrev pub invariant-loop-app : goal.invariant-loop-app
 invariant-loop-app g l = AreInOrder l.parts → PassedSoFar (take l.app-index l.apps) l.parts l.inputs l.outputs

@@ -8,7 +8,7 @@ use Rattle.eos_lineage.specs.Lineage.{application_of}
 use Rattle.eos_lineage.specs.Faults.{named_group, lineage_cmp, Stands}
 use Rattle.eos_lineage.specs.steps.Walks.{IsOutputsAnswer}
 use Rattle.eos_lineage.proofs.FirstFault.{PassedSoFar, passed_none, passed_more, all_passed, first_fault, take_all}
-use Rattle.eos_lineage.proofs.check.check_outputs.Goals as goal
+use Rattle.eos_lineage.proofs.check.check_each.Goals as goal
 
 pub loop-app-init : goal.loop-app-init
 loop-app-init g c = λ are. passed_none c.args.parts.now
@@ -34,7 +34,7 @@ returns-in-Some g c = λ are none.
     let tally = c.in_ok-tally.tally in
     let here = subst (λ (o : Option OutputFault). IsOutputsAnswer (application_of d parts) o tally.inputs tally.outputs) c.in-Some.is (c.in_ok-tally.ensures are) in
     let least = subst (λ (t : App). IsLeast outputs.fault_cmp (outputs.Stands (application_of t parts)) c.in-Some.fault) c.app-item.is here in
-    let first = first_fault apps parts i d c.loop-app.inputs c.loop-app.outputs c.in-Some.fault c.requires c.loop-app-test.true none (c.loop-app.invariant are) least in
+    let first = first_fault apps parts i d c.loop-app.inputs c.loop-app.outputs c.in-Some.fault c.requires.unequal c.loop-app-test.true none (c.loop-app.invariant are) least in
     let group = sym (c.in_ok-group.ensures ∙ ap (named_group apps) c.app-item.is) in
     subst (λ (h : Option (List ℕ)). IsLeast (lineage_cmp apps) (Stands apps parts) (Output h c.in-Some.fault)) group first
 
