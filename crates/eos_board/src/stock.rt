@@ -15,7 +15,6 @@ use eos_evidence::{Evidence, Segment};
 use eos_fold::Named;
 use std::alloc::{AllocError, Global};
 use std::marker::Model;
-use std::mem;
 
 /// What no worker holds: the pieces that are not drawn yet, the runs on the board, and the pieces given up.
 #[derive(Drop)]
@@ -85,7 +84,7 @@ impl Stock {
         if self.drawn as usize == self.segments.len() {
             return PoolReply::NoneLeft;
         }
-        worker.holds = Holding::Piece(self.drawn);
+        worker.hold(Holding::Piece(self.drawn));
         self.drawn += 1;
         PoolReply::Did
     }
@@ -103,7 +102,7 @@ impl Stock {
         let Ok(run) = Named::of(self.alloc, piece, segment) else {
             return PoolReply::OutOfMemory;
         };
-        worker.holds = Holding::Run(run);
+        worker.hold(Holding::Run(run));
         PoolReply::Did
     }
 
@@ -112,14 +111,14 @@ impl Stock {
         requires posts { worker.old.posts < 2 ^ 31 }
         ensures { Posts worker.old self.old result worker.new self.new }
     {
-        match mem::replace(&mut worker.holds, Holding::Nothing) {
+        match worker.release() {
             Holding::Run(run) => {
                 self.places.place(run);
                 worker.posts += 1;
                 PoolReply::Did
             }
             other => {
-                worker.holds = other;
+                worker.hold(other);
                 PoolReply::Idle
             }
         }
@@ -134,7 +133,7 @@ impl Stock {
         let Some((before, after)) = self.places.take_pair() else {
             return PoolReply::NoPair;
         };
-        worker.holds = Holding::Pair(before, after);
+        worker.hold(Holding::Pair(before, after));
         PoolReply::Did
     }
 
@@ -142,19 +141,19 @@ impl Stock {
         requires { IsReady self.old worker.old.holds }
         ensures { Merges worker.old self.old result worker.new self.new }
     {
-        match mem::replace(&mut worker.holds, Holding::Nothing) {
+        match worker.release() {
             Holding::Pair(before, after) => match Named::merge(self.alloc, before, after) {
                 Ok(run) => {
-                    worker.holds = Holding::Run(run);
+                    worker.hold(Holding::Run(run));
                     PoolReply::Did
                 }
                 Err((before, after)) => {
-                    worker.holds = Holding::Pair(before, after);
+                    worker.hold(Holding::Pair(before, after));
                     PoolReply::OutOfMemory
                 }
             },
             other => {
-                worker.holds = other;
+                worker.hold(other);
                 PoolReply::Idle
             }
         }
@@ -164,14 +163,14 @@ impl Stock {
         requires { IsReady self.old worker.old.holds }
         ensures { PutsBack worker.old self.old result worker.new self.new }
     {
-        match mem::replace(&mut worker.holds, Holding::Nothing) {
+        match worker.release() {
             Holding::Pair(before, after) => {
                 self.places.place(after);
                 self.places.place(before);
                 PoolReply::Did
             }
             other => {
-                worker.holds = other;
+                worker.hold(other);
                 PoolReply::Idle
             }
         }
@@ -182,7 +181,7 @@ impl Stock {
         requires room { HasRoom self.old worker.old.holds }
         ensures { GivesUp worker.old self.old result worker.new self.new }
     {
-        match mem::replace(&mut worker.holds, Holding::Nothing) {
+        match worker.release() {
             Holding::Nothing => return PoolReply::Idle,
             Holding::Piece(piece) => self.given_up.push_reserved(piece),
             Holding::Run(run) => list_pieces(&mut self.given_up, &run),

@@ -13,13 +13,13 @@ run_length a = length-range_with_len a.first (a.last + 1 - a.first)
 
 pub list_pieces-requires-clause-top : goal.list_pieces-requires-clause-top
 list_pieces-requires-clause-top c =
-    let held : c.args.worker.now.holds ≡ Run c.in-Run.run' = sym c.replace.ensures.value ∙ c.in-Run.is in
+    let held : c.args.worker.now.holds ≡ Run c.in-Run.run' = sym c.release.ensures.value ∙ c.in-Run.is in
     let ready : MayPlace c.args.self.now c.in-Run.run' = subst (λ (h : Holding). IsReady c.args.self.now h) held c.requires.ready in
     omega (arith, ready.known.1, ap (λ (v : StockView). length v.segments) c.self.view_is, c.self.invariant.2)
 
 pub list_pieces-requires-clause-room : goal.list_pieces-requires-clause-room
 list_pieces-requires-clause-room c =
-    let held : c.args.worker.now.holds ≡ Run c.in-Run.run' = sym c.replace.ensures.value ∙ c.in-Run.is in
+    let held : c.args.worker.now.holds ≡ Run c.in-Run.run' = sym c.release.ensures.value ∙ c.in-Run.is in
     let room : HasRoom c.args.self.now (Run c.in-Run.run') = subst (λ (h : Holding). HasRoom c.args.self.now h) held c.requires.room in omega (
       arith,
       room,
@@ -32,13 +32,13 @@ list_pieces-requires-clause-room c =
 
 pub list_pieces-requires-in-Pair-clause-top : goal.list_pieces-requires-in-Pair-clause-top
 list_pieces-requires-in-Pair-clause-top c =
-    let held : c.args.worker.now.holds ≡ Pair c.in-Pair.before c.in-Pair.after = sym c.replace.ensures.value ∙ c.in-Pair.is in
+    let held : c.args.worker.now.holds ≡ Pair c.in-Pair.before c.in-Pair.after = sym c.release.ensures.value ∙ c.in-Pair.is in
     let ready : MayPlaceBoth c.args.self.now c.in-Pair.before c.in-Pair.after = subst (λ (h : Holding). IsReady c.args.self.now h) held c.requires.ready in
     omega (arith, ready.left.known.1, ap (λ (v : StockView). length v.segments) c.self.view_is, c.self.invariant.2)
 
 pub list_pieces-requires-in-Pair-clause-room : goal.list_pieces-requires-in-Pair-clause-room
 list_pieces-requires-in-Pair-clause-room c =
-    let held : c.args.worker.now.holds ≡ Pair c.in-Pair.before c.in-Pair.after = sym c.replace.ensures.value ∙ c.in-Pair.is in
+    let held : c.args.worker.now.holds ≡ Pair c.in-Pair.before c.in-Pair.after = sym c.release.ensures.value ∙ c.in-Pair.is in
     let room : HasRoom c.args.self.now (Pair c.in-Pair.before c.in-Pair.after) = subst (λ (h : Holding). HasRoom c.args.self.now h) held c.requires.room in omega (
       arith,
       room,
@@ -53,13 +53,13 @@ list_pieces-requires-in-Pair-clause-room c =
 
 pub list_pieces-requires-in-Pair-2-clause-top : goal.list_pieces-requires-in-Pair-2-clause-top
 list_pieces-requires-in-Pair-2-clause-top c =
-    let held : c.args.worker.now.holds ≡ Pair c.in-Pair.before c.in-Pair.after = sym c.replace.ensures.value ∙ c.in-Pair.is in
+    let held : c.args.worker.now.holds ≡ Pair c.in-Pair.before c.in-Pair.after = sym c.release.ensures.value ∙ c.in-Pair.is in
     let ready : MayPlaceBoth c.args.self.now c.in-Pair.before c.in-Pair.after = subst (λ (h : Holding). IsReady c.args.self.now h) held c.requires.ready in
     omega (arith, ready.right.known.1, ap (λ (v : StockView). length v.segments) c.self.view_is, c.self.invariant.2)
 
 pub list_pieces-requires-in-Pair-2-clause-room : goal.list_pieces-requires-in-Pair-2-clause-room
 list_pieces-requires-in-Pair-2-clause-room c =
-    let held : c.args.worker.now.holds ≡ Pair c.in-Pair.before c.in-Pair.after = sym c.replace.ensures.value ∙ c.in-Pair.is in
+    let held : c.args.worker.now.holds ≡ Pair c.in-Pair.before c.in-Pair.after = sym c.release.ensures.value ∙ c.in-Pair.is in
     let room : HasRoom c.args.self.now (Pair c.in-Pair.before c.in-Pair.after) = subst (λ (h : Holding). HasRoom c.args.self.now h) held c.requires.room in omega (
       arith,
       room,
