@@ -1,44 +1,70 @@
 #!/usr/bin/env python3
-"""Refuses each allocation of a crate's tests in turn. A test then passes, or it says that memory ran out; any other
-answer, and any crash, is printed, and the exit status is 1.
+"""Refuses each allocation of a crate's tests, or of the rows of tables, in turn. A test then passes, and a row is answered
+as it says; or either says that memory ran out. Any other answer, and any crash, is printed, and the exit status is 1.
 
     python3 tests/refuse_each.py refuse.so crates/NAME/out/NAME_tests TEST ..
+    python3 tests/refuse_each.py refuse.so crates/eos_probe/out/eos_probe TABLE.txt ..
 
-refuse.so is tests/refuse.c, built.
+refuse.so is tests/refuse.c, built. Rows of more than ROOM bytes are left out.
 """
+import collections
 import os
 import subprocess
 import sys
 import tempfile
 
-# A test ends in 0 where it passes, in 101 where its result is an error, and by SIGABRT where an assertion fails.
-PASSES, RESULT, ASSERTION = 0, 101, -6
+import tables
+
+# A test ends in 0 where it passes, in 101 where its result is an error, and by SIGABRT where an assertion fails; a probe ends
+# in 1 where memory ran out outside a call.
+PASSES, RESULT, ASSERTION, ENDED = 0, 101, -6, 1
 REFUSED = ("OutOfMemory", "AllocError", "AllocFailed")
+ROOM = 2000
+
+# What is run: its name, the words and the input of the program, and what it has to print (None: a test, anything).
+Case = collections.namedtuple("Case", "name words input answer")
 
 
-def run(library, program, test, **settings):
+def cases_of(names):
+    cases = [Case(name, [name], "", None) for name in names if not name.endswith(".txt")]
+    for table in names[len(cases) :]:
+        rows, bad = tables.rows_of(table)
+        if bad:
+            sys.exit("\n".join(bad))
+        cases += [Case(row.place, [], f"{row.call}\n", row.answer) for row in rows if len(row.call) <= ROOM]
+    return cases
+
+
+def run(library, program, case, **settings):
+    """Whether the case passes, whether it says that memory ran out, and what it says."""
     words = dict(os.environ, LD_PRELOAD=library, **settings)
-    done = subprocess.run([program, test], env=words, capture_output=True, text=True, errors="replace", timeout=60)
-    return done.returncode, done.stdout + done.stderr
+    done = subprocess.run(
+        [program, *case.words], input=case.input, env=words, capture_output=True, text=True, errors="replace", timeout=60
+    )
+    text = done.stdout + done.stderr
+    passes = done.returncode == PASSES and case.answer in (None, text.strip())
+    ends = (RESULT, ASSERTION) if case.answer is None else (ENDED, PASSES)
+    told = not passes and done.returncode in ends and any(name in text for name in REFUSED)
+    return passes, told, f"status {done.returncode}, {text[:200]}"
 
 
 def main():
-    library, program, *tests = sys.argv[1:]
+    library, program, *names = sys.argv[1:]
     told = wrong = 0
-    for test in tests:
+    cases = cases_of(names)
+    for case in cases:
         with tempfile.NamedTemporaryFile(mode="r") as count:
-            status, text = run(library, program, test, REFUSE_COUNT=count.name)
+            passes, _, text = run(library, program, case, REFUSE_COUNT=count.name)
             total = int(count.read())
-        if status != PASSES or total == 0:
-            sys.exit(f"{test}: status {status} and {total} allocations with none refused: {text[:200]}")
+        if not passes or total == 0:
+            sys.exit(f"{case.name}: {total} allocations with none refused: {text}")
         for at in range(1, total + 1):
-            status, text = run(library, program, test, REFUSE_AT=str(at))
-            if status in (RESULT, ASSERTION) and any(name in text for name in REFUSED):
-                told += 1
-            elif status != PASSES:
+            passes, says, text = run(library, program, case, REFUSE_AT=str(at))
+            told += says
+            if not passes and not says:
                 wrong += 1
-                print(f"{test}, allocation {at}: status {status}, {text[:200]}")
-    if wrong or told < len(tests):
+                print(f"{case.name}, allocation {at}: {text}")
+    if wrong or told < len(cases) or not cases:
         sys.exit(f"{wrong} refused allocations are told as something else, {told} as want of memory")
 
 

@@ -8,9 +8,9 @@ A row is 'CALL ARGS => ANSWER'; empty lines and lines that begin with '#' say no
 of no row, a table without rows and a probe that ends early or in a status other than 0 are failures too.
 
 Bytes may be put together between '<' and '>', of hexadecimal digits, texts such as 'in', and names in capitals. Each may
-be cut, as in KEY[2:], and repeated, as in 'a'*300. They stand for their digits, or for '-' where there are none. A line
-'NAME = <..>' gives bytes a name. What stands in braces in ARGS is written out as bytes by tests/table_logs.py, with the
-pieces that lines 'let NAME = ..' name.
+be cut, as in KEY[2:], and repeated, as in 'a'*300; a '#' in a text is the number of the repetition. They stand for their
+digits, or for '-' where there are none. A line 'NAME = <..>' gives bytes a name. What stands in braces in ARGS is written
+out as bytes by tests/table_logs.py, with the pieces that lines 'let NAME = ..' name.
 """
 import collections
 import glob
@@ -35,15 +35,19 @@ NAMING = re.compile(r"([A-Z][A-Z_0-9]*) = (.*)")
 
 def bytes_of(parts, names):
     """The digits of what stands between '<' and '>'."""
-    found = ""
+    found = b""
     for part, first, last, times in re.findall(PART, parts):
         if part.startswith("'"):
-            digits = part[1:-1].encode().hex()
+            data = part[1:-1].encode()
         else:
-            digits = names[part] if part[0].isupper() else part
-        first, last = int(first or 0), int(last) if last else len(digits) // 2
-        found += bytes.fromhex(digits)[first:last].hex() * int(times or 1)
-    return found or "-"
+            data = bytes.fromhex(names[part] if part[0].isupper() else part)
+        data = data[int(first or 0) : int(last) if last else None]
+        if times and part.startswith("'"):
+            data = b"".join(data.replace(b"#", b"%d" % number) for number in range(int(times)))
+        elif times:
+            data *= int(times)
+        found += data
+    return found.hex() or "-"
 
 
 def written_out(text, names, pieces):

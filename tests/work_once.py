@@ -1,41 +1,55 @@
-#!/usr/bin/env python3
+#!/usr/bin/env -S python3 -B
 """The caller doesn't do a worker's work again: with k the least number for which the check by the caller alone answers though
-its k-th allocation would be refused, the check by one worker answers though its (k + 400)-th would be. The tests check that
-the worker made its run. Over a thousand segments a caller that summarised them again would take some thousands more.
+its k-th allocation would be refused, the check by one worker answers though its (k + 400)-th would be. The gate of that check
+says that the worker made its run. Over a thousand segments a caller that summarised them again would take some thousands more.
 
-    python3 tests/work_once.py refuse.so crates/eos_worker_tests/out/eos_worker_tests_tests
+    python3 tests/work_once.py refuse.so crates/eos_probe/out/eos_probe
 
 refuse.so is tests/refuse.c, built.
 """
 import os
+import re
+import struct
 import subprocess
 import sys
 import tempfile
 
-PAIRS = [
-    ("work_once::the_caller_alone", "work_once::one_worker"),
-    ("work_once::the_caller_alone_over_segments", "work_once::one_worker_over_segments"),
-]
+from streams import PLAIN
+
+YES = "yes transactions=0 inputs=0 outputs=0"
 
 
-def passes(library, program, test, **settings):
+def thousand(each):
+    """The partition of a thousand batches, so many in each segment, as a word of the probe."""
+    batches = [struct.pack(">q", offset) + PLAIN[8:] for offset in range(1000)]
+    segments = [f"{base}/{b''.join(batches[base:base + each]).hex()}" for base in range(0, 1000, each)]
+    return "x-0:1000:" + ",".join(segments)
+
+
+def answer(library, program, call, partition, **settings):
+    """What the probe answers, or None where it ends otherwise."""
     words = dict(os.environ, LD_PRELOAD=library, **settings)
-    return subprocess.run([program, test], env=words, capture_output=True, timeout=60).returncode == 0
+    done = subprocess.run([program], input=f"{call} | {partition}\n", env=words, capture_output=True, text=True, timeout=60)
+    return done.stdout if done.returncode == 0 else None
 
 
-def count(library, program, test):
-    with tempfile.NamedTemporaryFile(mode="r") as file:
-        if not passes(library, program, test, REFUSE_COUNT=file.name):
-            sys.exit(f"{test} fails")
-        return int(file.read())
+def has_made(said):
+    """Whether a check by workers says yes, and that the run of the first piece was made by one."""
+    return re.fullmatch(YES + r" passed=1+ made=[01]*1 late=0\n", said or "") is not None
 
 
 def main():
     library, program = sys.argv[1:]
-    for alone, worker in PAIRS:
-        most = count(library, program, alone)
-        if not passes(library, program, worker, REFUSE_AT=str(most + 1 + 400)):
-            sys.exit(f"{worker} meets allocation {most + 401}, {alone} makes {most}")
+    for each in (1000, 1):
+        partition = thousand(each)
+        with tempfile.NamedTemporaryFile(mode="r") as file:
+            said = answer(library, program, "check_one", partition, REFUSE_COUNT=file.name)
+            most = int(file.read())
+        if said != YES + "\n":
+            sys.exit(f"the caller alone says {said}")
+        said = answer(library, program, "check 1", partition, REFUSE_AT=str(most + 1 + 400))
+        if not has_made(said):
+            sys.exit(f"one worker meets allocation {most + 401}, the caller alone makes {most}: {said}")
 
 
 if __name__ == "__main__":

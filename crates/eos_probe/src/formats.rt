@@ -11,48 +11,52 @@ mod wire;
 
 use crate::words::{bytes_of, first_of};
 use bytes::Bytes;
-use eos_base::RecordFault;
 use std::alloc::{AllocError, Global};
+
+/// What a call answers, or None where it is another module's.
+type Answer = Option<Result<String, AllocError>>;
 
 /// What this call answers, or None where it is none of these.
 pub(crate) fn answer(alloc: Global, call: &str, rest: &str) -> Result<Option<String>, AllocError> {
-    let text = match call {
+    let answer = match call {
         "fault_names" => names::of_family(alloc, rest),
-        "pair_ok" => touches::pair(alloc, rest),
-        "read_claim" => claims::read(alloc, rest),
-        "least_of_runs" => claims::least(alloc, rest),
-        "spec_of_apps" => evidence::of_apps(alloc, rest),
-        "spec_of_ends" => evidence::of_ends(alloc, rest),
-        _ => return of_bytes(alloc, call, rest),
+        "pair_ok" => Some(touches::pair(alloc, rest)),
+        "read_claim" => Some(claims::read(alloc, rest)),
+        "least_of_runs" => Some(claims::least(alloc, rest)),
+        _ => with_bytes(alloc, call, rest),
     };
-    Ok(Some(text?))
+    match answer {
+        None => Ok(None),
+        Some(text) => Ok(Some(text?)),
+    }
 }
 
 /// What a call answers whose first word is bytes.
-fn of_bytes(alloc: Global, call: &str, rest: &str) -> Result<Option<String>, AllocError> {
+fn with_bytes(alloc: Global, call: &str, rest: &str) -> Answer {
     let (first, more) = first_of(rest);
-    let Some(bytes) = bytes_of(alloc, first)? else {
-        return Ok(None);
-    };
-    if let Some(text) = wire::answer(alloc, call, bytes.as_slice(), more)? {
-        return Ok(Some(text));
+    match bytes_of(alloc, first) {
+        Ok(None) => None,
+        Ok(Some(bytes)) => of_bytes(alloc, call, &bytes, more),
+        Err(error) => Some(Err(error)),
     }
-    if let Some(text) = txnlog::answer(alloc, call, &bytes, more)? {
-        return Ok(Some(text));
-    }
-    if let Some(text) = offsets::answer(alloc, call, &bytes, more)? {
-        return Ok(Some(text));
-    }
-    if let Some(text) = evidence::answer(alloc, call, bytes.as_slice(), more)? {
-        return Ok(Some(text));
-    }
-    batch::answer(alloc, call, &bytes, more)
 }
 
-/// The digits of what was written, or the name of the fault.
-fn digits_of(alloc: Global, written: Result<Bytes, RecordFault>) -> Result<String, AllocError> {
-    match written {
-        Ok(bytes) => hex::encode(alloc, bytes.as_slice()),
-        Err(fault) => format!(in alloc; "{fault:?}"),
+fn of_bytes(alloc: Global, call: &str, bytes: &Bytes, more: &str) -> Answer {
+    let answer = wire::answer(alloc, call, bytes.as_slice(), more);
+    if answer.is_some() {
+        return answer;
     }
+    let answer = txnlog::answer(alloc, call, bytes, more);
+    if answer.is_some() {
+        return answer;
+    }
+    let answer = offsets::answer(alloc, call, bytes, more);
+    if answer.is_some() {
+        return answer;
+    }
+    let answer = evidence::answer(alloc, call, bytes.as_slice(), more);
+    if answer.is_some() {
+        return answer;
+    }
+    batch::answer(alloc, call, bytes, more)
 }

@@ -1,23 +1,17 @@
 //! The rule of touches.
 
-use crate::words::first_of;
+use crate::words::{first_of, shown};
 use eos_batch::Kind;
 use eos_touch::{Touch, pair_ok};
 use std::alloc::{AllocError, Global};
 
-/// Whether the second touch may follow the first one, or follow nothing where the first word is `none`.
+/// Whether the second touch may follow the first one, or follow nothing where the first is no touch.
 pub(super) fn pair(alloc: Global, words: &str) -> Result<String, AllocError> {
     let (first, rest) = first_of(words);
     let (second, test) = first_of(rest);
-    let sequenced = test == "sequenced";
-    match (touch_of(first), touch_of(second)) {
-        (None, Some(next)) if first == "none" => {
-            format!(in alloc; "{:?}", pair_ok(None, next, sequenced))
-        }
-        (Some(prev), Some(next)) => {
-            format!(in alloc; "{:?}", pair_ok(Some(prev), next, sequenced))
-        }
-        _ => format!(in alloc; "no touches"),
+    match touch_of(second) {
+        None => shown(alloc, second),
+        Some(next) => shown(alloc, pair_ok(touch_of(first), next, test == "sequenced")),
     }
 }
 
@@ -25,21 +19,25 @@ pub(super) fn pair(alloc: Global, words: &str) -> Result<String, AllocError> {
 fn touch_of(word: &str) -> Option<Touch> {
     let (kind, rest) = word.split_once('/')?;
     let (epoch, sequence) = rest.split_once('/').unwrap_or((rest, "0"));
-    let epoch = epoch.parse::<i16>().ok()?;
-    let sequence = sequence.parse::<i32>().ok()?;
+    touch(
+        kind,
+        epoch.parse::<i16>().unwrap_or(-1),
+        sequence.parse::<i32>().unwrap_or(-1),
+    )
+}
+
+fn touch(kind: &str, epoch: i16, sequence: i32) -> Option<Touch> {
     match kind {
-        "commit" => Some(Touch::End {
-            epoch,
-            kind: Kind::Commit,
-        }),
-        "abort" => Some(Touch::End {
-            epoch,
-            kind: Kind::Abort,
-        }),
+        "commit" => Some(end(epoch, Kind::Commit)),
+        "abort" => Some(end(epoch, Kind::Abort)),
         "txn" => Some(data(epoch, true, sequence)),
         "plain" => Some(data(epoch, false, sequence)),
         _ => None,
     }
+}
+
+fn end(epoch: i16, kind: Kind) -> Touch {
+    Touch::End { epoch, kind }
 }
 
 fn data(epoch: i16, transactional: bool, sequence: i32) -> Touch {

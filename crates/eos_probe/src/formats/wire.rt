@@ -1,71 +1,48 @@
 //! Numbers, fields and checksums.
 
+use crate::formats::Answer;
+use crate::words::shown;
 use eos_wire::{
     Fields, crc32c, read_uvarint, read_varint, read_varlong, write_uvarint, write_varint,
     write_varlong,
 };
 use std::alloc::{AllocError, Global};
 
-pub(super) fn answer(
-    alloc: Global,
-    call: &str,
-    bytes: &[u8],
-    more: &str,
-) -> Result<Option<String>, AllocError> {
+pub(super) fn answer(alloc: Global, call: &str, bytes: &[u8], more: &str) -> Answer {
     let text = match call {
         "crc32c" => format!(in alloc; "{:08x}", crc32c(bytes)),
-        "read_varint" => format!(in alloc; "{:?}", read_varint(bytes)),
-        "read_varlong" => format!(in alloc; "{:?}", read_varlong(bytes)),
-        "read_uvarint" => format!(in alloc; "{:?}", read_uvarint(bytes)),
-        "fields" => fields(alloc, bytes, more),
-        _ => return written(alloc, call, bytes, more),
+        "read_varint" => shown(alloc, read_varint(bytes)),
+        "read_varlong" => shown(alloc, read_varlong(bytes)),
+        "read_uvarint" => shown(alloc, read_uvarint(bytes)),
+        "write_varint" | "write_varlong" | "write_uvarint" => written(alloc, call, bytes, more),
+        "fields" => fields(alloc, bytes),
+        _ => return None,
     };
-    Ok(Some(text?))
+    Some(text)
 }
 
 /// The bytes with a number written after them.
-fn written(
-    alloc: Global,
-    call: &str,
-    bytes: &[u8],
-    more: &str,
-) -> Result<Option<String>, AllocError> {
+fn written(alloc: Global, call: &str, bytes: &[u8], more: &str) -> Result<String, AllocError> {
     let mut out = Vec::from_slice(alloc, bytes)?;
-    match (
-        call,
-        more.parse::<i32>(),
-        more.parse::<i64>(),
-        more.parse::<u32>(),
-    ) {
-        ("write_varint", Ok(number), _, _) => write_varint(&mut out, number)?,
-        ("write_varlong", _, Ok(number), _) => write_varlong(&mut out, number)?,
-        ("write_uvarint", _, _, Ok(number)) => write_uvarint(&mut out, number)?,
-        _ => return Ok(None),
-    }
-    Ok(Some(hex::encode(alloc, out.as_slice())?))
+    write(&mut out, call, more)?;
+    hex::encode(alloc, out.as_slice())
 }
 
-/// What the fields of these types are, one after the other.
-fn fields(alloc: Global, bytes: &[u8], types: &str) -> Result<String, AllocError> {
+/// Writes a number, 0 where it is none of its type.
+fn write(out: &mut Vec<u8>, call: &str, number: &str) -> Result<(), AllocError> {
+    match call {
+        "write_varint" => write_varint(out, number.parse::<i32>().unwrap_or(0)),
+        "write_varlong" => write_varlong(out, number.parse::<i64>().unwrap_or(0)),
+        _ => write_uvarint(out, number.parse::<u32>().unwrap_or(0)),
+    }
+}
+
+/// Fields of all types, one after the other: an i8, an i16, an i32, an i64, a u32 and an unsigned varint; then an i32, the
+/// number of bytes that are left, three bytes, and an i8.
+fn fields(alloc: Global, bytes: &[u8]) -> Result<String, AllocError> {
     let mut fields = Fields::new(bytes);
-    let mut text = String::new(alloc);
-    for word in types.split(' ') {
-        text.push_str(field(alloc, &mut fields, word)?.as_str())?;
-        text.push(' ')?;
-    }
-    Ok(text)
-}
-
-fn field(alloc: Global, fields: &mut Fields<'_>, word: &str) -> Result<String, AllocError> {
-    match word {
-        "i8" => format!(in alloc; "{:?}", fields.i8()),
-        "i16" => format!(in alloc; "{:?}", fields.i16()),
-        "i32" => format!(in alloc; "{:?}", fields.i32()),
-        "i64" => format!(in alloc; "{:?}", fields.i64()),
-        "u32" => format!(in alloc; "{:?}", fields.u32()),
-        "uvarint" => format!(in alloc; "{:?}", fields.uvarint()),
-        "left" => format!(in alloc; "{}", fields.left()),
-        "bytes3" => format!(in alloc; "{:?}", fields.take(3)),
-        _ => format!(in alloc; "no such type"),
-    }
+    let numbers = (fields.i8(), fields.i16(), fields.i32(), fields.i64());
+    let more = (fields.u32(), fields.uvarint(), fields.i32(), fields.left());
+    let last = (fields.take(3), fields.i8());
+    shown(alloc, (numbers, more, last))
 }

@@ -1,4 +1,4 @@
-use Rattle.eos_cluster_tests.proofs.callers.ten_by_two.Given as goal
+use Rattle.eos_probe.proofs.cluster.callers.feeders.Given as goal
 
 abbrev pub ghosts-ten_each : goal.ghosts-ten_each
 ghosts-ten_each g a = record { name = a.blank.name; parts = a.blank.parts }
