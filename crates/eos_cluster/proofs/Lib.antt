@@ -1,11 +1,4 @@
-pub mod Rooms
-pub mod Ranges
-pub mod Backward
-pub mod Replies
-pub mod Reaching
-pub mod Texts
-pub mod Grouping
-pub mod Adding
+pub mod AllLogs
 pub mod Openings
-pub mod Settled
-pub mod Delivered
+pub mod Reaching
+pub mod Replies

@@ -28,9 +28,10 @@ use Rattle.eos_machine.proofs.Counting.{IsCounted, counted_run, counted_opening}
 use Rattle.eos_evidence.specs.Evidence.{EvidenceParts}
 use Rattle.eos_logs.specs.Evidences.{IsEvidenceOf}
 use Rattle.eos_logs.specs.Schedules.{IsOfSchedule}
-use Rattle.eos_cluster.specs.Courses.{Course, IsTaken, IsStep, IsCounted as IsCountedStep, IsProper, IsReached}
-use Rattle.eos_cluster.specs.Named.{Names, IsNamed, IsSmall, Needs}
-use Rattle.eos_cluster.specs.Held.{Held, becomes}
+use Rattle.eos_store.specs.Proper.{IsProper}
+use Rattle.eos_cluster.specs.Courses.{Course, IsTaken, IsStep, IsCounted as IsCountedStep, IsReached}
+use Rattle.eos_store.specs.Named.{Names, IsNamed, IsSmall, Needs}
+use Rattle.eos_store.specs.Held.{Held, becomes}
 
 -- ---- what holds
 

@@ -15,7 +15,7 @@ use Rattle.eos_machine.specs.Answers.{Answer, when}
 use Rattle.eos_machine.specs.Sessions.{resume_ended, produce, commit_offset, end_session, resume, fetch}
 use Rattle.eos_machine.specs.Deliveries.{deliver, deliver_end}
 use Rattle.eos_machine.specs.Machine.{start_session, happens}
-use Rattle.eos_cluster.specs.Courses.{IsProper}
+use Rattle.eos_store.specs.Proper.{IsProper}
 
 abbrev IsProperAnswer : Answer → Type 0
 IsProperAnswer x = IsProper x.1

@@ -1,5 +1,5 @@
 -- A cluster after some events.
-use Rattle.std.specs.Prelude.{◌≡◌, ◌+◌, ◌^◌, Bool, List, ⊤}
+use Rattle.std.specs.Prelude.{◌≡◌, ◌+◌, ◌^◌, Bool, List}
 use Rattle.eos_machine.specs.declared.config.Config.{Config}
 use Rattle.eos_machine.specs.World.{World, opening}
 use Rattle.eos_machine.specs.declared.event.Event.{Event}
@@ -30,20 +30,6 @@ IsStep s e StaleGeneration t = IsTaken s e StaleGeneration t
 IsStep s e EpochsSpent t = IsTaken s e EpochsSpent t
 IsStep s e Unknown t = IsTaken s e Unknown t
 IsStep s e Full t = IsTaken s e Full t
-
--- a reply that an event has when it happens
-abbrev pub IsProper : Reply → Type 0
-IsProper (Done n) = ⊤
-IsProper Fenced = ⊤
-IsProper OutOfOrder = ⊤
-IsProper DuplicateKept = ⊤
-IsProper WrongState = ⊤
-IsProper Busy = ⊤
-IsProper StaleGeneration = ⊤
-IsProper EpochsSpent = ⊤
-IsProper Unknown = ⊤
-IsProper OutOfMemory = ⊥
-IsProper Full = ⊥
 
 -- whatever rules are broken: want of memory and Full leave everything as it was, and any other event is counted
 abbrev pub IsCounted : Course → Reply → Course → Type 0

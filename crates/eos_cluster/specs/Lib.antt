@@ -1,12 +1,3 @@
-pub mod Held
 pub mod Courses
-pub mod Taken
-pub mod Restarting
-pub mod Named
-pub mod Listing
-pub mod Fetching
 pub mod Names
-pub mod Grouping
 pub mod Switching
-pub mod Requests
-pub mod BatchParts

@@ -13,11 +13,13 @@ ghost use Rattle.eos_logs.specs.Schedules.{IsOfSchedule};
 ghost use Rattle.eos_cluster.specs.Courses.{IsStep, IsCounted};
 ghost use Rattle.eos_cluster.specs.Switching.{any_on};
 
-use crate::evidence::EvidenceRefusal;
-use crate::store::Store;
+use crate::evidence::{EvidenceRefusal, evidence_of};
+use crate::happen::happen;
+use crate::switched::happen_switched;
 use crate::switches::Switches;
 use eos_evidence::Evidence;
 use eos_machine::{Config, Event, Reply};
+use eos_store::Store;
 use std::alloc::Global;
 use std::marker::Model;
 use thiserror::Error;
@@ -119,7 +121,7 @@ impl Cluster {
         ensures honest { self.new.honest ≡ self.old.honest }
     {
         let events = self.store.events();
-        match self.store.happen(event) {
+        match happen(&mut self.store, event) {
             Ok(reply) => {
                 self.store.set_events(events + 1);
                 reply
@@ -137,7 +139,7 @@ impl Cluster {
         ensures honest { self.new.honest ≡ self.old.honest }
     {
         let events = self.store.events();
-        match self.store.happen_switched(self.switches, event) {
+        match happen_switched(&mut self.store, self.switches, event) {
             Ok(reply) => {
                 self.store.set_events(events + 1);
                 reply
@@ -225,7 +227,7 @@ impl Cluster {
         if !self.store.at_rest() {
             return Err(EvidenceRefusal::NotAtRest);
         }
-        match self.store.evidence() {
+        match evidence_of(&self.store) {
             Ok(evidence) => Ok(evidence),
             Err(_) => Err(EvidenceRefusal::OutOfMemory),
         }

@@ -3,62 +3,62 @@
 ghost use Rattle.std.specs.Prelude.{◌≡◌, OnErr, IfOk};
 ghost use Rattle.eos_machine.specs.Machine.{happens};
 ghost use Rattle.eos_machine.specs.declared.event.Event.TheVariants.{BrokerRestart};
-ghost use Rattle.eos_cluster.specs.Named.{Needs};
+ghost use Rattle.eos_store.specs.Named.{Needs};
 
-use crate::places::{is_partition, start_of};
-use crate::store::Store;
 use bytes::Bytes;
+use eos_deliveries::{deliver, restart};
 use eos_machine::{Event, Reply};
+use eos_sessions::{commit, end, feed, fetch, produce, resume, start};
+use eos_store::Store;
+use eos_store::places::{is_partition, start_of};
 use std::alloc::AllocError;
 
-impl Store {
-    /// The broker of a partition restarts: it makes what it holds anew from its log.
-    #[tactic(auto, unfolding(eos_machine::specs::Answers::when))]
-    fn restart_broker(&mut self, topic: &Bytes, partition: usize) -> Reply
-        ensures answer { (self.new.world, result) ≡ happens self.old.config self.old.world (BrokerRestart topic.now partition) }
-        ensures config { self.new.config ≡ self.old.config }
-    {
-        let config = self.config();
-        if !is_partition(config, topic, partition) {
-            return Reply::Unknown;
-        }
-        self.restart_log(start_of(config, topic).saturating_add(partition));
-        Reply::Done(0)
+/// The broker of a partition restarts: it makes what it holds anew from its log.
+#[tactic(auto, unfolding(eos_machine::specs::Answers::when))]
+fn restart_broker(store: &mut Store, topic: &Bytes, partition: usize) -> Reply
+    ensures answer { (store.new.world, result) ≡ happens store.old.config store.old.world (BrokerRestart topic.now partition) }
+    ensures config { store.new.config ≡ store.old.config }
+{
+    let config = store.config();
+    if !is_partition(config, topic, partition) {
+        return Reply::Unknown;
     }
+    store.restart_log(start_of(config, topic).saturating_add(partition));
+    Reply::Done(0)
+}
 
-    /// An event happens. It isn't counted here.
-    pub(crate) fn happen(&mut self, event: Event) -> Result<Reply, AllocError>
-        requires { Needs self.old.config self.old.world event }
-        ensures ok { IfOk result (λ r. (self.new.world, r) ≡ happens self.old.config self.old.world event) }
-        ensures err { OnErr result (self.new.world ≡ self.old.world) }
-        ensures config { self.new.config ≡ self.old.config }
-    {
-        match event {
-            Event::Feed { source } => self.feed(source),
-            Event::Start { application } => self.start(application),
-            Event::Produce {
-                session,
-                partition,
-                claim,
-            } => self.produce(session, partition, claim),
-            Event::Commit {
-                session,
-                source,
-                offset,
-            } => self.commit(session, source, offset),
-            Event::End { session, kind } => self.end(session, kind),
-            Event::Resume { session } => self.resume(session),
-            Event::Fetch { session, source } => self.fetch(session, source),
-            Event::Members => {
-                self.set_generation(self.generation() + 1);
-                Ok(Reply::Done(0))
-            }
-            Event::BrokerRestart { topic, partition } => Ok(self.restart_broker(&topic, partition)),
-            Event::CoordinatorRestart => {
-                self.restart()?;
-                Ok(Reply::Done(0))
-            }
-            Event::Deliver { message } => self.deliver(message),
+/// An event happens. It isn't counted here.
+pub(crate) fn happen(store: &mut Store, event: Event) -> Result<Reply, AllocError>
+    requires { Needs store.old.config store.old.world event }
+    ensures ok { IfOk result (λ r. (store.new.world, r) ≡ happens store.old.config store.old.world event) }
+    ensures err { OnErr result (store.new.world ≡ store.old.world) }
+    ensures config { store.new.config ≡ store.old.config }
+{
+    match event {
+        Event::Feed { source } => feed(store, source),
+        Event::Start { application } => start(store, application),
+        Event::Produce {
+            session,
+            partition,
+            claim,
+        } => produce(store, session, partition, claim),
+        Event::Commit {
+            session,
+            source,
+            offset,
+        } => commit(store, session, source, offset),
+        Event::End { session, kind } => end(store, session, kind),
+        Event::Resume { session } => resume(store, session),
+        Event::Fetch { session, source } => fetch(store, session, source),
+        Event::Members => {
+            store.set_generation(store.generation() + 1);
+            Ok(Reply::Done(0))
         }
+        Event::BrokerRestart { topic, partition } => Ok(restart_broker(store, &topic, partition)),
+        Event::CoordinatorRestart => {
+            restart(store)?;
+            Ok(Reply::Done(0))
+        }
+        Event::Deliver { message } => deliver(store, message),
     }
 }

@@ -1,23 +1,11 @@
-//! What drives a simulated cluster: scripts of words from a seed, and the applications of a group that read, process and
-//! write in transactions, whose requests are lost and repeated, whose sessions are abandoned and whose brokers and
-//! coordinators restart, as the words say.
+//! What drives a simulated cluster: a script alone, or many scripts at once by threads that share it.
 //!
-//! Proved: the words of a script are those of its seed; each call returns, and drives the cluster by events alone, so
-//! that whatever holds of every cluster holds of it afterwards. What the applications make of their inputs is tested.
+//! Proved: each call returns, and drives the cluster by events alone, so that whatever holds of every cluster holds of it
+//! afterwards, and the history of a shared cluster is its replay.
 #![tactic(auto)]
 
-mod ask;
-mod instance;
-mod network;
-mod plan;
-mod run;
-mod script;
-mod settle;
-mod tail;
 mod threads;
 
 pub use eos_history::{Call, Called, Entries, Entry, Finished, Pass, Shared};
-pub use run::run_script;
-pub use script::Script;
-pub use tail::run_tail;
+pub use eos_scripts::{Script, run_script, run_tail};
 pub use threads::run_threads;

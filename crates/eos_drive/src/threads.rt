@@ -3,11 +3,11 @@
 ghost use Rattle.std.specs.Prelude.{◌≡◌, true, vec_len, IfOk};
 ghost use Rattle.eos_history.specs.Replay.{IsReplay};
 
-use crate::script::Script;
 use bytes::Bytes;
 use eos_batch::Kind;
 use eos_history::{Finished, Pass, Shared};
 use eos_machine::{Claim, Event};
+use eos_scripts::Script;
 use std::alloc::{AllocError, Global};
 use std::sync::Wait;
 use std::sync::ledger::Ledger;

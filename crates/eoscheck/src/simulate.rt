@@ -12,9 +12,9 @@ ghost use Rattle.eos_segment.specs.Running.{IsOfReading};
 ghost use Rattle.eoscheck.specs.declared.simulate.SimulationFault.TheVariants.{OutOfMemory};
 
 use eos_cluster::{Cluster, EvidenceRefusal, NewFault, Switch, Switches};
-use eos_drive::{Script, run_script, run_tail};
 use eos_evidence::{Evidence, MAX_SEGMENTS};
 use eos_machine::Config;
+use eos_scripts::{Script, run_script, run_tail};
 use eos_segment::RunFault;
 use eos_text::{finish, push_text, push_value};
 use std::alloc::{AllocError, AllocFailed, Global};

@@ -19,8 +19,8 @@ overflow_add-events c =
 pub invariant_of-self : goal.invariant_of-self
 invariant_of-self c =
     let few = subst (λ (s : Course). s.world.events < 2 ^ 31) (sym c.self.view_is) c.requires.few in
-    let t = taken_one c.self.inside.store c.happen.new.self c.set_events.new.self c.args.event c.in-Ok.reply c.events-events.result c.events-events.ensures few c.in-Ok.ensures.ok c.in-Ok.ensures.config c.set_events.ensures in
-    let n = counted_one c.self.inside.store c.happen.new.self c.set_events.new.self c.events-events.result c.events-events.ensures c.set_events.ensures in (
+    let t = taken_one c.self.inside.store c.happen.new.store c.set_events.new.self c.args.event c.in-Ok.reply c.events-events.result c.events-events.ensures few c.in-Ok.ensures.ok c.in-Ok.ensures.config c.set_events.ensures in
+    let n = counted_one c.self.inside.store c.happen.new.store c.set_events.new.self c.events-events.result c.events-events.ensures c.set_events.ensures in (
       subst IsConfig (sym t.0) c.self.invariant.0,
       omega (arith, n, few),
       λ h. subst (λ x. IsReached x c.set_events.new.self.world) (sym t.0) (reached_more c.self.inside.store.config c.self.inside.store.world c.set_events.new.self.world c.args.event c.in-Ok.reply (c.self.invariant.2 h) t.1),
@@ -29,10 +29,10 @@ invariant_of-self c =
 pub returns-in-Ok-clause-taken : goal.returns-in-Ok-clause-taken
 returns-in-Ok-clause-taken c =
     let few = subst (λ (s : Course). s.world.events < 2 ^ 31) (sym c.self.view_is) c.requires.few in
-    step_taken _ _ _ _ (proper_of c.self.inside.store.config c.self.inside.store.world c.happen.new.self.world c.args.event c.in-Ok.reply c.in-Ok.ensures.ok)
-    (rw (← c.self.view_is) (taken_one c.self.inside.store c.happen.new.self c.set_events.new.self c.args.event c.in-Ok.reply c.events-events.result c.events-events.ensures few c.in-Ok.ensures.ok c.in-Ok.ensures.config c.set_events.ensures))
+    step_taken _ _ _ _ (proper_of c.self.inside.store.config c.self.inside.store.world c.happen.new.store.world c.args.event c.in-Ok.reply c.in-Ok.ensures.ok)
+    (rw (← c.self.view_is) (taken_one c.self.inside.store c.happen.new.store c.set_events.new.self c.args.event c.in-Ok.reply c.events-events.result c.events-events.ensures few c.in-Ok.ensures.ok c.in-Ok.ensures.config c.set_events.ensures))
 
 pub returns-in-Ok-clause-counted : goal.returns-in-Ok-clause-counted
 returns-in-Ok-clause-counted c =
-    is_counted _ _ _ (proper_of c.self.inside.store.config c.self.inside.store.world c.happen.new.self.world c.args.event c.in-Ok.reply c.in-Ok.ensures.ok)
-    (rw (← c.self.view_is) (counted_one c.self.inside.store c.happen.new.self c.set_events.new.self c.events-events.result c.events-events.ensures c.set_events.ensures))
+    is_counted _ _ _ (proper_of c.self.inside.store.config c.self.inside.store.world c.happen.new.store.world c.args.event c.in-Ok.reply c.in-Ok.ensures.ok)
+    (rw (← c.self.view_is) (counted_one c.self.inside.store c.happen.new.store c.set_events.new.self c.events-events.result c.events-events.ensures c.set_events.ensures))

@@ -1,6 +1,0 @@
-use Rattle.eos_logs.specs.Evidences.{end_of}
-use Rattle.eos_cluster.proofs.Ranges.{map_more}
-use Rattle.eos_cluster.proofs.store.Store.ends.Goals as goal
-
-pub loop-place-preserved : goal.loop-place-preserved
-loop-place-preserved c = map_more (end_of c.args.self.now.config c.args.self.now.world) c.loop-place.place c.loop-place.ends.items _ c.in_ok-end_of.field-0 c.loop-place.invariant c.in_ok-push.ensures.items c.in_ok-end_of.ensures

@@ -1,0 +1,2 @@
+pub mod BatchParts
+pub mod Grouping

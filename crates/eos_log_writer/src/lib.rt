@@ -1,0 +1,11 @@
+//! The logs of a simulated cluster, written down: the bytes of each batch, cut into segments and added to evidence.
+#![tactic(auto)]
+
+mod batches;
+mod places;
+mod segments;
+mod values;
+mod writer;
+
+pub use places::place_count;
+pub use segments::{add_log, application, end_of};

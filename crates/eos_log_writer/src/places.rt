@@ -1,0 +1,55 @@
+//! The partitions' names by their places in a cluster's list of logs.
+
+ghost use Rattle.std.specs.Prelude.{◌≡◌};
+ghost use Rattle.eos_machine.specs.Places.{IsConfig, output_place, topic_of, number_of, place_count};
+
+use bytes::Bytes;
+use eos_machine::Config;
+
+/// The topic of the partition at a place.
+pub fn topic_of(config: Config, place: usize) -> Bytes
+    requires { IsConfig config }
+    ensures { result ≡ topic_of config place }
+{
+    if place == 0 {
+        Bytes::from_static(b"__consumer_offsets".as_slice())
+    } else if place <= config.transaction_logs {
+        Bytes::from_static(b"__transaction_state".as_slice())
+    } else if place < output_start(config) {
+        Bytes::from_static(b"in".as_slice())
+    } else {
+        Bytes::from_static(b"out".as_slice())
+    }
+}
+
+/// The place of the first partition of `out`.
+fn output_start(config: Config) -> usize
+    requires { IsConfig config }
+    ensures { result ≡ output_place config 0 }
+{
+    1 + config.transaction_logs + config.inputs
+}
+
+/// The number of the partition at a place in its topic.
+pub fn number_of(config: Config, place: usize) -> usize
+    requires { IsConfig config }
+    ensures { result ≡ number_of config place }
+{
+    if place == 0 {
+        0
+    } else if place <= config.transaction_logs {
+        place - 1
+    } else if place < output_start(config) {
+        place - 1 - config.transaction_logs
+    } else {
+        place - output_start(config)
+    }
+}
+
+/// How many partitions there are.
+pub fn place_count(config: Config) -> usize
+    requires { IsConfig config }
+    ensures { result ≡ place_count config }
+{
+    output_start(config) + config.outputs
+}

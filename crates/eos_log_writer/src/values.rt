@@ -1,0 +1,281 @@
+//! The keys, values and headers of a cluster's records.
+
+ghost use Rattle.std.specs.Prelude.{◌≡◌, ◌++◌, ◌∷◌, [], ◌+◌, List, length, ◌≤◌, Ok, IfOk, OnOk, pos};
+ghost use Rattle.eos_wire.specs.Numbers.{i32_text, i64_text, i16_text};
+ghost use Rattle.eos_txnlog.specs.Reading.{read_value};
+ghost use Rattle.eos_txnlog.specs.Writing as txnlog;
+ghost use Rattle.eos_offsets.specs.Writing as offsets;
+ghost use Rattle.eos_machine.specs.Places.{IsConfig, input_topic};
+ghost use Rattle.eos_machine.specs.Rest.{status_of, by_topic, value_of, with_number};
+ghost use Rattle.eos_txnlog.specs.declared.partitions.TopicPartitions.{TopicPartitions};
+ghost use Rattle.eos_log_writer.specs.Grouping.{starts_with};
+ghost use Rattle.eos_logs.specs.Batches.{group, transactional_id, bytes_of, header, claim_headers, control_type};
+
+use crate::places::{number_of, topic_of};
+use crate::writer::{as_i16, as_i32, as_i64, producer_id};
+use bytes::Bytes;
+use eos_base::Listed;
+use eos_batch::{Header, Kind};
+use eos_machine::{Claim, Config, Entry, Status};
+use eos_offsets::{Commit, OffsetKey};
+use eos_txnlog::{Partitions, TopicPartitions, TxnValue};
+use eos_wire::{write_i16, write_i32, write_i64};
+use std::alloc::{AllocError, Global};
+
+/// The timeout of every transaction, in milliseconds.
+const TIMEOUT: i32 = 60000;
+
+/// The version of a transaction's value.
+const TXN_VALUE_VERSION: i16 = 1;
+
+/// The version of a commit's value.
+const COMMIT_VALUE_VERSION: i16 = 3;
+
+/// The group of all applications.
+pub(crate) fn group() -> Bytes
+    ensures { result ≡ group }
+{
+    Bytes::from_static(b"g".as_slice())
+}
+
+/// The topic that applications read.
+pub(crate) fn input_topic() -> Bytes
+    ensures { result ≡ input_topic }
+{
+    Bytes::from_static(b"in".as_slice())
+}
+
+pub(crate) fn i32_bytes(alloc: Global, number: i32) -> Result<Bytes, AllocError>
+    ensures { IfOk result (λ b. b ≡ i32_text number) }
+{
+    let mut out = Vec::new(alloc);
+    write_i32(&mut out, number)?;
+    Ok(Bytes::from_vec(out)?)
+}
+
+pub(crate) fn i64_bytes(alloc: Global, number: i64) -> Result<Bytes, AllocError>
+    ensures { IfOk result (λ b. b ≡ i64_text number) }
+{
+    let mut out = Vec::new(alloc);
+    write_i64(&mut out, number)?;
+    Ok(Bytes::from_vec(out)?)
+}
+
+/// The transactional id of an application.
+fn transactional_id(alloc: Global, application: usize) -> Result<Bytes, AllocError>
+    ensures { IfOk result (λ b. b ≡ transactional_id application) }
+{
+    if application > 9 {
+        return Err(AllocError);
+    }
+    let mut id = Vec::from_slice(alloc, b"app-".as_slice())?;
+    id.push(48 + application as u8)?;
+    Ok(Bytes::from_vec(id)?)
+}
+
+/// The key of an application's transaction records.
+pub(crate) fn transaction_key(alloc: Global, application: usize) -> Result<Bytes, AllocError>
+    ensures { IfOk result (λ b. b ≡ bytes_of (txnlog.write_key (transactional_id application))) }
+{
+    let id = transactional_id(alloc, application)?;
+    match eos_txnlog::encode_key(alloc, &id) {
+        Ok(key) => Ok(key),
+        Err(_) => Err(AllocError),
+    }
+}
+
+/// The status under which a state is written.
+fn txn_status(status: Status) -> eos_txnlog::Status
+    ensures { result ≡ status_of status }
+{
+    match status {
+        Status::Empty => eos_txnlog::Status::Empty,
+        Status::Ongoing => eos_txnlog::Status::Ongoing,
+        Status::Prepare(Kind::Commit) => eos_txnlog::Status::PrepareCommit,
+        Status::Prepare(Kind::Abort) => eos_txnlog::Status::PrepareAbort,
+        Status::Complete(Kind::Commit) => eos_txnlog::Status::CompleteCommit,
+        Status::Complete(Kind::Abort) => eos_txnlog::Status::CompleteAbort,
+    }
+}
+
+/// A topic with one partition.
+fn one_number(alloc: Global, topic: Bytes, number: i32) -> Result<TopicPartitions, AllocError>
+    ensures { IfOk result (λ t. t ≡ record { topic = topic; numbers = number ∷ [] }) }
+{
+    let mut numbers = Vec::new(alloc);
+    numbers.push(number)?;
+    Ok(TopicPartitions {
+        topic,
+        numbers: Listed::new(numbers),
+    })
+}
+
+/// Whether the first topic of a list is this one.
+fn starts_with(groups: &[TopicPartitions], topic: &Bytes) -> bool
+    ensures { result ≡ starts_with topic.now groups.now }
+{
+    match groups {
+        [] => false,
+        [first, ..] => *topic == first.topic,
+    }
+}
+
+/// Puts a number in front of those of the first topic.
+fn join_first(groups: &mut Vec<TopicPartitions>, number: i32) -> Result<(), AllocError>
+    requires { 1 ≤ length groups.old.items }
+    ensures { OnOk result ((g : TopicPartitions) (gs : List TopicPartitions) → groups.old.items ≡ g ∷ gs → groups.new.items ≡ record { topic = g.topic; numbers = number ∷ g.numbers } ∷ gs) }
+{
+    let first = &mut groups[0];
+    first.numbers.insert(0, number)?;
+    Ok(())
+}
+
+/// Puts a partition in front of a list by topic.
+#[tactic(auto, using(crate::proofs::Grouping::joined, crate::proofs::Grouping::separate))]
+fn put_in_front(
+    alloc: Global,
+    groups: &mut Vec<TopicPartitions>,
+    topic: Bytes,
+    number: usize,
+) -> Result<(), AllocError>
+    ensures { OnOk result (groups.new.items ≡ with_number topic number groups.old.items) }
+{
+    let signed = as_i32(number)?;
+    if starts_with(groups.as_slice(), &topic) {
+        return join_first(groups, signed);
+    }
+    let one = one_number(alloc, topic, signed)?;
+    groups.insert(0, one)?;
+    Ok(())
+}
+
+/// The partitions at these places, by topic.
+fn by_topic(alloc: Global, config: Config, places: &[usize]) -> Result<Partitions, AllocError>
+    requires { IsConfig config }
+    ensures { IfOk result (λ p. p ≡ by_topic config places.now) }
+{
+    let mut groups = Vec::new(alloc);
+    for i in (0..places.len()).rev() {
+        let place = places[i];
+        put_in_front(
+            alloc,
+            &mut groups,
+            topic_of(config, place),
+            number_of(config, place),
+        )?;
+    }
+    Ok(Listed::new(groups))
+}
+
+/// The value of a transaction record.
+pub(crate) fn transaction_value(
+    alloc: Global,
+    config: Config,
+    application: usize,
+    entry: &Entry,
+    event: u64,
+) -> Result<Bytes, AllocError>
+    requires { IsConfig config }
+    ensures value { IfOk result (λ b. b ≡ bytes_of (txnlog.write_value (pos 1) (value_of config application entry.now event))) }
+    ensures reads { OnOk result (read_value (bytes_of (txnlog.write_value (pos 1) (value_of config application entry.now event))) ≡ Ok (value_of config application entry.now event)) }
+{
+    let value = TxnValue {
+        producer: producer_id(application)?,
+        epoch: as_i16(entry.epoch)?,
+        timeout: TIMEOUT,
+        status: txn_status(entry.status),
+        partitions: by_topic(alloc, config, entry.partitions.as_slice())?,
+        last_update: as_i64(event)?,
+        start: as_i64(event)?,
+    };
+    match eos_txnlog::encode_value(alloc, &value, TXN_VALUE_VERSION) {
+        Ok(bytes) => Ok(bytes),
+        Err(_) => Err(AllocError),
+    }
+}
+
+/// The key of a commit of the group's offset in a partition of `in`.
+pub(crate) fn commit_key(alloc: Global, source: usize) -> Result<Bytes, AllocError>
+    ensures { IfOk result (λ b. b ≡ bytes_of (offsets.write_key (record { group = group; topic = input_topic; partition = pos source }))) }
+{
+    let key = OffsetKey {
+        group: group(),
+        topic: input_topic(),
+        partition: as_i32(source)?,
+    };
+    match eos_offsets::encode_key(alloc, &key) {
+        Ok(bytes) => Ok(bytes),
+        Err(_) => Err(AllocError),
+    }
+}
+
+/// The value of a commit.
+pub(crate) fn commit_value(alloc: Global, source: usize, offset: u64) -> Result<Bytes, AllocError>
+    ensures { IfOk result (λ b. b ≡ bytes_of (offsets.write_value (record { group = group; topic = input_topic; partition = pos source; offset = pos offset }) (pos 3))) }
+{
+    let commit = Commit {
+        group: group(),
+        topic: input_topic(),
+        partition: as_i32(source)?,
+        offset: as_i64(offset)?,
+    };
+    match eos_offsets::encode_value(alloc, &commit, COMMIT_VALUE_VERSION) {
+        Ok(bytes) => Ok(bytes),
+        Err(_) => Err(AllocError),
+    }
+}
+
+fn header(key: &'static [u8], value: Bytes) -> Header
+    ensures { result ≡ header key.now value }
+{
+    Header {
+        key: Bytes::from_static(key),
+        value: Some(value),
+    }
+}
+
+/// The five lineage headers.
+pub(crate) fn claim_headers(alloc: Global, claim: &Claim) -> Result<Vec<Header>, AllocError>
+    ensures { IfOk result (λ h. h.items ≡ claim_headers claim.now) }
+{
+    let mut headers = Vec::new(alloc);
+    headers.push(header(b"eo.topic".as_slice(), claim.topic.clone()?))?;
+    headers.push(header(
+        b"eo.partition".as_slice(),
+        i32_bytes(alloc, claim.partition)?,
+    ))?;
+    headers.push(header(b"eo.offset".as_slice(), i64_bytes(alloc, claim.offset)?))?;
+    headers.push(header(b"eo.output".as_slice(), i32_bytes(alloc, claim.output)?))?;
+    headers.push(header(b"eo.of".as_slice(), i32_bytes(alloc, claim.of)?))?;
+    Ok(headers)
+}
+
+/// The number of a kind of control record.
+fn control_type(kind: Kind) -> i16
+    ensures { result ≡ control_type kind }
+{
+    match kind {
+        Kind::Abort => 0,
+        Kind::Commit => 1,
+    }
+}
+
+/// The key of an end marker.
+pub(crate) fn marker_key(alloc: Global, kind: Kind) -> Result<Bytes, AllocError>
+    ensures { IfOk result (λ b. b ≡ i16_text (pos 0) ++ i16_text (control_type kind)) }
+{
+    let mut out = Vec::new(alloc);
+    write_i16(&mut out, 0)?;
+    write_i16(&mut out, control_type(kind))?;
+    Ok(Bytes::from_vec(out)?)
+}
+
+/// The value of an end marker.
+pub(crate) fn marker_value(alloc: Global) -> Result<Bytes, AllocError>
+    ensures { IfOk result (λ b. b ≡ i16_text (pos 0) ++ i32_text (pos 0)) }
+{
+    let mut out = Vec::new(alloc);
+    write_i16(&mut out, 0)?;
+    write_i32(&mut out, 0)?;
+    Ok(Bytes::from_vec(out)?)
+}

@@ -1,0 +1,93 @@
+//! The places of partitions in a cluster's list of logs.
+
+ghost use Rattle.std.specs.Prelude.{◌≡◌, ◌==◌, ◌&&◌, ◌||◌, ◌<◌, nat_lt};
+ghost use Rattle.eos_machine.specs.Places.{IsConfig, txn_place, input_place, output_place, is_partition, is_topic, offsets_topic, transactions_topic, input_topic, output_topic};
+
+use bytes::Bytes;
+use eos_machine::Config;
+
+/// The place of the one partition of `__consumer_offsets`.
+pub const OFFSETS_PLACE: usize = 0;
+
+/// The place of the partition of `__transaction_state` that holds an application's records.
+pub fn txn_place(config: Config, application: usize) -> usize
+    requires { IsConfig config }
+    ensures { result ≡ txn_place config application }
+{
+    1 + application % config.transaction_logs
+}
+
+/// The place of a partition of `in`.
+pub fn input_place(config: Config, partition: usize) -> usize
+    requires config { IsConfig config }
+    requires partition { partition < config.inputs }
+    ensures { result ≡ input_place config partition }
+{
+    1 + config.transaction_logs + partition
+}
+
+/// The place of a partition of `out`.
+pub fn output_place(config: Config, partition: usize) -> usize
+    requires config { IsConfig config }
+    requires partition { partition < config.outputs }
+    ensures { result ≡ output_place config partition }
+{
+    1 + config.transaction_logs + config.inputs + partition
+}
+
+fn is_offsets_partition(topic: &Bytes, number: usize) -> bool
+    ensures { result ≡ (is_topic topic.now offsets_topic && number == 0) }
+{
+    topic.as_slice() == b"__consumer_offsets".as_slice() && number == 0
+}
+
+fn is_transactions_partition(config: Config, topic: &Bytes, number: usize) -> bool
+    ensures { result ≡ (is_topic topic.now transactions_topic && nat_lt number config.transaction_logs) }
+{
+    topic.as_slice() == b"__transaction_state".as_slice() && number < config.transaction_logs
+}
+
+fn is_input_partition(config: Config, topic: &Bytes, number: usize) -> bool
+    ensures { result ≡ (is_topic topic.now input_topic && nat_lt number config.inputs) }
+{
+    topic.as_slice() == b"in".as_slice() && number < config.inputs
+}
+
+fn is_output_partition(config: Config, topic: &Bytes, number: usize) -> bool
+    ensures { result ≡ (is_topic topic.now output_topic && nat_lt number config.outputs) }
+{
+    topic.as_slice() == b"out".as_slice() && number < config.outputs
+}
+
+/// Whether there is such a partition.
+pub fn is_partition(config: Config, topic: &Bytes, number: usize) -> bool
+    ensures { result ≡ is_partition config topic.now number }
+{
+    is_offsets_partition(topic, number)
+        || (is_transactions_partition(config, topic, number)
+            || (is_input_partition(config, topic, number)
+                || is_output_partition(config, topic, number)))
+}
+
+/// The place of the first partition of a topic that there is.
+pub fn start_of(config: Config, topic: &Bytes) -> usize
+    requires { IsConfig config }
+{
+    if topic.as_slice() == b"__consumer_offsets".as_slice() {
+        OFFSETS_PLACE
+    } else if topic.as_slice() == b"__transaction_state".as_slice() {
+        1
+    } else if topic.as_slice() == b"in".as_slice() {
+        1 + config.transaction_logs
+    } else {
+        output_place(config, 0)
+    }
+}
+
+/// Whether a place is an odd partition of `out`.
+pub fn is_odd_output(config: Config, place: usize) -> bool
+    requires { IsConfig config }
+{
+    let start = output_place(config, 0);
+    place >= start && (place - start) % 2 == 1
+}
