@@ -1,6 +1,8 @@
 pub mod PairFaults
 pub mod EndedData
 pub mod RulesLaw
+pub mod NextMarkers
+pub mod VisibleLaw
 pub mod LogsInOrder
 pub mod FirstFault
 pub mod GoodLaw
