@@ -10,6 +10,7 @@ pub mod VerdictsMade
 pub mod RunsMade
 pub mod SegmentsEqual
 pub mod PiecesFit
+pub mod PiecesDrawn
 pub mod SettledShards
 pub mod PhaseAnswers
 pub mod FrontsUnique
