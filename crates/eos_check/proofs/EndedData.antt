@@ -1,8 +1,9 @@
 -- All data of transactions is ended by a marker exactly where no producer id's last touch is data of a transaction.
-use Rattle.std.proofs.Common.{◌≡◌, ℕ, ◌≤◌, Bool, true, false, Option, Some, None, List, [], ◌∷◌, ◌++◌, length, refl, sym, ap, subst, ◌∙◌, ℤ, pos, inl, inr, ◌⊎◌, append_assoc}
-use Rattle.std.specs.Prelude.{if◌then◌else◌, int_lt, ⊤}
+use Rattle.std.proofs.Common.{◌≡◌, ℕ, Bool, true, false, Option, Some, None, List, [], ◌∷◌, ◌++◌, length, refl, sym, ap, subst, ◌∙◌, ℤ, pos, inl, inr, ◌⊎◌}
+use Rattle.std.specs.Prelude.{if◌then◌else◌, int_lt, int_le, is_some, not}
 use Rattle.std.specs.Option.{option_or, option_map}
 use Rattle.std.specs.Ordering.{int_eq}
+use Rattle.std.proofs.lemmas.Bool.{false≢true}
 use Rattle.std.proofs.lemmas.Bool.Decides.{Decides-int_eq}
 use Rattle.eos_base.specs.Members.{Has}
 use Rattle.eos_base.proofs.Membership.{append_cases, append_left, append_right, if_has}
@@ -14,7 +15,7 @@ use Rattle.eos_batch.specs.Attributes.{is_control, is_transactional}
 use Rattle.eos_batch.specs.Rules.{IsProducerRight, has_right_producer, names_producer}
 use Rattle.eos_touch.specs.declared.touch.Touch.{Touch}
 use Rattle.eos_touch.specs.declared.touch.Touch.TheVariants.{Data, End}
-use Rattle.eos_touch.specs.Pair.{is_open, mixed_producer}
+use Rattle.eos_touch.specs.Pair.{is_open, is_marker, mixed_producer}
 use Rattle.eos_touch.specs.Neighbours.{EachAfter, Accepts}
 use Rattle.eos_touch.proofs.TableRows.{is_clean}
 use Rattle.eos_touch.specs.Touches.{data_touch, end_touch, touch_of}
@@ -37,9 +38,13 @@ data_says b right t = by_test (int_lt b.producer (pos 0)) refl
   where
     by_test : (test : Bool) → int_lt b.producer (pos 0) ≡ test → touch_of b ≡ Some (b.producer, Data b.epoch true b.sequence (length b.records))
     by_test true e =
-        let wrong : has_right_producer b ≡ false = rw (e, t.of_data, t.transactional) refl in
-        let clash : true ≡ false = sym right ∙ wrong in cc
-    by_test false e = rw (t.of_data, e, t.transactional) refl
+        let names : names_producer b ≡ true = ap (λ (x : Bool). if x then is_some (marker_of b) else is_transactional b.attributes) t.of_data ∙ t.transactional in
+        let wrong : has_right_producer b ≡ false = ap (λ (x : Bool). if x then not (names_producer b) else int_le (pos 0) b.epoch) e ∙ ap not names in
+        absurd (false≢true (sym wrong ∙ right))
+    by_test false e =
+        ap (λ (x : Bool). if x then option_map end_touch (marker_of b) else data_touch b) t.of_data
+        ∙ (ap (λ (x : Bool). if x then None else Some (b.producer, Data b.epoch (is_transactional b.attributes) b.sequence (length b.records))) e
+        ∙ ap (λ (x : Bool). Some (b.producer, Data b.epoch x b.sequence (length b.records))) t.transactional)
 
 pub record IsEnd (b : Batch) (id : ℤ) (m : Marker) : Type 0 where
   pub marker : marker_of b ≡ Some m
@@ -66,9 +71,9 @@ data_is b x e = by_test (int_lt b.producer (pos 0)) e
     by_test false h = some_is _ x h
 
 data_no_end : (b : Batch) (e : ℤ) (k : Kind) → Data b.epoch (is_transactional b.attributes) b.sequence (length b.records) ≡ End e k → ⊥
-data_no_end b e k h = cc
+data_no_end b e k h = false≢true (ap is_marker h)
 
-says_end : (b : Batch) (id e : ℤ) (k : Kind) (x : ℤ × Touch) → touch_of b ≡ Some x → x.0 ≡ id → x.1 ≡ End e k → (m : Marker) × IsEnd b id m
+pub says_end : (b : Batch) (id e : ℤ) (k : Kind) (x : ℤ × Touch) → touch_of b ≡ Some x → x.0 ≡ id → x.1 ≡ End e k → (m : Marker) × IsEnd b id m
 says_end b id e k x h p q = by_test (is_control b.attributes) refl
   where
     by_test : (test : Bool) → is_control b.attributes ≡ test → (m : Marker) × IsEnd b id m
@@ -80,10 +85,7 @@ says_end b id e k x h p q = by_test (is_control b.attributes) refl
         absurd (data_no_end b e k (ap (λ (y : ℤ × Touch). y.1) r ∙ q))
 
 open_end : (m : Marker) (t : Touch) → (end_touch m).1 ≡ t → is_open t ≡ true → ⊥
-open_end m t e h = not_open (subst (λ (x : Touch). is_open x ≡ true) (sym e) h)
-  where
-    not_open : false ≡ true → ⊥
-    not_open x = cc
+open_end m t e h = false≢true (subst (λ (x : Touch). is_open x ≡ true) (sym e) h)
 
 -- a batch whose touch is open is data of a transaction
 says_open : (b : Batch) (x : ℤ × Touch) → touch_of b ≡ Some x → is_open x.1 ≡ true → IsTransactional b × (b.producer ≡ x.0)
@@ -144,14 +146,14 @@ open_more (Some u) t h = h
 
 stays_open : (e : ℤ) (s : ℤ) (c : ℕ) (f : ℤ) (u : Bool) (r : ℤ) (d : ℕ) → mixed_producer (Some (Data e true s c)) (Data f u r d) ≡ false → u ≡ true
 stays_open e s c f true r d h = refl
-stays_open e s c f false r d h = absurd cc
+stays_open e s c f false r d h = absurd (false≢true (sym h))
 
 pub marker_or_open : (s : Bool) (t : Touch) (ts : List Touch) → EachAfter (Accepts s) (Some t) ts → is_open t ≡ true
     → ((e : ℤ) × (k : Kind) × Has ts (End e k)) ⊎ IsOpen (last_of (t ∷ ts))
 marker_or_open s t [] h o = inr o
 marker_or_open s t (End e k ∷ ts) h o = inl (e, k, inl refl)
-marker_or_open s (End e k) (Data f u r d ∷ ts) h o = absurd cc
-marker_or_open s (Data e false q c) (Data f u r d ∷ ts) h o = absurd cc
+marker_or_open s (End e k) (Data f u r d ∷ ts) h o = absurd (false≢true o)
+marker_or_open s (Data e false q c) (Data f u r d ∷ ts) h o = absurd (false≢true o)
 marker_or_open s (Data e true q c) (Data f u r d ∷ ts) h o =
     elim (marker_or_open s (Data f u r d) ts h.1 (stays_open e q c f u r d (is_clean s (Some (Data e true q c)) (Data f u r d) h.0).mixed)) [
       | inl a ↦ inl (a.0, a.1, inr a.2)
@@ -173,8 +175,8 @@ last_of-append [] ys = sym (or_nothing (last_of ys))
 last_of-append (x ∷ xs) ys = ap (λ (o : Option Touch). option_or o (Some x)) (last_of-append xs ys) ∙ or_assoc (last_of ys) (last_of xs) (Some x)
 
 or_some : (o : Option Touch) (t : Touch) → option_or o (Some t) ≡ None → ⊥
-or_some None t e = cc
-or_some (Some u) t e = cc
+or_some None t e = no_some t (sym e)
+or_some (Some u) t e = no_some u (sym e)
 
 none_left : (ts : List Touch) → last_of ts ≡ None → ts ≡ []
 none_left [] e = refl

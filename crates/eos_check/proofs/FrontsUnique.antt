@@ -1,14 +1,13 @@
 -- The segments of a partition have one front.
-use Rattle.std.proofs.Common.{◌≡◌, ◌≢◌, ℕ, ◌+◌, ◌⊎◌, inl, inr, List, [], ◌∷◌, ◌++◌, length, refl, sym, ap, subst, ◌∙◌, arith, ℤ, pos, Result, Err}
+use Rattle.std.proofs.Common.{◌≡◌, ℕ, ◌+◌, inl, inr, List, [], ◌∷◌, ◌++◌, length, refl, sym, ap, subst, ◌∙◌, arith, Result, Err}
 use Rattle.std.specs.Prelude.{unsigned_abs}
 use Rattle.eos_batch.specs.declared.batch.Batch.{Batch}
 use Rattle.eos_batch.specs.declared.fault.BatchFault.{BatchFault}
-use Rattle.eos_batch.specs.Reading.{batch_at}
 use Rattle.eos_evidence.specs.declared.segment.Segment.{Segment}
 use Rattle.eos_fold.specs.declared.stop.Stop.{Stop}
 use Rattle.eos_fold.specs.declared.stop.Stop.TheVariants.{AtEnd, NoBatch, Elsewhere}
 use Rattle.eos_fold.specs.Front.{offset_of, records_in, ContinuesFrom, IsNext}
-use Rattle.eos_fold.specs.Fronts.{base_of, StopsAt, IsSegmentFront, GoesOn, IsFront}
+use Rattle.eos_fold.specs.Fronts.{StopsAt, IsSegmentFront, GoesOn, IsFront}
 use Rattle.eos_fold.proofs.BatchReading.{next_is, not_both, nothing_next}
 use Rattle.eos_fold.proofs.Beginnings.{compared}
 use Rattle.eos_fold.proofs.Beginnings as beginnings

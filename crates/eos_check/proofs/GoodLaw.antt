@@ -1,15 +1,13 @@
 -- An evidence is good exactly where no fault of any phase stands.
-use Rattle.std.proofs.Common.{◌≡◌, ◌↔◌, List, [], ◌∷◌, refl, inl, inr}
+use Rattle.std.proofs.Common.{◌↔◌, List, [], ◌∷◌, inl, inr}
 use Rattle.eos_base.specs.Least.{NoneStands}
 use Rattle.eos_evidence.specs.declared.partition.Partition.{Partition}
 use Rattle.eos_evidence.specs.Evidence.{EvidenceParts, IsEvidence}
 use Rattle.eos_fold.specs.Parts.{PartLog}
-use Rattle.eos_fold.specs.declared.fault.PartitionFault.{PartitionFault}
 use Rattle.eos_table.specs.TransactionLog.{transaction_parts, decisions_of}
 use Rattle.eos_table.proofs.LogLaw.{law as log_law}
 use Rattle.eos_table.proofs.AtomicLaw.{law as atomic_law}
 use Rattle.eos_lineage.proofs.LineageLaw.{law as lineage_law}
-use Rattle.eos_check.specs.declared.verdict.Fault.{Fault}
 use Rattle.eos_check.specs.declared.verdict.Fault.TheVariants.{Partition as InPartition, Log, Match, Lineage}
 use Rattle.eos_check.specs.Good.{AreLogsOf, EachKeepsRules, Good}
 use Rattle.eos_check.specs.Verdicts.{StandsInPartitions, StandsInLog, StandsInMatching, Stands}

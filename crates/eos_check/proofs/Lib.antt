@@ -1,6 +1,8 @@
 pub mod PairFaults
 pub mod EndedData
 pub mod RulesLaw
+pub mod NextMarkers
+pub mod VisibleLaw
 pub mod LogsInOrder
 pub mod FirstFault
 pub mod GoodLaw
@@ -8,6 +10,7 @@ pub mod VerdictsMade
 pub mod RunsMade
 pub mod SegmentsEqual
 pub mod PiecesFit
+pub mod PiecesDrawn
 pub mod SettledShards
 pub mod PhaseAnswers
 pub mod FrontsUnique

@@ -1,19 +1,16 @@
 -- Where no fault stands in the partitions, an evidence has one list of logs.
-use Rattle.std.proofs.Common.{◌≡◌, ◌↔◌, ℕ, zero, suc, ◌<◌, inl, inr, Bool, true, false, List, [], ◌∷◌, Option, Some, None, length, get_or, refl, sym, ap, subst, ◌∙◌, arith}
-use Rattle.std.specs.List.{All, AllPairs}
+use Rattle.std.proofs.Common.{◌≡◌, suc, inl, inr, true, List, [], ◌∷◌, Option, Some, None, refl, sym, ap, subst, ◌∙◌, arith}
+use Rattle.std.specs.List.{All}
 use Rattle.std.specs.Ordering.{is_lt, ordering_reverse}
-use Rattle.std.specs.Cmp.{IsTotalOrder}
 use Rattle.std.specs.declared.cmp.Ordering.{Ordering}
 use Rattle.std.specs.declared.cmp.Ordering.TheVariants.{Less, Equal, Greater}
-use Rattle.std.proofs.lemmas.Cmp.{tied_itself}
-use Rattle.eos_base.specs.Least.{NoneStands, IsLeastOrNone, IsLeast}
+use Rattle.eos_base.specs.Least.{NoneStands, IsLeastOrNone}
 use Rattle.eos_base.specs.Members.{Has}
 use Rattle.eos_touch.proofs.AllTouches.{AllPairs-head, AllPairs-tail}
 use Rattle.eos_batch.specs.declared.batch.Batch.{Batch}
 use Rattle.eos_evidence.specs.declared.partition.Partition.{Partition}
 use Rattle.eos_items.specs.Items.{items_of}
 use Rattle.eos_fold.specs.declared.close.Close.{Close}
-use Rattle.eos_fold.specs.declared.fault.PartitionFault.{PartitionFault}
 use Rattle.eos_fold.specs.Closes.{close_cmp}
 use Rattle.eos_fold.specs.Parts.{PartLog, Ascends}
 use Rattle.eos_fold.specs.Whole.{AreCloses, closes_in, data_in}
@@ -23,7 +20,6 @@ use Rattle.eos_fold.proofs.ClosesOnce.{close_total}
 use Rattle.eos_check.specs.Good.{IsLogOf, AreLogsOf}
 use Rattle.eos_check.specs.Verdicts.{StandsInPartitions}
 use Rattle.eos_check.proofs.FrontsUnique.{one_front}
-use Rattle.eos_check.proofs.VerdictsUnique.{same_standing}
 
 -- ---- ascending lists of the same members
 

@@ -1,5 +1,5 @@
 -- No fault of a pair of touches stands in a list of batches exactly where all pairs of touches keep the rules.
-use Rattle.std.proofs.Common.{◌≡◌, ◌↔◌, ℕ, ◌≤◌, Bool, true, false, cond, Option, Some, None, List, [], ◌∷◌, ◌++◌, length, refl, sym, ap, subst, ◌∙◌, ℤ, pos, append_assoc}
+use Rattle.std.proofs.Common.{◌≡◌, ◌≤◌, Bool, true, false, Option, Some, None, List, [], ◌∷◌, ◌++◌, length, refl, sym, ap, subst, ◌∙◌, ℤ, append_assoc}
 use Rattle.std.specs.Prelude.{if◌then◌else◌, ⊤}
 use Rattle.std.specs.Option.{option_or}
 use Rattle.std.specs.Ordering.{int_eq}
@@ -11,7 +11,7 @@ use Rattle.eos_touch.specs.declared.touch.Touch.{Touch}
 use Rattle.eos_touch.specs.declared.pair.PairFault.{PairFault}
 use Rattle.eos_touch.specs.declared.pair.PairFault.TheVariants.{FirstSequence, Sequence, ZombieEpoch, EpochWhileOpen, NoBump, MixedProducer, MarkerKind}
 use Rattle.eos_touch.specs.Pair.{stands}
-use Rattle.eos_touch.specs.Rules.{Sequenced, Fenced}
+use Rattle.eos_touch.specs.Rules.{Fenced}
 use Rattle.eos_touch.specs.Neighbours.{HasRecords, EachAfter, Accepts, IsSequencedIf}
 use Rattle.eos_touch.proofs.TableRows.{IsClean, is_clean, is_accepted}
 use Rattle.eos_touch.proofs.NeighboursLaw.{law}

@@ -1,5 +1,5 @@
 -- What the phases answer, put together.
-use Rattle.std.proofs.Common.{◌≡◌, ℕ, List, Option, Some, None, Result, Ok, Err, length, refl, sym, ap, subst, ◌∙◌}
+use Rattle.std.proofs.Common.{◌≡◌, ℕ, List, Some, None, Result, Ok, Err, length, sym, ap, subst, ◌∙◌}
 use Rattle.std.specs.Prelude.{IfOk}
 use Rattle.std.specs.Result.{MatchResult}
 use Rattle.eos_base.specs.Least.{NoneStands, IsLeast, IsLeastOrNone}
@@ -16,7 +16,7 @@ use Rattle.eos_check.specs.declared.verdict.Fault.{Fault}
 use Rattle.eos_commits.specs.Faults as commits
 use Rattle.eos_lineage.specs.declared.fault.LineageFault.{LineageFault}
 use Rattle.eos_lineage.specs.Faults as lineage
-use Rattle.eos_check.specs.declared.verdict.Fault.TheVariants.{Partition as InPartition, Log, Match, Lineage}
+use Rattle.eos_check.specs.declared.verdict.Fault.TheVariants.{Partition as InPartition, Log, Lineage}
 use Rattle.eos_check.specs.declared.verdict.Verdict.TheVariants.{Yes, No}
 use Rattle.eos_check.specs.Good.{AreLogsOf}
 use Rattle.eos_check.specs.Verdicts.{StandsInPartitions, StandsInLog, StandsInMatching, partition_cmp, IsVerdictOf, IsVerdict}

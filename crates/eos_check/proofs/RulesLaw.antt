@@ -1,5 +1,5 @@
 -- A partition's log keeps its rules exactly where no fault stands in it.
-use Rattle.std.proofs.Common.{◌≡◌, ◌≢◌, ◌↔◌, ℕ, ◌+◌, ◌≤◌, Bool, true, false, not, Option, Some, None, List, [], ◌∷◌, ◌++◌, length, refl, sym, ap, subst, ◌∙◌, ℤ, pos, inl, inr}
+use Rattle.std.proofs.Common.{◌≡◌, ◌↔◌, ℕ, ◌+◌, ◌≤◌, Bool, true, false, not, Some, None, List, [], ◌∷◌, ◌++◌, length, refl, sym, ap, subst, ◌∙◌, ℤ, pos, inl, inr}
 use Rattle.std.specs.Prelude.{unsigned_abs, ⊤}
 use Rattle.std.specs.Ordering.{int_eq}
 use Rattle.std.proofs.lemmas.Bool.Decides.{Decides-int_eq}
@@ -15,14 +15,13 @@ use Rattle.eos_touch.specs.Neighbours.{EachAfter, Accepts}
 use Rattle.eos_touch.proofs.TableRows.{not_equal}
 use Rattle.eos_fold.specs.declared.stop.Stop.{Stop}
 use Rattle.eos_fold.specs.declared.stop.Stop.TheVariants.{AtEnd, NoBatch, Elsewhere}
-use Rattle.eos_fold.specs.declared.fault.PartitionFault.{PartitionFault}
 use Rattle.eos_fold.specs.declared.fault.PartitionFaultKind.{PartitionFaultKind}
 use Rattle.eos_fold.specs.declared.fault.PartitionFaultKind.TheVariants.{BadBatch, Gap, Pair, End, OpenAtEnd}
 use Rattle.eos_fold.specs.Front.{records_in, offset_of}
-use Rattle.eos_fold.specs.Fronts.{base_of, IsFront, GoesOn}
+use Rattle.eos_fold.specs.Fronts.{IsFront, GoesOn}
 use Rattle.eos_fold.specs.Touches.{touches_of, last_touch, last_of}
-use Rattle.eos_fold.specs.Standing.{IsStanding, StandsIn, StandsAtTouch, IsOpen}
-use Rattle.eos_check.specs.PartitionRules.{IsWhole, IsSequenced, IsFenced, IsTransactional, HasMarker, KeepsRules}
+use Rattle.eos_fold.specs.Standing.{IsStanding, StandsIn, IsOpen}
+use Rattle.eos_check.specs.PartitionRules.{IsWhole, IsTransactional, HasMarker, KeepsRules}
 use Rattle.eos_check.proofs.PairFaults.{EachHasRecords, NoPairAfter, rules_kept, no_pair, after_split, last_behind, touches_cut, each_after}
 use Rattle.eos_check.proofs.EndedData.{data_says, marker_among, marker_or_open, open_unended}
 

@@ -1,7 +1,7 @@
 -- The least of what the shards answered is the least of all.
-use Rattle.std.proofs.Common.{◌≡◌, ◌<◌, ℕ, zero, suc, List, [], ◌∷◌, length, slice_index_or, fold, All, Option, Some, None, Result, Ok, Err, MatchOption, refl, sym, ap, subst, arith, inl, inr, ◌⊎◌, ◌∙◌}
+use Rattle.std.proofs.Common.{◌≡◌, ◌<◌, ℕ, zero, suc, List, [], ◌∷◌, length, slice_index_or, fold, Option, Some, None, Ok, Err, MatchOption, refl, sym, ap, subst, arith, inl, inr, ◌⊎◌, ◌∙◌}
 use Rattle.std.specs.Prelude.{IfOk}
-use Rattle.eos_base.specs.Least.{UpTo, NoneStands, IsLeast, IsLeastOrNone, lesser_of}
+use Rattle.eos_base.specs.Least.{IsLeastOrNone, lesser_of}
 use Rattle.eos_base.specs.Members.{Has}
 use Rattle.eos_base.proofs.LeastOf.{IsLeastAmong, fold_least}
 use Rattle.eos_txnlog.specs.declared.decision.Decision.{Decision}

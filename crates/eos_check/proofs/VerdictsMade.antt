@@ -1,8 +1,6 @@
 -- Each phase's least fault is the least of all where no phase before has one.
-use Rattle.std.proofs.Common.{◌≡◌, ℕ, ◌<◌, Bool, true, false, List, Option, Some, None, refl, sym, ap, subst, ◌∙◌, ℤ, pos, inl, inr, arith}
-use Rattle.std.specs.Ordering.{is_gt}
-use Rattle.eos_base.specs.Least.{UpTo, NoneStands, IsLeast, IsLeastOrNone}
-use Rattle.eos_evidence.specs.declared.application.App.{App}
+use Rattle.std.proofs.Common.{List, refl}
+use Rattle.eos_base.specs.Least.{UpTo, NoneStands, IsLeast}
 use Rattle.eos_evidence.specs.Evidence.{EvidenceParts, IsEvidence}
 use Rattle.eos_fold.specs.declared.fault.PartitionFault.{PartitionFault}
 use Rattle.eos_fold.specs.Parts.{PartLog}
@@ -16,7 +14,7 @@ use Rattle.eos_check.specs.declared.verdict.Fault.{Fault}
 use Rattle.eos_check.specs.declared.verdict.Fault.TheVariants.{Partition as InPartition, Log, Match, Lineage}
 use Rattle.eos_check.specs.declared.verdict.Counts.{Counts}
 use Rattle.eos_check.specs.declared.verdict.Verdict.TheVariants.{Yes, No}
-use Rattle.eos_check.specs.Good.{AreLogsOf, Good}
+use Rattle.eos_check.specs.Good.{AreLogsOf}
 use Rattle.eos_check.specs.Verdicts.{StandsInPartitions, StandsInLog, StandsInMatching, Stands, partition_cmp, verdict_cmp, AreCounts, IsVerdictOf}
 use Rattle.eos_check.proofs.GoodLaw.{law}
 

@@ -1,5 +1,5 @@
 -- Two verdicts of one evidence are equal.
-use Rattle.std.proofs.Common.{◌≡◌, ℕ, zero, suc, ◌≤◌, inl, inr, Bool, true, false, not, List, [], ◌∷◌, refl, sym, ap, subst, ◌∙◌, ℤ, arith}
+use Rattle.std.proofs.Common.{◌≡◌, ℕ, zero, suc, ◌≤◌, inl, inr, Bool, false, not, List, [], ◌∷◌, refl, sym, ap, subst, ◌∙◌, ℤ, arith}
 use Rattle.std.specs.Ordering.{is_gt, nat_cmp, int_cmp, ordering_reverse}
 use Rattle.std.specs.Cmp.{IsTotalOrder}
 use Rattle.std.specs.List.Sorted.{IsStrictlySortedBy}

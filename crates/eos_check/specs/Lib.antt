@@ -1,4 +1,5 @@
 pub mod PartitionRules
 pub mod Good
+pub mod VisibleRecords
 pub mod Verdicts
 pub mod steps

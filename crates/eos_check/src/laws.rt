@@ -3,11 +3,13 @@
 ghost use Rattle.std.specs.Prelude.{◌≡◌, ◌↔◌, ℕ, ℤ, List};
 ghost use Rattle.eos_base.specs.Least.{NoneStands};
 ghost use Rattle.eos_batch.specs.declared.batch.Batch.{Batch};
-ghost use Rattle.eos_check.specs.Good.{AreLogsOf, Good};
+ghost use Rattle.eos_check.specs.Good.{AreLogsOf, Good, IsLogOf};
 ghost use Rattle.eos_check.specs.PartitionRules.{KeepsRules};
 ghost use Rattle.eos_check.specs.Verdicts.{Stands, IsVerdict};
+ghost use Rattle.eos_check.specs.VisibleRecords.{VisibleByMarkers};
 ghost use Rattle.eos_check.specs.declared.verdict.Verdict.{Verdict};
 ghost use Rattle.eos_evidence.specs.Evidence.{EvidenceParts, IsEvidence};
+ghost use Rattle.eos_evidence.specs.declared.partition.Partition.{Partition};
 ghost use Rattle.eos_evidence.specs.declared.segment.Segment.{Segment};
 ghost use Rattle.eos_fold.specs.declared.stop.Stop.{Stop};
 ghost use Rattle.eos_fold.specs.Fronts.{IsFront};
@@ -18,6 +20,12 @@ ghost use Rattle.eos_fold.specs.Standing.{IsStanding};
 pub fn partition_rules()
     ensures { (topic : List ℕ) (number end : ℤ) (segments : List Segment) (batches : List Batch) (stop : Stop) → IsFront 0 segments batches stop
         → NoneStands (IsStanding topic number end batches stop) ↔ KeepsRules topic end batches stop }
+{}
+
+/// A record of a partition's log is visible exactly where its batch is of no transaction or its producer's next end marker in
+/// that partition is a commit.
+pub fn visible_records()
+    ensures { (p : Partition) (log : PartLog) (of : IsLogOf p log) → VisibleByMarkers of.batches log }
 {}
 
 /// An evidence is good exactly where no fault of any phase stands.

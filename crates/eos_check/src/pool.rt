@@ -1,14 +1,14 @@
 //! The workers: each draws pieces and summarises them, and then joins runs that lie side by side.
 
-ghost use Rattle.std.specs.Prelude.{◌≡◌, ◌<◌, ◌≤◌, false, vec_len, length, All, IfOk, IfSome};
+ghost use Rattle.std.specs.Prelude.{◌≡◌, ◌<◌, ◌≤◌, true, false, vec_len, length, All, IfOk, IfSome};
 ghost use Rattle.eos_evidence.specs.Evidence.{segments_of};
 ghost use Rattle.eos_fold.specs.Sums.{IsFit, Follows};
-ghost use Rattle.eos_tickets.specs.Places.{IsFresh};
+ghost use Rattle.eos_tickets.specs.Places.{IsFresh, AreBelow};
 
 use eos_board::{Board, Gate, Receipt};
 use eos_evidence::{Evidence, Segment};
 use eos_fold::Named;
-use eos_tickets::{Seat, Tickets};
+use eos_tickets::{Drawn, Seat, Tickets};
 use std::alloc::{AllocError, Global};
 use std::sync::ledger::{Blank, Ledger};
 use std::sync::{Mutex, Wait};
@@ -90,7 +90,7 @@ fn join_pairs<L: Ledger, G: Gate>(
 }
 
 /// A worker: draws, summarises and posts until all pieces are drawn, and then joins pairs until there are none. It holds the
-/// lock only to post and to take.
+/// lock only to post and to take. It gives its seat back, with which it has drawn until there was no number left.
 fn work<L: Ledger, G: Gate>(
     alloc: Global,
     rt: &impl Wait,
@@ -99,10 +99,12 @@ fn work<L: Ledger, G: Gate>(
     board: &Mutex<Board<L>>,
     gate: &G,
     job: Job<L>,
-)
+) -> Seat
     requires made { job.seat.of ≡ tickets.now }
     requires open { job.seat.is_done ≡ false }
     requires pieces { tickets.now.count ≡ length (segments_of evidence.now.partitions) }
+    ensures made { result.of ≡ tickets.now }
+    ensures done { result.is_done ≡ true }
 {
     let Job {
         mut seat,
@@ -119,6 +121,7 @@ fn work<L: Ledger, G: Gate>(
         }
     }
     join_pairs(alloc, rt, board, gate, &mut receipt);
+    seat
 }
 
 /// A seat and a receipt for each worker.
@@ -128,20 +131,49 @@ fn jobs_of<L: Ledger>(
     mut seats: Vec<Seat>,
     mut receipts: Vec<Receipt<L>>,
 ) -> Result<Vec<Job<L>>, AllocError>
-    requires { All (IsFresh tickets.now) seats.items }
-    ensures { IfOk result (λ jobs. All (λ job. (job.seat.of ≡ tickets.now) × (job.seat.is_done ≡ false)) jobs.items) }
+    requires seats { All (IsFresh tickets.now) seats.items }
+    requires same { vec_len receipts ≡ vec_len seats }
+    ensures number { IfOk result (λ jobs. vec_len jobs ≡ vec_len seats) }
+    ensures ready { IfOk result (λ jobs. All (λ job. (job.seat.of ≡ tickets.now) × (job.seat.is_done ≡ false)) jobs.items) }
 {
     let mut jobs = Vec::new(alloc);
     while let Some(seat) = seats.pop() {
         let Some(receipt) = receipts.pop() else {
-            break;
+            unreachable!()
         };
         jobs.push(Job { seat, receipt })?;
     }
     Ok(jobs)
 }
 
-/// The runs that so many workers make of the evidence, in piece order. A piece may be in none of them.
+/// Sets a worker on each job, each in a thread of its own. What they drew together are all pieces, each once.
+fn run_jobs<R: Threads + Wait + Sync, L: Ledger + Send + Sync, G: Gate>(
+    alloc: Global,
+    rt: &R,
+    evidence: &Evidence,
+    tickets: &Tickets,
+    board: &Mutex<Board<L>>,
+    gate: &G,
+    jobs: Vec<Job<L>>,
+) -> Result<Drawn, AllocError>
+    requires some { (1 ≤ vec_len jobs) × (vec_len jobs ≡ tickets.now.workers) }
+    requires ready { All (λ job. (job.seat.of ≡ tickets.now) × (job.seat.is_done ≡ false)) jobs.items }
+    requires pieces { tickets.now.count ≡ length (segments_of evidence.now.partitions) }
+    ensures { IfOk result (AreBelow (length (segments_of evidence.now.partitions))) }
+{
+    let seats = thread::map_vec(
+        rt,
+        jobs,
+        &|job: Job<L>| -> Seat
+            requires { (job.seat.of ≡ tickets.now) × (job.seat.is_done ≡ false) × (tickets.now.count ≡ length (segments_of evidence.now.partitions)) }
+            ensures { (result.of ≡ tickets.entry.now) × (result.is_done ≡ true) }
+        { work(alloc, rt, evidence, tickets, board, gate, job) },
+    )?;
+    Ok(tickets.gather(seats))
+}
+
+/// The runs that so many workers make of the evidence, in piece order, beside what all workers drew: each piece once. A piece
+/// may be in none of the runs.
 pub(crate) fn runs_of<R: Threads + Wait + Sync, L: Ledger + Send + Sync, G: Gate>(
     alloc: Global,
     rt: &R,
@@ -149,21 +181,16 @@ pub(crate) fn runs_of<R: Threads + Wait + Sync, L: Ledger + Send + Sync, G: Gate
     workers: u64,
     gate: &G,
     blank: Blank,
-) -> Result<Vec<Named>, AllocError>
+) -> Result<(Vec<Named>, Drawn), AllocError>
     requires name { blank.name ≡ L.name }
     requires parts { (blank.parts ≡ L.parts) × (L.parts ≡ workers) }
     requires workers { (1 ≤ workers) × (workers ≤ 64) }
+    ensures { IfOk result (λ r. AreBelow (length (segments_of evidence.now.partitions)) r.1) }
 {
     let (tickets, seats) = Tickets::new(alloc, evidence.pieces(), workers)?;
     let (board, receipts) = Board::<L>::new(alloc, blank, evidence, workers)?;
-    let board = Mutex::new(board);
     let jobs = jobs_of(alloc, &tickets, seats, receipts)?;
-    thread::map_vec(
-        rt,
-        jobs,
-        &|job: Job<L>|
-            requires { (job.seat.of ≡ tickets) × (job.seat.is_done ≡ false) × (tickets.count ≡ length (segments_of evidence.now.partitions)) }
-        { work(alloc, rt, evidence, &tickets, &board, gate, job) },
-    )?;
-    Ok(board.into_inner().into_runs())
+    let board = Mutex::new(board);
+    let drawn = run_jobs(alloc, rt, evidence, &tickets, &board, gate, jobs)?;
+    Ok((board.into_inner().into_runs(), drawn))
 }

@@ -36,7 +36,14 @@ pub fn check<R: Threads + Wait + Sync, G: Gate>(
     requires { (1 ≤ workers) × (workers ≤ 64) }
     ensures { IfOk result (IsVerdict evidence.now) }
 {
-    let runs = runs_of::<R, Brand, G>(alloc, rt, evidence, workers, gate, Blank::new(workers))?;
+    let (runs, _drawn) = runs_of::<R, Brand, G>(
+        alloc,
+        rt,
+        evidence,
+        workers,
+        gate,
+        Blank::new(workers),
+    )?;
     let parts = parts_from(alloc, evidence, runs)?;
     verdict_of(alloc, rt, evidence, parts.as_slice(), workers as u32)
 }

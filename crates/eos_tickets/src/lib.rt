@@ -7,4 +7,4 @@
 mod rule;
 mod tickets;
 
-pub use tickets::{MAX_TICKETS, MAX_WORKERS, Seat, Tickets};
+pub use tickets::{Drawn, MAX_TICKETS, MAX_WORKERS, Seat, Tickets};

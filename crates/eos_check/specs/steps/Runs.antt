@@ -1,5 +1,5 @@
 -- The runs of which a partition's log is folded. For the check's private steps.
-use Rattle.std.specs.Prelude.{◌≡◌, ◌+◌, ◌<◌, ◌≤◌, ℕ, ℤ, List, take, drop, length, All, Option, Some, None, ⊤}
+use Rattle.std.specs.Prelude.{◌≡◌, ◌+◌, ◌≤◌, ℕ, ℤ, List, take, length, All, Option, Some, None, ⊤}
 use Rattle.eos_evidence.specs.declared.segment.Segment.{Segment}
 use Rattle.eos_fold.specs.Standing.{AreOf}
 use Rattle.eos_fold.specs.Sums.{NamedView, Follows, IsFit}

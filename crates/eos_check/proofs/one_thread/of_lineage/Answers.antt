@@ -1,4 +1,4 @@
-use Rattle.std.proofs.Common.{◌≡◌, Ok, Err, ap}
+use Rattle.std.proofs.Common.{Ok, Err, ap}
 use Rattle.eos_evidence.specs.Parts.{Parts}
 use Rattle.eos_check.proofs.PhaseAnswers.{lineage_found, lineage_kept, answered}
 use Rattle.eos_check.proofs.one_thread.of_lineage.Goals as goal

@@ -1,4 +1,4 @@
-use Rattle.std.proofs.Common.{◌≡◌, sym}
+use Rattle.std.proofs.Common.{sym}
 use Rattle.eos_evidence.specs.Evidence.{IsEvidence}
 use Rattle.eos_check.specs.Verdicts.{IsVerdict, IsVerdictOf}
 use Rattle.eos_check.proofs.PhaseAnswers.{if_ok, refused, transacted}

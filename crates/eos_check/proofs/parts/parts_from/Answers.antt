@@ -1,5 +1,4 @@
-use Rattle.std.proofs.Common.{◌≡◌, ◌+◌, ◌≤◌, ℕ, length, take, arith, rules}
-use Rattle.eos_evidence.specs.Evidence.{segments_of}
+use Rattle.std.proofs.Common.{arith, rules}
 use Rattle.eos_check.proofs.RunsMade.{logs_next, pieces_next, pieces_few}
 use Rattle.eos_check.proofs.parts.parts_from.Goals as goal
 

@@ -1,4 +1,4 @@
-use Rattle.std.proofs.Common.{ℕ, ◌-◌, ◌≤◌, length}
+use Rattle.std.proofs.Common.{◌-◌, ◌≤◌, length}
 use Rattle.eos_check.specs.steps.Runs.{IsRunTo}
 use Rattle.eos_check.proofs.parts.run_of.Given as goal
 

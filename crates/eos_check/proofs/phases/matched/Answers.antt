@@ -1,7 +1,6 @@
-use Rattle.std.proofs.Common.{◌≡◌, List, Option, Some, None, length, refl, subst, rules}
+use Rattle.std.proofs.Common.{◌≡◌, List, Some, None, length, refl, subst, rules}
 use Rattle.eos_base.specs.Least.{IsLeastOrNone}
 use Rattle.eos_txnlog.specs.declared.decision.Decision.{Decision}
-use Rattle.eos_table.specs.declared.match_fault.MatchFault.{MatchFault}
 use Rattle.eos_table.specs.MatchFaults.{fault_cmp, Stands}
 use Rattle.eos_check.proofs.phases.matched.Goals as goal
 

@@ -1,4 +1,4 @@
-use Rattle.std.proofs.Common.{◌≡◌, List, Option, Some, None, rules}
+use Rattle.std.proofs.Common.{◌≡◌, Some, None, rules}
 use Rattle.eos_base.specs.Least.{NoneStands, IsLeast}
 use Rattle.eos_table.specs.TransactionLog.{transaction_parts, decisions_of, AreInOrder}
 use Rattle.eos_table.specs.LogFaults.{log_cmp}

@@ -1,4 +1,4 @@
-use Rattle.std.proofs.Common.{◌≡◌, ◌<◌, ℕ, List, Ok, None, length, slice_index_or, arith, rules}
+use Rattle.std.proofs.Common.{◌≡◌, ◌<◌, ℕ, Ok, None, length, slice_index_or, rules}
 use Rattle.std.specs.Prelude.{IfOk}
 use Rattle.std.proofs.lemmas.Result.{IfOk-weaker}
 use Rattle.eos_base.specs.Least.{IsLeastOrNone}
