@@ -1,10 +1,7 @@
-use Rattle.std.proofs.Common.{◌≡◌, ℤ, List, [], ◌++◌, ◌∙◌, ap, sym, map, rules, w64, to_z, of_z, if◌then◌else◌}
+use Rattle.std.proofs.Common.{◌≡◌, [], ◌++◌, ◌∙◌, ap, sym, map, rules, w64, to_z, of_z, if◌then◌else◌}
 use Rattle.std.proofs.lemmas.List.{append-nil}
-use Rattle.eos_base.specs.declared.partition_name.PartitionName.{PartitionName}
-use Rattle.eos_batch.specs.declared.marker.Kind.{Kind}
 use Rattle.eos_txnlog.specs.declared.decision.Decision.{Decision}
 use Rattle.eos_txnlog.specs.PartitionSets.{names_of}
-use Rattle.eos_table.specs.declared.key.Ended.{Ended}
 use Rattle.eos_table.specs.Keys.{mine, plain_ended, ended_of}
 use Rattle.eos_table.proofs.FoldMore.{pushed_more}
 use Rattle.eos_table.proofs.key.ended_keys.Goals.{then-in_shard+in_ok-push_ended, else-in_shard}
