@@ -1,3 +1,4 @@
+pub mod PushedMore
 pub mod BelowClaims
 pub mod ClaimWalk
 pub mod WalksJoined

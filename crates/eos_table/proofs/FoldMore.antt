@@ -1,8 +1,9 @@
--- A fold over pieces, one piece further.
-use Rattle.std.proofs.Common.{◌≡◌, ℕ, zero, suc, ◌<◌, List, [], ◌∷◌, length, get_or, take, fold, sym, ap, subst, ◌∙◌, ◌+◌, arith}
+-- What a loop has made of the items before its place, one item further.
+use Rattle.std.proofs.Common.{◌≡◌, ℕ, zero, suc, ◌<◌, List, [], ◌∷◌, ◌++◌, length, map, get_or, take, fold, sym, ap, subst, ◌∙◌, ◌+◌, arith}
 use Rattle.std.specs.List.{flat_map}
 use Rattle.std.proofs.lemmas.List.Sums.{fold-append}
-use Rattle.std.proofs.lemmas.List.{append-nil}
+use Rattle.std.proofs.lemmas.Grind.{flat_map-append}
+use Rattle.std.proofs.lemmas.List.{append-nil, map-append, take_more}
 
 fold_suc : {B X F : Type 0} (step : B → F → B) (g : X → List F) (b : B) (xs : List X) (i : ℕ) (d : X) → i < length xs
     → fold step b (flat_map g (take (suc i) xs)) ≡ fold step (fold step b (flat_map g (take i xs))) (g (get_or xs i d))
@@ -17,3 +18,27 @@ pub fold_more : {B X F : Type 0} (step : B → F → B) (g : X → List F) (b : 
 fold_more step g b xs i d lt =
     let e : suc i ≡ i + 1 = omega arith in
     subst (λ k. fold step b (flat_map g (take k xs)) ≡ fold step (fold step b (flat_map g (take i xs))) (g (get_or xs i d))) e (fold_suc step g b xs i d lt)
+
+pub folded_at : {B X F : Type 0} (step : B → F → B) (g : X → List F) (b now next : B) (xs : List X) (i : ℕ) (d : X) → i < length xs
+    → now ≡ fold step b (flat_map g (take i xs)) → next ≡ fold step now (g (get_or xs i d)) → next ≡ fold step b (flat_map g (take (i + 1) xs))
+folded_at step g b now next xs i d lt so_far here = here ∙ (ap (λ z. fold step z (g (get_or xs i d))) so_far ∙ sym (fold_more step g b xs i d lt))
+
+pub folded_more : {B X F : Type 0} (step : B → F → B) (g : X → List F) (b now next : B) (xs : List X) (i : ℕ) (x : X) → i < length xs → x ≡ get_or xs i x
+    → now ≡ fold step b (flat_map g (take i xs)) → next ≡ fold step now (g x) → next ≡ fold step b (flat_map g (take (i + 1) xs))
+folded_more step g b now next xs i x lt is so_far here = folded_at step g b now next xs i x lt so_far (here ∙ ap (λ y. fold step now (g y)) is)
+
+taken_more : {X : Type 0} (xs : List X) (i : ℕ) (x : X) → i < length xs → x ≡ get_or xs i x → take (i + 1) xs ≡ take i xs ++ x ∷ []
+taken_more xs i x lt is = take_more xs i x lt ∙ ap (λ y. take i xs ++ y ∷ []) (sym is)
+
+pub pushed_more : {X Y : Type 0} (g : X → List Y) (before after : List Y) (xs : List X) (i : ℕ) (x : X) → i < length xs → x ≡ get_or xs i x
+    → before ≡ flat_map g (take i xs) → after ≡ before ++ g x → after ≡ flat_map g (take (i + 1) xs)
+pushed_more {Y = Y} g before after xs i x lt is so_far pushed =
+    let all : flat_map g (take (i + 1) xs) ≡ flat_map g (take i xs) ++ g x =
+    ap (flat_map g) (taken_more xs i x lt is) ∙ (flat_map-append g (take i xs) (x ∷ []) ∙ ap (λ (ys : List Y). flat_map g (take i xs) ++ ys) (append-nil (g x))) in
+    pushed ∙ (ap (λ (ys : List Y). ys ++ g x) so_far ∙ sym all)
+
+pub mapped_more : {X Y : Type 0} (g : X → Y) (before after : List Y) (xs : List X) (i : ℕ) (x : X) → i < length xs → x ≡ get_or xs i x
+    → before ≡ map g (take i xs) → after ≡ before ++ g x ∷ [] → after ≡ map g (take (i + 1) xs)
+mapped_more {Y = Y} g before after xs i x lt is so_far pushed =
+    let all : map g (take (i + 1) xs) ≡ map g (take i xs) ++ g x ∷ [] = ap (map g) (taken_more xs i x lt is) ∙ map-append g (take i xs) (x ∷ []) in
+    pushed ∙ (ap (λ (ys : List Y). ys ++ g x ∷ []) so_far ∙ sym all)

@@ -16,6 +16,7 @@ pub mod LogPlaces
 pub mod LogLaw
 pub mod LogSteps
 pub mod LogTables
+pub mod MarksMore
 pub mod LogOrderly
 pub mod LogDoubled
 pub mod LogGathered

@@ -10,7 +10,7 @@ ghost use Rattle.eos_table.specs.LogFaults.{log_cmp};
 ghost use Rattle.eos_table.specs.LogCandidates.{AreHomes, AreOwners, home_in, owner_of, split_at, shared_at, doubled_after};
 
 use crate::log_fault::{LogFault, LogFaultKind};
-use crate::log_least::{fault_at, lesser};
+use crate::log_least::{fault_at, offer};
 use crate::mark::{Mark, Place};
 use bytes::Bytes;
 use std::alloc::{AllocError, Global};
@@ -33,26 +33,23 @@ fn place_of(mark: &Mark) -> Place
 }
 
 // The record's id in a lesser partition.
-fn after_home(
-    best: Option<LogFault>,
-    homes: &mut Homes,
-    mark: &Mark,
-) -> Result<Option<LogFault>, AllocError>
-    ensures best { (before : List Mark) → AreHomes homes.old before → IfOk result (λ o. o ≡ fold (lesser_of log_cmp) best (split_at mark.now (home_in before mark.now.id))) }
+fn after_home(best: &mut Option<LogFault>, homes: &mut Homes, mark: &Mark) -> Result<(), AllocError>
+    ensures best { (before : List Mark) → AreHomes homes.old before → OnOk result (best.new ≡ fold (lesser_of log_cmp) best.old (split_at mark.now (home_in before mark.now.id))) }
     ensures homes { (before : List Mark) → AreHomes homes.old before → OnOk result (AreHomes homes.new (before ++ mark.now ∷ [])) }
 {
     let id = mark.id.clone()?;
     match homes.get(&mark.id) {
         None => {
             homes.insert(id, mark.partition)?;
-            Ok(best)
+            Ok(())
         }
         Some(home) => {
             if *home < mark.partition {
                 let kind = LogFaultKind::SplitId { id };
-                Ok(lesser(best, fault_at(place_of(mark), kind)))
+                offer(best, fault_at(place_of(mark), kind));
+                Ok(())
             } else {
-                Ok(best)
+                Ok(())
             }
         }
     }
@@ -60,28 +57,29 @@ fn after_home(
 
 // The record's producer id under another id.
 fn after_owner(
-    best: Option<LogFault>,
+    best: &mut Option<LogFault>,
     owners: &mut Owners,
     mark: &Mark,
-) -> Result<Option<LogFault>, AllocError>
-    ensures best { (before : List Mark) → AreOwners owners.old before → IfOk result (λ o. o ≡ fold (lesser_of log_cmp) best (shared_at mark.now (owner_of before mark.now.producer))) }
+) -> Result<(), AllocError>
+    ensures best { (before : List Mark) → AreOwners owners.old before → OnOk result (best.new ≡ fold (lesser_of log_cmp) best.old (shared_at mark.now (owner_of before mark.now.producer))) }
     ensures owners { (before : List Mark) → AreOwners owners.old before → OnOk result (AreOwners owners.new (before ++ mark.now ∷ [])) }
 {
     let Some(producer) = mark.producer else {
-        return Ok(best);
+        return Ok(());
     };
     let id = mark.id.clone()?;
     match owners.get(&producer) {
         None => {
             owners.insert(producer, id)?;
-            Ok(best)
+            Ok(())
         }
         Some(owner) => {
             if *owner == mark.id {
-                Ok(best)
+                Ok(())
             } else {
                 let kind = LogFaultKind::SharedProducer { id };
-                Ok(lesser(best, fault_at(place_of(mark), kind)))
+                offer(best, fault_at(place_of(mark), kind));
+                Ok(())
             }
         }
     }
@@ -99,8 +97,8 @@ pub(crate) fn least_doubled(
     let mut homes = BTreeMap::new(alloc);
     let mut owners = BTreeMap::new(alloc);
     for mark in marks {
-        let split = after_home(best, &mut homes, mark)?;
-        best = after_owner(split, &mut owners, mark)?;
+        after_home(&mut best, &mut homes, mark)?;
+        after_owner(&mut best, &mut owners, mark)?;
     }
     Ok(best)
 }

@@ -1,6 +1,6 @@
 //! One pass over the records of the transaction log.
 
-ghost use Rattle.std.specs.Prelude.{◌≡◌, [], ◌∷◌, ◌++◌, fold, unsigned_abs, IfOk, OnOk};
+ghost use Rattle.std.specs.Prelude.{◌≡◌, [], ◌∷◌, ◌++◌, fold, unsigned_abs, OnOk};
 ghost use Rattle.std.specs.List.{flat_map};
 ghost use Rattle.std.specs.Option.{option_copied, option_map};
 ghost use Rattle.eos_base.specs.Least.{lesser_of};
@@ -11,7 +11,7 @@ ghost use Rattle.eos_table.specs.LogCandidates.{after, unread, open_at, step_fau
 
 use crate::content::{Content, read_content};
 use crate::log_fault::{LogFault, LogFaultKind};
-use crate::log_least::{fault_at, lesser, offer};
+use crate::log_least::{fault_at, offer};
 use crate::mark::{Mark, Place, producer_of};
 use bytes::Bytes;
 use eos_batch::Kind;
@@ -196,23 +196,22 @@ fn end_of(part: &Part) -> Place
 
 // The lesser of the least so far and what is left unfinished at the end of a partition.
 fn least_open(
-    best: Option<LogFault>,
+    best: &mut Option<LogFault>,
     last: &LastValues,
     marks: &[Mark],
     end: Place,
-) -> Result<Option<LogFault>, AllocError>
-    ensures { IfOk result (λ o. o ≡ fold (lesser_of log_cmp) best (flat_map (open_at (state_of last.now) end.partition end.offset) marks.now)) }
+) -> Result<(), AllocError>
+    ensures { OnOk result (best.new ≡ fold (lesser_of log_cmp) best.old (flat_map (open_at (state_of last.now) end.partition end.offset) marks.now)) }
 {
-    let mut best = best;
     for mark in marks {
         if is_open(last, &mark.id) {
             let kind = LogFaultKind::Unfinished {
                 id: mark.id.clone()?,
             };
-            best = lesser(best, fault_at(end, kind));
+            offer(best, fault_at(end, kind));
         }
     }
-    Ok(best)
+    Ok(())
 }
 
 fn is_open(last: &LastValues, id: &Bytes) -> bool
@@ -243,8 +242,7 @@ impl LogReading {
         let from = self.marks.as_slice().len();
         let mut last = BTreeMap::new(alloc);
         take_records(alloc, self, &mut last, part)?;
-        let best = self.best.take();
-        self.best = least_open(best, &last, &self.marks[from..], end_of(part))?;
+        least_open(&mut self.best, &last, &self.marks[from..], end_of(part))?;
         Ok(())
     }
 }

@@ -1,5 +1,6 @@
-use Rattle.std.proofs.Common.{◌≡◌, ◌∙◌, ap, sym, map, take, length, List, []}
+use Rattle.std.proofs.Common.{◌≡◌, ◌∙◌, ap, sym, map, take, take_all, length, List, []}
 use Rattle.eos_claims.specs.Outputs.{Commit, committed_offset}
+use Rattle.eos_commits.specs.declared.commits.CommitRef.{CommitRef}
 use Rattle.eos_commits.specs.Plain.{plain_commit}
 use Rattle.eos_lineage.specs.steps.Tables.{set_named}
 use Rattle.eos_lineage.proofs.CommittedTable.{set_more, taken, length_of_map}
@@ -18,3 +19,11 @@ loop-commit-preserved c = record {
       ∙ (set_more c.args.names.now (map plain_commit (take c.loop-commit.commit-index c.args.commits.now)) _
       ∙ ap (λ (cs : List Commit). map (committed_offset cs) c.args.names.now) (taken plain_commit c.args.commits.now c.loop-commit.commit-index _ c.loop-commit-test.true)));
 }
+
+pub commit_one-requires : goal.commit_one-requires
+commit_one-requires c = c.loop-commit.invariant.len
+
+pub returns : goal.returns
+returns c = λ up.
+    c.loop-commit.invariant.offsets_are up
+    ∙ ap (λ (cs : List CommitRef). map (committed_offset (map plain_commit cs)) c.args.names.now) (take_all c.loop-commit.commit-index c.args.commits.now c.loop-commit-test.false)

@@ -19,7 +19,7 @@ returns-in_ok-insert-in-None-clause-owners c = λ before are.
 pub returns-then-eq-clause-best : goal.returns-then-eq-clause-best
 returns-then-eq-clause-best c = λ before are.
     let same = is_eq-slice_cmp c.in-Some-get.owner.now c.args.mark.now.id ∙ (sym c.eq.ensures ∙ c.if-eq.true) in
-    ap (fold (lesser_of log_cmp) c.args.best) (sym (shared_none c.args.owners.now before c.args.mark.now c.in-Some.producer c.in-Some-get.owner.now are c.in-Some.is (sym c.in-Some-get.ensures.value) same))
+    ap (fold (lesser_of log_cmp) c.args.best.now) (sym (shared_none c.args.owners.now before c.args.mark.now c.in-Some.producer c.in-Some-get.owner.now are c.in-Some.is (sym c.in-Some-get.ensures.value) same))
 
 pub returns-then-eq-clause-owners : goal.returns-then-eq-clause-owners
 returns-then-eq-clause-owners c = λ before are. owners_kept c.args.owners.now before c.args.mark.now c.in-Some.producer c.in-Some-get.owner.now are c.in-Some.is (sym c.in-Some-get.ensures.value)
@@ -28,8 +28,8 @@ pub returns-else-eq-clause-best : goal.returns-else-eq-clause-best
 returns-else-eq-clause-best c = λ before are.
     let copied : c.in_ok-id.id ≡ c.args.mark.now.id = search rules in
     let other = is_eq-slice_cmp c.in-Some-get.owner.now c.args.mark.now.id ∙ (sym c.eq.ensures ∙ c.if-eq.false) in
-    c.lesser.ensures ∙ (ap (lesser_of log_cmp c.args.best) (c.fault_at.ensures ∙ shared_fault c.args.mark.now c.place_of.result.partition c.place_of.result.offset c.in_ok-id.id c.place_of.ensures.partition c.place_of.ensures.offset copied)
-    ∙ ap (fold (lesser_of log_cmp) c.args.best) (sym (shared_one c.args.owners.now before c.args.mark.now c.in-Some.producer c.in-Some-get.owner.now are c.in-Some.is (sym c.in-Some-get.ensures.value) other)))
+    c.offer.ensures ∙ (ap (lesser_of log_cmp c.args.best.now) (c.fault_at.ensures ∙ shared_fault c.args.mark.now c.place_of.result.partition c.place_of.result.offset c.in_ok-id.id c.place_of.ensures.partition c.place_of.ensures.offset copied)
+    ∙ ap (fold (lesser_of log_cmp) c.args.best.now) (sym (shared_one c.args.owners.now before c.args.mark.now c.in-Some.producer c.in-Some-get.owner.now are c.in-Some.is (sym c.in-Some-get.ensures.value) other)))
 
 pub returns-else-eq-clause-owners : goal.returns-else-eq-clause-owners
 returns-else-eq-clause-owners c = λ before are. owners_kept c.args.owners.now before c.args.mark.now c.in-Some.producer c.in-Some-get.owner.now are c.in-Some.is (sym c.in-Some-get.ensures.value)

@@ -2,12 +2,31 @@ use Rattle.std.proofs.Common.{List, map, subst, sym, option_map, IsPermutation, 
 use Rattle.eos_table.specs.declared.key.NameRef.{NameRef}
 use Rattle.eos_table.specs.declared.key.Listed.{Listed}
 use Rattle.eos_table.specs.declared.key.Ended.{Ended}
-use Rattle.eos_table.specs.Keys.{decided, judged, listed, ended, marked, names, plain_name, plain_listed, plain_ended, pair_cmp}
+use Rattle.eos_table.specs.Keys.{decided, judged, listed, ended, marked, names, plain_name, plain_listed, plain_ended, pair_cmp, by_listed, by_ended, by_name}
+use Rattle.eos_fold.specs.Closes.{close_cmp}
 use Rattle.eos_table.specs.Candidates.{plain}
 use Rattle.eos_table.proofs.KeyExact.{finds_pairs, finds_closes, finds_listed, finds_ended, finds_names}
 use Rattle.eos_table.proofs.MatchSound.{AreKeys}
 use Rattle.eos_table.proofs.ShardAnswer.{joined}
 use Rattle.eos_table.proofs.shard.least.Goals as goal
+
+pub closes_of-at_closes-requires-clause-decided : goal.closes_of-at_closes-requires-clause-decided
+closes_of-at_closes-requires-clause-decided c = subst (λ z. IsSorted pair_cmp z) (sym c.as_slice-pairs.ensures.value) c.in_ok-decided.ensures.sorted
+
+pub closes_of-at_closes-requires-clause-judged : goal.closes_of-at_closes-requires-clause-judged
+closes_of-at_closes-requires-clause-judged c = subst (λ z. IsSorted close_cmp z) (sym c.as_slice-ends.ensures.value) c.in_ok-judged.ensures.sorted
+
+pub closes_of-at_closes-requires-clause-listed : goal.closes_of-at_closes-requires-clause-listed
+closes_of-at_closes-requires-clause-listed c = subst (λ z. IsSorted by_listed z) (sym c.as_slice-lists.ensures.value) c.in_ok-listed.ensures.sorted
+
+pub markers_of-at_markers-requires-clause-ended : goal.markers_of-at_markers-requires-clause-ended
+markers_of-at_markers-requires-clause-ended c = subst (λ z. IsSorted by_ended z) (sym c.as_slice-wanted.ensures.value) c.in_ok-ended.ensures.sorted
+
+pub names_of-requires-clause-names : goal.names_of-requires-clause-names
+names_of-requires-clause-names c = subst (λ z. IsSorted by_name z) (sym c.as_slice-there.ensures.value) c.in_ok-names.ensures.sorted
+
+pub names_of-requires-clause-marked : goal.names_of-requires-clause-marked
+names_of-requires-clause-marked c = subst (λ z. IsSorted by_ended z) (sym c.as_slice-marks.ensures.value) c.in_ok-marked.ensures.sorted
 
 pub returns : goal.returns
 returns c =

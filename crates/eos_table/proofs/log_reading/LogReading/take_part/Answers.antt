@@ -1,15 +1,12 @@
-use Rattle.std.proofs.Common.{ap, ◌∙◌, length, fold, take, drop, ◌-◌}
-use Rattle.std.specs.List.{flat_map}
-use Rattle.eos_base.specs.Least.{lesser_of}
-use Rattle.eos_table.specs.LogFaults.{log_cmp}
-use Rattle.eos_table.specs.LogCandidates.{LogRead, state_of, open_at}
+use Rattle.std.proofs.Common.{ap, ◌∙◌, length}
+use Rattle.eos_table.specs.LogCandidates.{LogRead, state_of}
 use Rattle.eos_table.proofs.LogSteps.{one_part, empty_state}
 use Rattle.eos_table.proofs.log_reading.LogReading.take_part.Goals as goal
 
 pub returns : goal.returns
 returns c =
     let mid : LogRead = record { marks = c.self-2.inside.marks.items; decisions = c.self-2.inside.decisions.items; best = c.self-2.inside.best } in
-    one_part c.args.part.now c.args.self.now mid (state_of c.new-last.result) (state_of c.take_records.new.last) (length c.as_slice-from.result.now) c.end_of.result.offset c.end_of.result.partition c.in_ok-self-inside.field-0 c.deref.result.now
+    one_part c.args.part.now c.args.self.now mid (state_of c.new-last.result) (state_of c.take_records.new.last) (length c.as_slice-from.result.now) c.end_of.result.offset c.end_of.result.partition c.least_open.new.best c.deref.result.now
     (empty_state c.new-last.result c.new-last.ensures.empty) (c.self-2.view_is ∙ c.in_ok-take_records.ensures.read) c.in_ok-take_records.ensures.last (ap length c.as_slice-from.ensures.value ∙ ap (λ (z : LogRead). length z.marks) c.self.view_is)
     c.end_of.ensures.partition c.end_of.ensures.offset c.deref.ensures.value
-    (c.in_ok-self-inside.ensures ∙ ap (λ z. fold (lesser_of log_cmp) z (flat_map (open_at (state_of c.take_records.new.last) c.end_of.result.partition c.end_of.result.offset) (take (length c.deref.result.now - length c.as_slice-from.result.now) (drop (length c.as_slice-from.result.now) c.deref.result.now)))) c.take-best.ensures.value)
+    c.in_ok-least_open.ensures
