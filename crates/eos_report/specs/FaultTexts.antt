@@ -4,7 +4,6 @@ use Rattle.std.specs.Prelude.{ℕ, ℤ, List, [], ◌++◌, codes, Option, None,
 use Rattle.std.specs.Fmt.{decimal, signed_decimal}
 use Rattle.eos_base.specs.declared.partition_name.PartitionName.{PartitionName}
 use Rattle.eos_base.specs.FaultNames.{record_fault_name}
-use Rattle.eos_batch.specs.Names as batches
 use Rattle.eos_check.specs.declared.verdict.Fault.{Fault}
 use Rattle.eos_check.specs.declared.verdict.Fault.TheVariants.{Partition as InPartition, Log, Match, Lineage}
 use Rattle.eos_check.specs.Verdicts.{phase_of, number_of, name_of}
@@ -14,10 +13,9 @@ use Rattle.eos_commits.specs.declared.fault.VisibleFault.{VisibleFault}
 use Rattle.eos_commits.specs.declared.fault.VisibleFaultKind.{VisibleFaultKind}
 use Rattle.eos_commits.specs.declared.fault.VisibleFaultKind.TheVariants.{BadLineage, BadOffset, SplitGroup, OffsetDeleted}
 use Rattle.eos_fold.specs.declared.fault.PartitionFault.{PartitionFault}
-use Rattle.eos_fold.specs.declared.fault.PartitionFaultKind.{PartitionFaultKind}
-use Rattle.eos_fold.specs.declared.fault.PartitionFaultKind.TheVariants.{BadBatch, Gap, Pair, End, OpenAtEnd}
 use Rattle.eos_lineage.specs.declared.fault.LineageFault.{LineageFault}
 use Rattle.eos_lineage.specs.declared.fault.LineageFault.TheVariants as lineage
+use Rattle.eos_segment.specs.Details.{details}
 use Rattle.eos_table.specs.declared.log_fault.LogFault.{LogFault}
 use Rattle.eos_table.specs.declared.log_fault.LogFaultKind.{LogFaultKind}
 use Rattle.eos_table.specs.declared.log_fault.LogFaultKind.TheVariants.{BadRecord, Step, SplitId, SharedProducer, Unfinished}
@@ -40,14 +38,6 @@ unfoldable pub place_text : Place → List ℕ
 place_text p = name_text p.partition.topic p.partition.partition ++ (codes ":" ++ decimal p.offset)
 
 -- ---- what stood there
-
--- phase 1
-unfoldable pub details : PartitionFaultKind → List ℕ
-details (BadBatch segment byte batch) = (codes " segment=" ++ decimal segment) ++ ((codes " byte=" ++ decimal byte) ++ (codes " batch=" ++ batches.name_of batch))
-details (Gap found) = codes " found=" ++ decimal found
-details (Pair fault producer) = codes " producer=" ++ signed_decimal producer
-details (End end) = codes " end=" ++ decimal end
-details (OpenAtEnd producer) = codes " producer=" ++ signed_decimal producer
 
 -- phase 2
 unfoldable pub log_details : LogFaultKind → List ℕ

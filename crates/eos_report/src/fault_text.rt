@@ -1,10 +1,9 @@
 //! The text of a fault: its phase and number, its name, where it stands, and what stood there.
 
 ghost use Rattle.std.specs.Prelude.{◌≡◌, ◌++◌, OnOk, string_bytes, codes};
-ghost use Rattle.std.specs.Fmt.{decimal};
 ghost use Rattle.eos_text.specs.Escaping.{escaped};
 ghost use Rattle.eos_text.specs.Adding.{Adds};
-ghost use Rattle.eos_report.specs.FaultTexts.{name_text, offset_text, place_text, details, log_details, in_partition, visible_details, at_claim, of_group, partition_text, log_text, match_text, visible_text, output_text, lineage_text, where_text, fault_text};
+ghost use Rattle.eos_report.specs.FaultTexts.{name_text, offset_text, place_text, log_details, in_partition, visible_details, at_claim, of_group, partition_text, log_text, match_text, visible_text, output_text, lineage_text, where_text, fault_text};
 
 use bytes::Bytes;
 use eos_base::PartitionName;
@@ -12,8 +11,9 @@ use eos_check::Fault;
 use eos_claims::{OutputFault, Place};
 use eos_commits::{VisibleFault, VisibleFaultKind};
 use eos_evidence::GroupId;
-use eos_fold::{PartitionFault, PartitionFaultKind};
+use eos_fold::PartitionFault;
 use eos_lineage::LineageFault;
+use eos_segment::push_details;
 use eos_table::{LogFault, LogFaultKind, MatchFault};
 use eos_text::{push_escaped, push_text, push_value};
 use std::alloc::{AllocError, Global};
@@ -92,34 +92,6 @@ fn push_partition(alloc: Global, out: &mut String, fault: &PartitionFault) -> Re
         fault.offset,
     )?;
     push_details(out, &fault.kind)?;
-    Ok(())
-}
-
-/// Adds what stood at a fault of one partition, by its kind.
-#[tactic(auto, unfolding(crate::specs::FaultTexts::details))]
-pub fn push_details(out: &mut String, kind: &PartitionFaultKind) -> Result<(), AllocError>
-    ensures { OnOk result (Adds (string_bytes out.old) (string_bytes out.new) (details kind.now)) }
-{
-    match kind {
-        PartitionFaultKind::BadBatch {
-            segment,
-            byte,
-            batch,
-        } => push_refusal(out, segment, byte, batch.name()),
-        PartitionFaultKind::Gap { found } => push_value(out, " found=", found),
-        PartitionFaultKind::Pair { producer, .. } => push_value(out, " producer=", producer),
-        PartitionFaultKind::End { end } => push_value(out, " end=", end),
-        PartitionFaultKind::OpenAtEnd { producer } => push_value(out, " producer=", producer),
-    }
-}
-
-fn push_refusal(out: &mut String, segment: &u64, byte: &u64, name: &str) -> Result<(), AllocError>
-    ensures { OnOk result (Adds (string_bytes out.old) (string_bytes out.new)
-        ((codes " segment=" ++ decimal segment.now) ++ ((codes " byte=" ++ decimal byte.now) ++ (codes " batch=" ++ name.now)))) }
-{
-    push_value(out, " segment=", segment)?;
-    push_value(out, " byte=", byte)?;
-    push_value(out, " batch=", &name)?;
     Ok(())
 }
 

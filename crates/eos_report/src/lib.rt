@@ -6,5 +6,4 @@ mod fault_text;
 mod report;
 
 pub use fault::ReportFault;
-pub use fault_text::push_details;
 pub use report::{verdict_json, verdict_line, write_verdict};

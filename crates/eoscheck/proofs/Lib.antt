@@ -1,3 +1,1 @@
-pub mod Listings
-pub mod Runs
 pub mod VerdictLines

@@ -1,8 +1,8 @@
 -- How a run of the program ends: the exit status, and what is said on standard error.
 use Rattle.std.specs.Prelude.{ℕ, List, [], ◌++◌, codes, Result, Ok, Err}
 use Rattle.eos_evidence.specs.Names.{spec_fault_name}
-use Rattle.eoscheck.specs.declared.fault.RunFault.{RunFault}
-use Rattle.eoscheck.specs.declared.fault.RunFault.TheVariants as faults
+use Rattle.eos_segment.specs.declared.fault.RunFault.{RunFault}
+use Rattle.eos_segment.specs.declared.fault.RunFault.TheVariants as faults
 use Rattle.eoscheck.specs.declared.ending.Ending.{Ending}
 use Rattle.eoscheck.specs.declared.ending.Ending.TheVariants.{Answered, Helped, BadWords, NotText, CannotRead, CannotWrite, Manifest, NotAtRest, Limit, OutOfMemory}
 

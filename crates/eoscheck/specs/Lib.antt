@@ -1,9 +1,3 @@
-pub mod Answer
 pub mod Checking
 pub mod Endings
-pub mod Faults
-pub mod Lines
-pub mod Listing
-pub mod Running
 pub mod Simulated
-pub mod steps

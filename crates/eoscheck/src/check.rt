@@ -5,13 +5,13 @@ ghost use Rattle.std.specs.Io.KnownBytes.{Keeps};
 ghost use Rattle.eos_text.specs.Writing.{Writes, WritesFrontOf};
 ghost use Rattle.eos_report.specs.VerdictTexts.{status_of};
 ghost use Rattle.eoscheck.specs.Checking.{IsCheckAnswer, verdict_answer};
-ghost use Rattle.eoscheck.specs.steps.Holding.{IsOfReading};
+ghost use Rattle.eos_segment.specs.Running.{IsOfReading};
 
-use crate::fault::RunFault;
 use eos_board::OpenGate;
 use eos_check::{Verdict, check};
 use eos_evidence::Evidence;
 use eos_report::{verdict_json, verdict_line};
+use eos_segment::RunFault;
 use eos_text::finish;
 use std::alloc::{AllocError, Global};
 use std::io::Write;
@@ -55,9 +55,15 @@ fn answer(
     ensures { IfOk result (λ r. IsCheckAnswer evidence.now json (string_bytes r.0) r.1) }
 {
     let verdict = check(alloc, rt, evidence, workers, &OpenGate)?;
-    let line = answer_line(alloc, &verdict, json)?;
-    let status = status_of(&verdict);
-    Ok((line, status))
+    told(alloc, &verdict, json)
+}
+
+/// The line of a verdict, as text or as JSON, and the exit status.
+fn told(alloc: Global, verdict: &Verdict, json: bool) -> Result<(String, u8), AllocError>
+    ensures { IfOk result (λ r. (string_bytes r.0 ≡ verdict_answer json verdict.now) × (r.1 ≡ status_of verdict.now)) }
+{
+    let line = answer_line(alloc, verdict, json)?;
+    Ok((line, status_of(verdict)))
 }
 
 /// The line of a verdict, as text or as JSON.

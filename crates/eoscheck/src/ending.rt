@@ -3,8 +3,8 @@
 ghost use Rattle.std.specs.Prelude.{◌≡◌, Some};
 ghost use Rattle.eoscheck.specs.Endings.{status_of, message_of, status_after, message_after};
 
-use crate::fault::RunFault;
 use eos_evidence::SpecFault;
+use eos_segment::RunFault;
 use std::fmt::{Display, Formatter, Write};
 
 /// How a run ended. Printed, it is what standard error is told: one line, or nothing.

@@ -1,17 +1,11 @@
 //! A run: the words, the files and streams that they name, and what the outside is told.
 
-ghost use Rattle.std.specs.Prelude.{◌≡◌, ◌≢◌, Ok};
-
-use crate::chain::chain_to;
 use crate::check::check_to;
-use crate::dump::dump_to;
 use crate::ending::Ending;
-use crate::fault::RunFault;
-use crate::folder::{FolderFault, read_folder};
-use crate::simulate::{SimulationFault, simulate, told_to};
-use crate::words::{Answer, Check, Request, Simulation, make_command, read_request};
-use crate::writing::{WritingFault, make_folder, write_evidence};
-use clap::error::{Error, ErrorKind as WordsFault};
+use crate::simulate::{SimulationFault, simulate, switch_named, told_to};
+use eos_folder::{FolderFault, WritingFault, make_folder, read_folder, write_evidence};
+use eos_segment::{RunFault, chain_to, dump_to};
+use eos_words::{Answer, Check, NoRequest, Request, Simulation, read_words};
 use std::alloc::Global;
 use std::fs::File;
 use std::io::{ErrorKind, Read};
@@ -25,43 +19,25 @@ const STANDARD: &str = "-";
 /// Does what the words of the command line say, and gives the exit status.
 pub(crate) fn run(rt: &HostRuntime, threads: &(impl Threads + Wait + Sync)) -> u8 {
     let alloc = rt.alloc();
-    match read_words(rt, alloc) {
+    match take_words(rt, alloc) {
         Ok(words) => obey(rt, threads, words.as_slice()),
         Err(e) if e.kind() == ErrorKind::OutOfMemory => end(rt, Ending::OutOfMemory),
         Err(_) => end(rt, Ending::NotText),
     }
 }
 
-fn read_words(rt: &HostRuntime, alloc: Global) -> io::Result<Vec<String>> {
+fn take_words(rt: &HostRuntime, alloc: Global) -> io::Result<Vec<String>> {
     let words: Vec<String> = env::args(rt)?.collect(alloc)?;
     Ok(words)
 }
 
 fn obey(rt: &HostRuntime, threads: &(impl Threads + Wait + Sync), words: &[String]) -> u8 {
-    let Ok(command) = make_command(rt.alloc()) else {
-        return end(rt, Ending::OutOfMemory);
-    };
-    match command.try_get_matches_from(words) {
-        Ok(matches) => match read_request(&matches) {
-            Some(request) => act(rt, threads, request),
-            None => end(rt, Ending::BadWords),
-        },
-        Err(e) => end(rt, explain(rt, &e)),
-    }
-}
-
-/// Prints why there are no words to act on: help that was asked for, or a mistake.
-fn explain(rt: &HostRuntime, e: &Error) -> Ending<'static> {
-    if e.kind() == WordsFault::OutOfMemory {
-        return Ending::OutOfMemory;
-    }
-    let printed = e.print(rt);
-    if e.use_stderr() {
-        return Ending::BadWords;
-    }
-    match printed {
-        Ok(()) => Ending::Helped,
-        Err(_) => Ending::CannotWrite(STANDARD),
+    match read_words(rt, rt.alloc(), words) {
+        Ok(request) => act(rt, threads, request),
+        Err(NoRequest::Helped) => end(rt, Ending::Helped),
+        Err(NoRequest::CannotPrint) => end(rt, Ending::CannotWrite(STANDARD)),
+        Err(NoRequest::BadWords) => end(rt, Ending::BadWords),
+        Err(NoRequest::OutOfMemory) => end(rt, Ending::OutOfMemory),
     }
 }
 
@@ -106,10 +82,17 @@ fn check_folder(rt: &HostRuntime, threads: &(impl Threads + Wait + Sync), words:
 
 /// Writes what a simulated cluster leaves as a new folder, and on standard output that it did.
 fn simulate_folder(rt: &HostRuntime, words: Simulation<'_>) -> u8 {
+    let switch = match words.switch {
+        None => None,
+        Some(name) => match switch_named(name) {
+            Some(switch) => Some(switch),
+            None => return end(rt, Ending::BadWords),
+        },
+    };
     if let Err(fault) = make_folder(rt, words.folder) {
         return end_unwritten(rt, fault);
     }
-    let evidence = match simulate(rt.alloc(), words.seed, words.events, words.switch) {
+    let evidence = match simulate(rt.alloc(), words.seed, words.events, switch) {
         Ok(evidence) => evidence,
         Err(SimulationFault::NotAtRest) => return end(rt, Ending::NotAtRest),
         Err(SimulationFault::Limit) => return end(rt, Ending::Limit),

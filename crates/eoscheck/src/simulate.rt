@@ -1,20 +1,21 @@
 //! `simulate`: what a simulated cluster leaves behind.
 
-ghost use Rattle.std.specs.Prelude.{◌≡◌, ◌≤◌, ◌+◌, ◌*◌, ◌/◌, true, None, Err, IfOk, OnErr, string_bytes};
+ghost use Rattle.std.specs.Prelude.{◌≡◌, ◌≤◌, ◌+◌, ◌*◌, ◌/◌, true, None, Err, IfOk, IfSome, OnErr, string_bytes};
 ghost use Rattle.std.specs.Io.KnownBytes.{Appends, Keeps};
+ghost use Rattle.eos_cluster.specs.Names.{switch_name};
 ghost use Rattle.eos_text.specs.Writing.{WritesFront};
 ghost use Rattle.eos_machine.specs.Places.{place_count};
 ghost use Rattle.eos_logs.specs.Evidences.{HasRoomForAll};
 ghost use Rattle.eos_schedules.specs.Schedules.{HasRightLogs, HasNoFaultInLogs};
 ghost use Rattle.eoscheck.specs.Simulated.{wrote_line};
-ghost use Rattle.eoscheck.specs.steps.Holding.{IsOfReading};
+ghost use Rattle.eos_segment.specs.Running.{IsOfReading};
 ghost use Rattle.eoscheck.specs.declared.simulate.SimulationFault.TheVariants.{OutOfMemory};
 
-use crate::fault::RunFault;
 use eos_cluster::{Cluster, EvidenceRefusal, NewFault, Switch, Switches};
 use eos_drive::{Script, run_script, run_tail};
 use eos_evidence::{Evidence, MAX_SEGMENTS};
 use eos_machine::Config;
+use eos_segment::RunFault;
 use eos_text::{finish, push_text, push_value};
 use std::alloc::{AllocError, AllocFailed, Global};
 use std::io::Write;
@@ -135,4 +136,25 @@ fn line_of(alloc: Global, evidence: &Evidence) -> Result<String, AllocError>
     push_value(&mut line, "wrote partitions=", &evidence.partitions().len())?;
     push_text(&mut line, "\n")?;
     Ok(line)
+}
+
+/// The switch of this name.
+pub(crate) fn switch_named(name: &str) -> Option<Switch>
+    ensures { IfSome result (λ switch. switch_name switch ≡ name.now) }
+{
+    let switches = [
+        Switch::KeepDuplicates,
+        Switch::NoFence,
+        Switch::NoBump,
+        Switch::LoseMarker,
+        Switch::SwapMarker,
+        Switch::HideListing,
+        Switch::IgnoreGeneration,
+    ];
+    for switch in switches {
+        if switch.name() == name {
+            return Some(switch);
+        }
+    }
+    None
 }

@@ -1,0 +1,73 @@
+//! Writing evidence as a folder.
+
+use crate::paths::{manifest_path, partition_path, segment_path};
+use eos_evidence::{Evidence, Partition, spec_text};
+use std::alloc::AllocError;
+use std::io::ErrorKind;
+use std::{fs, io};
+
+/// Why evidence wasn't written.
+#[derive(Drop)]
+pub enum WritingFault {
+    /// This file or folder can't be written.
+    CannotWrite(String),
+    /// A growth of memory was refused.
+    OutOfMemory,
+}
+
+impl From<AllocError> for WritingFault {
+    fn from(_e: AllocError) -> WritingFault {
+        WritingFault::OutOfMemory
+    }
+}
+
+/// Writes evidence into a folder that is there and empty: the manifest, and for each partition a folder `TOPIC-N` with its
+/// segments.
+///
+/// # Errors
+/// Some of it may have been written.
+pub fn write_evidence(
+    rt: &HostRuntime,
+    folder: &str,
+    evidence: &Evidence,
+) -> Result<(), WritingFault> {
+    let text = spec_text(rt.alloc(), evidence.spec())?;
+    let path = manifest_path(rt.alloc(), folder)?;
+    write_file(rt, &path, text.as_slice())?;
+    for partition in evidence.partitions() {
+        write_partition(rt, folder, partition)?;
+    }
+    Ok(())
+}
+
+fn write_partition(
+    rt: &HostRuntime,
+    folder: &str,
+    partition: &Partition,
+) -> Result<(), WritingFault> {
+    let path = partition_path(rt.alloc(), folder, &partition.end)?;
+    make_folder(rt, &path)?;
+    for segment in partition.segments.as_slice() {
+        let path = segment_path(rt.alloc(), folder, &partition.end, segment.base)?;
+        write_file(rt, &path, segment.bytes.as_slice())?;
+    }
+    Ok(())
+}
+
+/// Makes a folder, which may not be there.
+pub fn make_folder(rt: &HostRuntime, path: &str) -> Result<(), WritingFault> {
+    written(rt, fs::create_dir(rt, path), path)
+}
+
+fn write_file(rt: &HostRuntime, path: &str, bytes: &[u8]) -> Result<(), WritingFault> {
+    written(rt, fs::write(rt, path, bytes), path)
+}
+
+/// What has become of this file or folder.
+fn written(rt: &HostRuntime, done: io::Result<()>, path: &str) -> Result<(), WritingFault> {
+    match done {
+        Ok(()) => Ok(()),
+        Err(e) if e.kind() == ErrorKind::OutOfMemory => Err(WritingFault::OutOfMemory),
+        Err(_) => Err(WritingFault::CannotWrite(String::from_str(rt.alloc(), path)?)),
+    }
+}

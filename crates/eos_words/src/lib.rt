@@ -1,0 +1,10 @@
+//! The words of the command line: what they ask for, and what help says.
+#![tactic(auto)]
+
+mod arguments;
+mod command;
+mod help;
+mod request;
+
+pub use command::read_words;
+pub use request::{Answer, Check, NoRequest, Request, Simulation};
