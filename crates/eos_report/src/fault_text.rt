@@ -1,7 +1,6 @@
 //! The text of a fault: its phase and number, its name, where it stands, and what stood there.
 
 ghost use Rattle.std.specs.Prelude.{◌≡◌, ◌++◌, OnOk, string_bytes, codes};
-ghost use Rattle.std.specs.Fmt.{decimal};
 ghost use Rattle.eos_text.specs.Escaping.{escaped};
 ghost use Rattle.eos_text.specs.Adding.{Adds};
 ghost use Rattle.eos_report.specs.FaultTexts.{name_text, offset_text, place_text, log_details, in_partition, visible_details, at_claim, of_group, partition_text, log_text, match_text, visible_text, output_text, lineage_text, where_text, fault_text};

@@ -1,7 +1,5 @@
 //! A run: the words, the files and streams that they name, and what the outside is told.
 
-ghost use Rattle.std.specs.Prelude.{◌≡◌, ◌≢◌, Ok};
-
 use crate::check::check_to;
 use crate::ending::Ending;
 use crate::simulate::{SimulationFault, simulate, switch_named, told_to};
