@@ -1,41 +1,102 @@
 #!/usr/bin/env -S python3 -B
-"""Each sample segment, cut at the borders of its batches and joined in three orders, says what it says whole.
+"""Logs, cut at the borders of their batches and joined in three orders, say what they say whole.
 
-    tests/join_orders.py crates/eos_fold_tests/out/eos_fold_tests_tests SEGMENTS
+    tests/join_orders.py PROBE SEGMENTS TABLE
 
-Runs the test of it once for each segment that SEGMENTS/cases names. The segment is cut at each border by itself and at all of
-them at once, also before a batch that can't be read; how many batches it has is read from its listing, so that none is
-missed. It prints what failed and what was seen, and ends in 1 where one failed or there are fewer segments than files.
+The logs are the segments that SEGMENTS/cases names, in a topic whose sequences are checked and in one whose sequences
+aren't, and the logs of one segment in TABLE. Each is cut at each border by itself and at all of them at once, also before
+a batch that can't be read; how many batches a segment has is read from its listing, so that none is missed. The probe's
+call `part` says everything of a log: its fault, the ends of its transactions, its markers and its records. The script
+prints what differs and how much was compared, and ends in 1 where something differs or there are too few logs.
 """
 import os
+import re
 import subprocess
 import sys
 
-TEST = "cuts::equal_in_every_order"
+import plain_logs
+import tables
+from mutants import Refused
+
+NAMES = "out-0", "__consumer_offsets-0"
 
 
-def failure(program, path):
-    """Why the test fails on this segment, or None."""
-    with open(f"{path}.dump", encoding="utf-8") as listing:
-        batches = sum(line.startswith("batch ") for line in listing)
-    words = dict(os.environ, EOSCHECK_SEGMENT=f"{path}.log", EOSCHECK_BATCHES=str(batches))
-    done = subprocess.run([program, TEST], env=words, capture_output=True, text=True, errors="replace", timeout=60)
-    return f"status {done.returncode}, {done.stderr[-300:]}" if done.returncode else None
+def places_of(data):
+    """The places before and behind each batch, up to bytes that are none: the byte, and the next record's offset."""
+    places = [(0, 0)]
+    while places[-1][0] < len(data):
+        try:
+            batch, size = plain_logs.read_batch(data, places[-1][0])
+        except Refused:
+            break
+        places.append((places[-1][0] + size, batch.base + batch.count))
+    return places
+
+
+def of_segments(folder):
+    """The logs of the segments: name, end and bytes."""
+    with open(os.path.join(folder, "cases"), encoding="utf-8") as cases:
+        names = cases.read().split()
+    for case in names:
+        path = os.path.join(folder, case)
+        with open(f"{path}.log", "rb") as file:
+            data = file.read()
+        with open(f"{path}.dump", encoding="utf-8") as listing:
+            batches = sum(line.startswith("batch ") for line in listing)
+        places = places_of(data)
+        if len(places) != batches + 1:
+            sys.exit(f"{case}: {len(places) - 1} batches, not {batches}")
+        for name in NAMES:
+            yield name, places[-1][1], data
+
+
+def of_table(table):
+    """The logs of one segment in a table."""
+    for row in tables.rows_of(table)[0]:
+        found = re.fullmatch(r"\S+ (\S+):(-?\d+):0/([0-9a-f]+)", row.call)
+        if found:
+            yield found[1], int(found[2]), bytes.fromhex(found[3])
+
+
+def calls_of(name, end, data):
+    """The calls for one log, each with its cuts, of which the first is the call for it whole."""
+    places = places_of(data)
+    cuts = [("left", places[:1])] + [("left", [places[0], place]) for place in places[1:]]
+    for order, chosen in cuts + [(order, places) for order in ("left", "right", "pairs")]:
+        ends = [byte for byte, _ in chosen[1:]] + [len(data)]
+        pieces = [f"{offset}/{data[byte:end].hex() or '-'}" for (byte, offset), end in zip(chosen, ends)]
+        yield f"part {order} {name}:{end}:{','.join(pieces)}", {offset: byte for byte, offset in chosen}
+
+
+def counted(answer, cuts):
+    """The answer, with the byte of a batch that can't be read counted from the log's begin: it and the segment's name are
+    all that follows the cut."""
+
+    def place(found):
+        return f" segment=0 byte={cuts[int(found[1])] + int(found[2])} batch="
+
+    return re.sub(r" segment=(\d+) byte=(\d+) batch=(?=[A-Za-z]+$)", place, answer)
 
 
 def main():
-    program, folder = sys.argv[1:]
-    with open(os.path.join(folder, "cases"), encoding="utf-8") as cases:
-        names = cases.read().split()
-    failures = 0
-    for name in names:
-        why = failure(program, os.path.join(folder, name))
-        if why:
-            failures += 1
-            print(f"{name}: {why}")
-    print(f"{len(names)} segments, {failures} failures")
+    probe, folder, table = sys.argv[1:]
+    segments, rows = list(of_segments(folder)), list(of_table(table))
+    logs = [list(calls_of(*log)) for log in segments + rows]
+    lines = [call for log in logs for call, _ in log]
+    done = subprocess.run([probe], input="\n".join(lines + [""]).encode(), capture_output=True, timeout=600)
+    answers = done.stdout.decode().splitlines()
+    if done.returncode or len(answers) != len(lines):
+        sys.exit(f"status {done.returncode}, {len(answers)} answers to {len(lines)} calls: {done.stderr.decode()[:300]}")
+    failures, answers = 0, iter(answers)
+    for log in logs:
+        said = [counted(answer, cuts) for answer, (_, cuts) in zip(answers, log)]
+        for (call, _), answer in zip(log, said):
+            if answer != said[0] or not answer.startswith("["):
+                failures += 1
+                print(f"{call[:200]}\n    is   {answer[-300:]}\n    not  {said[0][-300:]}")
+    print(f"{len(segments)} segments, {len(rows)} logs of the table, {len(lines)} calls, {failures} failures")
     files = sum(name.endswith(".log") for name in os.listdir(folder))
-    return 1 if failures or len(names) < max(files, 18) else 0
+    return 1 if failures or len(segments) < 2 * max(files, 18) or len(rows) < 56 else 0
 
 
 if __name__ == "__main__":

@@ -9,7 +9,8 @@ of no row, a table without rows and a probe that ends early or in a status other
 
 Bytes may be put together between '<' and '>', of hexadecimal digits, texts such as 'in', and names in capitals. Each may
 be cut, as in KEY[2:], and repeated, as in 'a'*300; a '#' in a text is the number of the repetition. They stand for their
-digits, or for '-' where there are none. A line 'NAME = <..>' gives bytes a name. What stands in braces in ARGS is written out as bytes by tests/table_logs.py.
+digits, or for '-' where there are none. A line 'NAME = <..>' gives bytes a name. What stands in braces in ARGS is written out
+as bytes by tests/table_logs.py, with the pieces that lines 'let NAME = ..' name.
 """
 import collections
 import glob
@@ -49,25 +50,28 @@ def bytes_of(parts, names):
     return found.hex() or "-"
 
 
-def written_out(text, names):
+def written_out(text, names, pieces):
     """A text with the digits of its bytes in their place."""
     text = PARTS.sub(lambda match: bytes_of(match[1], names), text)
     if "{" in text and table_logs:
-        text = PARTS.sub(lambda match: bytes_of(match[1], names), table_logs.expand(text))
+        text = PARTS.sub(lambda match: bytes_of(match[1], names), table_logs.expand(text, pieces))
     return text
 
 
-def row_of(line, names):
+def row_of(line, names, pieces):
     """The call and the answer of a row, or None where the line gives a name."""
+    if line.startswith("let ") and table_logs:
+        table_logs.define(line, pieces)
+        return None
     naming = NAMING.fullmatch(line)
     if naming:
-        names[naming[1]] = bytes.fromhex(written_out(naming[2], names)).hex()
+        names[naming[1]] = bytes.fromhex(written_out(naming[2], names, pieces)).hex()
         return None
     call, arrow, answer = (line + " ").partition(" => ")
     if not arrow or not call.strip() or not answer.strip():
         raise ValueError("no row")
     answer = PARTS.sub(lambda match: bytes_of(match[1], names), answer)
-    call = written_out(call, names).strip()
+    call = written_out(call, names, pieces).strip()
     if "<" in call:
         raise ValueError("bytes that can't be put together")
     return call, answer.strip()
@@ -75,7 +79,7 @@ def row_of(line, names):
 
 def rows_of(table):
     """The rows of a table, and a text for each line that is none."""
-    rows, bad, names = [], [], {}
+    rows, bad, names, pieces = [], [], {}, {}
     with open(table, encoding="utf-8") as file:
         lines = file.read().split("\n")
     for number, line in enumerate(lines, 1):
@@ -83,7 +87,7 @@ def rows_of(table):
         if not line or line.startswith("#"):
             continue
         try:
-            row = row_of(line, names)
+            row = row_of(line, names, pieces)
         except Exception as error:
             bad.append(f"{place}: {type(error).__name__}, {error}: {line[:100]}")
             continue

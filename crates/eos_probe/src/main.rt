@@ -7,27 +7,28 @@ mod formats;
 mod layers;
 mod words;
 
-use std::alloc::{AllocError, Global};
+use std::alloc::Global;
 use std::io;
+use std::thread::Threads;
 
 /// What the call of a line answers, as a line.
-fn answer(alloc: Global, line: &str) -> Result<String, AllocError> {
+fn answer(rt: &(impl Threads + Sync), alloc: Global, line: &str) -> io::Result<String> {
     let (call, rest) = line.split_once(' ').unwrap_or((line, ""));
     if let Some(text) = formats::answer(alloc, call, rest)? {
         return Ok(text);
     }
-    if let Some(text) = layers::answer(alloc, call, rest)? {
+    if let Some(text) = layers::answer(rt, alloc, call, rest)? {
         return Ok(text);
     }
     if let Some(text) = cluster::answer(alloc, call, rest)? {
         return Ok(text);
     }
-    format!(in alloc; "no such call")
+    Ok(format!(in alloc; "no such call")?)
 }
 
 fn main(rt: HostRuntime) -> io::Result<()> {
     for line in rt.lines(rt.alloc()) {
-        let text = answer(rt.alloc(), line?.as_str())?;
+        let text = answer(&rt, rt.alloc(), line?.as_str())?;
         println!(rt; "{text}")?;
     }
     Ok(())

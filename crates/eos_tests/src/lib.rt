@@ -15,10 +15,4 @@ mod chain;
 #[cfg(test)]
 mod claims;
 #[cfg(test)]
-mod fold;
-#[cfg(test)]
 mod items;
-#[cfg(test)]
-mod report;
-#[cfg(test)]
-mod table;

@@ -1,20 +1,29 @@
-//! Three orders in which a log's pieces are joined.
+//! Three orders in which a log's runs are joined.
 
 ghost use Rattle.std.specs.Prelude.{IsTrue};
 ghost use Rattle.eos_fold.specs.Sums.{Follows};
 
 use eos_fold::Named;
 use std::alloc::{AllocError, Global};
-use std::test::Fail;
+use std::io::{self, ErrorKind};
 
 #[derive(Clone, Copy)]
-pub(crate) enum Order {
-    /// Each piece is put behind those before it.
+pub(super) enum Order {
+    /// Each run is put behind those before it.
     FromTheLeft,
-    /// Each piece is put before those behind it.
+    /// Each run is put before those behind it.
     FromTheRight,
     /// Neighbours are joined in pairs, and then the pairs, until one run is left.
     ByPairs,
+}
+
+pub(super) fn order_of(word: &str) -> io::Result<Order> {
+    match word {
+        "left" => Ok(Order::FromTheLeft),
+        "right" => Ok(Order::FromTheRight),
+        "pairs" => Ok(Order::ByPairs),
+        _ => Err(ErrorKind::InvalidInput.into()),
+    }
 }
 
 /// Whether the second run follows the first.
@@ -31,9 +40,9 @@ fn follows(before: &Named, after: &Named) -> bool
 }
 
 /// One run of two, of which the second follows the first.
-fn merged(alloc: Global, before: Named, after: Named) -> Result<Named, Fail> {
+fn merged(alloc: Global, before: Named, after: Named) -> io::Result<Named> {
     if !follows(&before, &after) {
-        return Err(Fail::new("no neighbours"));
+        return Err(ErrorKind::InvalidInput.into());
     }
     match Named::merge(alloc, before, after) {
         Ok(run) => Ok(run),
@@ -41,26 +50,30 @@ fn merged(alloc: Global, before: Named, after: Named) -> Result<Named, Fail> {
     }
 }
 
-fn from_the_left(alloc: Global, runs: Vec<Named>) -> Result<Named, Fail> {
-    let mut runs = runs.into_iter();
-    let mut run = runs.next().ok_or("no runs")?;
-    for next in runs {
-        run = merged(alloc, run, next)?;
+fn from_the_left(alloc: Global, runs: Vec<Named>) -> io::Result<Option<Named>> {
+    let mut all = None;
+    for run in runs {
+        all = match all {
+            None => Some(run),
+            Some(before) => Some(merged(alloc, before, run)?),
+        };
     }
-    Ok(run)
+    Ok(all)
 }
 
-fn from_the_right(alloc: Global, runs: Vec<Named>) -> Result<Named, Fail> {
-    let mut runs = runs.into_iter().rev();
-    let mut run = runs.next().ok_or("no runs")?;
-    for before in runs {
-        run = merged(alloc, before, run)?;
+fn from_the_right(alloc: Global, runs: Vec<Named>) -> io::Result<Option<Named>> {
+    let mut all = None;
+    for run in runs.into_iter().rev() {
+        all = match all {
+            None => Some(run),
+            Some(after) => Some(merged(alloc, run, after)?),
+        };
     }
-    Ok(run)
+    Ok(all)
 }
 
 /// The first run with the second, the third with the fourth, and so on.
-fn paired(alloc: Global, runs: Vec<Named>) -> Result<Vec<Named>, Fail> {
+fn paired(alloc: Global, runs: Vec<Named>) -> io::Result<Vec<Named>> {
     let mut pairs = Vec::new(alloc);
     let mut first = None;
     for run in runs {
@@ -75,18 +88,20 @@ fn paired(alloc: Global, runs: Vec<Named>) -> Result<Vec<Named>, Fail> {
     Ok(pairs)
 }
 
-fn by_pairs(alloc: Global, mut runs: Vec<Named>) -> Result<Named, Fail> {
-    for _ in 0..64 {
-        runs = paired(alloc, runs)?;
-    }
-    from_the_left(alloc, runs)
-}
-
-/// The one run of these, joined in this order.
-pub(crate) fn joined(alloc: Global, runs: Vec<Named>, order: Order) -> Result<Named, Fail> {
+/// The one run of these, joined in this order; none of none.
+pub(super) fn joined(
+    alloc: Global,
+    mut runs: Vec<Named>,
+    order: Order,
+) -> io::Result<Option<Named>> {
     match order {
         Order::FromTheLeft => from_the_left(alloc, runs),
         Order::FromTheRight => from_the_right(alloc, runs),
-        Order::ByPairs => by_pairs(alloc, runs),
+        Order::ByPairs => {
+            for _ in 0..64 {
+                runs = paired(alloc, runs)?;
+            }
+            from_the_left(alloc, runs)
+        }
     }
 }
