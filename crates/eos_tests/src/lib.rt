@@ -1,18 +1,10 @@
-//! The tests of the other crates' public calls, one file a layer: a crate with tests is proved twice, and this one has
-//! nothing but tests.
+//! The tests of the other crates' public calls that no table of cases can say: readers of one's own, a partition's log whose
+//! calls ask for room, and the laws. A crate with tests is proved twice, and this one has nothing but tests.
 #![tactic(auto)]
 
 #[cfg(test)]
-mod batch;
-#[cfg(test)]
-mod batch_written;
-#[cfg(test)]
 mod broker;
 #[cfg(test)]
-mod build;
+mod laws;
 #[cfg(test)]
-mod chain;
-#[cfg(test)]
-mod claims;
-#[cfg(test)]
-mod items;
+mod segment_reader;

@@ -1,0 +1,22 @@
+//! Laws that are functions which do nothing: each is called of values that are what it asks for.
+
+use eos_batch::Kind;
+use eos_batch::laws::prefix_free;
+use eos_touch::Touch;
+use eos_touch::laws::neighbours;
+
+#[test]
+fn hold_of_samples(_rt: HostRuntime) {
+    let plain = Touch::Data {
+        epoch: 1,
+        transactional: false,
+        sequence: 0,
+        count: 1,
+    };
+    let commit = Touch::End {
+        epoch: 1,
+        kind: Kind::Commit,
+    };
+    neighbours(&[plain, commit], true);
+    prefix_free(b"a", b"ab");
+}
