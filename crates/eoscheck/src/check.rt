@@ -55,15 +55,9 @@ fn answer(
     ensures { IfOk result (λ r. IsCheckAnswer evidence.now json (string_bytes r.0) r.1) }
 {
     let verdict = check(alloc, rt, evidence, workers, &OpenGate)?;
-    told(alloc, &verdict, json)
-}
-
-/// The line of a verdict, as text or as JSON, and the exit status.
-fn told(alloc: Global, verdict: &Verdict, json: bool) -> Result<(String, u8), AllocError>
-    ensures { IfOk result (λ r. (string_bytes r.0 ≡ verdict_answer json verdict.now) × (r.1 ≡ status_of verdict.now)) }
-{
-    let line = answer_line(alloc, verdict, json)?;
-    Ok((line, status_of(verdict)))
+    let line = answer_line(alloc, &verdict, json)?;
+    let status = status_of(&verdict);
+    Ok((line, status))
 }
 
 /// The line of a verdict, as text or as JSON.
