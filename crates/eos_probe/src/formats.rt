@@ -10,7 +10,6 @@ mod txnlog;
 mod wire;
 
 use crate::words::{bytes_of, first_of};
-use bytes::Bytes;
 use std::alloc::{AllocError, Global};
 
 /// What a call answers, or None where it is another module's.
@@ -21,7 +20,6 @@ pub(crate) fn answer(alloc: Global, call: &str, rest: &str) -> Result<Option<Str
     let answer = match call {
         "fault_names" => names::of_family(alloc, rest),
         "pair_ok" => Some(touches::pair(alloc, rest)),
-        "read_claim" => Some(claims::read(alloc, rest)),
         "least_of_runs" => Some(claims::least(alloc, rest)),
         _ => with_bytes(alloc, call, rest),
     };
@@ -31,32 +29,12 @@ pub(crate) fn answer(alloc: Global, call: &str, rest: &str) -> Result<Option<Str
     }
 }
 
-/// What a call answers whose first word is bytes.
+/// What a call answers whose first word is bytes: the modules ask each other, in the order of the layers.
 fn with_bytes(alloc: Global, call: &str, rest: &str) -> Answer {
     let (first, more) = first_of(rest);
     match bytes_of(alloc, first) {
         Ok(None) => None,
-        Ok(Some(bytes)) => of_bytes(alloc, call, &bytes, more),
+        Ok(Some(bytes)) => wire::answer(alloc, call, &bytes, more),
         Err(error) => Some(Err(error)),
     }
-}
-
-fn of_bytes(alloc: Global, call: &str, bytes: &Bytes, more: &str) -> Answer {
-    let answer = wire::answer(alloc, call, bytes.as_slice(), more);
-    if answer.is_some() {
-        return answer;
-    }
-    let answer = txnlog::answer(alloc, call, bytes, more);
-    if answer.is_some() {
-        return answer;
-    }
-    let answer = offsets::answer(alloc, call, bytes, more);
-    if answer.is_some() {
-        return answer;
-    }
-    let answer = evidence::answer(alloc, call, bytes.as_slice(), more);
-    if answer.is_some() {
-        return answer;
-    }
-    batch::answer(alloc, call, bytes, more)
 }

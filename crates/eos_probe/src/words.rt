@@ -28,12 +28,12 @@ pub(crate) fn shown<T: Debug + Drop>(alloc: Global, value: T) -> Result<String, 
 }
 
 /// The digits of what was written, or the fault.
-pub(crate) fn digits_of<F: Debug + Drop>(
+pub(crate) fn digits_of<B: AsSlice<u8> + Drop, F: Debug + Drop>(
     alloc: Global,
-    written: Result<Bytes, F>,
+    written: Result<B, F>,
 ) -> Result<String, AllocError> {
     match written {
-        Ok(bytes) => hex::encode(alloc, bytes.as_slice()),
+        Ok(bytes) => hex::encode(alloc, bytes),
         Err(fault) => shown(alloc, fault),
     }
 }

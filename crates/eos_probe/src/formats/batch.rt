@@ -6,6 +6,7 @@ use bytes::Bytes;
 use eos_batch::{
     Batch, BatchFault, Headers, Marker, Record, Records, decode_batch, decode_segment, encode_batch,
 };
+use eos_claims::{Claim, read_claim};
 use eos_fold::chain;
 use eos_items::{BatchHead, read_head};
 use std::alloc::{AllocError, Global};
@@ -14,6 +15,7 @@ pub(super) fn answer(alloc: Global, call: &str, bytes: &Bytes, more: &str) -> An
     let text = match call {
         "decode_batch" => shown(alloc, decode_batch(alloc, bytes, 0)),
         "marker" => shown(alloc, marker(alloc, bytes)),
+        "read_claim" => shown(alloc, claim(alloc, bytes)),
         "read_head" => shown(alloc, head(alloc, bytes, more)),
         "decode_segment" => shown(alloc, decode_segment(alloc, bytes)),
         "count_batches" => shown(alloc, counted(alloc, bytes)),
@@ -40,6 +42,15 @@ fn head(alloc: Global, bytes: &Bytes, at: &str) -> Result<BatchHead, BatchFault>
     }
 }
 
+/// The claim of a batch's first record.
+fn claim(alloc: Global, bytes: &Bytes) -> Result<Option<Claim>, BatchFault> {
+    let (batch, _) = decode_batch(alloc, bytes, 0)?;
+    match batch.records.as_slice().first() {
+        None => Err(BatchFault::Count),
+        Some(record) => Ok(read_claim(alloc, record.headers.as_slice())?),
+    }
+}
+
 /// How many batches a segment has, and where and why it stops being batches.
 fn counted(
     alloc: Global,
@@ -50,13 +61,13 @@ fn counted(
 }
 
 /// A segment's batches, read and written.
-fn recoded(alloc: Global, bytes: &Bytes) -> Result<Bytes, BatchFault> {
+fn recoded(alloc: Global, bytes: &Bytes) -> Result<Vec<u8>, BatchFault> {
     let text = decode_segment(alloc, bytes)?;
     let mut out = Vec::new(alloc);
     for batch in text.batches.as_slice() {
         out.extend_from_slice(encode_batch(alloc, batch)?.as_slice())?;
     }
-    Ok(Bytes::from_vec(out)?)
+    Ok(out)
 }
 
 /// A batch of no producer at offset 0: so many records of null key and this value, and the batch's attributes.

@@ -1,59 +1,30 @@
 //! Claims on inputs.
 
-use crate::words::{bytes_of, shown};
+use crate::words::{first_of, shown};
 use bytes::Bytes;
 use eos_base::PartitionName;
-use eos_batch::Header;
-use eos_claims::{NumberedClaim, OutputKind, PlaceRef, least_of_runs, read_claim};
+use eos_claims::{NumberedClaim, OutputKind, PlaceRef, least_of_runs};
 use std::alloc::{AllocError, Global};
 
-/// The claim in headers that are given as KEY=VALUE, where a value may be `null`.
-pub(super) fn read(alloc: Global, words: &str) -> Result<String, AllocError> {
-    let headers = headers_of(alloc, words)?;
-    shown(alloc, read_claim(alloc, headers.as_slice()))
-}
-
-fn headers_of(alloc: Global, words: &str) -> Result<Vec<Header>, AllocError> {
-    let mut headers = Vec::new(alloc);
-    for word in words.split(' ') {
-        headers.push(header_of(alloc, word)?)?;
-    }
-    Ok(headers)
-}
-
-fn header_of(alloc: Global, word: &str) -> Result<Header, AllocError> {
-    let (key, value) = word.split_once('=').unwrap_or((word, "null"));
-    Ok(Header {
-        key: bytes_of(alloc, key)?.unwrap_or_default(),
-        value: bytes_of(alloc, value)?,
-    })
-}
-
-/// The least fault of claims on the first record of `in-0`, which are given as OUTPUT/OF@OFFSET: its kind, and the output.
+/// The least fault of one or two claims on the first record of `in-0`, which are given as OUTPUT/OF@OFFSET: its kind, and the
+/// output.
 pub(super) fn least(alloc: Global, words: &str) -> Result<String, AllocError> {
     let name = PartitionName {
         topic: Bytes::from_static(b"in"),
         partition: 0,
     };
-    let claims = claims_of(alloc, &name, words)?;
-    shown(alloc, fault_of(claims.as_slice()))
+    let (first, second) = first_of(words);
+    let fault = if second.is_empty() {
+        fault_of(&[claim_of(&name, first)])
+    } else {
+        fault_of(&[claim_of(&name, first), claim_of(&name, second)])
+    };
+    shown(alloc, fault)
 }
 
 fn fault_of(claims: &[NumberedClaim<'_>]) -> Option<(OutputKind, u32)> {
     let found = least_of_runs(None, claims)?;
     Some((found.kind, found.output))
-}
-
-fn claims_of<'a>(
-    alloc: Global,
-    name: &'a PartitionName,
-    words: &str,
-) -> Result<Vec<NumberedClaim<'a>>, AllocError> {
-    let mut claims = Vec::new(alloc);
-    for word in words.split(' ') {
-        claims.push(claim_of(name, word))?;
-    }
-    Ok(claims)
 }
 
 fn claim_of<'a>(name: &'a PartitionName, word: &str) -> NumberedClaim<'a> {

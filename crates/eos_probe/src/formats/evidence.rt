@@ -1,6 +1,6 @@
 //! Manifests and segments of evidence.
 
-use crate::formats::Answer;
+use crate::formats::{Answer, batch};
 use crate::words::{digits_of, shown};
 use bytes::Bytes;
 use eos_base::Listed;
@@ -9,23 +9,22 @@ use eos_evidence::{
 };
 use std::alloc::{AllocError, Global};
 
-pub(super) fn answer(alloc: Global, call: &str, bytes: &[u8], more: &str) -> Answer {
+pub(super) fn answer(alloc: Global, call: &str, bytes: &Bytes, more: &str) -> Answer {
     let text = match call {
-        "parse_spec" => shown(alloc, parse_spec(alloc, bytes)),
-        "spec_fault" => shown(alloc, parse_spec(alloc, bytes).err()),
+        "parse_spec" => shown(alloc, parse_spec(alloc, bytes.as_slice())),
+        "spec_fault" => shown(alloc, parse_spec(alloc, bytes.as_slice()).err()),
         "write_spec" => digits_of(alloc, rewritten(alloc, bytes)),
         "end_twice" => shown(alloc, twice(alloc)),
         "add_segments" => shown(alloc, added(alloc, bytes, more)),
-        _ => return None,
+        _ => return batch::answer(alloc, call, bytes, more),
     };
     Some(text)
 }
 
 /// A manifest read and written.
-fn rewritten(alloc: Global, bytes: &[u8]) -> Result<Bytes, SpecFault> {
-    let spec = parse_spec(alloc, bytes)?;
-    let text = spec_text(alloc, &spec)?;
-    Ok(Bytes::from_vec(text)?)
+fn rewritten(alloc: Global, bytes: &Bytes) -> Result<Vec<u8>, SpecFault> {
+    let spec = parse_spec(alloc, bytes.as_slice())?;
+    Ok(spec_text(alloc, &spec)?)
 }
 
 /// What `Spec::new` says of a partition that stands twice, with two ends.
@@ -46,17 +45,29 @@ fn two_ends(alloc: Global) -> Result<Ends, AllocError> {
     Ok(ends)
 }
 
-/// What segments are answered that are added as TOPIC/PARTITION/FROM/TO, one for each base; how many there are then, and the
-/// bases of the first of them.
-type Added = (Vec<Result<(), AddFault>>, u64, Vec<i64>);
-
-fn added(alloc: Global, bytes: &[u8], words: &str) -> Result<Added, SpecFault> {
-    let spec = parse_spec(alloc, bytes)?;
-    let mut builder = EvidenceBuilder::new(alloc, spec)?;
+/// What segments are answered that are added as TOPIC/PARTITION/FROM/TO, one for each base; and what there is then.
+fn added(alloc: Global, bytes: &Bytes, words: &str) -> Result<Added, SpecFault> {
+    let mut builder = builder_of(alloc, bytes)?;
     let answers = add_all(alloc, &mut builder, words)?;
     let evidence = builder.finish();
-    let bases = bases_of(alloc, &evidence)?;
-    Ok((answers, evidence.pieces(), bases))
+    Ok(Added {
+        bases: bases_of(alloc, &evidence)?,
+        answers,
+        pieces: evidence.pieces(),
+    })
+}
+
+/// What each word was answered, the bases of the first segments, and how many there are.
+#[derive(Debug, Drop)]
+struct Added {
+    answers: Vec<Result<(), AddFault>>,
+    bases: Vec<i64>,
+    pieces: u64,
+}
+
+fn builder_of(alloc: Global, bytes: &Bytes) -> Result<EvidenceBuilder, SpecFault> {
+    let spec = parse_spec(alloc, bytes.as_slice())?;
+    Ok(EvidenceBuilder::new(alloc, spec)?)
 }
 
 fn add_all(

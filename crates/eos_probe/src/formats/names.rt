@@ -10,84 +10,141 @@ use eos_txnlog::TxnFault;
 use std::alloc::{AllocError, Global};
 use std::fmt::{Debug, Display};
 
-static BATCH: [BatchFault; 13] = [
-    BatchFault::Truncated,
-    BatchFault::Length,
-    BatchFault::Magic,
-    BatchFault::Crc,
-    BatchFault::Compressed,
-    BatchFault::Count,
-    BatchFault::Varint,
-    BatchFault::Record,
-    BatchFault::Delta,
-    BatchFault::Trailing,
-    BatchFault::Control,
-    BatchFault::Producer,
-    BatchFault::OutOfMemory,
-];
-
-static RECORD: [RecordFault; 6] = [
-    RecordFault::Short,
-    RecordFault::Version,
-    RecordFault::Status,
-    RecordFault::Length,
-    RecordFault::Trailing,
-    RecordFault::OutOfMemory,
-];
-
-static PAIR: [PairFault; 7] = [
-    PairFault::FirstSequence,
-    PairFault::Sequence,
-    PairFault::ZombieEpoch,
-    PairFault::EpochWhileOpen,
-    PairFault::NoBump,
-    PairFault::MixedProducer,
-    PairFault::MarkerKind,
-];
-
-static SPEC: [SpecFault; 5] = [
-    SpecFault::Json,
-    SpecFault::Field,
-    SpecFault::Version,
-    SpecFault::Limit,
-    SpecFault::OutOfMemory,
-];
-
-static ADD: [AddFault; 4] = [
-    AddFault::Name,
-    AddFault::Limit,
-    AddFault::Duplicate,
-    AddFault::OutOfMemory,
-];
-
-static READ: [ReadFault; 3] = [ReadFault::Read, ReadFault::Limit, ReadFault::OutOfMemory];
-
-static STEP: [TxnFault; 3] = [TxnFault::Order, TxnFault::Producer, TxnFault::Epoch];
-
 /// The variant, the name and the text of each fault of a family; or the numbers of the pairs' faults.
 pub(super) fn of_family(alloc: Global, family: &str) -> Answer {
     let text = match family {
-        "batch" => names(alloc, &BATCH, BatchFault::name),
-        "record" => names(alloc, &RECORD, RecordFault::name),
-        "pair" => names(alloc, &PAIR, PairFault::name),
-        "spec" => names(alloc, &SPEC, SpecFault::name),
-        "add" => names(alloc, &ADD, AddFault::name),
-        "read" => names(alloc, &READ, ReadFault::name),
-        "step" => names(alloc, &STEP, TxnFault::name),
-        "numbers" => shown(alloc, PAIR.map(PairFault::number)),
+        "batch" => batch(alloc),
+        "record" => record(alloc),
+        "pair" => pair(alloc),
+        "numbers" => numbers(alloc),
+        "spec" => spec(alloc),
+        "add" => add(alloc),
+        "read" => read(alloc),
+        "step" => step(alloc),
         _ => return None,
     };
     Some(text)
 }
 
-fn names<F: Copy + Debug + Display + Drop, N: Fn(F) -> &'static str + Drop>(
+fn names<F: Debug + Display + Drop>(
     alloc: Global,
-    faults: &[F],
-    name: N,
+    faults: &[(F, &'static str)],
 ) -> Result<String, AllocError> {
     let mut text = String::new(alloc);
-    for fault in faults {
-        write!(text, "{fault:?}/{}/{fault} ", name(*fault))?;
+    for (fault, name) in faults {
+        write!(text, "{fault:?}/{name}/{fault} ")?;
     }
     Ok(text)
+}
+
+fn batch(alloc: Global) -> Result<String, AllocError> {
+    names(
+        alloc,
+        &[
+            (BatchFault::Truncated, BatchFault::Truncated.name()),
+            (BatchFault::Length, BatchFault::Length.name()),
+            (BatchFault::Magic, BatchFault::Magic.name()),
+            (BatchFault::Crc, BatchFault::Crc.name()),
+            (BatchFault::Compressed, BatchFault::Compressed.name()),
+            (BatchFault::Count, BatchFault::Count.name()),
+            (BatchFault::Varint, BatchFault::Varint.name()),
+            (BatchFault::Record, BatchFault::Record.name()),
+            (BatchFault::Delta, BatchFault::Delta.name()),
+            (BatchFault::Trailing, BatchFault::Trailing.name()),
+            (BatchFault::Control, BatchFault::Control.name()),
+            (BatchFault::Producer, BatchFault::Producer.name()),
+            (BatchFault::OutOfMemory, BatchFault::OutOfMemory.name()),
+        ],
+    )
+}
+
+fn record(alloc: Global) -> Result<String, AllocError> {
+    names(
+        alloc,
+        &[
+            (RecordFault::Short, RecordFault::Short.name()),
+            (RecordFault::Version, RecordFault::Version.name()),
+            (RecordFault::Status, RecordFault::Status.name()),
+            (RecordFault::Length, RecordFault::Length.name()),
+            (RecordFault::Trailing, RecordFault::Trailing.name()),
+            (RecordFault::OutOfMemory, RecordFault::OutOfMemory.name()),
+        ],
+    )
+}
+
+fn pair(alloc: Global) -> Result<String, AllocError> {
+    names(
+        alloc,
+        &[
+            (PairFault::FirstSequence, PairFault::FirstSequence.name()),
+            (PairFault::Sequence, PairFault::Sequence.name()),
+            (PairFault::ZombieEpoch, PairFault::ZombieEpoch.name()),
+            (PairFault::EpochWhileOpen, PairFault::EpochWhileOpen.name()),
+            (PairFault::NoBump, PairFault::NoBump.name()),
+            (PairFault::MixedProducer, PairFault::MixedProducer.name()),
+            (PairFault::MarkerKind, PairFault::MarkerKind.name()),
+        ],
+    )
+}
+
+fn spec(alloc: Global) -> Result<String, AllocError> {
+    names(
+        alloc,
+        &[
+            (SpecFault::Json, SpecFault::Json.name()),
+            (SpecFault::Field, SpecFault::Field.name()),
+            (SpecFault::Version, SpecFault::Version.name()),
+            (SpecFault::Limit, SpecFault::Limit.name()),
+            (SpecFault::OutOfMemory, SpecFault::OutOfMemory.name()),
+        ],
+    )
+}
+
+fn add(alloc: Global) -> Result<String, AllocError> {
+    names(
+        alloc,
+        &[
+            (AddFault::Name, AddFault::Name.name()),
+            (AddFault::Limit, AddFault::Limit.name()),
+            (AddFault::Duplicate, AddFault::Duplicate.name()),
+            (AddFault::OutOfMemory, AddFault::OutOfMemory.name()),
+        ],
+    )
+}
+
+fn read(alloc: Global) -> Result<String, AllocError> {
+    names(
+        alloc,
+        &[
+            (ReadFault::Read, ReadFault::Read.name()),
+            (ReadFault::Limit, ReadFault::Limit.name()),
+            (ReadFault::OutOfMemory, ReadFault::OutOfMemory.name()),
+        ],
+    )
+}
+
+fn step(alloc: Global) -> Result<String, AllocError> {
+    names(
+        alloc,
+        &[
+            (TxnFault::Order, TxnFault::Order.name()),
+            (TxnFault::Producer, TxnFault::Producer.name()),
+            (TxnFault::Epoch, TxnFault::Epoch.name()),
+        ],
+    )
+}
+
+fn numbers(alloc: Global) -> Result<String, AllocError> {
+    shown(
+        alloc,
+        [
+            PairFault::FirstSequence.number(),
+            PairFault::Sequence.number(),
+            PairFault::ZombieEpoch.number(),
+            PairFault::EpochWhileOpen.number(),
+            PairFault::NoBump.number(),
+            PairFault::MixedProducer.number(),
+            PairFault::MarkerKind.number(),
+        ],
+    )
 }

@@ -1,6 +1,6 @@
 //! Records of the offsets log.
 
-use crate::formats::Answer;
+use crate::formats::{Answer, evidence};
 use crate::words::{bytes_of, digits_of, first_of, shown};
 use bytes::Bytes;
 use eos_base::RecordFault;
@@ -13,7 +13,7 @@ pub(super) fn answer(alloc: Global, call: &str, bytes: &Bytes, more: &str) -> An
         "encode_offset_key" => digits_of(alloc, written_key(alloc, bytes, more)),
         "decode_offset_value" => shown(alloc, decode_value(bytes)),
         "encode_offset_value" => digits_of(alloc, written_value(alloc, bytes, more)),
-        _ => return None,
+        _ => return evidence::answer(alloc, call, bytes, more),
     };
     Some(text)
 }

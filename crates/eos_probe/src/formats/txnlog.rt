@@ -1,6 +1,6 @@
 //! Records of the transaction log.
 
-use crate::formats::Answer;
+use crate::formats::{Answer, offsets};
 use crate::words::{bytes_of, digits_of, first_of, shown};
 use bytes::Bytes;
 use eos_base::RecordFault;
@@ -21,7 +21,7 @@ pub(super) fn answer(alloc: Global, call: &str, bytes: &Bytes, more: &str) -> An
         "is_skipped" => shown(alloc, skipped(alloc, bytes, more)),
         "is_skipped_first" => shown(alloc, skipped_first(alloc, bytes)),
         "step_ok" => shown(alloc, step(alloc, bytes, more)),
-        _ => return None,
+        _ => return offsets::answer(alloc, call, bytes, more),
     };
     Some(text)
 }
@@ -56,12 +56,13 @@ fn second_of(alloc: Global, more: &str) -> Result<Option<TxnValue>, RecordFault>
 }
 
 fn same(alloc: Global, bytes: &Bytes, more: &str) -> Result<bool, RecordFault> {
-    match (decode_value(alloc, bytes)?, second_of(alloc, more)?) {
-        (a, Some(b)) => {
-            let (a, b) = (a.partitions.as_slice(), b.partitions.as_slice());
+    let first = decode_value(alloc, bytes)?;
+    match second_of(alloc, more)? {
+        None => Err(RecordFault::Short),
+        Some(second) => {
+            let (a, b) = (first.partitions.as_slice(), second.partitions.as_slice());
             Ok(is_same_set(alloc, a, b)?)
         }
-        _ => Err(RecordFault::Short),
     }
 }
 

@@ -1,31 +1,34 @@
 //! Numbers, fields and checksums.
 
-use crate::formats::Answer;
-use crate::words::shown;
+use crate::formats::{Answer, txnlog};
+use crate::words::{digits_of, shown};
+use bytes::Bytes;
 use eos_wire::{
     Fields, crc32c, read_uvarint, read_varint, read_varlong, write_uvarint, write_varint,
     write_varlong,
 };
 use std::alloc::{AllocError, Global};
 
-pub(super) fn answer(alloc: Global, call: &str, bytes: &[u8], more: &str) -> Answer {
+pub(super) fn answer(alloc: Global, call: &str, bytes: &Bytes, more: &str) -> Answer {
     let text = match call {
-        "crc32c" => format!(in alloc; "{:08x}", crc32c(bytes)),
-        "read_varint" => shown(alloc, read_varint(bytes)),
-        "read_varlong" => shown(alloc, read_varlong(bytes)),
-        "read_uvarint" => shown(alloc, read_uvarint(bytes)),
-        "write_varint" | "write_varlong" | "write_uvarint" => written(alloc, call, bytes, more),
-        "fields" => fields(alloc, bytes),
-        _ => return None,
+        "crc32c" => format!(in alloc; "{:08x}", crc32c(bytes.as_slice())),
+        "read_varint" => shown(alloc, read_varint(bytes.as_slice())),
+        "read_varlong" => shown(alloc, read_varlong(bytes.as_slice())),
+        "read_uvarint" => shown(alloc, read_uvarint(bytes.as_slice())),
+        "write_varint" | "write_varlong" | "write_uvarint" => {
+            digits_of(alloc, written(alloc, call, bytes.as_slice(), more))
+        }
+        "fields" => fields(alloc, bytes.as_slice()),
+        _ => return txnlog::answer(alloc, call, bytes, more),
     };
     Some(text)
 }
 
 /// The bytes with a number written after them.
-fn written(alloc: Global, call: &str, bytes: &[u8], more: &str) -> Result<String, AllocError> {
+fn written(alloc: Global, call: &str, bytes: &[u8], more: &str) -> Result<Vec<u8>, AllocError> {
     let mut out = Vec::from_slice(alloc, bytes)?;
     write(&mut out, call, more)?;
-    hex::encode(alloc, out.as_slice())
+    Ok(out)
 }
 
 /// Writes a number, 0 where it is none of its type.
