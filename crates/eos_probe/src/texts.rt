@@ -37,7 +37,10 @@ fn round_trip(alloc: Global, digits: &str) -> Result<Option<String>, AllocError>
     let mut at = 0;
     let mut count = 0u64;
     let mut are_bytes = true;
-    while at < bytes.len() {
+    for _ in 0..bytes.len() {
+        if at >= bytes.len() {
+            break;
+        }
         let Ok((batch, size)) = next_batch(alloc, &bytes, at)? else {
             break;
         };

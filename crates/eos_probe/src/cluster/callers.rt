@@ -1,6 +1,6 @@
 //! Many callers of one cluster: what each of them was told stands in one history.
 
-ghost use Rattle.std.specs.Prelude.{◌≡◌, ◌≤◌, vec_len, IfOk};
+ghost use Rattle.std.specs.Prelude.{◌≡◌, ◌≤◌, true, vec_len, IfOk};
 
 use crate::cluster::events::place;
 use crate::cluster::readings::{ends, evidence_of};

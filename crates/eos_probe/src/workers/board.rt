@@ -37,12 +37,15 @@ fn named(alloc: Global, evidence: &Evidence, number: u64, piece: u64) -> Result<
 
 /// The run of a piece and of the number after it, with the piece's segment twice.
 fn twofold(alloc: Global, evidence: &Evidence, piece: u64) -> Result<Named, AllocError> {
+    if piece >= 65536 {
+        return Err(AllocError);
+    }
     let segment = segment(evidence, piece)?;
     let copy = segment.copy()?;
     let Ok(before) = Named::of(alloc, piece, segment) else {
         return Err(AllocError);
     };
-    let Ok(after) = Named::of(alloc, piece.saturating_add(1), copy) else {
+    let Ok(after) = Named::of(alloc, piece + 1, copy) else {
         return Err(AllocError);
     };
     match Named::merge(alloc, before, after) {

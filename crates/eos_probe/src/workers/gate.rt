@@ -29,6 +29,13 @@ fn is_set(rt: &impl Clock, word: &AtomicU64, bits: u64) -> bool {
     false
 }
 
+/// Waits for one of these bits, and notes where that was given up.
+fn wait(rt: &impl Clock, word: &AtomicU64, bits: u64, late: &AtomicU64) {
+    if !is_set(rt, word, bits) {
+        late.store(1, Ordering::SeqCst);
+    }
+}
+
 /// Holds one piece until the run of another was made; or, where `is_chain`, each of twelve pieces until the next has passed, and
 /// the run of piece 0 until that of the pieces 2 to 6 was made.
 #[derive(Drop)]
@@ -47,21 +54,13 @@ struct Held<'a, R: Clock + Sync> {
     late: AtomicU64,
 }
 
-impl<'a, R: Clock + Sync> Held<'a, R> {
-    fn wait(&self, word: &AtomicU64, bits: u64) {
-        if !is_set(self.rt, word, bits) {
-            self.late.store(1, Ordering::SeqCst);
-        }
-    }
-}
-
 impl<'a, R: Clock + Sync> Gate for Held<'a, R> {
     fn pass(&self, piece: u64) {
         if self.is_chain && piece < 11 {
-            self.wait(&self.passed, once(piece + 1));
+            wait(self.rt, &self.passed, once(piece + 1), &self.late);
         }
         if !self.is_chain && piece == self.held {
-            self.wait(&self.made, once(self.other));
+            wait(self.rt, &self.made, once(self.other), &self.late);
         }
         self.passed.fetch_add(once(piece), Ordering::SeqCst);
     }
@@ -72,7 +71,7 @@ impl<'a, R: Clock + Sync> Gate for Held<'a, R> {
             self.five.store(1, Ordering::SeqCst);
         }
         if self.is_chain && (first, last) == (0, 0) {
-            self.wait(&self.five, 1);
+            wait(self.rt, &self.five, 1, &self.late);
         }
         if first == last {
             self.made.fetch_add(once(first), Ordering::SeqCst);
