@@ -6,7 +6,6 @@ mod events;
 mod readings;
 
 pub(crate) use events::{numbers_of, place};
-
 use std::alloc::{AllocError, Global};
 use std::sync::Wait;
 use std::thread::Threads;

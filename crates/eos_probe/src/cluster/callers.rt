@@ -41,7 +41,10 @@ fn told(alloc: Global, finished: &Finished, callers: u64) -> Result<String, Allo
         counts.push(count_of(finished, pass))?;
     }
     let entries = finished.entries.len();
-    format!(in alloc; "agree={} entries={entries} passes={counts:?}", finished.agree)
+    format!(in alloc;
+        "agree={} entries={entries} passes={counts:?}",
+        finished.agree
+    )
 }
 
 /// How many entries came by the pass of this number.
@@ -90,7 +93,10 @@ pub(crate) fn feeders<R: Threads + Wait + Sync>(
     let told = told(alloc, &finished, 2)?;
     let is_pair = finished.cluster.config() == PAIR;
     match evidence_of(&finished.cluster) {
-        Ok(evidence) => format!(in alloc; "{told} pair={is_pair} ends={:?}", ends(alloc, &evidence)?),
+        Ok(evidence) => format!(in alloc;
+            "{told} pair={is_pair} ends={:?}",
+            ends(alloc, &evidence)?
+        ),
         Err(refusal) => format!(in alloc; "{told} {refusal}"),
     }
 }

@@ -70,12 +70,7 @@ fn answer<R: Threads + Wait + Sync>(
 }
 
 /// Turns a switch on, or drives the cluster by a script or a switch's tail, where the word says so.
-fn drive(
-    alloc: Global,
-    cluster: &mut Cluster,
-    name: &str,
-    rest: &str,
-) -> Result<bool, AllocError> {
+fn drive(alloc: Global, cluster: &mut Cluster, name: &str, rest: &str) -> Result<bool, AllocError> {
     if name == "script" {
         let numbers = numbers_of(rest);
         let length = place(numbers[1]) as u64;

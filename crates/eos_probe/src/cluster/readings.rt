@@ -107,7 +107,10 @@ fn verdict<R: Threads + Wait + Sync>(
 {
     match check(alloc, rt, evidence, workers, &OpenGate)? {
         Verdict::Yes(counts) => {
-            format!(in alloc; "yes,{},{},{}", counts.transactions, counts.inputs, counts.outputs)
+            format!(in alloc;
+                "yes,{},{},{}",
+                counts.transactions, counts.inputs, counts.outputs
+            )
         }
         Verdict::No(fault) => format!(in alloc; "no,{}.{}", fault.phase(), fault.number()),
     }

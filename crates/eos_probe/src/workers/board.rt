@@ -123,13 +123,23 @@ fn step<L: Ledger>(
     let numbers = numbers_of(rest);
     let (first, second) = (place(numbers[0]) as u64, place(numbers[1]) as u64);
     match name {
-        "post" => post(alloc, board, receipt, named(alloc, evidence, first, second)?),
+        "post" => post(
+            alloc,
+            board,
+            receipt,
+            named(alloc, evidence, first, second)?,
+        ),
         "twofold" => post(alloc, board, receipt, twofold(alloc, evidence, first)?),
         "join" => format!(in alloc; "{}", join_all(alloc, board, receipt)?),
         "pair" => pair(alloc, board),
         "back" => {
             let before = named(alloc, evidence, first, first)?;
-            put_back(alloc, board, before, named(alloc, evidence, second, second)?)
+            put_back(
+                alloc,
+                board,
+                before,
+                named(alloc, evidence, second, second)?,
+            )
         }
         _ => format!(in alloc; "no such word"),
     }

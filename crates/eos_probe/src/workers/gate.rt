@@ -106,7 +106,10 @@ pub(super) fn check_behind<R: Threads + Wait + Clock + Sync>(
     let passed = gate.passed.load(Ordering::SeqCst);
     let made = gate.made.load(Ordering::SeqCst);
     let late = gate.late.load(Ordering::SeqCst);
-    format!(in alloc; "{} passed={passed:x} made={made:x} late={late}", line.as_str().trim_end())
+    format!(in alloc;
+        "{} passed={passed:x} made={made:x} late={late}",
+        line.as_str().trim_end()
+    )
 }
 
 /// What the caller alone says.

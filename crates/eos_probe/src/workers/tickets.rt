@@ -32,7 +32,11 @@ fn draw_all(alloc: Global, tickets: &Tickets, mut seat: Seat) -> Result<Drawn, A
 }
 
 /// Whether so many workers draw the numbers below a count each once, a single one in their order, and are done then.
-pub(crate) fn drawn_by(rt: &(impl Threads + Sync), alloc: Global, words: &str) -> Result<String, AllocError> {
+pub(crate) fn drawn_by(
+    rt: &(impl Threads + Sync),
+    alloc: Global,
+    words: &str,
+) -> Result<String, AllocError> {
     let numbers = numbers_of(words);
     let count = (place(numbers[0]) as u64).min(MAX_TICKETS);
     let workers = (place(numbers[1]) as u64).clamp(1, MAX_WORKERS);
