@@ -11,27 +11,26 @@ use std::sync::Wait;
 use std::sync::atomic::{AtomicU64, Ordering};
 use std::thread;
 use std::thread::Threads;
-use std::time::{Clock, Duration};
 
 /// A count of 1 at this piece, in four bits of its own; those past the twelfth have none.
 fn once(piece: u64) -> u64 {
     if piece < 12 { 1 << (4 * piece) } else { 0 }
 }
 
-/// Whether one of these bits is set, at once or within 10,000 turns of a millisecond.
-fn is_set(rt: &impl Clock, word: &AtomicU64, bits: u64) -> bool {
-    for _ in 0..10_000 {
+/// Whether one of these bits is set, at once or within so many turns of the other threads that some seconds pass.
+fn is_set(word: &AtomicU64, bits: u64) -> bool {
+    for _ in 0..50_000_000 {
         if word.load(Ordering::SeqCst) & bits != 0 {
             return true;
         }
-        thread::sleep(rt, Duration::from_millis(1));
+        thread::yield_now();
     }
     false
 }
 
 /// Waits for one of these bits, and notes where that was given up.
-fn wait(rt: &impl Clock, word: &AtomicU64, bits: u64, late: &AtomicU64) {
-    if !is_set(rt, word, bits) {
+fn wait_for(word: &AtomicU64, bits: u64, late: &AtomicU64) {
+    if !is_set(word, bits) {
         late.store(1, Ordering::SeqCst);
     }
 }
@@ -39,8 +38,7 @@ fn wait(rt: &impl Clock, word: &AtomicU64, bits: u64, late: &AtomicU64) {
 /// Holds one piece until the run of another was made; or, where `is_chain`, each of twelve pieces until the next has passed, and
 /// the run of piece 0 until that of the pieces 2 to 6 was made.
 #[derive(Drop)]
-struct Held<'a, R: Clock + Sync> {
-    rt: &'a R,
+struct Held {
     held: u64,
     other: u64,
     is_chain: bool,
@@ -54,13 +52,13 @@ struct Held<'a, R: Clock + Sync> {
     late: AtomicU64,
 }
 
-impl<'a, R: Clock + Sync> Gate for Held<'a, R> {
+impl Gate for Held {
     fn pass(&self, piece: u64) {
         if self.is_chain && piece < 11 {
-            wait(self.rt, &self.passed, once(piece + 1), &self.late);
+            wait_for(&self.passed, once(piece + 1), &self.late);
         }
         if !self.is_chain && piece == self.held {
-            wait(self.rt, &self.made, once(self.other), &self.late);
+            wait_for(&self.made, once(self.other), &self.late);
         }
         self.passed.fetch_add(once(piece), Ordering::SeqCst);
     }
@@ -71,7 +69,7 @@ impl<'a, R: Clock + Sync> Gate for Held<'a, R> {
             self.five.store(1, Ordering::SeqCst);
         }
         if self.is_chain && (first, last) == (0, 0) {
-            wait(self.rt, &self.five, 1, &self.late);
+            wait_for(&self.five, 1, &self.late);
         }
         if first == last {
             self.made.fetch_add(once(first), Ordering::SeqCst);
@@ -82,7 +80,7 @@ impl<'a, R: Clock + Sync> Gate for Held<'a, R> {
 /// What so many workers say, and what their gate has seen: how often each of the first twelve pieces has passed, the first at the
 /// right, how often its own run was made, and whether a wait was given up. Behind the number of workers stands `HELD,OTHER`, or
 /// `chain`, or nothing.
-pub(super) fn check_behind<R: Threads + Wait + Clock + Sync>(
+pub(super) fn check_behind<R: Threads + Wait + Sync>(
     rt: &R,
     alloc: Global,
     evidence: &Evidence,
@@ -92,7 +90,6 @@ pub(super) fn check_behind<R: Threads + Wait + Clock + Sync>(
     let workers = workers.trim_end().parse::<u64>().unwrap_or(1).clamp(1, 64);
     let numbers = numbers_of(gate);
     let gate = Held {
-        rt,
         held: place(numbers[0]) as u64,
         other: place(numbers[1]) as u64,
         is_chain: gate == "chain",
