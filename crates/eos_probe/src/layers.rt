@@ -18,12 +18,16 @@ pub(crate) fn answer(
     call: &str,
     rest: &str,
 ) -> io::Result<Option<String>> {
-    match call {
-        "part_kind" | "part_fault" | "part_json" | "fates" | "closes" | "markers" | "part" => {
+    let text = match call {
+        "part_kind" | "part_fault" | "fates" | "closes" | "markers" | "part" => {
             logs::answer(alloc, call, rest)
         }
         "txn_log" | "match_shards" => transactions::answer(alloc, call, rest),
         "verdict" | "write_verdict" => verdicts::answer(alloc, call, rest),
-        _ => applications::answer(rt, alloc, call, rest),
-    }
+        "check_lineage" | "least_visible_fault" | "commits_of" | "committed" | "topic_set" => {
+            applications::answer(rt, alloc, call, rest)
+        }
+        _ => return Ok(None),
+    };
+    Ok(Some(text?))
 }

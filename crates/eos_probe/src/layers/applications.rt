@@ -23,18 +23,27 @@ fn topics_of(alloc: Global, words: &str) -> Result<Vec<Bytes>, AllocError> {
     Ok(topics)
 }
 
-/// What is told of these applications, without ends of partitions.
-fn spec_of(alloc: Global, words: &str) -> io::Result<Spec> {
+fn app_of(alloc: Global, group: &str, sources: &str, outputs: &str) -> Result<App, AllocError> {
+    Ok(App {
+        group: GroupId::new(String::from_str(alloc, group)?),
+        sources: Listed::new(topics_of(alloc, sources)?),
+        outputs: Listed::new(topics_of(alloc, outputs)?),
+    })
+}
+
+fn apps_of(alloc: Global, words: &str) -> io::Result<Vec<App>> {
     let mut apps = Vec::new(alloc);
     for app in words.split(';') {
         let (group, topics) = sides(app, ':')?;
         let (sources, outputs) = sides(topics, ':')?;
-        apps.push(App {
-            group: GroupId::new(String::from_str(alloc, group)?),
-            sources: Listed::new(topics_of(alloc, sources)?),
-            outputs: Listed::new(topics_of(alloc, outputs)?),
-        })?;
+        apps.push(app_of(alloc, group, sources, outputs)?)?;
     }
+    Ok(apps)
+}
+
+/// What is told of these applications, without ends of partitions.
+fn spec_of(alloc: Global, words: &str) -> io::Result<Spec> {
+    let apps = apps_of(alloc, words)?;
     let ends = Listed::new(Vec::new(alloc));
     match Spec::new(alloc, Listed::new(apps), ends) {
         Ok(spec) => Ok(spec),
@@ -48,50 +57,83 @@ fn lineage(
     alloc: Global,
     spec: &Spec,
     parts: &[Part],
-) -> io::Result<String> {
+) -> Result<String, AllocError> {
     match check_lineage(alloc, rt, spec, parts)? {
-        Ok((inputs, outputs)) => Ok(format!(in alloc; "inputs={inputs} outputs={outputs}")?),
-        Err(fault) => Ok(line_of(alloc, Some(Fault::Lineage(fault)))?),
+        Ok((inputs, outputs)) => format!(in alloc; "inputs={inputs} outputs={outputs}"),
+        Err(fault) => line_of(alloc, Some(Fault::Lineage(fault))),
     }
 }
 
 /// The least fault of single records.
-fn visible(alloc: Global, spec: &Spec, parts: &[Part]) -> io::Result<String> {
-    let fault = least_visible_fault(alloc, spec.apps().as_slice(), parts)?;
-    let fault = fault.map(|fault| Fault::Lineage(LineageFault::Record(fault)));
-    Ok(line_of(alloc, fault)?)
+fn visible(alloc: Global, spec: &Spec, parts: &[Part]) -> Result<String, AllocError> {
+    match least_visible_fault(alloc, spec.apps().as_slice(), parts)? {
+        None => line_of(alloc, None),
+        Some(fault) => line_of(alloc, Some(Fault::Lineage(LineageFault::Record(fault)))),
+    }
 }
 
-/// The commits of a group for these topics, and the last for a partition.
-fn commits(alloc: Global, group: &str, rest: &str) -> io::Result<String> {
-    let (topics, rest) = sides(rest, ' ')?;
-    let (name, words) = sides(rest, ' ')?;
-    let topics = topics_of(alloc, topics)?;
-    let name = name_of(alloc, name)?;
+/// What is said of the words `APPLICATIONS PART PART ..`.
+fn of_apps(
+    rt: &(impl Threads + Sync),
+    alloc: Global,
+    call: &str,
+    rest: &str,
+) -> io::Result<String> {
+    let (apps, words) = rest.split_once(' ').unwrap_or((rest, ""));
+    let spec = spec_of(alloc, apps)?;
     let parts = parts_of(alloc, words)?;
-    let all = commits_of(alloc, group.as_bytes(), topics.as_slice(), parts.as_slice())?;
-    let last = last_committed(all.as_slice(), name.topic.as_slice(), name.partition);
+    let text = match call {
+        "check_lineage" => lineage(rt, alloc, &spec, parts.as_slice()),
+        _ => visible(alloc, &spec, parts.as_slice()),
+    };
+    Ok(text?)
+}
+
+/// The commits of a group for these topics, and the last for the partition of this name.
+fn said(
+    alloc: Global,
+    group: &str,
+    topics: &[Bytes],
+    name: (&str, i32),
+    parts: &[Part],
+) -> Result<String, AllocError> {
+    let all = commits_of(alloc, group.as_bytes(), topics, parts)?;
+    let (topic, number) = name;
+    let last = last_committed(all.as_slice(), topic.as_bytes(), number);
     let mut text = format!(in alloc; "last={last}")?;
     for commit in all.as_slice() {
-        let topic = Bytes::copy_from_slice(alloc, commit.topic)?;
+        let topic = std::str::from_utf8(commit.topic).unwrap_or("no text");
         let (number, offset) = (commit.partition, commit.offset);
-        write!(text, " {topic:?}-{number}:{offset}={:?}", commit.writer)?;
+        write!(text, " {topic}-{number}:{offset}={:?}", commit.writer)?;
     }
     Ok(text)
 }
 
-/// The committed offset of a group for a partition.
-fn offset_of(alloc: Global, group: &str, rest: &str) -> io::Result<String> {
+/// What is said of the words `GROUP TOPIC,TOPIC NAME PART PART ..`.
+fn commits(alloc: Global, rest: &str) -> io::Result<String> {
+    let (group, rest) = sides(rest, ' ')?;
+    let (topics, rest) = sides(rest, ' ')?;
     let (name, words) = sides(rest, ' ')?;
-    let name = name_of(alloc, name)?;
+    let name = name_of(name)?;
+    let topics = topics_of(alloc, topics)?;
     let parts = parts_of(alloc, words)?;
-    let group = group.as_bytes();
-    let offset = committed(alloc, parts.as_slice(), group, &name.topic, name.partition)?;
+    Ok(said(alloc, group, topics.as_slice(), name, parts.as_slice())?)
+}
+
+/// What is said of the words `GROUP NAME PART PART ..`: the committed offset.
+fn offset_of(alloc: Global, rest: &str) -> io::Result<String> {
+    let (group, rest) = sides(rest, ' ')?;
+    let (name, words) = sides(rest, ' ')?;
+    let (topic, number) = name_of(name)?;
+    let topic = Bytes::copy_from_slice(alloc, topic.as_bytes())?;
+    let parts = parts_of(alloc, words)?;
+    let offset = committed(alloc, parts.as_slice(), group.as_bytes(), &topic, number)?;
     Ok(format!(in alloc; "{offset}")?)
 }
 
-/// Whether these topics have this one among them.
-fn has(alloc: Global, topics: &str, topic: &str) -> io::Result<String> {
+/// Whether the topics of the words `TOPIC,TOPIC TOPIC` have the last one among them.
+fn has(alloc: Global, rest: &str) -> io::Result<String> {
+    let (topics, topic) = sides(rest, ' ')?;
     let topics = topics_of(alloc, topics)?;
     let set = TopicSet::of(alloc, topics.as_slice())?;
     Ok(format!(in alloc; "{}", set.has(topic.as_bytes()))?)
@@ -102,22 +144,11 @@ pub(super) fn answer(
     alloc: Global,
     call: &str,
     rest: &str,
-) -> io::Result<Option<String>> {
-    let (first, more) = rest.split_once(' ').unwrap_or((rest, ""));
-    let text = match call {
-        "check_lineage" | "least_visible_fault" => {
-            let spec = spec_of(alloc, first)?;
-            let parts = parts_of(alloc, more)?;
-            if call == "check_lineage" {
-                lineage(rt, alloc, &spec, parts.as_slice())?
-            } else {
-                visible(alloc, &spec, parts.as_slice())?
-            }
-        }
-        "commits_of" => commits(alloc, first, more)?,
-        "committed" => offset_of(alloc, first, more)?,
-        "topic_set" => has(alloc, first, more)?,
-        _ => return Ok(None),
-    };
-    Ok(Some(text))
+) -> io::Result<String> {
+    match call {
+        "commits_of" => commits(alloc, rest),
+        "committed" => offset_of(alloc, rest),
+        "topic_set" => has(alloc, rest),
+        _ => of_apps(rt, alloc, call, rest),
+    }
 }

@@ -2,7 +2,7 @@
 
 use super::orders::order_of;
 use super::parts::part_of;
-use super::verdicts::{json_of, line_of};
+use super::verdicts::line_of;
 use eos_check::Fault;
 use eos_commits::is_visible;
 use eos_fold::{Part, PartitionFault};
@@ -11,7 +11,7 @@ use std::fmt::Write;
 use std::io;
 
 /// The least fault.
-fn fault_of(part: &Part) -> Result<Option<Fault>, AllocError> {
+pub(super) fn fault_of(part: &Part) -> Result<Option<Fault>, AllocError> {
     match part.fault() {
         None => Ok(None),
         Some(fault) => Ok(Some(Fault::Partition(PartitionFault {
@@ -32,7 +32,7 @@ fn number_of(part: &Part) -> u8 {
 }
 
 /// The number of records, and of each its fate and whether it is visible.
-fn fates_of(alloc: Global, part: &Part) -> io::Result<String> {
+fn fates_of(alloc: Global, part: &Part) -> Result<String, AllocError> {
     let items = part.items();
     let mut text = format!(in alloc; "{}", items.len())?;
     for i in 0..items.len() {
@@ -42,9 +42,9 @@ fn fates_of(alloc: Global, part: &Part) -> io::Result<String> {
     Ok(text)
 }
 
-/// All records.
-fn items_of(alloc: Global, part: &Part) -> io::Result<String> {
-    let mut text = String::new(alloc);
+/// The ends of transactions, the markers and the records.
+fn records_of(alloc: Global, part: &Part) -> Result<String, AllocError> {
+    let mut text = format!(in alloc; "{:?} {:?}", part.closes(), part.markers())?;
     let items = part.items();
     for i in 0..items.len() {
         write!(text, " {:?}", items.get(alloc, i)?)?;
@@ -53,24 +53,25 @@ fn items_of(alloc: Global, part: &Part) -> io::Result<String> {
 }
 
 /// All that the log says.
-fn all_of(alloc: Global, part: &Part) -> io::Result<String> {
-    let closes = part.closes();
-    let markers = part.markers();
-    let items = items_of(alloc, part)?;
+fn all_of(alloc: Global, part: &Part) -> Result<String, AllocError> {
+    let records = records_of(alloc, part)?;
     let fault = line_of(alloc, fault_of(part)?)?;
-    Ok(format!(in alloc; "{closes:?} {markers:?}{items} {fault}")?)
+    format!(in alloc; "{records} {fault}")
 }
 
-pub(super) fn answer(alloc: Global, call: &str, rest: &str) -> io::Result<Option<String>> {
+fn said(alloc: Global, call: &str, part: &Part) -> Result<String, AllocError> {
+    match call {
+        "part_kind" => format!(in alloc; "{}", number_of(part)),
+        "part_fault" => line_of(alloc, fault_of(part)?),
+        "fates" => fates_of(alloc, part),
+        "closes" => format!(in alloc; "{:?}", part.closes()),
+        "markers" => format!(in alloc; "{:?}", part.markers()),
+        _ => all_of(alloc, part),
+    }
+}
+
+pub(super) fn answer(alloc: Global, call: &str, rest: &str) -> io::Result<String> {
     let (order, word) = rest.split_once(' ').unwrap_or(("left", rest));
     let part = part_of(alloc, order_of(order)?, word)?;
-    Ok(Some(match call {
-        "part_kind" => format!(in alloc; "{}", number_of(&part))?,
-        "part_fault" => line_of(alloc, fault_of(&part)?)?,
-        "part_json" => json_of(alloc, fault_of(&part)?)?,
-        "fates" => fates_of(alloc, &part)?,
-        "closes" => format!(in alloc; "{:?}", part.closes())?,
-        "markers" => format!(in alloc; "{:?}", part.markers())?,
-        _ => all_of(alloc, &part)?,
-    }))
+    Ok(said(alloc, call, &part)?)
 }

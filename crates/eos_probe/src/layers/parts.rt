@@ -17,12 +17,11 @@ pub(super) fn sides(text: &str, mark: char) -> io::Result<(&str, &str)> {
     Ok(text.split_once(mark).ok_or(ErrorKind::InvalidInput)?)
 }
 
-pub(super) fn name_of(alloc: Global, text: &str) -> io::Result<PartitionName> {
+/// The topic and the number of a partition's name.
+pub(super) fn name_of(text: &str) -> io::Result<(&str, i32)> {
     let (topic, number) = text.rsplit_once('-').ok_or(ErrorKind::InvalidInput)?;
-    Ok(PartitionName {
-        topic: Bytes::copy_from_slice(alloc, topic.as_bytes())?,
-        partition: number.parse::<i32>().or(Err(ErrorKind::InvalidInput))?,
-    })
+    let number = number.parse::<i32>().or(Err(ErrorKind::InvalidInput))?;
+    Ok((topic, number))
 }
 
 /// The run of one segment.
@@ -66,19 +65,26 @@ fn ended(alloc: Global, name: PartitionName, end: i64, run: Option<Named>) -> io
     }
 }
 
+/// The runs of these segments, one each.
+fn runs_of(alloc: Global, name: &PartitionName, segments: &str) -> io::Result<Vec<Named>> {
+    let mut runs = Vec::new(alloc);
+    let mut piece = 0u64;
+    for segment in segments.split_terminator(',') {
+        runs.push(piece_of(alloc, name, piece, segment)?)?;
+        piece = piece.saturating_add(1);
+    }
+    Ok(runs)
+}
+
 /// The partition of a word, its segments joined in this order.
 pub(super) fn part_of(alloc: Global, order: Order, word: &str) -> io::Result<Part> {
     let (name, rest) = sides(word, ':')?;
     let (end, segments) = sides(rest, ':')?;
-    let name = name_of(alloc, name)?;
     let end = end.parse::<i64>().or(Err(ErrorKind::InvalidInput))?;
-    let mut runs = Vec::new(alloc);
-    let mut piece = 0u64;
-    for segment in segments.split_terminator(',') {
-        runs.push(piece_of(alloc, &name, piece, segment)?)?;
-        piece = piece.saturating_add(1);
-    }
-    let run = joined(alloc, runs, order)?;
+    let (topic, partition) = name_of(name)?;
+    let topic = Bytes::copy_from_slice(alloc, topic.as_bytes())?;
+    let name = PartitionName { topic, partition };
+    let run = joined(alloc, runs_of(alloc, &name, segments)?, order)?;
     ended(alloc, name, end, run)
 }
 
