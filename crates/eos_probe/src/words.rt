@@ -3,6 +3,7 @@
 use bytes::Bytes;
 use hex::FromHexError;
 use std::alloc::{AllocError, Global};
+use std::convert::AsSlice;
 use std::fmt::Debug;
 
 /// The bytes of hexadecimal digits, none where they aren't such; `-` stands for no bytes.
