@@ -15,7 +15,7 @@ pub(super) fn answer(alloc: Global, call: &str, bytes: &Bytes, more: &str) -> An
         "spec_fault" => shown(alloc, parse_spec(alloc, bytes.as_slice()).err()),
         "write_spec" => digits_of(alloc, rewritten(alloc, bytes)),
         "end_twice" => shown(alloc, twice(alloc)),
-        "add_segments" => shown(alloc, added(alloc, bytes, more)),
+        "add_segments" => shown(alloc, add_segments(alloc, bytes, more)),
         _ => return batch::answer(alloc, call, bytes, more),
     };
     Some(text)
@@ -46,7 +46,7 @@ fn two_ends(alloc: Global) -> Result<Ends, AllocError> {
 }
 
 /// What segments are answered that are added as TOPIC/PARTITION/FROM/TO, one for each base; and what there is then.
-fn added(alloc: Global, bytes: &Bytes, words: &str) -> Result<Added, SpecFault> {
+fn add_segments(alloc: Global, bytes: &Bytes, words: &str) -> Result<Added, SpecFault> {
     let mut builder = builder_of(alloc, bytes)?;
     let answers = add_all(alloc, &mut builder, words)?;
     let evidence = builder.finish();
