@@ -1,6 +1,5 @@
-//! Calls of what workers share: the tickets, the board, the pool's core, and the check by workers behind a gate.
+//! Calls of what workers share: the tickets, the pool's core, and the check by workers behind a gate.
 
-mod board;
 mod evidence;
 mod gate;
 mod pool;
@@ -22,7 +21,7 @@ pub(crate) fn answer<R: Threads + Wait + Clock + Sync>(
 ) -> io::Result<Option<String>> {
     match call {
         "tickets" => Ok(Some(tickets::drawn_by(rt, alloc, rest)?)),
-        "board" | "pool" | "check" | "check_one" => {
+        "pool" | "check" | "check_one" => {
             let (words, partitions) = rest.split_once('|').unwrap_or((rest, ""));
             let evidence = evidence::evidence_of(alloc, partitions)?;
             Ok(Some(of_evidence(rt, alloc, call, words, &evidence)?))
@@ -39,7 +38,6 @@ fn of_evidence<R: Threads + Wait + Clock + Sync>(
     evidence: &Evidence,
 ) -> Result<String, AllocError> {
     match call {
-        "board" => board::run(alloc, evidence, words),
         "pool" => pool::run(alloc, evidence, words),
         "check" => gate::check_behind(rt, alloc, evidence, words),
         _ => gate::check_alone(rt, alloc, evidence),

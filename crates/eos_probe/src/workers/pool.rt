@@ -1,9 +1,18 @@
 //! The pool's core: it takes the events of workers one after another.
 
-use crate::workers::board::pieces_of;
 use eos_board::{PoolCore, PoolEvent};
 use eos_evidence::Evidence;
+use eos_fold::Named;
 use std::alloc::{AllocError, Global};
+
+/// The first and the last piece of each run.
+fn pieces_of(alloc: Global, runs: Vec<Named>) -> Result<Vec<(u64, u64)>, AllocError> {
+    let mut pieces = Vec::new(alloc);
+    for run in runs {
+        pieces.push(run.pieces())?;
+    }
+    Ok(pieces)
+}
 
 /// The event of a word, as `draw:0`.
 fn event_of(word: &str) -> Option<PoolEvent> {
