@@ -89,7 +89,8 @@ def main():
         sys.exit(f"status {done.returncode}, {len(answers)} answers to {len(lines)} calls: {done.stderr.decode()[:300]}")
     failures, answers = 0, iter(answers)
     for log in logs:
-        said = [counted(answer, cuts) for answer, (_, cuts) in zip(answers, log)]
+        # (the log first: zip takes of the answers no more than there are calls)
+        said = [counted(answer, cuts) for (_, cuts), answer in zip(log, answers)]
         for (call, _), answer in zip(log, said):
             if answer != said[0] or not answer.startswith("["):
                 failures += 1
