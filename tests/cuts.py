@@ -47,7 +47,7 @@ def answer(program, data, end, cuts):
         for (at, offset), (until, _) in zip(begins, [*cuts, (len(data), end)]):
             with open(os.path.join(folder, "in-0", f"{offset:020}.log"), "wb") as file:
                 file.write(data[at:until])
-        ran = subprocess.run([program, "check", folder], capture_output=True, text=True, timeout=60)
+        ran = subprocess.run([program, "check", "--quiet", folder], capture_output=True, text=True, timeout=60)
     byte_of = {offset: at for at, offset in begins}
     line = re.sub(
         r"segment=(\d+) byte=(\d+)", lambda found: f"byte={byte_of[int(found[1])] + int(found[2])}", ran.stdout

@@ -177,7 +177,8 @@ def answers_the_largest(cases):
     with open(path, "ab") as file:
         file.write(b"\0")
     for command in "dump", "chain":
-        cases.compare("2^30 + 1 bytes", command, path, (2, b"", "eoscheck: limit\n"))
+        said = f"eoscheck: limit\n  {path} has more than 1073741824 bytes, as many as a segment may have\n"
+        cases.compare("2^30 + 1 bytes", command, path, (2, b"", said))
 
 
 def main():

@@ -23,6 +23,7 @@ import tempfile
 
 import made_evidence
 import mutants
+import notes_reference
 import plain_logs
 import reference
 from mutants import varint
@@ -633,7 +634,7 @@ def compare(program, path, seen, rng):
     command = [program, "check", *words, "--workers", rng.choice("14"), path]
     done = subprocess.run(command, capture_output=True, timeout=60)
     found = done.returncode, done.stdout.decode(), done.stderr.decode()
-    return line, found, (0 if line.startswith("yes") else 1, shown + "\n", "")
+    return line, found, (0 if line.startswith("yes") else 1, shown + "\n", notes_reference.lines(path))
 
 
 def main():

@@ -19,6 +19,7 @@ import subprocess
 import sys
 import tempfile
 
+import notes_reference
 import reference
 
 HERE = os.path.dirname(os.path.abspath(__file__))
@@ -116,8 +117,9 @@ def switched(name, seed):
     folder = os.path.join(scratch, f"{name}-{seed}")
     wrote = simulate(seed, events_of(seed) % 400, folder, "--switch", name)
     said = run("check", "--workers", 1 + seed % 4, folder)
+    notes = notes_reference.lines(folder)
     shutil.rmtree(folder)
-    return wrote == (0, WROTE, "") and said[0] == 1 and said[1].startswith(f"no {SWITCHES[name]} ") and said[2] == ""
+    return wrote == (0, WROTE, "") and said[0] == 1 and said[1].startswith(f"no {SWITCHES[name]} ") and said[2] == notes
 
 
 def same_folder(one, other):
@@ -174,12 +176,14 @@ def refused_folders():
     folder = os.path.join(scratch, "no-manifest")
     message = f"eoscheck: cannot write {folder}/evidence.json\n"
     expect(simulate(7, 100, folder, **limited(10)) == (2, "", message), "a manifest that can't be written")
+    expect(not os.path.exists(folder), "a folder without its manifest is taken away")
     folder = os.path.join(scratch, "no-segment")
     status, out, said = simulate(7, 100, folder, **limited(400))
     expect(
         status == 2 and out == "" and re.fullmatch(rf"eoscheck: cannot write {folder}/[a-z_]+-\d/\d{{20}}\.log\n", said),
         f"a segment that can't be written: {said}",
     )
+    expect(not os.path.exists(folder), "a folder without a segment is taken away")
     with open("/dev/full", "w") as full:
         words = [program, "simulate", "--seed", "7", "--events", "10", os.path.join(scratch, "full")]
         done = subprocess.run(words, stdout=full, stderr=subprocess.PIPE, timeout=60)
@@ -209,7 +213,7 @@ def bad_words():
 
 def refused_memory(library):
     """Each allocation of a run, or where there are many every so-manieth: the folder is written, or the answer is want of
-    memory."""
+    memory and there is none, or a whole one of which nothing could be said any more."""
     count = os.path.join(scratch, "count")
     folder = os.path.join(scratch, "whole")
     words = dict(os.environ, LD_PRELOAD=library)
@@ -223,6 +227,8 @@ def refused_memory(library):
         found = simulate(7, 5, again, env=dict(words, REFUSE_AT=str(at)))
         if found == (3, "", "eoscheck: out of memory\n"):
             told += 1
+            whole = not os.path.exists(again) or same_folder(folder, again)
+            expect(whole, f"allocation {at} refused: a part of the folder is left")
         elif found != good or not same_folder(folder, again):
             expect(False, f"allocation {at} refused: {found}")
         if os.path.exists(again):

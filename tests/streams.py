@@ -88,11 +88,13 @@ def worked():
 
 CANNOT_READ = "eoscheck: cannot read -\n"
 CANNOT_WRITE = "eoscheck: cannot write -\n"
+# What Linux says of EIO.
+BROKEN = "  Input/output error (os error 5)\n"
 
 
 def failing():
     for command in ("dump", "chain"):
-        same(f"{command} of no stream", run(PLAIN, command, "-", broken=1), 2, "", CANNOT_READ)
+        same(f"{command} of no stream", run(PLAIN, command, "-", broken=1), 2, "", CANNOT_READ + BROKEN)
     for room in (0, 3, 10, 100):
         same(f"a listing in {room} bytes", run(PLAIN, "dump", "-", room=room), 2, LISTING[:room], CANNOT_WRITE)
     same("a listing in 1000 bytes", run(PLAIN, "dump", "-", room=1000), 0, LISTING)

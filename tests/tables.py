@@ -2,10 +2,11 @@
 """Runs tables of cases through the probe, a program that answers each line with a line (crates/eos_probe). It prints each
 difference with its file and line, and last 'N passed, N failed'; the exit status is 1 where one failed.
 
-    python3 tests/tables.py PROGRAM [TABLE ..]       without a TABLE: all of tests/tables
+    python3 tests/tables.py PROGRAM [TABLE ..]       without a TABLE: all of tests/tables, and tests/bad_rows.txt
 
 A row is 'CALL ARGS => ANSWER'; empty lines and lines that begin with '#' say nothing. A row without an answer, an answer
-of no row, a table without rows and a probe that ends early or in a status other than 0 are failures too.
+of no row, a table without rows and a probe that ends early or in a status other than 0 are failures too. What the probe says
+of a row that it can't read, 'bad row', no row may ask for; it has to say so of each line of tests/bad_rows.txt.
 
 Bytes may be put together between '<' and '>', of hexadecimal digits, texts such as 'in', and names in capitals. Each may
 be cut, as in KEY[2:], and repeated, as in 'a'*300; a '#' in a text is the number of the repetition. They stand for their
@@ -31,6 +32,8 @@ Row = collections.namedtuple("Row", "place call answer")
 PART = r"((?:[0-9a-f]{2})+|'[^']*'|[A-Z][A-Z_0-9]*)(?:\[(-?[0-9]*):(-?[0-9]*)\])?(?:\*([0-9]+))?"
 PARTS = re.compile(rf"<(\s*{PART}(?:\s+{PART})*\s*)>")
 NAMING = re.compile(r"([A-Z][A-Z_0-9]*) = (.*)")
+# What the probe answers to a row that it can't read.
+UNREADABLE = "bad row"
 
 
 def bytes_of(parts, names):
@@ -68,7 +71,7 @@ def row_of(line, names, pieces):
         names[naming[1]] = bytes.fromhex(written_out(naming[2], names, pieces)).hex()
         return None
     call, arrow, answer = (line + " ").partition(" => ")
-    if not arrow or not call.strip() or not answer.strip():
+    if not arrow or not call.strip() or not answer.strip() or answer.strip() == UNREADABLE:
         raise ValueError("no row")
     answer = PARTS.sub(lambda match: bytes_of(match[1], names), answer)
     call = written_out(call, names, pieces).strip()
@@ -98,13 +101,19 @@ def rows_of(table):
     return rows, bad
 
 
+def unreadable(table):
+    """The lines of a file as rows that can't be read."""
+    with open(table, encoding="utf-8") as file:
+        lines = enumerate(file.read().splitlines(), 1)
+    return [Row(f"{table}:{number}", line, UNREADABLE) for number, line in lines if not line.startswith("#")]
+
+
 def cut(text):
     return text if len(text) < 2000 else text[:2000] + " .."
 
 
-def run(program, table):
-    """How many rows pass, and a text for each failure."""
-    rows, failures = rows_of(table)
+def run(program, table, rows, failures):
+    """How many rows pass, and a text for each failure, behind those that there are already."""
     lines = "".join(f"{row.call}\n" for row in rows)
     done = subprocess.run([program], input=lines.encode(), capture_output=True, timeout=600)
     answers = done.stdout.decode(errors="replace").split("\n")
@@ -126,10 +135,14 @@ def run(program, table):
 
 def main():
     program, *tables = sys.argv[1:]
-    tables = tables or sorted(glob.glob(os.path.join(os.path.dirname(os.path.abspath(__file__)), "tables", "*.txt")))
-    passed, failures = 0, [] if tables else ["no tables"]
+    here = os.path.dirname(os.path.abspath(__file__))
+    passed, failures = 0, []
+    if not tables:
+        tables = sorted(glob.glob(os.path.join(here, "tables", "*.txt")))
+        bad_rows = os.path.join(here, "bad_rows.txt")
+        passed, failures = run(program, bad_rows, unreadable(bad_rows), [] if tables else ["no tables"])
     for table in tables:
-        good, bad = run(program, table)
+        good, bad = run(program, table, *rows_of(table))
         passed, failures = passed + good, failures + bad
     for failure in failures:
         print(failure)

@@ -351,7 +351,7 @@ def verdicts(folder, program):
     """The lines, without the byte of a BadBatch."""
     lines = {"the second program": reference.verdict(folder)}
     if program:
-        lines["check"] = subprocess.run([program, "check", folder], stdout=subprocess.PIPE, text=True, check=False).stdout
+        lines["check"] = subprocess.run([program, "check", "--quiet", folder], stdout=subprocess.PIPE, text=True, check=False).stdout
     return {who: re.sub(r" byte=\d+", "", line).strip() for who, line in lines.items()}
 
 

@@ -47,7 +47,7 @@ def main():
     said = {cells[0]: cells[1].strip("`") for cells in rows(text) if re.fullmatch(r"[1-5]\.\d+", cells[0])}
     kinds = {}
     for phase, path, first in (
-        ("1", "crates/eos_fold/specs/Names.antt", "number_of"),
+        ("1", "crates/eos_touch/specs/FaultNames.antt", "number_of"),
         ("1", "crates/eos_touch/specs/Pair.antt", "number_of"),
         ("2", "crates/eos_table/specs/LogFaults.antt", "rank"),
         ("3", "crates/eos_table/specs/MatchFaults.antt", "rank"),

@@ -2,8 +2,8 @@
 -- The key of its one record is a version (i16) and a type (i16): 0 is ABORT and 1 is COMMIT. The value of these two, the
 -- end markers, is a version (i16) and the coordinator's epoch (i32). Any version of 0 or more is read, what follows is
 -- ignored, and other types mean nothing.
-use Rattle.std.specs.Prelude.{ℕ, zero, suc, ℤ, pos, negsuc, List, [], ◌∷◌, Option, Some, None, Bool, true, false, is_some, if◌then◌else◌}
-use Rattle.std.specs.Option.{option_map, option_and_then}
+use Rattle.std.specs.Prelude.{ℕ, zero, suc, ℤ, pos, negsuc, List, [], ◌∷◌, ◌++◌, Option, Some, None, Bool, true, false, is_some, if◌then◌else◌}
+use Rattle.std.specs.Option.{option_map, option_and_then, option_to_list}
 use Rattle.eos_wire.specs.Numbers.{i16_at, i32_at}
 use Rattle.eos_batch.specs.declared.batch.Batch.{Batch}
 use Rattle.eos_batch.specs.declared.record.Record.{Record}
@@ -52,6 +52,11 @@ marker_in b (r ∷ s ∷ rs) = None
 
 abbrev pub marker_of : Batch → Option Marker
 marker_of b = if is_control b.attributes then marker_in b b.records else None
+
+-- the end markers of a log, in order
+abbrev pub markers_of : List Batch → List Marker
+markers_of [] = []
+markers_of (b ∷ bs) = option_to_list (marker_of b) ++ markers_of bs
 
 -- ---- which control batches are right
 

@@ -1,7 +1,7 @@
 -- All data of transactions is ended by a marker exactly where no producer id's last touch is data of a transaction.
 use Rattle.std.proofs.Common.{◌≡◌, ℕ, Bool, true, false, Option, Some, None, List, [], ◌∷◌, ◌++◌, length, refl, sym, ap, subst, ◌∙◌, ℤ, pos, inl, inr, ◌⊎◌}
 use Rattle.std.specs.Prelude.{if◌then◌else◌, int_lt, int_le, is_some, not}
-use Rattle.std.specs.Option.{option_or, option_map}
+use Rattle.std.specs.Option.{option_or, option_map, option_to_list}
 use Rattle.std.specs.Ordering.{int_eq}
 use Rattle.std.proofs.lemmas.Bool.{false≢true}
 use Rattle.std.proofs.lemmas.Bool.Decides.{Decides-int_eq}
@@ -10,7 +10,7 @@ use Rattle.eos_base.proofs.Membership.{append_cases, append_left, append_right, 
 use Rattle.eos_batch.specs.declared.batch.Batch.{Batch}
 use Rattle.eos_batch.specs.declared.marker.Marker.{Marker}
 use Rattle.eos_batch.specs.declared.marker.Kind.{Kind}
-use Rattle.eos_batch.specs.Marker.{marker_of, marker_in}
+use Rattle.eos_batch.specs.Marker.{marker_of, marker_in, markers_of}
 use Rattle.eos_batch.specs.Attributes.{is_control, is_transactional}
 use Rattle.eos_batch.specs.Rules.{IsProducerRight, has_right_producer, names_producer}
 use Rattle.eos_touch.specs.declared.touch.Touch.{Touch}
@@ -18,9 +18,7 @@ use Rattle.eos_touch.specs.declared.touch.Touch.TheVariants.{Data, End}
 use Rattle.eos_touch.specs.Pair.{is_open, is_marker, mixed_producer}
 use Rattle.eos_touch.specs.Neighbours.{EachAfter, Accepts}
 use Rattle.eos_touch.proofs.TableRows.{is_clean}
-use Rattle.eos_touch.specs.Touches.{data_touch, end_touch, touch_of}
-use Rattle.eos_fold.specs.Touches.{touch_in, touches_of, last_of, last_touch}
-use Rattle.eos_fold.specs.Fronts.{listed, markers_of}
+use Rattle.eos_touch.specs.Touches.{data_touch, end_touch, touch_of, touch_in, touches_of, last_of, last_touch}
 use Rattle.eos_fold.specs.Standing.{IsOpen}
 use Rattle.eos_check.specs.PartitionRules.{IsTransactional, HasMarker}
 
@@ -101,20 +99,20 @@ says_open b x h o = by_test (is_control b.attributes) refl
 
 -- ---- markers among touches
 
-listed_is : (o : Option Marker) (m : Marker) → Has (listed o) m → o ≡ Some m
+listed_is : (o : Option Marker) (m : Marker) → Has (option_to_list o) m → o ≡ Some m
 listed_is None m h = absurd h
 listed_is (Some n) m (inl e) = ap Some e
 listed_is (Some n) m (inr h) = absurd h
 
-has_listed : (o : Option Marker) (m : Marker) → o ≡ Some m → Has (listed o) m
-has_listed o m e = subst (λ (x : Option Marker). Has (listed x) m) (sym e) (inl refl)
+has_listed : (o : Option Marker) (m : Marker) → o ≡ Some m → Has (option_to_list o) m
+has_listed o m e = subst (λ (x : Option Marker). Has (option_to_list x) m) (sym e) (inl refl)
 
 in_touch : (id : ℤ) (x : ℤ × Touch) → x.0 ≡ id → Has (touch_in id (Some x)) x.1
 in_touch id x e = subst (λ (test : Bool). Has (if test then x.1 ∷ [] else []) x.1) (sym ((Decides-int_eq x.0 id).1 e)) (inl refl)
 
 pub end_touches : (id : ℤ) (bs : List Batch) (m : Marker) → Has (markers_of bs) m → m.producer ≡ id → Has (touches_of id bs) (End m.epoch m.kind)
 end_touches id [] m h p = absurd h
-end_touches id (b ∷ bs) m h p = elim (append_cases (listed (marker_of b)) (markers_of bs) m h) [
+end_touches id (b ∷ bs) m h p = elim (append_cases (option_to_list (marker_of b)) (markers_of bs) m h) [
   | inl a ↦ append_left (touch_in id (touch_of b)) (touches_of id bs) (End m.epoch m.kind)
       (subst (λ (o : Option (ℤ × Touch)). Has (touch_in id o) (End m.epoch m.kind)) (sym (end_says b m (listed_is (marker_of b) m a))) (in_touch id (end_touch m) p))
   | inr a ↦ append_right (touch_in id (touch_of b)) (touches_of id bs) (End m.epoch m.kind) (end_touches id bs m a p)
@@ -128,7 +126,7 @@ pub marker_among : (id : ℤ) (bs : List Batch) (e : ℤ) (k : Kind) → Has (to
 marker_among id [] e k h = absurd h
 marker_among id (b ∷ bs) e k h = elim (append_cases (touch_in id (touch_of b)) (touches_of id bs) (End e k) h) [
   | inl a ↦ here (touch_of b) refl a
-  | inr a ↦ let r = marker_among id bs e k a in (r.0, append_right (listed (marker_of b)) (markers_of bs) r.0 r.1, r.2)
+  | inr a ↦ let r = marker_among id bs e k a in (r.0, append_right (option_to_list (marker_of b)) (markers_of bs) r.0 r.1, r.2)
 ]
   where
     here : (o : Option (ℤ × Touch)) → touch_of b ≡ o → Has (touch_in id o) (End e k) → HasMarker id (b ∷ bs)
@@ -136,7 +134,7 @@ marker_among id (b ∷ bs) e k h = elim (append_cases (touch_in id (touch_of b))
     here (Some x) q a =
         let r = if_has (int_eq x.0 id) (x.1 ∷ []) (End e k) a in
         let f = says_end b id e k x q ((Decides-int_eq x.0 id).0 r.0) (one_is x (End e k) r.1) in
-        (f.0, append_left (listed (marker_of b)) (markers_of bs) f.0 (has_listed (marker_of b) f.0 f.1.marker), f.1.producer)
+        (f.0, append_left (option_to_list (marker_of b)) (markers_of bs) f.0 (has_listed (marker_of b) f.0 f.1.marker), f.1.producer)
 
 -- ---- behind open data comes a marker, or the last touch is open
 

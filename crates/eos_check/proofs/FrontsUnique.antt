@@ -6,11 +6,12 @@ use Rattle.eos_batch.specs.declared.fault.BatchFault.{BatchFault}
 use Rattle.eos_evidence.specs.declared.segment.Segment.{Segment}
 use Rattle.eos_fold.specs.declared.stop.Stop.{Stop}
 use Rattle.eos_fold.specs.declared.stop.Stop.TheVariants.{AtEnd, NoBatch, Elsewhere}
-use Rattle.eos_fold.specs.Front.{offset_of, records_in, ContinuesFrom, IsNext}
+use Rattle.eos_batch.specs.Offsets.{offset_of}
+use Rattle.eos_touch.specs.Front.{records_in, ContinuesFrom, IsNext}
 use Rattle.eos_fold.specs.Fronts.{StopsAt, IsSegmentFront, GoesOn, IsFront}
-use Rattle.eos_fold.proofs.BatchReading.{next_is, not_both, nothing_next}
-use Rattle.eos_fold.proofs.Beginnings.{compared}
-use Rattle.eos_fold.proofs.Beginnings as beginnings
+use Rattle.eos_touch.proofs.BatchReading.{next_is, not_both, nothing_next}
+use Rattle.eos_touch.proofs.Beginnings.{compared}
+use Rattle.eos_touch.proofs.Beginnings as beginnings
 
 -- ---- one segment
 

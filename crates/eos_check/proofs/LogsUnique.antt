@@ -11,10 +11,11 @@ use Rattle.eos_batch.specs.declared.batch.Batch.{Batch}
 use Rattle.eos_evidence.specs.declared.partition.Partition.{Partition}
 use Rattle.eos_items.specs.Items.{items_of}
 use Rattle.eos_fold.specs.declared.close.Close.{Close}
-use Rattle.eos_fold.specs.Closes.{close_cmp}
+use Rattle.eos_fold.specs.Closes.{close_cmp, closes_of}
 use Rattle.eos_fold.specs.Parts.{PartLog, Ascends}
-use Rattle.eos_fold.specs.Whole.{AreCloses, closes_in, data_in}
-use Rattle.eos_fold.specs.Fronts.{markers_of}
+use Rattle.eos_fold.specs.Whole.{AreCloses}
+use Rattle.eos_summary.specs.Settling.{data_in}
+use Rattle.eos_batch.specs.Marker.{markers_of}
 use Rattle.eos_fold.specs.Standing as folds
 use Rattle.eos_fold.proofs.ClosesOnce.{close_total}
 use Rattle.eos_check.specs.Good.{IsLogOf, AreLogsOf}
@@ -76,7 +77,7 @@ one_list (c ∷ cs) (d ∷ ds) a b f g =
     by_first : c ≡ d → (((x : Close) → Has cs x → Has ds x) → ((x : Close) → Has ds x → Has cs x) → cs ≡ ds) → c ∷ cs ≡ d ∷ ds
     by_first e others = let tails = others (forth e) (back e) in λ i. e i ∷ tails i
 
-one_closes : (bs : List Batch) (cs ds : List Close) → AreCloses (closes_in bs) cs → AreCloses (closes_in bs) ds → cs ≡ ds
+one_closes : (bs : List Batch) (cs ds : List Close) → AreCloses (closes_of bs) cs → AreCloses (closes_of bs) ds → cs ≡ ds
 one_closes bs cs ds h k = one_list cs ds h.ascend k.ascend (λ c m. (k.members c).1 ((h.members c).0 m)) (λ c m. (h.members c).1 ((k.members c).0 m))
 
 -- ---- the logs
@@ -98,7 +99,7 @@ one_log p l m of are none =
     ∙ sym (no_fault folds.fault_cmp (folds.IsStanding p.end.topic p.end.partition p.end.end are.batches are.stop) m.fault are.fault none_too) in
     let items = of.items ∙ (ap (λ (bs : List Batch). items_of (data_in bs)) front.0 ∙ sym are.items) in
     let markers = of.markers ∙ (ap markers_of front.0 ∙ sym are.markers) in
-    let closes = one_closes are.batches l.closes m.closes (subst (λ (bs : List Batch). AreCloses (closes_in bs) l.closes) front.0 of.closes) are.closes in
+    let closes = one_closes are.batches l.closes m.closes (subst (λ (bs : List Batch). AreCloses (closes_of bs) l.closes) front.0 of.closes) are.closes in
     λ i. record { topic = topic i; number = number i; end = end i; fault = fault i; items = items i; closes = closes i; markers = markers i }
 
 pub one_logs : (ps : List Partition) (ls ms : List PartLog) (of : AreLogsOf ps ls) (are : AreLogsOf ps ms) → NoneStands (StandsInPartitions ps ls of) → ls ≡ ms

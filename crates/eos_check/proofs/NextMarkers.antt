@@ -14,9 +14,9 @@ use Rattle.eos_touch.specs.declared.touch.Touch.{Touch}
 use Rattle.eos_touch.specs.declared.touch.Touch.TheVariants.{Data, End}
 use Rattle.eos_touch.specs.Touches.{touch_of}
 use Rattle.eos_summary.specs.declared.mark.EndMark.{EndMark}
-use Rattle.eos_summary.specs.Heads.{mark_in, mark_for, first_marker}
-use Rattle.eos_summary.specs.Touches.{heads_of}
-use Rattle.eos_fold.specs.Front.{offset_of, ContinuesFrom}
+use Rattle.eos_summary.specs.Ends.{mark_in, mark_for, first_marker}
+use Rattle.eos_batch.specs.Offsets.{offset_of}
+use Rattle.eos_touch.specs.Front.{ContinuesFrom}
 use Rattle.eos_fold.proofs.SteadyFronts.{HaveRecords}
 use Rattle.eos_check.specs.VisibleRecords.{IsMarker}
 use Rattle.eos_check.proofs.EndedData.{end_says, says_end}
@@ -103,7 +103,7 @@ marks_none b e = by_touch (touch_of b) refl
 
 -- the first marker, with the head's mark
 abbrev first_with : ℤ → Option EndMark → List Batch → Option EndMark
-first_with id o bs = option_or (mark_for id o) (first_marker id (heads_of bs))
+first_with id o bs = option_or (mark_for id o) (first_marker id bs)
 
 abbrev chosen : Bool → EndMark → Option EndMark → Option EndMark
 chosen test e rest = option_or (cond test (Some e) None) rest
@@ -113,22 +113,22 @@ pub record IsFirst (id : ℤ) (bs : List Batch) (kind : Kind) (m : Batch) : Type
   pub marks : IsMarker id kind m
   pub least : (n : Batch) (other : Kind) → Has bs n → IsMarker id other n → offset_of m ≤ offset_of n
 
-pub first_found : (at : ℕ) (id : ℤ) (bs : List Batch) (e : EndMark) → Rising at bs → first_marker id (heads_of bs) ≡ Some e → (m : Batch) × IsFirst id bs e.kind m
+pub first_found : (at : ℕ) (id : ℤ) (bs : List Batch) (e : EndMark) → Rising at bs → first_marker id bs ≡ Some e → (m : Batch) × IsFirst id bs e.kind m
 first_found at id [] e r q = absurd (none_is e q)
 first_found at id (b ∷ bs) e r q = by_marker (batch.marker_of b) refl (λ p. first_found (offset_of b + 1) id bs e r.1 p)
   where
     Rest : Type 0
-    Rest = first_marker id (heads_of bs) ≡ Some e → (m : Batch) × IsFirst id bs e.kind m
+    Rest = first_marker id bs ≡ Some e → (m : Batch) × IsFirst id bs e.kind m
 
     -- the head is no marker of the id
-    pass : Rest → first_marker id (heads_of bs) ≡ Some e → ((other : Kind) → IsMarker id other b → ⊥) → (m : Batch) × IsFirst id (b ∷ bs) e.kind m
+    pass : Rest → first_marker id bs ≡ Some e → ((other : Kind) → IsMarker id other b → ⊥) → (m : Batch) × IsFirst id (b ∷ bs) e.kind m
     pass rest p other_id =
         let f = rest p in
         let least : (n : Batch) (other : Kind) → Has (b ∷ bs) n → IsMarker id other n → offset_of f.0 ≤ offset_of n =
         λ n other h k. elim h [ inl s ↦ absurd (other_id other (subst (IsMarker id other) (sym s) k)) | inr t ↦ f.1.least n other t k ] in
         (f.0, record { among = inr f.1.among; marks = f.1.marks; least = least })
 
-    by_id : Rest → (x : Marker) → batch.marker_of b ≡ Some x → (test : Bool) → int_eq x.producer id ≡ test → chosen test (mark b x) (first_marker id (heads_of bs)) ≡ Some e → (m : Batch) × IsFirst id (b ∷ bs) e.kind m
+    by_id : Rest → (x : Marker) → batch.marker_of b ≡ Some x → (test : Bool) → int_eq x.producer id ≡ test → chosen test (mark b x) (first_marker id bs) ≡ Some e → (m : Batch) × IsFirst id (b ∷ bs) e.kind m
     by_id rest x c true i p = (
       b,
       record {
@@ -151,12 +151,12 @@ or_none None b e = (refl, e)
 or_none (Some x) b e = absurd (none_is x (sym e))
 
 -- where none is found, none stands
-pub none_found : (id : ℤ) (bs : List Batch) → first_marker id (heads_of bs) ≡ None → (m : Batch) (kind : Kind) → Has bs m → IsMarker id kind m → ⊥
+pub none_found : (id : ℤ) (bs : List Batch) → first_marker id bs ≡ None → (m : Batch) (kind : Kind) → Has bs m → IsMarker id kind m → ⊥
 none_found id [] q m kind h k = h
-none_found id (b ∷ bs) q m kind (inr h) k = none_found id bs (or_none (mark_for id (mark_in (offset_of b) (touch_of b))) (first_marker id (heads_of bs)) q).1 m kind h k
+none_found id (b ∷ bs) q m kind (inr h) k = none_found id bs (or_none (mark_for id (mark_in (offset_of b) (touch_of b))) (first_marker id bs) q).1 m kind h k
 none_found id (b ∷ bs) q m kind (inl s) k =
     let here : IsMarker id kind b = subst (IsMarker id kind) (sym s) k in
-    let unmarked = (or_none (mark_for id (mark_in (offset_of b) (touch_of b))) (first_marker id (heads_of bs)) q).0 in
+    let unmarked = (or_none (mark_for id (mark_in (offset_of b) (touch_of b))) (first_marker id bs) q).0 in
     let test : int_eq here.marker.producer id ≡ true = (Decides-int_eq here.marker.producer id).1 here.producer in
     let yes : mark_for id (Some (mark b here.marker)) ≡ Some (mark b here.marker) = ap (λ t. cond t (Some (mark b here.marker)) None) test in
     none_is (mark b here.marker) (sym unmarked ∙ (ap (mark_for id) (marks b here.marker here.content) ∙ yes))

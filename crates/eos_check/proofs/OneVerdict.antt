@@ -3,7 +3,7 @@ use Rattle.std.proofs.Common.{◌≡◌, ◌⊎◌, inl, inr, true, false, List,
 use Rattle.eos_base.specs.Least.{NoneStands, IsLeast}
 use Rattle.eos_base.proofs.LeastOf.{one_least}
 use Rattle.eos_evidence.specs.Evidence.{EvidenceParts, IsEvidence}
-use Rattle.eos_fold.specs.declared.fault.PartitionFault.{PartitionFault}
+use Rattle.eos_touch.specs.declared.fault.PartitionFault.{PartitionFault}
 use Rattle.eos_fold.specs.Parts.{PartLog}
 use Rattle.eos_table.proofs.LogOrder.{log_total, log_exact}
 use Rattle.eos_table.proofs.MatchOrder.{fault_total, fault_exact}

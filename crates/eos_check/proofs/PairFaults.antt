@@ -16,9 +16,9 @@ use Rattle.eos_touch.specs.Neighbours.{HasRecords, EachAfter, Accepts, IsSequenc
 use Rattle.eos_touch.proofs.TableRows.{IsClean, is_clean, is_accepted}
 use Rattle.eos_touch.proofs.NeighboursLaw.{law}
 use Rattle.eos_touch.specs.Touches.{touch_of}
-use Rattle.eos_fold.specs.Touches.{touch_in, touches_of, last_of, last_touch}
-use Rattle.eos_fold.proofs.GoodSegment.{touch_has_records}
-use Rattle.eos_fold.proofs.TouchLists.{last_touch-push_none, last_touch-push, touches_of-append}
+use Rattle.eos_touch.specs.Touches.{touch_in, touches_of, last_of, last_touch}
+use Rattle.eos_touch.proofs.TouchLists.{touch_has_records}
+use Rattle.eos_touch.proofs.TouchLists.{last_touch-push_none, last_touch-push, touches_of-append}
 
 -- no touch may not follow the one of its id before it; these batches were before
 abbrev pub NoPairAfter : Bool → List Batch → List Batch → Type 0

@@ -15,11 +15,12 @@ use Rattle.eos_touch.specs.Neighbours.{EachAfter, Accepts}
 use Rattle.eos_touch.proofs.TableRows.{not_equal}
 use Rattle.eos_fold.specs.declared.stop.Stop.{Stop}
 use Rattle.eos_fold.specs.declared.stop.Stop.TheVariants.{AtEnd, NoBatch, Elsewhere}
-use Rattle.eos_fold.specs.declared.fault.PartitionFaultKind.{PartitionFaultKind}
-use Rattle.eos_fold.specs.declared.fault.PartitionFaultKind.TheVariants.{BadBatch, Gap, Pair, End, OpenAtEnd}
-use Rattle.eos_fold.specs.Front.{records_in, offset_of}
+use Rattle.eos_touch.specs.declared.fault.PartitionFaultKind.{PartitionFaultKind}
+use Rattle.eos_touch.specs.declared.fault.PartitionFaultKind.TheVariants.{BadBatch, Gap, Pair, End, OpenAtEnd}
+use Rattle.eos_touch.specs.Front.{records_in}
+use Rattle.eos_batch.specs.Offsets.{offset_of}
 use Rattle.eos_fold.specs.Fronts.{IsFront, GoesOn}
-use Rattle.eos_fold.specs.Touches.{touches_of, last_touch, last_of}
+use Rattle.eos_touch.specs.Touches.{touches_of, last_touch, last_of}
 use Rattle.eos_fold.specs.Standing.{IsStanding, StandsIn, IsOpen}
 use Rattle.eos_check.specs.PartitionRules.{IsWhole, IsTransactional, HasMarker, KeepsRules}
 use Rattle.eos_check.proofs.PairFaults.{EachHasRecords, NoPairAfter, rules_kept, no_pair, after_split, last_behind, touches_cut, each_after}

@@ -21,10 +21,10 @@ use Rattle.eos_evidence.specs.Ends.{end_cmp}
 use Rattle.eos_evidence.specs.Topics.{is_internal}
 use Rattle.eos_fold.specs.declared.stop.Stop.{Stop}
 use Rattle.eos_fold.specs.declared.stop.Stop.TheVariants.{NoBatch, Elsewhere}
-use Rattle.eos_fold.specs.declared.fault.PartitionFault.{PartitionFault}
-use Rattle.eos_fold.specs.declared.fault.PartitionFaultKind.{PartitionFaultKind}
-use Rattle.eos_fold.specs.declared.fault.PartitionFaultKind.TheVariants.{BadBatch, Gap, Pair, End, OpenAtEnd}
-use Rattle.eos_fold.specs.Names.{number_of}
+use Rattle.eos_touch.specs.declared.fault.PartitionFault.{PartitionFault}
+use Rattle.eos_touch.specs.declared.fault.PartitionFaultKind.{PartitionFaultKind}
+use Rattle.eos_touch.specs.declared.fault.PartitionFaultKind.TheVariants.{BadBatch, Gap, Pair, End, OpenAtEnd}
+use Rattle.eos_touch.specs.FaultNames.{number_of}
 use Rattle.eos_fold.specs.Parts.{PartLog}
 use Rattle.eos_fold.specs.Standing as folds
 use Rattle.eos_check.specs.Good.{IsLogOf, AreLogsOf}

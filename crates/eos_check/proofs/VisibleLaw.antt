@@ -1,7 +1,6 @@
 -- A record is visible exactly where its batch is of no transaction or its producer's next end marker is a commit.
-use Rattle.std.proofs.Common.{◌≡◌, ℕ, suc, ◌+◌, ◌<◌, ◌≤◌, Bool, true, false, not, Option, Some, None, List, [], ◌∷◌, ◌++◌, length, refl, sym, ap, subst, ◌∙◌, ℤ, pos, inl, inr, ◌⊎◌, arith}
-use Rattle.std.specs.Prelude.{if◌then◌else◌, int_lt}
-use Rattle.std.specs.Option.{option_map}
+use Rattle.std.proofs.Common.{◌≡◌, ℕ, suc, ◌+◌, ◌<◌, ◌≤◌, Bool, true, false, not, Option, Some, None, List, [], ◌∷◌, ◌++◌, length, refl, sym, ap, subst, ◌∙◌, ℤ, inl, inr, ◌⊎◌, arith}
+use Rattle.std.specs.Prelude.{if◌then◌else◌}
 use Rattle.std.proofs.lemmas.Bool.{cases_lt, false≢true}
 use Rattle.eos_base.specs.Members.{Has}
 use Rattle.eos_base.proofs.Membership.{append_cases, append_left, append_right, flat_has, has_flat, if_has, has_if, only, has_filter, filter_has}
@@ -10,36 +9,27 @@ use Rattle.eos_batch.specs.declared.record.Record.{Record}
 use Rattle.eos_batch.specs.declared.marker.Kind.{Kind}
 use Rattle.eos_batch.specs.declared.marker.Kind.TheVariants.{Commit, Abort}
 use Rattle.eos_batch.specs.Attributes.{is_control, is_transactional}
-use Rattle.eos_batch.specs.Marker.{marker_of}
 use Rattle.eos_evidence.specs.declared.partition.Partition.{Partition}
 use Rattle.eos_items.specs.declared.item.Item.{Item}
 use Rattle.eos_items.specs.declared.entry.Ending.{Ending}
-use Rattle.eos_items.specs.declared.entry.Ending.TheVariants.{Plain, Ended}
+use Rattle.eos_items.specs.declared.entry.Ending.TheVariants.{Plain, Ended, Waiting}
 use Rattle.eos_items.specs.Batches.{DataBatch, fate_of}
 use Rattle.eos_items.specs.Items.{item_of, items_from, items_in}
-use Rattle.eos_touch.specs.declared.touch.Touch.{Touch}
-use Rattle.eos_touch.specs.declared.touch.Touch.TheVariants.{Data}
-use Rattle.eos_touch.specs.Touches.{data_touch, end_touch}
 use Rattle.eos_summary.specs.declared.mark.EndMark.{EndMark}
-use Rattle.eos_summary.specs.Heads.{first_marker}
-use Rattle.eos_summary.specs.Items as settled
-use Rattle.eos_summary.specs.Touches.{head_of, heads_of}
-use Rattle.eos_fold.specs.Front.{offset_of}
+use Rattle.eos_summary.specs.Ends.{first_marker}
+use Rattle.eos_batch.specs.Offsets.{offset_of}
 use Rattle.eos_fold.specs.Parts.{PartLog}
-use Rattle.eos_fold.specs.Whole.{data_in}
+use Rattle.eos_summary.specs.Settling.{ending_by, resolved, data_after, data_in}
 use Rattle.eos_fold.proofs.SteadyFronts.{IsSteady, front_steady}
 use Rattle.eos_commits.specs.Visible.{is_visible}
 use Rattle.eos_check.specs.Good.{IsLogOf}
-use Rattle.eos_check.specs.PartitionRules.{IsTransactional}
 use Rattle.eos_check.specs.VisibleRecords.{IsMarker, IsNextMarker, IsCommittedAt, IsVisibleAt, VisibleByMarkers}
-use Rattle.eos_check.proofs.EndedData.{data_says}
-use Rattle.eos_check.proofs.RulesLaw.{EachRight, right_front}
 use Rattle.eos_check.proofs.NextMarkers.{Rising, front_rises, same_batch, rest_rises, stands_behind, behind_greater, first_found, none_found}
 
 -- ---- a data batch stands in the log, and the rest of it behind
 
 abbrev in_log : Batch → List Batch → DataBatch
-in_log b after = settled.item_of (head_of b) (heads_of after)
+in_log b after = data_after b after
 
 record IsDataAt (bs : List Batch) (d : DataBatch) : Type 0 where
   before : List Batch
@@ -116,51 +106,39 @@ item_at d place (r ∷ rs) o l h = elim (cases_lt (d.offset + place) o) [
 
 -- ---- what an ending means
 
-data_ending : (b : Batch) (after : List Batch) → is_control b.attributes ≡ false → (in_log b after).ending ≡ settled.ending_of (data_touch b) (heads_of after)
-data_ending b after c = ap (λ (x : Bool). settled.ending_of (if x then option_map end_touch (marker_of b) else data_touch b) (heads_of after)) c
+-- of a transaction or not, it ends by the first marker behind
+ending_is : (b : Batch) (after : List Batch) (test : Bool) → is_transactional b.attributes ≡ test
+    → (in_log b after).ending ≡ resolved (λ id. first_marker id after) (if test then Waiting b.producer else Plain)
+ending_is b after test t = ap (λ (x : Bool). resolved (λ id. first_marker id after) (if x then Waiting b.producer else Plain)) t
 
-plain_ending : (b : Batch) (after : List Batch) → is_control b.attributes ≡ false → is_transactional b.attributes ≡ false → (in_log b after).ending ≡ Plain
-plain_ending b after c t = by_test (int_lt b.producer (pos 0)) refl
-  where
-    touch : Bool → Option (ℤ × Touch)
-    touch test = if test then None else Some (b.producer, Data b.epoch (is_transactional b.attributes) b.sequence (length b.records))
+plain_ending : (b : Batch) (after : List Batch) → is_transactional b.attributes ≡ false → (in_log b after).ending ≡ Plain
+plain_ending b after t = ending_is b after false t
 
-    by_test : (test : Bool) → int_lt b.producer (pos 0) ≡ test → (in_log b after).ending ≡ Plain
-    by_test true e = data_ending b after c ∙ ap (λ (x : Bool). settled.ending_of (touch x) (heads_of after)) e
-    by_test false e =
-        data_ending b after c
-        ∙ (ap (λ (x : Bool). settled.ending_of (touch x) (heads_of after)) e
-        ∙ ap (λ (x : Bool). settled.ending_of (Some (b.producer, Data b.epoch x b.sequence (length b.records))) (heads_of after)) t)
-
-open_ending : (b : Batch) (after : List Batch) → EachRight (b ∷ after) → IsTransactional b → (in_log b after).ending ≡ settled.ending_by b.producer (first_marker b.producer (heads_of after))
-open_ending b after right t = ap (λ o. settled.ending_of o (heads_of after)) (data_says b right.0.producer t)
+open_ending : (b : Batch) (after : List Batch) → is_transactional b.attributes ≡ true → (in_log b after).ending ≡ ending_by b.producer (first_marker b.producer after)
+open_ending b after t = ending_is b after true t
 
 commit_seen : (e : ℤ) (k : Kind) → is_visible (fate_of (Ended e k)) ≡ true → k ≡ Commit
 commit_seen e Commit v = refl
 commit_seen e Abort v = absurd (false≢true v)
 
-seen : (id : ℤ) (o : Option EndMark) → is_visible (fate_of (settled.ending_by id o)) ≡ true → (m : EndMark) × (o ≡ Some m) × (m.kind ≡ Commit)
+seen : (id : ℤ) (o : Option EndMark) → is_visible (fate_of (ending_by id o)) ≡ true → (m : EndMark) × (o ≡ Some m) × (m.kind ≡ Commit)
 seen id None v = absurd (false≢true v)
 seen id (Some m) v = (m, refl, commit_seen m.epoch m.kind v)
 
 -- ---- both ways, of a batch in its place
 
-right_tail : (before after : List Batch) (b : Batch) → EachRight (before ++ b ∷ after) → EachRight (b ∷ after)
-right_tail [] after b r = r
-right_tail (x ∷ xs) after b r = right_tail xs after b r.1
-
 abbrev Ends : List Batch → Batch → Type 0
 Ends bs b = (is_transactional b.attributes ≡ false) ⊎ ((m : Batch) × IsNextMarker bs b Commit m)
 
-ends_so : (before after : List Batch) (b : Batch) → Rising 0 (before ++ b ∷ after) → EachRight (before ++ b ∷ after) → is_control b.attributes ≡ false
+ends_so : (before after : List Batch) (b : Batch) → Rising 0 (before ++ b ∷ after) → is_control b.attributes ≡ false
     → is_visible (fate_of (in_log b after).ending) ≡ true → Ends (before ++ b ∷ after) b
-ends_so before after b rises right c v = by_test (is_transactional b.attributes) refl
+ends_so before after b rises c v = by_test (is_transactional b.attributes) refl
   where
     by_test : (test : Bool) → is_transactional b.attributes ≡ test → Ends (before ++ b ∷ after) b
     by_test false t = inl t
     by_test true t =
-        let ending = open_ending b after (right_tail before after b right) (record { of_data = c; transactional = t }) in
-        let s = seen b.producer (first_marker b.producer (heads_of after)) (subst (λ (x : Ending). is_visible (fate_of x) ≡ true) ending v) in
+        let ending = open_ending b after t in
+        let s = seen b.producer (first_marker b.producer after) (subst (λ (x : Ending). is_visible (fate_of x) ≡ true) ending v) in
         let f = first_found (offset_of b + 1) b.producer after s.0 (rest_rises 0 before after b rises) s.1 in
         inr (
           f.0,
@@ -180,16 +158,16 @@ commit_of id m n k l e p q =
     some_is : (x y : Rattle.eos_batch.specs.declared.marker.Marker.Marker) → Some x ≡ Some y → x ≡ y
     some_is x y e = cc
 
-is_seen : (before after : List Batch) (b : Batch) → Rising 0 (before ++ b ∷ after) → EachRight (before ++ b ∷ after) → is_control b.attributes ≡ false
+is_seen : (before after : List Batch) (b : Batch) → Rising 0 (before ++ b ∷ after) → is_control b.attributes ≡ false
     → Ends (before ++ b ∷ after) b → is_visible (fate_of (in_log b after).ending) ≡ true
-is_seen before after b rises right c (inl t) = ap (λ (x : Ending). is_visible (fate_of x)) (plain_ending b after c t)
-is_seen before after b rises right c (inr (m, next)) = by_test (is_transactional b.attributes) refl
+is_seen before after b rises c (inl t) = ap (λ (x : Ending). is_visible (fate_of x)) (plain_ending b after t)
+is_seen before after b rises c (inr (m, next)) = by_test (is_transactional b.attributes) refl
   where
     behind : Has after m
     behind = stands_behind 0 before after b m rises next.among next.greater
 
     -- the first marker behind is the next
-    same_kind : (e : EndMark) → first_marker b.producer (heads_of after) ≡ Some e → e.kind ≡ Commit
+    same_kind : (e : EndMark) → first_marker b.producer after ≡ Some e → e.kind ≡ Commit
     same_kind e q =
         let f = first_found (offset_of b + 1) b.producer after e (rest_rises 0 before after b rises) q in
         let less = f.1.least m Commit behind next.marks in
@@ -197,15 +175,15 @@ is_seen before after b rises right c (inr (m, next)) = by_test (is_transactional
         let one : f.0 ≡ m = same_batch 0 (before ++ b ∷ after) f.0 m rises (append_right before (b ∷ after) f.0 (inr f.1.among)) next.among (omega (arith, less, more)) in
         commit_of b.producer f.0 m e.kind Commit one f.1.marks next.marks
 
-    by_first : (o : Option EndMark) → first_marker b.producer (heads_of after) ≡ o → is_visible (fate_of (settled.ending_by b.producer o)) ≡ true
+    by_first : (o : Option EndMark) → first_marker b.producer after ≡ o → is_visible (fate_of (ending_by b.producer o)) ≡ true
     by_first None q = absurd (none_found b.producer after q m Commit behind next.marks)
     by_first (Some e) q = ap (λ (k : Kind). is_visible (fate_of (Ended e.epoch k))) (same_kind e q)
 
     by_test : (test : Bool) → is_transactional b.attributes ≡ test → is_visible (fate_of (in_log b after).ending) ≡ true
-    by_test false t = ap (λ (x : Ending). is_visible (fate_of x)) (plain_ending b after c t)
+    by_test false t = ap (λ (x : Ending). is_visible (fate_of x)) (plain_ending b after t)
     by_test true t =
-        ap (λ (x : Ending). is_visible (fate_of x)) (open_ending b after (right_tail before after b right) (record { of_data = c; transactional = t }))
-        ∙ by_first (first_marker b.producer (heads_of after)) refl
+        ap (λ (x : Ending). is_visible (fate_of x)) (open_ending b after t)
+        ∙ by_first (first_marker b.producer after) refl
 
 -- ---- the law
 
@@ -220,9 +198,6 @@ law p log of offset = (forward, backward)
 
     rises : Rising 0 bs
     rises = front_rises 0 bs steady.continuous steady.counted
-
-    right : EachRight bs
-    right = right_front 0 p.segments bs of.stop of.front
 
     forward : IsVisibleAt log offset → (b : Batch) × IsCommittedAt bs offset b
     forward (x, has, at) =
@@ -242,14 +217,14 @@ law p log of offset = (forward, backward)
             of_data = d.of_data;
             from = omega (arith, low, begins, at);
             before = omega (arith, high, begins, count, at);
-            committed = subst (λ (xs : List Batch). Ends xs d.here) (sym d.parts) (ends_so d.before d.after d.here (subst (Rising 0) d.parts rises) (subst EachRight d.parts right) d.of_data v);
+            committed = subst (λ (xs : List Batch). Ends xs d.here) (sym d.parts) (ends_so d.before d.after d.here (subst (Rising 0) d.parts rises) d.of_data v);
           },
         )
 
     backward : (b : Batch) × IsCommittedAt bs offset b → IsVisibleAt log offset
     backward (b, h) =
         let at = among bs b h.among in
-        let v = is_seen at.before at.after b (subst (Rising 0) at.parts rises) (subst EachRight at.parts right) h.of_data (subst (λ (xs : List Batch). Ends xs b) at.parts h.committed) in
+        let v = is_seen at.before at.after b (subst (Rising 0) at.parts rises) h.of_data (subst (λ (xs : List Batch). Ends xs b) at.parts h.committed) in
         let low = h.from in
         let high = h.before in
         let d = in_log b at.after in

@@ -11,9 +11,9 @@ use Rattle.eos_evidence.specs.Topics.{is_internal}
 use Rattle.eos_touch.specs.Rules.{Sequenced, Fenced}
 use Rattle.eos_fold.specs.declared.stop.Stop.{Stop}
 use Rattle.eos_fold.specs.declared.stop.Stop.TheVariants.{AtEnd}
-use Rattle.eos_fold.specs.Front.{records_in}
-use Rattle.eos_fold.specs.Fronts.{markers_of}
-use Rattle.eos_fold.specs.Touches.{touches_of}
+use Rattle.eos_touch.specs.Front.{records_in}
+use Rattle.eos_batch.specs.Marker.{markers_of}
+use Rattle.eos_touch.specs.Touches.{touches_of}
 
 -- all bytes of all segments are its batches, and they hold as many records as was declared
 pub record IsWhole (end : ℤ) (batches : List Batch) (stop : Stop) : Type 0 where

@@ -9,10 +9,10 @@ use Rattle.eos_base.specs.PartitionNames.{name_cmp}
 use Rattle.eos_evidence.specs.declared.partition.Partition.{Partition}
 use Rattle.eos_evidence.specs.declared.application.App.{App}
 use Rattle.eos_evidence.specs.Evidence.{EvidenceParts}
-use Rattle.eos_fold.specs.declared.fault.PartitionFault.{PartitionFault}
+use Rattle.eos_touch.specs.declared.fault.PartitionFault.{PartitionFault}
 use Rattle.eos_fold.specs.Parts.{PartLog}
 use Rattle.eos_fold.specs.Standing as folds
-use Rattle.eos_fold.specs.Names as fold_names
+use Rattle.eos_touch.specs.FaultNames as fold_names
 use Rattle.eos_table.specs.declared.log_fault.LogFault.{LogFault}
 use Rattle.eos_table.specs.declared.match_fault.MatchFault.{MatchFault}
 use Rattle.eos_table.specs.TransactionLog.{transaction_parts, decisions_of}

@@ -10,6 +10,6 @@ mod shards;
 mod verdict;
 mod workers;
 
-pub use one_thread::check_one;
+pub use one_thread::{check_one, verdict_of};
 pub use verdict::{Counts, Fault, Verdict};
-pub use workers::check;
+pub use workers::{check, logs_of};

@@ -11,22 +11,24 @@ use crate::phases::transactions;
 use crate::verdict::{Counts, Fault, Verdict};
 use eos_evidence::{Evidence, Spec};
 use eos_fold::Part;
-use eos_lineage::check_lineage;
+use eos_lineage::check_lineage_by;
 use std::alloc::{AllocError, Global};
 use std::thread::Threads;
 
-/// The verdict of logs in which no partition, no transaction log and no transaction has a fault.
+/// The verdict of logs in which no partition, no transaction log and no transaction has a fault, by at most so many threads.
 fn of_lineage<R: Threads + Sync>(
     alloc: Global,
     rt: &R,
+    workers: u32,
     spec: &Spec,
     parts: &[Part],
     transactions: u64,
 ) -> Result<Verdict, AllocError>
+    requires { 0 < workers }
     ensures { (e : EvidenceParts) (of : AreLogsOf e.partitions parts.now) → IsEvidence e → e.spec ≡ spec.now → IsTransacted e parts.now of (Ok transactions)
         → IfOk result (IsVerdictOf e parts.now of) }
 {
-    match check_lineage(alloc, rt, spec, parts)? {
+    match check_lineage_by(alloc, rt, workers as usize, spec, parts)? {
         Err(fault) => Ok(Verdict::No(Fault::Lineage(fault))),
         Ok((inputs, outputs)) => Ok(Verdict::Yes(Counts {
             transactions,
@@ -36,22 +38,26 @@ fn of_lineage<R: Threads + Sync>(
     }
 }
 
-/// The verdict of the evidence whose logs these are, with the transactions matched in so many shards.
-pub(crate) fn verdict_of<R: Threads + Sync>(
+/// The verdict of the evidence whose logs these are, by at most so many threads, with the transactions matched in as many
+/// shards: `check_one` of it.
+///
+/// # Errors
+/// Only want of memory.
+pub fn verdict_of<R: Threads + Sync>(
     alloc: Global,
     rt: &R,
     evidence: &Evidence,
     logs: &[Part],
-    shards: u32,
+    workers: u32,
 ) -> Result<Verdict, AllocError>
-    requires shards { 0 < shards }
+    requires workers { 0 < workers }
     requires logs { AreLogsOf evidence.now.partitions logs.now }
     ensures { IfOk result (IsVerdict evidence.now) }
 {
     let spec = evidence.spec();
-    match transactions(alloc, rt, logs, shards)? {
+    match transactions(alloc, rt, logs, workers)? {
         Err(fault) => Ok(Verdict::No(fault)),
-        Ok(transactions) => of_lineage(alloc, rt, spec, logs, transactions),
+        Ok(transactions) => of_lineage(alloc, rt, workers, spec, logs, transactions),
     }
 }
 
@@ -60,7 +66,7 @@ pub(crate) fn verdict_of<R: Threads + Sync>(
 /// outputs are, for each input below its group's committed offset, its numbered outputs or one note, each once, from
 /// transactions that committed past it, and nothing else; otherwise no with the first fault.
 ///
-/// The runtime is asked for threads to sort by; the answer is the same where it has none.
+/// It starts no thread.
 ///
 /// # Errors
 /// Only want of memory.

@@ -5,7 +5,7 @@ ghost use Rattle.eos_evidence.specs.Evidence.{segments_of};
 ghost use Rattle.eos_fold.specs.Sums.{IsFit, Follows};
 ghost use Rattle.eos_tickets.specs.Places.{IsFresh, AreBelow};
 
-use eos_board::{Board, Gate, Receipt};
+use eos_board_core::{Board, Gate, Receipt};
 use eos_evidence::{Evidence, Segment};
 use eos_fold::Named;
 use eos_tickets::{Drawn, Seat, Tickets};

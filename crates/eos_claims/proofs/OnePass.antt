@@ -5,7 +5,7 @@ use Rattle.std.specs.Prelude.{codes}
 use Rattle.std.specs.Cmp.Lexicographic.{pointwise}
 use Rattle.eos_batch.specs.declared.record.Header.{Header}
 use Rattle.eos_claims.specs.Headers.{values_of, once, the_value, claim_of}
-use Rattle.eos_claims.specs.Slots.{Slot, kept, the, Kept, keep, blank, claim_in}
+use Rattle.eos_claims.specs.steps.Slots.{Slot, kept, the, Kept, keep, blank, claim_in}
 
 -- one slot, over all headers
 abbrev slot_of : List ℕ → Slot → List Header → Slot

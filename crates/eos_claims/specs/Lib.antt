@@ -4,3 +4,4 @@ pub mod Headers
 pub mod Outputs
 pub mod Plain
 pub mod Slots
+pub mod steps

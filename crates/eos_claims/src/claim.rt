@@ -14,7 +14,8 @@
 
 ghost use Rattle.std.specs.Prelude.{◌≡◌, ◌≢◌, ◌<◌, ◌^◌, Option, Some, None, List, ℕ, option_map, IfOk, IfSome, OnErr, codes, fold};
 ghost use Rattle.eos_claims.specs.Headers.{claim_of, int32 as int32_of, int64 as int64_of};
-ghost use Rattle.eos_claims.specs.Slots.{Kept, the as the_value, int32_in as int32_within, int64_in as int64_within, put as put_in, kept as kept_in, keep as keep_in, blank as nothing, claim_in, plain_value, plain_slot, plain_slots, plain_claim};
+ghost use Rattle.eos_claims.specs.Slots.{plain_claim};
+ghost use Rattle.eos_claims.specs.steps.Slots.{Kept, the as the_value, int32_in as int32_within, int64_in as int64_within, put as put_in, kept as kept_in, keep as keep_in, blank as nothing, claim_in, plain_value, plain_slot, plain_slots};
 
 use bytes::Bytes;
 use eos_batch::{Header, HeaderRefs};
@@ -144,7 +145,7 @@ fn int64_in(slot: Option<Option<&[u8]>>) -> Option<u64>
     int64(the(slot)?)
 }
 
-#[tactic(auto, unfolding(crate::specs::Slots::claim_in))]
+#[tactic(auto, unfolding(crate::specs::steps::Slots::claim_in))]
 fn claim_from<'a>(slots: &Slots<'a>) -> Option<ClaimRef<'a>>
     ensures { option_map plain_claim result ≡ claim_in (plain_slots slots.entry.now) }
 {

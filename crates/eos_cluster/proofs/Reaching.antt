@@ -1,36 +1,39 @@
 -- A cluster that some list of events leads to: what holds of it, and an event more.
-use Rattle.std.proofs.Common.{◌≡◌, ◌++◌, ◌∷◌, [], ℕ, zero, suc, ◌+◌, ◌<◌, ◌≤◌, ◌^◌, ◌==◌, false, true, Bool, List, length, ◌∙◌, sym, ap, subst, arith, refl, Some}
+use Rattle.std.proofs.Common.{◌≡◌, ◌++◌, ◌∷◌, [], ℕ, zero, suc, ◌+◌, ◌<◌, ◌≤◌, ◌^◌, ◌==◌, ◌||◌, false, true, Bool, List, ◌∙◌, sym, ap, subst, arith, refl, Some}
 use Rattle.std.specs.Prelude.{slice_get}
 use Rattle.std.specs.List.{All}
 use Rattle.std.proofs.lemmas.Bool.{ne_eqb}
 use Rattle.std.proofs.lemmas.List.Elements.{All-head, All-tail, All-weaker}
 use Rattle.eos_machine.specs.declared.config.Config.{Config}
 use Rattle.eos_machine.specs.declared.state.Message.{Message}
-use Rattle.eos_machine.specs.declared.state.Message.TheVariants as messages
 use Rattle.eos_machine.specs.declared.state.Session.{Session}
+use Rattle.eos_machine.specs.declared.switches.Switches.{Switches}
+use Rattle.eos_machine.specs.Switching.{none, any_on}
 use Rattle.eos_machine.specs.declared.event.Event.{Event}
 use Rattle.eos_machine.specs.declared.event.Event.TheVariants as events
 use Rattle.eos_machine.specs.declared.event.Reply.{Reply}
 use Rattle.eos_machine.specs.declared.event.Reply.TheVariants.{Done, Fenced, OutOfOrder, DuplicateKept, WrongState, Busy, StaleGeneration, EpochsSpent, Unknown, OutOfMemory, Full}
 use Rattle.eos_machine.specs.Places.{IsConfig, txn_place}
-use Rattle.eos_machine.specs.World.{World, opening, coord_at, log_at}
+use Rattle.eos_machine.specs.World.{World, opening, log_at}
 use Rattle.eos_machine.specs.Answers.{Answer, when}
-use Rattle.eos_machine.specs.Machine.{happens, counted, step, run}
+use Rattle.eos_machine.specs.Machine.{happens_under, counted, step_under, step, run_under, run}
 use Rattle.eos_machine.specs.Bounds.{Bounded, IsSafe}
-use Rattle.eos_machine.proofs.Good.{Good, IsDue}
+use Rattle.eos_machine.specs.Formed.{Names, IsFormed}
+use Rattle.eos_machine.proofs.Good.{Good}
 use Rattle.eos_machine.proofs.GoodEvents.{good_run}
 use Rattle.eos_machine.specs.Rest.{IsAtRest, KeepsSequences, StepsFit, AllAtomic, NeighboursFit}
 use Rattle.eos_machine.proofs.Resting.{good_opening, rest_is_atomic}
 use Rattle.eos_machine.proofs.TouchRules.{keeps_sequences, neighbours_fit}
 use Rattle.eos_machine.proofs.StepRules.{all_steps}
-use Rattle.eos_machine.proofs.BoundedEvents.{bounded_run, bounded_opening, epoch_top}
+use Rattle.eos_machine.proofs.BoundedEvents.{bounded_run_under, bounded_opening, epoch_top}
+use Rattle.eos_machine.proofs.FormedEvents.{formed_run, formed_opening}
 use Rattle.eos_machine.proofs.Counting.{IsCounted, counted_run, counted_opening}
 use Rattle.eos_evidence.specs.Evidence.{EvidenceParts}
 use Rattle.eos_logs.specs.Evidences.{IsEvidenceOf}
 use Rattle.eos_logs.specs.Schedules.{IsOfSchedule}
-use Rattle.eos_store.specs.Proper.{IsProper}
-use Rattle.eos_cluster.specs.Courses.{Course, IsTaken, IsStep, IsCounted as IsCountedStep, IsReached}
-use Rattle.eos_store.specs.Named.{Names, IsNamed, IsSmall, Needs}
+use Rattle.eos_store.specs.steps.Proper.{IsProper}
+use Rattle.eos_cluster.specs.Courses.{Course, IsTaken, IsTakenUnder, UnlessMemory, IsStep, IsStepUnder, IsCounted as IsCountedStep, IsReached, IsReachedUnder}
+use Rattle.eos_store.specs.Named.{IsNamed, IsSmall, Needs}
 use Rattle.eos_store.specs.Held.{Held, becomes}
 
 -- ---- what holds
@@ -38,11 +41,11 @@ use Rattle.eos_store.specs.Held.{Held, becomes}
 pub is_good : (c : Config) (w : World) → IsConfig c → IsReached c w → Good c w
 is_good c w i r = subst (Good c) (sym r.run) (good_run c (opening c) r.taken i (good_opening c))
 
-is_bounded : (c : Config) (w : World) → IsReached c w → Bounded w.events w
-is_bounded c w r = subst (λ (v : World). Bounded v.events v) (sym r.run) (bounded_run c (opening c) r.taken (bounded_opening c))
+is_bounded : (c : Config) (w : World) → IsReachedUnder c w → Bounded w.events w
+is_bounded c w r = subst (λ (v : World). Bounded v.events v) (sym r.run) (bounded_run_under c (opening c) r.taken (bounded_opening c))
 
-pub few_events : (c : Config) (w : World) → IsReached c w → w.events ≤ 2 ^ 31
-few_events c w r = subst (λ (v : World). v.events ≤ 2 ^ 31) (sym r.run) (counted_run c (opening c) r.taken (counted_opening c)).limit
+is_formed : (c : Config) (w : World) → IsReachedUnder c w → IsFormed c w
+is_formed c w r = subst (IsFormed c) (sym r.run) (formed_run c (opening c) r.taken (formed_opening c))
 
 -- ---- the theorem on every schedule
 
@@ -63,19 +66,10 @@ of_schedule c w e i r h k = record { config = c; world = w; events = r.taken; si
 
 -- ---- what an event needs
 
-named_in : (c : Config) (w : World) (m : Message) → IsDue c w m → Names c m
-named_in c w (messages.Output a e p s x v) h = h
-named_in c w (messages.Offset a e g q v) h = h
-named_in c w (messages.End a e k) h = h
-named_in c w (messages.Marker a e k p) h = h.0
-
-named_at : (c : Config) (w : World) (ms : List Message) (n : ℕ) → All (IsDue c w) ms → IsNamed c (slice_get ms n)
-named_at c w [] n h = tt
-named_at c w (m ∷ ms) zero h = named_in c w m (All-head (IsDue c w) m ms h)
-named_at c w (m ∷ ms) (suc n) h = named_at c w ms n (All-tail (IsDue c w) m ms h)
-
-named : (c : Config) (w : World) (n : ℕ) → IsConfig c → IsReached c w → IsNamed c (slice_get w.messages n)
-named c w n i r = named_at c w w.messages n (is_good c w i r).due
+named : (c : Config) (ms : List Message) (n : ℕ) → All (Names c) ms → IsNamed c (slice_get ms n)
+named c [] n h = tt
+named c (m ∷ ms) zero h = All-head (Names c) m ms h
+named c (m ∷ ms) (suc n) h = named c ms n (All-tail (Names c) m ms h)
 
 small_in : (n : ℕ) (s : Session) → n < 2 ^ 31 → IsSafe n s → IsSmall (Some s)
 small_in n s l h = (let e = h.0 in omega (arith, e), All-weaker (λ q. q ≤ n) (λ q. q < 2 ^ 31) (λ q k. omega (arith, k, l)) s.sequences h.1)
@@ -85,30 +79,21 @@ small_at n [] k l h = tt
 small_at n (s ∷ ss) zero l h = small_in n s l (All-head (IsSafe n) s ss h)
 small_at n (s ∷ ss) (suc k) l h = small_at n ss k l (All-tail (IsSafe n) s ss h)
 
-small : (c : Config) (w : World) (n : ℕ) → w.events < 2 ^ 31 → IsReached c w → IsSmall (slice_get w.sessions n)
-small c w n l r = small_at w.events w.sessions n l (is_bounded c w r).sessions
-
-each_coordinator : (c : Config) (w : World) → IsConfig c → IsReached c w → length w.coordinators ≡ c.applications
-each_coordinator c w i r = (is_good c w i r).coordinators
-
-epochs_fit : (c : Config) (w : World) (a : ℕ) → IsReached c w → (coord_at w a).epoch ≤ 32767
-epochs_fit c w a r = epoch_top w.events w a (is_bounded c w r)
-
-generation_fits : (c : Config) (w : World) → w.events < 2 ^ 31 → IsReached c w → w.generation < 2 ^ 31
-generation_fits c w l r = let g = (is_bounded c w r).generation in omega (arith, g, l)
-
-pub needs : (c : Config) (w : World) (e : Event) → IsConfig c → w.events < 2 ^ 31 → IsReached c w → Needs c w e
-needs c w (events.Feed p) i l r = tt
-needs c w (events.Start a) i l r = epochs_fit c w a r
-needs c w (events.Produce n p x) i l r = small c w n l r
-needs c w (events.Commit n q v) i l r = tt
-needs c w (events.End n k) i l r = tt
-needs c w (events.Resume n) i l r = small c w n l r
-needs c w (events.Fetch n q) i l r = tt
-needs c w events.Members i l r = generation_fits c w l r
-needs c w (events.BrokerRestart t p) i l r = tt
-needs c w events.CoordinatorRestart i l r = tt
-needs c w (events.Deliver n) i l r = (named c w n i r, each_coordinator c w i r, λ a. epochs_fit c w a r)
+pub needs : (c : Config) (w : World) (e : Event) → w.events < 2 ^ 31 → IsReachedUnder c w → Needs c w e
+needs c w e l r = at e (is_bounded c w r) (is_formed c w r)
+  where
+    at : (e : Event) → Bounded w.events w → IsFormed c w → Needs c w e
+    at (events.Feed p) b f = tt
+    at (events.Start a) b f = epoch_top w.events w a b
+    at (events.Produce n p x) b f = small_at w.events w.sessions n l b.sessions
+    at (events.Commit n q v) b f = tt
+    at (events.End n k) b f = tt
+    at (events.Resume n) b f = small_at w.events w.sessions n l b.sessions
+    at (events.Fetch n q) b f = tt
+    at events.Members b f = omega (arith, b.generation, l)
+    at (events.BrokerRestart t p) b f = tt
+    at events.CoordinatorRestart b f = tt
+    at (events.Deliver n) b f = (named c w.messages n f.messages, f.coordinators, λ a. epoch_top w.events w a b)
 
 -- ---- an event more
 
@@ -128,11 +113,21 @@ is_full : (n : ℕ) (x y : Answer) → n ≡ 2 ^ 31 → when (n == 2 ^ 31) x y �
 unfolding when
 is_full n x y e = rw e refl
 
-pub one_step : (c : Config) (w v : World) (e : Event) (r : Reply) → w.events < 2 ^ 31 → (v, r) ≡ happens c w e → (record v { events = w.events + 1 }, r) ≡ step c w e
-one_step c w v e r l h = ap (counted w.events) h ∙ sym (not_full w.events (w, Full) (counted w.events (happens c w e)) l)
+one_step : (u : Switches) (c : Config) (w v : World) (e : Event) (r : Reply) → w.events < 2 ^ 31 → (v, r) ≡ happens_under u c w e → (record v { events = w.events + 1 }, r) ≡ step_under u c w e
+one_step u c w v e r l h = ap (counted w.events) h ∙ sym (not_full w.events (w, Full) (counted w.events (happens_under u c w e)) l)
 
-pub full_step : (c : Config) (w : World) (e : Event) → w.events ≡ 2 ^ 31 → (w, Full) ≡ step c w e
-full_step c w e h = sym (is_full w.events (w, Full) (counted w.events (happens c w e)) h)
+pub full_step : (u : Switches) (c : Config) (w : World) (e : Event) → w.events ≡ 2 ^ 31 → (w, Full) ≡ step_under u c w e
+full_step u c w e h = sym (is_full w.events (w, Full) (counted w.events (happens_under u c w e)) h)
+
+run_more_under : (c : Config) (w : World) (xs : List (Switches × Event)) (u : Switches) (e : Event) → run_under c w (xs ++ (u, e) ∷ []) ≡ (step_under u c (run_under c w xs) e).0
+run_more_under c w [] u e = refl
+run_more_under c w (x ∷ xs) u e = run_more_under c (step_under x.0 c w x.1).0 xs u e
+
+pub reached_under : (u : Switches) (c : Config) (w v : World) (e : Event) (r : Reply) → IsReachedUnder c w → (v, r) ≡ step_under u c w e → IsReachedUnder c v
+reached_under u c w v e r h a = record {
+  taken = h.taken ++ (u, e) ∷ [];
+  run = ap (λ x. x.0) a ∙ (ap (λ z. (step_under u c z e).0) h.run ∙ sym (run_more_under c (opening c) h.taken u e));
+}
 
 pub reached_more : (c : Config) (w v : World) (e : Event) (r : Reply) → IsReached c w → (v, r) ≡ step c w e → IsReached c v
 reached_more c w v e r h a = record {
@@ -140,18 +135,54 @@ reached_more c w v e r h a = record {
   run = ap (λ x. x.0) a ∙ (ap (λ u. (step c u e).0) h.run ∙ sym (run_more c (opening c) h.taken e));
 }
 
-pub step_taken : (s : Course) (e : Event) (r : Reply) (t : Course) → IsProper r → IsTaken s e r t → IsStep s e r t
-step_taken s e (Done n) t p h = h
-step_taken s e Fenced t p h = h
-step_taken s e OutOfOrder t p h = h
-step_taken s e DuplicateKept t p h = h
-step_taken s e WrongState t p h = h
-step_taken s e Busy t p h = h
-step_taken s e StaleGeneration t p h = h
-step_taken s e EpochsSpent t p h = h
-step_taken s e Unknown t p h = h
-step_taken s e OutOfMemory t p h = absurd p
-step_taken s e Full t p h = absurd p
+pub step_taken : (A B : Type 0) (r : Reply) → IsProper r → B → UnlessMemory r A B
+step_taken A B (Done n) p h = h
+step_taken A B Fenced p h = h
+step_taken A B OutOfOrder p h = h
+step_taken A B DuplicateKept p h = h
+step_taken A B WrongState p h = h
+step_taken A B Busy p h = h
+step_taken A B StaleGeneration p h = h
+step_taken A B EpochsSpent p h = h
+step_taken A B Unknown p h = h
+step_taken A B OutOfMemory p h = absurd p
+step_taken A B Full p h = absurd p
+
+-- ---- with no switch
+
+unless_other : (A B C : Type 0) (r : Reply) → (B → C) → UnlessMemory r A B → UnlessMemory r A C
+unless_other A B C (Done n) f h = f h
+unless_other A B C Fenced f h = f h
+unless_other A B C OutOfOrder f h = f h
+unless_other A B C DuplicateKept f h = f h
+unless_other A B C WrongState f h = f h
+unless_other A B C Busy f h = f h
+unless_other A B C StaleGeneration f h = f h
+unless_other A B C EpochsSpent f h = f h
+unless_other A B C Unknown f h = f h
+unless_other A B C OutOfMemory f h = h
+unless_other A B C Full f h = f h
+
+pub honest_step : (s : Course) (e : Event) (r : Reply) (t : Course) → s.switches ≡ none → IsStepUnder s e r t → IsStep s e r t
+honest_step s e r t n h = unless_other (t ≡ s) (IsTakenUnder s e r t) (IsTaken s e r t) r
+    (λ k. (ap (λ (x : Course). x.config) k.0, subst (λ u. (t.world, r) ≡ step_under u s.config s.world e) n k.1)) h
+
+one_or : (a b : Bool) → (a || b) ≡ false → (a ≡ false) × (b ≡ false)
+one_or true b h = absurd cc
+one_or false b h = (refl, h)
+
+pub none_on : (s : Switches) → any_on s ≡ false → s ≡ none
+none_on s h =
+    let a = one_or s.keep_duplicates _ h in
+    let b = one_or s.no_fence _ a.1 in
+    let c = one_or s.no_bump _ b.1 in
+    let d = one_or s.lose_marker _ c.1 in
+    let e = one_or s.swap_marker _ d.1 in
+    let f = one_or s.hide_listing _ e.1 in
+    λ i. record { keep_duplicates = a.0 i; no_fence = b.0 i; no_bump = c.0 i; lose_marker = d.0 i; swap_marker = e.0 i; hide_listing = f.0 i; ignore_generation = f.1 i }
+
+abbrev course : Config → World → Switches → Bool → Course
+course c w u b = record { config = c; world = w; switches = u; honest = b }
 
 abbrev answer : World → Reply → Answer
 answer w r = (w, r)
@@ -171,12 +202,19 @@ is_counted s OutOfMemory t p h = absurd p
 is_counted s Full t p h = absurd p
 
 -- the event has happened and is counted
-pub taken_one : (h g k : Held) (e : Event) (r : Reply) (n : ℕ) → n ≡ h.world.events → h.world.events < 2 ^ 31 → (g.world, r) ≡ happens h.config h.world e → g.config ≡ h.config → k ≡ becomes g (record g.world { events = n + 1 }) 0
-    → (k.config ≡ h.config) × ((k.world, r) ≡ step h.config h.world e)
-taken_one h g k e r n m l ok config set = (
+pub taken_one : (u : Switches) (h g k : Held) (e : Event) (r : Reply) (n : ℕ) → n ≡ h.world.events → h.world.events < 2 ^ 31 → (g.world, r) ≡ happens_under u h.config h.world e → g.config ≡ h.config → k ≡ becomes g (record g.world { events = n + 1 }) 0
+    → (k.config ≡ h.config) × ((k.world, r) ≡ step_under u h.config h.world e)
+taken_one u h g k e r n m l ok config set = (
   ap (λ (x : Held). x.config) set ∙ config,
-  ap (λ (x : Held). answer x.world r) set ∙ (ap (λ (i : ℕ). answer (record g.world { events = i + 1 }) r) m ∙ one_step h.config h.world g.world e r l ok),
+  ap (λ (x : Held). answer x.world r) set ∙ (ap (λ (i : ℕ). answer (record g.world { events = i + 1 }) r) m ∙ one_step u h.config h.world g.world e r l ok),
 )
 
 pub counted_one : (h g k : Held) (n : ℕ) → n ≡ h.world.events → k ≡ becomes g (record g.world { events = n + 1 }) 0 → k.world.events ≡ h.world.events + 1
 counted_one h g k n m set = ap (λ (x : Held). x.world.events) set ∙ ap (λ i. i + 1) m
+
+-- the switches and whether it is honest stay
+pub course_of : {c d : Config} {w : World} (u : Switches) (b : Bool) → c ≡ d → course c w u b ≡ course d w u b
+course_of {w = w} u b e = ap (λ x. course x w u b) e
+
+pub step_honest : (u : Switches) (c : Config) (w v : World) (e : Event) (r : Reply) → u ≡ none → (v, r) ≡ step_under u c w e → (v, r) ≡ step c w e
+step_honest u c w v e r n h = subst (λ z. (v, r) ≡ step_under z c w e) n h

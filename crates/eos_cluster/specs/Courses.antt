@@ -2,34 +2,48 @@
 use Rattle.std.specs.Prelude.{◌≡◌, ◌+◌, ◌^◌, Bool, List}
 use Rattle.eos_machine.specs.declared.config.Config.{Config}
 use Rattle.eos_machine.specs.World.{World, opening}
+use Rattle.eos_machine.specs.declared.switches.Switches.{Switches}
 use Rattle.eos_machine.specs.declared.event.Event.{Event}
 use Rattle.eos_machine.specs.declared.event.Reply.{Reply}
 use Rattle.eos_machine.specs.declared.event.Reply.TheVariants.{Done, Fenced, OutOfOrder, DuplicateKept, WrongState, Busy, StaleGeneration, EpochsSpent, Unknown, OutOfMemory, Full}
-use Rattle.eos_machine.specs.Machine.{step, run}
+use Rattle.eos_machine.specs.Machine.{step, step_under, run, run_under}
 
 pub record Course : Type 0 where
   pub config : Config
   pub world : World
-  -- no rule was ever broken by a switch
+  -- the rules that it breaks now
+  pub switches : Switches
+  -- no switch was ever on
   pub honest : Bool
 
--- the machine's step: the reply and the state after it
+-- the machine's step with no switch: the reply and the state after it
 abbrev pub IsTaken : Course → Event → Reply → Course → Type 0
 IsTaken s e r t = (t.config ≡ s.config) × ((t.world, r) ≡ step s.config s.world e)
 
+-- the machine's step under the switches that are set: the reply, the state after it, and nothing else
+abbrev pub IsTakenUnder : Course → Event → Reply → Course → Type 0
+IsTakenUnder s e r t = (t ≡ record s { world = t.world }) × ((t.world, r) ≡ step_under s.switches s.config s.world e)
+
+-- of want of memory the first is said, of any other reply the second
+abbrev pub UnlessMemory : Reply → Type 0 → Type 0 → Type 0
+UnlessMemory OutOfMemory same taken = same
+UnlessMemory (Done n) same taken = taken
+UnlessMemory Fenced same taken = taken
+UnlessMemory OutOfOrder same taken = taken
+UnlessMemory DuplicateKept same taken = taken
+UnlessMemory WrongState same taken = taken
+UnlessMemory Busy same taken = taken
+UnlessMemory StaleGeneration same taken = taken
+UnlessMemory EpochsSpent same taken = taken
+UnlessMemory Unknown same taken = taken
+UnlessMemory Full same taken = taken
+
 -- want of memory leaves everything as it was; any other reply is the machine's
 abbrev pub IsStep : Course → Event → Reply → Course → Type 0
-IsStep s e OutOfMemory t = t ≡ s
-IsStep s e (Done n) t = IsTaken s e (Done n) t
-IsStep s e Fenced t = IsTaken s e Fenced t
-IsStep s e OutOfOrder t = IsTaken s e OutOfOrder t
-IsStep s e DuplicateKept t = IsTaken s e DuplicateKept t
-IsStep s e WrongState t = IsTaken s e WrongState t
-IsStep s e Busy t = IsTaken s e Busy t
-IsStep s e StaleGeneration t = IsTaken s e StaleGeneration t
-IsStep s e EpochsSpent t = IsTaken s e EpochsSpent t
-IsStep s e Unknown t = IsTaken s e Unknown t
-IsStep s e Full t = IsTaken s e Full t
+IsStep s e r t = UnlessMemory r (t ≡ s) (IsTaken s e r t)
+
+abbrev pub IsStepUnder : Course → Event → Reply → Course → Type 0
+IsStepUnder s e r t = UnlessMemory r (t ≡ s) (IsTakenUnder s e r t)
 
 -- whatever rules are broken: want of memory and Full leave everything as it was, and any other event is counted
 abbrev pub IsCounted : Course → Reply → Course → Type 0
@@ -49,3 +63,8 @@ IsCounted s Unknown t = t.world.events ≡ s.world.events + 1
 pub record IsReached (c : Config) (w : World) : Type 0 where
   pub taken : List Event
   pub run : w ≡ run c (opening c) taken
+
+-- some list of events leads here, each under its own switches
+pub record IsReachedUnder (c : Config) (w : World) : Type 0 where
+  pub taken : List (Switches × Event)
+  pub run : w ≡ run_under c (opening c) taken

@@ -1,6 +1,6 @@
 //! A cluster that takes events one by one.
 
-ghost use Rattle.std.specs.Prelude.{◌≡◌, ◌↔◌, ◌≤◌, ◌<◌, ◌^◌, ◌&&◌, not, true, false, Err, IfOk};
+ghost use Rattle.std.specs.Prelude.{◌≡◌, ◌↔◌, ◌≤◌, ◌<◌, ◌^◌, ◌&&◌, not, true, Err, IfOk};
 ghost use Rattle.eos_evidence.specs.Evidence.{IsEvidence};
 ghost use Rattle.eos_machine.specs.Places.{IsConfig};
 ghost use Rattle.eos_machine.specs.World.{opening};
@@ -10,15 +10,13 @@ ghost use Rattle.eos_cluster.specs.Names.{new_fault_name};
 ghost use Rattle.eos_cluster.specs.declared.evidence.EvidenceRefusal.{EvidenceRefusal};
 ghost use Rattle.eos_logs.specs.Evidences.{IsEvidenceOf, HasRoomForAll};
 ghost use Rattle.eos_logs.specs.Schedules.{IsOfSchedule};
-ghost use Rattle.eos_cluster.specs.Courses.{IsStep, IsCounted};
-ghost use Rattle.eos_cluster.specs.Switching.{any_on};
+ghost use Rattle.eos_machine.specs.Switching.{none, any_on};
+ghost use Rattle.eos_cluster.specs.Courses.{IsStep, IsStepUnder, IsCounted};
 
 use crate::evidence::{EvidenceRefusal, evidence_of};
-use crate::happen::happen;
-use crate::switched::happen_switched;
-use crate::switches::Switches;
-use eos_evidence::Evidence;
-use eos_machine::{Config, Event, Reply};
+use crate::happens::happen;
+use eos_evidence::{Evidence, MAX_SEGMENTS};
+use eos_machine::{Config, Event, Reply, Switches};
 use eos_store::Store;
 use std::alloc::Global;
 use std::marker::Model;
@@ -49,7 +47,7 @@ impl NewFault {
 /// How many events a cluster takes: 2^31.
 pub const MAX_EVENTS: u64 = 2147483648;
 
-/// A cluster after some events. While it is honest, each of them did what the machine's definitions say.
+/// A cluster after some events, each of which did what the machine's definitions say under the switches that were set.
 #[derive(Drop)]
 pub struct Cluster {
     store: Store,
@@ -60,15 +58,17 @@ pub struct Cluster {
 impl Model for Cluster {
     ghost use Rattle.eos_machine.specs.Places.{IsConfig};
     ghost use Rattle.std.specs.Prelude.{◌≡◌, ◌≤◌, ◌^◌, true};
-    ghost use Rattle.eos_cluster.specs.Courses.{Course, IsReached};
+    ghost use Rattle.eos_machine.specs.Switching.{none};
+    ghost use Rattle.eos_cluster.specs.Courses.{Course, IsReached, IsReachedUnder};
 
     ghost Value = { Course };
 
-    ghost view = { λ s. record { config = s.store.config; world = s.store.world; honest = s.is_honest } };
+    ghost view = { λ s. record { config = s.store.config; world = s.store.world; switches = s.switches; honest = s.is_honest } };
 
     ghost invariant = { λ s. IsConfig s.store.config
         × (s.store.world.events ≤ 2 ^ 31)
-        × (s.is_honest ≡ true → IsReached s.store.config s.store.world) };
+        × IsReachedUnder s.store.config s.store.world
+        × (s.is_honest ≡ true → (s.switches ≡ none) × IsReached s.store.config s.store.world) };
 }
 
 /// Whether a number lies in these bounds.
@@ -95,7 +95,7 @@ impl Cluster {
     /// # Errors
     /// `Range` where a size isn't one that a cluster may have; `OutOfMemory` where a growth was refused, and only then.
     pub fn new(alloc: Global, config: Config) -> Result<Cluster, NewFault>
-        ensures ok { IfOk result (λ c. c ≡ record { config = config; world = opening config; honest = true }) }
+        ensures ok { IfOk result (λ c. c ≡ record { config = config; world = opening config; switches = none; honest = true }) }
         ensures range { result ≡ Err NewFault.Range ↔ (IsConfig config → ⊥) }
     {
         if !is_config(config) {
@@ -111,17 +111,16 @@ impl Cluster {
         }
     }
 
-    /// Takes an event of an honest cluster.
+    /// Takes an event, of which there are fewer than a cluster takes.
     fn take(&mut self, event: Event) -> Reply
-        requires honest { self.old.honest ≡ true }
-        requires few { self.old.world.events < 2 ^ 31 }
-        ensures taken { IsStep self.old event result self.new }
+        requires { self.old.world.events < 2 ^ 31 }
+        ensures taken { IsStepUnder self.old event result self.new }
         ensures counted { IsCounted self.old result self.new }
         ensures config { self.new.config ≡ self.old.config }
         ensures honest { self.new.honest ≡ self.old.honest }
     {
         let events = self.store.events();
-        match happen(&mut self.store, event) {
+        match happen(&mut self.store, self.switches, event) {
             Ok(reply) => {
                 self.store.set_events(events + 1);
                 reply
@@ -130,45 +129,24 @@ impl Cluster {
         }
     }
 
-    /// Takes an event of a cluster that isn't honest.
-    fn take_switched(&mut self, event: Event) -> Reply
-        requires honest { self.old.honest ≡ false }
-        requires few { self.old.world.events < 2 ^ 31 }
-        ensures counted { IsCounted self.old result self.new }
-        ensures config { self.new.config ≡ self.old.config }
-        ensures honest { self.new.honest ≡ self.old.honest }
-    {
-        let events = self.store.events();
-        match happen_switched(&mut self.store, self.switches, event) {
-            Ok(reply) => {
-                self.store.set_events(events + 1);
-                reply
-            }
-            Err(_) => Reply::OutOfMemory,
-        }
-    }
-
-    /// Takes an event. What it does and what is answered is the machine's step while the cluster is honest. `OutOfMemory`
-    /// and `Full` leave everything as it was; any other event is counted.
+    /// Takes an event. What it does and what is answered is the machine's step under the switches that are set; while the cluster
+    /// is honest, that without any. `OutOfMemory` and `Full` leave everything as it was; any other event is counted.
     pub fn step(&mut self, event: Event) -> Reply
         ensures taken { self.old.honest ≡ true → IsStep self.old event result self.new }
+        ensures switched { IsStepUnder self.old event result self.new }
         ensures counted { IsCounted self.old result self.new }
         ensures config { self.new.config ≡ self.old.config }
         ensures honest { self.new.honest ≡ self.old.honest }
     {
-        let events = self.store.events();
-        if events == MAX_EVENTS {
+        if self.store.events() == MAX_EVENTS {
             return Reply::Full;
         }
-        if self.is_honest {
-            return self.take(event);
-        }
-        self.take_switched(event)
+        self.take(event)
     }
 
     /// Sets the switches. Once one was on, the cluster isn't honest any more, whatever is set later.
     pub fn set(&mut self, switches: Switches)
-        ensures { self.new ≡ record self.old { honest = self.old.honest && not (any_on switches) } }
+        ensures { self.new ≡ record self.old { switches = switches; honest = self.old.honest && not (any_on switches) } }
     {
         self.switches = switches;
         self.is_honest = self.is_honest && !switches.any_on();
@@ -191,11 +169,11 @@ impl Cluster {
     }
 
     /// The sizes that it was made with.
-    pub fn config(&self) -> Config
-        ensures value { result ≡ self.now.config }
-        ensures sizes { IsConfig result }
+    pub fn config(&self) -> &Config
+        ensures value { result.now ≡ self.now.config }
+        ensures sizes { IsConfig result.now }
     {
-        self.store.config()
+        self.store.config_ref()
     }
 
     /// Whether no transaction is open or still ending. Whatever events an honest cluster has taken: no fault of a sequence or
@@ -209,6 +187,16 @@ impl Cluster {
         ensures neighbours { self.now.honest ≡ true → IsAtRest self.now.world → NeighboursFit self.now.config self.now.world }
     {
         self.store.at_rest()
+    }
+
+    /// Whether its segments are sure to be as few as evidence may have: an event appends two records at the most.
+    pub fn has_room(&self) -> bool
+        ensures { result ≡ true ↔ HasRoomForAll self.now.config self.now.world }
+    {
+        let config = self.config();
+        let partitions = 1 + config.transaction_logs + config.inputs + config.outputs;
+        let segments = 2 * self.events() / config.segment_records as u64;
+        segments + partitions as u64 <= MAX_SEGMENTS
     }
 
     /// The logs of a cluster at rest as evidence, honest or not: in segments of the configured number of records, the last of

@@ -1,3 +1,2 @@
-pub mod Requests
 pub mod Restarting
-pub mod Taken
+pub mod steps

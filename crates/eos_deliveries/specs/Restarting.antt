@@ -4,7 +4,7 @@ use Rattle.std.specs.Borrow.{Bor}
 use Rattle.eos_machine.specs.World.{state_of}
 use Rattle.eos_machine.specs.declared.state.Message.{Message}
 use Rattle.eos_machine.specs.declared.state.Message.TheVariants as messages
-use Rattle.eos_deliveries.specs.declared.restarts.Due.{Due}
+use Rattle.eos_deliveries.specs.declared.restarted.Due.{Due}
 use Rattle.eos_machine.specs.declared.state.Coordinator.{Coordinator}
 use Rattle.eos_machine.specs.declared.item.Entry.{Entry}
 

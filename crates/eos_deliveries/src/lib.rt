@@ -1,13 +1,14 @@
 //! What the brokers and the transaction coordinator of a simulated cluster do: messages as they arrive, and the coordinator's
-//! restart.
+//! restart. Each module answers the definition of the machine whose name it has.
 #![tactic(auto)]
 
-mod arrivals;
-mod ends;
-mod messages;
-mod restarts;
+mod accept;
+mod deliver_end;
+mod deliver_marker;
+mod deliver_offset;
+mod deliver_output;
+mod deliveries;
+mod restarted;
 
-pub use arrivals::{deliver, offset_commit, offset_item, output_item, record_item};
-pub use ends::{awaits_marker, deliver_end, end_refusal, fences_marker};
-pub use messages::{RequestHeader, header_of};
-pub use restarts::restart;
+pub use deliveries::deliver;
+pub use restarted::restart;

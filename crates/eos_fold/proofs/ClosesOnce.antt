@@ -1,5 +1,5 @@
 -- Closes in ascending order, each once; and those of a log, batch by batch.
-use Rattle.std.proofs.Common.{◌≡◌, ℕ, zero, suc, ◌+◌, ◌<◌, ◌&&◌, true, false, Bool, List, [], ◌∷◌, ◌++◌, map, length, take, get_or, refl, sym, ap, subst, ◌∙◌, arith, inl, inr, IsPermutation, IsSorted, ℤ, append_assoc}
+use Rattle.std.proofs.Common.{◌≡◌, ℕ, zero, suc, ◌+◌, ◌<◌, ◌&&◌, true, false, Bool, List, [], ◌∷◌, ◌++◌, length, take, get_or, refl, sym, ap, subst, ◌∙◌, arith, inl, inr, IsPermutation, IsSorted, ℤ, append_assoc}
 use Rattle.std.specs.Prelude.{slice_get, Some}
 use Rattle.std.specs.List.{Contains, dedup}
 use Rattle.std.specs.List.Sorted.{IsStrictlySortedBy}
@@ -8,7 +8,6 @@ use Rattle.std.specs.Ordering.{nat_cmp, int_cmp, is_eq, is_lt, eq_by_cmp, orderi
 use Rattle.std.specs.declared.cmp.Ordering.{Ordering}
 use Rattle.std.specs.declared.cmp.Ordering.TheVariants.{Less, Equal, Greater}
 use Rattle.std.proofs.lemmas.Cmp.{nat_cmp_total, int_cmp_total, on_total, then_total, tied_itself}
-use Rattle.std.proofs.lemmas.List.{map-append}
 use Rattle.std.proofs.lemmas.List.Kept.{Contains-dedup, Contains-from_dedup, IsStrictlySortedBy-dedup}
 use Rattle.std.proofs.lemmas.List.Sorted.{Contains-permutation, IsPermutation-sym}
 use Rattle.std.proofs.lemmas.Map.Keys.{Less-from_sorted}
@@ -22,13 +21,12 @@ use Rattle.eos_batch.specs.contracts.marker.KindPartialEq.TheImpl.{ghosts as kin
 use Rattle.eos_items.specs.Batches.{DataBatch}
 use Rattle.eos_items.specs.Heads.{data_head}
 use Rattle.eos_items.specs.declared.head.DataHead.{DataHead}
-use Rattle.eos_summary.specs.Closes.{CloseOf, close_in, closes_in}
+use Rattle.eos_fold.specs.declared.close.Close.{Close}
+use Rattle.eos_fold.specs.Closes.{close_in, closes_in, rank_of, close_cmp}
 use Rattle.eos_fold.specs.contracts.close.CloseOrd.TheImpl.{ghosts as order}
 use Rattle.eos_fold.specs.contracts.close.ClosePartialEq.TheImpl.{ghosts as test}
-use Rattle.eos_fold.specs.declared.close.Close.{Close}
-use Rattle.eos_fold.specs.Closes.{rank_of, close_cmp}
 use Rattle.eos_fold.specs.Parts.{Ascends}
-use Rattle.eos_fold.specs.Whole.{as_close, AreCloses}
+use Rattle.eos_fold.specs.Whole.{AreCloses}
 
 -- ---- the order
 
@@ -148,7 +146,7 @@ once_is = each_once order.cmp alike test.eq ties laws
 
 closes_in-append : (xs ys : List DataBatch) → closes_in (xs ++ ys) ≡ closes_in xs ++ closes_in ys
 closes_in-append [] ys = refl
-closes_in-append (x ∷ xs) ys = ap (λ (cs : List CloseOf). close_in x.writer x.ending ++ cs) (closes_in-append xs ys) ∙ sym (append_assoc (close_in x.writer x.ending) (closes_in xs) (closes_in ys))
+closes_in-append (x ∷ xs) ys = ap (λ (cs : List Close). close_in x.writer x.ending ++ cs) (closes_in-append xs ys) ∙ sym (append_assoc (close_in x.writer x.ending) (closes_in xs) (closes_in ys))
 
 take_one : (xs : List DataBatch) (i : ℕ) (x : DataBatch) → slice_get xs i ≡ Some x → take (suc i) xs ≡ take i xs ++ x ∷ []
 take_one [] i x e = absurd cc
@@ -159,9 +157,9 @@ append-nil : {X : Type 0} (xs : List X) → xs ++ [] ≡ xs
 append-nil [] = refl
 append-nil (x ∷ xs) = ap (λ ys. x ∷ ys) (append-nil xs)
 
-pub close_more : (bs : List DataBatch) (i j : ℕ) (b : DataBatch) (head : DataHead) (old new : List Close) → j ≡ i + 1 → slice_get bs i ≡ Some b → head ≡ data_head b → old ≡ map as_close (closes_in (take i bs)) → new ≡ old ++ map as_close (close_in head.writer head.ending) → new ≡ map as_close (closes_in (take j bs))
+pub close_more : (bs : List DataBatch) (i j : ℕ) (b : DataBatch) (head : DataHead) (old new : List Close) → j ≡ i + 1 → slice_get bs i ≡ Some b → head ≡ data_head b → old ≡ closes_in (take i bs) → new ≡ old ++ close_in head.writer head.ending → new ≡ closes_in (take j bs)
 close_more bs i j b head old new next at is h n =
     let step : j ≡ suc i = omega (arith, next) in
     let more : closes_in (take j bs) ≡ closes_in (take i bs) ++ close_in b.writer b.ending =
-    ap (λ (k : ℕ). closes_in (take k bs)) step ∙ (ap closes_in (take_one bs i b at) ∙ (closes_in-append (take i bs) (b ∷ []) ∙ ap (λ (cs : List CloseOf). closes_in (take i bs) ++ cs) (append-nil (close_in b.writer b.ending)))) in
-    n ∙ (ap (λ (d : DataHead). old ++ map as_close (close_in d.writer d.ending)) is ∙ (ap (λ (cs : List Close). cs ++ map as_close (close_in b.writer b.ending)) h ∙ (sym (map-append as_close (closes_in (take i bs)) (close_in b.writer b.ending)) ∙ ap (map as_close) (sym more))))
+    ap (λ (k : ℕ). closes_in (take k bs)) step ∙ (ap closes_in (take_one bs i b at) ∙ (closes_in-append (take i bs) (b ∷ []) ∙ ap (λ (cs : List Close). closes_in (take i bs) ++ cs) (append-nil (close_in b.writer b.ending)))) in
+    n ∙ (ap (λ (d : DataHead). old ++ close_in d.writer d.ending) is ∙ (ap (λ (cs : List Close). cs ++ close_in b.writer b.ending) h ∙ sym more))

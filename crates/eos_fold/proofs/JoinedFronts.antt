@@ -1,22 +1,22 @@
 -- The front of two lists of segments, one after the other.
 use Rattle.std.proofs.Common.{◌≡◌, ◌≢◌, ℕ, ◌+◌, inl, inr, List, [], ◌∷◌, ◌++◌, Bool, not, refl, sym, ap, subst, ◌∙◌, arith, append_assoc}
-use Rattle.std.proofs.lemmas.List.{append-nil, map-append}
+use Rattle.std.proofs.lemmas.List.{append-nil}
 use Rattle.eos_batch.specs.declared.batch.Batch.{Batch}
 use Rattle.eos_batch.specs.declared.marker.Marker.{Marker}
 use Rattle.eos_evidence.specs.declared.segment.Segment.{Segment}
 use Rattle.eos_evidence.specs.Topics.{is_internal}
 use Rattle.eos_summary.specs.declared.summary.BatchSummary.{BatchSummary}
-use Rattle.eos_summary.specs.Heads.{Head}
 use Rattle.eos_summary.specs.Summaries.{IsSummary}
-use Rattle.eos_summary.specs.Touches.{head_of, heads_of}
 use Rattle.eos_summary.proofs.JoinedSummaries.{same_summary}
 use Rattle.eos_fold.specs.declared.stop.Stop.{Stop}
 use Rattle.eos_fold.specs.declared.stop.Stop.TheVariants.{AtEnd, NoBatch, Elsewhere}
 use Rattle.eos_fold.specs.declared.summary.Summary.{Summary}
-use Rattle.eos_fold.specs.Front.{records_in}
-use Rattle.eos_fold.specs.Fronts.{base_of, markers_of, GoesOn, IsFront}
-use Rattle.eos_fold.specs.Sums.{BeginsAt, AreChecked, OneTopic, IsSummaryOf, HasStopped, SameSum}
-use Rattle.eos_fold.proofs.Continuity.{records_in-append}
+use Rattle.eos_touch.specs.Front.{records_in}
+use Rattle.eos_fold.specs.Fronts.{base_of, GoesOn, IsFront}
+use Rattle.eos_batch.specs.Marker.{markers_of}
+use Rattle.eos_fold.specs.Sums.{BeginsAt, AreChecked, OneTopic, IsSummaryOf, SameSum}
+use Rattle.eos_fold.specs.steps.Sums.{HasStopped}
+use Rattle.eos_touch.proofs.Continuity.{records_in-append}
 use Rattle.eos_fold.proofs.SegmentWalks.{markers_of-append}
 
 end_elsewhere : (n : ℕ) → AtEnd ≡ Elsewhere n → ⊥
@@ -109,13 +109,13 @@ stops_between xs ys s t r end ne begin next stop markers run h k = record {
     next = next ∙ (h.keeps.next ∙ ap (λ (n : ℕ). n + records_in h.batches) (sym begin));
     fits = let f = h.keeps.fits in omega (arith, next, f);
     markers = ap (λ m. m.items) markers ∙ h.keeps.markers;
-    known = subst (λ (x : BatchSummary). IsSummary (heads_of h.batches) x) (sym run) h.keeps.known;
+    known = subst (λ (x : BatchSummary). IsSummary h.batches x) (sym run) h.keeps.known;
   };
 }
 
 -- the second goes on where the first ends
 pub goes_on : (xs ys : List Segment) (s t r : Summary) → s.stop ≡ AtEnd → t.begin ≡ s.next → r.begin ≡ s.begin → r.next ≡ t.next → r.stop ≡ t.stop → r.markers.items ≡ s.markers.items ++ t.markers.items → r.run.sequenced ≡ s.run.sequenced
-    → ((hs ks : List Head) → IsSummary hs s.run → IsSummary ks t.run → IsSummary (hs ++ ks) r.run) → IsSummaryOf xs s → IsSummaryOf ys t → IsSummaryOf (xs ++ ys) r
+    → ((hs ks : List Batch) → IsSummary hs s.run → IsSummary ks t.run → IsSummary (hs ++ ks) r.run) → IsSummaryOf xs s → IsSummaryOf ys t → IsSummaryOf (xs ++ ys) r
 goes_on xs ys s t r end joint begin next stop markers sequenced run h k = record {
   batches = h.batches ++ k.batches;
   begins = subst (λ (n : ℕ). BeginsAt (xs ++ ys) n) (sym begin) (begins_more xs ys s.begin h.begins);
@@ -128,7 +128,7 @@ goes_on xs ys s t r end joint begin next stop markers sequenced run h k = record
     next = let a = records_in-append h.batches k.batches in let p = h.keeps.next in let q = k.keeps.next in omega (arith, a, p, q, next, joint, begin);
     fits = let f = k.keeps.fits in omega (arith, next, f);
     markers = markers ∙ (ap (λ (ms : List Marker). ms ++ t.markers.items) h.keeps.markers ∙ (ap (λ (ms : List Marker). markers_of h.batches ++ ms) k.keeps.markers ∙ sym (markers_of-append h.batches k.batches)));
-    known = subst (λ (hs : List Head). IsSummary hs r.run) (sym (map-append head_of h.batches k.batches)) (run (heads_of h.batches) (heads_of k.batches) h.keeps.known k.keeps.known);
+    known = run h.batches k.batches h.keeps.known k.keeps.known;
   };
 }
 
@@ -143,6 +143,6 @@ same_sum xs s t e h = record {
     next = e.next ∙ (h.keeps.next ∙ ap (λ (n : ℕ). n + records_in h.batches) (sym e.begin));
     fits = let f = h.keeps.fits in let n = e.next in omega (arith, n, f);
     markers = e.markers ∙ h.keeps.markers;
-    known = same_summary (heads_of h.batches) s.run t.run e.run h.keeps.known;
+    known = same_summary (h.batches) s.run t.run e.run h.keeps.known;
   };
 }

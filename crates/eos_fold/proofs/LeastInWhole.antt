@@ -18,22 +18,20 @@ use Rattle.eos_touch.specs.declared.pair.PairFault.TheVariants.{FirstSequence, S
 use Rattle.eos_touch.specs.Pair as pair
 use Rattle.eos_evidence.specs.declared.segment.Segment.{Segment}
 use Rattle.eos_summary.specs.declared.fault.Fault.{Fault}
-use Rattle.eos_summary.specs.Heads.{Head}
 use Rattle.eos_summary.specs.Summaries.{IsSummary}
 use Rattle.eos_summary.specs.Faults.{IsLeastOf}
-use Rattle.eos_summary.specs.Touches.{heads_of}
 use Rattle.eos_summary.specs.Whole.{StandsInWhole, IsLeastOpen}
 use Rattle.eos_fold.specs.declared.stop.Stop.{Stop}
 use Rattle.eos_fold.specs.declared.stop.Stop.TheVariants.{AtEnd, NoBatch, Elsewhere}
-use Rattle.eos_fold.specs.declared.fault.PartitionFault.{PartitionFault}
-use Rattle.eos_fold.specs.declared.fault.PartitionFaultKind.{PartitionFaultKind}
-use Rattle.eos_fold.specs.declared.fault.PartitionFaultKind.TheVariants.{BadBatch, Gap, Pair, End, OpenAtEnd}
+use Rattle.eos_touch.specs.declared.fault.PartitionFault.{PartitionFault}
+use Rattle.eos_touch.specs.declared.fault.PartitionFaultKind.{PartitionFaultKind}
+use Rattle.eos_touch.specs.declared.fault.PartitionFaultKind.TheVariants.{BadBatch, Gap, Pair, End, OpenAtEnd}
 use Rattle.eos_fold.specs.declared.summary.Summary.{Summary}
-use Rattle.eos_fold.specs.Names.{number_of}
-use Rattle.eos_fold.specs.Touches.{last_touch}
-use Rattle.eos_fold.specs.Front.{records_in}
+use Rattle.eos_touch.specs.FaultNames.{number_of}
+use Rattle.eos_touch.specs.Touches.{last_touch}
+use Rattle.eos_touch.specs.Front.{records_in}
 use Rattle.eos_fold.specs.Standing.{StandsAtTouch, IsOpen, StandsIn, producer_of, fault_cmp, IsPartitionFault}
-use Rattle.eos_fold.specs.Whole.{IsWhole, kind_at_stop}
+use Rattle.eos_fold.specs.steps.Whole.{IsWhole, kind_at_stop}
 use Rattle.eos_fold.proofs.TouchesInWhole.{pairs_to, pairs_from, open_to, open_from}
 use Rattle.eos_fold.proofs.SteadyFronts.{IsSteady, front_steady, touch_inside, one_id}
 
@@ -90,7 +88,7 @@ module _ (topic : List ℕ) (number end : ℤ) (bs : List Batch) (stop : Stop) (
   abbrev this : Fault → PartitionFault
   this f = fault_of f.offset (Pair f.kind f.producer)
 
-  pub at_touch : (f : Fault) → IsLeastOf (StandsInWhole checked (heads_of bs)) (Some f) → IsPartitionFault topic number end bs stop (Some (fault_of f.offset (Pair f.kind f.producer)))
+  pub at_touch : (f : Fault) → IsLeastOf (StandsInWhole checked bs) (Some f) → IsPartitionFault topic number end bs stop (Some (fault_of f.offset (Pair f.kind f.producer)))
   at_touch f h = record { stands = record { of_topic = refl; of_number = refl; stands = here }; least = λ g s. below g g.kind refl s.stands }
     where
       here : StandsAtTouch checked bs f.offset f.kind f.producer
@@ -138,7 +136,7 @@ module _ (topic : List ℕ) (number end : ℤ) (bs : List Batch) (stop : Stop) (
   abbrev NoPair : Type 0
   NoPair = (o : ℕ) (k : PairFault) (p : ℤ) → StandsAtTouch checked bs o k p → ⊥
 
-  pub no_pair : IsLeastOf (StandsInWhole checked (heads_of bs)) None → NoPair
+  pub no_pair : IsLeastOf (StandsInWhole checked bs) None → NoPair
   no_pair h o k p t = h o p k (pairs_from checked p o k bs t)
 
   abbrev Only : PartitionFaultKind → Type 0
@@ -199,12 +197,12 @@ module _ (topic : List ℕ) (number end : ℤ) (bs : List Batch) (stop : Stop) (
   placed None = None
   placed (Some kind) = Some (fault_of (records_in bs) kind)
 
-  pub at_stop : IsLeastOf (StandsInWhole checked (heads_of bs)) None → (left : Option ℤ) → IsLeastOpen (heads_of bs) left → (st : Stop) → stop ≡ st → IsPartitionFault topic number end bs stop (placed (kind_at_stop st (records_in bs) end left))
+  pub at_stop : IsLeastOf (StandsInWhole checked bs) None → (left : Option ℤ) → IsLeastOpen bs left → (st : Stop) → stop ≡ st → IsPartitionFault topic number end bs stop (placed (kind_at_stop st (records_in bs) end left))
   at_stop h left o (NoBatch s b x) e = one_kind (BadBatch s b x) (e, refl) (at_bytes (no_pair h) s b x e)
   at_stop h left o (Elsewhere n) e = one_kind (Gap n) (e, refl) (at_other (no_pair h) n e)
   at_stop h left o AtEnd e = by_end (int_eq (pos (records_in bs)) end) refl
     where
-      by_open : (left : Option ℤ) → IsLeastOpen (heads_of bs) left → pos (records_in bs) ≡ end → IsPartitionFault topic number end bs stop (placed (option_map OpenAtEnd left))
+      by_open : (left : Option ℤ) → IsLeastOpen bs left → pos (records_in bs) ≡ end → IsPartitionFault topic number end bs stop (placed (option_map OpenAtEnd left))
       by_open None o is = λ g s. none_at_end (no_pair h) e is (λ id t. o id (open_from id bs t)) g.offset g.kind s.stands
       by_open (Some q) o is = one_kind (OpenAtEnd q) (e, open_to q bs o.0, refl) (at_open (no_pair h) q e is (λ id t. o.1 id (open_from id bs t)))
 
@@ -224,36 +222,36 @@ same_fault r topic number offset kind a b c d =
     made : List ℕ → ℤ → ℕ → PartitionFaultKind → PartitionFault
     made t n o k = record { topic = t; partition = n; offset = o; kind = k }
 
-checks : (topic : List ℕ) (hs : List Head) (b : Bool) (f : Option Fault) → b ≡ not (is_internal topic) → IsLeastOf (StandsInWhole b hs) f → IsLeastOf (StandsInWhole (not (is_internal topic)) hs) f
+checks : (topic : List ℕ) (hs : List Batch) (b : Bool) (f : Option Fault) → b ≡ not (is_internal topic) → IsLeastOf (StandsInWhole b hs) f → IsLeastOf (StandsInWhole (not (is_internal topic)) hs) f
 checks topic hs b f e h = subst (λ (c : Bool). IsLeastOf (StandsInWhole c hs) f) e h
 
 end_is : (topic : List ℕ) (segments : List Segment) (s : Summary) → (w : IsWhole topic segments s) → s.next ≡ records_in w.batches
 end_is topic segments s w = let n = w.keeps.next in let b = w.begin in omega (arith, n, b)
 
 pub touch_answer : (topic : List ℕ) (number end : ℤ) (segments : List Segment) (s : Summary) (w : IsWhole topic segments s) (f : Fault) (r : PartitionFault)
-    → ((hs : List Head) → IsSummary hs s.run → IsLeastOf (StandsInWhole s.run.sequenced hs) (Some f))
+    → ((hs : List Batch) → IsSummary hs s.run → IsLeastOf (StandsInWhole s.run.sequenced hs) (Some f))
     → r.topic ≡ topic → r.partition ≡ number → r.offset ≡ f.offset → r.kind ≡ Pair f.kind f.producer → IsPartitionFault topic number end w.batches s.stop (Some r)
 touch_answer topic number end segments s w f r h a b c d =
     subst (λ (x : PartitionFault). IsPartitionFault topic number end w.batches s.stop (Some x)) (same_fault r topic number f.offset (Pair f.kind f.producer) a b c d)
-    (at_touch topic number end w.batches s.stop (front_steady 0 segments w.batches s.stop w.front) f (checks topic (heads_of w.batches) s.run.sequenced (Some f) w.sequenced (h (heads_of w.batches) w.keeps.known)))
+    (at_touch topic number end w.batches s.stop (front_steady 0 segments w.batches s.stop w.front) f (checks topic (w.batches) s.run.sequenced (Some f) w.sequenced (h (w.batches) w.keeps.known)))
 
 stop_answer : (topic : List ℕ) (number end : ℤ) (segments : List Segment) (s : Summary) (w : IsWhole topic segments s) (left : Option ℤ) (kind : Option PartitionFaultKind)
-    → ((hs : List Head) → IsSummary hs s.run → IsLeastOf (StandsInWhole s.run.sequenced hs) None) → ((hs : List Head) → IsSummary hs s.run → IsLeastOpen hs left)
+    → ((hs : List Batch) → IsSummary hs s.run → IsLeastOf (StandsInWhole s.run.sequenced hs) None) → ((hs : List Batch) → IsSummary hs s.run → IsLeastOpen hs left)
     → kind ≡ kind_at_stop s.stop s.next end left → IsPartitionFault topic number end w.batches s.stop (placed topic number end w.batches s.stop (front_steady 0 segments w.batches s.stop w.front) kind)
 stop_answer topic number end segments s w left kind h o e =
     let steady = front_steady 0 segments w.batches s.stop w.front in
     let same : kind_at_stop s.stop (records_in w.batches) end left ≡ kind = ap (λ (n : ℕ). kind_at_stop s.stop n end left) (sym (end_is topic segments s w)) ∙ sym e in
     subst (λ (k : Option PartitionFaultKind). IsPartitionFault topic number end w.batches s.stop (placed topic number end w.batches s.stop steady k)) same
-    (at_stop topic number end w.batches s.stop steady (checks topic (heads_of w.batches) s.run.sequenced None w.sequenced (h (heads_of w.batches) w.keeps.known)) left (o (heads_of w.batches) w.keeps.known) s.stop refl)
+    (at_stop topic number end w.batches s.stop steady (checks topic (w.batches) s.run.sequenced None w.sequenced (h (w.batches) w.keeps.known)) left (o (w.batches) w.keeps.known) s.stop refl)
 
 pub kind_answer : (topic : List ℕ) (number end : ℤ) (segments : List Segment) (s : Summary) (w : IsWhole topic segments s) (left : Option ℤ) (kind : PartitionFaultKind) (r : PartitionFault)
-    → ((hs : List Head) → IsSummary hs s.run → IsLeastOf (StandsInWhole s.run.sequenced hs) None) → ((hs : List Head) → IsSummary hs s.run → IsLeastOpen hs left)
+    → ((hs : List Batch) → IsSummary hs s.run → IsLeastOf (StandsInWhole s.run.sequenced hs) None) → ((hs : List Batch) → IsSummary hs s.run → IsLeastOpen hs left)
     → Some kind ≡ kind_at_stop s.stop s.next end left → r.topic ≡ topic → r.partition ≡ number → r.offset ≡ s.next → r.kind ≡ kind → IsPartitionFault topic number end w.batches s.stop (Some r)
 kind_answer topic number end segments s w left kind r h o e a b c d =
     subst (λ (x : PartitionFault). IsPartitionFault topic number end w.batches s.stop (Some x)) (same_fault r topic number (records_in w.batches) kind a b (c ∙ end_is topic segments s w) d)
     (stop_answer topic number end segments s w left (Some kind) h o e)
 
 pub none_answer : (topic : List ℕ) (number end : ℤ) (segments : List Segment) (s : Summary) (w : IsWhole topic segments s) (left : Option ℤ)
-    → ((hs : List Head) → IsSummary hs s.run → IsLeastOf (StandsInWhole s.run.sequenced hs) None) → ((hs : List Head) → IsSummary hs s.run → IsLeastOpen hs left)
+    → ((hs : List Batch) → IsSummary hs s.run → IsLeastOf (StandsInWhole s.run.sequenced hs) None) → ((hs : List Batch) → IsSummary hs s.run → IsLeastOpen hs left)
     → None ≡ kind_at_stop s.stop s.next end left → IsPartitionFault topic number end w.batches s.stop None
 none_answer topic number end segments s w left h o e = stop_answer topic number end segments s w left None h o e

@@ -1,16 +1,18 @@
 -- A partition, made from what a summary says of its whole log.
-use Rattle.std.proofs.Common.{◌≡◌, List, [], ◌∷◌, map, sym, ap, subst, ◌∙◌, arith, ℤ, ℕ, Option}
+use Rattle.std.proofs.Common.{◌≡◌, List, [], ◌∷◌, sym, ap, subst, ◌∙◌, arith, ℤ, ℕ, Option}
 use Rattle.eos_evidence.specs.declared.segment.Segment.{Segment}
 use Rattle.eos_items.specs.declared.item.Item.{Item}
 use Rattle.eos_items.specs.Items.{items_of}
-use Rattle.eos_summary.specs.Closes.{CloseOf, closes_in}
-use Rattle.eos_summary.specs.Touches.{heads_of}
-use Rattle.eos_summary.proofs.ClosesRead.{closes_read}
-use Rattle.eos_fold.specs.declared.fault.PartitionFault.{PartitionFault}
+use Rattle.eos_fold.specs.declared.close.Close.{Close}
+use Rattle.eos_fold.specs.Closes.{closes_in}
+use Rattle.eos_fold.proofs.ClosesRead.{closes_read}
+use Rattle.eos_touch.specs.declared.fault.PartitionFault.{PartitionFault}
 use Rattle.eos_fold.specs.declared.summary.Summary.{Summary}
 use Rattle.eos_fold.specs.Parts.{PartLog, Rises}
 use Rattle.eos_fold.specs.Standing.{IsPartitionFault, AreOf}
-use Rattle.eos_fold.specs.Whole.{as_close, data_in, AreCloses, BeginsIn, IsWhole, IsPartOf}
+use Rattle.eos_summary.specs.Settling.{data_in}
+use Rattle.eos_fold.specs.Whole.{AreCloses, IsPartOf}
+use Rattle.eos_fold.specs.steps.Whole.{BeginsIn, IsWhole}
 use Rattle.eos_fold.proofs.RisingItems.{items_rise}
 use Rattle.eos_fold.proofs.SteadyFronts.{front_steady}
 
@@ -35,7 +37,7 @@ fault_as topic topic' number number' end end' s f a b c h =
 
 pub part_of : (topic : List ℕ) (number end : ℤ) (segments : List Segment) (s : Summary) (w : IsWhole topic segments s) (part : PartLog)
     → part.topic ≡ topic → part.number ≡ number → part.end ≡ end → IsPartitionFault topic number end w.batches s.stop part.fault → part.items ≡ items_of s.run.index.batches → part.markers ≡ s.markers.items
-    → AreCloses (map as_close (closes_in s.run.index.batches)) part.closes → IsPartOf topic number end segments part
+    → AreCloses (closes_in s.run.index.batches) part.closes → IsPartOf topic number end segments part
 part_of topic number end segments s w part a b c f items markers closes = record {
   batches = w.batches;
   stop = s.stop;
@@ -47,5 +49,5 @@ part_of topic number end segments s w part a b c f items markers closes = record
   items = items ∙ ap items_of (same_data topic segments s w);
   rises = rise topic segments s part.items w items;
   markers = markers ∙ w.keeps.markers;
-  closes = subst (λ (all : List CloseOf). AreCloses (map as_close all) part.closes) (ap closes_in (same_data topic segments s w) ∙ closes_read (heads_of w.batches)) closes;
+  closes = subst (λ (all : List Close). AreCloses all part.closes) (ap closes_in (same_data topic segments s w) ∙ closes_read w.batches) closes;
 }

@@ -10,11 +10,10 @@ use Rattle.eos_batch.specs.Attributes.{is_control}
 use Rattle.eos_items.specs.declared.item.Item.{Item}
 use Rattle.eos_items.specs.Batches.{DataBatch}
 use Rattle.eos_items.specs.Items.{items_from, items_in, items_of}
-use Rattle.eos_summary.specs.Items as settled
-use Rattle.eos_summary.specs.Touches.{head_of, heads_of}
-use Rattle.eos_fold.specs.Front.{offset_of, records_in, ContinuesFrom}
+use Rattle.eos_batch.specs.Offsets.{offset_of}
+use Rattle.eos_touch.specs.Front.{records_in, ContinuesFrom}
 use Rattle.eos_fold.specs.Parts.{Rises}
-use Rattle.eos_fold.specs.Whole.{data_in}
+use Rattle.eos_summary.specs.Settling.{data_after, data_in}
 
 -- offsets rise, from the first of these to below the second
 abbrev Within : ℕ → ℕ → List Item → Type 0
@@ -42,7 +41,7 @@ within n [] h = omega arith
 within n (b ∷ bs) h =
     let at : offset_of b ≡ n = ap unsigned_abs h.0 in
     let sum : n + length b.records + records_in bs ≡ n + (length b.records + records_in bs) = omega arith in
-    by_test (settled.item_of (head_of b) (heads_of bs)) n (n + length b.records) (n + (length b.records + records_in bs)) (data_in bs) (omega (arith, at)) (omega (arith, at))
+    by_test (data_after b bs) n (n + length b.records) (n + (length b.records + records_in bs)) (data_in bs) (omega (arith, at)) (omega (arith, at))
     (subst (λ (high : ℕ). Within (n + length b.records) high (items_of (data_in bs))) sum (within (n + length b.records) bs h.1)) (not (is_control b.attributes))
 
 above : (k low high : ℕ) (xs : List Item) → k < low → Within low high xs → AllByRecursion (λ y. k < y.offset) xs

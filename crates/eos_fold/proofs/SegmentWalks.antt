@@ -1,32 +1,30 @@
 -- One step of a walk along a segment.
-use Rattle.std.proofs.Common.{◌≡◌, ◌≢◌, ℕ, ◌+◌, ◌<◌, ◌≤◌, ◌^◌, List, [], ◌∷◌, ◌++◌, length, take, drop, refl, sym, ap, subst, ◌∙◌, arith, append_assoc, ℤ, pos, ◌+ℤ◌, ◌≤ℤ◌}
-use Rattle.std.proofs.lemmas.List.{append-nil, map-append, length-drop}
-use Rattle.std.proofs.lemmas.Int.{ints}
+use Rattle.std.proofs.Common.{◌≡◌, ◌≢◌, ℕ, ◌+◌, ◌<◌, ◌≤◌, List, [], ◌∷◌, ◌++◌, length, take, drop, refl, sym, ap, subst, ◌∙◌, arith, append_assoc, pos}
+use Rattle.std.proofs.lemmas.List.{append-nil, length-drop}
 use Rattle.eos_wire.specs.Numbers.{IsBytes}
 use Rattle.eos_batch.specs.declared.batch.Batch.{Batch}
 use Rattle.eos_batch.specs.declared.marker.Marker.{Marker}
 use Rattle.eos_batch.specs.declared.fault.BatchFault.{BatchFault}
 use Rattle.eos_batch.specs.declared.fault.BatchFault.TheVariants.{OutOfMemory}
 use Rattle.eos_batch.specs.Answers.{Fails}
-use Rattle.eos_batch.specs.Marker.{marker_of}
+use Rattle.eos_batch.specs.Marker.{marker_of, markers_of}
 use Rattle.eos_batch.specs.Reading.{batch_at}
 use Rattle.eos_batch.specs.Text.{HasTextAt}
 use Rattle.eos_batch.proofs.BatchTexts.{IsBytes-drop, text_at}
-use Rattle.eos_items.specs.declared.head.BatchHead.{BatchHead}
+use Rattle.eos_batch.specs.declared.head.BatchHead.{BatchHead}
 use Rattle.eos_summary.specs.declared.summary.BatchSummary.{BatchSummary}
-use Rattle.eos_summary.specs.Heads.{Head}
 use Rattle.eos_summary.specs.Summaries.{IsSummary, SameSummary}
 use Rattle.eos_summary.specs.Pushes.{ReadsNext, Takes}
-use Rattle.eos_summary.specs.Touches.{head_of, heads_of}
 use Rattle.eos_summary.proofs.JoinedSummaries.{same_summary}
 use Rattle.eos_fold.specs.declared.summary.Summary.{Summary}
 use Rattle.eos_fold.specs.declared.stop.Stop.TheVariants.{NoBatch, Elsewhere}
-use Rattle.eos_fold.specs.Front.{offset_of, ContinuesFrom, IsNext}
-use Rattle.eos_fold.specs.Fronts.{listed, markers_of}
-use Rattle.eos_fold.specs.Sums.{HasWalked, HasStopped}
-use Rattle.eos_fold.proofs.BatchReading.{parted, sized, not_passed, fails_is, drop-drop}
-use Rattle.eos_fold.proofs.Beginnings.{splits-push}
-use Rattle.eos_fold.proofs.Continuity.{records_in-push, continues-push, abs_pos}
+use Rattle.eos_batch.specs.Offsets.{offset_of}
+use Rattle.eos_touch.specs.Front.{ContinuesFrom, IsNext}
+use Rattle.std.specs.Option.{option_to_list}
+use Rattle.eos_fold.specs.steps.Sums.{HasWalked, HasStopped}
+use Rattle.eos_touch.proofs.BatchReading.{parted, sized, not_passed, fails_is, drop-drop}
+use Rattle.eos_touch.proofs.Beginnings.{splits-push}
+use Rattle.eos_touch.proofs.Continuity.{records_in-push, continues-push, abs_pos, fits_on}
 
 -- the batch that was read stands there
 found_at : (bytes : List ℕ) (at : ℕ) (s : Summary) (before : List Batch) (run : BatchSummary) (head : BatchHead) → IsBytes bytes → at < length bytes → HasWalked bytes at before s → (r : ReadsNext s.next s.run run head) → HasTextAt bytes at r.batch head.size
@@ -52,7 +50,7 @@ ends_elsewhere bytes at s before run head fits lt h r ne = record {
       λ e. ne (e ∙ sym h.keeps.next),
     );
   };
-  keeps = record { next = h.keeps.next; fits = h.keeps.fits; markers = h.keeps.markers; known = same_summary (heads_of before) s.run run (r.leaves ne) h.keeps.known };
+  keeps = record { next = h.keeps.next; fits = h.keeps.fits; markers = h.keeps.markers; known = same_summary before s.run run (r.leaves ne) h.keeps.known };
 }
 
 -- the bytes are no batch
@@ -66,15 +64,12 @@ ends_at_bytes bytes at s before run fault lt h fails real same = record {
     continuous = h.continuous;
     stops = (not_passed at bytes lt, ap batch_at (sym h.rest) ∙ fails_is fault (batch_at s.run.index.rest) real fails, refl, omega (arith, length-drop at bytes, lt));
   };
-  keeps = record { next = h.keeps.next; fits = h.keeps.fits; markers = h.keeps.markers; known = same_summary (heads_of before) s.run run same h.keeps.known };
+  keeps = record { next = h.keeps.next; fits = h.keeps.fits; markers = h.keeps.markers; known = same_summary before s.run run same h.keeps.known };
 }
 
 pub markers_of-append : (xs ys : List Batch) → markers_of (xs ++ ys) ≡ markers_of xs ++ markers_of ys
 markers_of-append [] ys = refl
 markers_of-append (x ∷ xs) ys = rw (markers_of-append xs ys) (simp append_assoc)
-
-pub fits_on : (base : ℤ) (next n : ℕ) → base ≡ pos next → (base +ℤ pos n) ≤ℤ pos (2 ^ 63) → next + n ≤ 2 ^ 63
-fits_on base next n e h = let g : (pos next +ℤ pos n) ≤ℤ pos (2 ^ 63) = subst (λ (z : ℤ). (z +ℤ pos n) ≤ℤ pos (2 ^ 63)) e h in omega (arith, ints, g)
 
 -- the batch is passed
 pub record Passed (bytes : List ℕ) (at size : ℕ) (t : Summary) : Type 0 where
@@ -84,7 +79,7 @@ pub record Passed (bytes : List ℕ) (at size : ℕ) (t : Summary) : Type 0 wher
   pub walked : HasWalked bytes (at + size) after t
 
 pub passes : (bytes : List ℕ) (at : ℕ) (s : Summary) (before : List Batch) (run : BatchSummary) (head : BatchHead) (count : ℕ) (t : Summary) → IsBytes bytes → at < length bytes → HasWalked bytes at before s → ReadsNext s.next s.run run head → head.offset ≡ s.next → count ≡ head.count
-    → t.begin ≡ s.begin → t.next ≡ s.next + count → t.stop ≡ s.stop → t.markers.items ≡ s.markers.items ++ listed head.marker → t.run ≡ run → Passed bytes at head.size t
+    → t.begin ≡ s.begin → t.next ≡ s.next + count → t.stop ≡ s.stop → t.markers.items ≡ s.markers.items ++ option_to_list head.marker → t.run ≡ run → Passed bytes at head.size t
 passes bytes at s before run head count t fits lt h r eq number begin next stop markers is =
     let b = r.batch in
     let text = found_at bytes at s before run head fits lt h r in
@@ -93,7 +88,7 @@ passes bytes at s before run head count t fits lt h r eq number begin next stop 
     let n : count ≡ length b.records = number ∙ ap (λ (x : BatchHead). x.count) r.head_is in
     let taken : Takes b head.size s.run run = r.takes eq text.1.producer in
     let le : at ≤ length bytes = omega (arith, lt) in
-    let all : markers_of (before ++ b ∷ []) ≡ markers_of before ++ listed (marker_of b) = markers_of-append before (b ∷ []) ∙ ap (λ (ms : List Marker). markers_of before ++ ms) (append-nil (listed (marker_of b))) in
+    let all : markers_of (before ++ b ∷ []) ≡ markers_of before ++ option_to_list (marker_of b) = markers_of-append before (b ∷ []) ∙ ap (λ (ms : List Marker). markers_of before ++ ms) (append-nil (option_to_list (marker_of b))) in
     record {
       some = sized at head.size bytes b text.0 text.1;
       within = text.0;
@@ -106,8 +101,8 @@ passes bytes at s before run head count t fits lt h r eq number begin next stop 
         keeps = record {
           next = let p = records_in-push before b in omega (arith, next, begin, n, p, h.keeps.next);
           fits = let f = fits_on b.base_offset s.next (length b.records) base text.1.counted.last in omega (arith, next, n, f);
-          markers = markers ∙ (ap (λ (ms : List Marker). ms ++ listed head.marker) h.keeps.markers ∙ (ap (λ (m : BatchHead). markers_of before ++ listed m.marker) r.head_is ∙ sym all));
-          known = subst (λ (x : BatchSummary). IsSummary (heads_of (before ++ b ∷ [])) x) (sym is) (subst (λ (hs : List Head). IsSummary hs run) (sym (map-append head_of before (b ∷ []))) (taken.known (heads_of before) h.keeps.known));
+          markers = markers ∙ (ap (λ (ms : List Marker). ms ++ option_to_list head.marker) h.keeps.markers ∙ (ap (λ (m : BatchHead). markers_of before ++ option_to_list m.marker) r.head_is ∙ sym all));
+          known = subst (λ (x : BatchSummary). IsSummary (before ++ b ∷ []) x) (sym is) (taken.known before h.keeps.known);
         };
       };
     }

@@ -7,7 +7,8 @@ use Rattle.eos_touch.specs.declared.pair.PairFault.{PairFault}
 use Rattle.eos_evidence.specs.declared.segment.Segment.{Segment}
 use Rattle.eos_fold.specs.declared.stop.Stop.{Stop}
 use Rattle.eos_fold.specs.declared.stop.Stop.TheVariants.{AtEnd, NoBatch, Elsewhere}
-use Rattle.eos_fold.specs.Front.{offset_of, records_in, ContinuesFrom}
+use Rattle.eos_batch.specs.Offsets.{offset_of}
+use Rattle.eos_touch.specs.Front.{records_in, ContinuesFrom}
 use Rattle.eos_fold.specs.Fronts.{GoesOn, IsFront}
 use Rattle.eos_fold.specs.Standing.{StandsAtTouch}
 use Rattle.eos_touch.specs.declared.touch.Touch.{Touch}
@@ -16,9 +17,9 @@ use Rattle.eos_evidence.specs.Topics.{is_internal}
 use Rattle.eos_summary.specs.Summaries.{IsSummary}
 use Rattle.eos_fold.specs.declared.summary.Summary.{Summary}
 use Rattle.eos_fold.specs.Sums.{BeginsAt}
-use Rattle.eos_fold.specs.Whole.{IsWhole}
+use Rattle.eos_fold.specs.steps.Whole.{IsWhole}
 use Rattle.eos_fold.proofs.JoinedFronts.{other_name}
-use Rattle.eos_fold.proofs.Continuity.{records_in-append, continues-cut, continues-last}
+use Rattle.eos_touch.proofs.Continuity.{records_in-append, continues-cut, continues-last}
 
 abbrev pub HaveRecords : List Batch → Type 0
 HaveRecords [] = ⊤

@@ -3,16 +3,15 @@
 -- number as its name. And why it ends.
 -- Source: Kafka's documentation, "Log" (a partition's segments are named by the offset of their first record) and Message
 -- Format, "Record Batch" (baseOffset, lastOffsetDelta). That offsets have no gaps is this project's own profile.
-use Rattle.std.specs.Prelude.{◌≡◌, ◌≢◌, ℕ, ◌+◌, ◌⊎◌, unsigned_abs, List, [], ◌∷◌, ◌++◌, length, Option, Some, None, Err}
+use Rattle.std.specs.Prelude.{◌≡◌, ◌≢◌, ℕ, ◌+◌, ◌⊎◌, unsigned_abs, List, [], ◌∷◌, ◌++◌, length, Err}
 use Rattle.eos_batch.specs.declared.batch.Batch.{Batch}
-use Rattle.eos_batch.specs.declared.marker.Marker.{Marker}
-use Rattle.eos_batch.specs.Marker.{marker_of}
 use Rattle.eos_batch.specs.Reading.{batch_at}
 use Rattle.eos_batch.specs.Segment.{Splits}
 use Rattle.eos_evidence.specs.declared.segment.Segment.{Segment}
 use Rattle.eos_fold.specs.declared.stop.Stop.{Stop}
 use Rattle.eos_fold.specs.declared.stop.Stop.TheVariants.{AtEnd, NoBatch, Elsewhere}
-use Rattle.eos_fold.specs.Front.{offset_of, records_in, ContinuesFrom, IsNext}
+use Rattle.eos_batch.specs.Offsets.{offset_of}
+use Rattle.eos_touch.specs.Front.{records_in, ContinuesFrom, IsNext}
 
 -- a segment's name
 abbrev pub base_of : Segment → ℕ
@@ -43,14 +42,3 @@ IsFront at (s ∷ ss) batches stop =
     ((base_of s ≢ at) × (batches ≡ []) × (stop ≡ Elsewhere (base_of s)))
     ⊎ ((base_of s ≡ at) × (inside : List Batch) × (inner : Stop) × IsSegmentFront at s.bytes inside inner
     × GoesOn inner inside (λ others. IsFront (at + records_in inside) ss others stop) batches stop)
-
--- ---- end markers
-
-abbrev pub listed : Option Marker → List Marker
-listed None = []
-listed (Some m) = m ∷ []
-
--- the end markers, in order
-abbrev pub markers_of : List Batch → List Marker
-markers_of [] = []
-markers_of (b ∷ bs) = listed (marker_of b) ++ markers_of bs

@@ -1,12 +1,7 @@
-pub mod Names
-pub mod Touches
-pub mod Front
-pub mod Faults
-pub mod Good
-pub mod Walks
 pub mod Closes
 pub mod Parts
 pub mod Fronts
 pub mod Sums
 pub mod Standing
 pub mod Whole
+pub mod steps

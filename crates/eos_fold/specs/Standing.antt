@@ -14,13 +14,14 @@ use Rattle.eos_evidence.specs.Topics.{is_internal}
 use Rattle.eos_evidence.specs.declared.segment.Segment.{Segment}
 use Rattle.eos_fold.specs.declared.stop.Stop.{Stop}
 use Rattle.eos_fold.specs.declared.stop.Stop.TheVariants.{AtEnd, NoBatch, Elsewhere}
-use Rattle.eos_fold.specs.declared.fault.PartitionFault.{PartitionFault}
-use Rattle.eos_fold.specs.declared.fault.PartitionFaultKind.{PartitionFaultKind}
-use Rattle.eos_fold.specs.declared.fault.PartitionFaultKind.TheVariants.{BadBatch, Gap, Pair, End, OpenAtEnd}
-use Rattle.eos_fold.specs.Names.{number_of}
+use Rattle.eos_touch.specs.declared.fault.PartitionFault.{PartitionFault}
+use Rattle.eos_touch.specs.declared.fault.PartitionFaultKind.{PartitionFaultKind}
+use Rattle.eos_touch.specs.declared.fault.PartitionFaultKind.TheVariants.{BadBatch, Gap, Pair, End, OpenAtEnd}
+use Rattle.eos_touch.specs.FaultNames.{number_of}
 use Rattle.eos_touch.specs.Touches.{touch_of}
-use Rattle.eos_fold.specs.Touches.{last_touch}
-use Rattle.eos_fold.specs.Front.{offset_of, records_in}
+use Rattle.eos_touch.specs.Touches.{last_touch}
+use Rattle.eos_batch.specs.Offsets.{offset_of}
+use Rattle.eos_touch.specs.Front.{records_in}
 
 -- a batch's touch may not follow the touch of its producer id before it, or the first one may not stand there
 pub record StandsAtTouch (sequenced : Bool) (batches : List Batch) (offset : ℕ) (fault : PairFault) (producer : ℤ) : Type 0 where

@@ -1,16 +1,14 @@
 -- What a summary says of a list of segments: its front, begun at the name of its first segment, and what a run of batches
 -- says of its producer ids and data.
-use Rattle.std.specs.Prelude.{◌≡◌, ℕ, ◌+◌, ◌≤◌, ◌^◌, pos, ◌≤ℤ◌, Bool, not, List, [], ◌∷◌, length, drop, ⊤}
+use Rattle.std.specs.Prelude.{◌≡◌, ℕ, ◌+◌, ◌≤◌, ◌^◌, pos, ◌≤ℤ◌, Bool, not, List, [], ◌∷◌, length, ⊤}
 use Rattle.eos_batch.specs.declared.batch.Batch.{Batch}
 use Rattle.eos_evidence.specs.Topics.{is_internal}
 use Rattle.eos_evidence.specs.declared.segment.Segment.{Segment}
 use Rattle.eos_summary.specs.Summaries.{IsSummary, SameSummary}
-use Rattle.eos_summary.specs.Touches.{heads_of}
-use Rattle.eos_fold.specs.declared.stop.Stop.TheVariants.{AtEnd}
 use Rattle.eos_fold.specs.declared.summary.Summary.{Summary}
-use Rattle.eos_batch.specs.Segment.{Splits}
-use Rattle.eos_fold.specs.Front.{records_in, ContinuesFrom}
-use Rattle.eos_fold.specs.Fronts.{base_of, markers_of, IsSegmentFront, IsFront}
+use Rattle.eos_touch.specs.Front.{records_in}
+use Rattle.eos_batch.specs.Marker.{markers_of}
+use Rattle.eos_fold.specs.Fronts.{base_of, IsFront}
 
 -- the first segment has this name
 abbrev pub BeginsAt : List Segment → ℕ → Type 0
@@ -22,7 +20,7 @@ pub record Keeps (batches : List Batch) (s : Summary) : Type 0 where
   pub next : s.next ≡ s.begin + records_in batches
   pub fits : s.next ≤ 2 ^ 63
   pub markers : s.markers.items ≡ markers_of batches
-  pub known : IsSummary (heads_of batches) s.run
+  pub known : IsSummary batches s.run
 
 -- sequences are checked but in the internal topics, in which brokers keep none of their own
 abbrev pub is_checked : Segment → Bool
@@ -53,20 +51,6 @@ IsSummed s = (segments : List Segment) × IsSummaryOf segments s
 pub record IsFit (s : Segment) : Type 0 where
   pub base : pos 0 ≤ℤ s.base
   pub size : length s.bytes ≤ 2 ^ 30
-
--- ---- a walk along a segment
-
-pub record HasWalked (bytes : List ℕ) (at : ℕ) (before : List Batch) (s : Summary) : Type 0 where
-  pub rest : s.run.index.rest ≡ drop at bytes
-  pub texts : Splits bytes before (drop at bytes)
-  pub continuous : ContinuesFrom s.begin before
-  pub stop : s.stop ≡ AtEnd
-  pub keeps : Keeps before s
-
-pub record HasStopped (bytes : List ℕ) (s : Summary) : Type 0 where
-  pub batches : List Batch
-  pub front : IsSegmentFront s.begin bytes batches s.stop
-  pub keeps : Keeps batches s
 
 -- the same is known; there may be more room
 pub record SameSum (s t : Summary) : Type 0 where

@@ -1,10 +1,9 @@
 //! How the transactions of a partition's log ended.
 
-ghost use Rattle.std.specs.Prelude.{◌≡◌, ◌++◌, map, IfOk, OnOk};
+ghost use Rattle.std.specs.Prelude.{◌≡◌, ◌++◌, IfOk, OnOk};
 ghost use Rattle.std.specs.Option.{option_to_list};
-ghost use Rattle.eos_summary.specs.Closes.{close_in, closes_in};
-ghost use Rattle.eos_fold.specs.Closes.{close_cmp};
-ghost use Rattle.eos_fold.specs.Whole.{as_close, AreCloses};
+ghost use Rattle.eos_fold.specs.Closes.{close_cmp, close_in, closes_in};
+ghost use Rattle.eos_fold.specs.Whole.{AreCloses};
 
 use eos_batch::Kind;
 use eos_items::{DataHead, Ending, LogIndex};
@@ -31,7 +30,7 @@ impl Close {
 
 /// The close of a data batch, if its transaction has ended.
 fn close_of(head: DataHead) -> Option<Close>
-    ensures { option_to_list result ≡ map as_close (close_in head.writer head.ending) }
+    ensures { option_to_list result ≡ close_in head.writer head.ending }
 {
     let (producer, epoch) = head.writer?;
     let Ending::Ended {
@@ -51,7 +50,7 @@ fn close_of(head: DataHead) -> Option<Close>
 
 /// Puts the close of a data batch at the end, if there is one.
 fn push_close(closes: &mut Vec<Close>, head: DataHead) -> Result<(), AllocError>
-    ensures { OnOk result (closes.new.items ≡ closes.old.items ++ map as_close (close_in head.writer head.ending)) }
+    ensures { OnOk result (closes.new.items ≡ closes.old.items ++ close_in head.writer head.ending) }
 {
     let Some(close) = close_of(head) else {
         return Ok(());
@@ -62,7 +61,7 @@ fn push_close(closes: &mut Vec<Close>, head: DataHead) -> Result<(), AllocError>
 
 /// The closes of a log's data batches, in the order of the log.
 fn list_closes(alloc: Global, index: &LogIndex) -> Result<Vec<Close>, AllocError>
-    ensures { IfOk result (λ closes. closes.items ≡ map as_close (closes_in index.now.batches)) }
+    ensures { IfOk result (λ closes. closes.items ≡ closes_in index.now.batches) }
 {
     let mut closes = Vec::new(alloc);
     for i in 0..index.len() {
@@ -82,7 +81,7 @@ fn once(mut closes: Vec<Close>) -> Vec<Close>
 
 /// The unequal closes of a log's data batches, in ascending order.
 pub(crate) fn closes_of(alloc: Global, index: &LogIndex) -> Result<Vec<Close>, AllocError>
-    ensures { IfOk result (λ closes. AreCloses (map as_close (closes_in index.now.batches)) closes.items) }
+    ensures { IfOk result (λ closes. AreCloses (closes_in index.now.batches) closes.items) }
 {
     let closes = list_closes(alloc, index)?;
     Ok(once(closes))

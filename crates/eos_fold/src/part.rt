@@ -7,13 +7,13 @@ ghost use Rattle.eos_fold.specs.Standing.{AreOf};
 ghost use Rattle.eos_fold.specs.Whole.{segments_in, IsPartOf};
 
 use crate::close::{Close, closes_of};
-use crate::fault::PartitionFault;
 use crate::named::Named;
 use crate::summary::Summary;
 use crate::whole::{least_fault, of_all};
 use bytes::Bytes;
 use eos_batch::Marker;
 use eos_items::Items;
+use eos_touch::PartitionFault;
 use std::alloc::{AllocError, Global};
 use std::marker::Model;
 

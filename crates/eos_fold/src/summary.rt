@@ -1,13 +1,14 @@
 //! What a list of segments says of its partition, worked out in one pass over each or joined from its parts.
 
-ghost use Rattle.std.specs.Prelude.{◌≡◌, ◌≢◌, ◌+◌, ◌<◌, ◌≤◌, ◌^◌, [], ◌∷◌, ◌++◌, ℕ, List, length, IfOk, IfErr, OnOk, IfSome, MatchOption, not, true, false};
+ghost use Rattle.std.specs.Prelude.{◌≡◌, ◌≢◌, ◌+◌, ◌<◌, ◌≤◌, [], ◌∷◌, ◌++◌, List, length, IfOk, IfErr, OnOk, MatchOption, not, true, false};
 ghost use Rattle.eos_batch.specs.declared.batch.Batch.{Batch};
 ghost use Rattle.eos_batch.specs.declared.fault.BatchFault.TheVariants.{OutOfMemory};
 ghost use Rattle.eos_evidence.specs.declared.segment.Segment.{Segment};
-ghost use Rattle.eos_fold.specs.Fronts.{listed};
+ghost use Rattle.std.specs.Option.{option_to_list};
 ghost use Rattle.eos_evidence.specs.Topics.{is_internal};
 ghost use Rattle.eos_fold.specs.declared.stop.Stop.TheVariants.{AtEnd};
-ghost use Rattle.eos_fold.specs.Sums.{IsSummaryOf, IsSummed, IsFit, OneTopic, HasWalked, HasStopped, SameSum};
+ghost use Rattle.eos_fold.specs.Sums.{IsSummaryOf, IsSummed, IsFit, OneTopic, SameSum};
+ghost use Rattle.eos_fold.specs.steps.Sums.{HasWalked, HasStopped};
 
 use crate::stop::Stop;
 use bytes::Bytes;
@@ -44,7 +45,7 @@ fn refusal(fault: BatchFault) -> Result<BatchFault, AllocError>
 
 /// Puts an end marker at the end, if there is one.
 fn push_marker(markers: &mut Vec<Marker>, marker: Option<Marker>) -> Result<(), AllocError>
-    ensures { OnOk result (markers.new.items ≡ markers.old.items ++ listed marker) }
+    ensures { OnOk result (markers.new.items ≡ markers.old.items ++ option_to_list marker) }
 {
     let Some(marker) = marker else {
         return Ok(());

@@ -5,16 +5,17 @@ ghost use Rattle.std.specs.Ordering.{int_eq};
 ghost use Rattle.eos_evidence.specs.declared.segment.Segment.{Segment};
 ghost use Rattle.eos_evidence.specs.Topics.{is_internal};
 ghost use Rattle.eos_summary.specs.Summaries.{IsSummary};
-ghost use Rattle.eos_fold.specs.declared.fault.PartitionFaultKind.TheVariants.{Pair};
+ghost use Rattle.eos_touch.specs.declared.fault.PartitionFaultKind.TheVariants.{Pair};
 ghost use Rattle.eos_fold.specs.Standing.{IsPartitionFault};
-ghost use Rattle.eos_fold.specs.Whole.{segments_in, BeginsIn, IsWhole, kind_at_stop};
+ghost use Rattle.eos_fold.specs.Whole.{segments_in};
+ghost use Rattle.eos_fold.specs.steps.Whole.{BeginsIn, IsWhole, kind_at_stop};
 
-use crate::fault::{PartitionFault, PartitionFaultKind};
 use crate::named::Named;
 use crate::stop::Stop;
 use crate::summary::{Summary, is_checked};
 use bytes::Bytes;
 use eos_summary::{BatchSummary, Fault};
+use eos_touch::{PartitionFault, PartitionFaultKind};
 use std::alloc::Global;
 
 /// What is said of an empty front, begun at 0, that ends for this reason.

@@ -3,13 +3,16 @@
 ghost use Rattle.std.specs.Prelude.{◌≡◌, ◌≤◌};
 ghost use Rattle.eos_folder.specs.declared.folder.FolderFault.TheVariants.{OutOfMemory};
 
+use crate::cause::Cause;
 use crate::paths::{manifest_path, partition_path, segment_path};
+use crate::watch::Watch;
 use bytes::Bytes;
 use eos_evidence::{
     AddFault, End, Evidence, EvidenceBuilder, MAX_SEGMENTS, ReadFault, Segment, Spec, SpecFault,
     parse_spec, read_segment,
 };
-use std::alloc::{AllocError, AllocFailed};
+use eos_manifest_cause::explain_spec;
+use std::alloc::{AllocError, AllocFailed, Global};
 use std::fs::{DirEntry, File};
 use std::io::{Error, ErrorKind};
 use std::thread::Threads;
@@ -18,16 +21,19 @@ use std::{fs, thread};
 /// How many digits the name of a segment has before `.log`.
 const DIGITS: usize = 20;
 
+/// From how many bytes on a path is too long for the system, whatever its parts are.
+const LONG_PATH: usize = 4096;
+
 /// Why a folder is no evidence. Of several reasons it is the first: those of the manifest, then those of the
 /// partitions in order, each with its segments by base. Want of memory may come before any of them.
 #[derive(Drop)]
 pub enum FolderFault {
     /// This file or folder can't be read.
-    CannotRead(String),
+    CannotRead(String, Cause),
     /// The manifest is refused.
-    Manifest(SpecFault),
+    Manifest(SpecFault, Cause),
     /// A file is larger than a segment may be, or there are more segments than evidence may have.
-    Limit,
+    Limit(Cause),
     /// A growth of memory was refused.
     OutOfMemory,
 }
@@ -59,11 +65,12 @@ struct SegmentFile<'a> {
 
 /// Reads the evidence of a folder: its manifest, and for each partition of it the segments in the folder `TOPIC-N`, by at most
 /// so many threads. A partition without a folder has no segments.
-pub fn read_folder(
+pub fn read_folder<W: Watch>(
     rt: &HostRuntime,
     threads: &(impl Threads + Sync),
     folder: &str,
     workers: u64,
+    watch: &W,
 ) -> Result<Evidence, FolderFault>
     requires { 1 ≤ workers }
 {
@@ -71,11 +78,12 @@ pub fn read_folder(
     let ends = spec.ends().clone()?;
     let mut files = Vec::new(rt.alloc());
     let listed = list_segments(rt, folder, ends.as_slice(), &mut files);
+    watch.found(files.len() as u64);
     thread::for_each_mut(
         threads,
         files.as_mut_slice(),
         workers as usize,
-        &|_, file: &mut SegmentFile<'_>| { file.read(rt, folder) },
+        &|_, file: &mut SegmentFile<'_>| { file.read(rt, folder, watch) },
     );
     let evidence = evidence_of(rt, spec, files)?;
     listed?;
@@ -88,7 +96,17 @@ fn read_manifest(rt: &HostRuntime, folder: &str) -> Result<Spec, FolderFault> {
     match parse_spec(rt.alloc(), manifest.as_slice()) {
         Ok(spec) => Ok(spec),
         Err(SpecFault::OutOfMemory) => Err(FolderFault::OutOfMemory),
-        Err(fault) => Err(FolderFault::Manifest(fault)),
+        Err(fault) => {
+            let cause = cause_of_refusal(rt.alloc(), manifest.as_slice(), fault);
+            Err(FolderFault::Manifest(fault, cause))
+        }
+    }
+}
+
+fn cause_of_refusal(alloc: Global, manifest: &[u8], fault: SpecFault) -> Cause {
+    match explain_spec(alloc, manifest, fault) {
+        Some(cause) => Cause::Told(cause.text),
+        None => Cause::Unknown,
     }
 }
 
@@ -121,7 +139,9 @@ fn add_segment(
     match builder.add(segment) {
         Ok(()) => Ok(()),
         Err(AddFault::OutOfMemory) => Err(FolderFault::OutOfMemory),
-        Err(AddFault::Limit | AddFault::Name | AddFault::Duplicate) => Err(FolderFault::Limit),
+        Err(AddFault::Limit | AddFault::Name | AddFault::Duplicate) => {
+            Err(FolderFault::Limit(Cause::Unknown))
+        }
     }
 }
 
@@ -138,7 +158,8 @@ fn list_segments<'a>(
     for end in ends {
         for base in bases_of(rt, folder, end)? {
             if files.len() as u64 >= MAX_SEGMENTS {
-                return Err(FolderFault::Limit);
+                let path = segment_path(rt.alloc(), folder, end, base)?;
+                return Err(FolderFault::Limit(Cause::ManySegments(path)));
             }
             files.push(SegmentFile {
                 end,
@@ -151,15 +172,29 @@ fn list_segments<'a>(
 }
 
 /// The base offsets of a partition's segments, in order. A partition without a folder has none; any other folder must be read.
-fn bases_of(rt: &HostRuntime, folder: &str, end: &End) -> Result<Vec<i64>, FolderFault> {
+pub fn bases_of(rt: &HostRuntime, folder: &str, end: &End) -> Result<Vec<i64>, FolderFault> {
     let path = partition_path(rt.alloc(), folder, end)?;
     match list_bases(rt, &path) {
         Ok(bases) => Ok(bases),
-        Err(e) => match e.kind() {
-            ErrorKind::NotFound => Ok(Vec::new(rt.alloc())),
-            ErrorKind::OutOfMemory => Err(FolderFault::OutOfMemory),
-            _ => Err(FolderFault::CannotRead(path)),
+        Err(e) if e.kind() == ErrorKind::OutOfMemory => Err(FolderFault::OutOfMemory),
+        Err(e) if is_absent(rt, &path, e.kind()) => Ok(Vec::new(rt.alloc())),
+        Err(e) => {
+            let cause = Cause::of_error(rt.alloc(), &e);
+            Err(FolderFault::CannotRead(path, cause))
+        }
+    }
+}
+
+/// Whether an error at this path says that nothing is there: no folder, and no link that leads nowhere; or a folder whose name
+/// is too long for the file system.
+fn is_absent(rt: &HostRuntime, path: &str, kind: ErrorKind) -> bool {
+    match kind {
+        ErrorKind::NotFound => match fs::symlink_metadata(rt, path) {
+            Ok(_) => false,
+            Err(e) => e.kind() == ErrorKind::NotFound,
         },
+        ErrorKind::InvalidFilename => path.len() < LONG_PATH,
+        _ => false,
     }
 }
 
@@ -202,13 +237,17 @@ fn base_of_name(name: &[u8]) -> Option<i64> {
 // ---- what is in them
 
 impl SegmentFile<'_> {
-    /// Reads the file.
-    fn read(&mut self, rt: &HostRuntime, folder: &str) {
+    /// Reads the file, and says so.
+    fn read<W: Watch>(&mut self, rt: &HostRuntime, folder: &str, watch: &W) {
         self.bytes = read_segment_file(rt, folder, self.end, self.base);
+        if let Ok(bytes) = &self.bytes {
+            watch.read(bytes.len() as u64);
+        }
     }
 }
 
-fn read_segment_file(
+/// The bytes of a partition's segment, at most as many as a segment may have.
+pub fn read_segment_file(
     rt: &HostRuntime,
     folder: &str,
     end: &End,
@@ -223,12 +262,18 @@ fn read_file(rt: &HostRuntime, path: String) -> Result<Bytes, FolderFault> {
     let mut file = match File::open(rt, path.as_str()) {
         Ok(file) => file,
         Err(e) if e.kind() == ErrorKind::OutOfMemory => return Err(FolderFault::OutOfMemory),
-        Err(_) => return Err(FolderFault::CannotRead(path)),
+        Err(e) => {
+            let cause = Cause::of_error(rt.alloc(), &e);
+            return Err(FolderFault::CannotRead(path, cause));
+        }
     };
     match read_segment(rt.alloc(), &mut file) {
         Ok(bytes) => Ok(bytes),
-        Err(ReadFault::Read) => Err(FolderFault::CannotRead(path)),
-        Err(ReadFault::Limit) => Err(FolderFault::Limit),
+        Err(ReadFault::Read) => {
+            let cause = Cause::of_reader(rt.alloc(), &mut file);
+            Err(FolderFault::CannotRead(path, cause))
+        }
+        Err(ReadFault::Limit) => Err(FolderFault::Limit(Cause::LongFile(path))),
         Err(ReadFault::OutOfMemory) => Err(FolderFault::OutOfMemory),
     }
 }

@@ -4,7 +4,7 @@ use eos_evidence::End;
 use std::alloc::{AllocError, Global};
 
 /// The path of the manifest.
-pub(crate) fn manifest_path(alloc: Global, folder: &str) -> Result<String, AllocError> {
+pub fn manifest_path(alloc: Global, folder: &str) -> Result<String, AllocError> {
     format!(in alloc; "{folder}/evidence.json")
 }
 

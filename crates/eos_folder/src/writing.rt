@@ -25,7 +25,7 @@ impl From<AllocError> for WritingFault {
 /// segments.
 ///
 /// # Errors
-/// Some of it may have been written.
+/// Some of it may have been written: `remove_folder` takes it away.
 pub fn write_evidence(
     rt: &HostRuntime,
     folder: &str,
@@ -57,6 +57,12 @@ fn write_partition(
 /// Makes a folder, which may not be there.
 pub fn make_folder(rt: &HostRuntime, path: &str) -> Result<(), WritingFault> {
     written(rt, fs::create_dir(rt, path), path)
+}
+
+/// Takes away a folder with all that it holds, so that nobody takes a part of evidence for the whole. What the system doesn't let
+/// go stays.
+pub fn remove_folder(rt: &HostRuntime, path: &str) {
+    let _ = fs::remove_dir_all(rt, path);
 }
 
 fn write_file(rt: &HostRuntime, path: &str, bytes: &[u8]) -> Result<(), WritingFault> {

@@ -12,7 +12,8 @@ use borrow.Author.Tests.{leb-true, leb-false}
 use Rattle.eos_items.specs.declared.entry.Ending.{Ending}
 use Rattle.eos_items.specs.Batches.{DataBatch, set_ending}
 use Rattle.eos_items.specs.Views.{SegmentView, batches_of}
-use Rattle.eos_items.specs.Begins.{batches_before, AreBegins, IsFound}
+use Rattle.eos_items.specs.Begins.{batches_before, AreBegins}
+use Rattle.eos_items.specs.steps.Begins.{IsFound}
 use Rattle.eos_items.proofs.ListPlaces.{get_left, get_right_at, flat_more}
 
 pub set_ending-length : (ending : Ending) (place : ℕ) (bs : List DataBatch) → length (set_ending ending place bs) ≡ length bs

@@ -18,9 +18,9 @@ use Rattle.eos_batch.specs.Places.{finished, records_in, IsOpened}
 use Rattle.eos_batch.proofs.OpenedTests.{counted, is_fault}
 use Rattle.eos_batch.proofs.TextParts.{bind_ok, ok_is, must_bind}
 use Rattle.eos_items.specs.declared.entry.Entry.{Entry}
-use Rattle.eos_items.specs.declared.head.BatchHead.{BatchHead}
-use Rattle.eos_items.specs.Heads.{head_with, head_of}
-use Rattle.eos_items.specs.Indexed.{AreEntriesOf, IsIndexed}
+use Rattle.eos_batch.specs.declared.head.BatchHead.{BatchHead}
+use Rattle.eos_batch.specs.Heads.{head_with, head_of}
+use Rattle.eos_items.specs.steps.Indexed.{AreEntriesOf, IsIndexed}
 
 -- the head of an opened data batch is that of the batch
 data_head_is : (b : Batch) (rs : List Record) (count size : ℕ) → is_control b.attributes ≡ false → count ≡ length rs → head_with b count size None ≡ head_of (with_records b rs) size

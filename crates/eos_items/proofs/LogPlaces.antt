@@ -7,11 +7,12 @@ use Rattle.eos_wire.specs.Numbers.{i64_at}
 use Rattle.eos_batch.specs.declared.fault.BatchFault.TheVariants as faults
 use Rattle.eos_batch.specs.Reading.{frame_at, batch_at}
 use Rattle.eos_items.specs.declared.entry.Ending.{Ending}
-use Rattle.eos_items.specs.declared.head.BatchHead.{BatchHead}
+use Rattle.eos_batch.specs.declared.head.BatchHead.{BatchHead}
 use Rattle.eos_items.specs.declared.item.Item.{Item}
 use Rattle.eos_items.specs.Batches.{DataBatch, data_of, set_ending}
 use Rattle.eos_items.specs.Items.{items_in, items_of}
-use Rattle.eos_items.specs.Indexed.{TakesBatch, ReadsBatch}
+use Rattle.eos_items.specs.Indexed.{ReadsBatch}
+use Rattle.eos_items.specs.steps.Indexed.{TakesBatch}
 use Rattle.eos_items.specs.Views.{SegmentView, LogView, batches_of, last_rest}
 use Rattle.eos_items.proofs.ListPlaces.{flat_more, get_flat}
 

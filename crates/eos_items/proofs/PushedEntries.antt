@@ -2,7 +2,7 @@
 use Rattle.std.proofs.Common.{ℕ, List, [], ◌∷◌, ◌++◌}
 use Rattle.eos_batch.specs.declared.record.Record.{Record}
 use Rattle.eos_items.specs.declared.entry.Entry.{Entry}
-use Rattle.eos_items.specs.Indexed.{IsEntryOf, AreEntriesOf}
+use Rattle.eos_items.specs.steps.Indexed.{IsEntryOf, AreEntriesOf}
 
 pub one_more : (bytes : List ℕ) (source : ℕ) (es : List Entry) (rs : List Record) (e : Entry) (r : Record) → AreEntriesOf bytes source es rs → IsEntryOf bytes source e r → AreEntriesOf bytes source (es ++ e ∷ []) (rs ++ r ∷ [])
 one_more bytes source [] [] e r h one = (one, tt)

@@ -9,11 +9,11 @@ use Rattle.eos_batch.specs.declared.record.Record.{Record}
 use Rattle.eos_batch.specs.Attributes.{is_control}
 use Rattle.eos_items.specs.declared.entry.Entry.{Entry}
 use Rattle.eos_items.specs.declared.entry.Source.{Source}
-use Rattle.eos_items.specs.declared.head.BatchHead.{BatchHead}
+use Rattle.eos_batch.specs.declared.head.BatchHead.{BatchHead}
 use Rattle.eos_items.specs.Batches.{DataBatch, writer_of, ending_of, data_batch, data_of}
-use Rattle.eos_items.specs.Heads.{head_of}
-use Rattle.eos_items.specs.Entries.{record_from, record_in, entries_of, batch_in, batches_in, Tile, IsEntry, IsSegmentIndex}
-use Rattle.eos_items.specs.Indexed.{IsEntryOf, AreEntriesOf, IsIndexed}
+use Rattle.eos_batch.specs.Heads.{head_of}
+use Rattle.eos_items.specs.steps.Entries.{record_from, record_in, entries_of, batch_in, batches_in, Tile, IsEntry, IsSegmentIndex}
+use Rattle.eos_items.specs.steps.Indexed.{IsEntryOf, AreEntriesOf, IsIndexed}
 use Rattle.eos_items.proofs.ListPlaces.{get_left, get_right_at, get_more, get_last}
 use Rattle.eos_items.proofs.SegmentEntries.{stands}
 

@@ -14,7 +14,7 @@ use Rattle.eos_items.specs.declared.entry.Entry.{Entry}
 use Rattle.eos_items.specs.declared.entry.Source.{Source}
 use Rattle.eos_items.specs.Batches.{DataBatch}
 use Rattle.eos_items.specs.Items.{item_of, items_from, items_in, items_of}
-use Rattle.eos_items.specs.Entries.{record_in, record_from, entries_of, batch_in, batches_in, Tile, IsSegmentIndex}
+use Rattle.eos_items.specs.steps.Entries.{record_in, record_from, entries_of, batch_in, batches_in, Tile, IsSegmentIndex}
 use Rattle.eos_items.proofs.ListPlaces.{get_left, get_right_at, get_part, length_range}
 
 -- ---- where batches stand

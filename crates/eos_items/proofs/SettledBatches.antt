@@ -5,7 +5,7 @@ use Rattle.eos_items.specs.declared.entry.Ending.{Ending}
 use Rattle.eos_items.specs.declared.entry.Entry.{Entry}
 use Rattle.eos_items.specs.declared.entry.Source.{Source}
 use Rattle.eos_items.specs.Batches.{DataBatch, set_ending}
-use Rattle.eos_items.specs.Entries.{batch_in, batches_in, Tile, IsEntry, IsSegmentIndex}
+use Rattle.eos_items.specs.steps.Entries.{batch_in, batches_in, Tile, IsEntry, IsSegmentIndex}
 use Rattle.eos_items.proofs.ListPlaces.{get_set}
 
 abbrev pub settled : Ending → Source → Source

@@ -1,11 +1,12 @@
 -- The data batches of a log, each with how its transaction ended.
 -- Source: Kafka's documentation, Message Format, "Record Batch" (baseOffset, attributes, producerId, producerEpoch);
 -- KIP-98 for what an end marker does to the batches of its producer id before it.
-use Rattle.std.specs.Prelude.{ℕ, zero, suc, ℤ, unsigned_abs, List, [], ◌∷◌, Option, Some, None, if◌then◌else◌}
+use Rattle.std.specs.Prelude.{ℕ, zero, suc, ℤ, List, [], ◌∷◌, Option, Some, None, if◌then◌else◌}
 use Rattle.eos_batch.specs.declared.batch.Batch.{Batch}
 use Rattle.eos_batch.specs.declared.record.Record.{Record}
 use Rattle.eos_batch.specs.declared.marker.Kind.TheVariants.{Commit, Abort}
 use Rattle.eos_batch.specs.Attributes.{is_transactional, is_control}
+use Rattle.eos_batch.specs.Offsets.{offset_of}
 use Rattle.eos_items.specs.declared.entry.Ending.{Ending}
 use Rattle.eos_items.specs.declared.entry.Ending.TheVariants.{Plain, Ended, Waiting}
 use Rattle.eos_items.specs.declared.item.Fate.{Fate}
@@ -34,7 +35,7 @@ abbrev pub ending_of : Batch → Ending
 ending_of b = if is_transactional b.attributes then Waiting b.producer else Plain
 
 abbrev pub data_batch : Batch → DataBatch
-data_batch b = record { offset = unsigned_abs b.base_offset; writer = writer_of b; ending = ending_of b; records = b.records }
+data_batch b = record { offset = offset_of b; writer = writer_of b; ending = ending_of b; records = b.records }
 
 -- control batches are no data
 abbrev pub data_of : Batch → List DataBatch

@@ -1,5 +1,5 @@
 -- How many data batches stand before each segment of a log's index.
-use Rattle.std.specs.Prelude.{◌≡◌, ◌≤◌, ◌<◌, ◌+◌, ◌*◌, ◌^◌, ℕ, List, length, take, slice_get, Some}
+use Rattle.std.specs.Prelude.{◌≡◌, ◌≤◌, ◌*◌, ◌^◌, ℕ, List, length, take, slice_get, Some}
 use Rattle.eos_items.specs.Views.{SegmentView, batches_of}
 
 abbrev pub batches_before : List SegmentView → ℕ → ℕ
@@ -13,8 +13,3 @@ pub record IsBegin (segments : List SegmentView) (k begin : ℕ) : Type 0 where
 pub record AreBegins (segments : List SegmentView) (begins : List ℕ) : Type 0 where
   pub number : length begins ≡ length segments
   pub each : (k begin : ℕ) → slice_get begins k ≡ Some begin → IsBegin segments k begin
-
--- a segment, and a place in it: the data batch at this place of the log
-abbrev pub IsFound : List SegmentView → ℕ → ℕ × ℕ → Type 0
-IsFound segments place found =
-    (s : SegmentView) × (slice_get segments found.0 ≡ Some s) × (found.1 < length s.batches) × (place ≡ batches_before segments found.0 + found.1)

@@ -1,31 +1,7 @@
--- What a walk learns of a batch beside its records.
--- Source: Kafka's documentation, Message Format, "Record Batch" and "Control Batches".
-use Rattle.std.specs.Prelude.{ℕ, unsigned_abs, length, Option}
-use Rattle.eos_batch.specs.declared.batch.Batch.{Batch}
-use Rattle.eos_batch.specs.declared.marker.Marker.{Marker}
-use Rattle.eos_batch.specs.Attributes.{is_transactional, is_control}
-use Rattle.eos_batch.specs.Marker.{marker_of}
-use Rattle.eos_items.specs.declared.head.BatchHead.{BatchHead}
+-- What the records of a data batch have in common.
+use Rattle.std.specs.Prelude.{length}
 use Rattle.eos_items.specs.declared.head.DataHead.{DataHead}
 use Rattle.eos_items.specs.Batches.{DataBatch}
-
--- of so many records and so many bytes
-abbrev pub head_with : Batch → ℕ → ℕ → Option Marker → BatchHead
-head_with b count size marker = record {
-  offset = unsigned_abs b.base_offset;
-  count = count;
-  size = size;
-  producer = b.producer;
-  epoch = b.epoch;
-  sequence = b.sequence;
-  is_control = is_control b.attributes;
-  is_transactional = is_transactional b.attributes;
-  marker = marker;
-}
-
--- of a batch that takes so many bytes
-abbrev pub head_of : Batch → ℕ → BatchHead
-head_of b size = head_with b (length b.records) size (marker_of b)
 
 abbrev pub data_head : DataBatch → DataHead
 data_head b = record { offset = b.offset; count = length b.records; writer = b.writer; ending = b.ending }

@@ -3,5 +3,5 @@ pub mod Heads
 pub mod Items
 pub mod Views
 pub mod Begins
-pub mod Entries
 pub mod Indexed
+pub mod steps

@@ -3,7 +3,8 @@
 ghost use Rattle.std.specs.Prelude.{◌≡◌, ◌≤◌, ◌<◌, ◌+◌, ◌*◌, ◌^◌, List, length, map, All};
 ghost use Rattle.std.specs.Vec.{vec_len};
 ghost use Rattle.eos_items.specs.Views.{SegmentView, batches_of};
-ghost use Rattle.eos_items.specs.Begins.{AreBegins, IsFound};
+ghost use Rattle.eos_items.specs.Begins.{AreBegins};
+ghost use Rattle.eos_items.specs.steps.Begins.{IsFound};
 
 use crate::segment::SegmentIndex;
 

@@ -9,10 +9,10 @@ ghost use Rattle.eos_items.specs.Indexed.{ReadsBatch};
 
 use crate::begins::{count_batches, find_batch, shift};
 use crate::entry::Ending;
-use crate::head::{BatchHead, DataHead};
+use crate::head::DataHead;
 use crate::segment::SegmentIndex;
 use bytes::Bytes;
-use eos_batch::BatchFault;
+use eos_batch::{BatchFault, BatchHead};
 use std::alloc::{AllocError, Global};
 use std::marker::Model;
 

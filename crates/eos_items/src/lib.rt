@@ -14,7 +14,8 @@ mod walk;
 
 pub use cursor::ItemCursor;
 pub use entry::Ending;
-pub use head::{BatchHead, DataHead};
+pub use eos_batch::BatchHead;
+pub use head::DataHead;
 pub use index::LogIndex;
 pub use item::{Fate, Item};
 pub use items::{ItemRef, Items};

@@ -1,22 +1,22 @@
 //! The index of one segment.
 
-ghost use Rattle.std.specs.Prelude.{◌≡◌, ◌≤◌, ◌<◌, ◌^◌, [], length, drop, slice_get, Some, None, IfOk, IfErr, ◌==◌, if◌then◌else◌};
+ghost use Rattle.std.specs.Prelude.{◌≡◌, ◌<◌, ◌^◌, [], length, drop, slice_get, Some, None, IfOk, IfErr, ◌==◌, if◌then◌else◌};
 ghost use Rattle.eos_batch.specs.Answers.{Fails};
 ghost use Rattle.eos_batch.specs.Reading.{batch_at};
 ghost use Rattle.eos_items.specs.declared.entry.Ending.TheVariants.{Plain, Waiting};
 ghost use Rattle.eos_items.specs.Batches.{DataBatch, set_ending};
 ghost use Rattle.eos_items.specs.Heads.{data_head};
 ghost use Rattle.eos_items.specs.Items.{items_of};
-ghost use Rattle.eos_items.specs.Entries.{batches_in, IsSegmentIndex};
-ghost use Rattle.eos_items.specs.Indexed.{IsRead, TakesBatch};
+ghost use Rattle.eos_items.specs.steps.Entries.{batches_in, IsSegmentIndex};
+ghost use Rattle.eos_items.specs.steps.Indexed.{IsRead, TakesBatch};
 
 use crate::entry::{Ending, Entry, Source};
-use crate::head::{BatchHead, DataHead};
+use crate::head::DataHead;
 use crate::item::Item;
 use crate::items::ItemRef;
 use crate::walk::index_batch;
 use bytes::Bytes;
-use eos_batch::{BatchFault, own_record, view_record};
+use eos_batch::{BatchFault, BatchHead, own_record, view_record};
 use std::alloc::{AllocError, Global};
 use std::marker::Model;
 
@@ -33,7 +33,7 @@ pub(crate) struct SegmentIndex {
 impl Model for SegmentIndex {
     ghost use Rattle.std.specs.Prelude.{drop};
     ghost use Rattle.eos_items.specs.Views.{SegmentView};
-    ghost use Rattle.eos_items.specs.Entries.{batches_in, IsSegmentIndex};
+    ghost use Rattle.eos_items.specs.steps.Entries.{batches_in, IsSegmentIndex};
 
     ghost Value = { SegmentView };
 

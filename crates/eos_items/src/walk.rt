@@ -4,15 +4,15 @@ ghost use Rattle.std.specs.Prelude.{◌≡◌, ◌≤◌, ◌<◌, ◌+◌, ◌^
 ghost use Rattle.eos_batch.specs.declared.batch.Batch.{Batch};
 ghost use Rattle.eos_batch.specs.Answers.{Fails};
 ghost use Rattle.eos_batch.specs.Reading.{batch_at};
-ghost use Rattle.eos_items.specs.Heads.{head_with, head_of};
+ghost use Rattle.eos_batch.specs.Heads.{head_with, head_of};
 ghost use Rattle.eos_batch.specs.Places.{records_in};
-ghost use Rattle.eos_items.specs.Indexed.{Pushed, HasGrown, IsIndexed};
+ghost use Rattle.eos_items.specs.steps.Indexed.{Pushed, HasGrown, IsIndexed};
 
 use crate::entry::Entry;
-use crate::head::BatchHead;
 use bytes::Bytes;
 use eos_batch::{
-    Batch, BatchFault, Marker, decode_batch, open_batch, pass_record, pass_records, test_data,
+    Batch, BatchFault, BatchHead, Marker, decode_batch, open_batch, pass_record, pass_records,
+    test_data,
 };
 use std::alloc::Global;
 

@@ -1,16 +1,14 @@
 -- Walks over claims, one after the other.
-use Rattle.std.proofs.Common.{◌≡◌, ◌+◌, ◌<◌, ℕ, suc, List, [], ◌∷◌, ◌++◌, length, map, take, get_or, fold, Option, Some, None, refl, sym, subst, ap, ◌∙◌, true, false, Bool, ◌&&◌, arith, if◌then◌else◌, cond, Result, Ok, Err}
+use Rattle.std.proofs.Common.{◌≡◌, List, [], ◌∷◌, ◌++◌, map, fold, Option, Some, None, refl, sym, subst, ap, ◌∙◌, true, false, Bool, ◌&&◌, if◌then◌else◌, cond, Result, Ok, Err}
 use Rattle.std.specs.Result.{OnOk}
 use Rattle.std.specs.List.{flat_map, filter}
 use Rattle.std.proofs.lemmas.List.Sums.{fold-append}
 use Rattle.std.proofs.lemmas.List.Elements.{filter-append}
 use Rattle.std.proofs.lemmas.List.{append-nil, append_assoc, map-append}
 use Rattle.std.proofs.lemmas.Grind.{flat_map-append}
-use Rattle.std.proofs.Math.Seq.{take-suc}
 use Rattle.eos_base.specs.declared.partition_name.PartitionName.{PartitionName}
 use Rattle.eos_base.specs.Least.{lesser_of}
 use Rattle.eos_items.specs.declared.item.Item.{Item}
-use Rattle.eos_fold.specs.Parts.{PartLog}
 use Rattle.eos_claims.specs.declared.place.Place.{Place}
 use Rattle.eos_claims.specs.Outputs.{PlacedClaim, Application}
 use Rattle.eos_claims.specs.Faults.{fault_cmp}
@@ -20,7 +18,7 @@ use Rattle.eos_claims.specs.Candidates.{Counted, counted, shown, shown_by, is_in
 use Rattle.eos_commits.specs.Visible.{is_visible}
 use Rattle.eos_lineage.specs.Lineage.{claims_with}
 use Rattle.eos_lineage.specs.declared.tables.Known.{Known}
-use Rattle.eos_lineage.specs.steps.Walks.{WalkView, HasWalked, is_below, claim_at, claims_of_part, KnowsPlace, AreTests, kept_of}
+use Rattle.eos_lineage.specs.steps.Walks.{WalkView, HasWalked, is_below, claim_at, KnowsPlace, AreTests, kept_of}
 
 pub walked_none : (a : Application) (w : WalkView) → HasWalked a w w []
 walked_none a w = record { best = refl; below = sym (append-nil w.below) }
@@ -55,20 +53,6 @@ at_next a u v w name left rest all x s e h = record {
 
 pub at_last : (a : Application) (u v : WalkView) (name : PartitionName) (left all : List Item) → WalkedSoFar a u v name left all → left ≡ [] → HasWalked a u v (flat_map (claim_at name) all)
 at_last a u v name left all s e = subst (HasWalked a u v) (sym (append-nil s.done) ∙ (ap (λ (zs : List Item). s.done ++ flat_map (claim_at name) zs) (sym e) ∙ s.parts)) s.walked
-
--- ---- over the partitions
-
-pub walked_part : (a : Application) (u v w : WalkView) (topics : List (List ℕ)) (ps : List PartLog) (i : ℕ) (d : PartLog) → i < length ps
-    → HasWalked a u v (flat_map (claims_of_part topics) (take i ps)) → HasWalked a v w (claims_of_part topics (get_or ps i d))
-    → HasWalked a u w (flat_map (claims_of_part topics) (take (i + 1) ps))
-walked_part a u v w topics ps i d lt h k =
-    let e : suc i ≡ i + 1 = omega arith in
-    let cut : take (suc i) ps ≡ take i ps ++ (get_or ps i d ∷ []) = take-suc ps i d lt in
-    let one : flat_map (claims_of_part topics) (get_or ps i d ∷ []) ≡ claims_of_part topics (get_or ps i d) = append-nil (claims_of_part topics (get_or ps i d)) in
-    let whole : flat_map (claims_of_part topics) (take (suc i) ps) ≡ flat_map (claims_of_part topics) (take i ps) ++ claims_of_part topics (get_or ps i d)
-    = ap (flat_map (claims_of_part topics)) cut ∙ (flat_map-append (claims_of_part topics) (take i ps) (get_or ps i d ∷ []) ∙ ap (λ (zs : List PlacedClaim). flat_map (claims_of_part topics) (take i ps) ++ zs) one) in
-    subst (λ j. HasWalked a u w (flat_map (claims_of_part topics) (take j ps))) e
-    (subst (HasWalked a u w) (sym whole) (walked_then a u v w (flat_map (claims_of_part topics) (take i ps)) (claims_of_part topics (get_or ps i d)) h k))
 
 -- ---- one claim
 

@@ -1,5 +1,5 @@
 -- Walks over runs of partitions, put together.
-use Rattle.std.proofs.Common.{◌≡◌, ◌+◌, ◌*◌, ◌<◌, ◌≤◌, ℕ, zero, suc, List, [], ◌∷◌, ◌++◌, length, take, drop, fold, Option, Some, None, Result, Ok, refl, sym, subst, ap, ◌∙◌, true, false, Bool, arith}
+use Rattle.std.proofs.Common.{◌≡◌, ◌+◌, ◌-◌, ◌*◌, ◌<◌, ◌≤◌, ℕ, zero, suc, List, [], ◌∷◌, ◌++◌, length, take, drop, fold, Option, Some, None, Result, Ok, refl, sym, subst, ap, ◌∙◌, true, false, Bool, arith}
 use Rattle.std.specs.Prelude.{IfOk}
 use Rattle.std.specs.declared.alloc.AllocError.{AllocError}
 use Rattle.std.specs.List.{flat_map}
@@ -96,5 +96,6 @@ in_chunks f size xs (suc n) =
 pub chunks_whole : {X : Type 0} (f : X → List PlacedClaim) (size : ℕ) (xs : List X) (n : ℕ) → length xs ≤ n * size → in_turn (λ i. flat_map f (take size (drop (i * size) xs))) n ≡ flat_map f xs
 chunks_whole f size xs n l = in_chunks f size xs n ∙ ap (flat_map f) (take_all (n * size) xs l)
 
-pub enough : (q size n : ℕ) → n < q * size + size → n ≤ (q + 1) * size
-enough q size n l = omega (arith, l)
+-- where the last one is in a chunk, all are
+pub enough : (q size n last : ℕ) → last ≡ n - 1 → last < q * size + size → n ≤ (q + 1) * size
+enough q size n last e l = omega (arith, e, l)

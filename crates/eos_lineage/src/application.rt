@@ -1,6 +1,6 @@
 //! The outputs of one application: the least fault, and what is counted.
 
-ghost use Rattle.std.specs.Prelude.{◌≡◌, ◌≤◌, true, map, flat_map, filter, length, fold, option_map, IfOk, IsSorted, IsPermutation};
+ghost use Rattle.std.specs.Prelude.{◌≡◌, ◌≤◌, ◌<◌, true, map, flat_map, filter, length, fold, option_map, IfOk, IsSorted, IsPermutation};
 ghost use Rattle.eos_base.specs.Members.{Has};
 ghost use Rattle.eos_base.specs.Least.{lesser_of};
 ghost use Rattle.eos_claims.specs.Outputs.{Application, ReadsSources};
@@ -13,10 +13,10 @@ ghost use Rattle.eos_lineage.specs.Lineage.{application_of, inputs_below};
 ghost use Rattle.eos_lineage.specs.steps.Walks.{one_if, AreTables, AreNamed, by_claim, by_source, is_named, claims_of_part, is_no_note, IsOutputsAnswer};
 
 use crate::claims::take_parts;
-use crate::committed::offsets_of;
 use crate::inputs::inputs_of;
 use crate::name::Names;
 use crate::passes::PassTable;
+use crate::sorting::sort_by_threads;
 use crate::tables::{Marks, Tables, is_committed};
 use bytes::Bytes;
 use eos_base::PartitionName;
@@ -26,7 +26,6 @@ use eos_claims::{
 use eos_commits::{TopicSet, commits_of};
 use eos_evidence::App;
 use eos_fold::Part;
-use rayon::prelude::par_sort_unstable;
 use std::alloc::{AllocError, Global};
 use std::thread::Threads;
 
@@ -43,12 +42,13 @@ pub(crate) struct Tally {
 // such is wanted.
 fn sorted<'a>(
     rt: &(impl Threads + Sync),
+    threads: usize,
     mut claims: Vec<NumberedClaim<'a>>,
 ) -> Vec<NumberedClaim<'a>>
     ensures same { IsPermutation claims.entry.items result.items }
     ensures in_order { IsSorted by_claim result.items }
 {
-    par_sort_unstable(rt, claims.as_mut_slice());
+    sort_by_threads(rt, threads, claims.as_mut_slice());
     claims
 }
 
@@ -212,22 +212,24 @@ fn published_if(alloc: Global, found: Option<Found<'_>>) -> Result<Option<Output
     }
 }
 
-// Of tables of an application and the partitions of its output topics.
+// Of tables of an application and the partitions of its output topics, by at most so many threads.
 pub(crate) fn make_tally<'a, R: Threads + Sync>(
     alloc: Global,
     rt: &R,
+    threads: usize,
     tables: &Tables<'_, '_, '_, '_, '_, 'a>,
     outputs: &TopicSet<'_>,
     all: &'a [PartitionName],
     parts: &'a [Part],
 ) -> Result<Tally, AllocError>
-    requires { all.now ≡ map part_name parts.now }
+    requires threads { 0 < threads }
+    requires all { all.now ≡ map part_name parts.now }
     ensures { (a : Application) → AreTables a tables.now → ReadsSources a → AreApart a → a.claims ≡ flat_map (claims_of_part outputs.now) parts.now
         → IfOk result (λ t. IsOutputsAnswer a t.fault t.inputs t.outputs) }
 {
-    let walk = take_parts(alloc, rt, tables, outputs, all, parts)?;
+    let walk = take_parts(alloc, rt, threads, tables, outputs, all, parts)?;
     let outputs = count_outputs(walk.below.as_slice());
-    let below = sorted(rt, walk.below);
+    let below = sorted(rt, threads, walk.below);
     let best = least_of_runs(walk.best, below.as_slice());
     let best = take_inputs(tables, below.as_slice(), best);
     let inputs = count_inputs(tables);

@@ -1,6 +1,6 @@
 //! The lineage of all applications: the least fault, or the counts.
 
-ghost use Rattle.std.specs.Prelude.{◌≡◌, ◌+◌, true, map, IfOk, IsPermutation};
+ghost use Rattle.std.specs.Prelude.{◌≡◌, ◌+◌, ◌<◌, true, map, IfOk, IsPermutation};
 ghost use Rattle.eos_base.specs.Least.{NoneStands};
 ghost use Rattle.eos_commits.specs.Commits.{commits_of as commits_in};
 ghost use Rattle.eos_commits.specs.Plain.{plain_commit};
@@ -14,10 +14,10 @@ ghost use Rattle.eos_lineage.specs.Lineage.{application_of};
 ghost use Rattle.eos_lineage.specs.steps.Walks.{IsOutputsAnswer};
 
 use crate::application::{Tally, make_tally};
-use crate::committed::offsets_of;
 use crate::fault::LineageFault;
 use crate::inputs::inputs_of;
 use crate::name::{Names, names_of};
+use crate::offsets::offsets_of;
 use crate::passes::PassTable;
 use crate::tables::Tables;
 use eos_base::PartitionName;
@@ -27,10 +27,14 @@ use eos_fold::Part;
 use std::alloc::{AllocError, Global};
 use std::thread::Threads;
 
+/// How many threads are asked for at most, where nothing else is said.
+const MOST: usize = 64;
+
 // The outputs of an application with these topics and commits.
 fn check_claims(
     alloc: Global,
     rt: &(impl Threads + Sync),
+    threads: usize,
     sources: &TopicSet<'_>,
     outputs: &TopicSet<'_>,
     commits: &[CommitRef<'_>],
@@ -38,6 +42,7 @@ fn check_claims(
     names: &Names<'_>,
     parts: &[Part],
 ) -> Result<Tally, AllocError>
+    requires threads { 0 < threads }
     requires all { all.now ≡ map part_name parts.now }
     requires names { names.now ≡ all.now }
     ensures { (app : App) → AreInOrder parts.now → IsPermutation app.sources sources.now → IsPermutation app.outputs outputs.now
@@ -54,18 +59,20 @@ fn check_claims(
         offsets: offsets.as_slice(),
         passes: &passes,
     };
-    make_tally(alloc, rt, &tables, outputs, all, parts)
+    make_tally(alloc, rt, threads, &tables, outputs, all, parts)
 }
 
 // The outputs of one application.
 fn check_application(
     alloc: Global,
     rt: &(impl Threads + Sync),
+    threads: usize,
     app: &App,
     all: &[PartitionName],
     names: &Names<'_>,
     parts: &[Part],
 ) -> Result<Tally, AllocError>
+    requires threads { 0 < threads }
     requires all { all.now ≡ map part_name parts.now }
     requires names { names.now ≡ all.now }
     ensures { AreInOrder parts.now → IfOk result (λ t. IsOutputsAnswer (application_of app.now parts.now) t.fault t.inputs t.outputs) }
@@ -77,6 +84,7 @@ fn check_application(
     check_claims(
         alloc,
         rt,
+        threads,
         &sources,
         &outputs,
         commits.as_slice(),
@@ -108,11 +116,13 @@ fn sum(a: u64, b: u64) -> Result<u64, AllocError>
 fn check_each(
     alloc: Global,
     rt: &(impl Threads + Sync),
+    threads: usize,
     apps: &[App],
     all: &[PartitionName],
     names: &Names<'_>,
     parts: &[Part],
 ) -> Result<Result<(u64, u64), LineageFault>, AllocError>
+    requires threads { 0 < threads }
     requires unequal { are_unequal (groups_of apps.now) ≡ true }
     requires all { all.now ≡ map part_name parts.now }
     requires names { names.now ≡ all.now }
@@ -121,7 +131,7 @@ fn check_each(
     let mut inputs = 0u64;
     let mut outputs = 0u64;
     for app in apps {
-        let tally = check_application(alloc, rt, app, all, names, parts)?;
+        let tally = check_application(alloc, rt, threads, app, all, names, parts)?;
         let found = tally.fault;
         if let Some(fault) = found {
             let group = group_of(apps, app)?;
@@ -137,20 +147,44 @@ fn check_each(
 fn check_outputs(
     alloc: Global,
     rt: &(impl Threads + Sync),
+    threads: usize,
     apps: &[App],
     parts: &[Part],
 ) -> Result<Result<(u64, u64), LineageFault>, AllocError>
-    requires { are_unequal (groups_of apps.now) ≡ true }
+    requires threads { 0 < threads }
+    requires unequal { are_unequal (groups_of apps.now) ≡ true }
     ensures { AreInOrder parts.now → NoneStands (StandsAtRecord apps.now parts.now) → IfOk result (IsAnswer apps.now parts.now) }
 {
     let all = names_of(alloc, parts)?;
     let names = Names::of(alloc, all.as_slice())?;
-    check_each(alloc, rt, apps, all.as_slice(), &names, parts)
+    check_each(alloc, rt, threads, apps, all.as_slice(), &names, parts)
 }
 
 /// The number of inputs below their committed offsets, over all applications, and that of visible claims that are no
 /// notes, where no fault of the lineage stands; else the least fault. Parts that don't stand in the order of their names
-/// have an answer too, of which nothing is said.
+/// have an answer too, of which nothing is said. At most so many threads work at a time, of which the caller's is one: with
+/// one none is started.
+///
+/// # Errors
+/// Only want of memory.
+pub fn check_lineage_by(
+    alloc: Global,
+    rt: &(impl Threads + Sync),
+    threads: usize,
+    spec: &Spec,
+    parts: &[Part],
+) -> Result<Result<(u64, u64), LineageFault>, AllocError>
+    requires { 0 < threads }
+    ensures { AreInOrder parts.now → IfOk result (IsAnswer spec.now.apps parts.now) }
+{
+    let apps = spec.apps().as_slice();
+    if let Some(fault) = least_visible_fault(alloc, apps, parts)? {
+        return Ok(Err(LineageFault::Record(fault)));
+    }
+    check_outputs(alloc, rt, threads, apps, parts)
+}
+
+/// The same, by at most 64 threads.
 ///
 /// # Errors
 /// Only want of memory.
@@ -162,9 +196,5 @@ pub fn check_lineage(
 ) -> Result<Result<(u64, u64), LineageFault>, AllocError>
     ensures { AreInOrder parts.now → IfOk result (IsAnswer spec.now.apps parts.now) }
 {
-    let apps = spec.apps().as_slice();
-    if let Some(fault) = least_visible_fault(alloc, apps, parts)? {
-        return Ok(Err(LineageFault::Record(fault)));
-    }
-    check_outputs(alloc, rt, apps, parts)
+    check_lineage_by(alloc, rt, MOST, spec, parts)
 }

@@ -1,10 +1,10 @@
 //! The walk over the claims of an application's output topics.
 
-ghost use Rattle.std.specs.Prelude.{◌≡◌, ◌≤◌, ◌*◌, ◌++◌, ◌∷◌, [], ℕ, List, flat_map, map, take, drop, length, IfOk, OnOk};
+ghost use Rattle.std.specs.Prelude.{◌≡◌, ◌≤◌, ◌<◌, ◌*◌, ◌++◌, ◌∷◌, [], ℕ, List, flat_map, map, take, drop, length, IfOk, OnOk};
 ghost use Rattle.eos_claims.specs.Outputs.{Application, PlacedClaim};
 ghost use Rattle.eos_claims.specs.Plain.{plain_claim, plain_lent};
 ghost use Rattle.eos_fold.specs.Parts.{part_name};
-ghost use Rattle.eos_lineage.specs.steps.Walks.{kept_of, counted_ref, AreTables, HasWalked, plain_walk, begun, placed_ref, claim_at, claims_of_part, joined_walk, EachWalked, in_turn};
+ghost use Rattle.eos_lineage.specs.steps.Walks.{kept_of, counted_ref, AreTables, HasWalked, plain_walk, begun, placed_ref, claim_at, output_claims, claims_of_part, joined_walk, EachWalked, in_turn};
 
 use crate::tables::{Known, Marks, Tables, known_of, tests_of};
 use eos_base::PartitionName;
@@ -19,9 +19,6 @@ use std::alloc::{AllocError, Global};
 use std::thread;
 use std::thread::Threads;
 
-/// How many threads are asked for at most.
-const MOST: usize = 64;
-
 /// What the walk has met: the least fault that claims show one by one, and the claims of inputs below their committed
 /// offsets.
 #[derive(Drop)]
@@ -30,12 +27,18 @@ pub(crate) struct Walk<'a> {
     pub(crate) below: Vec<NumberedClaim<'a>>,
 }
 
-// What threads walk over: the partitions and their names, with the tables beside them.
+/// The log of a partition of an output topic, and its name.
 #[derive(Clone, Copy)]
-struct Ground<'n, 's, 'i, 'o, 'p, 'a> {
+struct Output<'a> {
+    name: &'a PartitionName,
+    part: &'a Part,
+}
+
+// What threads walk over: the partitions, with the tables beside them.
+#[derive(Clone, Copy)]
+struct Ground<'n, 's, 'i, 'o, 'p, 'g, 'a> {
     tables: Tables<'n, 's, 'i, 'o, 'p, 'a>,
-    names: &'a [PartitionName],
-    parts: &'a [Part],
+    outputs: &'g [Output<'a>],
 }
 
 // Keeps a claim of an input that is below its committed offset.
@@ -117,20 +120,15 @@ fn take_item<'a>(
     }
 }
 
-// Takes the claims of a partition, if it is of one of these topics.
+// Takes the claims of a partition.
 fn take_part<'a>(
     walk: &mut Walk<'a>,
     tables: &Tables<'_, '_, '_, '_, '_, 'a>,
-    outputs: &TopicSet<'_>,
     name: &'a PartitionName,
     part: &'a Part,
 ) -> Result<(), AllocError>
-    requires { name.now ≡ part_name part.now }
-    ensures { (a : Application) → AreTables a tables.now → OnOk result (HasWalked a (plain_walk walk.old) (plain_walk walk.new) (claims_of_part outputs.now part.now)) }
+    ensures { (a : Application) → AreTables a tables.now → OnOk result (HasWalked a (plain_walk walk.old) (plain_walk walk.new) (flat_map (claim_at name.now) part.now.items)) }
 {
-    if !outputs.has(part.topic().as_slice()) {
-        return Ok(());
-    }
     let mut marks = Marks::new();
     let mut records = part.items().cursor();
     while let Some(item) = records.next() {
@@ -139,24 +137,44 @@ fn take_part<'a>(
     Ok(())
 }
 
+// The partitions of these topics.
+fn outputs_of<'a>(
+    alloc: Global,
+    topics: &TopicSet<'_>,
+    names: &'a [PartitionName],
+    parts: &'a [Part],
+) -> Result<Vec<Output<'a>>, AllocError>
+    requires { names.now ≡ map part_name parts.now }
+    ensures { IfOk result (λ outputs. flat_map output_claims outputs.items ≡ flat_map (claims_of_part topics.now) parts.now) }
+{
+    let mut outputs = Vec::new(alloc);
+    for i in 0..parts.len() {
+        let part = &parts[i];
+        if topics.has(part.topic().as_slice()) {
+            outputs.push(Output {
+                name: &names[i],
+                part,
+            })?;
+        }
+    }
+    Ok(outputs)
+}
+
 // Takes the claims of the first of these partitions, at most so many of them.
 fn take_first<'a>(
     alloc: Global,
     tables: &Tables<'_, '_, '_, '_, '_, 'a>,
-    outputs: &TopicSet<'_>,
-    names: &'a [PartitionName],
-    parts: &'a [Part],
+    outputs: &[Output<'a>],
     most: usize,
 ) -> Result<Walk<'a>, AllocError>
-    requires { names.now ≡ map part_name parts.now }
-    ensures { (a : Application) → AreTables a tables.now → IfOk result (λ walk. HasWalked a begun (plain_walk walk) (flat_map (claims_of_part outputs.now) (take most parts.now))) }
+    ensures { (a : Application) → AreTables a tables.now → IfOk result (λ walk. HasWalked a begun (plain_walk walk) (flat_map output_claims (take most outputs.now))) }
 {
     let mut walk = Walk {
         best: None,
         below: Vec::new(alloc),
     };
-    for i in 0..most.min(parts.len()) {
-        take_part(&mut walk, tables, outputs, &names[i], &parts[i])?;
+    for i in 0..most.min(outputs.len()) {
+        take_part(&mut walk, tables, outputs[i].name, outputs[i].part)?;
     }
     Ok(walk)
 }
@@ -164,19 +182,15 @@ fn take_first<'a>(
 // Takes the claims of a chunk of the partitions, which are cut into chunks of this size.
 fn take_chunk<'a>(
     alloc: Global,
-    ground: &Ground<'_, '_, '_, '_, '_, 'a>,
-    outputs: &TopicSet<'_>,
+    ground: &Ground<'_, '_, '_, '_, '_, '_, 'a>,
     size: usize,
     chunk: usize,
 ) -> Result<Walk<'a>, AllocError>
-    requires names { ground.now.names.now ≡ map part_name ground.now.parts.now }
-    requires inside { chunk * size ≤ length ground.now.parts.now }
-    ensures { (a : Application) → AreTables a ground.now.tables → IfOk result (λ walk. HasWalked a begun (plain_walk walk) (flat_map (claims_of_part outputs.now) (take size (drop (chunk * size) ground.now.parts.now)))) }
+    requires { chunk * size ≤ length ground.now.outputs.now }
+    ensures { (a : Application) → AreTables a ground.now.tables → IfOk result (λ walk. HasWalked a begun (plain_walk walk) (flat_map output_claims (take size (drop (chunk * size) ground.now.outputs.now)))) }
 {
-    let from = chunk * size;
-    let (_, names) = ground.names.split_at(from);
-    let (_, parts) = ground.parts.split_at(from);
-    take_first(alloc, &ground.tables, outputs, names, parts, size)
+    let (_, outputs) = ground.outputs.split_at(chunk * size);
+    take_first(alloc, &ground.tables, outputs, size)
 }
 
 // Puts a walk at the end of another one.
@@ -212,30 +226,47 @@ fn join_walks<'a>(
     Ok(all)
 }
 
-/// Takes the claims of the partitions of these topics, in their order. They are read by at most 64 threads.
-pub(crate) fn take_parts<'a, R: Threads + Sync>(
+// Takes the claims of these partitions, in their order, by at most so many threads.
+fn take_outputs<'a, R: Threads + Sync>(
     alloc: Global,
     rt: &R,
+    threads: usize,
     tables: &Tables<'_, '_, '_, '_, '_, 'a>,
-    outputs: &TopicSet<'_>,
-    names: &'a [PartitionName],
-    parts: &'a [Part],
+    outputs: &[Output<'a>],
 ) -> Result<Walk<'a>, AllocError>
-    requires { names.now ≡ map part_name parts.now }
-    ensures { (a : Application) → AreTables a tables.now → IfOk result (λ walk. HasWalked a begun (plain_walk walk) (flat_map (claims_of_part outputs.now) parts.now)) }
+    requires { 0 < threads }
+    ensures { (a : Application) → AreTables a tables.now → IfOk result (λ walk. HasWalked a begun (plain_walk walk) (flat_map output_claims outputs.now)) }
 {
     let ground = Ground {
         tables: *tables,
-        names,
-        parts,
+        outputs,
     };
-    let size = parts.len() / MOST + 1;
-    let chunks = parts.len() / size + 1;
+    let last = outputs.len().saturating_sub(1);
+    let size = last / threads + 1;
     let walks = thread::map_indices(
         rt,
         alloc,
-        chunks,
-        &|chunk| { take_chunk(alloc, &ground, outputs, size, chunk) },
+        last / size + 1,
+        &|chunk| { take_chunk(alloc, &ground, size, chunk) },
     )?;
     join_walks(alloc, walks)
+}
+
+/// Takes the claims of the partitions of these topics, in their order. They are read by at most so many threads, of which the
+/// caller's is one.
+pub(crate) fn take_parts<'a, R: Threads + Sync>(
+    alloc: Global,
+    rt: &R,
+    threads: usize,
+    tables: &Tables<'_, '_, '_, '_, '_, 'a>,
+    topics: &TopicSet<'_>,
+    names: &'a [PartitionName],
+    parts: &'a [Part],
+) -> Result<Walk<'a>, AllocError>
+    requires threads { 0 < threads }
+    requires names { names.now ≡ map part_name parts.now }
+    ensures { (a : Application) → AreTables a tables.now → IfOk result (λ walk. HasWalked a begun (plain_walk walk) (flat_map (claims_of_part topics.now) parts.now)) }
+{
+    let outputs = outputs_of(alloc, topics, names, parts)?;
+    take_outputs(alloc, rt, threads, tables, outputs.as_slice())
 }

@@ -5,13 +5,17 @@
 mod application;
 mod check;
 mod claims;
-mod committed;
 mod fault;
 mod inputs;
 pub mod laws;
 mod name;
+mod offsets;
 mod passes;
+mod sorting;
 mod tables;
 
-pub use check::check_lineage;
+pub use check::{check_lineage, check_lineage_by};
+pub use eos_claims::{Claim, read_claim};
+pub use eos_commits::committed;
 pub use fault::LineageFault;
+pub use offsets::committed_offsets;

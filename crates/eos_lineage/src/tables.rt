@@ -8,8 +8,8 @@ ghost use Rattle.eos_claims.specs.Candidates.{is_committed as is_committed_in};
 ghost use Rattle.eos_claims.specs.Plain.{plain_source, plain_place};
 ghost use Rattle.eos_lineage.specs.steps.Walks.{AreTables, KnowsPlace, AreTests, by_place, is_below_in, flags_of};
 
-use crate::committed::is_before;
 use crate::name::{NamedPart, Names};
+use crate::offsets::is_before;
 use crate::passes::PassTable;
 use eos_claims::{PlaceRef, SourceRef, SourceTests};
 use eos_commits::TopicSet;

@@ -1,21 +1,24 @@
 -- Each event keeps the numbers of a cluster within their bounds.
-use Rattle.std.proofs.Common.{◌≡◌, ℕ, ℤ, pos, negsuc, zero, suc, ◌+◌, ◌≤◌, ◌==◌, ◌&&◌, not, Bool, true, false, List, [], ◌∷◌, ◌++◌, length, map, replicate, Option, Some, None, refl, arith, slice_index_or, slice_set, if◌then◌else◌}
+use Rattle.std.proofs.Common.{◌≡◌, ℕ, ℤ, pos, negsuc, zero, suc, ◌+◌, ◌-◌, ◌≤◌, ◌==◌, ◌&&◌, not, Bool, true, false, List, [], ◌∷◌, ◌++◌, length, map, replicate, Option, Some, None, refl, arith, slice_index_or, slice_set, if◌then◌else◌}
 use Rattle.std.specs.Prelude.{slice_get, ⊤}
 use Rattle.std.specs.List.{All, flat_map, range_with_len, cons_option}
 use Rattle.std.proofs.lemmas.List.Elements.{All-nil, All-cons, All-head, All-tail, All-weaker, All-push, All-append, All-set}
 use Rattle.std.proofs.lemmas.Bool.{and_parts, or_parts, eqb-true}
 use Rattle.eos_batch.specs.declared.marker.Kind.{Kind}
 use Rattle.eos_batch.specs.declared.marker.Kind.TheVariants.{Abort}
-use Rattle.eos_machine.specs.Places.{Config, txn_place, input_place, place_count, listed}
-use Rattle.eos_machine.specs.World.{Claim, Status, Empty, Ongoing, Prepare, Complete, Entry, Item, Fed, State, Output, Offset, Marker, Coordinator, Session, Message, World, Event, fresh, opening, log_at, coord_at, with_item, with_coord, written, due_markers, prepared, finished, state_of}
+use Rattle.eos_machine.specs.Places.{Config, txn_place, input_place, output_place, place_count, listed}
+use Rattle.eos_machine.specs.declared.switches.Switches.{Switches}
+use Rattle.eos_machine.specs.Switching.{none}
+use Rattle.eos_machine.specs.World.{Claim, Status, Empty, Ongoing, Prepare, Complete, Entry, Item, Fed, State, Output, Offset, Marker, Coordinator, Session, Message, World, Event, fresh, opening, log_at, coord_at, with_item, with_coord, said_entry, written, due_markers, prepared, finished, state_of}
 use Rattle.eos_machine.specs.declared.state.Message.TheVariants as messages
 use Rattle.eos_machine.specs.declared.event.Event.TheVariants as events
 use Rattle.eos_machine.specs.Logs.{entries_of, last_state}
 use Rattle.eos_machine.specs.Tests.{is_ongoing, is_prepare, has, is_current, ongoing_partitions}
-use Rattle.eos_machine.specs.Answers.{Answer, when}
+use Rattle.eos_machine.specs.Answers.{Answer, when, Done, Fenced}
 use Rattle.eos_machine.specs.Sessions.{last_epoch, new_session, sequence_of, after_output, after_offset, after_end, after_resume, produce, commit_offset, commit, end_session, resume_ended, resume, fetch}
-use Rattle.eos_machine.specs.Deliveries.{with_partition, accept, ticked_off, deliver}
-use Rattle.eos_machine.specs.Machine.{start_session, start, reread, due_again, queued_again, happens, counted, step, run}
+use Rattle.eos_machine.specs.Rules.{marker_epoch, marker_of}
+use Rattle.eos_machine.specs.Deliveries.{with_partition, appended, accept, fenced, marked, ticked_off, ticked, deliver}
+use Rattle.eos_machine.specs.Machine.{start_session, start, reread, due_again, queued_again, happens_under, counted, step_under, step, run_under, run}
 use Rattle.eos_machine.specs.Bounds.{Limit, IsWithin, IsSent, IsSafe, Bounded}
 use Rattle.eos_machine.proofs.Brokers.{not_lt}
 
@@ -110,8 +113,8 @@ bounded_coord n w a s b h = record {
   generation = b.generation;
 }
 
-bounded_written : (n : ℕ) (c : Config) (w : World) (a : ℕ) (x : Entry) → Bounded n w → Limit x.status x.epoch → Bounded n (written c w a x)
-bounded_written n c w a x b h = bounded_coord n (with_item w (txn_place c a) (State a x w.events)) a (state_of x) (bounded_item n w (txn_place c a) (State a x w.events) b h) h
+bounded_written : (n : ℕ) (u : Switches) (c : Config) (w : World) (a : ℕ) (x : Entry) → Bounded n w → Limit x.status x.epoch → Bounded n (written u c w a x)
+bounded_written n u c w a x b h = bounded_coord n (with_item w (txn_place c a) (State a (said_entry u c x) w.events)) a (state_of x) (bounded_item n w (txn_place c a) (State a (said_entry u c x) w.events) b h) h
 
 -- other messages, sessions and numbers
 abbrev pub like : World → List Message → List Bool → List Session → ℕ → ℕ → World
@@ -124,26 +127,51 @@ sent_markers : (n a e : ℕ) (k : Kind) (ps : List ℕ) → e ≤ last_epoch + 1
 sent_markers n a e k [] h = All-nil (IsSent n)
 sent_markers n a e k (p ∷ ps) h = All-cons (IsSent n) (messages.Marker a e k p) (due_markers a e k ps) h (sent_markers n a e k ps h)
 
-bounded_prepared : (n : ℕ) (c : Config) (w : World) (a : ℕ) (k : Kind) (ps : List ℕ) → Bounded n w → (coord_at w a).epoch ≤ last_epoch → Bounded n (prepared c w a k ps)
-bounded_prepared n c w a k ps b l =
+bounded_prepared : (n : ℕ) (u : Switches) (c : Config) (w : World) (a : ℕ) (k : Kind) (ps : List ℕ) → Bounded n w → (coord_at w a).epoch ≤ last_epoch → Bounded n (prepared u c w a k ps)
+bounded_prepared n u c w a k ps b l =
     let x : Entry = record { status = Prepare k; epoch = (coord_at w a).epoch + 1; partitions = ps } in
-    let v = bounded_written n c w a x b (omega (arith, l)) in
-    bounded_like n (written c w a x) _ _ _ _ _ v (All-append (IsSent n) w.messages (due_markers a ((coord_at w a).epoch + 1) k ps) b.messages (sent_markers n a ((coord_at w a).epoch + 1) k ps (omega (arith, l)))) b.sessions b.generation
+    let v = bounded_written n u c w a x b (omega (arith, l)) in
+    bounded_like n (written u c w a x) _ _ _ _ _ v (All-append (IsSent n) w.messages (due_markers a ((coord_at w a).epoch + 1) k ps) b.messages (sent_markers n a ((coord_at w a).epoch + 1) k ps (omega (arith, l)))) b.sessions b.generation
 
-bounded_finished : (n : ℕ) (c : Config) (w : World) (a : ℕ) (k : Kind) → Bounded n w → Bounded n (finished c w a k)
-bounded_finished n c w a k b = bounded_written n c w a (record { status = Complete k; epoch = (coord_at w a).epoch; partitions = [] }) b (limit_top (coord_at w a).status (coord_at w a).epoch (coord_within n w a b))
+bounded_finished : (n : ℕ) (u : Switches) (c : Config) (w : World) (a : ℕ) (k : Kind) → Bounded n w → Bounded n (finished u c w a k)
+bounded_finished n u c w a k b = bounded_written n u c w a (record { status = Complete k; epoch = (coord_at w a).epoch; partitions = [] }) b (limit_top (coord_at w a).status (coord_at w a).epoch (coord_within n w a b))
 
-bounded_partition : (n : ℕ) (c : Config) (w : World) (a p : ℕ) → Bounded n w → (coord_at w a).epoch ≤ last_epoch → Bounded n (with_partition c w a p)
-bounded_partition n c w a p b l =
-    elim (is_ongoing (coord_at w a).status && has p (coord_at w a).partitions) as (λ t. Bounded n (if t then w else written c w a (record { status = Ongoing; epoch = (coord_at w a).epoch; partitions = listed p (ongoing_partitions (coord_at w a).status (coord_at w a).partitions) }))) [
+bounded_partition : (n : ℕ) (u : Switches) (c : Config) (w : World) (a p : ℕ) → Bounded n w → (coord_at w a).epoch ≤ last_epoch → Bounded n (with_partition u c w a p)
+bounded_partition n u c w a p b l =
+    elim (is_ongoing (coord_at w a).status && has p (coord_at w a).partitions) as (λ t. Bounded n (if t then w else written u c w a (record { status = Ongoing; epoch = (coord_at w a).epoch; partitions = listed p (ongoing_partitions (coord_at w a).status (coord_at w a).partitions) }))) [
       | true ↦ b
-      | false ↦ bounded_written n c w a (record { status = Ongoing; epoch = (coord_at w a).epoch; partitions = listed p (ongoing_partitions (coord_at w a).status (coord_at w a).partitions) }) b l
+      | false ↦ bounded_written n u c w a (record { status = Ongoing; epoch = (coord_at w a).epoch; partitions = listed p (ongoing_partitions (coord_at w a).status (coord_at w a).partitions) }) b l
     ]
 
-bounded_accept : (n : ℕ) (c : Config) (w : World) (m a p : ℕ) (x : Item) → Bounded n w → (coord_at w a).epoch ≤ last_epoch → IsWithin n x → Bounded n (accept c w m a p x)
-bounded_accept n c w m a p x b l h =
-    let i = bounded_item n (with_partition c w a p) p x (bounded_partition n c w a p b l) h in
-    bounded_like n (with_item (with_partition c w a p) p x) _ _ _ _ _ i i.messages i.sessions i.generation
+bounded_appended : (n : ℕ) (w : World) (m p : ℕ) (x : Item) → Bounded n w → IsWithin n x → Bounded n (appended w m p x)
+bounded_appended n w m p x b h =
+    let i = bounded_item n w p x b h in
+    bounded_like n (with_item w p x) _ _ _ _ _ i i.messages i.sessions i.generation
+
+bounded_accept : (n : ℕ) (u : Switches) (c : Config) (w : World) (m a p : ℕ) (x : Item) → Bounded n w → (coord_at w a).epoch ≤ last_epoch → IsWithin n x → Bounded n (accept u c w m a p x)
+bounded_accept n u c w m a p x b l h =
+    bounded_appended n (with_partition u c w a p) m p x (bounded_partition n u c w a p b l) h
+
+bounded_fenced : (n : ℕ) (u : Switches) (w : World) (m p : ℕ) (x : Item) → Bounded n w → IsWithin n x → Bounded n (fenced u w m p x).0
+bounded_fenced n u w m p x b h = elim u.no_fence as (λ t. Bounded n (if◌then◌else◌ {A = Answer} t (appended w m p x, Done (length (log_at w p))) (w, Fenced)).0) [
+  | true ↦ bounded_appended n w m p x b h
+  | false ↦ b
+]
+
+marker_within : (n : ℕ) (u : Switches) (m : ℕ) → m ≤ last_epoch + 1 → marker_epoch u m ≤ last_epoch + 1
+marker_within n u m h = elim u.no_bump as (λ t. (if t then m - 1 else m) ≤ last_epoch + 1) [
+  | true ↦ omega (arith, h)
+  | false ↦ h
+]
+
+bounded_marked : (n : ℕ) (u : Switches) (c : Config) (w : World) (a m : ℕ) (k : Kind) (p : ℕ) → Bounded n w → m ≤ last_epoch + 1 → Bounded n (marked u c w a m k p)
+bounded_marked n u c w a m k p b h = elim u.lose_marker as (λ t. Bounded n (if t then w else with_item w p (marker_of u c a m k p w.events))) [
+  | true ↦ b
+  | false ↦ bounded_item n w p (marker_of u c a m k p w.events) b (marker_within n u m h)
+]
+
+bounded_ticked : (n : ℕ) (u : Switches) (c : Config) (w : World) (a m : ℕ) (k : Kind) (p : ℕ) → Bounded n w → m ≤ last_epoch + 1 → Bounded n (ticked u c w a m k p)
+bounded_ticked n u c w a m k p b h = bounded_coord n (marked u c w a m k p) a (ticked_off (coord_at w a) p) (bounded_marked n u c w a m k p b h) (coord_within n w a b)
 
 -- ---- messages
 
@@ -156,25 +184,26 @@ message_at n [] i h = tt
 message_at n (x ∷ ms) zero h = All-head (IsSent n) x ms h
 message_at n (x ∷ ms) (suc i) h = message_at n ms i (All-tail (IsSent n) x ms h)
 
-bounded_deliver : (n : ℕ) (c : Config) (w : World) (m : ℕ) (r : Option Message) → Bounded n w → SentIf n r → Bounded n (deliver c w m r).0
-bounded_deliver n c w m None b h = b
-bounded_deliver n c w m (Some (messages.Output a e p s x v)) b h =
-    bounded_if n _ _ _ (λ t. b) (λ f1. bounded_if n _ _ _ (λ t. b) (λ f2. bounded_if n _ _ _ (λ t. b) (λ f3. bounded_if n _ _ _ (λ t. b) (λ f4. bounded_if n _ _ _ (λ t. b) (λ f5.
-    bounded_accept n c w m a _ (Output a e s x v w.events) b (current_low (coord_at w a) e (not_false _ f4) h.0) h)))))
-bounded_deliver n c w m (Some (messages.Offset a e g q v)) b h =
-    bounded_if n _ _ _ (λ t. b) (λ f1. bounded_if n _ _ _ (λ t. b) (λ f2. bounded_if n _ _ _ (λ t. b) (λ f3. bounded_if n _ _ _ (λ t. b) (λ f4. bounded_if n _ _ _ (λ t. b) (λ f5.
-    bounded_accept n c w m a 0 (Offset a e q v w.events) b (current_low (coord_at w a) e (not_false _ f4) h) h)))))
-bounded_deliver n c w m (Some (messages.End a e k)) b h =
+bounded_deliver : (n : ℕ) (u : Switches) (c : Config) (w : World) (m : ℕ) (r : Option Message) → Bounded n w → SentIf n r → Bounded n (deliver u c w m r).0
+bounded_deliver n u c w m None b h = b
+bounded_deliver n u c w m (Some (messages.Output a e p s x v)) b h =
+    let o = bounded_fenced n u w m (output_place c p) (Output a e s x v w.events) b h in
+    bounded_if n _ _ _ (λ t. o) (λ f1. bounded_if n _ _ _ (λ t. b) (λ f2. bounded_if n _ _ _ (λ t. b) (λ f3. bounded_if n _ _ _ (λ t. o) (λ f4. bounded_if n _ _ _ (λ t. b) (λ f5.
+    bounded_accept n u c w m a _ (Output a e s x v w.events) b (current_low (coord_at w a) e (not_false _ f4) h.0) h)))))
+bounded_deliver n u c w m (Some (messages.Offset a e g q v)) b h =
+    let o = bounded_fenced n u w m 0 (Offset a e q v w.events) b h in
+    bounded_if n _ _ _ (λ t. b) (λ f1. bounded_if n _ _ _ (λ t. b) (λ f2. bounded_if n _ _ _ (λ t. o) (λ f3. bounded_if n _ _ _ (λ t. o) (λ f4. bounded_if n _ _ _ (λ t. b) (λ f5.
+    bounded_accept n u c w m a 0 (Offset a e q v w.events) b (current_low (coord_at w a) e (not_false _ f4) h) h)))))
+bounded_deliver n u c w m (Some (messages.End a e k)) b h =
     bounded_if n _ _ _ (λ t. b) (λ f1. bounded_if n _ _ _ (λ t. b) (λ f2.
     let low : (coord_at w a).epoch ≤ last_epoch = current_low (coord_at w a) e (not_false _ (or_parts (not (is_current (coord_at w a) e)) (is_prepare (coord_at w a).status) f2).0) h in
     bounded_if n _ _ _ (λ t. b) (λ f3. bounded_if n _ _ _
-    (λ t. bounded_finished n c (prepared c w a k []) a k (bounded_prepared n c w a k [] b low))
-    (λ f4. bounded_prepared n c w a k _ b low))))
-bounded_deliver n c w m (Some (messages.Marker a e k p)) b h =
-    let i : Bounded n (with_item w p (Marker a e k w.events)) = bounded_item n w p (Marker a e k w.events) b h in
-    let s : Bounded n (with_coord (with_item w p (Marker a e k w.events)) a (ticked_off (coord_at w a) p)) = bounded_coord n (with_item w p (Marker a e k w.events)) a (ticked_off (coord_at w a) p) i (coord_within n w a b) in
-    bounded_if n _ _ _ (λ t. b) (λ f1. bounded_if n _ _ _ (λ t. i) (λ f2. bounded_if n _ _ _
-    (λ t. bounded_finished n c (with_coord (with_item w p (Marker a e k w.events)) a (ticked_off (coord_at w a) p)) a k s) (λ f3. s)))
+    (λ t. bounded_finished n u c (prepared u c w a k []) a k (bounded_prepared n u c w a k [] b low))
+    (λ f4. bounded_prepared n u c w a k _ b low))))
+bounded_deliver n u c w m (Some (messages.Marker a e k p)) b h =
+    let s = bounded_ticked n u c w a e k p b h in
+    bounded_if n _ _ _ (λ t. b) (λ f1. bounded_if n _ _ _ (λ t. bounded_marked n u c w a e k p b h) (λ f2. bounded_if n _ _ _
+    (λ t. bounded_finished n u c (ticked u c w a e k p) a k s) (λ f3. s)))
 
 -- ---- sessions
 
@@ -232,19 +261,19 @@ bounded_fetch : (n : ℕ) (c : Config) (w : World) (q : ℕ) (r : Option Session
 bounded_fetch n c w q None b = b
 bounded_fetch n c w q (Some s) b = bounded_if n _ _ _ (λ t. b) (λ f1. bounded_if n _ _ _ (λ t. b) (λ f2. bounded_if n _ _ _ (λ t. b) (λ f3. b)))
 
-bounded_session : (n : ℕ) (c : Config) (w : World) (a e : ℕ) → Bounded n w → Bounded n (start_session c w a e).0
-bounded_session n c w a e b =
+bounded_session : (n : ℕ) (u : Switches) (c : Config) (w : World) (a e : ℕ) → Bounded n w → Bounded n (start_session u c w a e).0
+bounded_session n u c w a e b =
     bounded_if n _ _ _ (λ t. b) (λ f.
     let low = not_lt last_epoch e f in
     let x : Entry = record { status = Empty; epoch = e; partitions = [] } in
-    let v = bounded_written n c w a x b low in
-    bounded_like n (written c w a x) _ _ _ _ _ v v.messages (All-push (IsSafe n) w.sessions (new_session c a e w.generation) b.sessions (low, none_sent n c.outputs)) b.generation)
+    let v = bounded_written n u c w a x b low in
+    bounded_like n (written u c w a x) _ _ _ _ _ v v.messages (All-push (IsSafe n) w.sessions (new_session c a e w.generation) b.sessions (low, none_sent n c.outputs)) b.generation)
 
-bounded_start : (n : ℕ) (c : Config) (w : World) (a : ℕ) → Bounded n w → Bounded n (start c w a).0
-bounded_start n c w a b =
+bounded_start : (n : ℕ) (u : Switches) (c : Config) (w : World) (a : ℕ) → Bounded n w → Bounded n (start u c w a).0
+bounded_start n u c w a b =
     bounded_if n _ _ _ (λ t. b) (λ f1. bounded_if n _ _ _ (λ t. b) (λ f2. bounded_if n _ _ _
-    (λ t. bounded_prepared n c w a Abort _ b (limit_ongoing (coord_at w a).status (coord_at w a).epoch t (coord_within n w a b)))
-    (λ f3. bounded_session n c w a _ b)))
+    (λ t. bounded_prepared n u c w a Abort _ b (limit_ongoing (coord_at w a).status (coord_at w a).epoch t (coord_within n w a b)))
+    (λ f3. bounded_session n u c w a _ b)))
 
 -- ---- the coordinator restarts
 
@@ -279,17 +308,17 @@ all_flat P f (k ∷ ks) h = All-append P (f k) (flat_map f ks) (h k) (all_flat P
 
 -- ---- any event, and any list
 
-pub bounded_event : (n : ℕ) (c : Config) (w : World) (e : Event) → Bounded n w → Bounded (n + 1) (happens c w e).0
-bounded_event n c w (events.Feed p) b = let d = bounded_more n w b in bounded_if (n + 1) _ _ _ (λ t. d) (λ f. bounded_item (n + 1) w (input_place c p) (Fed w.events) d tt)
-bounded_event n c w (events.Start a) b = bounded_start (n + 1) c w a (bounded_more n w b)
-bounded_event n c w (events.Produce m p x) b = bounded_produce n c w m p x (slice_get w.sessions m) b (safe_at n w.sessions m b.sessions)
-bounded_event n c w (events.Commit m q v) b = bounded_commit (n + 1) c w m q v (bounded_more n w b)
-bounded_event n c w (events.End m k) b = let d = bounded_more n w b in bounded_end (n + 1) w m k (slice_get w.sessions m) d (safe_at (n + 1) w.sessions m d.sessions)
-bounded_event n c w (events.Resume m) b = bounded_resume (n + 1) c w m (slice_get w.sessions m) (bounded_more n w b)
-bounded_event n c w (events.Fetch m q) b = bounded_fetch (n + 1) c w q (slice_get w.sessions m) (bounded_more n w b)
-bounded_event n c w events.Members b = let d = bounded_more n w b in bounded_like (n + 1) w _ _ _ _ _ d d.messages d.sessions (omega (arith, b.generation))
-bounded_event n c w (events.BrokerRestart t p) b = let d = bounded_more n w b in bounded_if (n + 1) _ _ _ (λ t. d) (λ f. d)
-bounded_event n c w events.CoordinatorRestart b =
+pub bounded_event : (n : ℕ) (u : Switches) (c : Config) (w : World) (e : Event) → Bounded n w → Bounded (n + 1) (happens_under u c w e).0
+bounded_event n u c w (events.Feed p) b = let d = bounded_more n w b in bounded_if (n + 1) _ _ _ (λ t. d) (λ f. bounded_item (n + 1) w (input_place c p) (Fed w.events) d tt)
+bounded_event n u c w (events.Start a) b = bounded_start (n + 1) u c w a (bounded_more n w b)
+bounded_event n u c w (events.Produce m p x) b = bounded_produce n c w m p x (slice_get w.sessions m) b (safe_at n w.sessions m b.sessions)
+bounded_event n u c w (events.Commit m q v) b = bounded_commit (n + 1) c w m q v (bounded_more n w b)
+bounded_event n u c w (events.End m k) b = let d = bounded_more n w b in bounded_end (n + 1) w m k (slice_get w.sessions m) d (safe_at (n + 1) w.sessions m d.sessions)
+bounded_event n u c w (events.Resume m) b = bounded_resume (n + 1) c w m (slice_get w.sessions m) (bounded_more n w b)
+bounded_event n u c w (events.Fetch m q) b = bounded_fetch (n + 1) c w q (slice_get w.sessions m) (bounded_more n w b)
+bounded_event n u c w events.Members b = let d = bounded_more n w b in bounded_like (n + 1) w _ _ _ _ _ d d.messages d.sessions (omega (arith, b.generation))
+bounded_event n u c w (events.BrokerRestart t p) b = let d = bounded_more n w b in bounded_if (n + 1) _ _ _ (λ t. d) (λ f. d)
+bounded_event n u c w events.CoordinatorRestart b =
     let d = bounded_more n w b in
     record {
       coordinators = all_of_each (λ s. Limit s.status s.epoch) (reread c w) (range_with_len 0 (length w.coordinators)) (λ a. reread_within (n + 1) c w a d);
@@ -299,7 +328,7 @@ bounded_event n c w events.CoordinatorRestart b =
       sessions = d.sessions;
       generation = d.generation;
     }
-bounded_event n c w (events.Deliver m) b = let d = bounded_more n w b in bounded_deliver (n + 1) c w m (slice_get w.messages m) d (message_at (n + 1) w.messages m d.messages)
+bounded_event n u c w (events.Deliver m) b = let d = bounded_more n w b in bounded_deliver (n + 1) u c w m (slice_get w.messages m) d (message_at (n + 1) w.messages m d.messages)
 
 pub bounded_opening : (c : Config) → Bounded 0 (opening c)
 bounded_opening c = record {
@@ -326,9 +355,13 @@ unfolding when
 step_if true x y f g = f
 step_if false x y f g = g
 
-pub bounded_step : (c : Config) (w : World) (e : Event) → IsBounded w → IsBounded (step c w e).0
-bounded_step c w e b = step_if _ _ _ b (bounded_counted w.events (happens c w e) (bounded_event w.events c w e b))
+pub bounded_step : (u : Switches) (c : Config) (w : World) (e : Event) → IsBounded w → IsBounded (step_under u c w e).0
+bounded_step u c w e b = step_if _ _ _ b (bounded_counted w.events (happens_under u c w e) (bounded_event w.events u c w e b))
 
 pub bounded_run : (c : Config) (w : World) (es : List Event) → IsBounded w → IsBounded (run c w es)
 bounded_run c w [] b = b
-bounded_run c w (e ∷ es) b = bounded_run c (step c w e).0 es (bounded_step c w e b)
+bounded_run c w (e ∷ es) b = bounded_run c (step c w e).0 es (bounded_step none c w e b)
+
+pub bounded_run_under : (c : Config) (w : World) (xs : List (Switches × Event)) → IsBounded w → IsBounded (run_under c w xs)
+bounded_run_under c w [] b = b
+bounded_run_under c w (x ∷ xs) b = bounded_run_under c (step_under x.0 c w x.1).0 xs (bounded_step x.0 c w x.1 b)

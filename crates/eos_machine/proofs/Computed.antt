@@ -1,6 +1,12 @@
 -- The short schedules, computed by the check.
-use Rattle.std.proofs.Common.{refl}
+use Rattle.std.proofs.Common.{◌≡◌, [], ◌∷◌, List, refl}
 use Rattle.eos_machine.specs.Answers.{when}
+use Rattle.eos_machine.specs.declared.event.Event.{Event}
+use Rattle.eos_machine.specs.Places.{Config}
+use Rattle.eos_machine.specs.World.{World}
+use Rattle.eos_machine.specs.Switching.{none}
+use Rattle.eos_machine.specs.Machine.{step, run, run_under}
+use Rattle.eos_machine.specs.SwitchedRuns.{Breaks, all_under}
 use Rattle.eos_machine.specs.Runs.{Commits, Restarts, Fences, Fetches, Lists}
 
 pub commits : Commits
@@ -22,3 +28,28 @@ fetches = record { replies = refl; input = refl; offsets = refl }
 pub lists : Lists
 unfolding when
 lists = record { replies = refl; markers = refl }
+
+pub breaks : Breaks
+unfolding when
+breaks = record {
+  duplicates = refl;
+  duplicated = refl;
+  fence = refl;
+  unfenced = refl;
+  bump = refl;
+  unbumped = refl;
+  marker = refl;
+  lost = refl;
+  kind = refl;
+  even = refl;
+  odd = refl;
+  listing = refl;
+  hidden = refl;
+  generation = refl;
+  ignored = refl;
+}
+
+-- with no switch
+pub none_is : (c : Config) (w : World) (es : List Event) → run_under c w (all_under none es) ≡ run c w es
+none_is c w [] = refl
+none_is c w (e ∷ es) = none_is c (step c w e).0 es

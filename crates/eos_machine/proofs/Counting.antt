@@ -6,6 +6,7 @@ use Rattle.std.proofs.lemmas.List.Elements.{filter_map-append}
 use Rattle.std.proofs.lemmas.Bool.{cases_lt}
 use Rattle.eos_batch.specs.declared.marker.Kind.{Kind}
 use Rattle.eos_machine.specs.Places.{Config, txn_place, input_place, listed}
+use Rattle.eos_machine.specs.Switching.{none}
 use Rattle.eos_machine.specs.World.{Claim, Ongoing, Entry, Item, Fed, State, Marker, Message, Session, World, Event, opening, coord_at, log_at, with_item, with_coord, written, prepared, finished}
 use Rattle.eos_machine.specs.declared.state.Message.TheVariants as messages
 use Rattle.eos_machine.specs.declared.event.Event.TheVariants as events
@@ -46,7 +47,7 @@ few_item n w p x h = λ a. item_cases (λ q log. length (marks_of a log) ≤ n +
     let k = h a p in let o = one_mark (mark_in a x) a x refl in omega (arith, e, k, o)) (omega arith)
 
 -- a record of the transaction log is none
-few_written : (n : ℕ) (c : Config) (w : World) (a : ℕ) (x : Entry) → Few n w → Few n (written c w a x)
+few_written : (n : ℕ) (c : Config) (w : World) (a : ℕ) (x : Entry) → Few n w → Few n (written none c w a x)
 few_written n c w a x h = λ b. item_cases (λ q log. length (marks_of b log) ≤ n) w (txn_place c a) (State a x w.events) (h b)
     (let e : length (marks_of b (log_at w (txn_place c a) ++ State a x w.events ∷ [])) ≡ length (marks_of b (log_at w (txn_place c a))) + 0 =
     ap length (filter_map-append (mark_in b) (log_at w (txn_place c a)) (State a x w.events ∷ [])) ∙ length-append (marks_of b (log_at w (txn_place c a))) [] in
@@ -57,23 +58,23 @@ unfolding when
 few_if n true x y f g = f
 few_if n false x y f g = g
 
-few_partition : (n : ℕ) (c : Config) (w : World) (a p : ℕ) → Few n w → Few n (with_partition c w a p)
+few_partition : (n : ℕ) (c : Config) (w : World) (a p : ℕ) → Few n w → Few n (with_partition none c w a p)
 few_partition n c w a p h =
-    elim (is_ongoing (coord_at w a).status && has p (coord_at w a).partitions) as (λ t. Few n (if t then w else written c w a (record { status = Ongoing; epoch = (coord_at w a).epoch; partitions = listed p (ongoing_partitions (coord_at w a).status (coord_at w a).partitions) }))) [
+    elim (is_ongoing (coord_at w a).status && has p (coord_at w a).partitions) as (λ t. Few n (if t then w else written none c w a (record { status = Ongoing; epoch = (coord_at w a).epoch; partitions = listed p (ongoing_partitions (coord_at w a).status (coord_at w a).partitions) }))) [
       | true ↦ h
       | false ↦ few_written n c w a (record { status = Ongoing; epoch = (coord_at w a).epoch; partitions = listed p (ongoing_partitions (coord_at w a).status (coord_at w a).partitions) }) h
     ]
 
-few_accept : (n : ℕ) (c : Config) (w : World) (m a p : ℕ) (x : Item) → Few n w → Few (n + 1) (accept c w m a p x)
-few_accept n c w m a p x h = few_item n (with_partition c w a p) p x (few_partition n c w a p h)
+few_accept : (n : ℕ) (c : Config) (w : World) (m a p : ℕ) (x : Item) → Few n w → Few (n + 1) (accept none c w m a p x)
+few_accept n c w m a p x h = few_item n (with_partition none c w a p) p x (few_partition n c w a p h)
 
-few_prepared : (n : ℕ) (c : Config) (w : World) (a : ℕ) (k : Kind) (ps : List ℕ) → Few n w → Few n (prepared c w a k ps)
+few_prepared : (n : ℕ) (c : Config) (w : World) (a : ℕ) (k : Kind) (ps : List ℕ) → Few n w → Few n (prepared none c w a k ps)
 few_prepared n c w a k ps h = few_written n c w a _ h
 
-few_finished : (n : ℕ) (c : Config) (w : World) (a : ℕ) (k : Kind) → Few n w → Few n (finished c w a k)
+few_finished : (n : ℕ) (c : Config) (w : World) (a : ℕ) (k : Kind) → Few n w → Few n (finished none c w a k)
 few_finished n c w a k h = few_written n c w a _ h
 
-few_deliver : (n : ℕ) (c : Config) (w : World) (m : ℕ) (r : Option Message) → Few n w → Few (n + 1) (deliver c w m r).0
+few_deliver : (n : ℕ) (c : Config) (w : World) (m : ℕ) (r : Option Message) → Few n w → Few (n + 1) (deliver none c w m r).0
 few_deliver n c w m None h = few_more n w h
 few_deliver n c w m (Some (messages.Output a e p s x v)) h =
     let d = few_more n w h in
@@ -84,7 +85,7 @@ few_deliver n c w m (Some (messages.Offset a e g q v)) h =
 few_deliver n c w m (Some (messages.End a e k)) h =
     let d = few_more n w h in
     few_if (n + 1) _ _ _ d (few_if (n + 1) _ _ _ d (few_if (n + 1) _ _ _ d (few_if (n + 1) _ _ _
-    (few_finished (n + 1) c (prepared c w a k []) a k (few_prepared (n + 1) c w a k [] d))
+    (few_finished (n + 1) c (prepared none c w a k []) a k (few_prepared (n + 1) c w a k [] d))
     (few_prepared (n + 1) c w a k _ d))))
 few_deliver n c w m (Some (messages.Marker a e k p)) h =
     let i : Few (n + 1) (with_item w p (Marker a e k w.events)) = few_item n w p (Marker a e k w.events) h in

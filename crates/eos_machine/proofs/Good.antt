@@ -3,12 +3,13 @@ use Rattle.std.specs.Prelude.{◌≡◌, ℕ, ◌<◌, Bool, true, false, List, 
 use Rattle.std.specs.List.{All}
 use Rattle.eos_batch.specs.declared.marker.Kind.TheVariants.{Abort}
 use Rattle.eos_machine.specs.Places.{Config, txn_place, place_count, is_sequenced}
-use Rattle.eos_machine.specs.World.{World, Status, Empty, Ongoing, Prepare, Complete, Entry, Coordinator, Message, Session, fresh, coord_at, log_at, state_of}
+use Rattle.eos_machine.specs.World.{World, Status, Empty, Ongoing, Prepare, Complete, Entry, Coordinator, Message, fresh, coord_at, log_at, state_of}
 use Rattle.eos_machine.specs.declared.state.Message.TheVariants as messages
 use Rattle.eos_machine.specs.Application.{Mark, IsOrdered}
 use Rattle.eos_machine.specs.Logs.{entries_of, marks_of, producer_of}
 use Rattle.eos_machine.specs.Machine.{reread}
 use Rattle.eos_machine.specs.Rest.{decisions_of, marks_at}
+pub use Rattle.eos_machine.specs.Formed.{IsOfOne}
 use Rattle.eos_machine.proofs.Apps.{App, Invariant}
 use Rattle.eos_machine.proofs.Brokers.{Broker}
 
@@ -68,10 +69,6 @@ pub record IsRead (s t : Coordinator) : Type 0 where
 
 abbrev pub IsKept : Config → ℕ → List Mark → Type 0
 IsKept c p ts = Broker (is_sequenced c p) ts (producer_of ts)
-
--- the session works for an application that there is
-abbrev pub IsOfOne : Config → Session → Type 0
-IsOfOne c s = s.application < c.applications
 
 pub record Good (c : Config) (w : World) : Type 0 where
   pub apps : (a : ℕ) → Invariant (app_of c w a)

@@ -12,6 +12,7 @@ use Rattle.eos_batch.specs.declared.marker.Kind.TheVariants.{Commit, Abort}
 use Rattle.eos_touch.specs.Pair.{same_kind}
 use Rattle.std.proofs.lemmas.List.{length-set}
 use Rattle.eos_machine.specs.Places.{Config, IsConfig, offsets_place, txn_place, input_place, output_place, is_sequenced, same_topic, listed}
+use Rattle.eos_machine.specs.Switching.{none}
 use Rattle.eos_machine.specs.World.{Claim, Status, Empty, Ongoing, Prepare, Complete, Entry, Item, State, Output, Offset, Marker, Coordinator, Session, Message, World, Event, log_at, fresh, coord_at, state_of, with_item, with_coord, written, due_markers, prepared, finished}
 use Rattle.eos_machine.specs.declared.state.Message.TheVariants as messages
 use Rattle.eos_machine.specs.declared.event.Event.TheVariants as events
@@ -142,7 +143,7 @@ range_coord c w a p b s r =
     let e : length (with_coord w b s).coordinators ≡ length w.coordinators = length-set w.coordinators b s in
     record { app = omega (arith, r.app, e); txn = r.txn; part = r.part }
 
-range_written : (c : Config) (w : World) (a p : ℕ) (x : Entry) → InRange c w a p → InRange c (written c w a x) a p
+range_written : (c : Config) (w : World) (a p : ℕ) (x : Entry) → InRange c w a p → InRange c (written none c w a x) a p
 range_written c w a p x r = range_coord c (with_item w (txn_place c a) (State a x w.events)) a p a (state_of x) (range_item c w a p (txn_place c a) (State a x w.events) r)
 
 -- ---- what isn't of logs and states
@@ -228,35 +229,35 @@ began_ongoing c w a g q = elim (began c w a g) [
 all_here : (P : ℕ → Type 0) (ps : List ℕ) → All P ps → (q : ℕ) → Contains ps q → P q
 all_here P ps h q i = All-contains P ps q h i
 
-good_prepared : (c : Config) (w : World) (a p : ℕ) (k : Kind) (ps : List ℕ) → Good c w → InRange c w a p → All (IsPlace c) ps → Grows (coord_at w a).status (coord_at w a).partitions ps → Moves (coord_at w a).started (coord_at w a).status (coord_at w a).epoch (Prepare k) ((coord_at w a).epoch + 1) → Good c (prepared c w a k ps)
+good_prepared : (c : Config) (w : World) (a p : ℕ) (k : Kind) (ps : List ℕ) → Good c w → InRange c w a p → All (IsPlace c) ps → Grows (coord_at w a).status (coord_at w a).partitions ps → Moves (coord_at w a).started (coord_at w a).status (coord_at w a).epoch (Prepare k) ((coord_at w a).epoch + 1) → Good c (prepared none c w a k ps)
 good_prepared c w a p k ps g r here grows mv =
     let x : Entry = record { status = Prepare k; epoch = (coord_at w a).epoch + 1; partitions = ps } in
     let inv : Invariant (after_entry c w a x) = decided_keeps (app_of c w a) k ps (g.apps a) grows in
-    let h : Good c (written c w a x) = good_written c w a x g r.app r.txn here inv mv in
+    let h : Good c (written none c w a x) = good_written c w a x g r.app r.txn here inv mv in
     let e = app_written c w a x r.app r.txn (g.read a) in
     let la : a < c.applications = omega (arith, r.app, g.coordinators) in
-    let one : (q : ℕ) → Contains ps q → IsDue c (written c w a x) (messages.Marker a ((coord_at w a).epoch + 1) k q) = λ q i. (la, all_here (IsPlace c) ps here q i, subst (λ (s : App). IsOrdered s.decisions q ((coord_at w a).epoch + 1) k) (sym e) (inv.orders q i)) in
-    good_like c (written c w a x) (w.messages ++ due_markers a ((coord_at w a).epoch + 1) k ps) _ w.sessions w.generation w.events h
-    (All-append (IsDue c (written c w a x)) w.messages (due_markers a ((coord_at w a).epoch + 1) k ps) h.due
-    (All-map (IsDue c (written c w a x)) (messages.Marker a ((coord_at w a).epoch + 1) k) ps (All-weaker (Contains ps) (λ q. IsDue c (written c w a x) (messages.Marker a ((coord_at w a).epoch + 1) k q)) one ps (All-contains_itself ps))))
+    let one : (q : ℕ) → Contains ps q → IsDue c (written none c w a x) (messages.Marker a ((coord_at w a).epoch + 1) k q) = λ q i. (la, all_here (IsPlace c) ps here q i, subst (λ (s : App). IsOrdered s.decisions q ((coord_at w a).epoch + 1) k) (sym e) (inv.orders q i)) in
+    good_like c (written none c w a x) (w.messages ++ due_markers a ((coord_at w a).epoch + 1) k ps) _ w.sessions w.generation w.events h
+    (All-append (IsDue c (written none c w a x)) w.messages (due_markers a ((coord_at w a).epoch + 1) k ps) h.due
+    (All-map (IsDue c (written none c w a x)) (messages.Marker a ((coord_at w a).epoch + 1) k) ps (All-weaker (Contains ps) (λ q. IsDue c (written none c w a x) (messages.Marker a ((coord_at w a).epoch + 1) k q)) one ps (All-contains_itself ps))))
     g.sessions
 
 -- the last marker has come, or there was none
-good_finished : (c : Config) (w : World) (a p : ℕ) (k : Kind) → Good c w → InRange c w a p → (coord_at w a).status ≡ Prepare k → (coord_at w a).awaited ≡ [] → (coord_at w a).started ≡ true → Good c (finished c w a k)
+good_finished : (c : Config) (w : World) (a p : ℕ) (k : Kind) → Good c w → InRange c w a p → (coord_at w a).status ≡ Prepare k → (coord_at w a).awaited ≡ [] → (coord_at w a).started ≡ true → Good c (finished none c w a k)
 good_finished c w a p k g r s n st =
     good_written c w a (record { status = Complete k; epoch = (coord_at w a).epoch; partitions = [] }) g r.app r.txn (All-nil (IsPlace c)) (completed_keeps (app_of c w a) k (g.apps a) s n) (moves_complete (coord_at w a).started (coord_at w a).status (coord_at w a).epoch k st s)
 
-range_prepared : (c : Config) (w : World) (a p : ℕ) (k : Kind) (ps : List ℕ) → InRange c w a p → InRange c (prepared c w a k ps) a p
+range_prepared : (c : Config) (w : World) (a p : ℕ) (k : Kind) (ps : List ℕ) → InRange c w a p → InRange c (prepared none c w a k ps) a p
 range_prepared c w a p k ps r =
     let q = range_written c w a p (record { status = Prepare k; epoch = (coord_at w a).epoch + 1; partitions = ps }) r in
     record { app = q.app; txn = q.txn; part = q.part }
 
 -- ---- data
 
-good_partition : (c : Config) (w : World) (a p : ℕ) → Good c w → InRange c w a p → IsPlace c p → is_prepare (coord_at w a).status ≡ false → (coord_at w a).started ≡ true → Good c (with_partition c w a p)
+good_partition : (c : Config) (w : World) (a p : ℕ) → Good c w → InRange c w a p → IsPlace c p → is_prepare (coord_at w a).status ≡ false → (coord_at w a).started ≡ true → Good c (with_partition none c w a p)
 good_partition c w a p g r lp n st =
     let ps : List ℕ = listed p (ongoing_partitions (coord_at w a).status (coord_at w a).partitions) in
-    elim (is_ongoing (coord_at w a).status && has p (coord_at w a).partitions) as (λ b. Good c (if b then w else written c w a (record { status = Ongoing; epoch = (coord_at w a).epoch; partitions = listed p (ongoing_partitions (coord_at w a).status (coord_at w a).partitions) }))) [
+    elim (is_ongoing (coord_at w a).status && has p (coord_at w a).partitions) as (λ b. Good c (if b then w else written none c w a (record { status = Ongoing; epoch = (coord_at w a).epoch; partitions = listed p (ongoing_partitions (coord_at w a).status (coord_at w a).partitions) }))) [
       | true ↦ g
       | false ↦ good_written c w a (record { status = Ongoing; epoch = (coord_at w a).epoch; partitions = listed p (ongoing_partitions (coord_at w a).status (coord_at w a).partitions) }) g r.app r.txn
           (all_listed (IsPlace c) p (ongoing_partitions (coord_at w a).status (coord_at w a).partitions) lp (all_ongoing (IsPlace c) (coord_at w a).status (coord_at w a).partitions (g.places a)))
@@ -275,15 +276,15 @@ pub record Joined (c : Config) (v : World) (a p e : ℕ) (ts : List Mark) : Type
   pub marks : marks_of a (log_at v p) ≡ ts
   pub range : InRange c v a p
 
-joined : (c : Config) (w : World) (a p e : ℕ) → InRange c w a p → (coord_at w a).epoch ≡ e → Joined c (with_partition c w a p) a p e (marks_of a (log_at w p))
+joined : (c : Config) (w : World) (a p e : ℕ) → InRange c w a p → (coord_at w a).epoch ≡ e → Joined c (with_partition none c w a p) a p e (marks_of a (log_at w p))
 joined c w a p e r q =
     let x : Entry = record { status = Ongoing; epoch = (coord_at w a).epoch; partitions = listed p (ongoing_partitions (coord_at w a).status (coord_at w a).partitions) } in
-    elim (is_ongoing (coord_at w a).status && has p (coord_at w a).partitions) as (λ b. (is_ongoing (coord_at w a).status && has p (coord_at w a).partitions) ≡ b → Joined c (if b then w else written c w a x) a p e (marks_of a (log_at w p))) [
+    elim (is_ongoing (coord_at w a).status && has p (coord_at w a).partitions) as (λ b. (is_ongoing (coord_at w a).status && has p (coord_at w a).partitions) ≡ b → Joined c (if b then w else written none c w a x) a p e (marks_of a (log_at w p))) [
       | true ↦ λ t.
           let h = and_parts (is_ongoing (coord_at w a).status) (has p (coord_at w a).partitions) t in
           record { there = open_if (coord_at w a).status (coord_at w a).epoch (coord_at w a).partitions (coord_at w a).awaited p e (ongoing_is (coord_at w a).status h.0) (sym q) (has_contains p (coord_at w a).partitions h.1); marks = refl; range = r }
       | false ↦ λ t.
-          let s : coord_at (written c w a x) a ≡ state_of x = coord_itself (with_item w (txn_place c a) (State a x w.events)) a (state_of x) r.app in
+          let s : coord_at (written none c w a x) a ≡ state_of x = coord_itself (with_item w (txn_place c a) (State a x w.events)) a (state_of x) r.app in
           record {
             there = subst (λ (v : Coordinator). MayBeOpen v.status v.epoch v.partitions v.awaited p e) (sym s) (sym q, listed_itself p (ongoing_partitions (coord_at w a).status (coord_at w a).partitions));
             marks = view_none (mark_in a) w (txn_place c a) (State a x w.events) refl r.txn p;
@@ -297,16 +298,16 @@ kept_batch c w a p e q g f n =
     (broker_batch (is_sequenced c p) (marks_of a (log_at w p)) (producer_at w a p) e q (g.brokers a p) (not_lt e (producer_at w a p).high f) n)
 
 good_accept : (c : Config) (w : World) (n a p e : ℕ) (q : Option ℕ) (x : Item) → Good c w → InRange c w a p → IsPlace c p → IsOf a x (Batch e q) → is_current (coord_at w a) e ≡ true → is_prepare (coord_at w a).status ≡ false
-    → nat_lt e (producer_at w a p).high ≡ false → IsNumbered (is_sequenced c p) q (next_sequence (producer_at w a p) e) → Good c (accept c w n a p x)
+    → nat_lt e (producer_at w a p).high ≡ false → IsNumbered (is_sequenced c p) q (next_sequence (producer_at w a p) e) → Good c (accept none c w n a p x)
 good_accept c w n a p e q x g r lp is cur np f num =
     let same : (coord_at w a).epoch ≡ e = eqb-true (coord_at w a).epoch e (and_parts (coord_at w a).started ((coord_at w a).epoch == e) cur).1 in
-    let gv : Good c (with_partition c w a p) = good_partition c w a p g r lp np (and_parts (coord_at w a).started ((coord_at w a).epoch == e) cur).0 in
-    let pt : Joined c (with_partition c w a p) a p e (marks_of a (log_at w p)) = joined c w a p e r same in
-    let kept : IsKept c p (marks_of a (log_at (with_partition c w a p) p) ++ Batch e q ∷ []) = subst (λ (ts : List Mark). IsKept c p (ts ++ Batch e q ∷ [])) (sym pt.marks) (kept_batch c w a p e q g f num) in
-    let gi : Good c (with_item (with_partition c w a p) p x) = good_item c (with_partition c w a p) p x a (Batch e q) gv is pt.range.part (appended_keeps (app_of c (with_partition c w a p) a) p e q (gv.apps a) pt.there) kept in
-    good_like c (with_item (with_partition c w a p) p x) _ _ _ _ _ gi gi.due gi.sessions
+    let gv : Good c (with_partition none c w a p) = good_partition c w a p g r lp np (and_parts (coord_at w a).started ((coord_at w a).epoch == e) cur).0 in
+    let pt : Joined c (with_partition none c w a p) a p e (marks_of a (log_at w p)) = joined c w a p e r same in
+    let kept : IsKept c p (marks_of a (log_at (with_partition none c w a p) p) ++ Batch e q ∷ []) = subst (λ (ts : List Mark). IsKept c p (ts ++ Batch e q ∷ [])) (sym pt.marks) (kept_batch c w a p e q g f num) in
+    let gi : Good c (with_item (with_partition none c w a p) p x) = good_item c (with_partition none c w a p) p x a (Batch e q) gv is pt.range.part (appended_keeps (app_of c (with_partition none c w a p) a) p e q (gv.apps a) pt.there) kept in
+    good_like c (with_item (with_partition none c w a p) p x) _ _ _ _ _ gi gi.due gi.sessions
 
-good_output : (c : Config) (w : World) (n a e p s : ℕ) (x : Claim) (v : ℕ) → Good c w → InRange c w a p → IsPlace c p → Good c (deliver_output c w n a e p s x v).0
+good_output : (c : Config) (w : World) (n a e p s : ℕ) (x : Claim) (v : ℕ) → Good c w → InRange c w a p → IsPlace c p → Good c (deliver_output none c w n a e p s x v).0
 good_output c w n a e p s x v g r lp =
     good_if c _ _ _ (λ h. g) (λ f.
     good_if c _ _ _ (λ h. g) (λ f2.
@@ -314,7 +315,7 @@ good_output c w n a e p s x v g r lp =
     good_if c _ _ _ (λ h. g) (λ f4.
     good_if c _ _ _ (λ h. g) (λ f5. good_accept c w n a p e (Some s) (Output a e s x v w.events) g r lp (of_output a e s x v w.events) (not_false _ f4) f5 f (eqb-true s (next_sequence (producer_at w a p) e) (not_false _ f3)))))))
 
-good_offset : (c : Config) (w : World) (n a e y q v : ℕ) → Good c w → InRange c w a offsets_place → Good c (deliver_offset c w n a e y q v).0
+good_offset : (c : Config) (w : World) (n a e y q v : ℕ) → Good c w → InRange c w a offsets_place → Good c (deliver_offset none c w n a e y q v).0
 good_offset c w n a e y q v g r =
     good_if c _ _ _ (λ h. g) (λ f1.
     good_if c _ _ _ (λ h. g) (λ f2.
@@ -327,7 +328,7 @@ good_offset c w n a e y q v g r =
 
 -- ---- ends
 
-good_end : (c : Config) (w : World) (a e : ℕ) (k : Kind) → Good c w → InRange c w a 0 → Good c (deliver_end c w a e k).0
+good_end : (c : Config) (w : World) (a e : ℕ) (k : Kind) → Good c w → InRange c w a 0 → Good c (deliver_end none c w a e k).0
 good_end c w a e k g r =
     good_if c _ _ _ (λ h. g) (λ f1.
     good_if c _ _ _ (λ h. g) (λ f2.
@@ -338,10 +339,10 @@ good_end c w a e k g r =
     let grows : Grows (coord_at w a).status (coord_at w a).partitions (ongoing_partitions (coord_at w a).status (coord_at w a).partitions) = grows_ongoing (coord_at w a).status (coord_at w a).partitions np in
     good_if c _ _ _
     (λ h.
-    let none = nil_is (ongoing_partitions (coord_at w a).status (coord_at w a).partitions) h in
+    let nil = nil_is (ongoing_partitions (coord_at w a).status (coord_at w a).partitions) h in
     let x : Entry = record { status = Prepare k; epoch = (coord_at w a).epoch + 1; partitions = [] } in
-    let s : coord_at (prepared c w a k []) a ≡ state_of x = coord_itself (with_item w (txn_place c a) (State a x w.events)) a (state_of x) r.app in
-    good_finished c (prepared c w a k []) a 0 k (good_prepared c w a 0 k [] g r (All-nil (IsPlace c)) (subst (Grows (coord_at w a).status (coord_at w a).partitions) none grows) mv) (range_prepared c w a 0 k [] r)
+    let s : coord_at (prepared none c w a k []) a ≡ state_of x = coord_itself (with_item w (txn_place c a) (State a x w.events)) a (state_of x) r.app in
+    good_finished c (prepared none c w a k []) a 0 k (good_prepared c w a 0 k [] g r (All-nil (IsPlace c)) (subst (Grows (coord_at w a).status (coord_at w a).partitions) nil grows) mv) (range_prepared c w a 0 k [] r)
     (ap (λ (v : Coordinator). v.status) s) (ap (λ (v : Coordinator). v.awaited) s) (ap (λ (v : Coordinator). v.started) s))
     (λ h. good_prepared c w a 0 k (ongoing_partitions (coord_at w a).status (coord_at w a).partitions) g r (all_ongoing (IsPlace c) (coord_at w a).status (coord_at w a).partitions (g.places a)) grows mv))))
 
@@ -356,7 +357,7 @@ good_ticked c w a m k p g gv r is u cur =
     (subst (λ (s : App). Invariant (with_state s (ticked_off (coord_at w a) p))) (sym (app_pushed c w p (Marker a m k w.events) a (End m k) (of_marker a m k w.events).itself refl r.part))
     (ticked_keeps (app_of c w a) p m k (g.apps a) is u cur))
 
-good_marker : (c : Config) (w : World) (a m : ℕ) (k : Kind) (p : ℕ) → Good c w → InRange c w a p → IsOrdered (app_of c w a).decisions p m k → Good c (deliver_marker c w a m k p).0
+good_marker : (c : Config) (w : World) (a m : ℕ) (k : Kind) (p : ℕ) → Good c w → InRange c w a p → IsOrdered (app_of c w a).decisions p m k → Good c (deliver_marker none c w a m k p).0
 good_marker c w a m k p g r is =
     good_if c _ _ _ (λ h. g) (λ f.
     let b = or_parts (nat_lt m (producer_at w a p).high) (not_above m (producer_at w a p).last) f in
@@ -387,7 +388,7 @@ due_at c w [] n h = tt
 due_at c w (x ∷ ms) zero h = All-head (IsDue c w) x ms h
 due_at c w (x ∷ ms) (suc n) h = due_at c w ms n (All-tail (IsDue c w) x ms h)
 
-good_deliver : (c : Config) (w : World) (n : ℕ) (r : Option Message) → IsConfig c → Good c w → DueIf c w r → Good c (deliver c w n r).0
+good_deliver : (c : Config) (w : World) (n : ℕ) (r : Option Message) → IsConfig c → Good c w → DueIf c w r → Good c (deliver none c w n r).0
 good_deliver c w n None i g d = g
 good_deliver c w n (Some (messages.Output a e p s x v)) i g d =
     let l : IsPlace c (output_place c p) = omega (arith, d.1) in
@@ -398,14 +399,14 @@ good_deliver c w n (Some (messages.Marker a m k p)) i g d = good_marker c w a m 
 
 -- ---- sessions
 
-good_session : (c : Config) (w : World) (a e : ℕ) → Good c w → InRange c w a 0 → IsSettled (coord_at w a).status → (coord_at w a).epoch ≤ e → Good c (start_session c w a e).0
+good_session : (c : Config) (w : World) (a e : ℕ) → Good c w → InRange c w a 0 → IsSettled (coord_at w a).status → (coord_at w a).epoch ≤ e → Good c (start_session none c w a e).0
 good_session c w a e g r i le =
     good_if c _ _ _ (λ h. g) (λ f.
     let x : Entry = record { status = Empty; epoch = e; partitions = [] } in
-    let gw : Good c (written c w a x) = good_written c w a x g r.app r.txn (All-nil (IsPlace c)) (begun_keeps (app_of c w a) e (g.apps a) i le) (moves_empty (coord_at w a).started (coord_at w a).status (coord_at w a).epoch e i) in
-    good_like c (written c w a x) _ _ _ _ _ gw gw.due (All-push (IsOfOne c) w.sessions (new_session c a e w.generation) g.sessions (omega (arith, r.app, g.coordinators))))
+    let gw : Good c (written none c w a x) = good_written c w a x g r.app r.txn (All-nil (IsPlace c)) (begun_keeps (app_of c w a) e (g.apps a) i le) (moves_empty (coord_at w a).started (coord_at w a).status (coord_at w a).epoch e i) in
+    good_like c (written none c w a x) _ _ _ _ _ gw gw.due (All-push (IsOfOne c) w.sessions (new_session c a e w.generation) g.sessions (omega (arith, r.app, g.coordinators))))
 
-good_start : (c : Config) (w : World) (a : ℕ) → IsConfig c → Good c w → Good c (start c w a).0
+good_start : (c : Config) (w : World) (a : ℕ) → IsConfig c → Good c w → Good c (start none c w a).0
 good_start c w a i g =
     good_if c _ _ _ (λ h. g) (λ f.
     let r : InRange c w a 0 = ranges c w a 0 i g (is_lt a c.applications (not_false _ f)) (omega arith) in

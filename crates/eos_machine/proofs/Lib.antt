@@ -11,3 +11,4 @@ pub mod TouchRules
 pub mod StepRules
 pub mod Computed
 pub mod BoundedEvents
+pub mod FormedEvents

@@ -1,7 +1,9 @@
 pub mod Places
+pub mod Switching
 pub mod World
 pub mod Application
 pub mod Logs
+pub mod Rules
 pub mod Tests
 pub mod Answers
 pub mod Sessions
@@ -9,4 +11,6 @@ pub mod Deliveries
 pub mod Machine
 pub mod Rest
 pub mod Runs
+pub mod SwitchedRuns
 pub mod Bounds
+pub mod Formed

@@ -1,7 +1,9 @@
--- What happens to a cluster: each event's effect and reply, and any list of events.
+-- What happens to a cluster: each event's effect and reply under any switches, and any list of events.
 use Rattle.std.specs.Prelude.{ℕ, ◌+◌, ◌^◌, ◌==◌, nat_lt, not, List, [], ◌∷◌, ◌++◌, map, length, slice_get, if◌then◌else◌}
 use Rattle.std.specs.List.{flat_map, range_with_len}
 use Rattle.eos_batch.specs.declared.marker.Kind.TheVariants.{Abort}
+use Rattle.eos_machine.specs.declared.switches.Switches.{Switches}
+use Rattle.eos_machine.specs.Switching.{none}
 use Rattle.eos_machine.specs.Places.{Config, txn_place, input_place, is_partition}
 use Rattle.eos_machine.specs.World.{World, Status, Empty, Ongoing, Prepare, Complete, Fed, Coordinator, Message, Event, Reply, fresh, coord_at, log_at, with_item, with_messages, with_sessions, with_generation, written, due_markers, prepared}
 use Rattle.eos_machine.specs.declared.event.Event.TheVariants as events
@@ -18,18 +20,18 @@ feed c w p =
 
 -- ---- a session begins (KIP-98, "Getting a producer Id")
 
-abbrev pub start_session : Config → World → ℕ → ℕ → Answer
-start_session c w a e =
+abbrev pub start_session : Switches → Config → World → ℕ → ℕ → Answer
+start_session u c w a e =
     when (nat_lt last_epoch e) (w, EpochsSpent) (
-    (with_sessions (written c w a (record { status = Empty; epoch = e; partitions = [] })) (w.sessions ++ new_session c a e w.generation ∷ []), Done (length w.sessions)))
+    (with_sessions (written u c w a (record { status = Empty; epoch = e; partitions = [] })) (w.sessions ++ new_session c a e w.generation ∷ []), Done (length w.sessions)))
 
 -- an open transaction is aborted first
-abbrev pub start : Config → World → ℕ → Answer
-start c w a =
+abbrev pub start : Switches → Config → World → ℕ → Answer
+start u c w a =
     when (not (nat_lt a c.applications)) (w, Unknown) (
     when (is_prepare (coord_at w a).status) (w, Busy) (
-    when (is_ongoing (coord_at w a).status) (prepared c w a Abort (coord_at w a).partitions, Busy) (
-    start_session c w a (if (coord_at w a).started then (coord_at w a).epoch + 1 else 0))))
+    when (is_ongoing (coord_at w a).status) (prepared u c w a Abort (coord_at w a).partitions, Busy) (
+    start_session u c w a (if (coord_at w a).started then (coord_at w a).epoch + 1 else 0))))
 
 -- ---- the coordinator restarts: states are read from the log, and the end markers of prepared ones are queued again
 
@@ -55,25 +57,44 @@ restarted c w =
 -- ---- any event, and any list
 
 -- a broker that restarts reads its log again, of which its state is a function
+abbrev pub restart_broker : Config → World → List ℕ → ℕ → Answer
+restart_broker c w t p = when (is_partition c t p) (w, Done 0) (w, Unknown)
+
+abbrev pub happens_under : Switches → Config → World → Event → Answer
+happens_under u c w (events.Feed p) = feed c w p
+happens_under u c w (events.Start a) = start u c w a
+happens_under u c w (events.Produce n p x) = produce c w n p x (slice_get w.sessions n)
+happens_under u c w (events.Commit n q v) = commit c w n q v
+happens_under u c w (events.End n k) = end_session w n k (slice_get w.sessions n)
+happens_under u c w (events.Resume n) = resume c w n (slice_get w.sessions n)
+happens_under u c w (events.Fetch n q) = fetch c w q (slice_get w.sessions n)
+happens_under u c w events.Members = (with_generation w (w.generation + 1), Done 0)
+happens_under u c w (events.BrokerRestart t p) = restart_broker c w t p
+happens_under u c w events.CoordinatorRestart = (restarted c w, Done 0)
+happens_under u c w (events.Deliver n) = deliver u c w n (slice_get w.messages n)
+
+-- with no switch, as in an honest cluster
 abbrev pub happens : Config → World → Event → Answer
-happens c w (events.Feed p) = feed c w p
-happens c w (events.Start a) = start c w a
-happens c w (events.Produce n p x) = produce c w n p x (slice_get w.sessions n)
-happens c w (events.Commit n q v) = commit c w n q v
-happens c w (events.End n k) = end_session w n k (slice_get w.sessions n)
-happens c w (events.Resume n) = resume c w n (slice_get w.sessions n)
-happens c w (events.Fetch n q) = fetch c w q (slice_get w.sessions n)
-happens c w events.Members = (with_generation w (w.generation + 1), Done 0)
-happens c w (events.BrokerRestart t p) = when (is_partition c t p) (w, Done 0) (w, Unknown)
-happens c w events.CoordinatorRestart = (restarted c w, Done 0)
-happens c w (events.Deliver n) = deliver c w n (slice_get w.messages n)
+happens c w e = happens_under none c w e
 
 -- an event was taken
 abbrev pub counted : ℕ → Answer → Answer
 counted n x = (record x.0 { events = n + 1 }, x.1)
 
+abbrev pub step_under : Switches → Config → World → Event → Answer
+step_under u c w e = when (w.events == 2 ^ 31) (w, Full) (counted w.events (happens_under u c w e))
+
 abbrev pub step : Config → World → Event → Answer
-step c w e = when (w.events == 2 ^ 31) (w, Full) (counted w.events (happens c w e))
+step c w e = step_under none c w e
+
+-- each event under its own switches
+abbrev pub run_under : Config → World → List (Switches × Event) → World
+run_under c w [] = w
+run_under c w (x ∷ xs) = run_under c (step_under x.0 c w x.1).0 xs
+
+abbrev pub replies_under : Config → World → List (Switches × Event) → List Reply
+replies_under c w [] = []
+replies_under c w (x ∷ xs) = (step_under x.0 c w x.1).1 ∷ replies_under c (step_under x.0 c w x.1).0 xs
 
 abbrev pub run : Config → World → List Event → World
 run c w [] = w

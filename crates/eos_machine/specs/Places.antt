@@ -30,6 +30,10 @@ output_place c p = 1 + c.transaction_logs + c.inputs + p
 abbrev pub place_count : Config → ℕ
 place_count c = 1 + c.transaction_logs + c.inputs + c.outputs
 
+-- an odd partition of `out`
+abbrev pub is_odd_output : Config → ℕ → Bool
+is_odd_output c p = nat_le (output_place c 0) p && (p - output_place c 0) % 2 == 1
+
 -- sequences are checked outside the internal topics
 abbrev pub is_sequenced : Config → ℕ → Bool
 is_sequenced c p = nat_lt c.transaction_logs p

@@ -1,7 +1,9 @@
 -- The state of a cluster: its logs, and what its members hold in memory.
-use Rattle.std.specs.Prelude.{ℕ, ◌+◌, Bool, true, false, List, [], ◌∷◌, ◌++◌, map, replicate, slice_index_or, slice_set}
+use Rattle.std.specs.Prelude.{ℕ, ◌+◌, Bool, true, false, not, List, [], ◌∷◌, ◌++◌, map, replicate, slice_index_or, slice_set, if◌then◌else◌}
+use Rattle.std.specs.List.{filter}
 use Rattle.eos_batch.specs.declared.marker.Kind.{Kind}
-use Rattle.eos_machine.specs.Places.{Config, txn_place, place_count}
+use Rattle.eos_machine.specs.declared.switches.Switches.{Switches}
+use Rattle.eos_machine.specs.Places.{Config, txn_place, place_count, is_odd_output}
 pub use Rattle.eos_machine.specs.declared.item.Claim.{Claim}
 pub use Rattle.eos_machine.specs.declared.item.Status.{Status}
 pub use Rattle.eos_machine.specs.declared.item.Status.TheVariants.{Empty, Ongoing, Prepare, Complete}
@@ -76,18 +78,33 @@ with_generation w n = record w { generation = n }
 abbrev pub state_of : Entry → Coordinator
 state_of x = record { started = true; status = x.status; epoch = x.epoch; partitions = x.partitions; awaited = x.partitions }
 
--- a record is written, and the state is what it says
-abbrev pub written : Config → World → ℕ → Entry → World
-written c w a x = with_coord (with_item w (txn_place c a) (State a x w.events)) a (state_of x)
+-- these places but for the odd partitions of `out`
+abbrev pub without_odd_outputs : Config → List ℕ → List ℕ
+without_odd_outputs c ps = filter (λ p. not (is_odd_output c p)) ps
+
+-- hide-listing: a record says all partitions of its transaction
+abbrev pub said : Switches → Config → List ℕ → List ℕ
+said u c ps = if u.hide_listing then without_odd_outputs c ps else ps
+
+abbrev pub said_entry : Switches → Config → Entry → Entry
+said_entry u c x = record { status = x.status; epoch = x.epoch; partitions = said u c x.partitions }
+
+-- a record is written, and this is the state
+abbrev pub recorded : Config → World → ℕ → Entry → Coordinator → World
+recorded c w a x s = with_coord (with_item w (txn_place c a) (State a x w.events)) a s
+
+-- the state is what the record should say
+abbrev pub written : Switches → Config → World → ℕ → Entry → World
+written u c w a x = recorded c w a (said_entry u c x) (state_of x)
 
 abbrev pub due_markers : ℕ → ℕ → Kind → List ℕ → List Message
 due_markers a e k ps = map (messages.Marker a e k) ps
 
 -- a transaction is decided: its end is written at the next epoch, and its end markers are queued
-abbrev pub prepared : Config → World → ℕ → Kind → List ℕ → World
-prepared c w a k ps =
-    with_messages (written c w a (record { status = Prepare k; epoch = (coord_at w a).epoch + 1; partitions = ps })) (due_markers a ((coord_at w a).epoch + 1) k ps)
+abbrev pub prepared : Switches → Config → World → ℕ → Kind → List ℕ → World
+prepared u c w a k ps =
+    with_messages (written u c w a (record { status = Prepare k; epoch = (coord_at w a).epoch + 1; partitions = ps })) (due_markers a ((coord_at w a).epoch + 1) k ps)
 
 -- all end markers of a transaction were written
-abbrev pub finished : Config → World → ℕ → Kind → World
-finished c w a k = written c w a (record { status = Complete k; epoch = (coord_at w a).epoch; partitions = [] })
+abbrev pub finished : Switches → Config → World → ℕ → Kind → World
+finished u c w a k = written u c w a (record { status = Complete k; epoch = (coord_at w a).epoch; partitions = [] })

@@ -2,13 +2,17 @@
 //! in any order, with any message lost or repeated and any member restarted. Its functions do nothing; their contracts
 //! are the laws.
 
-ghost use Rattle.std.specs.Prelude.{List, ◌≤◌, ◌^◌};
+ghost use Rattle.std.specs.Prelude.{◌≡◌, List, ◌≤◌, ◌^◌};
 ghost use Rattle.eos_machine.specs.Bounds.{Bounded};
 ghost use Rattle.eos_machine.specs.Places.{Config, IsConfig};
 ghost use Rattle.eos_machine.specs.World.{Event, opening};
-ghost use Rattle.eos_machine.specs.Machine.{run};
+ghost use Rattle.eos_machine.specs.declared.switches.Switches.{Switches};
+ghost use Rattle.eos_machine.specs.Switching.{none};
+ghost use Rattle.eos_machine.specs.Formed.{IsFormed};
+ghost use Rattle.eos_machine.specs.Machine.{run, run_under};
 ghost use Rattle.eos_machine.specs.Rest.{KeepsSequences, NeighboursFit, StepsFit, IsAtRest, AllAtomic};
 ghost use Rattle.eos_machine.specs.Runs.{Commits, Restarts, Fences, Fetches, Lists};
+ghost use Rattle.eos_machine.specs.SwitchedRuns.{Breaks, all_under};
 
 /// At any time no fault of a sequence or of an epoch stands at any batch: none of the kinds FirstSequence, Sequence,
 /// ZombieEpoch and NoBump. Each broker keeps this by its own partition's log.
@@ -25,6 +29,18 @@ pub fn steps_fit()
 /// which is at most 2^31: all fit the fields of the logs.
 pub fn numbers_fit()
     ensures { (c : Config) (es : List Event) → Bounded (run c (opening c) es).events (run c (opening c) es) × ((run c (opening c) es).events ≤ 2 ^ 31) }
+{}
+
+/// Whatever switches are on, and whenever, numbers fit as far, and what messages and sessions name is there: no event of a
+/// cluster that breaks rules is refused for its numbers.
+pub fn fits_under_switches()
+    ensures numbers { (c : Config) (xs : List (Switches × Event)) → Bounded (run_under c (opening c) xs).events (run_under c (opening c) xs) }
+    ensures names { (c : Config) (xs : List (Switches × Event)) → IsFormed c (run_under c (opening c) xs) }
+{}
+
+/// With no switch on events lead where they lead in a cluster without switches.
+pub fn no_switch()
+    ensures { (c : Config) (es : List Event) → run_under c (opening c) (all_under none es) ≡ run c (opening c) es }
 {}
 
 /// At rest the batches, the markers and the decisions of each application fit together: each batch is ended by the
@@ -45,4 +61,9 @@ pub fn schedules()
     ensures fences { Fences }
     ensures fetches { Fetches }
     ensures lists { Lists }
+{}
+
+/// Each switch breaks its rule: a short schedule for each, with its replies and logs, computed from the definitions.
+pub fn switched_schedules()
+    ensures { Breaks }
 {}

@@ -8,8 +8,10 @@ mod event;
 mod item;
 pub mod laws;
 mod state;
+mod switches;
 
 pub use config::Config;
 pub use event::{Event, Reply};
 pub use item::{Claim, Entry, Item, Places, Status};
 pub use state::{Coordinator, Message, Producer, Session};
+pub use switches::{Switch, Switches};

@@ -5,23 +5,25 @@ mod course;
 mod events;
 mod readings;
 
-pub(crate) use events::{numbers_of, place};
+use crate::words::{Notes, first_of};
 use std::alloc::{AllocError, Global};
 use std::sync::Wait;
 use std::thread::Threads;
 
-/// What this call answers, or None where it is none of these.
 pub(crate) fn answer<R: Threads + Wait + Sync>(
     rt: &R,
     alloc: Global,
+    notes: &mut Notes,
+    line: &mut String,
     call: &str,
     rest: &str,
-) -> Result<Option<String>, AllocError> {
-    let (first, more) = rest.split_once(' ').unwrap_or((rest, ""));
+) -> Result<(), AllocError> {
     match call {
-        "cluster" => Ok(Some(course::run(rt, alloc, first, more)?)),
-        "callers" => Ok(Some(callers::scripts(rt, alloc, numbers_of(first))?)),
-        "feeders" => Ok(Some(callers::feeders(rt, alloc)?)),
-        _ => Ok(None),
+        "cluster" => {
+            let (sizes, words) = first_of(rest);
+            course::run(rt, alloc, notes, line, sizes, words)
+        }
+        "callers" => callers::scripts(rt, alloc, notes, line, rest),
+        _ => callers::feeders(rt, alloc, notes, line),
     }
 }

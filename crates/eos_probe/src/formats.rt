@@ -9,32 +9,33 @@ mod touches;
 mod txnlog;
 mod wire;
 
-use crate::words::{bytes_of, first_of};
+use crate::words::{Notes, bytes_of, first_of};
 use std::alloc::{AllocError, Global};
 
-/// What a call answers, or None where it is another module's.
-type Answer = Option<Result<String, AllocError>>;
-
-/// What this call answers, or None where it is none of these.
-pub(crate) fn answer(alloc: Global, call: &str, rest: &str) -> Result<Option<String>, AllocError> {
-    let answer = match call {
-        "fault_names" => names::of_family(alloc, rest),
-        "pair_ok" => Some(touches::pair(alloc, rest)),
-        "least_of_runs" => Some(claims::least(alloc, rest)),
-        _ => with_bytes(alloc, call, rest),
-    };
-    match answer {
-        None => Ok(None),
-        Some(text) => Ok(Some(text?)),
+pub(crate) fn answer(
+    notes: &mut Notes,
+    line: &mut String,
+    call: &str,
+    rest: &str,
+) -> Result<(), AllocError> {
+    match call {
+        "fault_names" => names::of_family(notes, line, rest),
+        "pair_ok" => touches::pair(notes, line, rest),
+        _ => claims::least(notes, line, rest),
     }
 }
 
 /// What a call answers whose first word is bytes: the modules ask each other, in the order of the layers.
-fn with_bytes(alloc: Global, call: &str, rest: &str) -> Answer {
+pub(crate) fn of_bytes(
+    alloc: Global,
+    notes: &mut Notes,
+    line: &mut String,
+    call: &str,
+    rest: &str,
+) -> Result<(), AllocError> {
     let (first, more) = first_of(rest);
-    match bytes_of(alloc, first) {
-        Ok(None) => None,
-        Ok(Some(bytes)) => wire::answer(alloc, call, &bytes, more),
-        Err(error) => Some(Err(error)),
+    match bytes_of(alloc, notes, first) {
+        Ok(bytes) => wire::answer(alloc, notes, line, call, &bytes, more),
+        Err(error) => Err(error),
     }
 }

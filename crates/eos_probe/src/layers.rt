@@ -7,27 +7,27 @@ mod parts;
 mod transactions;
 mod verdicts;
 
-use std::alloc::Global;
-use std::io;
+use crate::words::Notes;
+pub(crate) use orders::merged;
+use std::alloc::{AllocError, Global};
 use std::thread::Threads;
+pub(crate) use verdicts::push_verdict;
 
-/// What this call answers, or None where it is none of these.
-pub(crate) fn answer(
-    rt: &(impl Threads + Sync),
+pub(crate) fn answer<R: Threads + Sync>(
+    rt: &R,
     alloc: Global,
+    notes: &mut Notes,
+    line: &mut String,
     call: &str,
     rest: &str,
-) -> io::Result<Option<String>> {
-    let text = match call {
+) -> Result<(), AllocError> {
+    match call {
         "part_kind" | "part_fault" | "fates" | "closes" | "markers" | "part" => {
-            logs::answer(alloc, call, rest)
+            logs::answer(alloc, notes, line, call, rest)
         }
-        "txn_log" | "match_shards" => transactions::answer(alloc, call, rest),
-        "verdict" | "write_verdict" => verdicts::answer(alloc, call, rest),
-        "check_lineage" | "least_visible_fault" | "commits_of" | "committed" | "topic_set" => {
-            applications::answer(rt, alloc, call, rest)
-        }
-        _ => return Ok(None),
-    };
-    Ok(Some(text?))
+        "txn_log" | "match_shards" => transactions::answer(alloc, notes, line, call, rest),
+        "verdict" => verdicts::both(alloc, notes, line, rest),
+        "write_verdict" => verdicts::written(alloc, notes, line, rest),
+        _ => applications::answer(rt, alloc, notes, line, call, rest),
+    }
 }

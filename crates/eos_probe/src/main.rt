@@ -1,5 +1,5 @@
 //! Calls the libraries' public functions for the tables of cases in `tests/tables`: a call as a line in, what it answers as
-//! a line out. It promises nothing of its own; a call that it doesn't know is answered `no such call`.
+//! a line out. It promises nothing of its own. A row that it can't read, or whose call it doesn't know, is answered `bad row`.
 #![tactic(auto)]
 
 mod cluster;
@@ -9,41 +9,91 @@ mod texts;
 mod words;
 mod workers;
 
-use std::alloc::Global;
+use crate::words::{Notes, first_of};
+use std::alloc::{AllocError, Global};
 use std::io;
 use std::sync::Wait;
 use std::thread::Threads;
-use std::time::Clock;
 
-/// What the call of a line answers, as a line.
-fn answer<R: Threads + Wait + Clock + Sync>(
+/// Whose call it is.
+#[derive(Clone, Copy)]
+enum Family {
+    Cluster,
+    Workers,
+    Texts,
+    Words,
+    Layers,
+    Bytes,
+}
+
+fn family_of(call: &str) -> Family {
+    match call {
+        "cluster" | "callers" | "feeders" => Family::Cluster,
+        "tickets" | "board" | "pool" | "check" | "check_one" => Family::Workers,
+        "round_trip" | "finish" => Family::Texts,
+        "fault_names" | "pair_ok" | "least_of_runs" => Family::Words,
+        _ => layer_of(call),
+    }
+}
+
+fn layer_of(call: &str) -> Family {
+    match call {
+        "part_kind" | "part_fault" | "fates" | "closes" | "markers" | "part" => Family::Layers,
+        "txn_log" | "match_shards" | "verdict" | "write_verdict" => Family::Layers,
+        "check_lineage" | "least_visible_fault" | "commits_of" | "committed" | "topic_set" => {
+            Family::Layers
+        }
+        _ => Family::Bytes,
+    }
+}
+
+/// Writes what the call of a row answers.
+fn answer<R: Threads + Wait + Sync>(
     rt: &R,
     alloc: Global,
-    line: &str,
-) -> io::Result<String> {
-    let (call, rest) = line.split_once(' ').unwrap_or((line, ""));
-    if let Some(text) = formats::answer(alloc, call, rest)? {
-        return Ok(text);
+    notes: &mut Notes,
+    line: &mut String,
+    row: &str,
+) -> Result<(), AllocError> {
+    let (call, rest) = first_of(row);
+    match family_of(call) {
+        Family::Cluster => cluster::answer(rt, alloc, notes, line, call, rest),
+        Family::Workers => workers::answer(rt, alloc, notes, line, call, rest),
+        Family::Texts => texts::answer(alloc, notes, line, call, rest),
+        Family::Words => formats::answer(notes, line, call, rest),
+        Family::Layers => layers::answer(rt, alloc, notes, line, call, rest),
+        Family::Bytes => formats::of_bytes(alloc, notes, line, call, rest),
     }
-    if let Some(text) = layers::answer(rt, alloc, call, rest)? {
-        return Ok(text);
+}
+
+/// Writes what is said of a row: the answer, with the mark `again` where a call was made again after want of memory.
+fn say<R: Threads + Wait + Sync>(
+    rt: &R,
+    alloc: Global,
+    line: &mut String,
+    row: &str,
+) -> Result<(), AllocError> {
+    let mut notes = Notes {
+        is_bad: false,
+        is_again: false,
+    };
+    let answered = answer(rt, alloc, &mut notes, line, row);
+    if notes.is_bad {
+        line.clear();
+        return line.push_str("bad row");
     }
-    if let Some(text) = cluster::answer(rt, alloc, call, rest)? {
-        return Ok(text);
+    if notes.is_again {
+        line.push_str(" again")?;
     }
-    if let Some(text) = texts::answer(alloc, call, rest)? {
-        return Ok(text);
-    }
-    if let Some(text) = workers::answer(rt, alloc, call, rest)? {
-        return Ok(text);
-    }
-    Ok(format!(in alloc; "no such call")?)
+    answered
 }
 
 fn main(rt: HostRuntime) -> io::Result<()> {
-    for line in rt.lines(rt.alloc()) {
-        let text = answer(&rt, rt.alloc(), line?.as_str())?;
-        println!(rt; "{text}")?;
+    for row in rt.lines(rt.alloc()) {
+        let row = row?;
+        let mut line = String::new(rt.alloc());
+        say(&rt, rt.alloc(), &mut line, row.as_str())?;
+        println!(rt; "{line}")?;
     }
     Ok(())
 }

@@ -1,39 +1,51 @@
 //! Calls of a segment that is read and written again, and of a text that is written to a device behind a buffer.
 
-use crate::words::bytes_of;
+use crate::words::{Notes, bytes_of, number_of, place, show};
 use bytes::Bytes;
 use eos_batch::{Batch, decode_batch, encode_batch, next_batch};
-use eos_text::finish;
+use eos_text::{finish, push_value};
 use std::alloc::{AllocError, Global};
-use std::io::{self, BufWriter};
+use std::io::BufWriter;
 
-/// What this call answers, or None where it is none of these.
-pub(crate) fn answer(alloc: Global, call: &str, rest: &str) -> io::Result<Option<String>> {
+pub(crate) fn answer(
+    alloc: Global,
+    notes: &mut Notes,
+    line: &mut String,
+    call: &str,
+    rest: &str,
+) -> Result<(), AllocError> {
     match call {
-        "round_trip" => Ok(round_trip(alloc, rest)?),
-        "finish" => Ok(Some(finished(alloc, rest)?)),
-        _ => Ok(None),
+        "round_trip" => {
+            let bytes = bytes_of(alloc, notes, rest)?;
+            round_trip(alloc, line, &bytes)
+        }
+        _ => finished(alloc, notes, line, rest),
     }
 }
 
-/// What comes of a text where the device behind a buffer has so much room, how many bytes it took, and how many the buffer holds
-/// back.
-fn finished(alloc: Global, words: &str) -> io::Result<String> {
+/// Writes what comes of a text where the device behind a buffer has so much room, how many bytes it took, and how many the
+/// buffer holds back.
+fn finished(
+    alloc: Global,
+    notes: &mut Notes,
+    line: &mut String,
+    words: &str,
+) -> Result<(), AllocError> {
     let (room, text) = words.split_once(' ').unwrap_or((words, ""));
-    let room = room.parse::<usize>().unwrap_or(0).min(65536);
+    let room = place(number_of(notes, room)).min(65536);
     let mut device = vec![in alloc; 0u8; room]?;
-    let mut buffer = BufWriter::new(alloc, device.as_mut_slice())?;
-    let answer = finish(&mut buffer, text.as_bytes());
+    let Ok(mut buffer) = BufWriter::new(alloc, device.as_mut_slice()) else {
+        return Err(AllocError);
+    };
+    show(line, finish(&mut buffer, text.as_bytes()))?;
     let (rest, held) = buffer.into_parts();
-    Ok(format!(in alloc; "{answer:?} left={} held={}", rest.len(), held.len())?)
+    push_value(line, " left=", &rest.len())?;
+    push_value(line, " held=", &held.len())
 }
 
-/// How many batches stand at the front of a segment; and `bytes` where each of them, encoded, has the bytes that it stands in,
-/// or else `batches` where each of them, encoded and decoded again, is the same.
-fn round_trip(alloc: Global, digits: &str) -> Result<Option<String>, AllocError> {
-    let Some(bytes) = bytes_of(alloc, digits)? else {
-        return Ok(None);
-    };
+/// Writes how many batches stand at the front of a segment; and `bytes` where each of them, encoded, has the bytes that it
+/// stands in, or else `batches` where each of them, encoded and decoded again, is the same.
+fn round_trip(alloc: Global, line: &mut String, bytes: &Bytes) -> Result<(), AllocError> {
     let mut at = 0;
     let mut count = 0u64;
     let mut are_bytes = true;
@@ -41,21 +53,37 @@ fn round_trip(alloc: Global, digits: &str) -> Result<Option<String>, AllocError>
         if at >= bytes.len() {
             break;
         }
-        let Ok((batch, size)) = next_batch(alloc, &bytes, at)? else {
+        let Ok((batch, size)) = next_batch(alloc, bytes, at)? else {
             break;
         };
-        let Ok(written) = encode_batch(alloc, &batch) else {
-            return Ok(Some(format!(in alloc; "batch {count} isn't written")?));
-        };
-        if !reads_back(alloc, &written, &batch) {
-            return Ok(Some(format!(in alloc; "batch {count} isn't read back")?));
+        match written_again(alloc, bytes, at, &batch, size) {
+            None => return push_value(line, "batch isn't written and read back: ", &count),
+            Some(is_same) => are_bytes = are_bytes && is_same,
         }
-        are_bytes = are_bytes && bytes.as_slice().get(at..at + size) == Some(written.as_slice());
         at += size;
         count = count.saturating_add(1);
     }
-    let same = if are_bytes { "bytes" } else { "batches" };
-    Ok(Some(format!(in alloc; "{count} same {same}")?))
+    push_value(line, "", &count)?;
+    line.push_str(if are_bytes {
+        " same bytes"
+    } else {
+        " same batches"
+    })
+}
+
+/// Whether a batch, encoded, has the bytes that it stands in, where it is read back as the same.
+fn written_again(
+    alloc: Global,
+    bytes: &Bytes,
+    at: usize,
+    batch: &Batch,
+    size: usize,
+) -> Option<bool> {
+    let written = encode_batch(alloc, batch).ok()?;
+    if !reads_back(alloc, &written, batch) {
+        return None;
+    }
+    Some(bytes.as_slice().get(at..at.saturating_add(size)) == Some(written.as_slice()))
 }
 
 /// Whether these bytes are a text of this batch and nothing more.

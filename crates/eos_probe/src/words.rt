@@ -1,4 +1,4 @@
-//! Words of a line as values, and values as text.
+//! Words of a row as values, values as text, and what came up while a row was answered.
 
 use bytes::Bytes;
 use hex::FromHexError;
@@ -6,16 +6,77 @@ use std::alloc::{AllocError, Global};
 use std::convert::AsSlice;
 use std::fmt::Debug;
 
-/// The bytes of hexadecimal digits, none where they aren't such; `-` stands for no bytes.
-pub(crate) fn bytes_of(alloc: Global, digits: &str) -> Result<Option<Bytes>, AllocError> {
+/// What came up while a row was answered.
+#[derive(Clone, Copy)]
+pub(crate) struct Notes {
+    /// A word can't be read as what is asked for.
+    pub(crate) is_bad: bool,
+    /// A call was made again, after want of memory.
+    pub(crate) is_again: bool,
+}
+
+/// Notes that the row can't be read, and ends its answer.
+pub(crate) fn bad<T>(notes: &mut Notes) -> Result<T, AllocError> {
+    notes.is_bad = true;
+    Err(AllocError)
+}
+
+/// What was found, or else that the row can't be read, and this value.
+pub(crate) fn or_bad<T: Copy>(notes: &mut Notes, found: Option<T>, instead: T) -> T {
+    match found {
+        Some(value) => value,
+        None => {
+            notes.is_bad = true;
+            instead
+        }
+    }
+}
+
+/// The numbers of a text, so many, separated by commas; then zeros.
+pub(crate) fn numbers_of(notes: &mut Notes, text: &str, count: usize) -> [i64; 5] {
+    let mut numbers = [0; 5];
+    let mut rest = text;
+    for i in 0..count.min(5) {
+        let (first, more) = rest.split_once(',').unwrap_or((rest, ""));
+        numbers[i] = or_bad(notes, first.parse::<i64>().ok(), 0);
+        rest = more;
+    }
+    if !rest.is_empty() {
+        notes.is_bad = true;
+    }
+    numbers
+}
+
+/// The one number of a text.
+pub(crate) fn number_of(notes: &mut Notes, text: &str) -> i64 {
+    or_bad(notes, text.parse::<i64>().ok(), 0)
+}
+
+/// A number as a count or a place, which names nothing where it is below 0.
+pub(crate) fn place(number: i64) -> usize {
+    usize::try_from(number).unwrap_or(usize::MAX)
+}
+
+/// The bytes of hexadecimal digits; `-` stands for no bytes.
+pub(crate) fn bytes_of(
+    alloc: Global,
+    notes: &mut Notes,
+    digits: &str,
+) -> Result<Bytes, AllocError> {
     if digits == "-" {
-        return Ok(Some(Bytes::copy_from_slice(alloc, &[])?));
+        return Bytes::copy_from_slice(alloc, &[]);
     }
     match hex::decode(alloc, digits.as_bytes()) {
-        Ok(bytes) => Ok(Some(Bytes::from_vec(bytes)?)),
+        Ok(bytes) => Ok(Bytes::from_vec(bytes)?),
         Err(FromHexError::OutOfMemory) => Err(AllocError),
-        Err(_) => Ok(None),
+        Err(_) => bad(notes),
     }
+}
+
+/// The topic and the number of a partition's name.
+pub(crate) fn name_of<'a>(notes: &mut Notes, name: &'a str) -> (&'a str, i32) {
+    let (topic, number) = name.rsplit_once('-').unwrap_or((name, ""));
+    (topic, or_bad(notes, number.parse::<i32>().ok(), 0))
 }
 
 /// The first word of a text, and the rest.
@@ -23,18 +84,30 @@ pub(crate) fn first_of(text: &str) -> (&str, &str) {
     text.split_once(' ').unwrap_or((text, ""))
 }
 
-/// A value as its `Debug` prints it.
-pub(crate) fn shown<T: Debug + Drop>(alloc: Global, value: T) -> Result<String, AllocError> {
-    format!(in alloc; "{value:?}")
+/// The two sides of a mark.
+pub(crate) fn sides<'a>(notes: &mut Notes, text: &'a str, mark: char) -> (&'a str, &'a str) {
+    match text.split_once(mark) {
+        Some(sides) => sides,
+        None => {
+            notes.is_bad = true;
+            (text, "")
+        }
+    }
 }
 
-/// The digits of what was written, or the fault.
-pub(crate) fn digits_of<B: AsSlice<u8> + Drop, F: Debug + Drop>(
+/// Writes a value as its `Debug` prints it.
+pub(crate) fn show<T: Debug + Drop>(line: &mut String, value: T) -> Result<(), AllocError> {
+    write!(line, "{value:?}")
+}
+
+/// Writes the digits of what was written, or the fault.
+pub(crate) fn show_digits<B: AsSlice<u8> + Drop, F: Debug + Drop>(
     alloc: Global,
+    line: &mut String,
     written: Result<B, F>,
-) -> Result<String, AllocError> {
+) -> Result<(), AllocError> {
     match written {
-        Ok(bytes) => hex::encode(alloc, bytes),
-        Err(fault) => shown(alloc, fault),
+        Ok(bytes) => line.push_str(&hex::encode(alloc, bytes)?),
+        Err(fault) => show(line, fault),
     }
 }

@@ -1,14 +1,14 @@
 -- Every transaction of a cluster at rest is committed in all its partitions or aborted in all.
 use Rattle.std.proofs.Common.{◌≡◌, ℕ, zero, suc, ◌+◌, ◌<◌, ◌≤◌, ◌==◌, ℤ, pos, negsuc, Bool, true, false, List, [], ◌∷◌, ◌++◌, map, length, Option, Some, None, refl, sym, ap, subst, ◌∙◌, arith, inl, inr, ◌⊎◌}
 use Rattle.std.specs.Prelude.{slice_index_or, if◌then◌else◌, ⊤}
-use Rattle.std.specs.Option.{option_or}
+use Rattle.std.specs.Option.{option_or, option_to_list}
 use Rattle.std.specs.List.{All, Contains, cons_option}
 use Rattle.std.specs.Ordering.{int_eq}
 use Rattle.std.proofs.lemmas.Bool.{cases_lt, cases_eq, eqb-true, eq-eqb}
 use Rattle.std.proofs.lemmas.List.Elements.{All-contains}
 use Rattle.eos_base.specs.Members.{Has}
 use Rattle.eos_base.specs.declared.partition_name.PartitionName.{PartitionName}
-use Rattle.eos_base.proofs.Membership.{append_cases, append_left, append_right, map_has}
+use Rattle.eos_base.proofs.Membership.{append_cases, append_left, append_right}
 use Rattle.eos_batch.specs.declared.batch.Batch.{Batch}
 use Rattle.eos_batch.specs.declared.marker.Kind.{Kind}
 use Rattle.eos_batch.specs.declared.marker.Kind.TheVariants.{Commit, Abort}
@@ -17,14 +17,13 @@ use Rattle.eos_touch.specs.declared.touch.Touch.{Touch}
 use Rattle.eos_touch.specs.declared.touch.Touch.TheVariants.{Data, End}
 use Rattle.eos_txnlog.specs.declared.decision.Decision.{Decision}
 use Rattle.eos_summary.specs.declared.mark.EndMark.{EndMark}
-use Rattle.eos_summary.specs.Heads.{Head, mark_in, mark_for, first_marker}
-use Rattle.eos_summary.specs.Closes.{CloseOf, close_by, close_of, closes_of}
-use Rattle.eos_summary.specs.Touches.{head_of, heads_of}
+use Rattle.eos_batch.specs.Offsets.{offset_of}
+use Rattle.eos_summary.specs.Ends.{is_data, mark_in, mark_for, first_marker}
 use Rattle.eos_fold.specs.declared.close.Close.{Close}
-use Rattle.eos_fold.specs.Fronts.{listed, markers_of}
+use Rattle.eos_fold.specs.Closes.{close_by, close_of, closes_of}
+use Rattle.eos_batch.specs.Marker.{markers_of}
 use Rattle.eos_fold.specs.Parts.{part_name, PartLog}
 use Rattle.eos_touch.specs.Touches.{touch_of}
-use Rattle.eos_fold.specs.Whole.{as_close, closes_in}
 use Rattle.eos_txnlog.specs.PartitionSets.{names_of}
 use Rattle.eos_table.specs.Atomic.{IsOf, EndsAs, Ends, AreOfOne, NoTwo, Atomic}
 use Rattle.eos_table.specs.TransactionLog.{transaction_parts}
@@ -35,8 +34,7 @@ use Rattle.eos_machine.specs.declared.item.Item.TheVariants.{Fed, State, Output,
 use Rattle.eos_machine.specs.Places.{place_count, topic_of, number_of}
 use Rattle.eos_machine.specs.World.{World, log_at}
 use Rattle.eos_machine.specs.Application as app
-use Rattle.eos_machine.specs.Application.{Mark, IsOrdered, IsClosed, Fate, Matched, Never, first_end}
-use Rattle.eos_machine.specs.Application.{Decision as Decided}
+use Rattle.eos_machine.specs.Application.{Mark, IsOrdered, IsClosed, Fate, Matched, Never, first_end, Decision as Decided}
 use Rattle.eos_machine.specs.Logs.{marks_of}
 use Rattle.eos_machine.specs.Rest.{producer_id, decisions_of, marks_at, by_topic}
 use Rattle.eos_logs.specs.Batches.{item_batch, batches_from}
@@ -83,14 +81,11 @@ AreEnd None (Some k) = ⊥
 AreEnd (Some m) None = ⊥
 AreEnd (Some m) (Some k) = (m.epoch ≡ pos k.0) × (m.kind ≡ k.1)
 
-abbrev heads_from : Config → ℕ → List Item → List Head
-heads_from c o xs = heads_of (batches_from c o xs)
-
-touch_step : (c : Config) (o : ℕ) (x : Item) → (head_of (item_batch c o x)).touch ≡ item_touch x
+touch_step : (c : Config) (o : ℕ) (x : Item) → touch_of (item_batch c o x) ≡ item_touch x
 touch_step c o x = touch_is c o x
 
-first_step : (c : Config) (a o : ℕ) (x : Item) (xs : List Item) → first_marker (producer_id a) (heads_from c o (x ∷ xs)) ≡ option_or (mark_for (producer_id a) (mark_in (head_of (item_batch c o x)).offset (item_touch x))) (first_marker (producer_id a) (heads_from c (o + 1) xs))
-first_step c a o x xs = ap (λ t. option_or (mark_for (producer_id a) (mark_in (head_of (item_batch c o x)).offset t)) (first_marker (producer_id a) (heads_from c (o + 1) xs))) (touch_step c o x)
+first_step : (c : Config) (a o : ℕ) (x : Item) (xs : List Item) → first_marker (producer_id a) (batches_from c o (x ∷ xs)) ≡ option_or (mark_for (producer_id a) (mark_in (offset_of (item_batch c o x)) (item_touch x))) (first_marker (producer_id a) (batches_from c (o + 1) xs))
+first_step c a o x xs = ap (λ t. option_or (mark_for (producer_id a) (mark_in (offset_of (item_batch c o x)) t)) (first_marker (producer_id a) (batches_from c (o + 1) xs))) (touch_step c o x)
 
 skips : (a b : ℕ) (e : ℕ) (q : Option ℕ) (o : Option EndMark) (ts : List Mark) → AreEnd o (first_end ts) → AreEnd o (first_end (cons_option (own_mark b a (app.Batch e q)) ts))
 skips a b e q o ts h = elim (b == a) as (λ t. AreEnd o (first_end (cons_option (if t then Some (app.Batch e q) else None) ts))) [ true ↦ h | false ↦ h ]
@@ -104,23 +99,23 @@ ends_here a b e at k o ts h =
     by true = (refl, refl)
     by false = h
 
-first_is : (c : Config) (a o : ℕ) (xs : List Item) → AreEnd (first_marker (producer_id a) (heads_from c o xs)) (first_end (marks_of a xs))
+first_is : (c : Config) (a o : ℕ) (xs : List Item) → AreEnd (first_marker (producer_id a) (batches_from c o xs)) (first_end (marks_of a xs))
 first_is c a o [] = tt
 first_is c a o (x ∷ xs) = subst (λ m. AreEnd m (first_end (marks_of a (x ∷ xs)))) (sym (first_step c a o x xs)) (by x (first_is c a (o + 1) xs))
   where
     others : Option EndMark
-    others = first_marker (producer_id a) (heads_from c (o + 1) xs)
+    others = first_marker (producer_id a) (batches_from c (o + 1) xs)
 
-    by : (x : Item) → AreEnd others (first_end (marks_of a xs)) → AreEnd (option_or (mark_for (producer_id a) (mark_in (head_of (item_batch c o x)).offset (item_touch x))) others) (first_end (marks_of a (x ∷ xs)))
+    by : (x : Item) → AreEnd others (first_end (marks_of a xs)) → AreEnd (option_or (mark_for (producer_id a) (mark_in (offset_of (item_batch c o x)) (item_touch x))) others) (first_end (marks_of a (x ∷ xs)))
     by (Fed n) h = h
     by (State b y n) h = h
     by (Output b e s y v n) h = skips a b e (Some s) others (marks_of a xs) h
     by (Offset b e q v n) h = skips a b e None others (marks_of a xs) h
-    by (Marker b e k n) h = ends_here a b e (head_of (item_batch c o (Marker b e k n))).offset k others (marks_of a xs) h
+    by (Marker b e k n) h = ends_here a b e (offset_of (item_batch c o (Marker b e k n))) k others (marks_of a xs) h
 
 -- ---- closes
 
-pub record IsCloseAt (ds : ℕ → List Decided) (p : ℕ) (co : CloseOf) : Type 0 where
+pub record IsCloseAt (ds : ℕ → List Decided) (p : ℕ) (co : Close) : Type 0 where
   pub app : ℕ
   pub from : ℕ
   pub to : ℕ
@@ -131,7 +126,7 @@ pub record IsCloseAt (ds : ℕ → List Decided) (p : ℕ) (co : CloseOf) : Type
   pub same_kind : co.kind ≡ kind
   pub closed : IsClosed (ds app) p from to kind
 
-closed_by : (ds : ℕ → List Decided) (p a e : ℕ) (m : Option EndMark) (k : Option (ℕ × Kind)) (co : CloseOf) → AreEnd m k → Fate Never (ds a) p e k → Has (close_by (producer_id a) (pos e) m) co → IsCloseAt ds p co
+closed_by : (ds : ℕ → List Decided) (p a e : ℕ) (m : Option EndMark) (k : Option (ℕ × Kind)) (co : Close) → AreEnd m k → Fate Never (ds a) p e k → Has (close_by (producer_id a) (pos e) m) co → IsCloseAt ds p co
 closed_by ds p a e None k co r f h = absurd h
 closed_by ds p a e (Some m) None co r f h = absurd r
 closed_by ds p a e (Some m) (Some k) co r f (inr h) = absurd h
@@ -140,45 +135,41 @@ closed_by ds p a e (Some m) (Some k) co r f (inl h) = record {
   from = e;
   to = k.0;
   kind = k.1;
-  producer = ap (λ (x : CloseOf). x.producer) (sym h);
-  epoch = ap (λ (x : CloseOf). x.epoch) (sym h);
-  marker_epoch = ap (λ (x : CloseOf). x.marker_epoch) (sym h) ∙ r.0;
-  same_kind = ap (λ (x : CloseOf). x.kind) (sym h) ∙ r.1;
+  producer = ap (λ (x : Close). x.producer) (sym h);
+  epoch = ap (λ (x : Close). x.epoch) (sym h);
+  marker_epoch = ap (λ (x : Close). x.marker_epoch) (sym h) ∙ r.0;
+  same_kind = ap (λ (x : Close). x.kind) (sym h) ∙ r.1;
   closed = f;
 }
 
-close_step : (c : Config) (o : ℕ) (x : Item) (xs : List Item)
-    → closes_of (heads_from c o (x ∷ xs)) ≡ (if (head_of (item_batch c o x)).is_data then close_of (item_touch x) (heads_from c (o + 1) xs) else []) ++ closes_of (heads_from c (o + 1) xs)
-close_step c o x xs = ap (λ t. (if (head_of (item_batch c o x)).is_data then close_of t (heads_from c (o + 1) xs) else []) ++ closes_of (heads_from c (o + 1) xs)) (touch_step c o x)
-
-each_close : (c : Config) (ds : ℕ → List Decided) (p o : ℕ) (xs : List Item) → AllMatched ds p xs → (co : CloseOf) → Has (closes_of (heads_from c o xs)) co → IsCloseAt ds p co
+each_close : (c : Config) (ds : ℕ → List Decided) (p o : ℕ) (xs : List Item) → AllMatched ds p xs → (co : Close) → Has (closes_of (batches_from c o xs)) co → IsCloseAt ds p co
 each_close c ds p o [] h co m = absurd m
-each_close c ds p o (x ∷ xs) h co m = by x h (subst (λ l. Has l co) (close_step c o x xs) m) (each_close c ds p (o + 1) xs (all_rest ds p x xs h) co)
+each_close c ds p o (x ∷ xs) h co m = by x h m (each_close c ds p (o + 1) xs (all_rest ds p x xs h) co)
   where
     by : (x : Item) → AllMatched ds p (x ∷ xs)
-        → Has ((if (head_of (item_batch c o x)).is_data then close_of (item_touch x) (heads_from c (o + 1) xs) else []) ++ closes_of (heads_from c (o + 1) xs)) co
-        → (Has (closes_of (heads_from c (o + 1) xs)) co → IsCloseAt ds p co) → IsCloseAt ds p co
+        → Has ((if is_data (item_batch c o x) then close_of (item_batch c o x) (batches_from c (o + 1) xs) else []) ++ closes_of (batches_from c (o + 1) xs)) co
+        → (Has (closes_of (batches_from c (o + 1) xs)) co → IsCloseAt ds p co) → IsCloseAt ds p co
     by (Fed n) h m later = later m
     by (State b y n) h m later = later m
     by (Marker b e k n) h m later = later m
-    by (Output b e s y v n) h m later = elim (append_cases (close_by (producer_id b) (pos e) (first_marker (producer_id b) (heads_from c (o + 1) xs))) (closes_of (heads_from c (o + 1) xs)) co m) [
+    by (Output b e s y v n) h m later = elim (append_cases (close_by (producer_id b) (pos e) (first_marker (producer_id b) (batches_from c (o + 1) xs))) (closes_of (batches_from c (o + 1) xs)) co m) [
       | inl z ↦ closed_by ds p b e _ (first_end (marks_of b xs)) co (first_is c b (o + 1) xs) (own_head Never (ds b) p b (app.Batch e (Some s)) (marks_of b xs) (h b)).0 z
       | inr z ↦ later z
     ]
-    by (Offset b e q v n) h m later = elim (append_cases (close_by (producer_id b) (pos e) (first_marker (producer_id b) (heads_from c (o + 1) xs))) (closes_of (heads_from c (o + 1) xs)) co m) [
+    by (Offset b e q v n) h m later = elim (append_cases (close_by (producer_id b) (pos e) (first_marker (producer_id b) (batches_from c (o + 1) xs))) (closes_of (batches_from c (o + 1) xs)) co m) [
       | inl z ↦ closed_by ds p b e _ (first_end (marks_of b xs)) co (first_is c b (o + 1) xs) (own_head Never (ds b) p b (app.Batch e None) (marks_of b xs) (h b)).0 z
       | inr z ↦ later z
     ]
 
 -- ---- markers
 
-listed_is : (o : Option EndMarker) (m : EndMarker) → Has (listed o) m → o ≡ Some m
+listed_is : (o : Option EndMarker) (m : EndMarker) → Has (option_to_list o) m → o ≡ Some m
 listed_is None m h = absurd h
 listed_is (Some n) m (inl e) = ap Some e
 listed_is (Some n) m (inr h) = absurd h
 
-marker_step : (c : Config) (o : ℕ) (x : Item) (xs : List Item) → markers_of (batches_from c o (x ∷ xs)) ≡ listed (item_marker x) ++ markers_of (batches_from c (o + 1) xs)
-marker_step c o x xs = ap (λ t. listed t ++ markers_of (batches_from c (o + 1) xs)) (marker_is c o x)
+marker_step : (c : Config) (o : ℕ) (x : Item) (xs : List Item) → markers_of (batches_from c o (x ∷ xs)) ≡ option_to_list (item_marker x) ++ markers_of (batches_from c (o + 1) xs)
+marker_step c o x xs = ap (λ t. option_to_list t ++ markers_of (batches_from c (o + 1) xs)) (marker_is c o x)
 
 pub record IsMarkerAt (ds : ℕ → List Decided) (p : ℕ) (m : EndMarker) : Type 0 where
   pub app : ℕ
@@ -191,7 +182,7 @@ each_marker : (c : Config) (ds : ℕ → List Decided) (p o : ℕ) (xs : List It
 each_marker c ds p o [] h m i = absurd i
 each_marker c ds p o (x ∷ xs) h m i = by x h (subst (λ l. Has l m) (marker_step c o x xs) i) (each_marker c ds p (o + 1) xs (all_rest ds p x xs h) m)
   where
-    by : (x : Item) → AllMatched ds p (x ∷ xs) → Has (listed (item_marker x) ++ markers_of (batches_from c (o + 1) xs)) m → (Has (markers_of (batches_from c (o + 1) xs)) m → IsMarkerAt ds p m) → IsMarkerAt ds p m
+    by : (x : Item) → AllMatched ds p (x ∷ xs) → Has (option_to_list (item_marker x) ++ markers_of (batches_from c (o + 1) xs)) m → (Has (markers_of (batches_from c (o + 1) xs)) m → IsMarkerAt ds p m) → IsMarkerAt ds p m
     by (Fed n) h i later = later i
     by (State b y n) h i later = later i
     by (Output b e s y v n) h i later = later i
@@ -217,7 +208,7 @@ has_marker c a o m k (x ∷ xs) h = subst (λ l. Has l (end_marker a m k)) (sym 
     ] i
 
     by : (x : Item) → Has (marks_of a (x ∷ xs)) (app.End m k) → (Has (marks_of a xs) (app.End m k) → Has (markers_of (batches_from c (o + 1) xs)) (end_marker a m k))
-        → Has (listed (item_marker x) ++ markers_of (batches_from c (o + 1) xs)) (end_marker a m k)
+        → Has (option_to_list (item_marker x) ++ markers_of (batches_from c (o + 1) xs)) (end_marker a m k)
     by (Fed n) i later = later i
     by (State b y n) i later = later i
     by (Output b e s y v n) i later = later (passed b e (Some s) i)
@@ -264,14 +255,13 @@ is_atomic c w ls s at = record { once = once c w ls s at; decided = decided; mar
     decided : (l : PartLog) (cl : Close) → Has ls l → Has l.closes cl → (d : Decision) × Has (table.decisions_of (transaction_parts ls)) d × IsOf d cl × EndsAs d cl × Has (names_of d.partitions) (part_name l)
     decided l cl h m =
         let r = in_logs c w 0 (place_count c) ls at l h in
-        let f = map_has as_close (closes_of (heads_of (log_batches c w r.0))) cl ((r.3.closes.members cl).0 m) in
-        let i = each_close c (decisions_of c w) r.0 0 (log_at w r.0) (matched r.0) f.0 f.1 in
+        let i = each_close c (decisions_of c w) r.0 0 (log_at w r.0) (matched r.0) cl ((r.3.closes.members cl).0 m) in
         let o = i.closed.ordered in
         let x = listing r.0 i.app i.to i.kind l r.3 o in (
           as_decision c i.app o.decision,
           x.0,
-          record { producer = sym i.producer ∙ ap (λ (z : Close). z.producer) f.2; epoch = ap pos i.closed.from ∙ (sym i.epoch ∙ ap (λ (z : Close). z.epoch) f.2) },
-          record { epoch = ap pos o.to ∙ (sym i.marker_epoch ∙ ap (λ (z : Close). z.marker_epoch) f.2); kind = o.kind ∙ (sym i.same_kind ∙ ap (λ (z : Close). z.kind) f.2) },
+          record { producer = sym i.producer; epoch = ap pos i.closed.from ∙ sym i.epoch },
+          record { epoch = ap pos o.to ∙ sym i.marker_epoch; kind = o.kind ∙ sym i.same_kind },
           x.1,
         )
 

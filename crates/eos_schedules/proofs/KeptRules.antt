@@ -13,14 +13,17 @@ use Rattle.eos_touch.specs.Neighbours.{EachAfter, Accepts, IsSequencedIf}
 use Rattle.eos_touch.proofs.NeighboursLaw.{law as neighbours}
 use Rattle.eos_fold.specs.declared.stop.Stop.{Stop}
 use Rattle.eos_fold.specs.declared.stop.Stop.TheVariants.{AtEnd}
-use Rattle.eos_fold.specs.declared.fault.PartitionFaultKind.{PartitionFaultKind}
-use Rattle.eos_fold.specs.declared.fault.PartitionFaultKind.TheVariants.{BadBatch, Gap, Pair, End, OpenAtEnd}
+use Rattle.eos_touch.specs.declared.fault.PartitionFaultKind.{PartitionFaultKind}
+use Rattle.eos_touch.specs.declared.fault.PartitionFaultKind.TheVariants.{BadBatch, Gap, Pair, End, OpenAtEnd}
 use Rattle.eos_items.specs.Items.{items_of}
-use Rattle.eos_fold.specs.Fronts.{IsFront, markers_of}
-use Rattle.eos_fold.specs.Touches.{touches_of}
+use Rattle.eos_fold.specs.Fronts.{IsFront}
+use Rattle.eos_batch.specs.Marker.{markers_of}
+use Rattle.eos_touch.specs.Touches.{touches_of}
 use Rattle.eos_fold.specs.Parts.{PartLog}
 use Rattle.eos_fold.specs.Standing.{StandsIn}
-use Rattle.eos_fold.specs.Whole.{closes_in, data_in, AreCloses}
+use Rattle.eos_fold.specs.Closes.{closes_of}
+use Rattle.eos_summary.specs.Settling.{data_in}
+use Rattle.eos_fold.specs.Whole.{AreCloses}
 use Rattle.eos_machine.specs.declared.config.Config.{Config}
 use Rattle.eos_machine.specs.Places.{IsConfig, place_count, topic_of, number_of, is_sequenced}
 use Rattle.eos_machine.specs.declared.item.Item.{Item}
@@ -113,7 +116,7 @@ is_log c w p l s m of =
       number = of.of_number;
       items = of.items ∙ ap (λ bs. items_of (data_in bs)) same.0;
       markers = of.markers ∙ ap markers_of same.0;
-      closes = subst (λ bs. AreCloses (closes_in bs) l.closes) same.0 of.closes;
+      closes = subst (λ bs. AreCloses (closes_of bs) l.closes) same.0 of.closes;
     }
 
 are_at : (c : Config) (w : World) (a n : ℕ) (ls : List PartLog) → IsSettled c w → a + n ≤ place_count c → AreLogsOf (map (partition_at c w) (range_with_len a n)) ls → AreAt c w a n ls

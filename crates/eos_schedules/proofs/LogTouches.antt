@@ -16,7 +16,7 @@ use Rattle.eos_touch.specs.declared.touch.Touch.{Touch}
 use Rattle.eos_touch.specs.declared.touch.Touch.TheVariants.{Data, End}
 use Rattle.eos_touch.specs.Neighbours.{EachAfter, Accepts}
 use Rattle.eos_touch.specs.Touches.{touch_of}
-use Rattle.eos_fold.specs.Touches.{touch_in, touches_of, last_of, last_touch}
+use Rattle.eos_touch.specs.Touches.{touch_in, touches_of, last_of, last_touch}
 use Rattle.eos_fold.specs.Standing.{IsOpen}
 use Rattle.eos_machine.specs.declared.config.Config.{Config}
 use Rattle.eos_machine.specs.Places.{is_sequenced}

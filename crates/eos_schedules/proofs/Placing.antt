@@ -16,6 +16,7 @@ use Rattle.eos_machine.specs.declared.state.Message.{Message}
 use Rattle.eos_machine.specs.declared.event.Event.{Event}
 use Rattle.eos_machine.specs.declared.item.Status.TheVariants.{Ongoing}
 use Rattle.eos_machine.specs.declared.item.Item.TheVariants.{Fed, State, Output, Offset, Marker}
+use Rattle.eos_machine.specs.Switching.{none}
 use Rattle.eos_machine.specs.World.{World, opening, log_at, coord_at, with_item, with_coord, written, prepared, finished}
 use Rattle.eos_machine.specs.declared.state.Message.TheVariants as messages
 use Rattle.eos_machine.specs.declared.event.Event.TheVariants as events
@@ -51,24 +52,24 @@ placed_item c w q x h k p = elim (set_or w.logs q (log_at w q ++ x ∷ []) p [])
   | inr e ↦ subst (All (IsHere c p)) (sym e.1) (subst (λ r. All (IsHere c r) (log_at w q ++ x ∷ [])) (sym e.0) (All-push (IsHere c q) (log_at w q) x (h q) k))
 ]
 
-placed_written : (c : Config) (w : World) (a : ℕ) (x : Entry) → Placed c w → Placed c (written c w a x)
+placed_written : (c : Config) (w : World) (a : ℕ) (x : Entry) → Placed c w → Placed c (written none c w a x)
 placed_written c w a x h = placed_item c w (txn_place c a) (State a x w.events) h refl
 
-placed_finished : (c : Config) (w : World) (a : ℕ) (k : Kind) → Placed c w → Placed c (finished c w a k)
+placed_finished : (c : Config) (w : World) (a : ℕ) (k : Kind) → Placed c w → Placed c (finished none c w a k)
 placed_finished c w a k h = placed_written c w a _ h
 
-placed_prepared : (c : Config) (w : World) (a : ℕ) (k : Kind) (ps : List ℕ) → Placed c w → Placed c (prepared c w a k ps)
+placed_prepared : (c : Config) (w : World) (a : ℕ) (k : Kind) (ps : List ℕ) → Placed c w → Placed c (prepared none c w a k ps)
 placed_prepared c w a k ps h = placed_written c w a _ h
 
-placed_partition : (c : Config) (w : World) (a p : ℕ) → Placed c w → Placed c (with_partition c w a p)
+placed_partition : (c : Config) (w : World) (a p : ℕ) → Placed c w → Placed c (with_partition none c w a p)
 placed_partition c w a p h =
-    elim (is_ongoing (coord_at w a).status && has p (coord_at w a).partitions) as (λ t. Placed c (if t then w else written c w a (record { status = Ongoing; epoch = (coord_at w a).epoch; partitions = listed p (ongoing_partitions (coord_at w a).status (coord_at w a).partitions) }))) [
+    elim (is_ongoing (coord_at w a).status && has p (coord_at w a).partitions) as (λ t. Placed c (if t then w else written none c w a (record { status = Ongoing; epoch = (coord_at w a).epoch; partitions = listed p (ongoing_partitions (coord_at w a).status (coord_at w a).partitions) }))) [
       | true ↦ h
       | false ↦ placed_written c w a (record { status = Ongoing; epoch = (coord_at w a).epoch; partitions = listed p (ongoing_partitions (coord_at w a).status (coord_at w a).partitions) }) h
     ]
 
-placed_accept : (c : Config) (w : World) (m a p : ℕ) (x : Item) → Placed c w → IsHere c p x → Placed c (accept c w m a p x)
-placed_accept c w m a p x h k = placed_item c (with_partition c w a p) p x (placed_partition c w a p h) k
+placed_accept : (c : Config) (w : World) (m a p : ℕ) (x : Item) → Placed c w → IsHere c p x → Placed c (accept none c w m a p x)
+placed_accept c w m a p x h k = placed_item c (with_partition none c w a p) p x (placed_partition c w a p h) k
 
 placed_if : (c : Config) (t : Bool) (x y : Answer) → Placed c x.0 → Placed c y.0 → Placed c (when t x y).0
 unfolding when
@@ -77,7 +78,7 @@ placed_if c false x y f g = g
 
 -- ---- events
 
-placed_deliver : (c : Config) (w : World) (m : ℕ) (r : Option Message) → Placed c w → Placed c (deliver c w m r).0
+placed_deliver : (c : Config) (w : World) (m : ℕ) (r : Option Message) → Placed c w → Placed c (deliver none c w m r).0
 placed_deliver c w m None h = h
 placed_deliver c w m (Some (messages.Output a e p s x v)) h =
     placed_if c _ _ _ h (placed_if c _ _ _ h (placed_if c _ _ _ h (placed_if c _ _ _ h (placed_if c _ _ _ h (placed_accept c w m a (output_place c p) (Output a e s x v w.events) h (omega arith))))))
@@ -85,16 +86,16 @@ placed_deliver c w m (Some (messages.Offset a e g q v)) h =
     placed_if c _ _ _ h (placed_if c _ _ _ h (placed_if c _ _ _ h (placed_if c _ _ _ h (placed_if c _ _ _ h (placed_accept c w m a offsets_place (Offset a e q v w.events) h refl)))))
 placed_deliver c w m (Some (messages.End a e k)) h =
     placed_if c _ _ _ h (placed_if c _ _ _ h (placed_if c _ _ _ h (placed_if c _ _ _
-    (placed_finished c (prepared c w a k []) a k (placed_prepared c w a k [] h))
+    (placed_finished c (prepared none c w a k []) a k (placed_prepared c w a k [] h))
     (placed_prepared c w a k (ongoing_partitions (coord_at w a).status (coord_at w a).partitions) h))))
 placed_deliver c w m (Some (messages.Marker a e k p)) h =
     let i : Placed c (with_item w p (Marker a e k w.events)) = placed_item c w p (Marker a e k w.events) h tt in
     placed_if c _ _ _ h (placed_if c _ _ _ i (placed_if c _ _ _ (placed_finished c (with_coord (with_item w p (Marker a e k w.events)) a (ticked_off (coord_at w a) p)) a k i) i))
 
-placed_session : (c : Config) (w : World) (a e : ℕ) → Placed c w → Placed c (start_session c w a e).0
+placed_session : (c : Config) (w : World) (a e : ℕ) → Placed c w → Placed c (start_session none c w a e).0
 placed_session c w a e h = placed_if c _ _ _ h (placed_written c w a _ h)
 
-placed_start : (c : Config) (w : World) (a : ℕ) → Placed c w → Placed c (start c w a).0
+placed_start : (c : Config) (w : World) (a : ℕ) → Placed c w → Placed c (start none c w a).0
 placed_start c w a h = placed_if c _ _ _ h (placed_if c _ _ _ h (placed_if c _ _ _ (placed_prepared c w a Abort (coord_at w a).partitions h) (placed_session c w a _ h)))
 
 placed_produce : (c : Config) (w : World) (m p : ℕ) (x : Claim) (r : Option Session) → Placed c w → Placed c (produce c w m p x r).0

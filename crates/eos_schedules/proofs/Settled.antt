@@ -5,9 +5,11 @@ use Rattle.std.proofs.lemmas.Bool.{cases_lt}
 use Rattle.eos_base.specs.Members.{Has}
 use Rattle.eos_batch.specs.declared.batch.Batch.{Batch}
 use Rattle.eos_items.specs.Items.{items_of}
-use Rattle.eos_fold.specs.Fronts.{markers_of}
+use Rattle.eos_batch.specs.Marker.{markers_of}
 use Rattle.eos_fold.specs.Parts.{PartLog}
-use Rattle.eos_fold.specs.Whole.{closes_in, data_in, AreCloses}
+use Rattle.eos_fold.specs.Closes.{closes_of}
+use Rattle.eos_summary.specs.Settling.{data_in}
+use Rattle.eos_fold.specs.Whole.{AreCloses}
 use Rattle.eos_machine.specs.declared.config.Config.{Config}
 use Rattle.eos_machine.specs.Places.{IsConfig, place_count, topic_of, number_of}
 use Rattle.eos_machine.specs.World.{World, log_at}
@@ -38,7 +40,7 @@ pub record IsLog (c : Config) (w : World) (p : ℕ) (l : PartLog) : Type 0 where
   pub number : l.number ≡ pos (number_of c p)
   pub items : l.items ≡ items_of (data_in (log_batches c w p))
   pub markers : l.markers ≡ markers_of (log_batches c w p)
-  pub closes : AreCloses (closes_in (log_batches c w p)) l.closes
+  pub closes : AreCloses (closes_of (log_batches c w p)) l.closes
 
 -- the logs of so many places, from this one on
 abbrev pub AreAt : Config → World → ℕ → ℕ → List PartLog → Type 0

@@ -10,7 +10,7 @@ use Rattle.eos_batch.specs.declared.batch.Batch.{Batch}
 use Rattle.eos_batch.specs.Encoding.{batch_text_of}
 use Rattle.eos_batch.specs.Segment.{Splits}
 use Rattle.eos_fold.specs.declared.stop.Stop.TheVariants.{AtEnd}
-use Rattle.eos_fold.specs.Front.{records_in, ContinuesFrom}
+use Rattle.eos_touch.specs.Front.{records_in, ContinuesFrom}
 use Rattle.eos_fold.specs.Fronts.{IsFront}
 use Rattle.eos_machine.specs.declared.config.Config.{Config}
 use Rattle.eos_machine.specs.Places.{IsConfig}

@@ -60,7 +60,7 @@ impl Run {
         }
         Ok(Run {
             alloc,
-            plan: Plan::new(alloc, config)?,
+            plan: Plan::new(alloc, *config)?,
             network: Network::new(),
             instances,
         })

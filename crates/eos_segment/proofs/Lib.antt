@@ -1,2 +1,4 @@
+pub mod AskedRecords
 pub mod Listings
+pub mod PlainListings
 pub mod Runs

@@ -1,6 +1,8 @@
 pub mod Answer
+pub mod Choosing
 pub mod Details
 pub mod Faults
+pub mod HeaderLines
 pub mod Lines
 pub mod Listing
 pub mod Running

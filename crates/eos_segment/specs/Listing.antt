@@ -1,5 +1,5 @@
 -- What `dump` prints for the bytes of a segment: the lines of its batches and records, and a last line that says where the
--- bytes end, or where the first fault is.
+-- bytes end, or where the first fault is. Which lines a batch has is a parameter: `IsListing` is said of all of them.
 use Rattle.std.specs.Prelude.{◌≡◌, ◌≢◌, ℕ, ◌+◌, List, [], ◌∷◌, ◌++◌, length, codes, Err, Option, Some, None, if◌then◌else◌}
 use Rattle.std.specs.Fmt.{decimal}
 use Rattle.eos_batch.specs.declared.batch.Batch.{Batch}
@@ -51,16 +51,17 @@ pub record IsLast (byte : ℕ) (rest text : List ℕ) (status : ℕ) : Type 0 wh
   pub line : text ≡ last_line byte stop
   pub exit : status ≡ status_of stop
 
--- The bytes from this one on are texts of these batches and then end, or have a fault. The text says so.
-abbrev pub Lists : ℕ → List ℕ → List Batch → List ℕ → ℕ → Type 0
-Lists byte bytes [] text status = IsLast byte bytes text status
-Lists byte bytes (b ∷ bs) text status =
-    (batch more lines : List ℕ) × IsBatchText batch b × (bytes ≡ batch ++ more) × (text ≡ batch_lines byte b ++ lines)
-    × Lists (byte + length batch) more bs lines status
+-- The bytes from this one on are texts of these batches and then end, or have a fault. The text says so, in the lines that
+-- each batch has.
+abbrev pub Lists : (ℕ → Batch → List ℕ) → ℕ → List ℕ → List Batch → List ℕ → ℕ → Type 0
+Lists lines_of byte bytes [] text status = IsLast byte bytes text status
+Lists lines_of byte bytes (b ∷ bs) text status =
+    (batch more lines : List ℕ) × IsBatchText batch b × (bytes ≡ batch ++ more) × (text ≡ lines_of byte b ++ lines)
+    × Lists lines_of (byte + length batch) more bs lines status
 
-abbrev pub IsListingFrom : ℕ → List ℕ → List ℕ → ℕ → Type 0
-IsListingFrom byte bytes text status = (batches : List Batch) × Lists byte bytes batches text status
+abbrev pub IsListingFrom : (ℕ → Batch → List ℕ) → ℕ → List ℕ → List ℕ → ℕ → Type 0
+IsListingFrom lines_of byte bytes text status = (batches : List Batch) × Lists lines_of byte bytes batches text status
 
 -- the text and the exit status of `dump` for these bytes
 abbrev pub IsListing : List ℕ → List ℕ → ℕ → Type 0
-IsListing bytes text status = IsListingFrom 0 bytes text status
+IsListing bytes text status = IsListingFrom batch_lines 0 bytes text status

@@ -2,13 +2,18 @@
 #![tactic(auto)]
 
 mod chain;
+mod chosen;
 mod details;
 mod dump;
 mod fault;
+mod headers;
 mod lines;
+mod options;
 mod text;
 
 pub use chain::chain_to;
 pub use details::push_details;
 pub use dump::dump_to;
+pub use eos_decoded::Reading;
 pub use fault::RunFault;
+pub use options::ListingOptions;

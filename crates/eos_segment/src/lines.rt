@@ -1,9 +1,9 @@
 //! The lines that `dump` prints for a batch and its records.
 
-ghost use Rattle.std.specs.Prelude.{◌≡◌, ◌++◌, ◌<◌, ◌^◌, ◌≤ℤ◌, ◌<ℤ◌, ◌+ℤ◌, pos, length, OnOk, IfOk, IfSome, Some, None, string_bytes};
+ghost use Rattle.std.specs.Prelude.{◌≡◌, OnOk, IfOk, Some, None, string_bytes};
 ghost use Rattle.eos_text.specs.Adding.{Adds};
-ghost use Rattle.eos_segment.specs.Listing.{kind_word, batch_lines, last_line, status_of};
-ghost use Rattle.eos_segment.specs.Lines.{record_line, record_lines, place_of, producer_of, batch_line};
+ghost use Rattle.eos_segment.specs.Listing.{kind_word, last_line, status_of};
+ghost use Rattle.eos_segment.specs.Lines.{record_line, place_of, producer_of, batch_line};
 
 use crate::text::push_hex;
 use eos_batch::{Batch, BatchFault, Kind, Record};
@@ -11,7 +11,7 @@ use eos_text::{push_text, push_value};
 use std::alloc::{AllocError, Global};
 
 /// Adds the line of a record at this offset.
-fn push_record(
+pub(crate) fn push_record(
     alloc: Global,
     out: &mut String,
     offset: i64,
@@ -24,19 +24,6 @@ fn push_record(
     push_hex(alloc, out, " value=", &item.value)?;
     push_value(out, " headers=", &item.headers.as_slice().len())?;
     push_text(out, "\n")?;
-    Ok(())
-}
-
-/// Adds the lines of a batch's records.
-fn push_records(alloc: Global, out: &mut String, batch: &Batch) -> Result<(), AllocError>
-    requires low { pos 0 ≤ℤ batch.now.base_offset }
-    requires high { (batch.now.base_offset +ℤ pos (length batch.now.records)) ≤ℤ pos (2 ^ 63) }
-    ensures { OnOk result (Adds (string_bytes out.old) (string_bytes out.new)
-        (record_lines batch.now.base_offset batch.now.records)) }
-{
-    for (place, item) in batch.records.as_slice().iter().enumerate() {
-        push_record(alloc, out, batch.base_offset + place as i64, item)?;
-    }
     Ok(())
 }
 
@@ -61,7 +48,12 @@ fn push_producer(out: &mut String, batch: &Batch) -> Result<(), AllocError>
 }
 
 /// Adds the line of a batch whose first byte is this one of the segment.
-fn push_head(out: &mut String, byte: usize, kind: &str, batch: &Batch) -> Result<(), AllocError>
+pub(crate) fn push_head(
+    out: &mut String,
+    byte: usize,
+    kind: &str,
+    batch: &Batch,
+) -> Result<(), AllocError>
     ensures { OnOk result (Adds (string_bytes out.old) (string_bytes out.new) (batch_line byte kind.now batch.now)) }
 {
     push_place(out, byte, batch)?;
@@ -72,7 +64,7 @@ fn push_head(out: &mut String, byte: usize, kind: &str, batch: &Batch) -> Result
 }
 
 /// The last word of a batch's line.
-fn kind_word(batch: &Batch) -> &'static str
+pub(crate) fn kind_word(batch: &Batch) -> &'static str
     ensures { result.now ≡ kind_word batch.now }
 {
     if batch.is_control() {
@@ -88,22 +80,6 @@ fn kind_word(batch: &Batch) -> &'static str
     } else {
         "plain"
     }
-}
-
-/// Adds the lines of the batch that begins at this byte.
-pub(crate) fn push_batch(
-    alloc: Global,
-    out: &mut String,
-    byte: usize,
-    batch: &Batch,
-) -> Result<(), AllocError>
-    requires low { pos 0 ≤ℤ batch.now.base_offset }
-    requires high { (batch.now.base_offset +ℤ pos (length batch.now.records)) ≤ℤ pos (2 ^ 63) }
-    ensures { OnOk result (Adds (string_bytes out.old) (string_bytes out.new) (batch_lines byte batch.now)) }
-{
-    push_head(out, byte, kind_word(batch), batch)?;
-    push_records(alloc, out, batch)?;
-    Ok(())
 }
 
 /// Adds the last line of a listing, and gives the exit status.

@@ -7,10 +7,10 @@ ghost use Rattle.eos_machine.specs.Machine.{feed, start, start_session};
 
 use eos_base::Listed;
 use eos_batch::Kind;
-use eos_machine::{Item, Reply, Session, Status};
+use eos_machine::{Item, Reply, Session, Status, Switches};
 use eos_store::answers::{is_ongoing, is_prepare};
 use eos_store::places::input_place;
-use eos_store::{Store, copies, step_of};
+use eos_store::{Store, copies};
 use std::alloc::AllocError;
 
 /// The greatest epoch at which a session may work: the end of its transaction takes one more.
@@ -35,8 +35,13 @@ pub fn feed(store: &mut Store, source: usize) -> Result<Reply, AllocError>
 }
 
 #[tactic(auto, unfolding(eos_machine::specs::Answers::when))]
-fn start_session(store: &mut Store, application: usize, epoch: u16) -> Result<Reply, AllocError>
-    ensures ok { IfOk result (λ r. (store.new.world, r) ≡ start_session store.old.config store.old.world application epoch) }
+fn start_session(
+    store: &mut Store,
+    switches: Switches,
+    application: usize,
+    epoch: u16,
+) -> Result<Reply, AllocError>
+    ensures ok { IfOk result (λ r. (store.new.world, r) ≡ start_session switches store.old.config store.old.world application epoch) }
     ensures err { OnErr result (store.new.world ≡ store.old.world) }
     ensures config { store.new.config ≡ store.old.config }
 {
@@ -47,7 +52,7 @@ fn start_session(store: &mut Store, application: usize, epoch: u16) -> Result<Re
     let alloc = store.alloc();
     let config = store.config();
     store.make_room(2)?;
-    let step = step_of(Status::Empty, epoch, copies::none(alloc))?;
+    let step = store.step_of(switches, Status::Empty, epoch, copies::none(alloc))?;
     let session = Session {
         application,
         epoch,
@@ -62,15 +67,15 @@ fn start_session(store: &mut Store, application: usize, epoch: u16) -> Result<Re
 }
 
 /// Aborts an open transaction.
-fn abort(store: &mut Store, application: usize) -> Result<(), AllocError>
+fn abort(store: &mut Store, switches: Switches, application: usize) -> Result<(), AllocError>
     requires { (coord_at store.old.world application).epoch ≤ 32767 }
-    ensures ok { OnOk result (store.new.world ≡ prepared store.old.config store.old.world application Abort (coord_at store.old.world application).partitions) }
+    ensures ok { OnOk result (store.new.world ≡ prepared switches store.old.config store.old.world application Abort (coord_at store.old.world application).partitions) }
     ensures err { OnErr result (store.new.world ≡ store.old.world) }
     ensures config { store.new.config ≡ store.old.config }
 {
     let partitions = store.partitions(application)?;
     store.make_room(partitions.as_slice().len() + 1)?;
-    store.prepare(application, Kind::Abort, partitions)
+    store.prepare(switches, application, Kind::Abort, partitions)
 }
 
 /// The epoch of an application's next session.
@@ -87,9 +92,9 @@ fn next_epoch(store: &Store, application: usize) -> u16
 
 /// A new session of an application begins. An open transaction is aborted first.
 #[tactic(auto, unfolding(eos_machine::specs::Answers::when))]
-pub fn start(store: &mut Store, application: usize) -> Result<Reply, AllocError>
+pub fn start(store: &mut Store, switches: Switches, application: usize) -> Result<Reply, AllocError>
     requires { (coord_at store.old.world application).epoch ≤ 32767 }
-    ensures ok { IfOk result (λ r. (store.new.world, r) ≡ start store.old.config store.old.world application) }
+    ensures ok { IfOk result (λ r. (store.new.world, r) ≡ start switches store.old.config store.old.world application) }
     ensures err { OnErr result (store.new.world ≡ store.old.world) }
     ensures config { store.new.config ≡ store.old.config }
 {
@@ -102,8 +107,8 @@ pub fn start(store: &mut Store, application: usize) -> Result<Reply, AllocError>
         return Ok(Reply::Busy);
     }
     if is_ongoing(status) {
-        abort(store, application)?;
+        abort(store, switches, application)?;
         return Ok(Reply::Busy);
     }
-    start_session(store, application, next_epoch(store, application))
+    start_session(store, switches, application, next_epoch(store, application))
 }

@@ -1,4 +1,4 @@
 pub mod Held
 pub mod Named
 pub mod Listing
-pub mod Proper
+pub mod steps

@@ -6,17 +6,10 @@ use Rattle.eos_machine.specs.declared.item.Item.{Item}
 use Rattle.eos_machine.specs.declared.item.Item.TheVariants.{Fed, State, Output, Offset, Marker}
 use Rattle.eos_machine.specs.declared.state.Session.{Session}
 use Rattle.eos_machine.specs.declared.state.Message.{Message}
-use Rattle.eos_machine.specs.declared.state.Message.TheVariants as messages
 use Rattle.eos_machine.specs.declared.event.Event.{Event}
 use Rattle.eos_machine.specs.declared.event.Event.TheVariants as events
+pub use Rattle.eos_machine.specs.Formed.{Names}
 use Rattle.eos_machine.specs.World.{World, coord_at}
-
--- the application and the partition of a message
-abbrev pub Names : Config → Message → Type 0
-Names c (messages.Output a e p s x v) = (a < c.applications) × (p < c.outputs)
-Names c (messages.Offset a e g q v) = a < c.applications
-Names c (messages.End a e k) = a < c.applications
-Names c (messages.Marker a e k p) = a < c.applications
 
 abbrev pub IsNamed : Config → Option Message → Type 0
 IsNamed c None = ⊤

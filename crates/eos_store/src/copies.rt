@@ -2,13 +2,14 @@
 
 ghost use Rattle.std.specs.Prelude.{◌≡◌, ◌+◌, ◌<◌, ◌^◌, [], IfOk, replicate, slice_index_or, slice_set};
 ghost use Rattle.std.specs.List.{All, list_any};
-ghost use Rattle.eos_machine.specs.Places.{listed, same_topic};
+ghost use Rattle.eos_machine.specs.Places.{IsConfig, listed, same_topic};
+ghost use Rattle.eos_machine.specs.World.{said, without_odd_outputs};
 ghost use Rattle.eos_machine.specs.Tests.{has};
 ghost use Rattle.eos_machine.specs.Deliveries.{without};
 
-use crate::places::OFFSETS_PLACE;
+use crate::places::{OFFSETS_PLACE, is_odd_output};
 use eos_base::Listed;
-use eos_machine::Places;
+use eos_machine::{Config, Places, Switches};
 use std::alloc::{AllocError, Global};
 
 pub fn copy(places: &Places) -> Result<Places, AllocError>
@@ -41,6 +42,40 @@ pub fn without(alloc: Global, place: usize, places: &[usize]) -> Result<Places, 
         }
     }
     Ok(Listed::new(others))
+}
+
+/// These places but for the odd partitions of `out`.
+fn without_odd_outputs(
+    alloc: Global,
+    config: Config,
+    places: &[usize],
+) -> Result<Places, AllocError>
+    requires { IsConfig config }
+    ensures { IfOk result (λ p. p ≡ without_odd_outputs config places.now) }
+{
+    let mut others = Vec::new(alloc);
+    for place in places {
+        if !is_odd_output(config, *place) {
+            others.push(*place)?;
+        }
+    }
+    Ok(Listed::new(others))
+}
+
+/// What a record says of a transaction's partitions.
+pub fn said(
+    alloc: Global,
+    switches: Switches,
+    config: Config,
+    places: &Places,
+) -> Result<Places, AllocError>
+    requires { IsConfig config }
+    ensures { IfOk result (λ p. p ≡ said switches config places.now) }
+{
+    if switches.hide_listing {
+        return without_odd_outputs(alloc, config, places.as_slice());
+    }
+    copy(places)
 }
 
 /// So many zeros.

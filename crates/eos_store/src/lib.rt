@@ -8,5 +8,5 @@ pub mod places;
 mod store;
 
 pub use store::clients::sequence_of;
-pub use store::coordinators::{Step, step_of};
+pub use store::coordinators::{Step, state_of};
 pub use store::{Store, fresh};

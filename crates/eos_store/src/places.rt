@@ -1,7 +1,7 @@
 //! The places of partitions in a cluster's list of logs.
 
-ghost use Rattle.std.specs.Prelude.{◌≡◌, ◌==◌, ◌&&◌, ◌||◌, ◌<◌, nat_lt};
-ghost use Rattle.eos_machine.specs.Places.{IsConfig, txn_place, input_place, output_place, is_partition, is_topic, offsets_topic, transactions_topic, input_topic, output_topic};
+ghost use Rattle.std.specs.Prelude.{◌≡◌, ◌==◌, ◌↔◌, ◌&&◌, ◌||◌, ◌<◌, ◌+◌, ◌%◌, ℕ, true, nat_lt};
+ghost use Rattle.eos_machine.specs.Places.{IsConfig, txn_place, input_place, output_place, place_count, topic_of, number_of, is_odd_output, is_partition, is_topic, offsets_topic, transactions_topic, input_topic, output_topic};
 
 use bytes::Bytes;
 use eos_machine::Config;
@@ -69,9 +69,10 @@ pub fn is_partition(config: Config, topic: &Bytes, number: usize) -> bool
                 || is_output_partition(config, topic, number)))
 }
 
-/// The place of the first partition of a topic that there is.
+/// The place of the first partition of a topic that there is: those of its other partitions come after it, by number.
 pub fn start_of(config: Config, topic: &Bytes) -> usize
     requires { IsConfig config }
+    ensures { (place : ℕ) → place < place_count config → topic.now ≡ topic_of config place → place ≡ result + number_of config place }
 {
     if topic.as_slice() == b"__consumer_offsets".as_slice() {
         OFFSETS_PLACE
@@ -87,6 +88,7 @@ pub fn start_of(config: Config, topic: &Bytes) -> usize
 /// Whether a place is an odd partition of `out`.
 pub fn is_odd_output(config: Config, place: usize) -> bool
     requires { IsConfig config }
+    ensures { result ≡ is_odd_output config place }
 {
     let start = output_place(config, 0);
     place >= start && (place - start) % 2 == 1

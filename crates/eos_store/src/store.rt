@@ -164,7 +164,10 @@ impl Store {
         Ok(())
     }
 
-    pub fn alloc(&self) -> Global {
+    /// The heap that it takes memory of. There is one.
+    pub fn alloc(&self) -> Global
+        ensures { (heap : Global) → result ≡ heap }
+    {
         self.alloc
     }
 
@@ -173,6 +176,14 @@ impl Store {
         ensures sizes { IsConfig result }
     {
         self.config
+    }
+
+    /// The same, lent.
+    pub fn config_ref(&self) -> &Config
+        ensures config { result.now ≡ self.now.config }
+        ensures sizes { IsConfig result.now }
+    {
+        &self.config
     }
 
     /// How many events were taken.

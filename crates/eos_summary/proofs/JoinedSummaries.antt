@@ -3,12 +3,12 @@ use Rattle.std.proofs.Common.{◌≡◌, ℕ, ◌+◌, ◌<◌, ◌^◌, Bool, L
 use Rattle.std.specs.List.{All}
 use Rattle.std.specs.Ordering.{int_cmp}
 use Rattle.std.specs.BTreeMap.{get}
-use Rattle.eos_summary.specs.Heads.{Head}
+use Rattle.eos_batch.specs.declared.batch.Batch.{Batch}
 use Rattle.eos_items.specs.Batches.{DataBatch}
 use Rattle.eos_summary.specs.declared.ends.Ends.{Ends}
 use Rattle.eos_summary.specs.declared.fault.Fault.{Fault}
 use Rattle.eos_summary.specs.declared.summary.BatchSummary.{BatchSummary}
-use Rattle.eos_summary.specs.Items.{items_of, waiting_in}
+use Rattle.eos_summary.specs.Settling.{data_in, waiting_in}
 use Rattle.eos_summary.specs.Tables.{Table, ends_in, ends_at, AreEnds, KeepsPlaces, IsReadyFor}
 use Rattle.eos_summary.specs.Faults.{IsSettled, IsLeastOf, earlier}
 use Rattle.eos_summary.specs.Summaries.{IsSummary, SameEnds, SameSummary}
@@ -17,11 +17,11 @@ use Rattle.eos_summary.proofs.Waiting.{all_below}
 use Rattle.eos_summary.proofs.SettledFaults.{least_or}
 use Rattle.eos_summary.proofs.TakingOver.{all_ends, all_places, all_items, all_faults}
 
-pub same_ends_of : (id : ℤ) (hs : List Head) (e f : Ends) → SameEnds e f → AreEnds id hs e → AreEnds id hs f
+pub same_ends_of : (id : ℤ) (hs : List Batch) (e f : Ends) → SameEnds e f → AreEnds id hs e → AreEnds id hs f
 same_ends_of id hs e f s a = record { first = s.first ∙ a.first; last = s.last ∙ a.last; marker = s.marker ∙ a.marker }
 
 -- a summary with more room
-pub same_summary : (hs : List Head) (s t : BatchSummary) → SameSummary s t → IsSummary hs s → IsSummary hs t
+pub same_summary : (hs : List Batch) (s t : BatchSummary) → SameSummary s t → IsSummary hs s → IsSummary hs t
 same_summary hs s t e h = record {
   items = e.items ∙ h.items;
   ends = λ id. same_ends_of id hs (ends_at s.producers id) (ends_at t.producers id) (e.ends id) (h.ends id);
@@ -43,7 +43,7 @@ can_take t is js u ready places after small = record {
   number = refl;
 }
 
-pub starts : (xs ys : List Head) (s t : BatchSummary) → IsSummary xs s → IsSummary ys t → t.sequenced ≡ s.sequenced → Starts xs ys s.sequenced s.producers s.index.batches (earlier s.fault t.fault) (rest_of t.producers)
+pub starts : (xs ys : List Batch) (s t : BatchSummary) → IsSummary xs s → IsSummary ys t → t.sequenced ≡ s.sequenced → Starts xs ys s.sequenced s.producers s.index.batches (earlier s.fault t.fault) (rest_of t.producers)
 starts xs ys s t p q e = record {
   before = p.ends;
   after = q.ends;
@@ -53,9 +53,9 @@ starts xs ys s t p q e = record {
   fault = least_or (IsSettled s.sequenced xs) (IsSettled s.sequenced ys) s.fault t.fault p.fault (subst (λ (b : Bool). IsLeastOf (IsSettled b ys) t.fault) e q.fault);
 }
 
-pub ends_taken : (xs ys : List Head) (s t r : BatchSummary) (is : List DataBatch) → IsSummary xs s → IsSummary ys t → IsTaken xs ys s.sequenced r.producers is r.fault (λ id. None) → r.sequenced ≡ s.sequenced → r.index.batches ≡ is ++ t.index.batches → IsSummary (xs ++ ys) r
+pub ends_taken : (xs ys : List Batch) (s t r : BatchSummary) (is : List DataBatch) → IsSummary xs s → IsSummary ys t → IsTaken xs ys s.sequenced r.producers is r.fault (λ id. None) → r.sequenced ≡ s.sequenced → r.index.batches ≡ is ++ t.index.batches → IsSummary (xs ++ ys) r
 ends_taken xs ys s t r is p q w sequenced items =
-    let both : r.index.batches ≡ is ++ items_of ys = items ∙ ap (λ (js : List DataBatch). is ++ js) q.items in
+    let both : r.index.batches ≡ is ++ data_in ys = items ∙ ap (λ (js : List DataBatch). is ++ js) q.items in
     record {
       items = both ∙ all_items xs ys s.sequenced r.producers is r.fault (λ id. None) (λ id. refl) w;
       ends = all_ends xs ys s.sequenced r.producers is r.fault (λ id. None) (λ id. refl) w;

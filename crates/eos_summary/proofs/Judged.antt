@@ -9,8 +9,8 @@ use Rattle.std.proofs.lemmas.Int.{ints}
 use Rattle.std.proofs.lemmas.List.Elements.{recursion_from_All}
 use Rattle.eos_touch.specs.declared.touch.Touch.{Touch}
 use Rattle.eos_touch.specs.declared.pair.PairFault.{PairFault}
-use Rattle.eos_summary.specs.Heads.{Head}
-use Rattle.eos_summary.specs.Heads.{first_touch, last_touch}
+use Rattle.eos_batch.specs.declared.batch.Batch.{Batch}
+use Rattle.eos_summary.specs.Ends.{first_placed, last_placed}
 use Rattle.eos_summary.specs.declared.ends.Ends.{Ends}
 use Rattle.eos_summary.specs.declared.fault.Fault.{Fault}
 use Rattle.eos_summary.specs.Tables.{Table, ends_in, ends_at, HasEnds}
@@ -42,7 +42,7 @@ abbrev pub IsLeastSoFar : Claims → Claims → Option Fault → Type 0
 IsLeastSoFar Claimed Stands None = (o : ℕ) (id : ℤ) (k : PairFault) → Claimed o id k → ⊥
 IsLeastSoFar Claimed Stands (Some f) = Stands f.offset f.producer f.kind × ((o : ℕ) (id : ℤ) (k : PairFault) → Claimed o id k → Below f o k)
 
-abbrev pub Judged : Bool → List Head → Table → List (ℤ × Ends) → Claims
+abbrev pub Judged : Bool → List Batch → Table → List (ℤ × Ends) → Claims
 Judged s hs t rest o id k = IsSettled s hs o id k ⊎ ((left rest id ≡ None) × StandsFirst s (ends_at t id).first o k)
 
 pub so_far : (Claimed Stands : Claims) (f : Option Fault) → ((o : ℕ) (id : ℤ) (k : PairFault) → Stands o id k → Claimed o id k) → IsLeastSoFar Claimed Stands f → IsLeastOf Stands f
@@ -70,11 +70,11 @@ no_first s e o k q h = subst (λ (x : Ends). StandsFirst s x.first o k) q h
 unlisted : (t : Table) (rest : List (ℤ × Ends)) (id : ℤ) → rest ≡ t.entries → left rest id ≡ None → ends_at t id ≡ ends_in None
 unlisted t rest id is n = ap ends_in (sym (ap (λ (es : List (ℤ × Ends)). left es id) is) ∙ n)
 
-pub judged_start : (s : Bool) (hs : List Head) (t : Table) (rest : List (ℤ × Ends)) (f : Option Fault) → rest ≡ t.entries → IsLeastOf (IsSettled s hs) f → IsLeastSoFar (Judged s hs t rest) (StandsInWhole s hs) f
+pub judged_start : (s : Bool) (hs : List Batch) (t : Table) (rest : List (ℤ × Ends)) (f : Option Fault) → rest ≡ t.entries → IsLeastOf (IsSettled s hs) f → IsLeastSoFar (Judged s hs t rest) (StandsInWhole s hs) f
 judged_start s hs t rest None is h = λ o id k j. elim j [ inl x ↦ h o id k x | inr y ↦ no_first s (ends_at t id) o k (unlisted t rest id is y.0) y.1 ]
 judged_start s hs t rest (Some f) is h = (inl h.0, λ o id k j. elim j [ inl x ↦ h.1 o id k x | inr y ↦ absurd (no_first s (ends_at t id) o k (unlisted t rest id is y.0) y.1) ])
 
-pub judged_step : (s : Bool) (hs : List Head) (t : Table) (p k : ℤ) (r : Ends) (rest more : List (ℤ × Ends)) (f g : Option Fault) → p ≡ k → rest ≡ (k, r) ∷ more → HasEnds hs t → AreFound t rest
+pub judged_step : (s : Bool) (hs : List Batch) (t : Table) (p k : ℤ) (r : Ends) (rest more : List (ℤ × Ends)) (f g : Option Fault) → p ≡ k → rest ≡ (k, r) ∷ more → HasEnds hs t → AreFound t rest
     → IsLeastOf (λ o id x. (id ≡ p) × StandsFirst s r.first o x) g → IsLeastSoFar (Judged s hs t rest) (StandsInWhole s hs) f → IsLeastSoFar (Judged s hs t more) (StandsInWhole s hs) (earlier f g)
 judged_step s hs t p k r rest more f g pk is ends found here h =
     more_so_far (Judged s hs t rest) (Judged s hs t more) (StandsInWhole s hs) (λ o id x. (id ≡ p) × StandsFirst s r.first o x) f g h here up split
@@ -82,11 +82,11 @@ judged_step s hs t p k r rest more f g pk is ends found here h =
     at_head : get int_cmp t k ≡ Some r
     at_head = (subst (λ (es : List (ℤ × Ends)). AreFound t es) is found).0
 
-    first_is : r.first ≡ first_touch k hs
+    first_is : r.first ≡ first_placed k hs
     first_is = sym (ap (λ (e : Ends). e.first) (ap ends_in at_head)) ∙ (ends k).first
 
     up : (o : ℕ) (id : ℤ) (x : PairFault) → (id ≡ p) × StandsFirst s r.first o x → StandsInWhole s hs o id x
-    up o id x y = inr (subst (λ (i : ℤ). StandsFirst s (first_touch i hs) o x) (sym (y.0 ∙ pk)) (subst (λ (u : Option (ℕ × Touch)). StandsFirst s u o x) first_is y.1))
+    up o id x y = inr (subst (λ (i : ℤ). StandsFirst s (first_placed i hs) o x) (sym (y.0 ∙ pk)) (subst (λ (u : Option (ℕ × Touch)). StandsFirst s u o x) first_is y.1))
 
     split : (o : ℕ) (id : ℤ) (x : PairFault) → Judged s hs t more o id x → Judged s hs t rest o id x ⊎ ((id ≡ p) × StandsFirst s r.first o x)
     split o id x (inl y) = inl (inl y)
@@ -95,7 +95,7 @@ judged_step s hs t p k r rest more f g pk is ends found here h =
       | inr z ↦ inr (z.0 ∙ sym pk, subst (λ (e : Ends). StandsFirst s e.first o x) z.1 y.1)
     ]
 
-pub judged_end : (s : Bool) (hs : List Head) (t : Table) (rest : List (ℤ × Ends)) (f : Option Fault) → rest ≡ [] → HasEnds hs t → IsLeastSoFar (Judged s hs t rest) (StandsInWhole s hs) f → IsLeastOf (StandsInWhole s hs) f
+pub judged_end : (s : Bool) (hs : List Batch) (t : Table) (rest : List (ℤ × Ends)) (f : Option Fault) → rest ≡ [] → HasEnds hs t → IsLeastSoFar (Judged s hs t rest) (StandsInWhole s hs) f → IsLeastOf (StandsInWhole s hs) f
 judged_end s hs t rest f is ends h = so_far (Judged s hs t rest) (StandsInWhole s hs) f up h
   where
     up : (o : ℕ) (id : ℤ) (k : PairFault) → StandsInWhole s hs o id k → Judged s hs t rest o id k
@@ -113,8 +113,8 @@ found_more t k r rest more is found = (subst (λ (es : List (ℤ × Ends)). AreF
 abbrev pub OpenSoFar : Table → List (ℤ × Ends) → ℤ → Type 0
 OpenSoFar t rest id = (left rest id ≡ None) × IsLeftOpen (ends_at t id).last
 
-abbrev pub IsOpenIn : List Head → ℤ → Type 0
-IsOpenIn hs id = IsLeftOpen (last_touch id hs)
+abbrev pub IsOpenIn : List Batch → ℤ → Type 0
+IsOpenIn hs id = IsLeftOpen (last_placed id hs)
 
 -- it is open, and none that was judged is less
 abbrev pub IsIdSoFar : (ℤ → Type 0) → (ℤ → Type 0) → Option ℤ → Type 0
@@ -124,17 +124,17 @@ IsIdSoFar C S (Some least) = S least × ((id : ℤ) → C id → least ≤ℤ id
 no_last : (e : Ends) → e ≡ ends_in None → IsLeftOpen e.last → ⊥
 no_last e q h = subst (λ (x : Ends). IsLeftOpen x.last) q h
 
-pub open_start : (hs : List Head) (t : Table) (rest : List (ℤ × Ends)) → rest ≡ t.entries → IsIdSoFar (OpenSoFar t rest) (IsOpenIn hs) None
+pub open_start : (hs : List Batch) (t : Table) (rest : List (ℤ × Ends)) → rest ≡ t.entries → IsIdSoFar (OpenSoFar t rest) (IsOpenIn hs) None
 open_start hs t rest is = λ id j. no_last (ends_at t id) (unlisted t rest id is j.0) j.1
 
-pub open_step : (hs : List Head) (t : Table) (p k : ℤ) (r : Ends) (rest more : List (ℤ × Ends)) (f g : Option ℤ) → p ≡ k → rest ≡ (k, r) ∷ more → HasEnds hs t → AreFound t rest
+pub open_step : (hs : List Batch) (t : Table) (p k : ℤ) (r : Ends) (rest more : List (ℤ × Ends)) (f g : Option ℤ) → p ≡ k → rest ≡ (k, r) ∷ more → HasEnds hs t → AreFound t rest
     → IsLeastId (λ i. (f ≡ Some i) ⊎ ((i ≡ p) × IsLeftOpen r.last)) g → IsIdSoFar (OpenSoFar t rest) (IsOpenIn hs) f → IsIdSoFar (OpenSoFar t more) (IsOpenIn hs) g
 open_step hs t p k r rest more f g pk is ends found here h = go f g h here
   where
     at_head : get int_cmp t k ≡ Some r
     at_head = (subst (λ (es : List (ℤ × Ends)). AreFound t es) is found).0
 
-    last_is : r.last ≡ last_touch k hs
+    last_is : r.last ≡ last_placed k hs
     last_is = sym (ap (λ (e : Ends). e.last) (ap ends_in at_head)) ∙ (ends k).last
 
     up : (i : ℤ) → i ≡ p → IsLeftOpen r.last → IsOpenIn hs i
@@ -158,7 +158,7 @@ open_step hs t p k r rest more f g pk is ends found here h = go f g h here
       λ id y. elim (split id y) [ inl x ↦ (let q = h.1 id x in let w = l.1 a (inl refl) in omega (arith, ints, q, w)) | inr z ↦ l.1 id (inr z) ],
     )
 
-pub open_end : (hs : List Head) (t : Table) (rest : List (ℤ × Ends)) (f : Option ℤ) → rest ≡ [] → HasEnds hs t → IsIdSoFar (OpenSoFar t rest) (IsOpenIn hs) f → IsLeastOpen hs f
+pub open_end : (hs : List Batch) (t : Table) (rest : List (ℤ × Ends)) (f : Option ℤ) → rest ≡ [] → HasEnds hs t → IsIdSoFar (OpenSoFar t rest) (IsOpenIn hs) f → IsLeastOpen hs f
 open_end hs t rest f is ends h = go f h
   where
     up : (id : ℤ) → IsOpenIn hs id → OpenSoFar t rest id

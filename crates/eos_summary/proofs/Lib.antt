@@ -1,12 +1,11 @@
 pub mod Waiting
 pub mod FatesSet
 pub mod TableWrites
-pub mod HeadLists
+pub mod BatchLists
 pub mod SettledFaults
 pub mod TakingOver
 pub mod JoinedSummaries
 pub mod OneBatch
-pub mod ClosesRead
 pub mod NextByOffset
 pub mod TouchKinds
 pub mod Judged

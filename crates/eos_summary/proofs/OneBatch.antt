@@ -1,7 +1,7 @@
 -- A list of one batch.
 use Rattle.std.proofs.Common.{◌≡◌, ℕ, ◌+◌, ◌≤◌, ◌<◌, ◌^◌, ◌⊎◌, inl, inr, Bool, true, false, cond, ◌&&◌, List, [], ◌∷◌, ◌++◌, length, Option, Some, None, refl, sym, ap, subst, ◌∙◌, arith, ℤ}
 use Rattle.std.specs.Option.{option_or}
-use Rattle.std.specs.Prelude.{IsSome}
+use Rattle.std.specs.Prelude.{IsSome, not}
 use Rattle.std.specs.List.{All}
 use Rattle.std.proofs.lemmas.List.Elements.{All-from_recursion}
 use Rattle.eos_touch.specs.Pair.{is_open}
@@ -15,12 +15,17 @@ use Rattle.std.specs.BTreeMap.{get}
 use Rattle.eos_touch.specs.declared.touch.Touch.{Touch}
 use Rattle.eos_touch.specs.declared.touch.Touch.TheVariants.{Data, End}
 use Rattle.eos_touch.specs.declared.pair.PairFault.{PairFault}
-use Rattle.eos_summary.specs.Heads.{Head}
-use Rattle.eos_items.specs.Batches.{DataBatch}
+use Rattle.eos_batch.specs.declared.batch.Batch.{Batch}
+use Rattle.eos_items.specs.Batches.{DataBatch, writer_of, ending_of}
+use Rattle.eos_batch.specs.Attributes.{is_control}
+use Rattle.eos_batch.specs.Offsets.{offset_of}
+use Rattle.eos_batch.specs.Rules.{IsProducerRight}
+use Rattle.eos_touch.specs.Touches.{touch_of}
+use Rattle.eos_summary.proofs.TouchKinds.{ending_said, ends_as_said, unsettled}
 use Rattle.eos_summary.specs.declared.ends.Ends.{Ends}
 use Rattle.eos_summary.specs.declared.fault.Fault.{Fault}
-use Rattle.eos_summary.specs.Heads.{touch_in, mark_in, mark_for}
-use Rattle.eos_summary.specs.Items.{items_of, ending_of, writer_of, waiting_in, waits}
+use Rattle.eos_summary.specs.Ends.{is_data, placed_in, mark_in, mark_for}
+use Rattle.eos_summary.specs.Settling.{resolved, data_in, waiting_in, waits}
 use Rattle.eos_summary.specs.Tables.{Table, ends_in, ends_at, AreEnds, KeepsPlaces, AreEndsOf, rest_alone, waiting_alone, IsReadyFor}
 use Rattle.eos_summary.specs.Faults.{IsSettled, IsLeastOf}
 use Rattle.eos_summary.specs.Joins.{Starts, IsTaking, IsTaken, TakesFrom}
@@ -36,14 +41,22 @@ or-none (Some x) = refl
 
 -- what waits in one batch, by its touch
 abbrev waits_alone : ℤ → Bool → Option (ℤ × Touch) → List ℕ
-waits_alone q is_data touch = cond is_data (cond (waits q (ending_of touch [])) (0 ∷ []) []) []
+waits_alone q is_data touch = cond is_data (cond (waits q (ending_said touch)) (0 ∷ []) []) []
 
 waiting_by_test : (q : ℤ) (o : ℕ) (n : List Record) (w : Option (ℤ × ℤ)) (f : Ending) (b : Bool) → waiting_in q (cond b (record { offset = o; writer = w; ending = f; records = n } ∷ []) [] ++ []) ≡ cond b (cond (waits q f) (0 ∷ []) []) []
 waiting_by_test q o n w f true = append-nil (cond (waits q f) (0 ∷ []) [])
 waiting_by_test q o n w f false = refl
 
-waiting_is : (q : ℤ) (h : Head) → waiting_in q (items_of (h ∷ [])) ≡ waits_alone q h.is_data h.touch
-waiting_is q h = waiting_by_test q h.offset h.records (writer_of h.touch) (ending_of h.touch []) h.is_data
+-- what waits, by how a batch by itself ends
+abbrev waits_if : ℤ → Bool → Ending → List ℕ
+waits_if q is_data ending = cond is_data (cond (waits q ending) (0 ∷ []) []) []
+
+waiting_is : (q : ℤ) (h : Batch) → IsProducerRight h → waiting_in q (data_in (h ∷ [])) ≡ waits_alone q (is_data h) (touch_of h)
+waiting_is q h right = waiting_by_test q (offset_of h) h.records (writer_of h) (resolved (λ id. None) (ending_of h)) (is_data h) ∙ by_kind (is_control h.attributes) refl
+  where
+    by_kind : (c : Bool) → is_control h.attributes ≡ c → waits_if q (not c) (resolved (λ id. None) (ending_of h)) ≡ waits_if q (not c) (ending_said (touch_of h))
+    by_kind true e = refl
+    by_kind false e = ap (waits_if q true) (unsettled (ending_of h) ∙ ends_as_said h right e)
 
 nothing_waits : (q : ℤ) (b : Bool) → waits_alone q b None ≡ []
 nothing_waits q true = refl
@@ -74,66 +87,66 @@ marker_other : (p q : ℤ) (o : ℕ) (t : Touch) → int_eq p q ≡ false → No
 marker_other p q o (Data e t s c) i = refl
 marker_other p q o (End e k) i = ap (λ (x : Bool). cond x (Some (record { offset = o; producer = p; epoch = e; kind = k })) None) (sym i)
 
-module _ (h : Head) (p : ℤ) (t : Touch) (touch : h.touch ≡ Some (p, t)) (e : Ends) (are : AreEndsOf h.offset h.is_data p t e) where
+module _ (h : Batch) (p : ℤ) (t : Touch) (touch : touch_of h ≡ Some (p, t)) (e : Ends) (are : AreEndsOf (offset_of h) (is_data h) p t e) where
   here : (q : ℤ) → int_eq p q ≡ true → AreEnds q (h ∷ []) e
   here q i =
-      let first : Some (h.offset, t) ≡ touch_in q h.offset h.touch = ap (λ (x : Bool). cond x (Some (h.offset, t)) None) (sym i) ∙ ap (touch_in q h.offset) (sym touch) in
+      let first : Some (offset_of h, t) ≡ placed_in q (offset_of h) (touch_of h) = ap (λ (x : Bool). cond x (Some (offset_of h, t)) None) (sym i) ∙ ap (placed_in q (offset_of h)) (sym touch) in
       record {
-        first = are.first ∙ (first ∙ sym (or-none (touch_in q h.offset h.touch)));
+        first = are.first ∙ (first ∙ sym (or-none (placed_in q (offset_of h) (touch_of h))));
         last = are.last ∙ first;
-        marker = are.marker ∙ (marker_same p q h.offset t i ∙ (ap (λ (x : Option (ℤ × Touch)). mark_for q (mark_in h.offset x)) (sym touch) ∙ sym (or-none (mark_for q (mark_in h.offset h.touch)))));
+        marker = are.marker ∙ (marker_same p q (offset_of h) t i ∙ (ap (λ (x : Option (ℤ × Touch)). mark_for q (mark_in (offset_of h) x)) (sym touch) ∙ sym (or-none (mark_for q (mark_in (offset_of h) (touch_of h))))));
       }
 
   elsewhere : (q : ℤ) → int_eq p q ≡ false → AreEnds q (h ∷ []) (ends_in None)
   elsewhere q i =
-      let first : None ≡ touch_in q h.offset h.touch = ap (λ (x : Bool). cond x (Some (h.offset, t)) None) (sym i) ∙ ap (touch_in q h.offset) (sym touch) in
+      let first : None ≡ placed_in q (offset_of h) (touch_of h) = ap (λ (x : Bool). cond x (Some (offset_of h, t)) None) (sym i) ∙ ap (placed_in q (offset_of h)) (sym touch) in
       record {
-        first = first ∙ sym (or-none (touch_in q h.offset h.touch));
+        first = first ∙ sym (or-none (placed_in q (offset_of h) (touch_of h)));
         last = first;
-        marker = marker_other p q h.offset t i ∙ (ap (λ (x : Option (ℤ × Touch)). mark_for q (mark_in h.offset x)) (sym touch) ∙ sym (or-none (mark_for q (mark_in h.offset h.touch))));
+        marker = marker_other p q (offset_of h) t i ∙ (ap (λ (x : Option (ℤ × Touch)). mark_for q (mark_in (offset_of h) x)) (sym touch) ∙ sym (or-none (mark_for q (mark_in (offset_of h) (touch_of h)))));
       }
 
   pub alone : (q : ℤ) → AreEnds q (h ∷ []) (ends_in (rest_alone p e q))
   alone q = elim (int_eq p q) as (λ b. int_eq p q ≡ b → AreEnds q (h ∷ []) (ends_in (cond b (Some e) None))) [ true ↦ λ i. here q i | false ↦ λ i. elsewhere q i ] refl
 
-  waiting_by : (q : ℤ) (b : Bool) → int_eq p q ≡ b → (ends_in (cond b (Some e) None)).waiting.list ≡ waits_alone q h.is_data (Some (p, t))
-  waiting_by q true i = are.waiting ∙ waits_same p q h.is_data t (int_eq-flip q p ∙ i)
-  waiting_by q false i = waits_other p q h.is_data t (int_eq-flip q p ∙ i)
+  waiting_by : (q : ℤ) (b : Bool) → int_eq p q ≡ b → (ends_in (cond b (Some e) None)).waiting.list ≡ waits_alone q (is_data h) (Some (p, t))
+  waiting_by q true i = are.waiting ∙ waits_same p q (is_data h) t (int_eq-flip q p ∙ i)
+  waiting_by q false i = waits_other p q (is_data h) t (int_eq-flip q p ∙ i)
 
-  pub alone_waiting : (q : ℤ) → (ends_in (rest_alone p e q)).waiting.list ≡ waiting_in q (items_of (h ∷ []))
-  alone_waiting q = waiting_by q (int_eq p q) refl ∙ (ap (waits_alone q h.is_data) (sym touch) ∙ sym (waiting_is q h))
+  pub alone_waiting : IsProducerRight h → (q : ℤ) → (ends_in (rest_alone p e q)).waiting.list ≡ waiting_in q (data_in (h ∷ []))
+  alone_waiting right q = waiting_by q (int_eq p q) refl ∙ (ap (waits_alone q (is_data h)) (sym touch) ∙ sym (waiting_is q h right))
 
 -- nothing is settled in one batch
-no_fault : (s : Bool) (h : Head) (o : ℕ) (id : ℤ) (k : PairFault) → IsSettled s (h ∷ []) o id k → ⊥
+no_fault : (s : Bool) (h : Batch) (o : ℕ) (id : ℤ) (k : PairFault) → IsSettled s (h ∷ []) o id k → ⊥
 no_fault s h o id k (inl x) = x
 no_fault s h o id k (inr x) = x
 
-pub still_least : (s : Bool) (xs : List Head) (h : Head) (f : Option Fault) → IsLeastOf (IsSettled s xs) f → IsLeastOf (λ o id k. IsSettled s xs o id k ⊎ IsSettled s (h ∷ []) o id k) f
+pub still_least : (s : Bool) (xs : List Batch) (h : Batch) (f : Option Fault) → IsLeastOf (IsSettled s xs) f → IsLeastOf (λ o id k. IsSettled s xs o id k ⊎ IsSettled s (h ∷ []) o id k) f
 still_least s xs h f l = least_same (IsSettled s xs) (λ o id k. IsSettled s xs o id k ⊎ IsSettled s (h ∷ []) o id k) f (λ o id k x. inl x) (λ o id k x. elim x [ inl a ↦ a | inr b ↦ absurd (no_fault s h o id k b) ]) l
 
 -- a batch that says nothing of any id
-pub silent : (s : Bool) (xs : List Head) (h : Head) (t : Table) (is : List DataBatch) (f : Option Fault) → h.touch ≡ None → KeepsPlaces t is → TakesFrom s xs t is f → Starts xs (h ∷ []) s t is f (λ q. None)
-silent s xs h t is f none places w = record {
+pub silent : (s : Bool) (xs : List Batch) (h : Batch) (t : Table) (is : List DataBatch) (f : Option Fault) → IsProducerRight h → touch_of h ≡ None → KeepsPlaces t is → TakesFrom s xs t is f → Starts xs (h ∷ []) s t is f (λ q. None)
+silent s xs h t is f right none places w = record {
   before = w.ends;
   after = λ q. record {
-    first = ap (λ (x : Option (ℤ × Touch)). option_or (touch_in q h.offset x) None) (sym none);
-    last = ap (touch_in q h.offset) (sym none);
-    marker = ap (λ (x : Option (ℤ × Touch)). option_or (mark_for q (mark_in h.offset x)) None) (sym none);
+    first = ap (λ (x : Option (ℤ × Touch)). option_or (placed_in q (offset_of h) x) None) (sym none);
+    last = ap (placed_in q (offset_of h)) (sym none);
+    marker = ap (λ (x : Option (ℤ × Touch)). option_or (mark_for q (mark_in (offset_of h) x)) None) (sym none);
   };
   items = w.items;
   places = places;
-  places_after = λ q. sym (nothing_waits q h.is_data) ∙ (ap (waits_alone q h.is_data) (sym none) ∙ sym (waiting_is q h));
+  places_after = λ q. sym (nothing_waits q (is_data h)) ∙ (ap (waits_alone q (is_data h)) (sym none) ∙ sym (waiting_is q h right));
   fault = still_least s xs h f w.fault;
 }
 
 -- a batch of an id
-pub says : (s : Bool) (xs : List Head) (h : Head) (p : ℤ) (touch : Touch) (e : Ends) (t : Table) (is : List DataBatch) (f : Option Fault) → h.touch ≡ Some (p, touch) → AreEndsOf h.offset h.is_data p touch e → KeepsPlaces t is → TakesFrom s xs t is f → Starts xs (h ∷ []) s t is f (rest_alone p e)
-says s xs h p touch e t is f some are places w = record {
+pub says : (s : Bool) (xs : List Batch) (h : Batch) (p : ℤ) (touch : Touch) (e : Ends) (t : Table) (is : List DataBatch) (f : Option Fault) → IsProducerRight h → touch_of h ≡ Some (p, touch) → AreEndsOf (offset_of h) (is_data h) p touch e → KeepsPlaces t is → TakesFrom s xs t is f → Starts xs (h ∷ []) s t is f (rest_alone p e)
+says s xs h p touch e t is f right some are places w = record {
   before = w.ends;
   after = alone h p touch some e are;
   items = w.items;
   places = places;
-  places_after = alone_waiting h p touch some e are;
+  places_after = alone_waiting h p touch some e are right;
   fault = still_least s xs h f w.fault;
 }
 
@@ -166,11 +179,11 @@ alone_taking by t is p e ready places fits number = record {
   number = number;
 }
 
-pub takes_same : (s : Bool) (xs : List Head) (t u : Table) (is : List DataBatch) (f : Option Fault) → ((id : ℤ) → SameEnds (ends_at t id) (ends_at u id)) → TakesFrom s xs t is f → TakesFrom s xs u is f
+pub takes_same : (s : Bool) (xs : List Batch) (t u : Table) (is : List DataBatch) (f : Option Fault) → ((id : ℤ) → SameEnds (ends_at t id) (ends_at u id)) → TakesFrom s xs t is f → TakesFrom s xs u is f
 takes_same s xs t u is f same w = record { ends = λ id. same_ends_of id xs (ends_at t id) (ends_at u id) (same id) (w.ends id); items = w.items; fault = w.fault }
 
 -- one batch more
-pub pushed : (xs : List Head) (h : Head) (s r : BatchSummary) (is : List DataBatch) → IsSummary xs s → IsTaken xs (h ∷ []) s.sequenced r.producers is r.fault (λ id. None) → r.sequenced ≡ s.sequenced → r.index.batches ≡ is ++ items_of (h ∷ []) → IsSummary (xs ++ h ∷ []) r
+pub pushed : (xs : List Batch) (h : Batch) (s r : BatchSummary) (is : List DataBatch) → IsSummary xs s → IsTaken xs (h ∷ []) s.sequenced r.producers is r.fault (λ id. None) → r.sequenced ≡ s.sequenced → r.index.batches ≡ is ++ data_in (h ∷ []) → IsSummary (xs ++ h ∷ []) r
 pushed xs h s r is p w sequenced items = record {
   items = items ∙ all_items xs (h ∷ []) s.sequenced r.producers is r.fault (λ id. None) (λ id. refl) w;
   ends = all_ends xs (h ∷ []) s.sequenced r.producers is r.fault (λ id. None) (λ id. refl) w;
@@ -187,8 +200,8 @@ nothing_known r items blank fault = record {
 }
 
 -- a fact of a key, at an equal one
-pub are_of_key : (h : Head) (k p : ℤ) (t : Touch) (e : Ends) → k ≡ p → AreEndsOf h.offset h.is_data k t e → AreEndsOf h.offset h.is_data p t e
-are_of_key h k p t e same a = subst (λ (j : ℤ). AreEndsOf h.offset h.is_data j t e) same a
+pub are_of_key : (h : Batch) (k p : ℤ) (t : Touch) (e : Ends) → k ≡ p → AreEndsOf (offset_of h) (is_data h) k t e → AreEndsOf (offset_of h) (is_data h) p t e
+are_of_key h k p t e same a = subst (λ (j : ℤ). AreEndsOf (offset_of h) (is_data h) j t e) same a
 
 pub ready_alone : (m t : Table) (p : ℤ) (e : Ends) (n : ℕ) → SameEnds (ends_at m p) (ends_at t p) → IsSome (get int_cmp t p) → length (ends_at m p).waiting.list + n ≤ (ends_at t p).waiting.room → n ≡ length e.waiting.list → IsReadyFor t p e
 ready_alone m t p e n same present room len = record { present = present; room = record { room = let l = ap length same.waiting in omega (arith, l, room, len) } }
@@ -199,8 +212,8 @@ short by b t small = elim (b && is_open t) as (λ x. All (λ n. n + by < 2 ^ 64)
   | false ↦ All-from_recursion (λ n. n + by < 2 ^ 64) [] tt
 ]
 
-pub short_fits : (h : Head) (p : ℤ) (t : Touch) (e : Ends) (by : ℕ) → AreEndsOf h.offset h.is_data p t e → by < 2 ^ 64 → All (λ n. n + by < 2 ^ 64) e.waiting.list
-short_fits h p t e by a small = subst (λ (ps : List ℕ). All (λ n. n + by < 2 ^ 64) ps) (sym a.waiting) (short by h.is_data t small)
+pub short_fits : (h : Batch) (p : ℤ) (t : Touch) (e : Ends) (by : ℕ) → AreEndsOf (offset_of h) (is_data h) p t e → by < 2 ^ 64 → All (λ n. n + by < 2 ^ 64) e.waiting.list
+short_fits h p t e by a small = subst (λ (ps : List ℕ). All (λ n. n + by < 2 ^ 64) ps) (sym a.waiting) (short by (is_data h) t small)
 
-pub are_of : (h : Head) (k p : ℤ) (o : ℕ) (d : Bool) (t : Touch) (e : Ends) → k ≡ p → o ≡ h.offset → d ≡ h.is_data → AreEndsOf o d k t e → AreEndsOf h.offset h.is_data p t e
-are_of h k p o d t e same at is a = are_of_key h k p t e same (subst (λ (b : Bool). AreEndsOf h.offset b k t e) is (subst (λ (n : ℕ). AreEndsOf n d k t e) at a))
+pub are_of : (h : Batch) (k p : ℤ) (o : ℕ) (d : Bool) (t : Touch) (e : Ends) → k ≡ p → o ≡ offset_of h → d ≡ is_data h → AreEndsOf o d k t e → AreEndsOf (offset_of h) (is_data h) p t e
+are_of h k p o d t e same at is a = are_of_key h k p t e same (subst (λ (b : Bool). AreEndsOf (offset_of h) b k t e) is (subst (λ (n : ℕ). AreEndsOf n d k t e) at a))

@@ -6,9 +6,9 @@ use borrow.Author.Tests.{ltb-true, ltb-false, leb-true, leb-false}
 use Rattle.eos_touch.specs.declared.touch.Touch.{Touch}
 use Rattle.eos_touch.specs.declared.pair.PairFault.{PairFault}
 use Rattle.eos_touch.specs.Pair.{number_of}
-use Rattle.eos_summary.specs.Heads.{Head}
+use Rattle.eos_batch.specs.declared.batch.Batch.{Batch}
 use Rattle.eos_summary.specs.declared.fault.Fault.{Fault}
-use Rattle.eos_summary.specs.Heads.{touch_of, first_touch, last_touch}
+use Rattle.eos_summary.specs.Ends.{placed, first_placed, last_placed}
 use Rattle.eos_summary.specs.Faults.{StandsAt, StandsAfter, IsSettled, IsLeastOf, earlier_of, earlier}
 
 or-assoc : {X : Type 0} (a b c : Option X) → option_or (option_or a b) c ≡ option_or a (option_or b c)
@@ -20,37 +20,37 @@ or-none None = refl
 or-none (Some x) = refl
 
 module _ (s : Bool) (id : ℤ) (o : ℕ) (k : PairFault) where
-  after_both : (before : Option (ℕ × Touch)) (xs ys : List Head) → StandsAfter s id before (xs ++ ys) o k → StandsAfter s id before xs o k ⊎ StandsAfter s id (option_or (last_touch id xs) before) ys o k
+  after_both : (before : Option (ℕ × Touch)) (xs ys : List Batch) → StandsAfter s id before (xs ++ ys) o k → StandsAfter s id before xs o k ⊎ StandsAfter s id (option_or (last_placed id xs) before) ys o k
   after_both before [] ys h = inr h
   after_both before (x ∷ xs) ys (inl h) = inl (inl h)
   after_both before (x ∷ xs) ys (inr h) =
-      elim (after_both (option_or (touch_of id x) before) xs ys h) [
+      elim (after_both (option_or (placed id x) before) xs ys h) [
         | inl a ↦ inl (inr a)
-        | inr b ↦ inr (subst (λ (p : Option (ℕ × Touch)). StandsAfter s id p ys o k) (sym (or-assoc (last_touch id xs) (touch_of id x) before)) b)
+        | inr b ↦ inr (subst (λ (p : Option (ℕ × Touch)). StandsAfter s id p ys o k) (sym (or-assoc (last_placed id xs) (placed id x) before)) b)
       ]
 
-  after_first : (before : Option (ℕ × Touch)) (xs ys : List Head) → StandsAfter s id before xs o k → StandsAfter s id before (xs ++ ys) o k
+  after_first : (before : Option (ℕ × Touch)) (xs ys : List Batch) → StandsAfter s id before xs o k → StandsAfter s id before (xs ++ ys) o k
   after_first before [] ys h = absurd h
   after_first before (x ∷ xs) ys (inl h) = inl h
-  after_first before (x ∷ xs) ys (inr h) = inr (after_first (option_or (touch_of id x) before) xs ys h)
+  after_first before (x ∷ xs) ys (inr h) = inr (after_first (option_or (placed id x) before) xs ys h)
 
-  after_second : (before : Option (ℕ × Touch)) (xs ys : List Head) → StandsAfter s id (option_or (last_touch id xs) before) ys o k → StandsAfter s id before (xs ++ ys) o k
+  after_second : (before : Option (ℕ × Touch)) (xs ys : List Batch) → StandsAfter s id (option_or (last_placed id xs) before) ys o k → StandsAfter s id before (xs ++ ys) o k
   after_second before [] ys h = h
-  after_second before (x ∷ xs) ys h = inr (after_second (option_or (touch_of id x) before) xs ys (subst (λ (p : Option (ℕ × Touch)). StandsAfter s id p ys o k) (or-assoc (last_touch id xs) (touch_of id x) before) h))
+  after_second before (x ∷ xs) ys h = inr (after_second (option_or (placed id x) before) xs ys (subst (λ (p : Option (ℕ × Touch)). StandsAfter s id p ys o k) (or-assoc (last_placed id xs) (placed id x) before) h))
 
   pub no_next : (p : Option (ℕ × Touch)) → StandsAt s p None o k → ⊥
   no_next None h = h
   no_next (Some p) h = h
 
-  split_step : (p t : Option (ℕ × Touch)) (ys : List Head) → (StandsAfter s id p ys o k → StandsAt s p (first_touch id ys) o k ⊎ StandsAfter s id None ys o k)
-      → StandsAt s p t o k ⊎ StandsAfter s id (option_or t p) ys o k → StandsAt s p (option_or t (first_touch id ys)) o k ⊎ (StandsAt s None t o k ⊎ StandsAfter s id (option_or t None) ys o k)
+  split_step : (p t : Option (ℕ × Touch)) (ys : List Batch) → (StandsAfter s id p ys o k → StandsAt s p (first_placed id ys) o k ⊎ StandsAfter s id None ys o k)
+      → StandsAt s p t o k ⊎ StandsAfter s id (option_or t p) ys o k → StandsAt s p (option_or t (first_placed id ys)) o k ⊎ (StandsAt s None t o k ⊎ StandsAfter s id (option_or t None) ys o k)
   split_step p None ys ih (inl h) = absurd (no_next p h)
   split_step p None ys ih (inr h) = elim (ih h) [ inl a ↦ inl a | inr b ↦ inr (inr b) ]
   split_step p (Some u) ys ih (inl h) = inl h
   split_step p (Some u) ys ih (inr h) = inr (inr h)
 
-  join_step : (p t : Option (ℕ × Touch)) (ys : List Head) → (StandsAt s p (first_touch id ys) o k ⊎ StandsAfter s id None ys o k → StandsAfter s id p ys o k)
-      → StandsAt s p (option_or t (first_touch id ys)) o k ⊎ (StandsAt s None t o k ⊎ StandsAfter s id (option_or t None) ys o k) → StandsAt s p t o k ⊎ StandsAfter s id (option_or t p) ys o k
+  join_step : (p t : Option (ℕ × Touch)) (ys : List Batch) → (StandsAt s p (first_placed id ys) o k ⊎ StandsAfter s id None ys o k → StandsAfter s id p ys o k)
+      → StandsAt s p (option_or t (first_placed id ys)) o k ⊎ (StandsAt s None t o k ⊎ StandsAfter s id (option_or t None) ys o k) → StandsAt s p t o k ⊎ StandsAfter s id (option_or t p) ys o k
   join_step p None ys ih (inl h) = inr (ih (inl h))
   join_step p None ys ih (inr (inl h)) = absurd h
   join_step p None ys ih (inr (inr h)) = inr (ih (inr h))
@@ -58,26 +58,26 @@ module _ (s : Bool) (id : ℤ) (o : ℕ) (k : PairFault) where
   join_step p (Some u) ys ih (inr (inl h)) = absurd h
   join_step p (Some u) ys ih (inr (inr h)) = inr h
 
-  first_split : (p : Option (ℕ × Touch)) (ys : List Head) → StandsAfter s id p ys o k → StandsAt s p (first_touch id ys) o k ⊎ StandsAfter s id None ys o k
+  first_split : (p : Option (ℕ × Touch)) (ys : List Batch) → StandsAfter s id p ys o k → StandsAt s p (first_placed id ys) o k ⊎ StandsAfter s id None ys o k
   first_split p [] h = absurd h
-  first_split p (y ∷ ys) h = split_step p (touch_of id y) ys (first_split p ys) h
+  first_split p (y ∷ ys) h = split_step p (placed id y) ys (first_split p ys) h
 
-  first_join : (p : Option (ℕ × Touch)) (ys : List Head) → StandsAt s p (first_touch id ys) o k ⊎ StandsAfter s id None ys o k → StandsAfter s id p ys o k
+  first_join : (p : Option (ℕ × Touch)) (ys : List Batch) → StandsAt s p (first_placed id ys) o k ⊎ StandsAfter s id None ys o k → StandsAfter s id p ys o k
   first_join p [] (inl h) = no_next p h
   first_join p [] (inr h) = h
-  first_join p (y ∷ ys) h = join_step p (touch_of id y) ys (first_join p ys) h
+  first_join p (y ∷ ys) h = join_step p (placed id y) ys (first_join p ys) h
 
-  pub settled_split : (xs ys : List Head) → IsSettled s (xs ++ ys) o id k → (IsSettled s xs o id k ⊎ IsSettled s ys o id k) ⊎ StandsAt s (last_touch id xs) (first_touch id ys) o k
+  pub settled_split : (xs ys : List Batch) → IsSettled s (xs ++ ys) o id k → (IsSettled s xs o id k ⊎ IsSettled s ys o id k) ⊎ StandsAt s (last_placed id xs) (first_placed id ys) o k
   settled_split xs ys h =
       elim (after_both None xs ys h) [
         | inl a ↦ inl (inl a)
-        | inr b ↦ elim (first_split (last_touch id xs) ys (subst (λ (p : Option (ℕ × Touch)). StandsAfter s id p ys o k) (or-none (last_touch id xs)) b)) [ inl d ↦ inr d | inr e ↦ inl (inr e) ]
+        | inr b ↦ elim (first_split (last_placed id xs) ys (subst (λ (p : Option (ℕ × Touch)). StandsAfter s id p ys o k) (or-none (last_placed id xs)) b)) [ inl d ↦ inr d | inr e ↦ inl (inr e) ]
       ]
 
-  pub settled_join : (xs ys : List Head) → (IsSettled s xs o id k ⊎ IsSettled s ys o id k) ⊎ StandsAt s (last_touch id xs) (first_touch id ys) o k → IsSettled s (xs ++ ys) o id k
+  pub settled_join : (xs ys : List Batch) → (IsSettled s xs o id k ⊎ IsSettled s ys o id k) ⊎ StandsAt s (last_placed id xs) (first_placed id ys) o k → IsSettled s (xs ++ ys) o id k
   settled_join xs ys (inl (inl a)) = after_first None xs ys a
-  settled_join xs ys (inl (inr b)) = after_second None xs ys (subst (λ (p : Option (ℕ × Touch)). StandsAfter s id p ys o k) (sym (or-none (last_touch id xs))) (first_join (last_touch id xs) ys (inr b)))
-  settled_join xs ys (inr d) = after_second None xs ys (subst (λ (p : Option (ℕ × Touch)). StandsAfter s id p ys o k) (sym (or-none (last_touch id xs))) (first_join (last_touch id xs) ys (inl d)))
+  settled_join xs ys (inl (inr b)) = after_second None xs ys (subst (λ (p : Option (ℕ × Touch)). StandsAfter s id p ys o k) (sym (or-none (last_placed id xs))) (first_join (last_placed id xs) ys (inr b)))
+  settled_join xs ys (inr d) = after_second None xs ys (subst (λ (p : Option (ℕ × Touch)). StandsAfter s id p ys o k) (sym (or-none (last_placed id xs))) (first_join (last_placed id xs) ys (inl d)))
 
 -- ---- the least of two
 

@@ -10,7 +10,7 @@ use Rattle.eos_items.specs.declared.entry.Ending.{Ending}
 use Rattle.eos_items.specs.declared.entry.Ending.TheVariants.{Plain, Ended, Waiting}
 use Rattle.eos_items.specs.Batches.{DataBatch, with_ending, set_ending}
 use Rattle.eos_summary.specs.declared.mark.EndMark.{EndMark}
-use Rattle.eos_summary.specs.Items.{ended, ending_by, resolved, settled, waits, waiting_from, waiting_in}
+use Rattle.eos_summary.specs.Settling.{ended, ending_by, resolved, settled, waits, waiting_from, waiting_in}
 use Rattle.eos_summary.specs.Endings.{set_endings}
 use Rattle.eos_summary.specs.Summaries.{only}
 

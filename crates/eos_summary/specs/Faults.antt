@@ -5,9 +5,9 @@ use Rattle.std.specs.Option.{option_or}
 use Rattle.eos_touch.specs.declared.touch.Touch.{Touch}
 use Rattle.eos_touch.specs.declared.pair.PairFault.{PairFault}
 use Rattle.eos_touch.specs.Pair.{stands, number_of}
-use Rattle.eos_summary.specs.Heads.{Head}
+use Rattle.eos_batch.specs.declared.batch.Batch.{Batch}
 use Rattle.eos_summary.specs.declared.fault.Fault.{Fault}
-use Rattle.eos_summary.specs.Heads.{touch_of}
+use Rattle.eos_summary.specs.Ends.{placed}
 
 abbrev pub Claims : Type 1
 Claims = ℕ → ℤ → PairFault → Type 0
@@ -19,13 +19,13 @@ StandsAt sequenced (Some p) None offset kind = ⊥
 StandsAt sequenced (Some p) (Some t) offset kind = (offset ≡ t.0) × (stands sequenced (Some p.1) t.1 kind ≡ true)
 
 -- a fault of an id at a touch of these, before which this touch came
-abbrev pub StandsAfter : Bool → ℤ → Option (ℕ × Touch) → List Head → ℕ → PairFault → Type 0
+abbrev pub StandsAfter : Bool → ℤ → Option (ℕ × Touch) → List Batch → ℕ → PairFault → Type 0
 StandsAfter sequenced id before [] offset kind = ⊥
 StandsAfter sequenced id before (h ∷ hs) offset kind =
-    StandsAt sequenced before (touch_of id h) offset kind ⊎ StandsAfter sequenced id (option_or (touch_of id h) before) hs offset kind
+    StandsAt sequenced before (placed id h) offset kind ⊎ StandsAfter sequenced id (option_or (placed id h) before) hs offset kind
 
 -- a fault that is settled inside
-abbrev pub IsSettled : Bool → List Head → ℕ → ℤ → PairFault → Type 0
+abbrev pub IsSettled : Bool → List Batch → ℕ → ℤ → PairFault → Type 0
 IsSettled sequenced hs offset id kind = StandsAfter sequenced id None hs offset kind
 
 -- none of these, or the least of them: by offset, then by kind

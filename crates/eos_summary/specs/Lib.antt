@@ -1,13 +1,11 @@
 pub mod Place
 pub mod Endings
-pub mod Heads
-pub mod Items
+pub mod Ends
+pub mod Settling
 pub mod Tables
 pub mod Faults
 pub mod Summaries
 pub mod Joins
-pub mod Closes
 pub mod NextMarker
-pub mod Touches
 pub mod Pushes
 pub mod Whole

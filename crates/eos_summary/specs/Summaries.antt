@@ -2,17 +2,17 @@
 use Rattle.std.specs.Prelude.{◌≡◌, ℕ, ◌+◌, ◌<◌, ◌^◌, ◌≤◌, ℤ, Bool, List, length, Option, None, if◌then◌else◌}
 use Rattle.std.specs.Ordering.{int_eq}
 use Rattle.eos_touch.specs.declared.touch.Touch.{Touch}
-use Rattle.eos_summary.specs.Heads.{Head}
+use Rattle.eos_batch.specs.declared.batch.Batch.{Batch}
 use Rattle.eos_summary.specs.declared.mark.EndMark.{EndMark}
 use Rattle.eos_summary.specs.declared.ends.Ends.{Ends}
 use Rattle.eos_summary.specs.declared.fault.Fault.{Fault}
 use Rattle.eos_summary.specs.declared.summary.BatchSummary.{BatchSummary}
-use Rattle.eos_summary.specs.Items.{items_of}
+use Rattle.eos_summary.specs.Settling.{data_in}
 use Rattle.eos_summary.specs.Tables.{HasEnds, KeepsPlaces, ends_at}
 use Rattle.eos_summary.specs.Faults.{IsSettled, IsLeastOf, StandsAt, earlier}
 
-pub record IsSummary (hs : List Head) (s : BatchSummary) : Type 0 where
-  pub items : s.index.batches ≡ items_of hs
+pub record IsSummary (hs : List Batch) (s : BatchSummary) : Type 0 where
+  pub items : s.index.batches ≡ data_in hs
   pub ends : HasEnds hs s.producers
   pub places : KeepsPlaces s.producers s.index.batches
   pub fault : IsLeastOf (IsSettled s.sequenced hs) s.fault

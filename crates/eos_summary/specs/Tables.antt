@@ -5,12 +5,12 @@ use Rattle.std.specs.Ordering.{int_cmp, int_eq}
 use Rattle.std.specs.BTreeMap.{BTreeMap, get}
 use Rattle.eos_touch.specs.declared.touch.Touch.{Touch}
 use Rattle.eos_touch.specs.Pair.{is_open}
-use Rattle.eos_summary.specs.Heads.{Head}
+use Rattle.eos_batch.specs.declared.batch.Batch.{Batch}
 use Rattle.eos_items.specs.Batches.{DataBatch}
 use Rattle.eos_summary.specs.declared.mark.EndMark.{EndMark}
 use Rattle.eos_summary.specs.declared.ends.Ends.{Ends}
-use Rattle.eos_summary.specs.Heads.{first_touch, last_touch, first_marker, mark_in}
-use Rattle.eos_summary.specs.Items.{waiting_in}
+use Rattle.eos_summary.specs.Ends.{first_placed, last_placed, first_marker, mark_in}
+use Rattle.eos_summary.specs.Settling.{waiting_in}
 
 -- nothing is known of an id that the table doesn't have
 abbrev pub ends_in : Option Ends → Ends
@@ -24,12 +24,12 @@ abbrev pub ends_at : Table → ℤ → Ends
 ends_at t id = ends_in (get int_cmp t id)
 
 -- what is kept of an id is true of these batches
-pub record AreEnds (id : ℤ) (hs : List Head) (e : Ends) : Type 0 where
-  pub first : e.first ≡ first_touch id hs
-  pub last : e.last ≡ last_touch id hs
+pub record AreEnds (id : ℤ) (hs : List Batch) (e : Ends) : Type 0 where
+  pub first : e.first ≡ first_placed id hs
+  pub last : e.last ≡ last_placed id hs
   pub marker : e.marker ≡ first_marker id hs
 
-abbrev pub HasEnds : List Head → Table → Type 0
+abbrev pub HasEnds : List Batch → Table → Type 0
 HasEnds hs t = (id : ℤ) → AreEnds id hs (ends_at t id)
 
 -- the places of what waits are those of the items

@@ -4,8 +4,8 @@ use Rattle.std.specs.Prelude.{◌≡◌, ℕ, ◌⊎◌, ℤ, ◌≤ℤ◌, Bool
 use Rattle.eos_touch.specs.declared.touch.Touch.{Touch}
 use Rattle.eos_touch.specs.declared.pair.PairFault.{PairFault}
 use Rattle.eos_touch.specs.Pair.{stands, is_open}
-use Rattle.eos_summary.specs.Heads.{Head}
-use Rattle.eos_summary.specs.Heads.{first_touch, last_touch}
+use Rattle.eos_batch.specs.declared.batch.Batch.{Batch}
+use Rattle.eos_summary.specs.Ends.{first_placed, last_placed}
 use Rattle.eos_summary.specs.Faults.{IsSettled}
 
 -- a fault at the first touch of an id
@@ -14,8 +14,8 @@ StandsFirst sequenced None offset kind = ⊥
 StandsFirst sequenced (Some t) offset kind = (offset ≡ t.0) × (stands sequenced None t.1 kind ≡ true)
 
 -- a fault of an id at one of its touches
-abbrev pub StandsInWhole : Bool → List Head → ℕ → ℤ → PairFault → Type 0
-StandsInWhole sequenced hs offset id kind = IsSettled sequenced hs offset id kind ⊎ StandsFirst sequenced (first_touch id hs) offset kind
+abbrev pub StandsInWhole : Bool → List Batch → ℕ → ℤ → PairFault → Type 0
+StandsInWhole sequenced hs offset id kind = IsSettled sequenced hs offset id kind ⊎ StandsFirst sequenced (first_placed id hs) offset kind
 
 -- the last touch is data of a transaction
 abbrev pub IsLeftOpen : Option (ℕ × Touch) → Type 0
@@ -28,5 +28,5 @@ IsLeastId P None = (id : ℤ) → P id → ⊥
 IsLeastId P (Some least) = P least × ((id : ℤ) → P id → least ≤ℤ id)
 
 -- the least id that a transaction is open of
-abbrev pub IsLeastOpen : List Head → Option ℤ → Type 0
-IsLeastOpen hs = IsLeastId (λ id. IsLeftOpen (last_touch id hs))
+abbrev pub IsLeastOpen : List Batch → Option ℤ → Type 0
+IsLeastOpen hs = IsLeastId (λ id. IsLeftOpen (last_placed id hs))

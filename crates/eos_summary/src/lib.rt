@@ -7,14 +7,14 @@ pub mod laws;
 mod mark;
 mod places;
 mod push;
+mod reading;
 mod settle;
 mod summary;
-mod touches;
 mod whole;
 
 pub use ends::Ends;
+pub use eos_touch::touch_of;
 pub use fault::Fault;
 pub use mark::EndMark;
 pub use places::Places;
 pub use summary::BatchSummary;
-pub use touches::touch_of;

@@ -1,8 +1,8 @@
 //! An end marker as a summary keeps it.
 
 ghost use Rattle.std.specs.Prelude.{◌≡◌, Some};
-ghost use Rattle.eos_summary.specs.Heads.{mark_in};
-ghost use Rattle.eos_summary.specs.Items.{ended};
+ghost use Rattle.eos_summary.specs.Ends.{mark_in};
+ghost use Rattle.eos_summary.specs.Settling.{ended};
 
 use eos_batch::Kind;
 use eos_items::Ending;

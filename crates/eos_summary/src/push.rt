@@ -5,22 +5,21 @@ ghost use Rattle.eos_batch.specs.declared.batch.Batch.{Batch};
 ghost use Rattle.eos_batch.specs.declared.fault.BatchFault.TheVariants.{OutOfMemory};
 ghost use Rattle.eos_batch.specs.Answers.{Fails};
 ghost use Rattle.eos_batch.specs.Reading.{batch_at};
-ghost use Rattle.eos_summary.specs.Heads.{Head};
-ghost use Rattle.eos_summary.specs.Items.{items_of};
+ghost use Rattle.eos_summary.specs.Settling.{data_in};
 ghost use Rattle.eos_summary.specs.Tables.{KeepsPlaces};
 ghost use Rattle.eos_summary.specs.Joins.{TakesFrom};
 ghost use Rattle.eos_summary.specs.Summaries.{SameSummary};
 ghost use Rattle.eos_summary.specs.Pushes.{IsTakenFrom, ReadsNext};
-ghost use Rattle.eos_items.specs.Heads as read;
-ghost use Rattle.eos_summary.specs.Touches.{head_of};
+ghost use Rattle.eos_batch.specs.Heads.{head_of};
+ghost use Rattle.eos_batch.specs.Rules.{IsProducerRight};
 
 use crate::ends::Ends;
 use crate::fault::Fault;
 use crate::summary::{BatchSummary, make_room_for, take_over};
-use crate::touches::touch_of;
 use bytes::Bytes;
 use eos_batch::BatchFault;
 use eos_items::{BatchHead, LogIndex};
+use eos_touch::touch_of;
 use std::alloc::{AllocError, Global};
 use std::collections::BTreeMap;
 
@@ -36,9 +35,9 @@ fn take_batch(
 ) -> Result<(), AllocError>
     requires within { by ≤ length index.old.batches }
     requires places { KeepsPlaces producers.old (take by index.old.batches) }
-    ensures taken { (xs : List Head) (b : Batch) (size : ℕ) → head.now ≡ read.head_of b size → drop by index.old.batches ≡ items_of (head_of b ∷ [])
+    ensures taken { (xs : List Batch) (b : Batch) (size : ℕ) → head.now ≡ head_of b size → IsProducerRight b → drop by index.old.batches ≡ data_in (b ∷ [])
         → TakesFrom sequenced xs producers.old (take by index.old.batches) fault.old
-        → OnOk result (IsTakenFrom xs (head_of b) sequenced producers.new index.new.batches fault.new) }
+        → OnOk result (IsTakenFrom xs b sequenced producers.new index.new.batches fault.new) }
     ensures rest { index.new.rest ≡ index.old.rest }
 {
     let Some((producer, touch)) = touch_of(head) else {

@@ -2,7 +2,7 @@
 
 ghost use Rattle.std.specs.Prelude.{◌≡◌, ◌<◌, ◌++◌, [], ℤ, List, map, length, All, IsSome};
 ghost use Rattle.eos_summary.specs.Endings.{set_endings};
-ghost use Rattle.eos_summary.specs.Items.{settled, waiting_in};
+ghost use Rattle.eos_summary.specs.Settling.{settled, waiting_in};
 ghost use Rattle.eos_summary.specs.Summaries.{only};
 ghost use Rattle.eos_items.specs.Batches.{DataBatch};
 

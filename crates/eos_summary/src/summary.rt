@@ -1,15 +1,14 @@
 //! What is known of a run of a log, worked out batch by batch or joined from its parts.
 
-ghost use Rattle.std.specs.Prelude.{◌≡◌, ◌+◌, ◌<◌, ◌≤◌, ◌^◌, [], ◌∷◌, ◌++◌, ℕ, ℤ, List, map, length, Some, None, IsSome, IfOk, IfErr, OnOk, All, false, ⊤};
+ghost use Rattle.std.specs.Prelude.{◌≡◌, ◌+◌, ◌<◌, ◌≤◌, ◌^◌, [], ◌++◌, ℤ, List, map, length, Some, None, IsSome, IfOk, IfErr, OnOk, All, false};
 ghost use Rattle.std.specs.Ordering.{int_cmp, int_eq};
 ghost use Rattle.std.specs.BTreeMap.{get};
-ghost use Rattle.eos_summary.specs.Heads.{Head};
+ghost use Rattle.eos_batch.specs.declared.batch.Batch.{Batch};
 ghost use Rattle.eos_items.specs.Batches.{DataBatch};
 ghost use Rattle.eos_summary.specs.declared.ends.Ends.{Ends};
-ghost use Rattle.eos_summary.specs.Heads.{marker_of};
-ghost use Rattle.eos_summary.specs.Items.{items_of, waiting_in, settled};
-ghost use Rattle.eos_summary.specs.Tables.{ends_at, AreEnds, IsJoined, HasRoom, KeepsPlaces, IsReadyFor};
-ghost use Rattle.eos_summary.specs.Joins.{rest_of, Starts, IsTaking, IsTaken, TakesFrom};
+ghost use Rattle.eos_summary.specs.Settling.{waiting_in, settled};
+ghost use Rattle.eos_summary.specs.Tables.{ends_at, IsJoined, HasRoom, KeepsPlaces, IsReadyFor};
+ghost use Rattle.eos_summary.specs.Joins.{rest_of, Starts, IsTaking, IsTaken};
 ghost use Rattle.eos_summary.specs.Summaries.{IsSummary, SameEnds, SameSummary, FitsBehind, TakesFault, only};
 
 use crate::ends::Ends;
@@ -145,7 +144,7 @@ fn take_all(
     requires { IsTaking by producers.old index.old.batches (rest_of after) }
     ensures segments { index.new.segments ≡ index.old.segments }
     ensures capacity { index.new.room ≡ index.old.room }
-    ensures taken { (xs ys : List Head) → Starts xs ys sequenced producers.old index.old.batches fault.old (rest_of after) → IsTaken xs ys sequenced producers.new index.new.batches fault.new (λ _. None) }
+    ensures taken { (xs ys : List Batch) → Starts xs ys sequenced producers.old index.old.batches fault.old (rest_of after) → IsTaken xs ys sequenced producers.new index.new.batches fault.new (λ _. None) }
 {
     while let Some((producer, ends)) = after.pop_first() {
         take_over(sequenced, producers, index, fault, producer, ends, by);
@@ -173,7 +172,7 @@ fn reserve_for(
 fn join_reserved(mut before: BatchSummary, after: BatchSummary) -> BatchSummary
     requires taking { IsTaking (length before.index.batches) before.producers before.index.batches (rest_of after.producers) }
     requires room { FitsBehind before after }
-    ensures known { (xs ys : List Head) → IsSummary xs before → IsSummary ys after → after.sequenced ≡ before.sequenced → IsSummary (xs ++ ys) result }
+    ensures known { (xs ys : List Batch) → IsSummary xs before → IsSummary ys after → after.sequenced ≡ before.sequenced → IsSummary (xs ++ ys) result }
     ensures sequenced { result.sequenced ≡ before.sequenced }
 {
     let by = before.index.len();
@@ -212,7 +211,7 @@ impl BatchSummary {
     ) -> Result<BatchSummary, (BatchSummary, BatchSummary)>
         requires before { KeepsPlaces before.producers before.index.batches }
         requires after { KeepsPlaces after.producers after.index.batches }
-        ensures ok { (xs ys : List Head) → IsSummary xs before → IsSummary ys after → after.sequenced ≡ before.sequenced → IfOk result (IsSummary (xs ++ ys)) }
+        ensures ok { (xs ys : List Batch) → IsSummary xs before → IsSummary ys after → after.sequenced ≡ before.sequenced → IfOk result (IsSummary (xs ++ ys)) }
         ensures sequenced { IfOk result (λ s. s.sequenced ≡ before.sequenced) }
         ensures err { IfErr result (λ back. SameSummary before back.0 × SameSummary after back.1) }
     {

@@ -1,8 +1,8 @@
 //! What a run says where it is a whole log, before which there is nothing.
 
-ghost use Rattle.std.specs.Prelude.{◌≡◌, ◌⊎◌, true, false, Some, ℤ, List};
+ghost use Rattle.std.specs.Prelude.{◌≡◌, ◌⊎◌, true, false, Some, List};
 ghost use Rattle.eos_summary.specs.Faults.{IsLeastOf};
-ghost use Rattle.eos_summary.specs.Heads.{Head};
+ghost use Rattle.eos_batch.specs.declared.batch.Batch.{Batch};
 ghost use Rattle.eos_summary.specs.Summaries.{IsSummary};
 ghost use Rattle.eos_summary.specs.Whole.{StandsFirst, StandsInWhole, IsLeftOpen, IsLeastId, IsLeastOpen};
 
@@ -53,7 +53,7 @@ fn lesser_open(least: Option<i64>, id: i64, last: Option<(u64, Touch)>) -> Optio
 impl BatchSummary {
     /// The least fault of the pairs of touches, by offset, then by kind.
     pub fn whole_fault(&self) -> Option<Fault>
-        ensures { (hs : List Head) → IsSummary hs self.now → IsLeastOf (StandsInWhole self.now.sequenced hs) result }
+        ensures { (hs : List Batch) → IsSummary hs self.now → IsLeastOf (StandsInWhole self.now.sequenced hs) result }
     {
         let mut fault = self.fault;
         let mut rest = self.producers.iter();
@@ -65,7 +65,7 @@ impl BatchSummary {
 
     /// The least producer id whose last touch is data of a transaction.
     pub fn least_open(&self) -> Option<i64>
-        ensures { (hs : List Head) → IsSummary hs self.now → IsLeastOpen hs result }
+        ensures { (hs : List Batch) → IsSummary hs self.now → IsLeastOpen hs result }
     {
         let mut least = None;
         let mut rest = self.producers.iter();

@@ -13,7 +13,7 @@ use Rattle.eos_batch.specs.declared.marker.Kind.{Kind}
 use Rattle.eos_batch.specs.declared.marker.Kind.TheVariants.{Commit, Abort}
 use Rattle.eos_fold.specs.declared.close.Close.{Close}
 use Rattle.eos_fold.specs.Closes.{rank_of, close_cmp}
-use Rattle.eos_table.specs.Keys.{pair_cmp, listed_cmp, ended_cmp}
+use Rattle.eos_table.specs.steps.Keys.{pair_cmp, listed_cmp, ended_cmp}
 
 kind_exact : (a b : Kind) → rank_of a ≡ rank_of b → a ≡ b
 kind_exact Commit Commit e = refl

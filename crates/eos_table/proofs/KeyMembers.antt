@@ -9,7 +9,7 @@ use Rattle.eos_txnlog.specs.declared.decision.Decision.{Decision}
 use Rattle.eos_fold.specs.declared.close.Close.{Close}
 use Rattle.eos_fold.specs.Parts.{part_name, PartLog}
 use Rattle.eos_txnlog.specs.PartitionSets.{names_of}
-use Rattle.eos_table.specs.Keys.{mine, decided, judged, listed, listed_of, ended, ended_of, marked, marked_of, names}
+use Rattle.eos_table.specs.steps.Keys.{mine, decided, judged, listed, listed_of, ended, ended_of, marked, marked_of, names}
 
 abbrev pub pair_of : Decision → ℤ × ℤ
 pair_of d = (d.producer, d.epoch)

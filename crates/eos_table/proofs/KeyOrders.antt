@@ -17,7 +17,7 @@ use Rattle.eos_table.specs.contracts.key.NameRefOrd.TheImpl.{ghosts as name_ghos
 use Rattle.eos_table.specs.declared.key.NameRef.{NameRef}
 use Rattle.eos_table.specs.declared.key.Listed.{Listed}
 use Rattle.eos_table.specs.declared.key.Ended.{Ended}
-use Rattle.eos_table.specs.Keys.{plain_name, plain_listed, plain_ended, listed_cmp, ended_cmp, by_ended}
+use Rattle.eos_table.specs.steps.Keys.{plain_name, plain_listed, plain_ended, listed_cmp, ended_cmp, by_ended}
 
 kind_alike : (a b : Kind) → kind_ghosts.cmp a b ≡ nat_cmp (rank_of a) (rank_of b)
 kind_alike Commit Commit = refl

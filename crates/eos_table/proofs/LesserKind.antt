@@ -8,7 +8,7 @@ use Rattle.eos_base.specs.declared.partition_name.PartitionName.{PartitionName}
 use Rattle.eos_base.specs.Least.{UpTo}
 use Rattle.eos_table.specs.declared.match_fault.MatchFaultKind.{MatchFaultKind}
 use Rattle.eos_table.specs.MatchFaults.{fault_cmp, rank}
-use Rattle.eos_table.specs.Candidates.{fault_of}
+use Rattle.eos_table.specs.steps.Candidates.{fault_of}
 
 -- a lesser kind at one producer id and epoch
 pub lesser_kind : (p e : ℤ) (m o : Option PartitionName) (k l : MatchFaultKind) → rank k < rank l → UpTo fault_cmp (fault_of p e m k) (fault_of p e o l)

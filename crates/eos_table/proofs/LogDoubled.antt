@@ -22,7 +22,7 @@ use Rattle.eos_table.specs.declared.log_fault.LogFaultKind.{LogFaultKind}
 use Rattle.eos_table.specs.declared.log_fault.LogFaultKind.TheVariants.{SplitId, SharedProducer}
 use Rattle.eos_table.specs.TransactionLog.{Id, same_id, Unskipped, all_steps, ShareProducer, AreInOrder}
 use Rattle.eos_table.specs.LogFaults.{AtStep, IsBefore, Stands, log_cmp}
-use Rattle.eos_table.specs.LogCandidates.{fault_at, natural, producer_of, mark_of, first_of, home_in, is_of_producer, owner_in, owner_of, split_at, shared_at, doubled_at, doubled_after}
+use Rattle.eos_table.specs.steps.LogCandidates.{fault_at, natural, producer_of, mark_of, first_of, home_in, is_of_producer, owner_in, owner_of, split_at, shared_at, doubled_at, doubled_after}
 use Rattle.eos_table.proofs.LogOrder.{log_total}
 use Rattle.eos_table.proofs.LogTables.{same, is_equal}
 use Rattle.eos_table.proofs.LogOrderly.{Ordered, all_ordered, ordered_left, ordered_across, before_asym, before_trans, stands_earlier}

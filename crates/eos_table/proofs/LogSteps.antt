@@ -20,7 +20,7 @@ use Rattle.eos_table.specs.declared.mark.Mark.{Mark}
 use Rattle.eos_table.specs.declared.log_fault.LogFault.{LogFault}
 use Rattle.eos_table.specs.TransactionLog.{Id, State, nothing, flat, Unskipped, content_of, step_at, steps_after, next_state, state_after, steps_of, decision_of}
 use Rattle.eos_table.specs.LogFaults.{log_cmp}
-use Rattle.eos_table.specs.LogCandidates.{LogRead, state_of, open_at, after, step_of, step_faults, faults_at, faults_after, part_faults, mark_of}
+use Rattle.eos_table.specs.steps.LogCandidates.{LogRead, state_of, open_at, after, step_of, step_faults, faults_at, faults_after, part_faults, mark_of}
 
 -- one after the other is both at once
 pub after_after : (r : LogRead) (s t : List Unskipped) (f g : List LogFault) → after (after r s f) t g ≡ after r (s ++ t) (f ++ g)

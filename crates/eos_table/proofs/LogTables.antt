@@ -8,7 +8,7 @@ use Rattle.std.specs.declared.cmp.Ordering.TheVariants.{Less, Equal, Greater}
 use Rattle.eos_base.proofs.Exact.{nat_exact, bytes_exact}
 use Rattle.eos_table.specs.declared.mark.Mark.{Mark}
 use Rattle.eos_table.specs.TransactionLog.{Id, same_id}
-use Rattle.eos_table.specs.LogCandidates.{AreHomes, AreOwners, first_of, owner_of, is_of_producer, fault_at, shared_at}
+use Rattle.eos_table.specs.steps.LogCandidates.{AreHomes, AreOwners, first_of, owner_of, is_of_producer, fault_at, shared_at}
 use Rattle.eos_table.specs.declared.log_fault.LogFaultKind.TheVariants.{SharedProducer}
 
 abbrev or_else : {X : Type 0} → Option X → Option X → Option X

@@ -6,7 +6,7 @@ use Rattle.eos_base.specs.Least.{lesser_of}
 use Rattle.eos_table.specs.declared.log_fault.LogFault.{LogFault}
 use Rattle.eos_table.specs.declared.mark.Mark.{Mark}
 use Rattle.eos_table.specs.LogFaults.{log_cmp}
-use Rattle.eos_table.specs.LogCandidates.{home_in, owner_of, split_at, shared_at, doubled_after}
+use Rattle.eos_table.specs.steps.LogCandidates.{home_in, owner_of, split_at, shared_at, doubled_after}
 
 abbrev least_with : Option LogFault → List LogFault → Option LogFault
 least_with best faults = fold (lesser_of log_cmp) best faults

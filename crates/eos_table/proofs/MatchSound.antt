@@ -19,8 +19,8 @@ use Rattle.eos_txnlog.specs.PartitionSets.{names_of}
 use Rattle.eos_table.specs.Atomic.{EndsAs, Ends}
 use Rattle.eos_table.specs.MatchFaults.{deciders, is_of, AtData, AtListed, Stands, rank, fault_cmp}
 use Rattle.eos_table.specs.Shards.{InShard}
-use Rattle.eos_table.specs.Keys.{mine, decided, judged, listed, ended, marked, names, pair_cmp, listed_cmp, ended_cmp}
-use Rattle.eos_table.specs.Candidates.{fault_of, faults_of, kind_at_close, kind_at_marker, faults_at_close, faults_at_marker, faults_at_name, name_faults, close_faults, marker_faults, at_closes, at_markers, at_names}
+use Rattle.eos_table.specs.steps.Keys.{mine, decided, judged, listed, ended, marked, names, pair_cmp, listed_cmp, ended_cmp}
+use Rattle.eos_table.specs.steps.Candidates.{fault_of, faults_of, kind_at_close, kind_at_marker, faults_at_close, faults_at_marker, faults_at_name, name_faults, close_faults, marker_faults, at_closes, at_markers, at_names}
 use Rattle.eos_base.proofs.Decides.{differs}
 use Rattle.eos_base.proofs.LeastOf.{upto_itself}
 use Rattle.eos_base.proofs.Membership.{Finds, flat_has, if_has, only, filter_has, no_members}

@@ -18,8 +18,8 @@ use Rattle.eos_txnlog.specs.PartitionSets.{names_of}
 use Rattle.eos_table.specs.Atomic.{EndsAs}
 use Rattle.eos_table.specs.MatchFaults.{AtData, AtMarker, AtListed, StandsAs, rank, fault_cmp}
 use Rattle.eos_table.specs.Shards.{InShard}
-use Rattle.eos_table.specs.Keys.{mine, pair_cmp, listed_cmp, ended_cmp}
-use Rattle.eos_table.specs.Candidates.{fault_of, faults_of, kind_at_close, kind_at_marker, kind_at_name, faults_at_close, faults_at_marker, faults_at_name, name_faults, close_faults, marker_faults, at_closes, at_markers, at_names}
+use Rattle.eos_table.specs.steps.Keys.{mine, pair_cmp, listed_cmp, ended_cmp}
+use Rattle.eos_table.specs.steps.Candidates.{fault_of, faults_of, kind_at_close, kind_at_marker, kind_at_name, faults_at_close, faults_at_marker, faults_at_name, name_faults, close_faults, marker_faults, at_closes, at_markers, at_names}
 use Rattle.eos_base.proofs.LeastOf.{upto_same}
 use Rattle.eos_base.proofs.Membership.{has_flat, has_if, append_left, append_right}
 use Rattle.eos_table.proofs.AtomicLaw.{none_among, one_among}

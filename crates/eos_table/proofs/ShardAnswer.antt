@@ -11,9 +11,9 @@ use Rattle.eos_fold.specs.Parts.{PartLog}
 use Rattle.eos_table.specs.declared.match_fault.MatchFault.{MatchFault}
 use Rattle.eos_table.specs.MatchFaults.{StandsAs, fault_cmp}
 use Rattle.eos_table.specs.Shards.{StandsIn, IsAnswer}
-use Rattle.eos_table.specs.Keys.{decided, pair_cmp}
+use Rattle.eos_table.specs.steps.Keys.{decided, pair_cmp}
 use Rattle.eos_base.specs.Least.{lesser_of}
-use Rattle.eos_table.specs.Candidates.{at_closes, at_markers, at_names, IsTwice}
+use Rattle.eos_table.specs.steps.Candidates.{at_closes, at_markers, at_names, IsTwice}
 use Rattle.eos_base.proofs.LeastOf.{least_by_candidates}
 use Rattle.eos_base.proofs.Membership.{append_cases, append_left, append_right}
 use Rattle.eos_table.proofs.MatchOrder.{fault_total, fault_exact}

@@ -19,8 +19,8 @@ use Rattle.eos_table.specs.declared.match_fault.MatchFault.{MatchFault}
 use Rattle.eos_table.specs.declared.match_fault.MatchFaultKind.TheVariants.{TwiceDecided}
 use Rattle.eos_table.specs.MatchFaults.{deciders, is_of, Stands, StandsAs, fault_cmp}
 use Rattle.eos_table.specs.Shards.{InShard}
-use Rattle.eos_table.specs.Keys.{mine, decided, pair_cmp}
-use Rattle.eos_table.specs.Candidates.{fault_of, pair_at, IsTwice}
+use Rattle.eos_table.specs.steps.Keys.{mine, decided, pair_cmp}
+use Rattle.eos_table.specs.steps.Candidates.{fault_of, pair_at, IsTwice}
 use Rattle.eos_base.proofs.Decides.{differs}
 use Rattle.eos_base.proofs.Exact.{is_tied}
 use Rattle.eos_base.proofs.LeastOf.{upto_itself}

@@ -4,7 +4,7 @@ ghost use Rattle.std.specs.Prelude.{◌≡◌, option_map};
 ghost use Rattle.std.specs.Ordering.{is_gt};
 ghost use Rattle.eos_base.specs.Least.{lesser_of};
 ghost use Rattle.eos_table.specs.MatchFaults.{fault_cmp};
-ghost use Rattle.eos_table.specs.Candidates.{plain};
+ghost use Rattle.eos_table.specs.steps.Candidates.{plain};
 
 use crate::key::NameRef;
 use crate::match_fault::MatchFaultKind;

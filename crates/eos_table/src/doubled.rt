@@ -7,7 +7,7 @@ ghost use Rattle.std.specs.BTreeMap.{get};
 ghost use Rattle.eos_base.specs.Least.{lesser_of};
 ghost use Rattle.eos_table.specs.declared.mark.Mark.{Mark};
 ghost use Rattle.eos_table.specs.LogFaults.{log_cmp};
-ghost use Rattle.eos_table.specs.LogCandidates.{AreHomes, AreOwners, home_in, owner_of, split_at, shared_at, doubled_after};
+ghost use Rattle.eos_table.specs.steps.LogCandidates.{AreHomes, AreOwners, home_in, owner_of, split_at, shared_at, doubled_after};
 
 use crate::log_fault::{LogFault, LogFaultKind};
 use crate::log_least::{fault_at, offer};

@@ -3,7 +3,7 @@
 ghost use Rattle.std.specs.Prelude.{◌≡◌, ◌++◌, ◌<◌, IfOk, OnOk, map};
 ghost use Rattle.eos_txnlog.specs.PartitionSets.{names_in_topic, names_of};
 ghost use Rattle.eos_fold.specs.Parts.{part_name};
-ghost use Rattle.eos_table.specs.Keys.{mine, plain_name, decided, judged, listed, listed_of, plain_listed, ended, ended_of, plain_ended, marked, marked_of, names};
+ghost use Rattle.eos_table.specs.steps.Keys.{mine, plain_name, decided, judged, listed, listed_of, plain_listed, ended, ended_of, plain_ended, marked, marked_of, names};
 
 use bytes::Bytes;
 use eos_batch::Kind;

@@ -4,7 +4,7 @@ ghost use Rattle.std.specs.Prelude.{◌≡◌};
 ghost use Rattle.std.specs.Ordering.{is_gt};
 ghost use Rattle.eos_base.specs.Least.{lesser_of};
 ghost use Rattle.eos_table.specs.LogFaults.{log_cmp};
-ghost use Rattle.eos_table.specs.LogCandidates.{fault_at};
+ghost use Rattle.eos_table.specs.steps.LogCandidates.{fault_at};
 
 use crate::log_fault::{LogFault, LogFaultKind};
 use crate::mark::Place;

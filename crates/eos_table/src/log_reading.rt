@@ -7,7 +7,7 @@ ghost use Rattle.eos_base.specs.Least.{lesser_of};
 ghost use Rattle.eos_table.specs.TransactionLog.{content_of, flat, step_at, steps_after, steps_of, next_state, state_after, decision_between, kind_of_status, is_unfinished};
 ghost use Rattle.eos_table.specs.declared.content.Content.TheVariants.{Of};
 ghost use Rattle.eos_table.specs.LogFaults.{log_cmp};
-ghost use Rattle.eos_table.specs.LogCandidates.{after, unread, open_at, step_faults, faults_at, faults_after, part_faults, state_of, step_of};
+ghost use Rattle.eos_table.specs.steps.LogCandidates.{after, unread, open_at, step_faults, faults_at, faults_after, part_faults, state_of, step_of};
 
 use crate::content::{Content, read_content};
 use crate::log_fault::{LogFault, LogFaultKind};
@@ -32,7 +32,7 @@ pub(crate) struct LogReading {
 }
 
 impl Model for LogReading {
-    ghost use Rattle.eos_table.specs.LogCandidates.{LogRead};
+    ghost use Rattle.eos_table.specs.steps.LogCandidates.{LogRead};
 
     ghost Value = { LogRead };
 

@@ -4,8 +4,8 @@ ghost use Rattle.std.specs.Prelude.{◌≡◌, ◌≢◌, ◌<◌, ◌+◌, ℕ,
 ghost use Rattle.eos_base.specs.Members.{is_found};
 ghost use Rattle.eos_base.specs.PartitionNames.{name_cmp};
 ghost use Rattle.eos_fold.specs.Closes.{close_cmp};
-ghost use Rattle.eos_table.specs.Keys.{plain_name, plain_listed, plain_ended, pair_cmp, listed_cmp, ended_cmp, by_listed, by_ended, by_name};
-ghost use Rattle.eos_table.specs.Candidates.{pair_at, IsFirstTwice};
+ghost use Rattle.eos_table.specs.steps.Keys.{plain_name, plain_listed, plain_ended, pair_cmp, listed_cmp, ended_cmp, by_listed, by_ended, by_name};
+ghost use Rattle.eos_table.specs.steps.Candidates.{pair_at, IsFirstTwice};
 
 use crate::key::{Ended, Listed, NameRef};
 use eos_base::holds;

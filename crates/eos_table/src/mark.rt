@@ -2,7 +2,7 @@
 
 ghost use Rattle.std.specs.Prelude.{◌≡◌};
 ghost use Rattle.std.specs.Option.{option_copied};
-ghost use Rattle.eos_table.specs.LogCandidates.{natural, producer_of};
+ghost use Rattle.eos_table.specs.steps.LogCandidates.{natural, producer_of};
 
 use bytes::Bytes;
 use eos_txnlog::TxnValue;

@@ -2,7 +2,7 @@
 
 ghost use Rattle.std.specs.Prelude.{◌<◌, IfOk, IsPermutation, IsSorted, map};
 ghost use Rattle.eos_fold.specs.Closes.{close_cmp};
-ghost use Rattle.eos_table.specs.Keys.{plain_name, decided, judged, listed, plain_listed, ended, plain_ended, marked, names, pair_cmp, by_listed, by_ended, by_name};
+ghost use Rattle.eos_table.specs.steps.Keys.{plain_name, decided, judged, listed, plain_listed, ended, plain_ended, marked, names, pair_cmp, by_listed, by_ended, by_name};
 
 use crate::key::{
     Ended, Listed, NameRef, decided_keys, ended_keys, judged_keys, listed_keys, marked_keys,

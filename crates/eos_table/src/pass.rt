@@ -6,8 +6,8 @@ ghost use Rattle.eos_fold.specs.Closes.{close_cmp};
 ghost use Rattle.eos_txnlog.specs.PartitionSets.{names_in_topic, names_of as listed_names};
 ghost use Rattle.eos_fold.specs.Parts.{part_name};
 ghost use Rattle.eos_table.specs.MatchFaults.{fault_cmp};
-ghost use Rattle.eos_table.specs.Keys.{plain_name, plain_listed, plain_ended, pair_cmp, by_listed, by_ended, by_name};
-ghost use Rattle.eos_table.specs.Candidates.{plain, faults_of, kind_at_close as kind_of_close, kind_at_marker as kind_of_marker, kind_at_name as kind_of_name, faults_at_close, faults_at_marker, faults_at_name, close_faults, marker_faults, name_faults, at_closes, at_markers, at_names};
+ghost use Rattle.eos_table.specs.steps.Keys.{plain_name, plain_listed, plain_ended, pair_cmp, by_listed, by_ended, by_name};
+ghost use Rattle.eos_table.specs.steps.Candidates.{plain, faults_of, kind_at_close as kind_of_close, kind_at_marker as kind_of_marker, kind_at_name as kind_of_name, faults_at_close, faults_at_marker, faults_at_name, close_faults, marker_faults, name_faults, at_closes, at_markers, at_names};
 
 use crate::best::{Found, lesser};
 use crate::key::{Ended, Listed, NameRef, in_shard, name_of_part};

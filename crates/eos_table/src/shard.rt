@@ -1,7 +1,7 @@
 //! The decisions against the partitions' logs, in shards of the producer ids.
 
 ghost use Rattle.std.specs.Prelude.{◌≡◌, ◌<◌, IfOk, option_map};
-ghost use Rattle.eos_table.specs.Candidates.{plain, IsTwice};
+ghost use Rattle.eos_table.specs.steps.Candidates.{plain, IsTwice};
 ghost use Rattle.eos_table.specs.Shards.{IsAnswer};
 
 use crate::best::Found;

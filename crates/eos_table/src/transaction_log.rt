@@ -5,7 +5,7 @@ ghost use Rattle.std.specs.List.{flat_map};
 ghost use Rattle.eos_base.specs.Least.{NoneStands, IsLeast};
 ghost use Rattle.eos_table.specs.TransactionLog.{is_transaction_part, transaction_parts, AreInOrder, all_steps, decisions_of};
 ghost use Rattle.eos_table.specs.LogFaults.{log_cmp, Stands as StandsInLog};
-ghost use Rattle.eos_table.specs.LogCandidates.{after, unread, part_faults};
+ghost use Rattle.eos_table.specs.steps.LogCandidates.{after, unread, part_faults};
 
 use crate::doubled::least_doubled;
 use crate::log_fault::LogFault;

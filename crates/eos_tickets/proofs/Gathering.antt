@@ -11,7 +11,8 @@ use Rattle.atomic_table.specs.Table.{Me, keeps, stepped, Allows, Enters, Joins}
 use Rattle.atomic_table.proofs.Lists.{at_set, set_again}
 use Rattle.eos_tickets.specs.declared.rule.Limits.{Limits}
 use Rattle.eos_tickets.specs.declared.rule.View.{View}
-use Rattle.eos_tickets.specs.Places.{Place, once_below, open_seats}
+use Rattle.eos_tickets.specs.Places.{Place, once_below}
+use Rattle.eos_tickets.specs.steps.Places.{open_seats}
 use Rattle.eos_tickets.specs.TicketRule.{allowances, all_parts, Fits, KeepsRule, KnowsAll, nobody, together}
 use Rattle.eos_tickets.proofs.SeatSums.{sum_by_set}
 use Rattle.eos_tickets.proofs.TicketSteps.{Facts, facts_of, rule_of, still_fits, snoc_fits}

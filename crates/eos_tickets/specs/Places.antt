@@ -1,6 +1,6 @@
 -- What the contracts see of the tickets and of a seat.
 use Rattle.std.specs.Prelude.{◌≡◌, ℕ, ◌==◌, nat_lt, if◌then◌else◌, Bool, false, List, []}
-use Rattle.std.specs.List.{count_by, sum_by, flat_map}
+use Rattle.std.specs.List.{count_by, flat_map}
 use Rattle.atomic_table.specs.Seated.{TableId}
 
 -- which shared word it is, how many numbers there are, and how many seats were made
@@ -24,10 +24,6 @@ pub record IsFresh (of : Counter) (seat : Place) : Type 0 where
 -- what these seats have drawn, seat after seat
 abbrev pub drawn_of_all : List Place → List ℕ
 drawn_of_all seats = flat_map (λ s. s.drawn) seats
-
--- how many of these seats aren't done
-abbrev pub open_seats : List Place → ℕ
-open_seats seats = sum_by (λ s. if s.is_done then 0 else 1) seats
 
 -- 1 where x is below n, and else 0
 abbrev pub once_below : ℕ → ℕ → ℕ

@@ -3,3 +3,5 @@ pub mod Rules
 pub mod Neighbours
 pub mod Names
 pub mod Touches
+pub mod Front
+pub mod FaultNames

@@ -2,7 +2,8 @@
 
 use crate::arguments::{Argument, Form, Subcommand};
 use crate::help::{ABOUT, STATUSES};
-use crate::request::{Answer, Check, NoRequest, Request, Simulation};
+use crate::request::{Answer, Check, Init, Listing, NoRequest, Request, Simulation};
+use clap::builder::ValueParser;
 use clap::error::{Error, ErrorKind};
 use clap::{Arg, ArgAction, ArgMatches, Command};
 use std::alloc::{AllocError, Global};
@@ -11,6 +12,15 @@ use std::alloc::{AllocError, Global};
 const WORKERS: u64 = 4;
 
 const VERSION: &str = "0.1.0";
+
+/// Every record, and nothing more of it.
+const EVERY_RECORD: Listing<'static> = Listing {
+    headers: false,
+    decode: false,
+    reading: None,
+    from: 0,
+    to: u64::MAX,
+};
 
 /// What the words of the command line ask for, of which the first is the program's name. Help that is asked for is printed, and
 /// so is what is wrong with the words.
@@ -28,7 +38,7 @@ pub fn read_words<'a, R: Print + Eprint>(
 
 fn requested<'a>(alloc: Global, words: &'a [String]) -> Result<Option<Request<'a>>, Error> {
     let matches = make_command(alloc)?.try_get_matches_from(words)?;
-    Ok(read_request(&matches))
+    Ok(read_request(alloc, &matches)?)
 }
 
 /// Prints why there are no words to act on: help that was asked for, or a mistake.
@@ -62,6 +72,8 @@ fn make_subcommands<'a>(alloc: Global) -> Result<Vec<Command<'a>>, AllocError> {
         Subcommand::Check,
         Subcommand::Dump,
         Subcommand::Chain,
+        Subcommand::Explain,
+        Subcommand::Init,
         Subcommand::Simulate,
     ] {
         made.push(make_subcommand(alloc, it)?)?;
@@ -86,45 +98,98 @@ fn make_argument<'a>(alloc: Global, it: Argument) -> Arg<'a> {
         .required(it.is_required());
     match it.form() {
         Form::Alone => argument.value_name(it.value_name()),
+        Form::Several => argument
+            .value_name(it.value_name())
+            .action(ArgAction::Append)
+            .num_args(1..)
+            .value_parser(ValueParser::NonEmptyString),
         Form::Flag => argument.long(it.name()).action(ArgAction::SetTrue),
         Form::Valued(values) => argument
             .long(it.name())
             .value_name(it.value_name())
             .value_parser(values),
+        Form::Repeated(values) => argument
+            .long(it.name())
+            .value_name(it.value_name())
+            .value_parser(values)
+            .action(ArgAction::Append),
     }
 }
 
 /// What the words ask for. Without words it is the listing of the standard input.
-fn read_request<'a>(matches: &ArgMatches<'a>) -> Option<Request<'a>> {
+fn read_request<'a>(
+    alloc: Global,
+    matches: &ArgMatches<'a>,
+) -> Result<Option<Request<'a>>, AllocError> {
     let Some((name, inner)) = matches.subcommand() else {
-        return Some(Request::Segment {
-            answer: Answer::Listing,
+        return Ok(Some(Request::Segment {
+            answer: Answer::Listing(EVERY_RECORD),
             file: "-",
-        });
+        }));
     };
     match name {
-        "check" => read_check(inner),
-        "dump" => read_segment_words(inner, Answer::Listing),
-        "chain" => read_segment_words(inner, Answer::Chain),
-        "simulate" => read_simulate(inner),
-        _ => None,
+        "check" => read_check(alloc, inner),
+        "dump" => Ok(read_dump(inner)),
+        "chain" => Ok(read_segment_words(inner, Answer::Chain)),
+        "explain" => Ok(read_explain(inner)),
+        "init" => read_init(alloc, inner),
+        "simulate" => Ok(read_simulate(inner)),
+        _ => Ok(None),
     }
 }
 
-fn read_segment_words<'a>(inner: &ArgMatches<'a>, answer: Answer) -> Option<Request<'a>> {
+fn read_segment_words<'a>(inner: &ArgMatches<'a>, answer: Answer<'a>) -> Option<Request<'a>> {
     let file = inner.get_str("file")?;
     Some(Request::Segment { answer, file })
 }
 
-fn read_check<'a>(inner: &ArgMatches<'a>) -> Option<Request<'a>> {
-    let workers = inner.get_one::<u64>("workers").unwrap_or(WORKERS);
-    let json = inner.get_flag("json");
-    let folder = inner.get_str("folder")?;
-    Some(Request::Check(Check {
-        workers,
-        json,
+fn read_dump<'a>(inner: &ArgMatches<'a>) -> Option<Request<'a>> {
+    let listing = Listing {
+        headers: inner.get_flag("headers"),
+        decode: inner.get_flag("decode"),
+        reading: inner.get_str("as"),
+        from: inner.get_one::<u64>("from").unwrap_or(EVERY_RECORD.from),
+        to: inner.get_one::<u64>("to").unwrap_or(EVERY_RECORD.to),
+    };
+    read_segment_words(inner, Answer::Listing(listing))
+}
+
+fn read_check<'a>(
+    alloc: Global,
+    inner: &ArgMatches<'a>,
+) -> Result<Option<Request<'a>>, AllocError> {
+    let Some(folders) = inner.get_strs("folder") else {
+        return Ok(None);
+    };
+    Ok(Some(Request::Check(Check {
+        workers: inner.get_one::<u64>("workers").unwrap_or(WORKERS),
+        json: inner.get_flag("json"),
+        quiet: inner.get_flag("quiet"),
+        progress: inner.get_flag("progress"),
+        folders: folders.to_vec(alloc)?,
+    })))
+}
+
+fn read_explain<'a>(inner: &ArgMatches<'a>) -> Option<Request<'a>> {
+    let code = inner.get_str("code")?;
+    Some(Request::Explain { code })
+}
+
+fn read_init<'a>(alloc: Global, inner: &ArgMatches<'a>) -> Result<Option<Request<'a>>, AllocError> {
+    let Some(words) = inner.get_strs("app") else {
+        return Ok(None);
+    };
+    let Some(folder) = inner.get_str("folder") else {
+        return Ok(None);
+    };
+    let apps = words.to_vec(alloc)?;
+    Ok(Some(Request::Init(Init {
+        version1: inner.get_flag("version1"),
+        apps,
+        ends: inner.get_str("ends"),
+        ends_from_logs: inner.get_flag("ends-from-logs"),
         folder,
-    }))
+    })))
 }
 
 fn read_simulate<'a>(inner: &ArgMatches<'a>) -> Option<Request<'a>> {

@@ -11,6 +11,10 @@ pub(crate) const CHECK_ANSWERS: &str =
 names in `ends` a folder TOPIC-N with the partition's segments, each a file of
 20 digits and `.log`, from offset 0 on. Other files are ignored.
 
+With several folders each line that is printed about one, also an error, begins
+with `FOLDER: `, and the exit status is the greatest; a folder that cannot be
+read does not keep the others from being checked.
+
 `yes transactions=T inputs=I outputs=O` (status 0) says of these logs: they are
 whole and fenced, no sequence is repeated or missing in a producer epoch, every
 transaction is committed in all its partitions or aborted in all, and the
@@ -20,8 +24,21 @@ it, and nothing else. It is said of the logs as they were given: that they are
 the cluster's whole logs, and that each output has the right value, is yours to
 know.
 
+With --progress, and where standard error is a terminal and no --quiet is given,
+it is told there, at most four times a second, how many segments and bytes were
+read and summarised, and at the end how many seconds each stage took.
+
 `no PHASE.KIND NAME ..` (status 1) names the first fault; a phase counts only
 where those before it have none. With --json the same stands in an object.
+`eoscheck explain --code PHASE.KIND` says what makes it happen.
+
+After the verdict stands on standard error a line `eoscheck: note: ..` for each
+sign that the evidence isn't the one that was meant, as a group that committed
+nothing (docs/EVIDENCE.md lists them). A note changes no verdict and no status.
+
+After the verdict stands on standard error a line `eoscheck: note: ..` for each
+sign that the evidence isn't the one that was meant, as a group that committed
+nothing (docs/EVIDENCE.md lists them). A note changes no verdict and no status.
 
   1.1 BadBatch          no batch begins there: see `eoscheck dump --help`
   1.2 Gap               another offset or segment than the next: a lost or
@@ -97,6 +114,32 @@ pub(crate) const DUMP_COLUMNS: &str =
   key       a key or a value in hexadecimal digits, or null
   headers   how many headers the record has
 
+With --from and --to only the records of these offsets are listed, from the
+first one on and below the second, and the batches that have one of them; the
+last line stays. With --headers below each record
+
+  timestamp=T           in milliseconds since 1970
+  header KEY=X          for each header: a value as above; of the key, bytes
+                        other than letters, digits, . _ and - as % and two
+                        digits, as of all names below
+
+With --decode below each data record what it says, by the name of the folder in
+which FILE lies, or as --as says: transactions in __transaction_state-N, offsets
+in __consumer_offsets-N, and outputs in all others:
+
+  claim TOPIC-N:O K/OF  output K of OF of the input at offset O of TOPIC-N
+  transaction id=ID producer=P epoch=E status=STATE partitions=TOPIC-N,..
+  commit group=G TOPIC-N=O
+                        the group goes on at offset O
+  transaction id=ID tombstone
+  commit group=G TOPIC-N tombstone
+                        the id is forgotten, the committed offset is deleted
+  skipped key           a key of another version, of neither of these logs' use
+  unread NAME           why the record doesn't read: BadLineage, the headers
+                        are no claim; Short, the bytes end early, or the key is
+                        null; Version, Status, Length, a number there may not
+                        be; Trailing, bytes are left
+
 The last line is `end bytes=N` (status 0), or `bad byte=B NAME` (status 1),
 where no batch begins at byte B:
 
@@ -140,6 +183,34 @@ the offset at which it stands, and there follow
   1.7 NoBump          an end marker has the epoch of its data
   1.8 MixedProducer   a producer wrote both inside and outside transactions
   1.9 MarkerKind      one transaction has both a commit and an abort";
+
+pub(crate) const EXPLAIN: &str =
+    "Says what a kind of fault is, what makes it happen, and what to look at";
+
+pub(crate) const EXPLAIN_SAYS: &str =
+    "CODE is what stands before the name in a `no` line: of `no 5.10 Repeated ..` it is
+5.10. `eoscheck check --help` lists all kinds, docs/FAULTS.md has all pages.";
+
+pub(crate) const INIT: &str =
+    "Writes the manifest of a folder of copied logs, evidence.json, for `check`";
+
+pub(crate) const INIT_WRITES: &str =
+    "FOLDER holds folders TOPIC-N that were copied from a broker's log directory. The
+manifest is written to FOLDER/evidence.json, which must not be there, and is
+read back; `wrote partitions=N` (status 0) says so. With one --app it is of
+version 1, else of version 2.
+
+--ends FILE takes the ends from lines TOPIC:PARTITION:OFFSET, as
+`kafka-get-offsets.sh --time -1` prints them. The manifest gets those of the
+topics that an --app names, of __consumer_offsets and __transaction_state, and
+of every partition that a record of the transaction log in FOLDER lists. Such a
+partition without a line is refused by name, and so is one of these topics that
+has a folder and no line. With --ends-from-logs each ends where its copied log
+ends, so that a copy that was cut short can't be found.
+
+What `check` will refuse is said at once, on standard error: a partition that
+doesn't begin at offset 0, one that begins with a compressed batch, and one
+that has an end but no folder.";
 
 pub(crate) const SIMULATE: &str =
     "Writes a folder of logs as a simulated cluster leaves it, for `check`";

@@ -7,4 +7,4 @@ mod help;
 mod request;
 
 pub use command::read_words;
-pub use request::{Answer, Check, NoRequest, Request, Simulation};
+pub use request::{Answer, Check, Init, Listing, NoRequest, Request, Simulation};

@@ -1,33 +1,57 @@
 //! What a run is asked to do.
 
 /// What a run is asked to do.
-#[derive(Clone, Copy)]
+#[derive(Drop)]
 pub enum Request<'a> {
     /// Answer about one segment, which is a file or the standard input.
-    Segment { answer: Answer, file: &'a str },
-    /// Give the verdict over a folder of evidence.
+    Segment { answer: Answer<'a>, file: &'a str },
+    /// Give the verdicts over folders of evidence.
     Check(Check<'a>),
+    /// Print the catalogue's page of the kind of fault with this code.
+    Explain { code: &'a str },
     /// Write what a simulated cluster leaves.
     Simulate(Simulation<'a>),
+    /// Write the manifest of a folder of copied logs.
+    Init(Init<'a>),
 }
 
 /// What is asked about a segment.
 #[derive(Clone, Copy)]
-pub enum Answer {
+pub enum Answer<'a> {
     /// Its batches and records.
-    Listing,
+    Listing(Listing<'a>),
     /// Whether its producers kept their promises.
     Chain,
 }
 
-/// What is asked about a folder of evidence.
+/// Which records of a segment are listed, and with what.
 #[derive(Clone, Copy)]
+pub struct Listing<'a> {
+    /// Whether each has its timestamp and headers.
+    pub headers: bool,
+    /// Whether each data record has what it says.
+    pub decode: bool,
+    /// As what they are read, by name, if that is said; then they are decoded too.
+    pub reading: Option<&'a str>,
+    /// The first offset that is listed.
+    pub from: u64,
+    /// The first offset after those that are listed.
+    pub to: u64,
+}
+
+/// What is asked about folders of evidence.
+#[derive(Drop)]
 pub struct Check<'a> {
     /// The number of workers, from 1 to 64.
     pub workers: u64,
     /// Whether the verdict is printed as JSON.
     pub json: bool,
-    pub folder: &'a str,
+    /// Whether the notes are left out.
+    pub quiet: bool,
+    /// Whether it is told how far the check is.
+    pub progress: bool,
+    /// The folders in the order given, at least one, none of them the empty text.
+    pub folders: Vec<&'a str>,
 }
 
 /// What a simulated cluster is to do.
@@ -40,6 +64,20 @@ pub struct Simulation<'a> {
     /// The name of the rule that it breaks afterwards, if any.
     pub switch: Option<&'a str>,
     /// The folder that is made.
+    pub folder: &'a str,
+}
+
+/// Of which folder a manifest is made, and by what.
+#[derive(Drop)]
+pub struct Init<'a> {
+    /// Whether the manifest has to be of version 1, which takes one application.
+    pub version1: bool,
+    /// The words of the applications.
+    pub apps: Vec<&'a str>,
+    /// The file of the partitions' ends.
+    pub ends: Option<&'a str>,
+    /// Whether the ends are those of the copied logs.
+    pub ends_from_logs: bool,
     pub folder: &'a str,
 }
 

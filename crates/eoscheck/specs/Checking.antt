@@ -1,9 +1,12 @@
--- What `check` prints for an evidence: the line of its verdict, as text or as JSON.
-use Rattle.std.specs.Prelude.{◌≡◌, ℕ, List, ◌++◌, Bool, codes, if◌then◌else◌}
+-- What `check` prints for an evidence: the line of its verdict, as text or as JSON, and on standard error the lines of its notes.
+use Rattle.std.specs.Prelude.{◌≡◌, ℕ, List, [], ◌++◌, Bool, true, false, codes, if◌then◌else◌}
 use Rattle.serde_json.specs.Written.{compact_text}
 use Rattle.eos_check.specs.declared.verdict.Verdict.{Verdict}
 use Rattle.eos_check.specs.Verdicts.{IsVerdict}
 use Rattle.eos_evidence.specs.Evidence.{EvidenceParts}
+use Rattle.eos_notes.specs.declared.note.Note.{Note}
+use Rattle.eos_notes.specs.Notes.{AreNotes}
+use Rattle.eos_notes.specs.Texts.{note_lines}
 use Rattle.eos_report.specs.VerdictTexts.{verdict_line, verdict_value, status_of}
 
 -- the line, as JSON or as text
@@ -16,3 +19,14 @@ pub record IsCheckAnswer (e : EvidenceParts) (json : Bool) (text : List ℕ) (st
   pub is : IsVerdict e verdict
   pub line : text ≡ verdict_answer json verdict
   pub exit : status ≡ status_of verdict
+
+-- the lines of the notes, or nothing where they are left out
+abbrev pub IsNotesText : EvidenceParts → Bool → List ℕ → Type 0
+IsNotesText e true text = text ≡ []
+IsNotesText e false text = (notes : List Note) × AreNotes e notes × (text ≡ note_lines notes)
+
+-- the same of a folder that is one of several, after the words that say so
+pub record IsAnswerAbout (about : List ℕ) (e : EvidenceParts) (json : Bool) (text : List ℕ) (status : ℕ) : Type 0 where
+  pub line : List ℕ
+  pub parts : text ≡ about ++ line
+  pub answers : IsCheckAnswer e json line status

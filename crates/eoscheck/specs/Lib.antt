@@ -1,3 +1,4 @@
 pub mod Checking
 pub mod Endings
 pub mod Simulated
+pub mod Subjects

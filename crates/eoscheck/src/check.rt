@@ -1,63 +1,88 @@
 //! `check`: whether the promise of exactly once was kept in an evidence.
 
-ghost use Rattle.std.specs.Prelude.{◌≡◌, ◌≤◌, true, Err, IfOk, OnErr, string_bytes};
+ghost use Rattle.std.specs.Prelude.{◌≡◌, ◌≤◌, ◌++◌, true, Err, IfOk, OnErr, string_bytes};
 ghost use Rattle.std.specs.Io.KnownBytes.{Keeps};
 ghost use Rattle.eos_text.specs.Writing.{Writes, WritesFrontOf};
 ghost use Rattle.eos_report.specs.VerdictTexts.{status_of};
-ghost use Rattle.eoscheck.specs.Checking.{IsCheckAnswer, verdict_answer};
+ghost use Rattle.eoscheck.specs.Checking.{IsCheckAnswer, IsAnswerAbout, IsNotesText, verdict_answer};
+ghost use Rattle.eoscheck.specs.Subjects.{subject_text};
 ghost use Rattle.eos_segment.specs.Running.{IsOfReading};
 
-use eos_board::OpenGate;
-use eos_check::{Verdict, check};
+use crate::notes::lines_of;
+use crate::subject::Subject;
+use eos_board_core::Gate;
+use eos_check::{Verdict, logs_of, verdict_of};
 use eos_evidence::Evidence;
 use eos_report::{verdict_json, verdict_line};
 use eos_segment::RunFault;
-use eos_text::finish;
+use eos_text::{finish, push_text, push_value};
 use std::alloc::{AllocError, Global};
 use std::io::Write;
 use std::sync::Wait;
 use std::thread::Threads;
 
-/// Writes the verdict over an evidence, by so many workers, 1 to 64, as a line of text or as a line of JSON. The status is 0 for
-/// yes, 1 for no.
+/// Writes the verdict over an evidence, by so many workers, 1 to 64, as a line of text or as a line of JSON; of one of several
+/// folders after the words that say which. The status is 0 for yes, 1 for no. Beside it are the lines of the notes, which are
+/// empty where these are left out. The workers pass the gate.
 ///
 /// # Errors
 /// At `Write` a front of the line was written, at `OutOfMemory` nothing. There is no other refusal.
-pub fn check_to<W: Write>(
+pub fn check_to<W: Write, G: Gate>(
     alloc: Global,
     rt: &(impl Threads + Wait + Sync),
     evidence: &Evidence,
     workers: u64,
     json: bool,
+    quiet: bool,
+    subject: Subject<'_>,
+    gate: &G,
     writer: &mut W,
-) -> Result<u8, RunFault>
+) -> Result<(u8, String), RunFault>
     requires some { 1 ≤ workers }
     requires most { workers ≤ 64 }
-    ensures ok { IfOk result (λ status. Writes (IsCheckAnswer evidence.now json) (W.contents writer.old) (W.contents writer.new) status) }
-    ensures write { result ≡ Err RunFault.Write → WritesFrontOf (IsCheckAnswer evidence.now json) (W.contents writer.old) (W.contents writer.new) }
+    ensures ok { IfOk result (λ r. Writes (IsAnswerAbout (subject_text subject.entry) evidence.now json) (W.contents writer.old) (W.contents writer.new) r.0) }
+    ensures notes { IfOk result (λ r. IsNotesText evidence.now quiet (string_bytes r.1)) }
+    ensures write { result ≡ Err RunFault.Write → WritesFrontOf (IsAnswerAbout (subject_text subject.entry) evidence.now json) (W.contents writer.old) (W.contents writer.new) }
     ensures memory { result ≡ Err RunFault.OutOfMemory → Keeps (W.contents writer.old) (W.contents writer.new) }
     ensures only { OnErr result (IsOfReading result → ⊥) }
 {
-    let (line, status) = answer(alloc, rt, evidence, workers, json)?;
-    finish(writer, line.as_bytes())?;
-    Ok(status)
+    let (line, status, notes) = answer(alloc, rt, evidence, workers, json, quiet, gate)?;
+    let text = text_about(alloc, subject, line.as_str())?;
+    finish(writer, text.as_bytes())?;
+    Ok((status, notes))
 }
 
-/// The line of the verdict and the exit status.
-fn answer(
+/// A line, after the words on which folder it is about.
+fn text_about(alloc: Global, subject: Subject<'_>, line: &str) -> Result<String, AllocError>
+    ensures { IfOk result (λ text. string_bytes text ≡ subject_text subject.entry ++ line.now) }
+{
+    let mut text = String::new(alloc);
+    push_value(&mut text, "", &subject)?;
+    push_text(&mut text, line)?;
+    Ok(text)
+}
+
+/// The line of the verdict, the exit status and the lines of the notes.
+fn answer<G: Gate>(
     alloc: Global,
     rt: &(impl Threads + Wait + Sync),
     evidence: &Evidence,
     workers: u64,
     json: bool,
-) -> Result<(String, u8), AllocError>
+    quiet: bool,
+    gate: &G,
+) -> Result<(String, u8, String), AllocError>
     requires { (1 ≤ workers) × (workers ≤ 64) }
-    ensures { IfOk result (λ r. IsCheckAnswer evidence.now json (string_bytes r.0) r.1) }
+    ensures line { IfOk result (λ r. IsCheckAnswer evidence.now json (string_bytes r.0) r.1) }
+    ensures notes { IfOk result (λ r. IsNotesText evidence.now quiet (string_bytes r.2)) }
 {
-    let verdict = check(alloc, rt, evidence, workers, &OpenGate)?;
+    let logs = logs_of(alloc, rt, evidence, workers, gate)?;
+    let logs = logs.as_slice();
+    let verdict = verdict_of(alloc, rt, evidence, logs, workers as u32)?;
     let line = answer_line(alloc, &verdict, json)?;
     let status = status_of(&verdict);
-    Ok((line, status))
+    let notes = lines_of(alloc, evidence, logs, quiet)?;
+    Ok((line, status, notes))
 }
 
 /// The line of a verdict, as text or as JSON.

@@ -1,13 +1,16 @@
 //! How a run ends: a table of exit statuses and of what is said on standard error.
 
-ghost use Rattle.std.specs.Prelude.{◌≡◌, Some};
-ghost use Rattle.eoscheck.specs.Endings.{status_of, message_of, status_after, message_after};
+ghost use Rattle.std.specs.Prelude.{◌≡◌, Some, option_map};
+ghost use Rattle.eoscheck.specs.Endings.{status_of, message_of, is_silent, cause_of, cause_line, told_text, status_after, message_after, cause_after};
+ghost use Rattle.eoscheck.specs.Subjects.{subject_text};
 
+use crate::subject::Subject;
 use eos_evidence::SpecFault;
+use eos_folder::Cause;
 use eos_segment::RunFault;
 use std::fmt::{Display, Formatter, Write};
 
-/// How a run ended. Printed, it is what standard error is told: one line, or nothing.
+/// How a run ended, or its part that is about one folder. Printed, it is the first line that standard error is told, or nothing.
 #[derive(Clone, Copy)]
 pub(crate) enum Ending<'a> {
     /// The answer was written; it has this exit status.
@@ -19,34 +22,38 @@ pub(crate) enum Ending<'a> {
     /// A word isn't text.
     NotText,
     /// This file or folder can't be read.
-    CannotRead(&'a str),
+    CannotRead(&'a str, &'a Cause),
     /// This file or stream can't be written.
     CannotWrite(&'a str),
     /// The manifest of a folder is refused.
-    Manifest(SpecFault),
+    Manifest(SpecFault, &'a Cause),
+    /// No kind of fault has this code.
+    NoSuchCode(&'a str),
     /// The simulated cluster has a transaction that is open or still ending.
     NotAtRest,
     /// An input is larger than it may be.
-    Limit,
+    Limit(&'a Cause),
     /// Memory ran out.
     OutOfMemory,
 }
 
 impl<'a> Ending<'a> {
-    /// How a run ended that read this input and wrote its answer to this output.
+    /// How a run ended that read this input and wrote its answer to this output. Where it didn't read it, this is why.
     pub(crate) fn of_answer(
         answer: Result<u8, RunFault>,
         input: &'a str,
         output: &'a str,
+        cause: &'a Cause,
     ) -> Ending<'a>
         ensures status { status_of result ≡ status_after answer }
         ensures message { message_of result ≡ message_after answer input.now output.now }
+        ensures cause { cause_of result ≡ cause_after answer cause.now }
     {
         match answer {
             Ok(status) => Ending::Answered(status),
-            Err(RunFault::Read) => Ending::CannotRead(input),
+            Err(RunFault::Read) => Ending::CannotRead(input, cause),
             Err(RunFault::Write) => Ending::CannotWrite(output),
-            Err(RunFault::Limit) => Ending::Limit,
+            Err(RunFault::Limit) => Ending::Limit(cause),
             Err(RunFault::OutOfMemory) => Ending::OutOfMemory,
         }
     }
@@ -60,12 +67,35 @@ impl<'a> Ending<'a> {
             Ending::Helped => 0,
             Ending::BadWords
             | Ending::NotText
-            | Ending::CannotRead(_)
+            | Ending::CannotRead(_, _)
             | Ending::CannotWrite(_)
-            | Ending::Manifest(_)
+            | Ending::Manifest(_, _)
+            | Ending::NoSuchCode(_)
             | Ending::NotAtRest
-            | Ending::Limit => 2,
+            | Ending::Limit(_) => 2,
             Ending::OutOfMemory => 3,
+        }
+    }
+
+    /// Whether standard error is told nothing.
+    fn is_silent(&self) -> bool
+        ensures { result ≡ is_silent self.now }
+    {
+        matches!(
+            self,
+            Ending::Answered(_) | Ending::Helped | Ending::BadWords
+        )
+    }
+
+    /// Why it ended so, where there is more to say.
+    fn cause(&self) -> Option<&'a Cause>
+        ensures { option_map (λ c. c.now) result ≡ cause_of self.now }
+    {
+        match *self {
+            Ending::CannotRead(_, cause) | Ending::Manifest(_, cause) | Ending::Limit(cause) => {
+                Some(cause)
+            }
+            _ => None,
         }
     }
 }
@@ -77,12 +107,54 @@ impl Display for Ending<'_> {
         match self {
             Ending::Answered(_) | Ending::Helped | Ending::BadWords => Ok(()),
             Ending::NotText => write!(f, "error: a word of the command line is not UTF-8 text\n"),
-            Ending::CannotRead(path) => write!(f, "eoscheck: cannot read {path}\n"),
+            Ending::CannotRead(path, _) => write!(f, "eoscheck: cannot read {path}\n"),
             Ending::CannotWrite(path) => write!(f, "eoscheck: cannot write {path}\n"),
-            Ending::Manifest(fault) => write!(f, "eoscheck: evidence.json: {}\n", fault.name()),
+            Ending::Manifest(fault, _) => write!(f, "eoscheck: evidence.json: {}\n", fault.name()),
+            Ending::NoSuchCode(code) => write!(f, "eoscheck: no fault has the code {code}\n"),
             Ending::NotAtRest => write!(f, "eoscheck: the cluster is not at rest\n"),
-            Ending::Limit => write!(f, "eoscheck: limit\n"),
+            Ending::Limit(_) => write!(f, "eoscheck: limit\n"),
             Ending::OutOfMemory => write!(f, "eoscheck: out of memory\n"),
         }
+    }
+}
+
+/// The line of a cause, which begins with two spaces. Printed, it is nothing where nothing is known.
+#[derive(Clone, Copy)]
+struct CauseLine<'a> {
+    subject: Subject<'a>,
+    cause: Option<&'a Cause>,
+}
+
+impl Display for CauseLine<'_> {
+    ghost output = { λ line. Some (cause_line (subject_text line.subject) (option_map (λ c. c.now) line.cause)) };
+
+    fn fmt<W: Write>(&self, f: &mut Formatter<W>) -> std::fmt::Result {
+        let subject = self.subject;
+        match self.cause {
+            Some(cause) if !cause.is_unknown() => write!(f, "{subject}  {cause}\n"),
+            _ => Ok(()),
+        }
+    }
+}
+
+/// What standard error is told of how a run ended, or its part that is about one of several folders. Printed, it is one line or
+/// two, or nothing.
+#[derive(Clone, Copy)]
+pub(crate) struct Told<'a> {
+    pub(crate) subject: Subject<'a>,
+    pub(crate) ending: Ending<'a>,
+}
+
+impl Display for Told<'_> {
+    ghost output = { λ told. Some (told_text (subject_text told.subject) told.ending) };
+
+    fn fmt<W: Write>(&self, f: &mut Formatter<W>) -> std::fmt::Result {
+        let Told { subject, ending } = *self;
+        if ending.is_silent() {
+            return Ok(());
+        }
+        let cause = ending.cause();
+        let line = CauseLine { subject, cause };
+        write!(f, "{subject}{ending}{line}")
     }
 }

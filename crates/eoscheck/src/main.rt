@@ -1,11 +1,17 @@
 //! `eoscheck`: checks whether the promise of exactly once was kept in Kafka logs, lists log segments, checks the sequences and
-//! epochs of their producers, and writes the logs of a simulated cluster.
+//! epochs of their producers, writes manifests for copied logs, and the logs of a simulated cluster.
 #![tactic(auto)]
 
 mod check;
+mod decoding;
 mod ending;
+mod explain;
+mod init;
+mod notes;
+mod progress;
 mod run;
 mod simulate;
+mod subject;
 
 use std::process::ExitCode;
 

@@ -1,14 +1,24 @@
 //! A run: the words, the files and streams that they name, and what the outside is told.
 
 use crate::check::check_to;
-use crate::ending::Ending;
+use crate::decoding::options_of;
+use crate::ending::{Ending, Told};
+use crate::explain::page_to;
+use crate::init::init_folder;
+use crate::notes::say_notes;
+use crate::progress::{Meter, Progress};
 use crate::simulate::{SimulationFault, simulate, switch_named, told_to};
-use eos_folder::{FolderFault, WritingFault, make_folder, read_folder, write_evidence};
+use crate::subject::Subject;
+use eos_catalogue::page_of;
+use eos_evidence::Evidence;
+use eos_folder::{
+    Cause, FolderFault, WritingFault, make_folder, read_folder, remove_folder, write_evidence,
+};
 use eos_segment::{RunFault, chain_to, dump_to};
 use eos_words::{Answer, Check, NoRequest, Request, Simulation, read_words};
 use std::alloc::Global;
 use std::fs::File;
-use std::io::{ErrorKind, Read};
+use std::io::{ErrorKind, IsTerminal, Read};
 use std::sync::Wait;
 use std::thread::Threads;
 use std::{env, io};
@@ -32,6 +42,9 @@ fn take_words(rt: &HostRuntime, alloc: Global) -> io::Result<Vec<String>> {
 }
 
 fn obey(rt: &HostRuntime, threads: &(impl Threads + Wait + Sync), words: &[String]) -> u8 {
+    if words.len() <= 1 && rt.stdin().is_terminal() {
+        tell_of_waiting(rt);
+    }
     match read_words(rt, rt.alloc(), words) {
         Ok(request) => act(rt, threads, request),
         Err(NoRequest::Helped) => end(rt, Ending::Helped),
@@ -41,43 +54,139 @@ fn obey(rt: &HostRuntime, threads: &(impl Threads + Wait + Sync), words: &[Strin
     }
 }
 
+/// Somebody sits there and has given no words: says what is waited for.
+fn tell_of_waiting(rt: &HostRuntime) {
+    let _ = eprint!(rt;
+        "eoscheck: waits for a segment on standard input; 'eoscheck --help' says what else there is\n"
+    );
+}
+
 /// Says how the run ended, and gives the exit status. Where standard error takes nothing, the status is all that is left.
 fn end(rt: &HostRuntime, ending: Ending<'_>) -> u8 {
-    let _ = eprint!(rt; "{ending}");
+    end_about(rt, Subject::Only, ending)
+}
+
+/// The same of a part of the run that is about one of several folders.
+fn end_about(rt: &HostRuntime, subject: Subject<'_>, ending: Ending<'_>) -> u8 {
+    let told = Told { subject, ending };
+    let _ = eprint!(rt; "{told}");
     ending.status()
 }
 
 fn act(rt: &HostRuntime, threads: &(impl Threads + Wait + Sync), request: Request<'_>) -> u8 {
     match request {
-        Request::Segment { answer, file } => {
-            let answered = read_and_answer(rt, answer, file);
-            end(rt, Ending::of_answer(answered, file, STANDARD))
-        }
-        Request::Check(words) => check_folder(rt, threads, words),
+        Request::Segment { answer, file } => answer_segment(rt, answer, file),
+        Request::Check(words) => check_folders(rt, threads, &words),
+        Request::Explain { code } => explain_code(rt, code),
         Request::Simulate(words) => simulate_folder(rt, words),
+        Request::Init(words) => init_folder(rt, &words),
     }
 }
 
-/// Reads a folder of evidence and writes its verdict on standard output.
-fn check_folder(rt: &HostRuntime, threads: &(impl Threads + Wait + Sync), words: Check<'_>) -> u8 {
-    let workers = words.workers.clamp(1, 64);
-    let evidence = match read_folder(rt, threads, words.folder, workers) {
-        Ok(evidence) => evidence,
-        Err(FolderFault::CannotRead(path)) => return end(rt, Ending::CannotRead(path.as_str())),
-        Err(FolderFault::Manifest(fault)) => return end(rt, Ending::Manifest(fault)),
-        Err(FolderFault::Limit) => return end(rt, Ending::Limit),
-        Err(FolderFault::OutOfMemory) => return end(rt, Ending::OutOfMemory),
-    };
-    let mut writer = io::writer(rt);
+/// Reads folders of evidence, one after the other, and writes the verdict of each on standard output. The status is the greatest.
+/// After output that can't be written it stops.
+fn check_folders(
+    rt: &HostRuntime,
+    threads: &(impl Threads + Wait + Sync),
+    words: &Check<'_>,
+) -> u8 {
+    let meter = Meter::start(
+        rt,
+        words.progress || !words.quiet && rt.stderr().is_terminal(),
+    );
+    let folders = words.folders.as_slice();
+    let mut status = 0;
+    for folder in folders {
+        let subject = if folders.len() > 1 {
+            Subject::Folder(folder)
+        } else {
+            Subject::Only
+        };
+        let progress = Progress::begin(&meter, subject);
+        let done = check_folder(rt, threads, words, folder, &progress);
+        status = done.status.max(status);
+        if done.is_last {
+            break;
+        }
+    }
+    status
+}
+
+/// What became of one of several folders.
+#[derive(Clone, Copy)]
+struct Done {
+    status: u8,
+    /// Whether output can't be written, so that no further one is looked at.
+    is_last: bool,
+}
+
+fn check_folder(
+    rt: &HostRuntime,
+    threads: &(impl Threads + Wait + Sync),
+    words: &Check<'_>,
+    folder: &str,
+    progress: &Progress<'_>,
+) -> Done {
+    match read_folder(rt, threads, folder, words.workers.clamp(1, 64), progress) {
+        Ok(evidence) => judge(rt, threads, words, folder, &evidence, progress),
+        Err(fault) => Done {
+            status: end_unread(rt, progress.subject, &fault),
+            is_last: false,
+        },
+    }
+}
+
+fn judge(
+    rt: &HostRuntime,
+    threads: &(impl Threads + Wait + Sync),
+    words: &Check<'_>,
+    folder: &str,
+    evidence: &Evidence,
+    progress: &Progress<'_>,
+) -> Done {
     let answered = check_to(
         rt.alloc(),
         threads,
-        &evidence,
-        workers,
+        evidence,
+        words.workers.clamp(1, 64),
         words.json,
-        &mut writer,
+        words.quiet,
+        progress.subject,
+        progress,
+        &mut io::writer(rt),
     );
-    end(rt, Ending::of_answer(answered, words.folder, STANDARD))
+    progress.end();
+    let answered = say_notes(rt, progress.subject, answered);
+    let ending = Ending::of_answer(answered, folder, STANDARD, &Cause::Unknown);
+    Done {
+        status: end_about(rt, progress.subject, ending),
+        is_last: matches!(answered, Err(RunFault::Write)),
+    }
+}
+
+/// Says why a folder isn't read.
+fn end_unread(rt: &HostRuntime, subject: Subject<'_>, fault: &FolderFault) -> u8 {
+    let ending = match fault {
+        FolderFault::CannotRead(path, cause) => Ending::CannotRead(path.as_str(), cause),
+        FolderFault::Manifest(fault, cause) => Ending::Manifest(*fault, cause),
+        FolderFault::Limit(cause) => Ending::Limit(cause),
+        FolderFault::OutOfMemory => Ending::OutOfMemory,
+    };
+    end_about(rt, subject, ending)
+}
+
+/// Prints the catalogue's page of a kind of fault.
+fn explain_code(rt: &HostRuntime, code: &str) -> u8 {
+    match page_of(code) {
+        Some(page) => {
+            let answered = page_to(rt.alloc(), page, &mut io::writer(rt));
+            end(
+                rt,
+                Ending::of_answer(answered, STANDARD, STANDARD, &Cause::Unknown),
+            )
+        }
+        None => end(rt, Ending::NoSuchCode(code)),
+    }
 }
 
 /// Writes what a simulated cluster leaves as a new folder, and on standard output that it did.
@@ -94,18 +203,32 @@ fn simulate_folder(rt: &HostRuntime, words: Simulation<'_>) -> u8 {
     }
     let evidence = match simulate(rt.alloc(), words.seed, words.events, switch) {
         Ok(evidence) => evidence,
-        Err(SimulationFault::NotAtRest) => return end(rt, Ending::NotAtRest),
-        Err(SimulationFault::Limit) => return end(rt, Ending::Limit),
-        Err(SimulationFault::OutOfMemory) => return end(rt, Ending::OutOfMemory),
+        Err(fault) => {
+            remove_folder(rt, words.folder);
+            return end_unmade(rt, fault);
+        }
     };
     if let Err(fault) = write_evidence(rt, words.folder, &evidence) {
+        remove_folder(rt, words.folder);
         return end_unwritten(rt, fault);
     }
     let told = told_to(rt.alloc(), &evidence, &mut io::writer(rt));
-    end(rt, Ending::of_answer(told, words.folder, STANDARD))
+    end(
+        rt,
+        Ending::of_answer(told, words.folder, STANDARD, &Cause::Unknown),
+    )
 }
 
-/// Says why a folder wasn't written whole.
+/// Says why there is no evidence of a simulated cluster.
+fn end_unmade(rt: &HostRuntime, fault: SimulationFault) -> u8 {
+    match fault {
+        SimulationFault::NotAtRest => end(rt, Ending::NotAtRest),
+        SimulationFault::Limit => end(rt, Ending::Limit(&Cause::Unknown)),
+        SimulationFault::OutOfMemory => end(rt, Ending::OutOfMemory),
+    }
+}
+
+/// Says why a folder wasn't written.
 fn end_unwritten(rt: &HostRuntime, fault: WritingFault) -> u8 {
     match fault {
         WritingFault::CannotWrite(path) => end(rt, Ending::CannotWrite(path.as_str())),
@@ -113,22 +236,47 @@ fn end_unwritten(rt: &HostRuntime, fault: WritingFault) -> u8 {
     }
 }
 
+/// Answers about a segment, and says why where it can't.
+fn answer_segment(rt: &HostRuntime, answer: Answer<'_>, file: &str) -> u8 {
+    let answered = read_and_answer(rt, answer, file);
+    let cause = cause_of_none(rt, answered, file);
+    end(rt, Ending::of_answer(answered, file, STANDARD, &cause))
+}
+
+/// Why there is no answer about this file, where it is the file's.
+fn cause_of_none(rt: &HostRuntime, answered: Result<u8, RunFault>, file: &str) -> Cause {
+    match answered {
+        Err(RunFault::Read) if file == STANDARD => Cause::of_reader(rt.alloc(), &mut rt.reader()),
+        Err(RunFault::Read) => Cause::of_file(rt, file),
+        Err(RunFault::Limit) => Cause::long_file(rt.alloc(), file),
+        _ => Cause::Unknown,
+    }
+}
+
 /// Answers about a segment from a file or from standard input, on standard output.
-fn read_and_answer(rt: &HostRuntime, answer: Answer, path: &str) -> Result<u8, RunFault> {
+fn read_and_answer(rt: &HostRuntime, answer: Answer<'_>, path: &str) -> Result<u8, RunFault> {
     if path == STANDARD {
-        return write_answer(rt, answer, &mut rt.reader());
+        return write_answer(rt, answer, path, &mut rt.reader());
     }
     match File::open(rt, path) {
-        Ok(mut file) => write_answer(rt, answer, &mut file),
+        Ok(mut file) => write_answer(rt, answer, path, &mut file),
         Err(e) if e.kind() == ErrorKind::OutOfMemory => Err(RunFault::OutOfMemory),
         Err(_) => Err(RunFault::Read),
     }
 }
 
-fn write_answer<R: Read>(rt: &HostRuntime, answer: Answer, reader: &mut R) -> Result<u8, RunFault> {
+fn write_answer<R: Read>(
+    rt: &HostRuntime,
+    answer: Answer<'_>,
+    path: &str,
+    reader: &mut R,
+) -> Result<u8, RunFault> {
     let mut writer = io::writer(rt);
     match answer {
-        Answer::Listing => dump_to(rt.alloc(), reader, &mut writer),
+        Answer::Listing(words) => {
+            let options = options_of(&words, path);
+            dump_to(rt.alloc(), &options, reader, &mut writer)
+        }
         Answer::Chain => chain_to(rt.alloc(), reader, &mut writer),
     }
 }

@@ -1,18 +1,16 @@
 //! `simulate`: what a simulated cluster leaves behind.
 
-ghost use Rattle.std.specs.Prelude.{◌≡◌, ◌≤◌, ◌+◌, ◌*◌, ◌/◌, true, None, Err, IfOk, IfSome, OnErr, string_bytes};
+ghost use Rattle.std.specs.Prelude.{◌≡◌, true, None, Err, IfOk, IfSome, OnErr, string_bytes};
 ghost use Rattle.std.specs.Io.KnownBytes.{Appends, Keeps};
-ghost use Rattle.eos_cluster.specs.Names.{switch_name};
 ghost use Rattle.eos_text.specs.Writing.{WritesFront};
-ghost use Rattle.eos_machine.specs.Places.{place_count};
-ghost use Rattle.eos_logs.specs.Evidences.{HasRoomForAll};
+ghost use Rattle.eos_machine.specs.Switching.{switch_name};
 ghost use Rattle.eos_schedules.specs.Schedules.{HasRightLogs, HasNoFaultInLogs};
 ghost use Rattle.eoscheck.specs.Simulated.{wrote_line};
 ghost use Rattle.eos_segment.specs.Running.{IsOfReading};
 ghost use Rattle.eoscheck.specs.declared.simulate.SimulationFault.TheVariants.{OutOfMemory};
 
 use eos_cluster::{Cluster, EvidenceRefusal, NewFault, Switch, Switches};
-use eos_evidence::{Evidence, MAX_SEGMENTS};
+use eos_evidence::Evidence;
 use eos_machine::Config;
 use eos_scripts::{Script, run_script, run_tail};
 use eos_segment::RunFault;
@@ -94,7 +92,7 @@ fn evidence_of(cluster: &Cluster) -> Result<Evidence, SimulationFault>
     ensures right { cluster.now.honest ≡ true → IfOk result HasRightLogs }
     ensures faultless { cluster.now.honest ≡ true → IfOk result HasNoFaultInLogs }
 {
-    if !has_room(cluster) {
+    if !cluster.has_room() {
         return Err(SimulationFault::Limit);
     }
     match eos_simulation::evidence_of(cluster) {
@@ -102,16 +100,6 @@ fn evidence_of(cluster: &Cluster) -> Result<Evidence, SimulationFault>
         Err(EvidenceRefusal::NotAtRest) => Err(SimulationFault::NotAtRest),
         Err(EvidenceRefusal::OutOfMemory) => Err(SimulationFault::OutOfMemory),
     }
-}
-
-/// Whether its segments are sure to be as few as evidence may have: an event appends two records at the most.
-fn has_room(cluster: &Cluster) -> bool
-    ensures { result ≡ true → HasRoomForAll cluster.now.config cluster.now.world }
-{
-    let config = cluster.config();
-    let partitions = 1 + config.transaction_logs + config.inputs + config.outputs;
-    let segments = 2 * cluster.events() / config.segment_records as u64;
-    segments + partitions as u64 <= MAX_SEGMENTS
 }
 
 /// Writes how many partitions an evidence has, as a line of text. The status is 0.

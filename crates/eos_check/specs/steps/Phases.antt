@@ -3,7 +3,7 @@ use Rattle.std.specs.Prelude.{◌≡◌, ℕ, List, [], ◌∷◌, length, Optio
 use Rattle.std.specs.Option.{option_or}
 use Rattle.eos_base.specs.Least.{NoneStands, IsLeast}
 use Rattle.eos_evidence.specs.Evidence.{EvidenceParts}
-use Rattle.eos_fold.specs.declared.fault.PartitionFault.{PartitionFault}
+use Rattle.eos_touch.specs.declared.fault.PartitionFault.{PartitionFault}
 use Rattle.eos_fold.specs.Parts.{PartLog}
 use Rattle.eos_txnlog.specs.declared.decision.Decision.{Decision}
 use Rattle.eos_table.specs.declared.match_fault.MatchFault.{MatchFault}

@@ -24,6 +24,7 @@ use Rattle.eos_lineage.specs.Lineage.{Topic, is_part_of, place_in, claims_at, in
 use Rattle.eos_lineage.specs.declared.tables.Tables.{Tables}
 use Rattle.eos_lineage.specs.declared.tables.Known.{Known}
 use Rattle.eos_lineage.specs.declared.claims.Walk.{Walk}
+use Rattle.eos_lineage.specs.declared.claims.Output.{Output}
 use Rattle.eos_lineage.specs.steps.Tables.{AreAscending, passes_of}
 
 -- ---- what records give
@@ -39,6 +40,9 @@ claim_at n x = if is_visible x.fate then claims_at n x else []
 
 abbrev pub claims_of_part : List Topic → PartLog → List PlacedClaim
 claims_of_part topics p = if is_part_of topics p then flat_map (claim_at (part_name p)) p.items else []
+
+abbrev pub output_claims : Output → List PlacedClaim
+output_claims o = flat_map (claim_at o.name.now) o.part.now.items
 
 -- ---- the tables of an application
 

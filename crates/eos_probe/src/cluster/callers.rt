@@ -2,12 +2,13 @@
 
 ghost use Rattle.std.specs.Prelude.{◌≡◌, ◌≤◌, true, vec_len, IfOk};
 
-use crate::cluster::events::place;
-use crate::cluster::readings::{ends, evidence_of};
+use crate::cluster::readings::read_logs;
+use crate::words::{Notes, numbers_of, place, show};
 use eos_cluster::Cluster;
 use eos_drive::{Script, run_threads};
 use eos_history::{Finished, Pass, Shared};
-use eos_machine::{Config, Event};
+use eos_machine::{Config, Event, Reply};
+use eos_text::push_value;
 use std::alloc::{AllocError, Global};
 use std::marker::Brand;
 use std::sync::Wait;
@@ -34,17 +35,44 @@ fn new_cluster(alloc: Global) -> Result<Cluster, AllocError>
     }
 }
 
-/// Whether the callers agree, how many entries there are, and how many of each pass.
-fn told(alloc: Global, finished: &Finished, callers: u64) -> Result<String, AllocError> {
+/// A new cluster that so many callers share.
+fn new_shared<L: Ledger>(
+    alloc: Global,
+    blank: Blank,
+    callers: u64,
+) -> Result<(Shared<L>, Vec<Pass<L>>), AllocError>
+    requires ledger { (blank.name ≡ L.name) × (blank.parts ≡ L.parts) × (L.parts ≡ callers) }
+    requires callers { (1 ≤ callers) × (callers ≤ 64) }
+    ensures { IfOk result (λ r. vec_len r.1 ≡ callers) }
+{
+    let cluster = new_cluster(alloc)?;
+    Shared::<L>::new(alloc, blank, cluster, callers)
+}
+
+/// Writes whether the callers agree, how many entries there are, and how many of each pass.
+fn tell(
+    alloc: Global,
+    line: &mut String,
+    finished: &Finished,
+    callers: u64,
+) -> Result<(), AllocError> {
+    push_value(line, "agree=", &finished.agree)?;
+    push_value(line, " entries=", &finished.entries.len())?;
+    line.push_str(" passes=")?;
+    counts(alloc, line, finished, callers)
+}
+
+fn counts(
+    alloc: Global,
+    line: &mut String,
+    finished: &Finished,
+    callers: u64,
+) -> Result<(), AllocError> {
     let mut counts = Vec::new(alloc);
     for pass in 0..callers {
         counts.push(count_of(finished, pass))?;
     }
-    let entries = finished.entries.len();
-    format!(in alloc;
-        "agree={} entries={entries} passes={counts:?}",
-        finished.agree
-    )
+    show(line, counts)
 }
 
 /// How many entries came by the pass of this number.
@@ -58,11 +86,19 @@ fn count_of(finished: &Finished, pass: u64) -> u64 {
     count
 }
 
+/// An input to a partition, which comes in again after want of memory.
+fn feed<L: Ledger>(rt: &impl Wait, shared: &Shared<L>, pass: &mut Pass<L>, source: usize) {
+    let called = shared.call(rt, pass, Event::Feed { source });
+    if called.reply == Reply::OutOfMemory {
+        shared.call(rt, pass, Event::Feed { source });
+    }
+}
+
 /// Ten inputs by one pass, to the two partitions in turn.
 fn feed_ten<L: Ledger>(rt: &impl Wait, shared: &Shared<L>, pass: Pass<L>) -> Pass<L> {
     let mut pass = pass;
     for i in 0..10usize {
-        shared.call(rt, &mut pass, Event::Feed { source: i % 2 });
+        feed(rt, shared, &mut pass, i % 2);
     }
     pass
 }
@@ -75,7 +111,7 @@ fn ten_each<L: Ledger + Send + Sync, R: Threads + Wait + Sync>(
 ) -> Result<Finished, AllocError>
     requires { (blank.name ≡ L.name) × (blank.parts ≡ L.parts) × (L.parts ≡ 2) }
 {
-    let (shared, passes) = Shared::<L>::new(alloc, blank, new_cluster(alloc)?, 2)?;
+    let (shared, passes) = new_shared::<L>(alloc, blank, 2)?;
     let passes = thread::map_vec(
         rt,
         passes,
@@ -84,21 +120,30 @@ fn ten_each<L: Ledger + Send + Sync, R: Threads + Wait + Sync>(
     Ok(shared.finish(passes))
 }
 
-/// What two callers of ten inputs each were told, the cluster's sizes, and the records of each partition.
-pub(crate) fn feeders<R: Threads + Wait + Sync>(
+/// Writes what two callers of ten inputs each were told, the cluster's sizes, and the records of each partition.
+pub(super) fn feeders<R: Threads + Wait + Sync>(
     rt: &R,
     alloc: Global,
-) -> Result<String, AllocError> {
-    let finished = ten_each::<Brand, R>(rt, alloc, Blank::new(2))?;
-    let told = told(alloc, &finished, 2)?;
-    let is_pair = finished.cluster.config() == PAIR;
-    match evidence_of(&finished.cluster) {
-        Ok(evidence) => format!(in alloc;
-            "{told} pair={is_pair} ends={:?}",
-            ends(alloc, &evidence)?
-        ),
-        Err(refusal) => format!(in alloc; "{told} {refusal}"),
+    notes: &mut Notes,
+    line: &mut String,
+) -> Result<(), AllocError> {
+    match ten_each::<Brand, R>(rt, alloc, Blank::new(2)) {
+        Ok(finished) => tell_of_feeders(rt, alloc, notes, line, &finished),
+        Err(error) => Err(error),
     }
+}
+
+fn tell_of_feeders<R: Threads + Wait + Sync>(
+    rt: &R,
+    alloc: Global,
+    notes: &mut Notes,
+    line: &mut String,
+    finished: &Finished,
+) -> Result<(), AllocError> {
+    tell(alloc, line, finished, 2)?;
+    push_value(line, " pair=", &(*finished.cluster.config() == PAIR))?;
+    line.push_str(" ends=")?;
+    read_logs(rt, alloc, notes, &finished.cluster, line, "ends", 0)
 }
 
 /// As many scripts of seed 7 and this length.
@@ -123,19 +168,38 @@ fn by_scripts<L: Ledger + Send + Sync, R: Threads + Wait + Sync>(
     requires ledger { (blank.name ≡ L.name) × (blank.parts ≡ L.parts) × (L.parts ≡ callers) }
     requires callers { (1 ≤ callers) × (callers ≤ 64) }
 {
-    let (shared, passes) = Shared::<L>::new(alloc, blank, new_cluster(alloc)?, callers)?;
     let scripts = scripts_of(alloc, callers, length)?;
+    let (shared, passes) = new_shared::<L>(alloc, blank, callers)?;
     run_threads(rt, alloc, shared, passes, scripts)
 }
 
-/// What so many callers by scripts of so many words were told.
-pub(crate) fn scripts<R: Threads + Wait + Sync>(
+/// Writes what so many callers by scripts of so many words were told. Where an event found no memory it is in no history.
+pub(super) fn scripts<R: Threads + Wait + Sync>(
     rt: &R,
     alloc: Global,
-    numbers: [i64; 5],
-) -> Result<String, AllocError> {
+    notes: &mut Notes,
+    line: &mut String,
+    rest: &str,
+) -> Result<(), AllocError> {
+    let numbers = numbers_of(notes, rest, 2);
     let callers = place(numbers[0]).clamp(1, 64) as u64;
-    let length = place(numbers[1]) as u64;
-    let finished = by_scripts::<Brand, R>(rt, alloc, Blank::new(callers), callers, length)?;
-    told(alloc, &finished, callers)
+    let length = place(numbers[1]).min(65536) as u64;
+    match by_scripts::<Brand, R>(rt, alloc, Blank::new(callers), callers, length) {
+        Ok(finished) => tell_of_scripts(alloc, line, &finished, callers, length),
+        Err(error) => Err(error),
+    }
+}
+
+fn tell_of_scripts(
+    alloc: Global,
+    line: &mut String,
+    finished: &Finished,
+    callers: u64,
+    length: u64,
+) -> Result<(), AllocError> {
+    let is_short = (finished.entries.len() as u64) < callers.saturating_mul(length);
+    if is_short && finished.agree {
+        return Err(AllocError);
+    }
+    tell(alloc, line, finished, callers)
 }

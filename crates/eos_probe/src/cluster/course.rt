@@ -1,9 +1,11 @@
 //! What a cluster is told and asked, word by word.
 
-use crate::cluster::events::{event_of, numbers_of, place, sizes};
+use crate::cluster::events::{count_of, event_of, sizes_of};
 use crate::cluster::readings::{read, read_logs};
+use crate::words::{Notes, bad, number_of, numbers_of, place, show};
 use eos_cluster::{Cluster, Switch, Switches};
 use eos_drive::{Script, run_script, run_tail};
+use eos_machine::Reply;
 use std::alloc::{AllocError, Global};
 use std::sync::Wait;
 use std::thread::Threads;
@@ -18,75 +20,150 @@ const SWITCHES: [Switch; 7] = [
     Switch::IgnoreGeneration,
 ];
 
-/// What a new cluster of these sizes answers to each of these words; those behind `-` are not told of.
-pub(crate) fn run<R: Threads + Wait + Sync>(
+/// Writes what a new cluster of these sizes answers to each of these words; those behind `-` are not told of.
+pub(super) fn run<R: Threads + Wait + Sync>(
     rt: &R,
     alloc: Global,
-    config: &str,
+    notes: &mut Notes,
+    line: &mut String,
+    sizes: &str,
     words: &str,
-) -> Result<String, AllocError> {
-    let mut cluster = match Cluster::new(alloc, sizes(numbers_of(config))) {
-        Ok(cluster) => cluster,
-        Err(fault) => return format!(in alloc; "{fault}"),
-    };
-    let mut line = String::new(alloc);
+) -> Result<(), AllocError> {
+    match Cluster::new(alloc, sizes_of(notes, sizes)) {
+        Ok(mut cluster) => tell_all(rt, alloc, notes, &mut cluster, line, words),
+        Err(fault) => line.push_str(fault.name()),
+    }
+}
+
+fn tell_all<R: Threads + Wait + Sync>(
+    rt: &R,
+    alloc: Global,
+    notes: &mut Notes,
+    cluster: &mut Cluster,
+    line: &mut String,
+    words: &str,
+) -> Result<(), AllocError> {
     for word in words.split_whitespace() {
-        let shown = word.strip_prefix('-');
-        let (name, rest) = split(shown.unwrap_or(word));
-        let text = answer(rt, alloc, &mut cluster, name, rest)?;
-        if shown.is_none() {
-            line.push_str(&text)?;
-            line.push_str(" ")?;
+        match word.strip_prefix('-') {
+            None => tell(rt, alloc, notes, cluster, line, word)?,
+            Some(word) => tell_silently(rt, alloc, notes, cluster, word)?,
         }
     }
-    String::from_str(alloc, line.as_str().trim_end())
+    Ok(())
 }
 
-/// A word's name, and what stands behind it.
-fn split(word: &str) -> (&str, &str) {
-    word.split_once(':').unwrap_or((word, ""))
-}
-
-fn answer<R: Threads + Wait + Sync>(
+fn tell_silently<R: Threads + Wait + Sync>(
     rt: &R,
     alloc: Global,
+    notes: &mut Notes,
     cluster: &mut Cluster,
-    name: &str,
-    rest: &str,
-) -> Result<String, AllocError> {
-    let numbers = numbers_of(rest);
-    if let Some(event) = event_of(name, numbers) {
-        let reply = cluster.step(event);
-        return format!(in alloc; "{reply:?}");
-    }
-    if drive(alloc, cluster, name, rest)? {
-        return format!(in alloc; "done");
-    }
-    let number = place(numbers[0]) as u64;
-    if let Some(text) = read(alloc, cluster, name, number)? {
-        return Ok(text);
-    }
-    read_logs(rt, alloc, cluster, name, number)
+    word: &str,
+) -> Result<(), AllocError> {
+    let mut unsaid = String::new(alloc);
+    tell(rt, alloc, notes, cluster, &mut unsaid, word)
 }
 
-/// Turns a switch on, or drives the cluster by a script or a switch's tail, where the word says so.
-fn drive(alloc: Global, cluster: &mut Cluster, name: &str, rest: &str) -> Result<bool, AllocError> {
-    if name == "script" {
-        let numbers = numbers_of(rest);
-        let length = place(numbers[1]) as u64;
-        let script = Script::from_seed(alloc, place(numbers[0]) as u64, length)?;
-        run_script(alloc, cluster, &script)?;
-        return Ok(true);
+/// Tells or asks one word, and writes what is answered behind a space.
+fn tell<R: Threads + Wait + Sync>(
+    rt: &R,
+    alloc: Global,
+    notes: &mut Notes,
+    cluster: &mut Cluster,
+    line: &mut String,
+    word: &str,
+) -> Result<(), AllocError> {
+    if !line.is_empty() {
+        line.push_str(" ")?;
     }
-    let Some(switch) = switch_of(rest) else {
-        return Ok(false);
-    };
+    let (name, rest) = word.split_once(':').unwrap_or((word, ""));
     match name {
-        "set" => cluster.set(Switches::only(switch)),
-        "tail" => run_tail(cluster, switch)?,
-        _ => return Ok(false),
+        "set" | "tail" => switch(notes, cluster, line, name, rest),
+        "script" => script(alloc, notes, cluster, line, rest),
+        "past" | "words" | "batches" | "verdict" => {
+            let number = place(number_of(notes, rest)) as u64;
+            ask(rt, alloc, notes, cluster, line, name, number)
+        }
+        "at-rest" | "honest" | "events" | "pieces" | "ends" | "processed" => {
+            ask(rt, alloc, notes, cluster, line, name, 0)
+        }
+        _ => happen(notes, cluster, line, name, rest),
     }
-    Ok(true)
+}
+
+fn ask<R: Threads + Wait + Sync>(
+    rt: &R,
+    alloc: Global,
+    notes: &mut Notes,
+    cluster: &Cluster,
+    line: &mut String,
+    name: &str,
+    number: u64,
+) -> Result<(), AllocError> {
+    match name {
+        "past" | "words" | "at-rest" | "honest" | "events" => {
+            read(alloc, cluster, line, name, number)
+        }
+        _ => read_logs(rt, alloc, notes, cluster, line, name, number),
+    }
+}
+
+/// The reply to the event of this name with these numbers, if there is one.
+fn reply_to(cluster: &mut Cluster, name: &str, numbers: [i64; 5]) -> Option<Reply> {
+    let event = event_of(name, numbers)?;
+    Some(cluster.step(event))
+}
+
+/// An event, which happens again after want of memory.
+fn happen(
+    notes: &mut Notes,
+    cluster: &mut Cluster,
+    line: &mut String,
+    name: &str,
+    rest: &str,
+) -> Result<(), AllocError> {
+    let numbers = numbers_of(notes, rest, count_of(name));
+    let mut reply = reply_to(cluster, name, numbers);
+    if reply == Some(Reply::OutOfMemory) {
+        notes.is_again = true;
+        reply = reply_to(cluster, name, numbers);
+    }
+    match reply {
+        Some(reply) => show(line, reply),
+        None => bad(notes),
+    }
+}
+
+/// Drives the cluster by the script of a seed, of so many words.
+fn script(
+    alloc: Global,
+    notes: &mut Notes,
+    cluster: &mut Cluster,
+    line: &mut String,
+    rest: &str,
+) -> Result<(), AllocError> {
+    let numbers = numbers_of(notes, rest, 2);
+    line.push_str("done")?;
+    let script = Script::from_seed(alloc, place(numbers[0]) as u64, place(numbers[1]) as u64)?;
+    run_script(alloc, cluster, &script)
+}
+
+/// Turns a switch on, and all others off, or drives the cluster by its tail.
+fn switch(
+    notes: &mut Notes,
+    cluster: &mut Cluster,
+    line: &mut String,
+    name: &str,
+    rest: &str,
+) -> Result<(), AllocError> {
+    let Some(switch) = switch_of(rest) else {
+        return bad(notes);
+    };
+    if name == "set" {
+        cluster.set(Switches::only(switch));
+    } else {
+        run_tail(cluster, switch)?;
+    }
+    line.push_str("done")
 }
 
 /// The switch of this name.

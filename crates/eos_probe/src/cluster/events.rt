@@ -1,34 +1,29 @@
 //! Words as events.
 
+use crate::words::{Notes, numbers_of, place};
 use bytes::Bytes;
 use eos_batch::Kind;
 use eos_machine::{Claim, Config, Event};
 
-/// The numbers of a text, separated by commas; 0 in the place of what is none or isn't there.
-pub(crate) fn numbers_of(text: &str) -> [i64; 5] {
-    let mut numbers = [0; 5];
-    let mut rest = text;
-    for number in &mut numbers {
-        let (first, more) = rest.split_once(',').unwrap_or((rest, ""));
-        *number = first.parse::<i64>().unwrap_or(0);
-        rest = more;
-    }
-    numbers
-}
-
-/// A number as a count or a place, which names nothing where it is below 0.
-pub(crate) fn place(number: i64) -> usize {
-    usize::try_from(number).unwrap_or(usize::MAX)
-}
-
 /// The sizes of a cluster, in the order of their fields.
-pub(crate) fn sizes(numbers: [i64; 5]) -> Config {
+pub(super) fn sizes_of(notes: &mut Notes, text: &str) -> Config {
+    let numbers = numbers_of(notes, text, 5);
     Config {
         applications: place(numbers[0]),
         inputs: place(numbers[1]),
         outputs: place(numbers[2]),
         transaction_logs: place(numbers[3]),
         segment_records: place(numbers[4]),
+    }
+}
+
+/// How many numbers an event of this name has.
+pub(super) fn count_of(name: &str) -> usize {
+    match name {
+        "members" | "coordinator" => 0,
+        "produce" | "fetch" => 2,
+        "offset" => 3,
+        _ => 1,
     }
 }
 
@@ -44,44 +39,53 @@ fn claim() -> Claim {
 }
 
 /// The event of this name with these numbers: of a session, the partition of `out` or `in`, and the offset.
-pub(crate) fn event_of(name: &str, numbers: [i64; 5]) -> Option<Event> {
-    let session = place(numbers[0]);
-    let source = place(numbers[1]);
-    let event = match name {
-        "feed" => Event::Feed { source: session },
-        "start" => Event::Start {
-            application: session,
-        },
-        "produce" => Event::Produce {
-            session,
-            partition: source,
+pub(super) fn event_of(name: &str, numbers: [i64; 5]) -> Option<Event> {
+    let first = place(numbers[0]);
+    let second = place(numbers[1]);
+    match name {
+        "produce" => Some(Event::Produce {
+            session: first,
+            partition: second,
             claim: claim(),
-        },
-        "offset" => Event::Commit {
-            session,
-            source,
+        }),
+        "offset" => Some(Event::Commit {
+            session: first,
+            source: second,
             offset: numbers[2],
-        },
-        "commit" => Event::End {
-            session,
+        }),
+        "fetch" => Some(Event::Fetch {
+            session: first,
+            source: second,
+        }),
+        _ => event_of_one(name, first),
+    }
+}
+
+/// The event of this name with this number, or with none.
+fn event_of_one(name: &str, number: usize) -> Option<Event> {
+    match name {
+        "feed" => Some(Event::Feed { source: number }),
+        "start" => Some(Event::Start {
+            application: number,
+        }),
+        "commit" => Some(Event::End {
+            session: number,
             kind: Kind::Commit,
-        },
-        "abort" => Event::End {
-            session,
+        }),
+        "abort" => Some(Event::End {
+            session: number,
             kind: Kind::Abort,
-        },
-        "resume" => Event::Resume { session },
-        "fetch" => Event::Fetch { session, source },
-        "members" => Event::Members,
-        "broker" => Event::BrokerRestart {
+        }),
+        "resume" => Some(Event::Resume { session: number }),
+        "members" => Some(Event::Members),
+        "broker" => Some(Event::BrokerRestart {
             topic: Bytes::from_static(b"out"),
-            partition: session,
-        },
-        "coordinator" => Event::CoordinatorRestart,
-        "deliver" => Event::Deliver {
-            message: session as u64,
-        },
-        _ => return None,
-    };
-    Some(event)
+            partition: number,
+        }),
+        "coordinator" => Some(Event::CoordinatorRestart),
+        "deliver" => Some(Event::Deliver {
+            message: number as u64,
+        }),
+        _ => None,
+    }
 }

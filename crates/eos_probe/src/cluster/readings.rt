@@ -2,132 +2,190 @@
 
 ghost use Rattle.std.specs.Prelude.{◌≤◌};
 
-use eos_batch::decode_segment;
+use crate::words::{Notes, show};
+use eos_batch::{Batch, decode_segment};
 use eos_board::OpenGate;
 use eos_check::{Verdict, check};
 use eos_cluster::{Cluster, EvidenceRefusal};
 use eos_drive::Script;
 use eos_evidence::Evidence;
+use eos_text::push_value;
 use std::alloc::{AllocError, Global};
 use std::sync::Wait;
 use std::thread::Threads;
 
-/// What this word asks of the cluster itself, with its number, or None where it is no such word.
-pub(crate) fn read(
+/// Writes what this word asks of the cluster itself, with its number.
+pub(super) fn read(
     alloc: Global,
     cluster: &Cluster,
+    line: &mut String,
     name: &str,
     number: u64,
-) -> Result<Option<String>, AllocError> {
-    let events = cluster.events();
-    let text = match name {
-        "at-rest" => format!(in alloc; "{}", cluster.at_rest())?,
-        "honest" => format!(in alloc; "{}", cluster.is_honest())?,
-        "events" => format!(in alloc; "{events}")?,
-        "past" => format!(in alloc; "{}", events > number)?,
-        "words" => words(alloc, number)?,
-        _ => return Ok(None),
-    };
-    Ok(Some(text))
+) -> Result<(), AllocError> {
+    match name {
+        "at-rest" => push_value(line, "", &cluster.at_rest()),
+        "honest" => push_value(line, "", &cluster.is_honest()),
+        "events" => push_value(line, "", &cluster.events()),
+        "past" => push_value(line, "", &(cluster.events() > number)),
+        _ => words(alloc, line, number),
+    }
 }
 
 /// The first five words of a seed's script.
-fn words(alloc: Global, seed: u64) -> Result<String, AllocError> {
+fn words(alloc: Global, line: &mut String, seed: u64) -> Result<(), AllocError> {
     let script = Script::from_seed(alloc, seed, 5)?;
-    format!(in alloc; "{:?}", script.words())
+    show(line, script.words())
 }
 
 /// The evidence, where so few segments are sure to do.
-pub(crate) fn evidence_of(cluster: &Cluster) -> Result<Evidence, EvidenceRefusal> {
-    let config = cluster.config();
-    let segments = 2 * cluster.events() / config.segment_records as u64;
-    let partitions = 1 + config.transaction_logs + config.inputs + config.outputs;
-    if segments + partitions as u64 > 65536 {
+fn evidence_of(cluster: &Cluster) -> Result<Evidence, EvidenceRefusal> {
+    if !cluster.has_room() {
         return Err(EvidenceRefusal::OutOfMemory);
     }
     cluster.evidence()
 }
 
-/// What this word asks of the cluster's logs, or why there are none; `verdict` and `processed` by so many workers.
-pub(crate) fn read_logs<R: Threads + Wait + Sync>(
+/// The evidence, which is asked for again after want of memory.
+fn evidence_again(notes: &mut Notes, cluster: &Cluster) -> Result<Evidence, EvidenceRefusal> {
+    match evidence_of(cluster) {
+        Err(EvidenceRefusal::OutOfMemory) => {
+            notes.is_again = true;
+            evidence_of(cluster)
+        }
+        answer => answer,
+    }
+}
+
+/// Writes what this word asks of the cluster's logs, or why there are none; `verdict` by so many workers.
+pub(super) fn read_logs<R: Threads + Wait + Sync>(
     rt: &R,
     alloc: Global,
+    notes: &mut Notes,
     cluster: &Cluster,
+    line: &mut String,
     name: &str,
     number: u64,
-) -> Result<String, AllocError> {
-    let evidence = match evidence_of(cluster) {
-        Ok(evidence) => evidence,
-        Err(refusal) => return format!(in alloc; "{refusal}"),
-    };
+) -> Result<(), AllocError> {
+    match evidence_again(notes, cluster) {
+        Ok(evidence) => read_evidence(rt, alloc, &evidence, line, name, number),
+        Err(refusal) => line.push_str(refusal.name()),
+    }
+}
+
+fn read_evidence<R: Threads + Wait + Sync>(
+    rt: &R,
+    alloc: Global,
+    evidence: &Evidence,
+    line: &mut String,
+    name: &str,
+    number: u64,
+) -> Result<(), AllocError> {
     match name {
-        "pieces" => format!(in alloc; "{}", evidence.pieces()),
-        "ends" => format!(in alloc; "{:?}", ends(alloc, &evidence)?),
-        "batches" => batches(alloc, &evidence, number),
-        "verdict" => verdict(rt, alloc, &evidence, number.clamp(1, 64)),
-        "processed" => processed(rt, alloc, &evidence),
-        _ => format!(in alloc; "no such word"),
+        "pieces" => push_value(line, "", &evidence.pieces()),
+        "ends" => ends(alloc, evidence, line),
+        "batches" => batches(alloc, evidence, line, number),
+        _ => judge(
+            rt,
+            alloc,
+            evidence,
+            line,
+            name == "verdict",
+            number.clamp(1, 64),
+        ),
     }
 }
 
 /// How many records each partition has.
-pub(crate) fn ends(alloc: Global, evidence: &Evidence) -> Result<Vec<i64>, AllocError> {
+pub(super) fn ends(
+    alloc: Global,
+    evidence: &Evidence,
+    line: &mut String,
+) -> Result<(), AllocError> {
     let mut ends = Vec::new(alloc);
     for end in evidence.spec().ends().as_slice() {
         ends.push(end.end)?;
     }
-    Ok(ends)
+    show(line, ends)
 }
 
-/// The producer, the epoch, the sequence and the attributes of each batch of a segment.
-fn batches(alloc: Global, evidence: &Evidence, piece: u64) -> Result<String, AllocError> {
-    let mut all = Vec::new(alloc);
-    if piece < evidence.pieces() {
-        let text = decode_segment(alloc, &evidence.piece(piece).bytes)?;
-        for batch in text.batches.as_slice() {
-            all.push((
-                batch.producer,
-                batch.epoch,
-                batch.sequence,
-                batch.attributes,
-            ))?;
-        }
+/// The batches of a segment, none where there is no such segment.
+fn batches(
+    alloc: Global,
+    evidence: &Evidence,
+    line: &mut String,
+    piece: u64,
+) -> Result<(), AllocError> {
+    if piece >= evidence.pieces() {
+        return line.push_str("[]");
     }
-    format!(in alloc; "{:?}", all)
+    match decode_segment(alloc, &evidence.piece(piece).bytes) {
+        Ok(text) => heads(alloc, text.batches.as_slice(), line),
+        Err(error) => Err(error),
+    }
 }
 
-/// What so many workers say: the counts, or the phase and the number of the fault.
-fn verdict<R: Threads + Wait + Sync>(
+/// The producer, the epoch, the sequence and the attributes of each batch.
+fn heads(alloc: Global, batches: &[Batch], line: &mut String) -> Result<(), AllocError> {
+    let mut all = Vec::new(alloc);
+    for it in batches {
+        all.push((it.producer, it.epoch, it.sequence, it.attributes))?;
+    }
+    show(line, all)
+}
+
+/// Writes what so many workers say: the counts or the number of the fault, or whether all was processed.
+fn judge<R: Threads + Wait + Sync>(
     rt: &R,
     alloc: Global,
     evidence: &Evidence,
+    line: &mut String,
+    is_told: bool,
     workers: u64,
-) -> Result<String, AllocError>
+) -> Result<(), AllocError>
     requires { (1 ≤ workers) × (workers ≤ 64) }
 {
-    match check(alloc, rt, evidence, workers, &OpenGate)? {
-        Verdict::Yes(counts) => {
-            format!(in alloc;
-                "yes,{},{},{}",
-                counts.transactions, counts.inputs, counts.outputs
-            )
-        }
-        Verdict::No(fault) => format!(in alloc; "no,{}.{}", fault.phase(), fault.number()),
+    match check(alloc, rt, evidence, workers, &OpenGate) {
+        Ok(verdict) => tell(evidence, line, is_told, &verdict),
+        Err(error) => Err(error),
     }
 }
 
-/// Whether the answer is yes of all inputs and all their outputs, of which there are some.
-fn processed<R: Threads + Wait + Sync>(
-    rt: &R,
-    alloc: Global,
+fn tell(
     evidence: &Evidence,
-) -> Result<String, AllocError> {
+    line: &mut String,
+    is_told: bool,
+    verdict: &Verdict,
+) -> Result<(), AllocError> {
+    if is_told {
+        return tell_verdict(line, verdict);
+    }
+    push_value(line, "", &is_all(evidence, verdict))
+}
+
+/// The counts, or the phase and the number of the fault.
+fn tell_verdict(line: &mut String, verdict: &Verdict) -> Result<(), AllocError> {
+    match verdict {
+        Verdict::Yes(counts) => {
+            push_value(line, "yes,", &counts.transactions)?;
+            push_value(line, ",", &counts.inputs)?;
+            push_value(line, ",", &counts.outputs)
+        }
+        Verdict::No(fault) => {
+            push_value(line, "no,", &fault.phase())?;
+            push_value(line, ".", &fault.number())
+        }
+    }
+}
+
+/// Whether a verdict is yes of all inputs and all their outputs, of which there are some.
+fn is_all(evidence: &Evidence, verdict: &Verdict) -> bool {
     let (inputs, outputs) = all_of(evidence);
-    let is_all = match check(alloc, rt, evidence, 1, &OpenGate)? {
-        Verdict::Yes(counts) => outputs > 0 && (counts.inputs, counts.outputs) == (inputs, outputs),
+    match verdict {
+        Verdict::Yes(counts) => {
+            outputs > 0 && counts.inputs == inputs && counts.outputs == outputs
+        }
         Verdict::No(_) => false,
-    };
-    format!(in alloc; "{is_all}")
+    }
 }
 
 /// How many inputs there are, and how many outputs of them.

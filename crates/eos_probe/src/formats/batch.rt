@@ -1,7 +1,6 @@
 //! Record batches, segments and chains of batches.
 
-use crate::formats::Answer;
-use crate::words::{digits_of, first_of, shown};
+use crate::words::{Notes, bad, first_of, or_bad, show, show_digits};
 use bytes::Bytes;
 use eos_batch::{
     Batch, BatchFault, Headers, Marker, Record, Records, decode_batch, decode_segment, encode_batch,
@@ -11,21 +10,27 @@ use eos_fold::chain;
 use eos_items::{BatchHead, read_head};
 use std::alloc::{AllocError, Global};
 
-pub(super) fn answer(alloc: Global, call: &str, bytes: &Bytes, more: &str) -> Answer {
-    let text = match call {
-        "decode_batch" => shown(alloc, decode_batch(alloc, bytes, 0)),
-        "marker" => shown(alloc, marker(alloc, bytes)),
-        "read_claim" => shown(alloc, claim(alloc, bytes)),
-        "read_head" => shown(alloc, head(alloc, bytes, more)),
-        "decode_segment" => shown(alloc, decode_segment(alloc, bytes)),
-        "count_batches" => shown(alloc, counted(alloc, bytes)),
-        "encode_segment" => digits_of(alloc, recoded(alloc, bytes)),
-        "encode_records" => digits_of(alloc, of_records(alloc, bytes, more)),
-        "chain" => shown(alloc, chain(alloc, bytes)),
-        "chain_fault" => shown(alloc, chain_fault(alloc, bytes)),
-        _ => return None,
-    };
-    Some(text)
+pub(super) fn answer(
+    alloc: Global,
+    notes: &mut Notes,
+    line: &mut String,
+    call: &str,
+    bytes: &Bytes,
+    more: &str,
+) -> Result<(), AllocError> {
+    match call {
+        "decode_batch" => show(line, decode_batch(alloc, bytes, 0)),
+        "marker" => show(line, marker(alloc, bytes)),
+        "read_claim" => show(line, claim(alloc, bytes)),
+        "read_head" => show(line, head(alloc, notes, bytes, more)),
+        "decode_segment" => show(line, decode_segment(alloc, bytes)),
+        "count_batches" => show(line, counted(alloc, bytes)),
+        "encode_segment" => show_digits(alloc, line, recoded(alloc, bytes)),
+        "encode_records" => show_digits(alloc, line, of_records(alloc, notes, bytes, more)),
+        "chain" => show(line, chain(alloc, bytes)),
+        "chain_fault" => show(line, chain_fault(alloc, bytes)),
+        _ => bad(notes),
+    }
 }
 
 /// The end marker that a batch is.
@@ -35,11 +40,18 @@ fn marker(alloc: Global, bytes: &Bytes) -> Result<Option<Marker>, BatchFault> {
 }
 
 /// The head of the batch at a byte.
-fn head(alloc: Global, bytes: &Bytes, at: &str) -> Result<BatchHead, BatchFault> {
-    match at.parse::<usize>() {
-        Ok(at) if at <= bytes.len() => read_head(alloc, bytes, at),
-        _ => Err(BatchFault::Truncated),
+fn head(
+    alloc: Global,
+    notes: &mut Notes,
+    bytes: &Bytes,
+    at: &str,
+) -> Result<BatchHead, BatchFault> {
+    let at = or_bad(notes, at.parse::<usize>().ok(), 0);
+    if at > bytes.len() {
+        notes.is_bad = true;
+        return Err(BatchFault::Truncated);
     }
+    read_head(alloc, bytes, at)
 }
 
 /// The claim of a batch's first record.
@@ -71,18 +83,24 @@ fn recoded(alloc: Global, bytes: &Bytes) -> Result<Vec<u8>, BatchFault> {
 }
 
 /// A batch of no producer at offset 0: so many records of null key and this value, and the batch's attributes.
-fn of_records(alloc: Global, value: &Bytes, more: &str) -> Result<Bytes, BatchFault> {
+fn of_records(
+    alloc: Global,
+    notes: &mut Notes,
+    value: &Bytes,
+    more: &str,
+) -> Result<Bytes, BatchFault> {
     let (count, attributes) = first_of(more);
+    let count = or_bad(notes, count.parse::<u32>().ok(), 0);
     let batch = Batch {
         base_offset: 0,
         leader_epoch: 0,
-        attributes: attributes.parse::<i16>().unwrap_or(0),
+        attributes: or_bad(notes, attributes.parse::<i16>().ok(), 0),
         base_timestamp: 0,
         max_timestamp: 0,
         producer: -1,
         epoch: -1,
         sequence: -1,
-        records: records_of(alloc, value, count.parse::<u32>().unwrap_or(2))?,
+        records: records_of(alloc, value, count)?,
     };
     encode_batch(alloc, &batch)
 }

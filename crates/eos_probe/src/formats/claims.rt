@@ -1,25 +1,26 @@
 //! Claims on inputs.
 
-use crate::words::{first_of, shown};
+use crate::words::{Notes, first_of, or_bad, show, sides};
 use bytes::Bytes;
 use eos_base::PartitionName;
 use eos_claims::{NumberedClaim, OutputKind, PlaceRef, least_of_runs};
-use std::alloc::{AllocError, Global};
+use std::alloc::AllocError;
 
 /// The least fault of one or two claims on the first record of `in-0`, which are given as OUTPUT/OF@OFFSET: its kind, and the
 /// output.
-pub(super) fn least(alloc: Global, words: &str) -> Result<String, AllocError> {
+pub(super) fn least(notes: &mut Notes, line: &mut String, words: &str) -> Result<(), AllocError> {
     let name = PartitionName {
         topic: Bytes::from_static(b"in"),
         partition: 0,
     };
     let (first, second) = first_of(words);
+    let first = claim_of(notes, &name, first);
     let fault = if second.is_empty() {
-        fault_of(&[claim_of(&name, first)])
+        fault_of(&[first])
     } else {
-        fault_of(&[claim_of(&name, first), claim_of(&name, second)])
+        fault_of(&[first, claim_of(notes, &name, second)])
     };
-    shown(alloc, fault)
+    show(line, fault)
 }
 
 fn fault_of(claims: &[NumberedClaim<'_>]) -> Option<(OutputKind, u32)> {
@@ -27,19 +28,19 @@ fn fault_of(claims: &[NumberedClaim<'_>]) -> Option<(OutputKind, u32)> {
     Some((found.kind, found.output))
 }
 
-fn claim_of<'a>(name: &'a PartitionName, word: &str) -> NumberedClaim<'a> {
-    let (output, rest) = word.split_once('/').unwrap_or((word, ""));
-    let (of, at) = rest.split_once('@').unwrap_or((rest, ""));
+fn claim_of<'a>(notes: &mut Notes, name: &'a PartitionName, word: &str) -> NumberedClaim<'a> {
+    let (output, rest) = sides(notes, word, '/');
+    let (of, at) = sides(notes, rest, '@');
     NumberedClaim {
         source: PlaceRef {
             partition: name,
             offset: 0,
         },
-        output: output.parse::<u32>().unwrap_or(9),
+        output: or_bad(notes, output.parse::<u32>().ok(), 0),
         at: PlaceRef {
             partition: name,
-            offset: at.parse::<u64>().unwrap_or(0),
+            offset: or_bad(notes, at.parse::<u64>().ok(), 0),
         },
-        of: of.parse::<u32>().unwrap_or(0),
+        of: or_bad(notes, of.parse::<u32>().ok(), 0),
     }
 }

@@ -1,24 +1,31 @@
 //! Manifests and segments of evidence.
 
-use crate::formats::{Answer, batch};
-use crate::words::{digits_of, shown};
+use crate::formats::batch;
+use crate::words::{Notes, number_of, or_bad, show, show_digits, sides};
 use bytes::Bytes;
 use eos_base::Listed;
 use eos_evidence::{
     AddFault, End, Ends, Evidence, EvidenceBuilder, Segment, Spec, SpecFault, parse_spec, spec_text,
 };
+use eos_text::push_value;
 use std::alloc::{AllocError, Global};
 
-pub(super) fn answer(alloc: Global, call: &str, bytes: &Bytes, more: &str) -> Answer {
-    let text = match call {
-        "parse_spec" => shown(alloc, parse_spec(alloc, bytes.as_slice())),
-        "spec_fault" => shown(alloc, parse_spec(alloc, bytes.as_slice()).err()),
-        "write_spec" => digits_of(alloc, rewritten(alloc, bytes)),
-        "end_twice" => shown(alloc, twice(alloc)),
-        "add_segments" => shown(alloc, add_segments(alloc, bytes, more)),
-        _ => return batch::answer(alloc, call, bytes, more),
-    };
-    Some(text)
+pub(super) fn answer(
+    alloc: Global,
+    notes: &mut Notes,
+    line: &mut String,
+    call: &str,
+    bytes: &Bytes,
+    more: &str,
+) -> Result<(), AllocError> {
+    match call {
+        "parse_spec" => show(line, parse_spec(alloc, bytes.as_slice())),
+        "spec_fault" => show(line, parse_spec(alloc, bytes.as_slice()).err()),
+        "write_spec" => show_digits(alloc, line, rewritten(alloc, bytes)),
+        "end_twice" => show(line, twice(alloc)),
+        "add_segments" => add_segments(alloc, notes, line, bytes, more),
+        _ => batch::answer(alloc, notes, line, call, bytes, more),
+    }
 }
 
 /// A manifest read and written.
@@ -45,24 +52,29 @@ fn two_ends(alloc: Global) -> Result<Ends, AllocError> {
     Ok(ends)
 }
 
-/// What segments are answered that are added as TOPIC/PARTITION/FROM/TO, one for each base; and what there is then.
-fn add_segments(alloc: Global, bytes: &Bytes, words: &str) -> Result<Added, SpecFault> {
-    let mut builder = builder_of(alloc, bytes)?;
-    let answers = add_all(alloc, &mut builder, words)?;
-    let evidence = builder.finish();
-    Ok(Added {
-        bases: bases_of(alloc, &evidence)?,
-        answers,
-        pieces: evidence.pieces(),
-    })
+/// What segments are answered that are added as TOPIC/PARTITION/FROM/TO, one for each base; the bases of the first of them in
+/// their order, and how many there are then.
+fn add_segments(
+    alloc: Global,
+    notes: &mut Notes,
+    line: &mut String,
+    bytes: &Bytes,
+    words: &str,
+) -> Result<(), AllocError> {
+    let mut builder = match builder_of(alloc, bytes) {
+        Ok(builder) => builder,
+        Err(fault) => return show(line, fault),
+    };
+    line.push_str("Ok(Added { answers: ")?;
+    add_all(alloc, notes, line, &mut builder, words)?;
+    tell_added(alloc, line, &builder.finish())
 }
 
-/// What each word was answered, the bases of the first segments, and how many there are.
-#[derive(Debug, Drop)]
-struct Added {
-    answers: Vec<Result<(), AddFault>>,
-    bases: Vec<i64>,
-    pieces: u64,
+fn tell_added(alloc: Global, line: &mut String, evidence: &Evidence) -> Result<(), AllocError> {
+    line.push_str(", bases: ")?;
+    show(line, bases_of(alloc, evidence)?)?;
+    push_value(line, ", pieces: ", &evidence.pieces())?;
+    line.push_str(" })")
 }
 
 fn builder_of(alloc: Global, bytes: &Bytes) -> Result<EvidenceBuilder, SpecFault> {
@@ -72,27 +84,56 @@ fn builder_of(alloc: Global, bytes: &Bytes) -> Result<EvidenceBuilder, SpecFault
 
 fn add_all(
     alloc: Global,
+    notes: &mut Notes,
+    line: &mut String,
     builder: &mut EvidenceBuilder,
     words: &str,
-) -> Result<Vec<Result<(), AddFault>>, AllocError> {
+) -> Result<(), AllocError> {
     let mut answers = Vec::new(alloc);
     for word in words.split(' ') {
-        answers.push(add_some(builder, word))?;
+        answers.push(add_some(notes, builder, word))?;
     }
-    Ok(answers)
+    show(line, answers)
 }
 
-/// The topic is that of the word, `in` or else `out`.
-fn add_some(builder: &mut EvidenceBuilder, word: &str) -> Result<(), AddFault> {
-    let (topic, rest) = word.split_once('/').unwrap_or((word, ""));
-    let (partition, rest) = rest.split_once('/').unwrap_or((rest, ""));
-    let (from, to) = rest.split_once('/').unwrap_or((rest, ""));
-    let topic: &'static [u8] = if topic == "in" { b"in" } else { b"out" };
-    let partition = partition.parse::<i32>().unwrap_or(-1);
-    for base in from.parse::<i64>().unwrap_or(0)..to.parse::<i64>().unwrap_or(0) {
-        builder.add(segment(topic, partition, base))?;
+/// The topic is `in` or `out`.
+fn add_some(notes: &mut Notes, builder: &mut EvidenceBuilder, word: &str) -> Result<(), AddFault> {
+    let (topic, rest) = sides(notes, word, '/');
+    let (partition, rest) = sides(notes, rest, '/');
+    let (from, to) = sides(notes, rest, '/');
+    let topic = topic_of(notes, topic);
+    let partition = or_bad(notes, partition.parse::<i32>().ok(), 0);
+    for base in number_of(notes, from)..number_of(notes, to) {
+        add_one(notes, builder, topic, partition, base)?;
     }
     Ok(())
+}
+
+fn topic_of(notes: &mut Notes, word: &str) -> &'static [u8] {
+    match word {
+        "in" => b"in",
+        "out" => b"out",
+        _ => {
+            notes.is_bad = true;
+            b""
+        }
+    }
+}
+
+/// Adds a segment, and adds it again after want of memory.
+fn add_one(
+    notes: &mut Notes,
+    builder: &mut EvidenceBuilder,
+    topic: &'static [u8],
+    partition: i32,
+    base: i64,
+) -> Result<(), AddFault> {
+    let added = builder.add(segment(topic, partition, base));
+    if added != Err(AddFault::OutOfMemory) {
+        return added;
+    }
+    notes.is_again = true;
+    builder.add(segment(topic, partition, base))
 }
 
 fn segment(topic: &'static [u8], partition: i32, base: i64) -> Segment {

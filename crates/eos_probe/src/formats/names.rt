@@ -1,142 +1,138 @@
 //! The names of the faults.
 
-use crate::formats::Answer;
-use crate::words::shown;
+use crate::words::{Notes, bad, show};
 use eos_base::RecordFault;
 use eos_batch::BatchFault;
 use eos_evidence::{AddFault, ReadFault, SpecFault};
 use eos_touch::PairFault;
 use eos_txnlog::TxnFault;
-use std::alloc::{AllocError, Global};
+use std::alloc::AllocError;
 use std::fmt::{Debug, Display};
 
 /// The variant, the name and the text of each fault of a family; or the numbers of the pairs' faults.
-pub(super) fn of_family(alloc: Global, family: &str) -> Answer {
-    let text = match family {
-        "batch" => batch(alloc),
-        "record" => record(alloc),
-        "pair" => pair(alloc),
-        "numbers" => numbers(alloc),
-        "spec" => spec(alloc),
-        "add" => add(alloc),
-        "read" => read(alloc),
-        "step" => step(alloc),
-        _ => return None,
-    };
-    Some(text)
-}
-
-fn names<F: Debug + Display + Drop>(
-    alloc: Global,
-    faults: &[(F, &'static str)],
-) -> Result<String, AllocError> {
-    let mut text = String::new(alloc);
-    for (fault, name) in faults {
-        write!(text, "{fault:?}/{name}/{fault} ")?;
+pub(super) fn of_family(
+    notes: &mut Notes,
+    line: &mut String,
+    family: &str,
+) -> Result<(), AllocError> {
+    match family {
+        "batch" => batch(line),
+        "record" => record(line),
+        "pair" => pair(line),
+        "numbers" => numbers(line),
+        "spec" => spec(line),
+        "add" => add(line),
+        "read" => read(line),
+        "step" => step(line),
+        _ => bad(notes),
     }
-    Ok(text)
 }
 
-fn batch(alloc: Global) -> Result<String, AllocError> {
-    names(
-        alloc,
-        &[
-            (BatchFault::Truncated, BatchFault::Truncated.name()),
-            (BatchFault::Length, BatchFault::Length.name()),
-            (BatchFault::Magic, BatchFault::Magic.name()),
-            (BatchFault::Crc, BatchFault::Crc.name()),
-            (BatchFault::Compressed, BatchFault::Compressed.name()),
-            (BatchFault::Count, BatchFault::Count.name()),
-            (BatchFault::Varint, BatchFault::Varint.name()),
-            (BatchFault::Record, BatchFault::Record.name()),
-            (BatchFault::Delta, BatchFault::Delta.name()),
-            (BatchFault::Trailing, BatchFault::Trailing.name()),
-            (BatchFault::Control, BatchFault::Control.name()),
-            (BatchFault::Producer, BatchFault::Producer.name()),
-            (BatchFault::OutOfMemory, BatchFault::OutOfMemory.name()),
-        ],
-    )
+/// Writes the variant, the name and the text of a fault.
+fn push<F: Debug + Display>(line: &mut String, fault: &F, name: &str) -> Result<(), AllocError> {
+    write!(line, "{fault:?}/{name}/{fault} ")
 }
 
-fn record(alloc: Global) -> Result<String, AllocError> {
-    names(
-        alloc,
-        &[
-            (RecordFault::Short, RecordFault::Short.name()),
-            (RecordFault::Version, RecordFault::Version.name()),
-            (RecordFault::Status, RecordFault::Status.name()),
-            (RecordFault::Length, RecordFault::Length.name()),
-            (RecordFault::Trailing, RecordFault::Trailing.name()),
-            (RecordFault::OutOfMemory, RecordFault::OutOfMemory.name()),
-        ],
-    )
+fn batch(line: &mut String) -> Result<(), AllocError> {
+    const ALL: [BatchFault; 13] = [
+        BatchFault::Truncated,
+        BatchFault::Length,
+        BatchFault::Magic,
+        BatchFault::Crc,
+        BatchFault::Compressed,
+        BatchFault::Count,
+        BatchFault::Varint,
+        BatchFault::Record,
+        BatchFault::Delta,
+        BatchFault::Trailing,
+        BatchFault::Control,
+        BatchFault::Producer,
+        BatchFault::OutOfMemory,
+    ];
+    for fault in &ALL {
+        push(line, fault, fault.name())?;
+    }
+    Ok(())
 }
 
-fn pair(alloc: Global) -> Result<String, AllocError> {
-    names(
-        alloc,
-        &[
-            (PairFault::FirstSequence, PairFault::FirstSequence.name()),
-            (PairFault::Sequence, PairFault::Sequence.name()),
-            (PairFault::ZombieEpoch, PairFault::ZombieEpoch.name()),
-            (PairFault::EpochWhileOpen, PairFault::EpochWhileOpen.name()),
-            (PairFault::NoBump, PairFault::NoBump.name()),
-            (PairFault::MixedProducer, PairFault::MixedProducer.name()),
-            (PairFault::MarkerKind, PairFault::MarkerKind.name()),
-        ],
-    )
+fn record(line: &mut String) -> Result<(), AllocError> {
+    const ALL: [RecordFault; 6] = [
+        RecordFault::Short,
+        RecordFault::Version,
+        RecordFault::Status,
+        RecordFault::Length,
+        RecordFault::Trailing,
+        RecordFault::OutOfMemory,
+    ];
+    for fault in &ALL {
+        push(line, fault, fault.name())?;
+    }
+    Ok(())
 }
 
-fn spec(alloc: Global) -> Result<String, AllocError> {
-    names(
-        alloc,
-        &[
-            (SpecFault::Json, SpecFault::Json.name()),
-            (SpecFault::Field, SpecFault::Field.name()),
-            (SpecFault::Version, SpecFault::Version.name()),
-            (SpecFault::Limit, SpecFault::Limit.name()),
-            (SpecFault::OutOfMemory, SpecFault::OutOfMemory.name()),
-        ],
-    )
+const PAIR: [PairFault; 7] = [
+    PairFault::FirstSequence,
+    PairFault::Sequence,
+    PairFault::ZombieEpoch,
+    PairFault::EpochWhileOpen,
+    PairFault::NoBump,
+    PairFault::MixedProducer,
+    PairFault::MarkerKind,
+];
+
+fn pair(line: &mut String) -> Result<(), AllocError> {
+    for fault in &PAIR {
+        push(line, fault, fault.name())?;
+    }
+    Ok(())
 }
 
-fn add(alloc: Global) -> Result<String, AllocError> {
-    names(
-        alloc,
-        &[
-            (AddFault::Name, AddFault::Name.name()),
-            (AddFault::Limit, AddFault::Limit.name()),
-            (AddFault::Duplicate, AddFault::Duplicate.name()),
-            (AddFault::OutOfMemory, AddFault::OutOfMemory.name()),
-        ],
-    )
+fn spec(line: &mut String) -> Result<(), AllocError> {
+    const ALL: [SpecFault; 5] = [
+        SpecFault::Json,
+        SpecFault::Field,
+        SpecFault::Version,
+        SpecFault::Limit,
+        SpecFault::OutOfMemory,
+    ];
+    for fault in &ALL {
+        push(line, fault, fault.name())?;
+    }
+    Ok(())
 }
 
-fn read(alloc: Global) -> Result<String, AllocError> {
-    names(
-        alloc,
-        &[
-            (ReadFault::Read, ReadFault::Read.name()),
-            (ReadFault::Limit, ReadFault::Limit.name()),
-            (ReadFault::OutOfMemory, ReadFault::OutOfMemory.name()),
-        ],
-    )
+fn add(line: &mut String) -> Result<(), AllocError> {
+    const ALL: [AddFault; 4] = [
+        AddFault::Name,
+        AddFault::Limit,
+        AddFault::Duplicate,
+        AddFault::OutOfMemory,
+    ];
+    for fault in &ALL {
+        push(line, fault, fault.name())?;
+    }
+    Ok(())
 }
 
-fn step(alloc: Global) -> Result<String, AllocError> {
-    names(
-        alloc,
-        &[
-            (TxnFault::Order, TxnFault::Order.name()),
-            (TxnFault::Producer, TxnFault::Producer.name()),
-            (TxnFault::Epoch, TxnFault::Epoch.name()),
-        ],
-    )
+fn read(line: &mut String) -> Result<(), AllocError> {
+    const ALL: [ReadFault; 3] = [ReadFault::Read, ReadFault::Limit, ReadFault::OutOfMemory];
+    for fault in &ALL {
+        push(line, fault, fault.name())?;
+    }
+    Ok(())
 }
 
-fn numbers(alloc: Global) -> Result<String, AllocError> {
-    shown(
-        alloc,
+fn step(line: &mut String) -> Result<(), AllocError> {
+    const ALL: [TxnFault; 3] = [TxnFault::Order, TxnFault::Producer, TxnFault::Epoch];
+    for fault in &ALL {
+        push(line, fault, fault.name())?;
+    }
+    Ok(())
+}
+
+fn numbers(line: &mut String) -> Result<(), AllocError> {
+    show(
+        line,
         [
             PairFault::FirstSequence.number(),
             PairFault::Sequence.number(),

@@ -1,38 +1,41 @@
 //! The rule of touches.
 
-use crate::words::{first_of, shown};
+use crate::words::{Notes, first_of, or_bad, show};
 use eos_batch::Kind;
 use eos_touch::{Touch, pair_ok};
-use std::alloc::{AllocError, Global};
+use std::alloc::AllocError;
 
-/// Whether the second touch may follow the first one, or follow nothing where the first is no touch.
-pub(super) fn pair(alloc: Global, words: &str) -> Result<String, AllocError> {
+/// Whether the second touch may follow the first one, or follow nothing where `-` stands for the first.
+pub(super) fn pair(notes: &mut Notes, line: &mut String, words: &str) -> Result<(), AllocError> {
     let (first, rest) = first_of(words);
     let (second, test) = first_of(rest);
-    match touch_of(second) {
-        None => shown(alloc, second),
-        Some(next) => shown(alloc, pair_ok(touch_of(first), next, test == "sequenced")),
+    let before = if first == "-" {
+        None
+    } else {
+        Some(touch_of(notes, first))
+    };
+    let next = touch_of(notes, second);
+    if test != "sequenced" && test != "unsequenced" {
+        notes.is_bad = true;
     }
+    show(line, pair_ok(before, next, test == "sequenced"))
 }
 
 /// A touch: `txn/EPOCH/SEQUENCE` or `plain/EPOCH/SEQUENCE` is data of one record, and `commit/EPOCH` or `abort/EPOCH` an end.
-fn touch_of(word: &str) -> Option<Touch> {
-    let (kind, rest) = word.split_once('/')?;
+fn touch_of(notes: &mut Notes, word: &str) -> Touch {
+    let (kind, rest) = word.split_once('/').unwrap_or((word, ""));
     let (epoch, sequence) = rest.split_once('/').unwrap_or((rest, "0"));
-    touch(
-        kind,
-        epoch.parse::<i16>().unwrap_or(-1),
-        sequence.parse::<i32>().unwrap_or(-1),
-    )
-}
-
-fn touch(kind: &str, epoch: i16, sequence: i32) -> Option<Touch> {
+    let epoch = or_bad(notes, epoch.parse::<i16>().ok(), 0);
+    let sequence = or_bad(notes, sequence.parse::<i32>().ok(), 0);
     match kind {
-        "commit" => Some(end(epoch, Kind::Commit)),
-        "abort" => Some(end(epoch, Kind::Abort)),
-        "txn" => Some(data(epoch, true, sequence)),
-        "plain" => Some(data(epoch, false, sequence)),
-        _ => None,
+        "commit" => end(epoch, Kind::Commit),
+        "abort" => end(epoch, Kind::Abort),
+        "txn" => data(epoch, true, sequence),
+        "plain" => data(epoch, false, sequence),
+        _ => {
+            notes.is_bad = true;
+            end(epoch, Kind::Abort)
+        }
     }
 }
 

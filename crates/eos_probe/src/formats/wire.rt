@@ -1,7 +1,7 @@
 //! Numbers, fields and checksums.
 
-use crate::formats::{Answer, txnlog};
-use crate::words::{digits_of, shown};
+use crate::formats::txnlog;
+use crate::words::{Notes, or_bad, show, show_digits};
 use bytes::Bytes;
 use eos_wire::{
     Fields, crc32c, read_uvarint, read_varint, read_varlong, write_uvarint, write_varint,
@@ -9,43 +9,57 @@ use eos_wire::{
 };
 use std::alloc::{AllocError, Global};
 
-pub(super) fn answer(alloc: Global, call: &str, bytes: &Bytes, more: &str) -> Answer {
-    let text = match call {
-        "crc32c" => format!(in alloc; "{:08x}", crc32c(bytes.as_slice())),
-        "read_varint" => shown(alloc, read_varint(bytes.as_slice())),
-        "read_varlong" => shown(alloc, read_varlong(bytes.as_slice())),
-        "read_uvarint" => shown(alloc, read_uvarint(bytes.as_slice())),
-        "write_varint" | "write_varlong" | "write_uvarint" => {
-            digits_of(alloc, written(alloc, call, bytes.as_slice(), more))
-        }
-        "fields" => fields(alloc, bytes.as_slice()),
-        _ => return txnlog::answer(alloc, call, bytes, more),
-    };
-    Some(text)
+pub(super) fn answer(
+    alloc: Global,
+    notes: &mut Notes,
+    line: &mut String,
+    call: &str,
+    bytes: &Bytes,
+    more: &str,
+) -> Result<(), AllocError> {
+    match call {
+        "crc32c" => write!(line, "{:08x}", crc32c(bytes.as_slice())),
+        "read_varint" => show(line, read_varint(bytes.as_slice())),
+        "read_varlong" => show(line, read_varlong(bytes.as_slice())),
+        "read_uvarint" => show(line, read_uvarint(bytes.as_slice())),
+        "write_varint" | "write_varlong" | "write_uvarint" => show_digits(
+            alloc,
+            line,
+            written(alloc, notes, call, bytes.as_slice(), more),
+        ),
+        "fields" => fields(line, bytes.as_slice()),
+        _ => txnlog::answer(alloc, notes, line, call, bytes, more),
+    }
 }
 
 /// The bytes with a number written after them.
-fn written(alloc: Global, call: &str, bytes: &[u8], more: &str) -> Result<Vec<u8>, AllocError> {
+fn written(
+    alloc: Global,
+    notes: &mut Notes,
+    call: &str,
+    bytes: &[u8],
+    number: &str,
+) -> Result<Vec<u8>, AllocError> {
     let mut out = Vec::from_slice(alloc, bytes)?;
-    write(&mut out, call, more)?;
+    write(&mut out, notes, call, number)?;
     Ok(out)
 }
 
-/// Writes a number, 0 where it is none of its type.
-fn write(out: &mut Vec<u8>, call: &str, number: &str) -> Result<(), AllocError> {
+/// Writes a number, which is one of its type.
+fn write(out: &mut Vec<u8>, notes: &mut Notes, call: &str, number: &str) -> Result<(), AllocError> {
     match call {
-        "write_varint" => write_varint(out, number.parse::<i32>().unwrap_or(0)),
-        "write_varlong" => write_varlong(out, number.parse::<i64>().unwrap_or(0)),
-        _ => write_uvarint(out, number.parse::<u32>().unwrap_or(0)),
+        "write_varint" => write_varint(out, or_bad(notes, number.parse::<i32>().ok(), 0)),
+        "write_varlong" => write_varlong(out, or_bad(notes, number.parse::<i64>().ok(), 0)),
+        _ => write_uvarint(out, or_bad(notes, number.parse::<u32>().ok(), 0)),
     }
 }
 
 /// Fields of all types, one after the other: an i8, an i16, an i32, an i64, a u32 and an unsigned varint; then an i32, the
 /// number of bytes that are left, three bytes, and an i8.
-fn fields(alloc: Global, bytes: &[u8]) -> Result<String, AllocError> {
+fn fields(line: &mut String, bytes: &[u8]) -> Result<(), AllocError> {
     let mut fields = Fields::new(bytes);
     let numbers = (fields.i8(), fields.i16(), fields.i32(), fields.i64());
     let more = (fields.u32(), fields.uvarint(), fields.i32(), fields.left());
     let last = (fields.take(3), fields.i8());
-    shown(alloc, (numbers, more, last))
+    show(line, (numbers, more, last))
 }

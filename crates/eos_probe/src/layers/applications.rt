@@ -1,18 +1,18 @@
 //! What groups have committed, and whether the applications' outputs are exact. Applications are words
 //! `GROUP:TOPIC,TOPIC:TOPIC,TOPIC` with `;` between them: what they read, and what they write.
 
-use super::parts::{name_of, parts_of, sides};
-use super::verdicts::line_of;
+use super::parts::parts_of;
+use super::verdicts::push_fault;
+use crate::words::{Notes, bad, name_of, sides};
 use bytes::Bytes;
 use eos_base::Listed;
 use eos_check::Fault;
 use eos_commits::{TopicSet, commits_of, committed, last_committed, least_visible_fault};
-use eos_evidence::{App, GroupId, Spec};
+use eos_evidence::{App, GroupId, Spec, SpecFault};
 use eos_fold::Part;
 use eos_lineage::{LineageFault, check_lineage};
+use eos_text::push_value;
 use std::alloc::{AllocError, Global};
-use std::fmt::Write;
-use std::io::{self, ErrorKind};
 use std::thread::Threads;
 
 fn topics_of(alloc: Global, words: &str) -> Result<Vec<Bytes>, AllocError> {
@@ -31,124 +31,158 @@ fn app_of(alloc: Global, group: &str, sources: &str, outputs: &str) -> Result<Ap
     })
 }
 
-fn apps_of(alloc: Global, words: &str) -> io::Result<Vec<App>> {
+fn apps_of(alloc: Global, notes: &mut Notes, words: &str) -> Result<Vec<App>, AllocError> {
     let mut apps = Vec::new(alloc);
     for app in words.split(';') {
-        let (group, topics) = sides(app, ':')?;
-        let (sources, outputs) = sides(topics, ':')?;
+        let (group, topics) = sides(notes, app, ':');
+        let (sources, outputs) = sides(notes, topics, ':');
         apps.push(app_of(alloc, group, sources, outputs)?)?;
     }
     Ok(apps)
 }
 
 /// What is told of these applications, without ends of partitions.
-fn spec_of(alloc: Global, words: &str) -> io::Result<Spec> {
-    let apps = apps_of(alloc, words)?;
+fn spec_of(alloc: Global, notes: &mut Notes, words: &str) -> Result<Spec, AllocError> {
+    let apps = apps_of(alloc, notes, words)?;
     let ends = Listed::new(Vec::new(alloc));
     match Spec::new(alloc, Listed::new(apps), ends) {
         Ok(spec) => Ok(spec),
-        Err(_) => Err(ErrorKind::InvalidInput.into()),
+        Err(SpecFault::OutOfMemory) => Err(AllocError),
+        Err(_) => bad(notes),
     }
 }
 
-/// The counts of the lineage, or its least fault.
-fn lineage(
-    rt: &(impl Threads + Sync),
+/// Writes the counts of the lineage, or its least fault.
+fn lineage<R: Threads + Sync>(
+    rt: &R,
     alloc: Global,
+    line: &mut String,
     spec: &Spec,
     parts: &[Part],
-) -> Result<String, AllocError> {
+) -> Result<(), AllocError> {
     match check_lineage(alloc, rt, spec, parts)? {
-        Ok((inputs, outputs)) => format!(in alloc; "inputs={inputs} outputs={outputs}"),
-        Err(fault) => line_of(alloc, Some(Fault::Lineage(fault))),
+        Ok((inputs, outputs)) => {
+            push_value(line, "inputs=", &inputs)?;
+            push_value(line, " outputs=", &outputs)
+        }
+        Err(fault) => push_fault(alloc, line, Some(Fault::Lineage(fault))),
     }
 }
 
-/// The least fault of single records.
-fn visible(alloc: Global, spec: &Spec, parts: &[Part]) -> Result<String, AllocError> {
+/// Writes the least fault of single records.
+fn visible(
+    alloc: Global,
+    line: &mut String,
+    spec: &Spec,
+    parts: &[Part],
+) -> Result<(), AllocError> {
     match least_visible_fault(alloc, spec.apps().as_slice(), parts)? {
-        None => line_of(alloc, None),
-        Some(fault) => line_of(alloc, Some(Fault::Lineage(LineageFault::Record(fault)))),
+        None => line.push_str("none"),
+        Some(fault) => {
+            let fault = Fault::Lineage(LineageFault::Record(fault));
+            push_fault(alloc, line, Some(fault))
+        }
     }
 }
 
 /// What is said of the words `APPLICATIONS PART PART ..`.
-fn of_apps(
-    rt: &(impl Threads + Sync),
+fn of_apps<R: Threads + Sync>(
+    rt: &R,
     alloc: Global,
+    notes: &mut Notes,
+    line: &mut String,
     call: &str,
     rest: &str,
-) -> io::Result<String> {
+) -> Result<(), AllocError> {
     let (apps, words) = rest.split_once(' ').unwrap_or((rest, ""));
-    let spec = spec_of(alloc, apps)?;
-    let parts = parts_of(alloc, words)?;
-    let text = match call {
-        "check_lineage" => lineage(rt, alloc, &spec, parts.as_slice()),
-        _ => visible(alloc, &spec, parts.as_slice()),
-    };
-    Ok(text?)
+    let spec = spec_of(alloc, notes, apps)?;
+    let parts = parts_of(alloc, notes, words)?;
+    match call {
+        "check_lineage" => lineage(rt, alloc, line, &spec, parts.as_slice()),
+        _ => visible(alloc, line, &spec, parts.as_slice()),
+    }
 }
 
-/// The commits of a group for these topics, and the last for the partition of this name.
-fn said(
+/// Writes the commits of a group for these topics, and the last for the partition of this name.
+fn tell(
     alloc: Global,
+    line: &mut String,
     group: &str,
     topics: &[Bytes],
     name: (&str, i32),
     parts: &[Part],
-) -> Result<String, AllocError> {
+) -> Result<(), AllocError> {
     let all = commits_of(alloc, group.as_bytes(), topics, parts)?;
     let (topic, number) = name;
     let last = last_committed(all.as_slice(), topic.as_bytes(), number);
-    let mut text = format!(in alloc; "last={last}")?;
+    push_value(line, "last=", &last)?;
     for commit in all.as_slice() {
         let topic = std::str::from_utf8(commit.topic).unwrap_or("no text");
         let (number, offset) = (commit.partition, commit.offset);
-        write!(text, " {topic}-{number}:{offset}={:?}", commit.writer)?;
+        write!(line, " {topic}-{number}:{offset}={:?}", commit.writer)?;
     }
-    Ok(text)
+    Ok(())
 }
 
 /// What is said of the words `GROUP TOPIC,TOPIC NAME PART PART ..`.
-fn commits(alloc: Global, rest: &str) -> io::Result<String> {
-    let (group, rest) = sides(rest, ' ')?;
-    let (topics, rest) = sides(rest, ' ')?;
-    let (name, words) = sides(rest, ' ')?;
-    let name = name_of(name)?;
+fn commits(
+    alloc: Global,
+    notes: &mut Notes,
+    line: &mut String,
+    rest: &str,
+) -> Result<(), AllocError> {
+    let (group, rest) = sides(notes, rest, ' ');
+    let (topics, rest) = sides(notes, rest, ' ');
+    let (name, words) = sides(notes, rest, ' ');
+    let name = name_of(notes, name);
     let topics = topics_of(alloc, topics)?;
-    let parts = parts_of(alloc, words)?;
-    Ok(said(alloc, group, topics.as_slice(), name, parts.as_slice())?)
+    let parts = parts_of(alloc, notes, words)?;
+    tell(
+        alloc,
+        line,
+        group,
+        topics.as_slice(),
+        name,
+        parts.as_slice(),
+    )
 }
 
 /// What is said of the words `GROUP NAME PART PART ..`: the committed offset.
-fn offset_of(alloc: Global, rest: &str) -> io::Result<String> {
-    let (group, rest) = sides(rest, ' ')?;
-    let (name, words) = sides(rest, ' ')?;
-    let (topic, number) = name_of(name)?;
+fn offset_of(
+    alloc: Global,
+    notes: &mut Notes,
+    line: &mut String,
+    rest: &str,
+) -> Result<(), AllocError> {
+    let (group, rest) = sides(notes, rest, ' ');
+    let (name, words) = sides(notes, rest, ' ');
+    let (topic, number) = name_of(notes, name);
     let topic = Bytes::copy_from_slice(alloc, topic.as_bytes())?;
-    let parts = parts_of(alloc, words)?;
+    let parts = parts_of(alloc, notes, words)?;
     let offset = committed(alloc, parts.as_slice(), group.as_bytes(), &topic, number)?;
-    Ok(format!(in alloc; "{offset}")?)
+    push_value(line, "", &offset)
 }
 
 /// Whether the topics of the words `TOPIC,TOPIC TOPIC` have the last one among them.
-fn has(alloc: Global, rest: &str) -> io::Result<String> {
-    let (topics, topic) = sides(rest, ' ')?;
+fn has(alloc: Global, notes: &mut Notes, line: &mut String, rest: &str) -> Result<(), AllocError> {
+    let (topics, topic) = sides(notes, rest, ' ');
     let topics = topics_of(alloc, topics)?;
     let set = TopicSet::of(alloc, topics.as_slice())?;
-    Ok(format!(in alloc; "{}", set.has(topic.as_bytes()))?)
+    push_value(line, "", &set.has(topic.as_bytes()))
 }
 
-pub(super) fn answer(
-    rt: &(impl Threads + Sync),
+pub(super) fn answer<R: Threads + Sync>(
+    rt: &R,
     alloc: Global,
+    notes: &mut Notes,
+    line: &mut String,
     call: &str,
     rest: &str,
-) -> io::Result<String> {
+) -> Result<(), AllocError> {
     match call {
-        "commits_of" => commits(alloc, rest),
-        "committed" => offset_of(alloc, rest),
-        "topic_set" => has(alloc, rest),
-        _ => of_apps(rt, alloc, call, rest),
+        "commits_of" => commits(alloc, notes, line, rest),
+        "committed" => offset_of(alloc, notes, line, rest),
+        "topic_set" => has(alloc, notes, line, rest),
+        _ => of_apps(rt, alloc, notes, line, call, rest),
     }
 }

@@ -2,13 +2,13 @@
 
 use super::orders::order_of;
 use super::parts::part_of;
-use super::verdicts::line_of;
+use super::verdicts::push_fault;
+use crate::words::{Notes, show};
 use eos_check::Fault;
 use eos_commits::is_visible;
 use eos_fold::{Part, PartitionFault};
+use eos_text::push_value;
 use std::alloc::{AllocError, Global};
-use std::fmt::Write;
-use std::io;
 
 /// The least fault.
 pub(super) fn fault_of(part: &Part) -> Result<Option<Fault>, AllocError> {
@@ -31,47 +31,57 @@ fn number_of(part: &Part) -> u8 {
     }
 }
 
-/// The number of records, and of each its fate and whether it is visible.
-fn fates_of(alloc: Global, part: &Part) -> Result<String, AllocError> {
+/// Writes the number of records, and of each its fate and whether it is visible.
+fn push_fates(line: &mut String, part: &Part) -> Result<(), AllocError> {
     let items = part.items();
-    let mut text = format!(in alloc; "{}", items.len())?;
+    push_value(line, "", &items.len())?;
     for i in 0..items.len() {
         let fate = items.view(i).fate();
-        write!(text, " {fate:?}={}", is_visible(fate))?;
+        write!(line, " {fate:?}={}", is_visible(fate))?;
     }
-    Ok(text)
+    Ok(())
 }
 
-/// The ends of transactions, the markers and the records.
-fn records_of(alloc: Global, part: &Part) -> Result<String, AllocError> {
-    let mut text = format!(in alloc; "{:?} {:?}", part.closes(), part.markers())?;
+/// Writes the ends of transactions, the markers and the records.
+fn push_records(alloc: Global, line: &mut String, part: &Part) -> Result<(), AllocError> {
+    write!(line, "{:?} {:?}", part.closes(), part.markers())?;
     let items = part.items();
     for i in 0..items.len() {
-        write!(text, " {:?}", items.get(alloc, i)?)?;
+        line.push_str(" ")?;
+        show(line, items.get(alloc, i)?)?;
     }
-    Ok(text)
+    line.push_str(" ")
 }
 
-/// All that the log says.
-fn all_of(alloc: Global, part: &Part) -> Result<String, AllocError> {
-    let records = records_of(alloc, part)?;
-    let fault = line_of(alloc, fault_of(part)?)?;
-    format!(in alloc; "{records} {fault}")
+/// Writes all that the log says.
+fn push_all(alloc: Global, line: &mut String, part: &Part) -> Result<(), AllocError> {
+    push_records(alloc, line, part)?;
+    push_fault(alloc, line, fault_of(part)?)
 }
 
-fn said(alloc: Global, call: &str, part: &Part) -> Result<String, AllocError> {
+fn tell(alloc: Global, line: &mut String, call: &str, part: &Part) -> Result<(), AllocError> {
     match call {
-        "part_kind" => format!(in alloc; "{}", number_of(part)),
-        "part_fault" => line_of(alloc, fault_of(part)?),
-        "fates" => fates_of(alloc, part),
-        "closes" => format!(in alloc; "{:?}", part.closes()),
-        "markers" => format!(in alloc; "{:?}", part.markers()),
-        _ => all_of(alloc, part),
+        "part_kind" => push_value(line, "", &number_of(part)),
+        "part_fault" => push_fault(alloc, line, fault_of(part)?),
+        "fates" => push_fates(line, part),
+        "closes" => show(line, part.closes()),
+        "markers" => show(line, part.markers()),
+        _ => push_all(alloc, line, part),
     }
 }
 
-pub(super) fn answer(alloc: Global, call: &str, rest: &str) -> io::Result<String> {
+/// What is said of the words `ORDER PART`; without the first from the left.
+pub(super) fn answer(
+    alloc: Global,
+    notes: &mut Notes,
+    line: &mut String,
+    call: &str,
+    rest: &str,
+) -> Result<(), AllocError> {
     let (order, word) = rest.split_once(' ').unwrap_or(("left", rest));
-    let part = part_of(alloc, order_of(order)?, word)?;
-    Ok(said(alloc, call, &part)?)
+    let order = order_of(notes, order);
+    match part_of(alloc, notes, order, word) {
+        Ok(part) => tell(alloc, line, call, &part),
+        Err(error) => Err(error),
+    }
 }

@@ -3,9 +3,9 @@
 ghost use Rattle.std.specs.Prelude.{IsTrue};
 ghost use Rattle.eos_fold.specs.Sums.{Follows};
 
+use crate::words::{Notes, bad};
 use eos_fold::Named;
 use std::alloc::{AllocError, Global};
-use std::io::{self, ErrorKind};
 
 #[derive(Clone, Copy)]
 pub(super) enum Order {
@@ -17,12 +17,15 @@ pub(super) enum Order {
     ByPairs,
 }
 
-pub(super) fn order_of(word: &str) -> io::Result<Order> {
+pub(super) fn order_of(notes: &mut Notes, word: &str) -> Order {
     match word {
-        "left" => Ok(Order::FromTheLeft),
-        "right" => Ok(Order::FromTheRight),
-        "pairs" => Ok(Order::ByPairs),
-        _ => Err(ErrorKind::InvalidInput.into()),
+        "left" => Order::FromTheLeft,
+        "right" => Order::FromTheRight,
+        "pairs" => Order::ByPairs,
+        _ => {
+            notes.is_bad = true;
+            Order::ByPairs
+        }
     }
 }
 
@@ -40,47 +43,83 @@ fn follows(before: &Named, after: &Named) -> bool
 }
 
 /// One run of two, of which the second follows the first.
-fn merged(alloc: Global, before: Named, after: Named) -> io::Result<Named> {
+pub(crate) fn merged(
+    alloc: Global,
+    notes: &mut Notes,
+    before: Named,
+    after: Named,
+) -> Result<Named, AllocError> {
     if !follows(&before, &after) {
-        return Err(ErrorKind::InvalidInput.into());
+        return bad(notes);
     }
     match Named::merge(alloc, before, after) {
         Ok(run) => Ok(run),
-        Err(_) => Err(AllocError.into()),
+        Err(_) => Err(AllocError),
     }
 }
 
-fn from_the_left(alloc: Global, runs: Vec<Named>) -> io::Result<Option<Named>> {
+/// Puts a run behind those before it, or before those behind it.
+fn join_one(
+    alloc: Global,
+    notes: &mut Notes,
+    all: &mut Option<Named>,
+    run: Named,
+    is_behind: bool,
+) -> Result<(), AllocError> {
+    let joined = match all.take() {
+        None => run,
+        Some(before) if is_behind => merged(alloc, notes, before, run)?,
+        Some(after) => merged(alloc, notes, run, after)?,
+    };
+    *all = Some(joined);
+    Ok(())
+}
+
+fn from_the_left(
+    alloc: Global,
+    notes: &mut Notes,
+    runs: Vec<Named>,
+) -> Result<Option<Named>, AllocError> {
     let mut all = None;
     for run in runs {
-        all = match all {
-            None => Some(run),
-            Some(before) => Some(merged(alloc, before, run)?),
-        };
+        join_one(alloc, notes, &mut all, run, true)?;
     }
     Ok(all)
 }
 
-fn from_the_right(alloc: Global, runs: Vec<Named>) -> io::Result<Option<Named>> {
+fn from_the_right(
+    alloc: Global,
+    notes: &mut Notes,
+    runs: Vec<Named>,
+) -> Result<Option<Named>, AllocError> {
     let mut all = None;
     for run in runs.into_iter().rev() {
-        all = match all {
-            None => Some(run),
-            Some(after) => Some(merged(alloc, run, after)?),
-        };
+        join_one(alloc, notes, &mut all, run, false)?;
     }
     Ok(all)
+}
+
+/// Adds the second run of a pair to the first, or keeps it for the next one.
+fn pair(
+    alloc: Global,
+    notes: &mut Notes,
+    pairs: &mut Vec<Named>,
+    first: &mut Option<Named>,
+    run: Named,
+) -> Result<(), AllocError> {
+    match first.take() {
+        Some(before) => pairs.push(merged(alloc, notes, before, run)?)?,
+        None => *first = Some(run),
+    }
+    Ok(())
 }
 
 /// The first run with the second, the third with the fourth, and so on.
-fn paired(alloc: Global, runs: Vec<Named>) -> io::Result<Vec<Named>> {
+fn paired(alloc: Global, notes: &mut Notes, runs: Vec<Named>) -> Result<Vec<Named>, AllocError> {
     let mut pairs = Vec::new(alloc);
     let mut first = None;
     for run in runs {
-        match first.take() {
-            Some(before) => pairs.push(merged(alloc, before, run)?)?,
-            None => first = Some(run),
-        }
+        pair(alloc, notes, &mut pairs, &mut first, run)?;
     }
     if let Some(last) = first {
         pairs.push(last)?;
@@ -91,17 +130,24 @@ fn paired(alloc: Global, runs: Vec<Named>) -> io::Result<Vec<Named>> {
 /// The one run of these, joined in this order; none of none.
 pub(super) fn joined(
     alloc: Global,
-    mut runs: Vec<Named>,
+    notes: &mut Notes,
+    runs: Vec<Named>,
     order: Order,
-) -> io::Result<Option<Named>> {
+) -> Result<Option<Named>, AllocError> {
     match order {
-        Order::FromTheLeft => from_the_left(alloc, runs),
-        Order::FromTheRight => from_the_right(alloc, runs),
-        Order::ByPairs => {
-            for _ in 0..64 {
-                runs = paired(alloc, runs)?;
-            }
-            from_the_left(alloc, runs)
-        }
+        Order::FromTheLeft => from_the_left(alloc, notes, runs),
+        Order::FromTheRight => from_the_right(alloc, notes, runs),
+        Order::ByPairs => by_pairs(alloc, notes, runs),
     }
+}
+
+fn by_pairs(
+    alloc: Global,
+    notes: &mut Notes,
+    mut runs: Vec<Named>,
+) -> Result<Option<Named>, AllocError> {
+    for _ in 0..64 {
+        runs = paired(alloc, notes, runs)?;
+    }
+    from_the_left(alloc, notes, runs)
 }

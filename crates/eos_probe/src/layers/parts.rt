@@ -4,33 +4,26 @@ ghost use Rattle.std.specs.Prelude.{IsTrue};
 ghost use Rattle.eos_fold.specs.Standing.{AreOf};
 
 use super::orders::{Order, joined};
-use crate::words::bytes_of;
+use crate::words::{Notes, bad, bytes_of, name_of, number_of, sides};
 use bytes::Bytes;
 use eos_base::PartitionName;
 use eos_evidence::Segment;
 use eos_fold::{Named, Part};
 use std::alloc::{AllocError, Global};
-use std::io::{self, ErrorKind};
-
-/// The two sides of a mark.
-pub(super) fn sides(text: &str, mark: char) -> io::Result<(&str, &str)> {
-    Ok(text.split_once(mark).ok_or(ErrorKind::InvalidInput)?)
-}
-
-/// The topic and the number of a partition's name.
-pub(super) fn name_of(text: &str) -> io::Result<(&str, i32)> {
-    let (topic, number) = text.rsplit_once('-').ok_or(ErrorKind::InvalidInput)?;
-    let number = number.parse::<i32>().or(Err(ErrorKind::InvalidInput))?;
-    Ok((topic, number))
-}
 
 /// The run of one segment.
-fn piece_of(alloc: Global, name: &PartitionName, piece: u64, word: &str) -> io::Result<Named> {
-    let (base, digits) = sides(word, '/')?;
-    let base = base.parse::<i64>().or(Err(ErrorKind::InvalidInput))?;
-    let bytes = bytes_of(alloc, digits)?.ok_or(ErrorKind::InvalidInput)?;
+fn piece_of(
+    alloc: Global,
+    notes: &mut Notes,
+    name: &PartitionName,
+    piece: u64,
+    word: &str,
+) -> Result<Named, AllocError> {
+    let (base, digits) = sides(notes, word, '/');
+    let base = number_of(notes, base);
+    let bytes = bytes_of(alloc, notes, digits)?;
     if base < 0 || bytes.len() > 1 << 30 {
-        return Err(ErrorKind::InvalidInput.into());
+        return bad(notes);
     }
     let segment = Segment {
         topic: name.topic.clone()?,
@@ -40,7 +33,7 @@ fn piece_of(alloc: Global, name: &PartitionName, piece: u64, word: &str) -> io::
     };
     match Named::of(alloc, piece, segment) {
         Ok(run) => Ok(run),
-        Err(_) => Err(AllocError.into()),
+        Err(_) => Err(AllocError),
     }
 }
 
@@ -53,46 +46,67 @@ fn is_of(name: &PartitionName, run: &Named) -> bool
 }
 
 /// The log of a partition that ends there.
-fn ended(alloc: Global, name: PartitionName, end: i64, run: Option<Named>) -> io::Result<Part> {
+fn ended(
+    alloc: Global,
+    notes: &mut Notes,
+    name: PartitionName,
+    end: i64,
+    run: Option<Named>,
+) -> Result<Part, AllocError> {
     match run {
-        None => Ok(Part::new(alloc, name.topic, name.partition, end, None)?),
+        None => Part::new(alloc, name.topic, name.partition, end, None),
         Some(run) => {
             if !is_of(&name, &run) {
-                return Err(ErrorKind::InvalidInput.into());
+                return bad(notes);
             }
-            Ok(Part::new(alloc, name.topic, name.partition, end, Some(run))?)
+            Part::new(alloc, name.topic, name.partition, end, Some(run))
         }
     }
 }
 
 /// The runs of these segments, one each.
-fn runs_of(alloc: Global, name: &PartitionName, segments: &str) -> io::Result<Vec<Named>> {
+fn runs_of(
+    alloc: Global,
+    notes: &mut Notes,
+    name: &PartitionName,
+    segments: &str,
+) -> Result<Vec<Named>, AllocError> {
     let mut runs = Vec::new(alloc);
     let mut piece = 0u64;
     for segment in segments.split_terminator(',') {
-        runs.push(piece_of(alloc, name, piece, segment)?)?;
+        runs.push(piece_of(alloc, notes, name, piece, segment)?)?;
         piece = piece.saturating_add(1);
     }
     Ok(runs)
 }
 
 /// The partition of a word, its segments joined in this order.
-pub(super) fn part_of(alloc: Global, order: Order, word: &str) -> io::Result<Part> {
-    let (name, rest) = sides(word, ':')?;
-    let (end, segments) = sides(rest, ':')?;
-    let end = end.parse::<i64>().or(Err(ErrorKind::InvalidInput))?;
-    let (topic, partition) = name_of(name)?;
+pub(super) fn part_of(
+    alloc: Global,
+    notes: &mut Notes,
+    order: Order,
+    word: &str,
+) -> Result<Part, AllocError> {
+    let (name, rest) = sides(notes, word, ':');
+    let (end, segments) = sides(notes, rest, ':');
+    let end = number_of(notes, end);
+    let (topic, partition) = name_of(notes, name);
     let topic = Bytes::copy_from_slice(alloc, topic.as_bytes())?;
     let name = PartitionName { topic, partition };
-    let run = joined(alloc, runs_of(alloc, &name, segments)?, order)?;
-    ended(alloc, name, end, run)
+    let runs = runs_of(alloc, notes, &name, segments)?;
+    let run = joined(alloc, notes, runs, order)?;
+    ended(alloc, notes, name, end, run)
 }
 
 /// The partitions of these words.
-pub(super) fn parts_of(alloc: Global, words: &str) -> io::Result<Vec<Part>> {
+pub(super) fn parts_of(
+    alloc: Global,
+    notes: &mut Notes,
+    words: &str,
+) -> Result<Vec<Part>, AllocError> {
     let mut parts = Vec::new(alloc);
     for word in words.split_whitespace() {
-        parts.push(part_of(alloc, Order::FromTheLeft, word)?)?;
+        parts.push(part_of(alloc, notes, Order::FromTheLeft, word)?)?;
     }
     Ok(parts)
 }

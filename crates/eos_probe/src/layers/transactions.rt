@@ -1,70 +1,96 @@
 //! What the transaction log decided, and whether the partitions agree.
 
-use super::parts::{parts_of, sides};
-use super::verdicts::line_of;
+use super::parts::parts_of;
+use super::verdicts::push_fault;
+use crate::words::{Notes, or_bad, show, sides};
 use eos_check::Fault;
 use eos_fold::Part;
 use eos_table::{TxnTable, match_shard, txn_log};
+use eos_text::push_value;
 use eos_txnlog::Decision;
 use std::alloc::{AllocError, Global};
-use std::fmt::Write;
-use std::io::{self, ErrorKind};
 
-/// The least fault of a shard, of so many, or no text.
-fn fault_of(
+/// Writes the least fault of a shard, of so many, if there is one.
+fn push_shard(
     alloc: Global,
+    line: &mut String,
     table: &TxnTable,
     parts: &[Part],
     shard: u32,
     shards: u32,
-) -> Result<String, AllocError> {
+) -> Result<(), AllocError> {
     if shard >= shards {
-        return Ok(String::new(alloc));
+        return Ok(());
     }
-    match match_shard(alloc, table, parts, shard, shards)? {
-        None => Ok(String::new(alloc)),
-        Some(fault) => line_of(alloc, Some(Fault::Match(fault))),
+    match match_shard(alloc, table, parts, shard, shards) {
+        Ok(None) => Ok(()),
+        Ok(Some(fault)) => {
+            push_value(line, "", &shard)?;
+            line.push_str(": ")?;
+            push_fault(alloc, line, Some(Fault::Match(fault)))
+        }
+        Err(error) => Err(error),
     }
 }
 
-/// The least fault of each shard that has one.
-fn faults_of(
+/// Writes the least fault of each shard that has one.
+fn push_shards(
     alloc: Global,
+    line: &mut String,
+    table: &TxnTable,
+    parts: &[Part],
+    shards: u32,
+) -> Result<(), AllocError> {
+    for shard in 0..shards {
+        push_shard(alloc, line, table, parts, shard, shards)?;
+    }
+    if line.is_empty() {
+        line.push_str("none")?;
+    }
+    Ok(())
+}
+
+fn push_faults(
+    alloc: Global,
+    line: &mut String,
     decisions: Vec<Decision>,
     parts: &[Part],
     shards: u32,
-) -> Result<String, AllocError> {
-    let table = TxnTable::from_decisions(decisions)?;
-    let mut text = String::new(alloc);
-    for shard in 0..shards {
-        let fault = fault_of(alloc, &table, parts, shard, shards)?;
-        if !fault.is_empty() {
-            write!(text, "{shard}: {}", fault.as_str())?;
-        }
+) -> Result<(), AllocError> {
+    match TxnTable::from_decisions(decisions) {
+        Ok(table) => push_shards(alloc, line, &table, parts, shards),
+        Err(_) => Err(AllocError),
     }
-    if text.is_empty() {
-        text.push_str("none")?;
-    }
-    Ok(text)
 }
 
-/// The decisions, or the faults between them and the partitions in so many shards.
-fn said(alloc: Global, shards: Option<u32>, parts: &[Part]) -> Result<String, AllocError> {
+/// Writes the decisions, or the faults between them and the partitions in so many shards.
+fn tell(
+    alloc: Global,
+    line: &mut String,
+    shards: Option<u32>,
+    parts: &[Part],
+) -> Result<(), AllocError> {
     match (txn_log(alloc, parts)?, shards) {
-        (Err(fault), _) => line_of(alloc, Some(Fault::Log(fault))),
-        (Ok(decisions), None) => format!(in alloc; "{decisions:?}"),
-        (Ok(decisions), Some(shards)) => faults_of(alloc, decisions, parts, shards),
+        (Err(fault), _) => push_fault(alloc, line, Some(Fault::Log(fault))),
+        (Ok(decisions), None) => show(line, decisions),
+        (Ok(decisions), Some(shards)) => push_faults(alloc, line, decisions, parts, shards),
     }
 }
 
 /// What is said of the words `PART PART ..`, or `SHARDS PART PART ..` of the shards.
-pub(super) fn answer(alloc: Global, call: &str, rest: &str) -> io::Result<String> {
+pub(super) fn answer(
+    alloc: Global,
+    notes: &mut Notes,
+    line: &mut String,
+    call: &str,
+    rest: &str,
+) -> Result<(), AllocError> {
     if call == "txn_log" {
-        let parts = parts_of(alloc, rest)?;
-        return Ok(said(alloc, None, parts.as_slice())?);
+        let parts = parts_of(alloc, notes, rest)?;
+        return tell(alloc, line, None, parts.as_slice());
     }
-    let (shards, words) = sides(rest, ' ')?;
-    let shards = shards.parse::<u32>().or(Err(ErrorKind::InvalidInput))?;
-    let parts = parts_of(alloc, words)?;
-    Ok(said(alloc, Some(shards), parts.as_slice())?)
+    let (shards, words) = sides(notes, rest, ' ');
+    let shards = or_bad(notes, shards.parse::<u32>().ok(), 0);
+    let parts = parts_of(alloc, notes, words)?;
+    tell(alloc, line, Some(shards), parts.as_slice())
 }

@@ -3,22 +3,32 @@
 use super::logs::fault_of;
 use super::orders::Order;
 use super::parts::part_of;
+use crate::words::{Notes, bad, number_of, place, show};
 use eos_check::{Counts, Fault, Verdict};
+use eos_fold::Part;
 use eos_report::{verdict_json, verdict_line, write_verdict};
 use std::alloc::{AllocError, Global};
 use std::io::{self, ErrorKind, Write};
 
-/// The line of a verdict, without its line feed.
-fn line(alloc: Global, verdict: &Verdict) -> Result<String, AllocError> {
-    let line = verdict_line(alloc, verdict)?;
-    String::from_str(alloc, line.as_str().trim_end())
+/// Writes the line of a verdict, without its line feed.
+pub(crate) fn push_verdict(
+    alloc: Global,
+    line: &mut String,
+    verdict: &Verdict,
+) -> Result<(), AllocError> {
+    let text = verdict_line(alloc, verdict)?;
+    line.push_str(text.as_str().trim_end())
 }
 
-/// The line of a fault, without its line feed.
-pub(super) fn line_of(alloc: Global, fault: Option<Fault>) -> Result<String, AllocError> {
+/// Writes the line of a fault, or `none`.
+pub(super) fn push_fault(
+    alloc: Global,
+    line: &mut String,
+    fault: Option<Fault>,
+) -> Result<(), AllocError> {
     match fault {
-        None => String::from_str(alloc, "none"),
-        Some(fault) => line(alloc, &Verdict::No(fault)),
+        None => line.push_str("none"),
+        Some(fault) => push_verdict(alloc, line, &Verdict::No(fault)),
     }
 }
 
@@ -52,36 +62,59 @@ const YES: Verdict = Verdict::Yes(Counts {
 });
 
 /// What `write_verdict` answers where there is room for so many bytes, and what was written.
-fn written(alloc: Global, room: usize) -> Result<String, AllocError> {
+pub(super) fn written(
+    alloc: Global,
+    notes: &mut Notes,
+    line: &mut String,
+    room: &str,
+) -> Result<(), AllocError> {
+    let room = place(number_of(notes, room));
     let taken = Vec::new(alloc);
     let mut writer = Full { taken, room };
-    let answer = write_verdict(alloc, &YES, &mut writer);
-    let text = std::str::from_utf8(writer.taken.as_slice()).unwrap_or("no text");
-    format!(in alloc; "{answer:?} {text:?}")
+    tell_written(alloc, line, &mut writer)
+}
+
+fn tell_written(alloc: Global, line: &mut String, writer: &mut Full) -> Result<(), AllocError> {
+    show(line, write_verdict(alloc, &YES, writer))?;
+    line.push_str(" ")?;
+    show(
+        line,
+        std::str::from_utf8(writer.taken.as_slice()).unwrap_or("no text"),
+    )
 }
 
 /// The line and the JSON text.
-fn both(alloc: Global, verdict: &Verdict) -> Result<String, AllocError> {
+fn tell_both(alloc: Global, line: &mut String, verdict: &Verdict) -> Result<(), AllocError> {
+    show(line, verdict_line(alloc, verdict)?)?;
+    line.push_str(" ")?;
     let json = verdict_json(alloc, verdict)?.to_string(alloc)?;
-    let line = verdict_line(alloc, verdict)?;
-    format!(in alloc; "{:?} {json}", line.as_str())
+    line.push_str(&json)
 }
 
-/// The verdict of a partition's fault, or the one of counts where no partition is named.
-fn verdict_of(alloc: Global, word: &str) -> io::Result<Verdict> {
+fn tell_both_of(
+    alloc: Global,
+    notes: &mut Notes,
+    line: &mut String,
+    part: &Part,
+) -> Result<(), AllocError> {
+    match fault_of(part)? {
+        Some(fault) => tell_both(alloc, line, &Verdict::No(fault)),
+        None => bad(notes),
+    }
+}
+
+/// Writes the texts of the verdict of a partition's fault, or of the one of counts where no partition is named.
+pub(super) fn both(
+    alloc: Global,
+    notes: &mut Notes,
+    line: &mut String,
+    word: &str,
+) -> Result<(), AllocError> {
     if word.is_empty() {
-        return Ok(YES);
+        return tell_both(alloc, line, &YES);
     }
-    let part = part_of(alloc, Order::FromTheLeft, word)?;
-    let fault = fault_of(&part)?.ok_or(ErrorKind::InvalidInput)?;
-    Ok(Verdict::No(fault))
-}
-
-pub(super) fn answer(alloc: Global, call: &str, rest: &str) -> io::Result<String> {
-    if call == "write_verdict" {
-        let room = rest.parse::<usize>().or(Err(ErrorKind::InvalidInput))?;
-        return Ok(written(alloc, room)?);
+    match part_of(alloc, notes, Order::FromTheLeft, word) {
+        Ok(part) => tell_both_of(alloc, notes, line, &part),
+        Err(error) => Err(error),
     }
-    let verdict = verdict_of(alloc, rest)?;
-    Ok(both(alloc, &verdict)?)
 }

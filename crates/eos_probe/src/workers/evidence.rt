@@ -1,70 +1,145 @@
 //! Evidence of words: a partition is `TOPIC-NUMBER:END:BASE/BYTES,BASE/BYTES`, a base and bytes for each segment. The group `g`
 //! reads `in` and writes `out`.
 
-use crate::words::bytes_of;
+use crate::words::{Notes, bad, bytes_of, name_of, number_of, sides};
 use bytes::Bytes;
 use eos_base::Listed;
-use eos_evidence::{App, End, Evidence, EvidenceBuilder, GroupId, Segment, Spec};
-use std::alloc::Global;
-use std::io::{self, ErrorKind};
+use eos_evidence::{
+    AddFault, App, End, Evidence, EvidenceBuilder, GroupId, Segment, Spec, SpecFault,
+};
+use std::alloc::{AllocError, Global};
 
-/// The two sides of a mark.
-fn sides(text: &str, mark: char) -> io::Result<(&str, &str)> {
-    Ok(text.split_once(mark).ok_or(ErrorKind::InvalidInput)?)
-}
-
-/// The segment of a word, at a partition.
-fn segment_of(alloc: Global, end: &End, word: &str) -> io::Result<Segment> {
-    let (base, digits) = sides(word, '/')?;
-    Ok(Segment {
-        topic: end.topic.clone()?,
-        partition: end.partition,
-        base: base.parse::<i64>().or(Err(ErrorKind::InvalidInput))?,
-        bytes: bytes_of(alloc, digits)?.ok_or(ErrorKind::InvalidInput)?,
+/// The end of the partition of a word.
+fn end_of(alloc: Global, notes: &mut Notes, word: &str) -> Result<End, AllocError> {
+    let (name, rest) = sides(notes, word, ':');
+    let (end, _) = sides(notes, rest, ':');
+    let (topic, partition) = name_of(notes, name);
+    let end = number_of(notes, end);
+    Ok(End {
+        topic: Bytes::copy_from_slice(alloc, topic.as_bytes())?,
+        partition,
+        end,
     })
 }
 
-/// Adds the segments of a partition, and gives its end.
-fn partition_of(alloc: Global, all: &mut Vec<Segment>, word: &str) -> io::Result<End> {
-    let (name, rest) = sides(word, ':')?;
-    let (end, segments) = sides(rest, ':')?;
-    let (topic, number) = name.rsplit_once('-').ok_or(ErrorKind::InvalidInput)?;
-    let end = End {
-        topic: Bytes::copy_from_slice(alloc, topic.as_bytes())?,
-        partition: number.parse::<i32>().or(Err(ErrorKind::InvalidInput))?,
-        end: end.parse::<i64>().or(Err(ErrorKind::InvalidInput))?,
-    };
-    for segment in segments.split_terminator(',') {
-        all.push(segment_of(alloc, &end, segment)?)?;
+fn ends_of(alloc: Global, notes: &mut Notes, words: &str) -> Result<Vec<End>, AllocError> {
+    let mut ends = Vec::new(alloc);
+    for word in words.split_whitespace() {
+        ends.push(end_of(alloc, notes, word)?)?;
     }
-    Ok(end)
+    Ok(ends)
 }
 
-/// What is told of the group and of partitions with these ends.
-fn spec_of(alloc: Global, ends: Vec<End>) -> io::Result<Spec> {
-    let app = App {
-        group: GroupId::new(String::from_str(alloc, "g")?),
-        sources: Listed::new(vec![in alloc; Bytes::from_static(b"in")]?),
-        outputs: Listed::new(vec![in alloc; Bytes::from_static(b"out")]?),
-    };
-    match Spec::new(alloc, Listed::new(vec![in alloc; app]?), Listed::new(ends)) {
-        Ok(spec) => Ok(spec),
-        Err(_) => Err(ErrorKind::InvalidInput.into()),
+/// A list of one topic.
+fn one(alloc: Global, topic: &'static [u8]) -> Result<Vec<Bytes>, AllocError> {
+    let mut topics = Vec::new(alloc);
+    topics.push(Bytes::from_static(topic))?;
+    Ok(topics)
+}
+
+fn app(alloc: Global) -> Result<App, AllocError> {
+    let group = String::from_str(alloc, "g")?;
+    let sources = one(alloc, b"in")?;
+    let outputs = one(alloc, b"out")?;
+    Ok(App {
+        group: GroupId::new(group),
+        sources: Listed::new(sources),
+        outputs: Listed::new(outputs),
+    })
+}
+
+fn apps(alloc: Global) -> Result<Vec<App>, AllocError> {
+    let mut apps = Vec::new(alloc);
+    apps.push(app(alloc)?)?;
+    Ok(apps)
+}
+
+/// A builder of the evidence of these partitions.
+fn builder_of(
+    alloc: Global,
+    notes: &mut Notes,
+    words: &str,
+) -> Result<EvidenceBuilder, AllocError> {
+    let ends = ends_of(alloc, notes, words)?;
+    let apps = apps(alloc)?;
+    match Spec::new(alloc, Listed::new(apps), Listed::new(ends)) {
+        Ok(spec) => EvidenceBuilder::new(alloc, spec),
+        Err(SpecFault::OutOfMemory) => Err(AllocError),
+        Err(_) => bad(notes),
     }
+}
+
+/// The segment of a word.
+fn segment_of(
+    alloc: Global,
+    notes: &mut Notes,
+    topic: &str,
+    partition: i32,
+    word: &str,
+) -> Result<Segment, AllocError> {
+    let (base, digits) = sides(notes, word, '/');
+    let base = number_of(notes, base);
+    let bytes = bytes_of(alloc, notes, digits)?;
+    Ok(Segment {
+        topic: Bytes::copy_from_slice(alloc, topic.as_bytes())?,
+        partition,
+        base,
+        bytes,
+    })
+}
+
+/// Adds the segment of a word.
+fn add(
+    alloc: Global,
+    notes: &mut Notes,
+    builder: &mut EvidenceBuilder,
+    topic: &str,
+    partition: i32,
+    word: &str,
+) -> Result<(), AllocError> {
+    let segment = segment_of(alloc, notes, topic, partition, word)?;
+    match builder.add(segment) {
+        Ok(()) => Ok(()),
+        Err(AddFault::OutOfMemory) => Err(AllocError),
+        Err(_) => bad(notes),
+    }
+}
+
+/// Adds the segments of the partition of a word.
+fn add_all(
+    alloc: Global,
+    notes: &mut Notes,
+    builder: &mut EvidenceBuilder,
+    word: &str,
+) -> Result<(), AllocError> {
+    let (name, rest) = sides(notes, word, ':');
+    let (_, segments) = sides(notes, rest, ':');
+    let (topic, partition) = name_of(notes, name);
+    for segment in segments.split_terminator(',') {
+        add(alloc, notes, builder, topic, partition, segment)?;
+    }
+    Ok(())
+}
+
+fn fill(
+    alloc: Global,
+    notes: &mut Notes,
+    builder: &mut EvidenceBuilder,
+    words: &str,
+) -> Result<(), AllocError> {
+    for word in words.split_whitespace() {
+        add_all(alloc, notes, builder, word)?;
+    }
+    Ok(())
 }
 
 /// The evidence of these partitions.
-pub(super) fn evidence_of(alloc: Global, words: &str) -> io::Result<Evidence> {
-    let mut ends = Vec::new(alloc);
-    let mut segments = Vec::new(alloc);
-    for word in words.split_whitespace() {
-        ends.push(partition_of(alloc, &mut segments, word)?)?;
-    }
-    let mut builder = EvidenceBuilder::new(alloc, spec_of(alloc, ends)?)?;
-    for segment in segments {
-        if builder.add(segment).is_err() {
-            return Err(ErrorKind::InvalidInput.into());
-        }
-    }
+pub(super) fn evidence_of(
+    alloc: Global,
+    notes: &mut Notes,
+    words: &str,
+) -> Result<Evidence, AllocError> {
+    let mut builder = builder_of(alloc, notes, words)?;
+    fill(alloc, notes, &mut builder, words)?;
     Ok(builder.finish())
 }

@@ -1,11 +1,11 @@
 //! The check by workers behind a gate that holds some of them and notes what passes it, and by the caller alone.
 
-use crate::cluster::{numbers_of, place};
+use crate::layers::push_verdict;
+use crate::words::{Notes, first_of, number_of, numbers_of, place};
 use eos_board::Gate;
-use eos_check::{check, check_one};
+use eos_check::{Verdict, check, check_one};
 use eos_evidence::Evidence;
 use eos_fold::Named;
-use eos_report::verdict_line;
 use std::alloc::{AllocError, Global};
 use std::sync::Wait;
 use std::sync::atomic::{AtomicU64, Ordering};
@@ -77,44 +77,69 @@ impl Gate for Held {
     }
 }
 
-/// What so many workers say, and what their gate has seen: how often each of the first twelve pieces has passed, the first at the
-/// right, how often its own run was made, and whether a wait was given up. Behind the number of workers stands `HELD,OTHER`, or
-/// `chain`, or nothing.
-pub(super) fn check_behind<R: Threads + Wait + Sync>(
-    rt: &R,
-    alloc: Global,
-    evidence: &Evidence,
-    words: &str,
-) -> Result<String, AllocError> {
-    let (workers, gate) = words.trim_end().split_once(' ').unwrap_or((words, "-1"));
-    let workers = workers.trim_end().parse::<u64>().unwrap_or(1).clamp(1, 64);
-    let numbers = numbers_of(gate);
-    let gate = Held {
-        held: place(numbers[0]) as u64,
+/// The gate of `HELD,OTHER`, of `chain`, or of nothing.
+fn gate_of(notes: &mut Notes, words: &str) -> Held {
+    let is_chain = words == "chain";
+    let count = if is_chain || words.is_empty() { 0 } else { 2 };
+    let numbers = numbers_of(notes, if count == 0 { "" } else { words }, count);
+    Held {
+        held: if count == 0 {
+            u64::MAX
+        } else {
+            place(numbers[0]) as u64
+        },
         other: place(numbers[1]) as u64,
-        is_chain: gate == "chain",
+        is_chain,
         passed: AtomicU64::new(0),
         made: AtomicU64::new(0),
         five: AtomicU64::new(0),
         late: AtomicU64::new(0),
-    };
-    let verdict = check(alloc, rt, evidence, workers, &gate)?;
-    let line = verdict_line(alloc, &verdict)?;
+    }
+}
+
+/// Writes a verdict, and what a gate has seen.
+fn tell(
+    alloc: Global,
+    line: &mut String,
+    verdict: &Verdict,
+    gate: &Held,
+) -> Result<(), AllocError> {
+    push_verdict(alloc, line, verdict)?;
     let passed = gate.passed.load(Ordering::SeqCst);
     let made = gate.made.load(Ordering::SeqCst);
     let late = gate.late.load(Ordering::SeqCst);
-    format!(in alloc;
-        "{} passed={passed:x} made={made:x} late={late}",
-        line.as_str().trim_end()
-    )
+    write!(line, " passed={passed:x} made={made:x} late={late}")
 }
 
-/// What the caller alone says.
+/// Writes what so many workers say, and what their gate has seen: how often each of the first twelve pieces has passed, the
+/// first at the right, how often its own run was made, and whether a wait was given up. Behind the number of workers stands
+/// `HELD,OTHER`, or `chain`, or nothing.
+pub(super) fn check_behind<R: Threads + Wait + Sync>(
+    rt: &R,
+    alloc: Global,
+    notes: &mut Notes,
+    line: &mut String,
+    evidence: &Evidence,
+    words: &str,
+) -> Result<(), AllocError> {
+    let (workers, words) = first_of(words);
+    let workers = place(number_of(notes, workers)).clamp(1, 64) as u64;
+    let gate = gate_of(notes, words);
+    match check(alloc, rt, evidence, workers, &gate) {
+        Ok(verdict) => tell(alloc, line, &verdict, &gate),
+        Err(error) => Err(error),
+    }
+}
+
+/// Writes what the caller alone says.
 pub(super) fn check_alone<R: Threads + Sync>(
     rt: &R,
     alloc: Global,
+    line: &mut String,
     evidence: &Evidence,
-) -> Result<String, AllocError> {
-    let line = verdict_line(alloc, &check_one(alloc, rt, evidence)?)?;
-    String::from_str(alloc, line.as_str().trim_end())
+) -> Result<(), AllocError> {
+    match check_one(alloc, rt, evidence) {
+        Ok(verdict) => push_verdict(alloc, line, &verdict),
+        Err(error) => Err(error),
+    }
 }

@@ -1,17 +1,22 @@
 //! The pool's core: it takes the events of workers one after another.
 
-use eos_board::{PoolCore, PoolEvent};
+use crate::words::{Notes, first_of, number_of, place, show};
+use eos_board::{PoolCore, PoolEvent, PoolReply};
 use eos_evidence::Evidence;
 use eos_fold::Named;
 use std::alloc::{AllocError, Global};
 
-/// The first and the last piece of each run.
-fn pieces_of(alloc: Global, runs: Vec<Named>) -> Result<Vec<(u64, u64)>, AllocError> {
+/// Writes the first and the last piece of each run.
+pub(super) fn tell_runs(
+    alloc: Global,
+    line: &mut String,
+    runs: &[Named],
+) -> Result<(), AllocError> {
     let mut pieces = Vec::new(alloc);
     for run in runs {
         pieces.push(run.pieces())?;
     }
-    Ok(pieces)
+    show(line, pieces)
 }
 
 /// The event of a word, as `draw:0`.
@@ -30,19 +35,54 @@ fn event_of(word: &str) -> Option<PoolEvent> {
     }
 }
 
-/// The replies of a core to the events of these words, after the number of its workers; and the pieces of its runs.
-pub(super) fn run(alloc: Global, evidence: &Evidence, words: &str) -> Result<String, AllocError> {
-    let mut words = words.split_whitespace();
-    let workers = words.next().unwrap_or("").parse::<u64>().unwrap_or(0);
-    let mut core = PoolCore::new(alloc, evidence, workers)?;
-    let mut events = Vec::new(alloc);
-    for word in words {
-        let Some(event) = event_of(word) else {
-            return format!(in alloc; "no such event: {word}");
-        };
-        events.push(event)?;
+/// The reply to one event.
+fn reply_to(core: &mut PoolCore, event: PoolEvent) -> PoolReply {
+    match core.run(&[event]) {
+        Ok(replies) => *replies.first().unwrap_or(&PoolReply::OutOfMemory),
+        Err(_) => PoolReply::OutOfMemory,
     }
-    let replies = core.run(events.as_slice())?;
-    let runs = pieces_of(alloc, core.into_runs())?;
-    format!(in alloc; "{replies:?} {runs:?}")
+}
+
+/// The reply to the event of a word, which happens again after want of memory.
+fn happen(notes: &mut Notes, core: &mut PoolCore, word: &str) -> PoolReply {
+    let Some(event) = event_of(word) else {
+        notes.is_bad = true;
+        return PoolReply::Idle;
+    };
+    let reply = reply_to(core, event);
+    if reply != PoolReply::OutOfMemory {
+        return reply;
+    }
+    notes.is_again = true;
+    reply_to(core, event)
+}
+
+fn tell_replies(
+    alloc: Global,
+    notes: &mut Notes,
+    line: &mut String,
+    core: &mut PoolCore,
+    words: &str,
+) -> Result<(), AllocError> {
+    let mut replies = Vec::new(alloc);
+    for word in words.split_whitespace() {
+        replies.push(happen(notes, core, word))?;
+    }
+    show(line, replies)?;
+    line.push_str(" ")
+}
+
+/// Writes the replies of a core to the events of these words, after the number of its workers; and the pieces of its runs.
+pub(super) fn run(
+    alloc: Global,
+    notes: &mut Notes,
+    line: &mut String,
+    evidence: &Evidence,
+    words: &str,
+) -> Result<(), AllocError> {
+    let (workers, words) = first_of(words);
+    let workers = place(number_of(notes, workers)).min(64) as u64;
+    let mut core = PoolCore::new(alloc, evidence, workers)?;
+    tell_replies(alloc, notes, line, &mut core, words)?;
+    tell_runs(alloc, line, core.into_runs().as_slice())
 }

@@ -2,7 +2,8 @@
 
 ghost use Rattle.std.specs.Prelude.{◌≡◌, false};
 
-use crate::cluster::{numbers_of, place};
+use crate::words::{Notes, numbers_of, place};
+use eos_text::push_value;
 use eos_tickets::{MAX_TICKETS, MAX_WORKERS, Seat, Tickets};
 use std::alloc::{AllocError, Global};
 use std::thread;
@@ -31,13 +32,56 @@ fn draw_all(alloc: Global, tickets: &Tickets, mut seat: Seat) -> Result<Drawn, A
     Ok(Drawn { numbers, is_done })
 }
 
-/// Whether so many workers draw the numbers below a count each once, a single one in their order, and are done then.
-pub(crate) fn drawn_by(
-    rt: &(impl Threads + Sync),
+/// Gathers the numbers of all workers, and says whether all are done.
+fn gather(lists: &[Result<Drawn, AllocError>], all: &mut Vec<u64>) -> Result<bool, AllocError> {
+    let mut are_done = true;
+    for list in lists {
+        match list {
+            Ok(drawn) => {
+                all.extend_from_slice(drawn.numbers.as_slice())?;
+                are_done = are_done && drawn.is_done;
+            }
+            Err(_) => return Err(AllocError),
+        }
+    }
+    Ok(are_done)
+}
+
+/// Whether these are the numbers below a count, in order.
+fn are_all(numbers: &[u64], count: u64) -> bool {
+    for i in 0..numbers.len() {
+        if numbers[i] != i as u64 {
+            return false;
+        }
+    }
+    numbers.len() as u64 == count
+}
+
+/// Writes whether each number below a count was drawn once, by a single worker in order, and whether all workers are done.
+fn tell_of(
     alloc: Global,
+    line: &mut String,
+    lists: &[Result<Drawn, AllocError>],
+    count: u64,
+) -> Result<(), AllocError> {
+    let mut all = Vec::new(alloc);
+    let are_done = gather(lists, &mut all)?;
+    if lists.len() > 1 {
+        all.sort()?;
+    }
+    push_value(line, "each_once=", &are_all(all.as_slice(), count))?;
+    push_value(line, " done=", &are_done)
+}
+
+/// So many workers draw the numbers below a count.
+pub(super) fn tell<R: Threads + Sync>(
+    rt: &R,
+    alloc: Global,
+    notes: &mut Notes,
+    line: &mut String,
     words: &str,
-) -> Result<String, AllocError> {
-    let numbers = numbers_of(words);
+) -> Result<(), AllocError> {
+    let numbers = numbers_of(notes, words, 2);
     let count = (place(numbers[0]) as u64).min(MAX_TICKETS);
     let workers = (place(numbers[1]) as u64).clamp(1, MAX_WORKERS);
     let (tickets, seats) = Tickets::new(alloc, count, workers)?;
@@ -48,16 +92,5 @@ pub(crate) fn drawn_by(
             requires { (seat.of ≡ tickets) × (seat.is_done ≡ false) }
         { draw_all(alloc, &tickets, seat) },
     )?;
-    let mut all = Vec::new(alloc);
-    let mut are_done = true;
-    for list in lists {
-        let mut list = list?;
-        all.append(&mut list.numbers)?;
-        are_done = are_done && list.is_done;
-    }
-    if workers > 1 {
-        all.sort()?;
-    }
-    let each_once = all == Vec::from_iter(alloc, 0..count)?;
-    format!(in alloc; "each_once={each_once} done={are_done}")
+    tell_of(alloc, line, lists.as_slice(), count)
 }

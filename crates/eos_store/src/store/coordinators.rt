@@ -2,8 +2,7 @@
 
 ghost use Rattle.std.specs.Prelude.{◌≡◌, ◌∷◌, ◌++◌, ◌-◌, ◌+◌, ◌≤◌, ◌<◌, ◌^◌, ◌↔◌, true, [], OnOk, OnErr, IfOk, length};
 ghost use Rattle.eos_machine.specs.Places.{txn_place};
-ghost use Rattle.eos_machine.specs.declared.item.Status.TheVariants.{Complete};
-ghost use Rattle.eos_machine.specs.World.{coord_at, with_coord, written, prepared, finished, state_of};
+ghost use Rattle.eos_machine.specs.World.{coord_at, with_coord, said_entry, recorded, prepared, state_of};
 ghost use Rattle.eos_machine.specs.Tests.{has, is_current, ongoing_partitions};
 ghost use Rattle.eos_machine.specs.Deliveries.{without, ticked_off};
 ghost use Rattle.eos_machine.specs.Machine.{with_coordinators};
@@ -15,7 +14,7 @@ use crate::answers::{is_ongoing, is_prepare};
 use crate::copies;
 use crate::places::txn_place;
 use eos_batch::Kind;
-use eos_machine::{Coordinator, Entry, Item, Places, Status};
+use eos_machine::{Coordinator, Entry, Item, Places, Status, Switches};
 use std::alloc::AllocError;
 
 /// A record of the transaction log, and the state that it leaves.
@@ -25,25 +24,17 @@ pub struct Step {
     pub state: Coordinator,
 }
 
-/// A record with these parts, and the state that it leaves.
-pub fn step_of(status: Status, epoch: u16, partitions: Places) -> Result<Step, AllocError>
-    ensures { IfOk result (λ s. (s.entry ≡ record { status = status; epoch = epoch; partitions = partitions }) × (s.state ≡ state_of s.entry)) }
+/// The state that a record with these parts leaves.
+pub fn state_of(status: Status, epoch: u16, partitions: Places) -> Result<Coordinator, AllocError>
+    ensures { IfOk result (λ s. s ≡ state_of (record { status = status; epoch = epoch; partitions = partitions })) }
 {
-    let listed = copies::copy(&partitions)?;
     let awaited = copies::copy(&partitions)?;
-    Ok(Step {
-        entry: Entry {
-            status,
-            epoch,
-            partitions,
-        },
-        state: Coordinator {
-            started: true,
-            status,
-            epoch,
-            partitions: listed,
-            awaited,
-        },
+    Ok(Coordinator {
+        started: true,
+        status,
+        epoch,
+        partitions,
+        awaited,
     })
 }
 
@@ -152,11 +143,33 @@ impl Store {
         }
     }
 
+    /// A record with these parts, as the switches let it say them, and the state that it should leave.
+    pub fn step_of(
+        &self,
+        switches: Switches,
+        status: Status,
+        epoch: u16,
+        partitions: Places,
+    ) -> Result<Step, AllocError>
+        ensures entry { IfOk result (λ s. s.entry ≡ said_entry switches self.now.config (record { status = status; epoch = epoch; partitions = partitions })) }
+        ensures state { IfOk result (λ s. s.state ≡ state_of (record { status = status; epoch = epoch; partitions = partitions })) }
+    {
+        let said = copies::said(self.alloc, switches, self.config, &partitions)?;
+        let state = state_of(status, epoch, partitions)?;
+        Ok(Step {
+            entry: Entry {
+                status,
+                epoch,
+                partitions: said,
+            },
+            state,
+        })
+    }
+
     /// Writes a record and takes its state.
     pub fn write(&mut self, application: usize, step: Step)
-        requires room { 1 ≤ self.old.spare }
-        requires state { step.state ≡ state_of step.entry }
-        ensures { self.new ≡ becomes self.old (written self.old.config self.old.world application step.entry) 1 }
+        requires { 1 ≤ self.old.spare }
+        ensures { self.new ≡ becomes self.old (recorded self.old.config self.old.world application step.entry step.state) 1 }
     {
         let place = txn_place(self.config(), application);
         let event = self.events();
@@ -175,31 +188,22 @@ impl Store {
     /// Decides a transaction with these partitions, and queues its end markers.
     pub fn prepare(
         &mut self,
+        switches: Switches,
         application: usize,
         kind: Kind,
         partitions: Places,
     ) -> Result<(), AllocError>
         requires room { length partitions + 1 ≤ self.old.spare }
         requires epoch { (coord_at self.old.world application).epoch ≤ 32767 }
-        ensures ok { OnOk result (self.new ≡ becomes self.old (prepared self.old.config self.old.world application kind partitions) (length partitions + 1)) }
+        ensures ok { OnOk result (self.new ≡ becomes self.old (prepared switches self.old.config self.old.world application kind partitions) (length partitions + 1)) }
         ensures err { OnErr result (self.new ≡ self.old) }
     {
         let epoch = self.epoch(application) + 1;
         let listed = copies::copy(&partitions)?;
-        let step = step_of(Status::Prepare(kind), epoch, partitions)?;
+        let step = self.step_of(switches, Status::Prepare(kind), epoch, partitions)?;
         self.write(application, step);
         self.queue_markers(application, epoch, kind, listed.as_slice());
         Ok(())
-    }
-
-    /// Completes a transaction by a record that was made before.
-    pub fn finish(&mut self, application: usize, _kind: Kind, step: Step)
-        requires room { 1 ≤ self.old.spare }
-        requires state { step.state ≡ state_of step.entry }
-        requires entry { step.entry ≡ record { status = Complete _kind; epoch = (coord_at self.old.world application).epoch; partitions = [] } }
-        ensures { self.new ≡ becomes self.old (finished self.old.config self.old.world application _kind) 1 }
-    {
-        self.write(application, step);
     }
 
     pub fn replace_coordinators(&mut self, states: Vec<Coordinator>)

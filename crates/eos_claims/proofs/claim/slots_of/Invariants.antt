@@ -1,5 +1,5 @@
 use Rattle.std.proofs.Common.{◌≡◌, fold, take}
-use Rattle.eos_claims.specs.Slots.{keep, blank, plain_slots}
+use Rattle.eos_claims.specs.steps.Slots.{keep, blank, plain_slots}
 use Rattle.eos_claims.proofs.claim.slots_of.Given as goal
 
 abbrev pub invariant-loop-header : goal.invariant-loop-header

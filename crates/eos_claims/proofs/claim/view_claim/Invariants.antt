@@ -1,5 +1,5 @@
 use Rattle.std.proofs.Common.{◌≡◌, fold, length}
-use Rattle.eos_claims.specs.Slots.{keep, blank, plain_slots}
+use Rattle.eos_claims.specs.steps.Slots.{keep, blank, plain_slots}
 use Rattle.eos_claims.proofs.claim.view_claim.Given as goal
 
 -- what is left to keep

@@ -1,8 +1,7 @@
-use Rattle.std.proofs.Common.{◌≡◌, ap, ◌∙◌, map, take, List, arith}
+use Rattle.std.proofs.Common.{◌≡◌, ap, ◌∙◌, take, List, arith}
 use Rattle.std.proofs.lemmas.List.{take_all}
 use Rattle.eos_items.specs.Batches.{DataBatch}
-use Rattle.eos_summary.specs.Closes.{closes_in}
-use Rattle.eos_fold.specs.Whole.{as_close}
+use Rattle.eos_fold.specs.Closes.{closes_in}
 use Rattle.eos_fold.proofs.ClosesOnce.{close_more}
 use Rattle.eos_fold.proofs.close.list_closes.Goals as goal
 
@@ -13,4 +12,4 @@ pub returns : goal.returns
 returns c =
     let bs = c.args.index.now.batches in
     let all : take c.loop-i.i bs ≡ bs = take_all c.loop-i.i bs (let l = c.len-i-end.ensures in let m = c.loop-i-test.false in omega (arith, l, m)) in
-    c.loop-i.invariant ∙ ap (λ (xs : List DataBatch). map as_close (closes_in xs)) all
+    c.loop-i.invariant ∙ ap (λ (xs : List DataBatch). closes_in xs) all

@@ -1,6 +1,6 @@
 use Rattle.std.proofs.Common.{◌≡◌, ◌≤◌, ◌-◌, List, length}
 use Rattle.eos_batch.specs.declared.batch.Batch.{Batch}
-use Rattle.eos_fold.specs.Sums.{HasWalked}
+use Rattle.eos_fold.specs.steps.Sums.{HasWalked}
 use Rattle.eos_fold.proofs.summary.walk.Given as goal
 
 abbrev pub invariant-loop-at : goal.invariant-loop-at

@@ -1,6 +1,7 @@
 use Rattle.std.proofs.Common.{sym, subst, Option}
 use Rattle.eos_fold.specs.Sums.{NamedView}
-use Rattle.eos_fold.specs.Whole.{segments_in, IsWhole}
+use Rattle.eos_fold.specs.Whole.{segments_in}
+use Rattle.eos_fold.specs.steps.Whole.{IsWhole}
 use Rattle.eos_fold.proofs.SteadyFronts.{begins_elsewhere}
 use Rattle.eos_fold.proofs.whole.of_all.Goals as goal
 

@@ -1,8 +1,8 @@
 use Rattle.std.proofs.Common.{◌≡◌, ◌∙◌, ℕ, Some, None, length, ap, subst, arith, rules}
 use Rattle.std.specs.Prelude.{if◌then◌else◌}
 use Rattle.eos_items.specs.declared.entry.Ending.TheVariants.{Plain, Waiting}
-use Rattle.eos_items.specs.declared.head.BatchHead.{BatchHead}
-use Rattle.eos_items.specs.Indexed.{IsIndexed}
+use Rattle.eos_batch.specs.declared.head.BatchHead.{BatchHead}
+use Rattle.eos_items.specs.steps.Indexed.{IsIndexed}
 use Rattle.eos_items.proofs.SegmentEntries.{few_batches}
 use Rattle.eos_items.proofs.ReadBatches.{IsSourceOf, read_data, read_control}
 use Rattle.eos_items.proofs.segment.read_batch.Goals as goal

@@ -5,7 +5,7 @@ use Rattle.eos_batch.specs.Reading.{records_at}
 use Rattle.eos_batch.proofs.ReadLoops.{record_goes_on, record_ends, records_done}
 use Rattle.eos_batch.proofs.RecordPlaces.{with_none}
 use Rattle.eos_items.specs.declared.entry.Entry.{Entry}
-use Rattle.eos_items.specs.Indexed.{IsEntryOf}
+use Rattle.eos_items.specs.steps.Indexed.{IsEntryOf}
 use Rattle.eos_batch.proofs.PassedRecords.{fails_records, trails, ends}
 use Rattle.eos_items.proofs.PushedEntries.{one_more}
 use Rattle.eos_items.proofs.walk.push_entries.Goals as goal

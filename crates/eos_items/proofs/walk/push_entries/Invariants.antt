@@ -3,7 +3,7 @@ use Rattle.eos_batch.specs.declared.record.Record.{Record}
 use Rattle.eos_batch.specs.Reading.{records_at}
 use Rattle.eos_batch.proofs.ReadLoops.{with_front}
 use Rattle.eos_items.specs.declared.entry.Entry.{Entry}
-use Rattle.eos_items.specs.Indexed.{AreEntriesOf}
+use Rattle.eos_items.specs.steps.Indexed.{AreEntriesOf}
 use Rattle.eos_items.proofs.walk.push_entries.Given as goal
 
 abbrev pub invariant-loop-place : goal.invariant-loop-place

@@ -6,13 +6,12 @@ use Rattle.std.specs.BTreeMap.{get}
 use Rattle.std.proofs.lemmas.Int.{to_z-of_z}
 use Rattle.std.proofs.lemmas.List.{take-append-drop, length-take}
 use mir.Val.{SFits}
-use Rattle.eos_items.specs.declared.head.BatchHead.{BatchHead}
+use Rattle.eos_batch.specs.declared.head.BatchHead.{BatchHead}
 use Rattle.eos_items.specs.Batches.{DataBatch}
-use Rattle.eos_summary.specs.Items.{items_of, waiting_in, settled}
+use Rattle.eos_summary.specs.Settling.{waiting_in, settled}
 use Rattle.eos_summary.specs.Summaries.{only}
 use Rattle.eos_summary.specs.Tables.{rest_alone, KeepsPlaces, IsReadyFor, ends_at}
 use Rattle.eos_summary.specs.Joins.{Took, IsTaking}
-use Rattle.eos_summary.specs.Touches.{head_of}
 use Rattle.eos_touch.specs.Touches as spec
 use Rattle.eos_summary.proofs.Waiting.{all_below}
 use Rattle.eos_summary.proofs.TouchKinds.{marks_no_data}
@@ -34,8 +33,8 @@ take_over-requires-clause-inside c =
     subst (λ (k : ℤ). All (λ q. q < length js) (ends_at t k).waiting.list) (sym key) here
 
 pub returns-clause-taken : goal.returns-clause-taken
-returns-clause-taken c = λ xs b size eh ed w.
-    let h = head_of b in
+returns-clause-taken c = λ xs b size eh right ed w.
+    let h = b in
     let p = c.in-Some.producer in
     let e = c.in_ok-ends.ends in
     let fits : SFits w64 c.in-Some.producer = search rules in
@@ -50,7 +49,7 @@ returns-clause-taken c = λ xs b size eh ed w.
     let o = ap (λ (x : BatchHead). x.offset) eh in
     let d = ap (λ (x : BatchHead). not x.is_control) eh in
     let are = are_of h _ p _ _ c.in-Some.touch e key o d c.in_ok-ends.ensures in
-    let begun = says c.args.sequenced xs h p c.in-Some.touch e t is c.args.fault.now said are places (takes_same c.args.sequenced xs _ t is c.args.fault.now same w) in
+    let begun = says c.args.sequenced xs h p c.in-Some.touch e t is c.args.fault.now right said are places (takes_same c.args.sequenced xs _ t is c.args.fault.now same w) in
     let number : length is ≡ c.args.by = let n = length-take c.args.by js in omega (arith, n, c.requires.within) in
     let present = subst (λ (k : ℤ). IsSome (get int_cmp t k)) key c.in_ok-make_room_for.ensures.present in
     let room = subst (λ (k : ℤ). length (ends_at c.args.producers.now k).waiting.list + c.len.result ≤ (ends_at t k).waiting.room) key c.in_ok-make_room_for.ensures.room in
@@ -58,16 +57,16 @@ returns-clause-taken c = λ xs b size eh ed w.
     let taking : IsTaking c.args.by t is (rest_alone p e) = alone_taking c.args.by t is p e ready places (short_fits h p c.in-Some.touch e c.args.by are c.ranges.by.fits) number in
     let none : IsSome e.marker → drop c.args.by js ≡ [] = λ s. ed ∙ marks_no_data b p c.in-Some.touch said (subst IsSome are.marker s) in
     let settled = c.take_over.ensures.items is (drop c.args.by js) split none (subst (λ (k : ℤ). (ends_at t k).waiting.list ≡ waiting_in k is) (sym key) (places p)) in
-    let out = map (Rattle.eos_summary.specs.Items.settled (only _ e.marker)) is in
+    let out = map (Rattle.eos_summary.specs.Settling.settled (only _ e.marker)) is in
     let step : Took c.args.by c.args.sequenced p e t is c.args.fault.now (rest_alone p e) c.take_over.new.producers out c.take_over.new.fault (λ _. None) =
     took c.args.by c.args.sequenced _ p e _ _ _ _ _ _ _ _ key (was_alone p e) (left_alone p e) c.take_over.ensures.joined c.take_over.ensures.others refl c.take_over.ensures.fault in
     (out, settled ∙ ap (λ (ds : List DataBatch). out ++ ds) ed, taken_step _ _ _ _ _ _ _ _ _ _ _ _ xs _ step taking (start xs _ c.args.sequenced _ _ _ _ begun))
 
 pub returns-in_default-clause-taken : goal.returns-in_default-clause-taken
-returns-in_default-clause-taken c = λ xs b size eh ed w.
+returns-in_default-clause-taken c = λ xs b size eh right ed w.
     let js = c.args.index.now.batches in
     let said = sym (c.touch_of.ensures b size eh) ∙ c.in_default.is in (
       take c.args.by js,
       sym (take-append-drop c.args.by js) ∙ ap (λ (ds : List DataBatch). take c.args.by js ++ ds) ed,
-      start xs _ c.args.sequenced _ _ _ _ (silent c.args.sequenced xs (head_of b) c.args.producers.now (take c.args.by js) c.args.fault.now said c.requires.places w),
+      start xs _ c.args.sequenced _ _ _ _ (silent c.args.sequenced xs b c.args.producers.now (take c.args.by js) c.args.fault.now right said c.requires.places w),
     )

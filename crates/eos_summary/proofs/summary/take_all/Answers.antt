@@ -10,7 +10,7 @@ use mir.Val.{SFits}
 use Rattle.eos_summary.specs.declared.ends.Ends.{Ends}
 use Rattle.std.specs.Prelude.{IsSome}
 use Rattle.eos_summary.specs.Tables.{ends_at, HasRoom}
-use Rattle.eos_summary.specs.Items.{waiting_in}
+use Rattle.eos_summary.specs.Settling.{waiting_in}
 use Rattle.eos_summary.specs.Joins.{Rest, Took, IsTaken, rest_of}
 use Rattle.eos_summary.proofs.TakingOver.{start, taking_step, taken_step, took, nothing_left}
 use Rattle.eos_summary.proofs.summary.take_all.Goals as goal

@@ -7,7 +7,7 @@ use Rattle.eos_base.specs.PartitionNames.{name_cmp}
 use Rattle.eos_table.specs.declared.key.NameRef.{NameRef}
 use Rattle.eos_table.specs.contracts.key.NameRefOrd.TheImpl.{ghosts as name_ghosts}
 use Rattle.eos_table.specs.MatchFaults.{rank}
-use Rattle.eos_table.specs.Keys.{plain_name}
+use Rattle.eos_table.specs.steps.Keys.{plain_name}
 use Rattle.eos_table.proofs.best.comes_after.Goals as goal
 
 joined : (a b k p q : Ordering) → p ≡ q → ordering_then (ordering_then (ordering_then a b) k) p ≡ ordering_then a (ordering_then b (ordering_then k q))

@@ -1,5 +1,5 @@
 use Rattle.std.proofs.Common.{take, subst}
-use Rattle.eos_table.specs.LogCandidates.{AreHomes, AreOwners}
+use Rattle.eos_table.specs.steps.LogCandidates.{AreHomes, AreOwners}
 use Rattle.eos_table.proofs.MarksMore.{passed_more, doubled_more}
 use Rattle.eos_table.proofs.doubled.least_doubled.Goals as goal
 

@@ -1,7 +1,7 @@
 use Rattle.std.proofs.Common.{◌≡◌, [], take, drop, fold}
 use Rattle.eos_base.specs.Least.{lesser_of}
 use Rattle.eos_table.specs.LogFaults.{log_cmp}
-use Rattle.eos_table.specs.LogCandidates.{AreHomes, AreOwners, doubled_after}
+use Rattle.eos_table.specs.steps.LogCandidates.{AreHomes, AreOwners, doubled_after}
 use Rattle.eos_table.proofs.doubled.least_doubled.Given as goal
 
 -- what is left to hold against those before

@@ -2,7 +2,7 @@ use Rattle.std.proofs.Common.{◌≡◌, [], ◌++◌, ◌∙◌, ap, sym, map, 
 use Rattle.std.proofs.lemmas.List.{append-nil}
 use Rattle.eos_txnlog.specs.declared.decision.Decision.{Decision}
 use Rattle.eos_txnlog.specs.PartitionSets.{names_of}
-use Rattle.eos_table.specs.Keys.{mine, plain_ended, ended_of}
+use Rattle.eos_table.specs.steps.Keys.{mine, plain_ended, ended_of}
 use Rattle.eos_table.proofs.FoldMore.{pushed_more}
 use Rattle.eos_table.proofs.key.ended_keys.Goals.{then-in_shard+in_ok-push_ended, else-in_shard}
 use Rattle.eos_table.proofs.key.ended_keys.Goals as goal

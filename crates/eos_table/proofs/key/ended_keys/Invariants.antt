@@ -1,5 +1,5 @@
 use Rattle.std.proofs.Common.{◌≡◌, take, map}
-use Rattle.eos_table.specs.Keys.{ended, plain_ended}
+use Rattle.eos_table.specs.steps.Keys.{ended, plain_ended}
 use Rattle.eos_table.proofs.key.ended_keys.Given as goal
 
 abbrev pub invariant-loop-decision : goal.invariant-loop-decision

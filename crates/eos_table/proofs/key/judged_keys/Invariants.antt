@@ -1,5 +1,5 @@
 use Rattle.std.proofs.Common.{◌≡◌, take}
-use Rattle.eos_table.specs.Keys.{judged}
+use Rattle.eos_table.specs.steps.Keys.{judged}
 use Rattle.eos_table.proofs.key.judged_keys.Given as goal
 
 abbrev pub invariant-loop-decision : goal.invariant-loop-decision

@@ -1,5 +1,5 @@
 use Rattle.std.proofs.Common.{◌≡◌, take, map}
-use Rattle.eos_table.specs.Keys.{listed, plain_listed}
+use Rattle.eos_table.specs.steps.Keys.{listed, plain_listed}
 use Rattle.eos_table.proofs.key.listed_keys.Given as goal
 
 abbrev pub invariant-loop-decision : goal.invariant-loop-decision

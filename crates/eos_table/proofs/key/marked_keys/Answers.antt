@@ -1,6 +1,6 @@
 use Rattle.std.proofs.Common.{map}
 use Rattle.eos_fold.specs.Parts.{part_name, PartLog}
-use Rattle.eos_table.specs.Keys.{plain_ended, marked_of}
+use Rattle.eos_table.specs.steps.Keys.{plain_ended, marked_of}
 use Rattle.eos_table.proofs.FoldMore.{pushed_more}
 use Rattle.eos_table.proofs.key.marked_keys.Goals as goal
 

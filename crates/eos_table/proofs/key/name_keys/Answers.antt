@@ -2,7 +2,7 @@ use Rattle.std.proofs.Common.{List, [], ◌∷◌, ◌++◌, ◌∙◌, ap, map}
 use Rattle.std.proofs.lemmas.List.{map-append}
 use Rattle.eos_fold.specs.Parts.{part_name}
 use Rattle.eos_table.specs.declared.key.NameRef.{NameRef}
-use Rattle.eos_table.specs.Keys.{plain_name}
+use Rattle.eos_table.specs.steps.Keys.{plain_name}
 use Rattle.eos_table.proofs.FoldMore.{mapped_more}
 use Rattle.eos_table.proofs.key.name_keys.Goals as goal
 

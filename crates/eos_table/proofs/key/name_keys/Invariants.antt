@@ -1,5 +1,5 @@
 use Rattle.std.proofs.Common.{◌≡◌, take, map}
-use Rattle.eos_table.specs.Keys.{plain_name, names}
+use Rattle.eos_table.specs.steps.Keys.{plain_name, names}
 use Rattle.eos_table.proofs.key.name_keys.Given as goal
 
 abbrev pub invariant-loop-part : goal.invariant-loop-part

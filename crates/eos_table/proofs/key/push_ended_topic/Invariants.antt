@@ -1,5 +1,5 @@
 use Rattle.std.proofs.Common.{◌≡◌, ◌++◌, take, map}
-use Rattle.eos_table.specs.Keys.{plain_ended, ended_of}
+use Rattle.eos_table.specs.steps.Keys.{plain_ended, ended_of}
 use Rattle.eos_table.proofs.key.push_ended_topic.Given as goal
 
 abbrev pub invariant-loop-partition : goal.invariant-loop-partition

@@ -1,6 +1,6 @@
 use Rattle.std.proofs.Common.{◌≡◌, ◌++◌, take, map}
 use Rattle.eos_txnlog.specs.PartitionSets.{names_of}
-use Rattle.eos_table.specs.Keys.{plain_listed, listed_of}
+use Rattle.eos_table.specs.steps.Keys.{plain_listed, listed_of}
 use Rattle.eos_table.proofs.key.push_listed.Given as goal
 
 abbrev pub invariant-loop-topic : goal.invariant-loop-topic

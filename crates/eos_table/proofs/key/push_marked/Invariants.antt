@@ -1,6 +1,6 @@
 use Rattle.std.proofs.Common.{◌≡◌, ◌++◌, take, map}
 use Rattle.eos_fold.specs.Parts.{part_name}
-use Rattle.eos_table.specs.Keys.{plain_ended, marked_of}
+use Rattle.eos_table.specs.steps.Keys.{plain_ended, marked_of}
 use Rattle.eos_table.proofs.key.push_marked.Given as goal
 
 abbrev pub invariant-loop-marker : goal.invariant-loop-marker

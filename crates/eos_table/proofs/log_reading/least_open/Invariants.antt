@@ -2,7 +2,7 @@ use Rattle.std.proofs.Common.{◌≡◌, take, fold}
 use Rattle.std.specs.List.{flat_map}
 use Rattle.eos_base.specs.Least.{lesser_of}
 use Rattle.eos_table.specs.LogFaults.{log_cmp}
-use Rattle.eos_table.specs.LogCandidates.{open_at, state_of}
+use Rattle.eos_table.specs.steps.LogCandidates.{open_at, state_of}
 use Rattle.eos_table.proofs.log_reading.least_open.Given as goal
 
 abbrev pub invariant-loop-mark : goal.invariant-loop-mark

@@ -1,5 +1,5 @@
 use Rattle.std.proofs.Common.{◌≢◌, ◌<◌, ◌+◌, ℕ}
-use Rattle.eos_table.specs.Candidates.{pair_at}
+use Rattle.eos_table.specs.steps.Candidates.{pair_at}
 use Rattle.eos_table.proofs.look.first_twice.Given as goal
 
 abbrev pub invariant-loop-i : goal.invariant-loop-i

@@ -1,6 +1,6 @@
 use Rattle.std.proofs.Common.{map, subst, IsPermutation}
 use Rattle.std.proofs.lemmas.List.Sorted.{IsPermutation-map}
-use Rattle.eos_table.specs.Keys.{plain_ended}
+use Rattle.eos_table.specs.steps.Keys.{plain_ended}
 use Rattle.eos_table.proofs.ordered.ended_in_order.Goals as goal
 
 pub returns-clause-same : goal.returns-clause-same

@@ -1,6 +1,6 @@
 use Rattle.std.proofs.Common.{map, subst, IsPermutation}
 use Rattle.std.proofs.lemmas.List.Sorted.{IsPermutation-map}
-use Rattle.eos_table.specs.Keys.{plain_listed}
+use Rattle.eos_table.specs.steps.Keys.{plain_listed}
 use Rattle.eos_table.proofs.ordered.listed_in_order.Goals as goal
 
 pub returns-clause-same : goal.returns-clause-same

@@ -5,8 +5,8 @@ use Rattle.eos_batch.specs.declared.marker.Kind.TheVariants.{Commit}
 use Rattle.eos_fold.specs.declared.close.Close.{Close}
 use Rattle.eos_fold.specs.Parts.{part_name}
 use Rattle.eos_table.specs.MatchFaults.{fault_cmp}
-use Rattle.eos_table.specs.Keys.{plain_listed}
-use Rattle.eos_table.specs.Candidates.{plain, faults_at_close}
+use Rattle.eos_table.specs.steps.Keys.{plain_listed}
+use Rattle.eos_table.specs.steps.Candidates.{plain, faults_at_close}
 use Rattle.eos_table.proofs.FoldMore.{folded_at}
 use Rattle.eos_table.proofs.pass.closes_of_part.Goals as goal
 

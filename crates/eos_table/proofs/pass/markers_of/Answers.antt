@@ -2,8 +2,8 @@ use Rattle.std.proofs.Common.{option_map, map}
 use Rattle.eos_base.specs.Least.{lesser_of}
 use Rattle.eos_fold.specs.Parts.{part_name, PartLog}
 use Rattle.eos_table.specs.MatchFaults.{fault_cmp}
-use Rattle.eos_table.specs.Keys.{plain_ended}
-use Rattle.eos_table.specs.Candidates.{plain, marker_faults}
+use Rattle.eos_table.specs.steps.Keys.{plain_ended}
+use Rattle.eos_table.specs.steps.Candidates.{plain, marker_faults}
 use Rattle.eos_table.proofs.FoldMore.{folded_more}
 use Rattle.eos_table.proofs.pass.markers_of.Goals as goal
 

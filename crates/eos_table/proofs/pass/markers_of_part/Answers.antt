@@ -5,8 +5,8 @@ use Rattle.eos_batch.specs.declared.marker.Kind.TheVariants.{Commit}
 use Rattle.eos_batch.specs.declared.marker.Marker.{Marker}
 use Rattle.eos_fold.specs.Parts.{part_name}
 use Rattle.eos_table.specs.MatchFaults.{fault_cmp}
-use Rattle.eos_table.specs.Keys.{plain_ended}
-use Rattle.eos_table.specs.Candidates.{plain, faults_at_marker}
+use Rattle.eos_table.specs.steps.Keys.{plain_ended}
+use Rattle.eos_table.specs.steps.Candidates.{plain, faults_at_marker}
 use Rattle.eos_table.proofs.FoldMore.{folded_at}
 use Rattle.eos_table.proofs.pass.markers_of_part.Goals as goal
 

@@ -4,8 +4,8 @@ use Rattle.eos_txnlog.specs.declared.decision.Decision.{Decision}
 use Rattle.eos_txnlog.specs.PartitionSets.{names_of}
 use Rattle.eos_table.specs.declared.best.Found.{Found}
 use Rattle.eos_table.specs.MatchFaults.{fault_cmp}
-use Rattle.eos_table.specs.Keys.{mine, plain_name, plain_ended}
-use Rattle.eos_table.specs.Candidates.{plain, name_faults}
+use Rattle.eos_table.specs.steps.Keys.{mine, plain_name, plain_ended}
+use Rattle.eos_table.specs.steps.Candidates.{plain, name_faults}
 use Rattle.eos_table.proofs.FoldMore.{folded_more}
 use Rattle.eos_table.proofs.pass.names_of.Goals.{then-in_shard, else-in_shard}
 use Rattle.eos_table.proofs.pass.names_of.Goals as goal

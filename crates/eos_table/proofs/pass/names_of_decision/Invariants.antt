@@ -2,8 +2,8 @@ use Rattle.std.proofs.Common.{◌≡◌, option_map, fold, take, map}
 use Rattle.eos_base.specs.Least.{lesser_of}
 use Rattle.eos_txnlog.specs.PartitionSets.{names_of}
 use Rattle.eos_table.specs.MatchFaults.{fault_cmp}
-use Rattle.eos_table.specs.Keys.{plain_name, plain_ended}
-use Rattle.eos_table.specs.Candidates.{plain, name_faults}
+use Rattle.eos_table.specs.steps.Keys.{plain_name, plain_ended}
+use Rattle.eos_table.specs.steps.Candidates.{plain, name_faults}
 use Rattle.eos_table.proofs.pass.names_of_decision.Given as goal
 
 abbrev pub invariant-loop-topic : goal.invariant-loop-topic

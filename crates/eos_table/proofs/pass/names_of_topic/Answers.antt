@@ -2,10 +2,10 @@ use Rattle.std.proofs.Common.{◌≡◌, ◌∙◌, ◌<◌, ℕ, ℤ, pos, List
 use Rattle.std.proofs.lemmas.Grind.{common_steps}
 use Rattle.std.proofs.lemmas.List.Folds.{flat_map-map}
 use Rattle.eos_base.specs.declared.partition_name.PartitionName.{PartitionName}
-use Rattle.eos_table.specs.Keys.{plain_name, plain_ended}
+use Rattle.eos_table.specs.steps.Keys.{plain_name, plain_ended}
 use Rattle.eos_base.specs.Least.{lesser_of}
 use Rattle.eos_table.specs.MatchFaults.{fault_cmp}
-use Rattle.eos_table.specs.Candidates.{plain, faults_at_name}
+use Rattle.eos_table.specs.steps.Candidates.{plain, faults_at_name}
 use Rattle.eos_table.proofs.FoldMore.{fold_more}
 use Rattle.eos_table.proofs.pass.names_of_topic.Goals as goal
 

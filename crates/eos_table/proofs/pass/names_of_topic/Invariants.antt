@@ -2,8 +2,8 @@ use Rattle.std.proofs.Common.{◌≡◌, option_map, fold, take, map}
 use Rattle.std.specs.List.{flat_map}
 use Rattle.eos_base.specs.Least.{lesser_of}
 use Rattle.eos_table.specs.MatchFaults.{fault_cmp}
-use Rattle.eos_table.specs.Keys.{plain_name, plain_ended}
-use Rattle.eos_table.specs.Candidates.{plain, faults_at_name}
+use Rattle.eos_table.specs.steps.Keys.{plain_name, plain_ended}
+use Rattle.eos_table.specs.steps.Candidates.{plain, faults_at_name}
 use Rattle.eos_table.proofs.pass.names_of_topic.Given as goal
 
 abbrev pub invariant-loop-partition : goal.invariant-loop-partition

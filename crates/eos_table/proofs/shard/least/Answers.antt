@@ -2,9 +2,9 @@ use Rattle.std.proofs.Common.{List, map, subst, sym, option_map, IsPermutation, 
 use Rattle.eos_table.specs.declared.key.NameRef.{NameRef}
 use Rattle.eos_table.specs.declared.key.Listed.{Listed}
 use Rattle.eos_table.specs.declared.key.Ended.{Ended}
-use Rattle.eos_table.specs.Keys.{decided, judged, listed, ended, marked, names, plain_name, plain_listed, plain_ended, pair_cmp, by_listed, by_ended, by_name}
+use Rattle.eos_table.specs.steps.Keys.{decided, judged, listed, ended, marked, names, plain_name, plain_listed, plain_ended, pair_cmp, by_listed, by_ended, by_name}
 use Rattle.eos_fold.specs.Closes.{close_cmp}
-use Rattle.eos_table.specs.Candidates.{plain}
+use Rattle.eos_table.specs.steps.Candidates.{plain}
 use Rattle.eos_table.proofs.KeyExact.{finds_pairs, finds_closes, finds_listed, finds_ended, finds_names}
 use Rattle.eos_table.proofs.MatchSound.{AreKeys}
 use Rattle.eos_table.proofs.ShardAnswer.{joined}

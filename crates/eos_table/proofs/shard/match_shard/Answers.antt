@@ -1,5 +1,5 @@
 use Rattle.std.proofs.Common.{option_map, None, subst}
-use Rattle.eos_table.specs.Candidates.{plain}
+use Rattle.eos_table.specs.steps.Candidates.{plain}
 use Rattle.eos_table.specs.Shards.{IsAnswer}
 use Rattle.eos_table.proofs.shard.match_shard.Goals as goal
 

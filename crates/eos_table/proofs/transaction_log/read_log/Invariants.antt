@@ -1,7 +1,7 @@
 use Rattle.std.proofs.Common.{◌≡◌, drop}
 use Rattle.std.specs.List.{flat_map}
 use Rattle.eos_table.specs.TransactionLog.{transaction_parts, all_steps}
-use Rattle.eos_table.specs.LogCandidates.{after, unread, part_faults}
+use Rattle.eos_table.specs.steps.LogCandidates.{after, unread, part_faults}
 use Rattle.eos_table.proofs.transaction_log.read_log.Given as goal
 
 -- what is left to read

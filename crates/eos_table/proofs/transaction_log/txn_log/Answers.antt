@@ -2,7 +2,7 @@ use Rattle.std.proofs.Common.{[], subst, ap, ◌∙◌, fold}
 use Rattle.eos_base.specs.Least.{IsLeastOrNone, lesser_of}
 use Rattle.eos_table.specs.TransactionLog.{transaction_parts}
 use Rattle.eos_table.specs.LogFaults.{Stands, log_cmp}
-use Rattle.eos_table.specs.LogCandidates.{LogRead, doubled_after}
+use Rattle.eos_table.specs.steps.LogCandidates.{LogRead, doubled_after}
 use Rattle.eos_table.proofs.LogGathered.{read_answer}
 use Rattle.eos_table.proofs.transaction_log.txn_log.Goals as goal
 

@@ -1,11 +1,11 @@
-use Rattle.std.proofs.Common.{rules, refl, ap, subst, map, ◌∙◌, w32, w64}
+use Rattle.std.proofs.Common.{rules, refl, ap, subst, ◌∙◌, w32, w64}
 use Rattle.std.proofs.lemmas.Int.{to_z-of_z}
 use mir.Val.{SFits}
 use Rattle.eos_fold.proofs.PartsMade.{begins_in, rise, part_of, fault_as}
 use Rattle.eos_items.specs.Items.{items_of}
 use Rattle.eos_items.specs.Views.{LogView}
-use Rattle.eos_summary.specs.Closes.{closes_in}
-use Rattle.eos_fold.specs.Whole.{segments_in, as_close, AreCloses}
+use Rattle.eos_fold.specs.Closes.{closes_in}
+use Rattle.eos_fold.specs.Whole.{segments_in, AreCloses}
 use Rattle.eos_fold.proofs.part.Part.new.Goals as goal
 
 pub of_all-summary-requires : goal.of_all-summary-requires
@@ -25,4 +25,4 @@ returns c =
     let segments = segments_in c.args.run in
     let fault = fault_as c.args.topic c.in_ok-clone.field-0 c.args.partition _ c.args.end _ s c.least_fault-fault.result c.in_ok-clone.ensures.cases number end c.least_fault-fault.ensures segments w in
     part_of c.args.topic c.args.partition c.args.end segments s w _ refl number end fault (c.new.ensures ∙ ap (λ (x : LogView). items_of x.batches) c.into_index-index.ensures) refl
-    (subst (λ (x : LogView). AreCloses (map as_close (closes_in x.batches)) c.in_ok-closes.closes.items) c.into_index-index.ensures c.in_ok-closes.ensures)
+    (subst (λ (x : LogView). AreCloses (closes_in x.batches) c.in_ok-closes.closes.items) c.into_index-index.ensures c.in_ok-closes.ensures)

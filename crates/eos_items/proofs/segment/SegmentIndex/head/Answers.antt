@@ -1,7 +1,7 @@
 use Rattle.std.proofs.Common.{◌∙◌, length, refl, sym, ap}
 use Rattle.std.proofs.lemmas.Option.{slice_get_read}
 use Rattle.std.specs.List.{slice_get}
-use Rattle.eos_items.specs.Entries.{batch_in}
+use Rattle.eos_items.specs.steps.Entries.{batch_in}
 use Rattle.eos_items.specs.Views.{SegmentView}
 use Rattle.eos_items.proofs.SegmentEntries.{source_at, batch_at_place}
 use Rattle.eos_items.proofs.segment.SegmentIndex.head.Goals as goal

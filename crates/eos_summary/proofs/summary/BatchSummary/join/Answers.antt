@@ -1,5 +1,5 @@
 use Rattle.std.proofs.Common.{ap, sym, ◌∙◌}
-use Rattle.eos_summary.specs.Items.{waiting_in}
+use Rattle.eos_summary.specs.Settling.{waiting_in}
 use Rattle.eos_summary.proofs.TableWrites.{ok_of}
 use Rattle.eos_summary.proofs.JoinedSummaries.{can_take, same_summary}
 use Rattle.eos_summary.proofs.summary.BatchSummary.join.Goals as goal

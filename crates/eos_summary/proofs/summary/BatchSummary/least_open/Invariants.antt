@@ -1,5 +1,5 @@
 use Rattle.std.proofs.Common.{List}
-use Rattle.eos_summary.specs.Heads.{Head}
+use Rattle.eos_batch.specs.declared.batch.Batch.{Batch}
 use Rattle.eos_summary.specs.Summaries.{IsSummary}
 use Rattle.eos_summary.proofs.Judged.{AreFound, OpenSoFar, IsOpenIn, IsIdSoFar}
 use Rattle.eos_summary.proofs.summary.BatchSummary.least_open.Given as goal
@@ -7,5 +7,5 @@ use Rattle.eos_summary.proofs.summary.BatchSummary.least_open.Given as goal
 abbrev pub invariant-loop-producer : goal.invariant-loop-producer
 invariant-loop-producer l = record {
   found : AreFound l.self.producers l.rest;
-  judged : (hs : List Head) → IsSummary hs l.self → IsIdSoFar (OpenSoFar l.self.producers l.rest) (IsOpenIn hs) l.least;
+  judged : (hs : List Batch) → IsSummary hs l.self → IsIdSoFar (OpenSoFar l.self.producers l.rest) (IsOpenIn hs) l.least;
 }

@@ -1,9 +1,8 @@
 use Rattle.std.proofs.Common.{◌≡◌, ◌++◌, ◌∷◌, [], List, take, drop, refl, ap, sym, ◌∙◌}
 use Rattle.std.proofs.lemmas.List.{take_at, drop_at}
 use Rattle.eos_items.specs.Batches.{DataBatch}
-use Rattle.eos_summary.specs.Items.{items_of}
+use Rattle.eos_summary.specs.Settling.{data_in}
 use Rattle.eos_summary.specs.Joins.{TakesFrom}
-use Rattle.eos_summary.specs.Touches.{head_of}
 use Rattle.eos_summary.proofs.TouchKinds.{data_is}
 use Rattle.eos_summary.proofs.OneBatch.{pushed}
 use Rattle.eos_summary.proofs.summary.BatchSummary.read.Goals as goal
@@ -20,12 +19,12 @@ returns-clause-ok c =
       head_is = r.head_is;
       takes = λ eq right. record {
         known = λ xs p.
-            let s : c.read.new.self.batches ≡ old ++ items_of (head_of b ∷ []) = (r.taken eq).0 ∙ ap (λ (ds : List DataBatch). old ++ ds) (data_is b right) in
-            let front : take by c.read.new.self.batches ≡ old = ap (take by) s ∙ take_at old (items_of (head_of b ∷ [])) by (sym c.len-by.ensures) in
-            let rest : drop by c.read.new.self.batches ≡ items_of (head_of b ∷ []) = ap (drop by) s ∙ drop_at old (items_of (head_of b ∷ [])) by (sym c.len-by.ensures) in
+            let s : c.read.new.self.batches ≡ old ++ data_in (b ∷ []) = (r.taken eq).0 ∙ ap (λ (ds : List DataBatch). old ++ ds) (data_is b) in
+            let front : take by c.read.new.self.batches ≡ old = ap (take by) s ∙ take_at old (data_in (b ∷ [])) by (sym c.len-by.ensures) in
+            let rest : drop by c.read.new.self.batches ≡ data_in (b ∷ []) = ap (drop by) s ∙ drop_at old (data_in (b ∷ [])) by (sym c.len-by.ensures) in
             let w : TakesFrom c.args.self.now.sequenced xs c.args.self.now.producers (take by c.read.new.self.batches) c.args.self.now.fault = record { ends = p.ends; items = front ∙ p.items; fault = p.fault } in
-            let taken = c.in_ok-take_batch.ensures.taken xs b c.in_ok-head.head.size r.head_is rest w in
-            pushed xs (head_of b) c.args.self.now _ taken.0 p taken.2 refl taken.1;
+            let taken = c.in_ok-take_batch.ensures.taken xs b c.in_ok-head.head.size r.head_is right rest w in
+            pushed xs b c.args.self.now _ taken.0 p taken.2 refl taken.1;
         rest = c.take_batch.ensures.rest ∙ (r.taken eq).1;
       };
       leaves = λ ne. absurd (ne c.if-head-next.false);

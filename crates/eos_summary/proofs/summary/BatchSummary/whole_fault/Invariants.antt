@@ -1,5 +1,5 @@
 use Rattle.std.proofs.Common.{List}
-use Rattle.eos_summary.specs.Heads.{Head}
+use Rattle.eos_batch.specs.declared.batch.Batch.{Batch}
 use Rattle.eos_summary.specs.Summaries.{IsSummary}
 use Rattle.eos_summary.specs.Whole.{StandsInWhole}
 use Rattle.eos_summary.proofs.Judged.{AreFound, Judged, IsLeastSoFar}
@@ -8,5 +8,5 @@ use Rattle.eos_summary.proofs.summary.BatchSummary.whole_fault.Given as goal
 abbrev pub invariant-loop-producer : goal.invariant-loop-producer
 invariant-loop-producer l = record {
   found : AreFound l.self.producers l.rest;
-  judged : (hs : List Head) → IsSummary hs l.self → IsLeastSoFar (Judged l.self.sequenced hs l.self.producers l.rest) (StandsInWhole l.self.sequenced hs) l.fault;
+  judged : (hs : List Batch) → IsSummary hs l.self → IsLeastSoFar (Judged l.self.sequenced hs l.self.producers l.rest) (StandsInWhole l.self.sequenced hs) l.fault;
 }

@@ -1,5 +1,5 @@
 use Rattle.std.proofs.Common.{ap, ◌∙◌, length}
-use Rattle.eos_table.specs.LogCandidates.{LogRead, state_of}
+use Rattle.eos_table.specs.steps.LogCandidates.{LogRead, state_of}
 use Rattle.eos_table.proofs.LogSteps.{one_part, empty_state}
 use Rattle.eos_table.proofs.log_reading.LogReading.take_part.Goals as goal
 

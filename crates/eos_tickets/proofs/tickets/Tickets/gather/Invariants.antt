@@ -1,5 +1,6 @@
 use Rattle.std.proofs.Common.{◌≡◌, ◌<◌, length}
-use Rattle.eos_tickets.specs.Places.{drawn_of_all, open_seats}
+use Rattle.eos_tickets.specs.Places.{drawn_of_all}
+use Rattle.eos_tickets.specs.steps.Places.{open_seats}
 use Rattle.eos_tickets.proofs.tickets.Tickets.gather.Given as goal
 
 abbrev pub invariant-loop-seat : goal.invariant-loop-seat

@@ -1,0 +1,84 @@
+# bash completion of eoscheck; made by tools/pages.py.
+_eoscheck() {
+  local word=${COMP_WORDS[COMP_CWORD]} before=${COMP_WORDS[COMP_CWORD - 1]}
+  COMPREPLY=()
+  if [ "$COMP_CWORD" -eq 1 ]; then
+    mapfile -t COMPREPLY < <(compgen -W 'check dump chain explain init simulate help -h --help -V --version' -- "$word")
+    return
+  fi
+  case ${COMP_WORDS[1]} in
+  check)
+    case $before in
+    --workers)
+      mapfile -t COMPREPLY < <(compgen -W '' -- "$word")
+      return ;;
+    esac
+    case $word in
+    -*) mapfile -t COMPREPLY < <(compgen -W '--workers --json --quiet --progress -h --help' -- "$word") ;;
+    *) mapfile -t COMPREPLY < <(compgen -d -- "$word") ;;
+    esac ;;
+  dump)
+    case $before in
+    --as)
+      mapfile -t COMPREPLY < <(compgen -W 'outputs transactions offsets' -- "$word")
+      return ;;
+    --from)
+      mapfile -t COMPREPLY < <(compgen -W '' -- "$word")
+      return ;;
+    --to)
+      mapfile -t COMPREPLY < <(compgen -W '' -- "$word")
+      return ;;
+    esac
+    case $word in
+    -*) mapfile -t COMPREPLY < <(compgen -W '--headers --decode --as --from --to -h --help' -- "$word") ;;
+    *) mapfile -t COMPREPLY < <(compgen -f -- "$word") ;;
+    esac ;;
+  chain)
+    case $before in
+    esac
+    case $word in
+    -*) mapfile -t COMPREPLY < <(compgen -W '-h --help' -- "$word") ;;
+    *) mapfile -t COMPREPLY < <(compgen -f -- "$word") ;;
+    esac ;;
+  explain)
+    case $before in
+    --code)
+      mapfile -t COMPREPLY < <(compgen -W '' -- "$word")
+      return ;;
+    esac
+    case $word in
+    -*) mapfile -t COMPREPLY < <(compgen -W '--code -h --help' -- "$word") ;;
+    *) mapfile -t COMPREPLY < <(compgen -f -- "$word") ;;
+    esac ;;
+  init)
+    case $before in
+    --app)
+      mapfile -t COMPREPLY < <(compgen -W '' -- "$word")
+      return ;;
+    --ends)
+      mapfile -t COMPREPLY < <(compgen -f -- "$word")
+      return ;;
+    esac
+    case $word in
+    -*) mapfile -t COMPREPLY < <(compgen -W '--version1 --app --ends --ends-from-logs -h --help' -- "$word") ;;
+    *) mapfile -t COMPREPLY < <(compgen -d -- "$word") ;;
+    esac ;;
+  simulate)
+    case $before in
+    --seed)
+      mapfile -t COMPREPLY < <(compgen -W '' -- "$word")
+      return ;;
+    --events)
+      mapfile -t COMPREPLY < <(compgen -W '' -- "$word")
+      return ;;
+    --switch)
+      mapfile -t COMPREPLY < <(compgen -W 'keep-duplicates no-fence no-bump lose-marker swap-marker hide-listing ignore-generation' -- "$word")
+      return ;;
+    esac
+    case $word in
+    -*) mapfile -t COMPREPLY < <(compgen -W '--seed --events --switch -h --help' -- "$word") ;;
+    *) mapfile -t COMPREPLY < <(compgen -d -- "$word") ;;
+    esac ;;
+  esac
+}
+complete -o filenames -F _eoscheck eoscheck

@@ -1,4 +1,0 @@
-pub mod Runs
-pub mod PoolState
-pub mod PoolEvents
-pub mod steps

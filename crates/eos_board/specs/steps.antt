@@ -1,4 +1,0 @@
--- What only private functions promise: steps towards what the public calls say.
-pub mod RunPlaces
-pub mod Receipts
-pub mod PoolReady

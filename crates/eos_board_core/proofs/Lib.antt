@@ -1,0 +1,5 @@
+pub mod RunsJoined
+pub mod RunsStanding
+pub mod RunsKept
+pub mod SeamsKept
+pub mod PairsTaken

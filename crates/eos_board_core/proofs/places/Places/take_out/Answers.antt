@@ -1,0 +1,107 @@
+use Rattle.std.proofs.Common.{◌≡◌, ℕ, None, Some, List, Option, sym, ap, subst, ◌∙◌, arith}
+use Rattle.std.specs.Prelude.{slice_index_or}
+use Rattle.std.proofs.Math.ListN.{set}
+use Rattle.eos_base.specs.Members.{Has}
+use Rattle.eos_fold.specs.Sums.{NamedView}
+use Rattle.eos_board_core.specs.Runs.{PlacesView, placed}
+use Rattle.eos_board_core.specs.steps.RunPlaces.{StandsAt, AreSound, BeginsHere, IsMarked, standing}
+use Rattle.eos_board_core.proofs.RunsStanding.{read_at}
+use Rattle.eos_board_core.proofs.RunsKept.{stands_where, stands_within, none_is_some, removed_owned, removed_standing, begins_here}
+use Rattle.eos_board_core.proofs.SeamsKept.{joints_removed}
+use Rattle.eos_board_core.proofs.places.Places.take_out.Goals as goal
+
+pub index_mut-requires : goal.index_mut-requires
+index_mut-requires c =
+    let run = c.requires.0 in
+    let has : Has (standing c.self.inside.runs.items) run = subst (λ (v : PlacesView). Has v.runs run) (sym c.self.view_is) c.requires.1 in
+    let st = stands_where c.self.inside.pieces c.self.inside.runs.items c.self.inside.firsts.items c.args.first run c.self.invariant.0.owned has c.requires.2 in
+    omega (arith, stands_within c.self.inside.runs.items c.args.first run st, c.self.inside.runs.ok.0)
+
+pub unreachable-requires : goal.unreachable-requires
+unreachable-requires c =
+    let run = c.requires.0 in
+    let places = c.self.inside.runs.items in
+    let has : Has (standing places) run = subst (λ (v : PlacesView). Has v.runs run) (sym c.self.view_is) c.requires.1 in
+    let st : StandsAt places c.args.first run = stands_where c.self.inside.pieces places c.self.inside.firsts.items c.args.first run c.self.invariant.0.owned has c.requires.2 in
+    let read = read_at places c.args.first c.index_mut.result.now (stands_within places c.args.first run st) c.index_mut.ensures.value in
+    none_is_some run (sym c.in_default.is ∙ (c.take.ensures.value ∙ (sym read ∙ st)))
+
+-- the run that was taken stood there
+stood : (places : List (Option NamedView)) (first : ℕ) (run other : NamedView) (read taken : Option NamedView) → StandsAt places first other → read ≡ slice_index_or places first read
+    → taken ≡ read → taken ≡ Some run → StandsAt places first run
+stood places first run other read taken st value is some =
+    read_at places first read (stands_within places first other st) value ∙ (sym is ∙ some)
+
+pub mark-requires : goal.mark-requires
+mark-requires c =
+    let run = c.requires.0 in
+    let places = c.self.inside.runs.items in
+    let o = c.self.invariant.0.owned in
+    let has : Has (standing places) run = subst (λ (v : PlacesView). Has v.runs run) (sym c.self.view_is) c.requires.1 in
+    let st : StandsAt places c.args.first run = stands_where c.self.inside.pieces places c.self.inside.firsts.items c.args.first run o has c.requires.2 in
+    let at = stood places c.args.first c.in-Some.run' run c.index_mut.result.now c.take.result st c.index_mut.ensures.value c.take.ensures.value c.in-Some.is in
+    let home = o.home c.args.first c.in-Some.run' at in
+    let known = o.known c.args.first c.in-Some.run' at in record {
+      order = omega (arith, home, known.0, c.pieces-last.ensures.last);
+      known = omega (arith, known.1, o.firsts_len, c.self.inside.firsts.ok.0, c.pieces-last.ensures.last);
+    }
+
+pub invariant_of-self : goal.invariant_of-self
+invariant_of-self c =
+    let run = c.requires.0 in
+    let taken = c.in-Some.run' in
+    let places = c.self.inside.runs.items in
+    let firsts = c.self.inside.firsts.items in
+    let sound = c.self.invariant.0 in
+    let has : Has (standing places) run = subst (λ (v : PlacesView). Has v.runs run) (sym c.self.view_is) c.requires.1 in
+    let st : StandsAt places c.args.first run = stands_where c.self.inside.pieces places firsts c.args.first run sound.owned has c.requires.2 in
+    let at = stood places c.args.first taken run c.index_mut.result.now c.take.result st c.index_mut.ensures.value c.take.ensures.value c.in-Some.is in
+    let m : IsMarked c.args.first taken.last None firsts c.mark.new.firsts.items = subst (λ last. IsMarked c.args.first last None firsts c.mark.new.firsts.items) c.pieces-last.ensures.last c.mark.ensures in
+    let after : AreSound c.self.inside.pieces (set places c.args.first None) c.mark.new.firsts.items c.self.inside.seams.items c.self.inside.listed.items = record {
+      owned = removed_owned c.self.inside.pieces places firsts c.mark.new.firsts.items c.args.first taken sound.owned at m;
+      queued = sound.queued;
+      joints = joints_removed places c.self.inside.listed.items c.args.first (stands_within places c.args.first taken at) sound.joints;
+    } in
+    let inv = c.self.invariant in (
+      subst (λ v. AreSound c.self.inside.pieces (set places c.args.first v) c.mark.new.firsts.items c.self.inside.seams.items c.self.inside.listed.items) (sym c.take.ensures.after) after,
+      inv.1,
+      inv.2,
+      inv.3,
+    )
+
+pub returns-clause-first : goal.returns-clause-first
+returns-clause-first c =
+    let run = c.requires.0 in
+    let places = c.self.inside.runs.items in
+    let o = c.self.invariant.0.owned in
+    let has : Has (standing places) run = subst (λ (v : PlacesView). Has v.runs run) (sym c.self.view_is) c.requires.1 in
+    let st : StandsAt places c.args.first run = stands_where c.self.inside.pieces places c.self.inside.firsts.items c.args.first run o has c.requires.2 in
+    let at = stood places c.args.first c.in-Some.run' run c.index_mut.result.now c.take.result st c.index_mut.ensures.value c.take.ensures.value c.in-Some.is in
+    o.home c.args.first c.in-Some.run' at
+
+pub returns-clause-runs : goal.returns-clause-runs
+returns-clause-runs c =
+    let run = c.requires.0 in
+    let taken = c.in-Some.run' in
+    let places = c.self.inside.runs.items in
+    let firsts = c.self.inside.firsts.items in
+    let o = c.self.invariant.0.owned in
+    let has : Has (standing places) run = subst (λ (v : PlacesView). Has v.runs run) (sym c.self.view_is) c.requires.1 in
+    let st : StandsAt places c.args.first run = stands_where c.self.inside.pieces places firsts c.args.first run o has c.requires.2 in
+    let at = stood places c.args.first taken run c.index_mut.result.now c.take.result st c.index_mut.ensures.value c.take.ensures.value c.in-Some.is in
+    let m : IsMarked c.args.first taken.last None firsts c.mark.new.firsts.items = subst (λ last. IsMarked c.args.first last None firsts c.mark.new.firsts.items) c.pieces-last.ensures.last c.mark.ensures in
+    sym (ap (λ (v : PlacesView). v.runs) c.self.view_is)
+    ∙ (removed_standing c.self.inside.pieces places firsts c.mark.new.firsts.items c.args.first taken o at m
+    ∙ ap (λ v. placed taken (standing (set places c.args.first v))) (sym c.take.ensures.after))
+
+pub returns-clause-run : goal.returns-clause-run
+returns-clause-run c =
+    let run = c.requires.0 in
+    let taken = c.in-Some.run' in
+    let places = c.self.inside.runs.items in
+    let firsts = c.self.inside.firsts.items in
+    let o = c.self.invariant.0.owned in
+    let has : Has (standing places) run = subst (λ (v : PlacesView). Has v.runs run) (sym c.self.view_is) c.requires.1 in
+    let st : StandsAt places c.args.first run = stands_where c.self.inside.pieces places firsts c.args.first run o has c.requires.2 in
+    let at = stood places c.args.first taken run c.index_mut.result.now c.take.result st c.index_mut.ensures.value c.take.ensures.value c.in-Some.is in
+    subst (λ (v : PlacesView). BeginsHere v.runs c.args.first taken) c.self.view_is (begins_here c.self.inside.pieces places firsts c.args.first taken o at)

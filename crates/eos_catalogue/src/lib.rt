@@ -1,0 +1,12 @@
+//! The catalogue of faults: for each kind a page that says what it is, what it means, what makes it happen and what to look at.
+//!
+//! It is one table, from which `explain --code` and `docs/FAULTS.md` come.
+#![tactic(auto)]
+
+mod outputs;
+mod page;
+mod partitions;
+mod records;
+mod transactions;
+
+pub use page::{Page, page_of, page_text};

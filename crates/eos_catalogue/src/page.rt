@@ -1,0 +1,98 @@
+//! A page, and how it is found.
+
+ghost use Rattle.std.specs.Prelude.{◌≡◌, IfOk, IfSome, OnOk, codes, string_bytes};
+ghost use Rattle.eos_text.specs.Adding.{Adds};
+ghost use Rattle.eos_catalogue.specs.Pages.{title_text, section_text, sections_text, page_text};
+
+use crate::outputs::OUTPUTS;
+use crate::partitions::{LOGS, PRODUCERS};
+use crate::records::RECORDS;
+use crate::transactions::{DECISIONS, TRANSACTION_LOG};
+use eos_text::push_text;
+use std::alloc::{AllocError, Global};
+
+/// What is known of a kind of fault. Texts are lines of at most 78 columns, without a last line's end.
+#[derive(Clone, Copy)]
+pub struct Page {
+    /// Its phase, a dot, and its number in it, as a verdict's line has them.
+    pub code: &'static str,
+    /// Its name, as a verdict's line has it.
+    pub name: &'static str,
+    /// What stands in the logs.
+    pub says: &'static str,
+    /// What follows from that, and what doesn't.
+    pub means: &'static str,
+    /// What makes it happen, the likeliest first.
+    pub causes: &'static str,
+    /// What to look at next.
+    pub next: &'static str,
+}
+
+/// The page of the kind with this code, such as `5.10`.
+pub fn page_of(code: &str) -> Option<&'static Page>
+    ensures { IfSome result (λ page. page.now.code.now ≡ code.now) }
+{
+    for pages in [
+        LOGS.as_slice(),
+        PRODUCERS.as_slice(),
+        TRANSACTION_LOG.as_slice(),
+        DECISIONS.as_slice(),
+        RECORDS.as_slice(),
+        OUTPUTS.as_slice(),
+    ] {
+        for page in pages {
+            if page.code == code {
+                return Some(page);
+            }
+        }
+    }
+    None
+}
+
+/// A page as it is printed.
+///
+/// # Errors
+/// A growth of memory was refused.
+pub fn page_text(alloc: Global, page: &Page) -> Result<String, AllocError>
+    ensures { IfOk result (λ text. string_bytes text ≡ page_text page.now) }
+{
+    let mut out = String::new(alloc);
+    push_title(&mut out, page)?;
+    push_sections(&mut out, page)?;
+    Ok(out)
+}
+
+fn push_title(out: &mut String, page: &Page) -> Result<(), AllocError>
+    ensures { OnOk result (Adds (string_bytes out.old) (string_bytes out.new) (title_text page.now)) }
+{
+    push_text(out, page.code)?;
+    push_text(out, " ")?;
+    push_text(out, page.name)?;
+    push_text(out, "\n")?;
+    Ok(())
+}
+
+fn push_sections(out: &mut String, page: &Page) -> Result<(), AllocError>
+    ensures { OnOk result (Adds (string_bytes out.old) (string_bytes out.new) (sections_text page.now)) }
+{
+    push_section(out, "What it says", page.says)?;
+    push_section(out, "What it means", page.means)?;
+    push_section(
+        out,
+        "What makes it happen, the likeliest first",
+        page.causes,
+    )?;
+    push_section(out, "What to look at", page.next)?;
+    Ok(())
+}
+
+fn push_section(out: &mut String, heading: &str, lines: &str) -> Result<(), AllocError>
+    ensures { OnOk result (Adds (string_bytes out.old) (string_bytes out.new) (section_text heading.now lines.now)) }
+{
+    push_text(out, "\n")?;
+    push_text(out, heading)?;
+    push_text(out, "\n")?;
+    push_text(out, lines)?;
+    push_text(out, "\n")?;
+    Ok(())
+}

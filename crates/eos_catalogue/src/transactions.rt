@@ -1,0 +1,140 @@
+//! Phases 2 and 3: the transaction log, and its decisions against the partitions' logs.
+
+use crate::page::Page;
+
+/// Phase 2: the transaction log.
+pub(crate) static TRANSACTION_LOG: [Page; 5] = [
+    Page {
+        code: "2.1",
+        name: "BadRecord",
+        says: "A record of __transaction_state doesn't read: `record` names the first test
+that failed.",
+        means: "What the coordinator decided there isn't known.",
+        causes: "- A newer version of the record than 1 (record=Version).
+- Bytes that were changed or written by another tool.",
+        next: "`eoscheck dump --decode` of the segment shows the record beside its
+neighbours.",
+    },
+    Page {
+        code: "2.2",
+        name: "Step",
+        says: "A state of a transactional id may not follow the one before it: `why` names
+the rule.",
+        means: "The coordinator's log contradicts itself: a step is missing, or two
+coordinators wrote.",
+        causes: "- The log was compacted, so that states between are gone.
+- Two coordinators wrote for one transactional id after a split.
+- A record was lost with a leader.",
+        next: "`eoscheck dump --decode` of the segment, all states of this id in order; was
+`cleanup.policy` compact?",
+    },
+    Page {
+        code: "2.3",
+        name: "SplitId",
+        says: "One transactional id has records in two partitions of __transaction_state.",
+        means: "An id lies in one partition, by its hash. Two coordinators worked for it.",
+        causes: "- Logs of two clusters, or of before and after a change of the number of
+  partitions, were put into one folder.",
+        next: "Where was each partition copied from, and when?",
+    },
+    Page {
+        code: "2.4",
+        name: "SharedProducer",
+        says: "Two transactional ids have one producer id.",
+        means: "What the producer wrote can't be told apart: neither id's transactions can be
+judged.",
+        causes: "- Logs of two clusters in one folder.
+- A coordinator that gave one producer id out twice.",
+        next: "Where was each partition copied from? Compare the records' times.",
+    },
+    Page {
+        code: "2.5",
+        name: "Unfinished",
+        says: "At the partition's end a transactional id is ongoing, or prepared and not
+complete.",
+        means: "The logs end in the middle of its transaction.",
+        causes: "- It was collected while a transaction was open.
+- A coordinator that can't write its markers: a partition without a leader.",
+        next: "Stop the application, wait for `transaction.timeout.ms`, collect again. Then
+`kafka-transactions.sh describe --transactional-id ID`.",
+    },
+];
+
+/// Phase 3: the decisions against the logs.
+pub(crate) static DECISIONS: [Page; 7] = [
+    Page {
+        code: "3.1",
+        name: "TwiceDecided",
+        says: "Two decisions of one producer id and epoch.",
+        means: "A transaction was decided twice, so its end depends on who is asked.",
+        causes: "- A coordinator that forgot its first decision: its log lost records.
+- Logs of two replicas, or of two clusters, put into one folder.",
+        next: "Compare both decisions and their partitions (`dump --decode` of
+__transaction_state).",
+    },
+    Page {
+        code: "3.2",
+        name: "Undecided",
+        says: "Records of a transaction have an end marker, and no decision of their producer
+epoch stands in the transaction log.",
+        means: "Nobody who may decide did, as far as these logs say.",
+        causes: "- No partition of __transaction_state is in `ends`, or not that of this
+  transactional id.
+- The transaction log was compacted, or lost its end.
+- An operator's abort of a hanging transaction.",
+        next: "Put all partitions of __transaction_state into `ends`: which one is the id's
+is a hash.",
+    },
+    Page {
+        code: "3.3",
+        name: "WrongKind",
+        says: "Records ended by a commit where an abort was decided, or the other way round.",
+        means: "A part of the transaction is visible and another isn't: not atomic.",
+        causes: "- A coordinator whose decision changed after markers were sent.
+- A marker that an operator or a tool wrote.",
+        next: "Compare the markers of all listed partitions; `explain` and `dump --decode`
+show them.",
+    },
+    Page {
+        code: "3.4",
+        name: "NotListed",
+        says: "Records of a transaction stand in a partition that its decision doesn't list.",
+        means: "The partition was never added to the transaction, or the list was lost: its
+marker came by another way.",
+        causes: "- A broker that takes records without asking the coordinator.
+- The transaction log lost the record that added the partition.",
+        next: "All states of this transactional id (`dump --decode` of __transaction_state).",
+    },
+    Page {
+        code: "3.5",
+        name: "StrayMarker",
+        says: "An end marker of no decision that lists its partition.",
+        means: "Something was ended that nobody decided, as far as these logs say.",
+        causes: "- The same as of 3.2: a partition of __transaction_state isn't in `ends`, or
+  compacted.
+- A marker that an operator wrote.",
+        next: "Put all partitions of __transaction_state into `ends`; then look who wrote the
+marker.",
+    },
+    Page {
+        code: "3.6",
+        name: "AbsentPartition",
+        says: "A decision lists a partition that isn't in `ends`.",
+        means: "What the transaction wrote there isn't known, so it can't be called whole.",
+        causes: "- A partition was forgotten, often the group's of __consumer_offsets.
+- Another application writes under the same transaction log; its partitions
+  belong in too.",
+        next: "Add the partition to `ends`, and copy it. `eoscheck init` finds all of them.",
+    },
+    Page {
+        code: "3.7",
+        name: "MissingMarker",
+        says: "A decision lists a partition, and its end marker doesn't stand there.",
+        means: "The transaction was decided and not ended everywhere: readers of that
+partition wait, or never see it.",
+        causes: "- It was collected between the decision and the last marker.
+- The partition's log lost the marker, or never got it.",
+        next: "Compare the partition on the other replicas; collect again after the cluster
+rests.",
+    },
+];

@@ -1,0 +1,6 @@
+pub mod ProducerCounts
+pub mod Following
+pub mod TouchTable
+pub mod LeastAtBatch
+pub mod LeastInSegment
+pub mod GoodSegment

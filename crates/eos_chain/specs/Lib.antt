@@ -1,0 +1,4 @@
+pub mod Counts
+pub mod Faults
+pub mod Good
+pub mod steps

@@ -1,4 +1,0 @@
-use Rattle.eos_check.proofs.workers.check.Given as goal
-
-abbrev pub ghosts-runs_of : goal.ghosts-runs_of
-ghosts-runs_of g a = record { name = a.blank.name; parts = a.blank.parts }

@@ -1,0 +1,67 @@
+//! Whatever happens to a cluster: each event, and its effect.
+
+ghost use Rattle.std.specs.Prelude.{◌≡◌, OnErr, IfOk};
+ghost use Rattle.eos_machine.specs.Machine.{restart_broker, happens_under};
+ghost use Rattle.eos_store.specs.Named.{Needs};
+
+use bytes::Bytes;
+use eos_deliveries::{deliver, restart};
+use eos_machine::{Event, Reply, Switches};
+use eos_sessions::{commit, end, feed, fetch, produce, resume, start};
+use eos_store::Store;
+use eos_store::places::{is_partition, start_of};
+use std::alloc::AllocError;
+
+/// The broker of a partition restarts: it makes what it holds anew from its log.
+#[tactic(auto, unfolding(eos_machine::specs::Answers::when))]
+fn restart_broker(store: &mut Store, topic: &Bytes, partition: usize) -> Reply
+    ensures answer { (store.new.world, result) ≡ restart_broker store.old.config store.old.world topic.now partition }
+    ensures config { store.new.config ≡ store.old.config }
+{
+    let config = store.config();
+    if !is_partition(config, topic, partition) {
+        return Reply::Unknown;
+    }
+    store.restart_log(start_of(config, topic).saturating_add(partition));
+    Reply::Done(0)
+}
+
+/// An event happens. It isn't counted here.
+pub(crate) fn happen(
+    store: &mut Store,
+    switches: Switches,
+    event: Event,
+) -> Result<Reply, AllocError>
+    requires { Needs store.old.config store.old.world event }
+    ensures ok { IfOk result (λ r. (store.new.world, r) ≡ happens_under switches store.old.config store.old.world event) }
+    ensures err { OnErr result (store.new.world ≡ store.old.world) }
+    ensures config { store.new.config ≡ store.old.config }
+{
+    match event {
+        Event::Feed { source } => feed(store, source),
+        Event::Start { application } => start(store, switches, application),
+        Event::Produce {
+            session,
+            partition,
+            claim,
+        } => produce(store, session, partition, claim),
+        Event::Commit {
+            session,
+            source,
+            offset,
+        } => commit(store, session, source, offset),
+        Event::End { session, kind } => end(store, session, kind),
+        Event::Resume { session } => resume(store, session),
+        Event::Fetch { session, source } => fetch(store, session, source),
+        Event::Members => {
+            store.set_generation(store.generation() + 1);
+            Ok(Reply::Done(0))
+        }
+        Event::BrokerRestart { topic, partition } => Ok(restart_broker(store, &topic, partition)),
+        Event::CoordinatorRestart => {
+            restart(store)?;
+            Ok(Reply::Done(0))
+        }
+        Event::Deliver { message } => deliver(store, switches, message),
+    }
+}

@@ -1,0 +1,3 @@
+pub mod Decoding
+pub mod Lines
+pub mod Names

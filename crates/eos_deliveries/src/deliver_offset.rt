@@ -1,0 +1,84 @@
+//! An offset arrives at the broker of the offsets, and its transaction at the coordinator.
+
+ghost use Rattle.std.specs.Prelude.{◌≡◌, ℕ, ◌<◌, IfOk};
+ghost use Rattle.eos_machine.specs.Places.{offsets_place};
+ghost use Rattle.eos_machine.specs.declared.item.Item.TheVariants.{Offset};
+ghost use Rattle.eos_machine.specs.Rules.{is_stale};
+ghost use Rattle.eos_machine.specs.Deliveries.{deliver_offset};
+ghost use Rattle.eos_deliveries.specs.steps.Taken.{judged, taken, IsFromIf};
+
+use crate::accept::{Arrival, Request, fence};
+use eos_machine::{Item, Reply, Switches};
+use eos_store::Store;
+use eos_store::answers::is_prepare;
+use eos_store::places::OFFSETS_PLACE;
+
+/// Whether an offset is refused as one of another generation of the group.
+fn is_stale(switches: Switches, generation: u64, now: u64) -> bool
+    ensures { result ≡ is_stale switches generation now }
+{
+    !switches.ignore_generation && generation != now
+}
+
+/// What the broker and the coordinator make of an offset: whether the transaction lists its partition, or the refusal.
+#[tactic(auto, unfolding(eos_machine::specs::Answers::when))]
+fn judge_offset(
+    store: &Store,
+    switches: Switches,
+    request: Request,
+    generation: u64,
+) -> Result<bool, Reply>
+    requires application { request.application < store.now.config.applications }
+    requires place { request.place ≡ offsets_place }
+    ensures { (q v : ℕ) → deliver_offset switches store.now.config store.now.world request.number request.application request.epoch generation q v
+        ≡ judged switches store.now.config store.now.world request (Offset request.application request.epoch q v store.now.world.events) result }
+{
+    let Request {
+        number,
+        application,
+        epoch,
+        ..
+    } = request;
+    if store.is_accepted(number) {
+        return Err(Reply::DuplicateKept);
+    }
+    if is_stale(switches, generation, store.generation()) {
+        return Err(Reply::StaleGeneration);
+    }
+    if epoch < store.producer(application, OFFSETS_PLACE).high {
+        return fence(switches);
+    }
+    if !store.is_current(application, epoch) {
+        return fence(switches);
+    }
+    if is_prepare(store.status(application)) {
+        return Err(Reply::Busy);
+    }
+    Ok(true)
+}
+
+/// What becomes of an offset: the batch that is appended, or the refusal.
+pub(crate) fn offset_arrival(
+    store: &Store,
+    switches: Switches,
+    request: Request,
+    generation: u64,
+    source: usize,
+    offset: u64,
+) -> Result<Arrival, Reply>
+    requires application { request.application < store.now.config.applications }
+    requires place { request.place ≡ offsets_place }
+    ensures from { IfOk result (IsFromIf store.now.config.applications) }
+    ensures answer { deliver_offset switches store.now.config store.now.world request.number request.application request.epoch generation source offset
+        ≡ taken switches store.now.config store.now.world request result }
+{
+    let is_listed = judge_offset(store, switches, request, generation)?;
+    let item = Item::Offset {
+        application: request.application,
+        epoch: request.epoch,
+        source,
+        offset,
+        event: store.events(),
+    };
+    Ok(Arrival { item, is_listed })
+}

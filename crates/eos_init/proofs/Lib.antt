@@ -1,0 +1,4 @@
+pub mod ItemsOfWords
+pub mod PlainNumbers
+pub mod SegmentFronts
+pub mod TextPieces

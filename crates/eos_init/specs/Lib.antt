@@ -1,0 +1,9 @@
+pub mod AppWords
+pub mod Divided
+pub mod Front
+pub mod Head
+pub mod Lines
+pub mod Listing
+pub mod Manifests
+pub mod Numbers
+pub mod steps

@@ -1,0 +1,13 @@
+//! Making the manifest of a folder of copied logs: which folders and segments there are, what is read of them, and the file
+//! `evidence.json`, which is written whole or not at all and never over another.
+#![tactic(auto)]
+
+mod copied;
+mod fault;
+mod making;
+mod note;
+mod writing;
+
+pub use fault::InitFault;
+pub use making::{Given, Made, init};
+pub use note::{Note, name_text};

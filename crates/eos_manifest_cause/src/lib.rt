@@ -1,0 +1,15 @@
+//! Why a manifest is refused, in words for its writer: which place of the file, what stands there and what is wanted. It is asked
+//! after a refusal, reads the text again and finds the first of the tests that fails, in the order of `parse_spec`.
+#![tactic(auto)]
+
+mod apps;
+mod cause;
+mod finding;
+mod json_place;
+mod names;
+mod printing;
+mod repeats;
+mod search;
+mod types;
+
+pub use cause::{SpecCause, explain_spec};

@@ -1,0 +1,17 @@
+use Rattle.eos_notes.specs.CommitNotes.{past_ends_in, nothing_in, behind_in}
+use Rattle.eos_notes.proofs.PushedMore.{made_more}
+use Rattle.eos_notes.proofs.evidence_notes.found_of.Goals as goal
+
+pub loop-app-preserved : goal.loop-app-preserved
+loop-app-preserved c =
+    let logs = c.args.parts.now in
+    let apps = c.args.apps.now in
+    let i = c.loop-app.app-index in
+    let app = c.app-item.result in
+    let lt = c.loop-app-test.true in
+    let now = c.in_ok-take_app.ensures in
+    let so_far = c.loop-app.invariant in (
+      made_more (past_ends_in logs) _ _ apps i app lt c.app-item.is so_far.0 now.past_ends,
+      made_more (nothing_in logs) _ _ apps i app lt c.app-item.is so_far.1 now.nothing,
+      made_more (behind_in logs) _ _ apps i app lt c.app-item.is so_far.2 now.behind,
+    )

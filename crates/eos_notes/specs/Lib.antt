@@ -1,0 +1,5 @@
+pub mod ManifestNotes
+pub mod CommitNotes
+pub mod Notes
+pub mod Texts
+pub mod steps

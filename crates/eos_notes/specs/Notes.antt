@@ -1,0 +1,34 @@
+-- The notes of an evidence: signs that it isn't the one that was meant, in the order in which `check` prints them. They change no
+-- verdict.
+use Rattle.std.specs.Prelude.{◌≡◌, Bool, true, false, List, ◌++◌, is_some}
+use Rattle.std.specs.List.{list_any}
+use Rattle.eos_evidence.specs.Evidence.{EvidenceParts}
+use Rattle.eos_evidence.specs.Parts.{Parts}
+use Rattle.eos_fold.specs.Parts.{PartLog}
+use Rattle.eos_check.specs.Good.{AreLogsOf}
+use Rattle.eos_notes.specs.declared.note.Note.{Note}
+use Rattle.eos_notes.specs.ManifestNotes.{absent_topics, gaps, absent_internals}
+use Rattle.eos_notes.specs.CommitNotes.{AreUnlistedNotes, past_ends, nothing_committed, behind}
+
+-- a partition's log has a fault: then it isn't known which records are visible
+abbrev pub has_fault : List PartLog → Bool
+has_fault logs = list_any (λ p. is_some p.fault) logs
+
+-- what the manifest alone shows
+abbrev pub of_manifest : Parts → List Note
+of_manifest spec = absent_topics spec.ends spec.apps ++ (gaps spec.apps spec.ends ++ absent_internals spec.ends)
+
+-- all, behind those of partitions that aren't in `ends`
+abbrev pub of_all : Parts → List PartLog → List Note → List Note
+of_all spec logs unlisted =
+    unlisted ++ (past_ends logs spec.apps ++ (absent_topics spec.ends spec.apps ++ (gaps spec.apps spec.ends
+    ++ (nothing_committed logs spec.apps ++ (absent_internals spec.ends ++ behind logs spec.apps)))))
+
+-- by whether a partition's log has a fault
+abbrev pub AreNotesBy : Parts → List PartLog → Bool → List Note → Type 0
+AreNotesBy spec logs true notes = notes ≡ of_manifest spec
+AreNotesBy spec logs false notes = (unlisted : List Note) × AreUnlistedNotes spec.ends logs spec.apps unlisted × (notes ≡ of_all spec logs unlisted)
+
+-- of the evidence, over its logs as the verdict sees them
+abbrev pub AreNotes : EvidenceParts → List Note → Type 0
+AreNotes e notes = (logs : List PartLog) × AreLogsOf e.partitions logs × AreNotesBy e.spec logs (has_fault logs) notes

@@ -1,0 +1,185 @@
+//! The notes of an evidence, in their order.
+
+ghost use Rattle.std.specs.Prelude.{◌≡◌, ◌++◌, [], false, map, IfOk, OnOk, IsPermutation};
+ghost use Rattle.eos_check.specs.Good.{AreLogsOf};
+ghost use Rattle.eos_claims.specs.Outputs.{committed_offset};
+ghost use Rattle.eos_commits.specs.Faults.{AreInOrder};
+ghost use Rattle.eos_commits.specs.Plain.{plain_commit};
+ghost use Rattle.eos_fold.specs.Parts.{part_name};
+ghost use Rattle.eos_notes.specs.CommitNotes.{commits_for, past_ends_in, nothing_in, behind_in, past_ends, nothing_committed, behind};
+ghost use Rattle.eos_notes.specs.ManifestNotes.{absent_topics, gaps, absent_internals};
+ghost use Rattle.eos_notes.specs.Notes.{has_fault as has_fault_in, of_manifest, AreNotesBy, AreNotes};
+
+use crate::groups::{count_inputs, push_behind, push_nothing, push_past_ends};
+use crate::manifest::{push_absent_topics, push_gaps, push_internals};
+use crate::note::Note;
+use crate::unlisted::unlisted_notes;
+use eos_commits::{CommitRef, TopicSet, commits_of};
+use eos_evidence::{App, End, Evidence, Spec};
+use eos_fold::Part;
+use eos_lineage::committed_offsets;
+use std::alloc::{AllocError, Global};
+
+/// What was found of what groups have committed, by the kind of note.
+#[derive(Drop)]
+struct Found {
+    past_ends: Vec<Note>,
+    nothing: Vec<Note>,
+    behind: Vec<Note>,
+}
+
+impl Found {
+    fn new(alloc: Global) -> Found
+        ensures { (result.past_ends.items ≡ []) × (result.nothing.items ≡ []) × (result.behind.items ≡ []) }
+    {
+        Found {
+            past_ends: Vec::new(alloc),
+            nothing: Vec::new(alloc),
+            behind: Vec::new(alloc),
+        }
+    }
+}
+
+// What an application's group has committed, by its source topics, its commits and their offsets for each part.
+fn take_commits(
+    found: &mut Found,
+    app: &App,
+    sources: &TopicSet<'_>,
+    parts: &[Part],
+    commits: &[CommitRef<'_>],
+    offsets: &[i64],
+) -> Result<(), AllocError>
+    requires sources { IsPermutation app.now.sources sources.now }
+    requires commits { map plain_commit commits.now ≡ commits_for parts.now app.now }
+    requires offsets { offsets.now ≡ map (committed_offset (commits_for parts.now app.now)) (map part_name parts.now) }
+    ensures past_ends { OnOk result (found.new.past_ends.items ≡ found.old.past_ends.items ++ past_ends_in parts.now app.now) }
+    ensures nothing { OnOk result (found.new.nothing.items ≡ found.old.nothing.items ++ nothing_in parts.now app.now) }
+    ensures behind { OnOk result (found.new.behind.items ≡ found.old.behind.items ++ behind_in parts.now app.now) }
+{
+    let group = &app.group;
+    push_past_ends(&mut found.past_ends, group, sources, parts, offsets)?;
+    push_nothing(&mut found.nothing, group, commits)?;
+    let count = count_inputs(sources, parts, offsets)?;
+    push_behind(&mut found.behind, group, count)?;
+    Ok(())
+}
+
+// What an application's group has committed.
+fn take_app(alloc: Global, found: &mut Found, app: &App, parts: &[Part]) -> Result<(), AllocError>
+    requires { AreInOrder parts.now }
+    ensures past_ends { OnOk result (found.new.past_ends.items ≡ found.old.past_ends.items ++ past_ends_in parts.now app.now) }
+    ensures nothing { OnOk result (found.new.nothing.items ≡ found.old.nothing.items ++ nothing_in parts.now app.now) }
+    ensures behind { OnOk result (found.new.behind.items ≡ found.old.behind.items ++ behind_in parts.now app.now) }
+{
+    let topics = app.sources.as_slice();
+    let sources = TopicSet::of(alloc, topics)?;
+    let commits = commits_of(alloc, app.group.as_bytes(), topics, parts)?;
+    let commits = commits.as_slice();
+    let offsets = committed_offsets(alloc, parts, commits)?;
+    take_commits(found, app, &sources, parts, commits, offsets.as_slice())?;
+    Ok(())
+}
+
+// What the applications' groups have committed.
+fn found_of(alloc: Global, apps: &[App], parts: &[Part]) -> Result<Found, AllocError>
+    requires { AreInOrder parts.now }
+    ensures past_ends { IfOk result (λ f. f.past_ends.items ≡ past_ends parts.now apps.now) }
+    ensures nothing { IfOk result (λ f. f.nothing.items ≡ nothing_committed parts.now apps.now) }
+    ensures behind { IfOk result (λ f. f.behind.items ≡ behind parts.now apps.now) }
+{
+    let mut found = Found::new(alloc);
+    for app in apps {
+        take_app(alloc, &mut found, app, parts)?;
+    }
+    Ok(found)
+}
+
+// Puts these behind the others.
+fn append(all: &mut Vec<Note>, notes: &mut Vec<Note>) -> Result<(), AllocError>
+    ensures { OnOk result (all.new.items ≡ all.old.items ++ notes.old.items) }
+{
+    all.append(notes)
+}
+
+// Puts the notes behind those of partitions that aren't in `ends`.
+fn push_all(
+    alloc: Global,
+    all: &mut Vec<Note>,
+    found: &mut Found,
+    apps: &[App],
+    ends: &[End],
+) -> Result<(), AllocError>
+    ensures { OnOk result (all.new.items ≡ all.old.items ++ (found.old.past_ends.items ++ (absent_topics ends.now apps.now ++ (gaps apps.now ends.now
+        ++ (found.old.nothing.items ++ (absent_internals ends.now ++ found.old.behind.items)))))) }
+{
+    append(all, &mut found.past_ends)?;
+    push_absent_topics(alloc, all, apps, ends)?;
+    push_gaps(alloc, all, apps, ends)?;
+    append(all, &mut found.nothing)?;
+    push_internals(alloc, all, ends)?;
+    append(all, &mut found.behind)?;
+    Ok(())
+}
+
+fn push_of_manifest(
+    alloc: Global,
+    all: &mut Vec<Note>,
+    apps: &[App],
+    ends: &[End],
+) -> Result<(), AllocError>
+    ensures { OnOk result (all.new.items ≡ all.old.items ++ (absent_topics ends.now apps.now ++ (gaps apps.now ends.now ++ absent_internals ends.now))) }
+{
+    push_absent_topics(alloc, all, apps, ends)?;
+    push_gaps(alloc, all, apps, ends)?;
+    push_internals(alloc, all, ends)?;
+    Ok(())
+}
+
+fn manifest_notes(alloc: Global, spec: &Spec) -> Result<Vec<Note>, AllocError>
+    ensures { IfOk result (λ all. all.items ≡ of_manifest spec.now) }
+{
+    let mut all = Vec::new(alloc);
+    push_of_manifest(
+        alloc,
+        &mut all,
+        spec.apps().as_slice(),
+        spec.ends().as_slice(),
+    )?;
+    Ok(all)
+}
+
+fn all_notes(alloc: Global, spec: &Spec, parts: &[Part]) -> Result<Vec<Note>, AllocError>
+    requires { AreInOrder parts.now }
+    ensures { IfOk result (λ all. AreNotesBy spec.now parts.now false all.items) }
+{
+    let apps = spec.apps().as_slice();
+    let ends = spec.ends().as_slice();
+    let mut all = unlisted_notes(alloc, apps, ends, parts)?;
+    let mut found = found_of(alloc, apps, parts)?;
+    push_all(alloc, &mut all, &mut found, apps, ends)?;
+    Ok(all)
+}
+
+// Whether the log of a partition has a fault.
+fn has_fault(parts: &[Part]) -> bool
+    ensures { result ≡ has_fault_in parts.now }
+{
+    parts.iter().any(|part| part.fault().is_some())
+}
+
+/// The notes of an evidence whose logs these are: signs that it isn't the one that was meant. Where the log of a partition has a
+/// fault, it isn't known which records are visible, and only those are looked for that the manifest alone shows.
+///
+/// # Errors
+/// Only want of memory.
+pub fn notes(alloc: Global, evidence: &Evidence, logs: &[Part]) -> Result<Vec<Note>, AllocError>
+    requires { AreLogsOf evidence.now.partitions logs.now }
+    ensures { IfOk result (λ notes. AreNotes evidence.now notes.items) }
+{
+    let spec = evidence.spec();
+    if has_fault(logs) {
+        manifest_notes(alloc, spec)
+    } else {
+        all_notes(alloc, spec, logs)
+    }
+}

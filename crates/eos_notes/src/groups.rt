@@ -1,0 +1,212 @@
+//! The notes of what a group has committed.
+
+ghost use Rattle.std.specs.Prelude.{◌≡◌, ◌++◌, ◌+◌, ℤ, pos, int_lt, [], ◌∷◌, map, flat_map, length, IfOk, OnOk, if◌then◌else◌};
+ghost use Rattle.eos_base.specs.declared.partition_name.PartitionName.{PartitionName as Name};
+ghost use Rattle.eos_claims.specs.Outputs.{Application, committed_offset};
+ghost use Rattle.eos_commits.specs.Plain.{plain_commit};
+ghost use Rattle.eos_fold.specs.Parts.{part_name};
+ghost use Rattle.eos_lineage.specs.Lineage.{is_part_of, inputs_in, inputs_below, parts_of};
+ghost use Rattle.eos_notes.specs.CommitNotes.{past_end_at, nothing_by, behind_by};
+ghost use Rattle.eos_notes.specs.steps.Counted.{past_end_if, count_visible, count_below};
+
+use crate::note::Note;
+use eos_base::PartitionName;
+use eos_commits::{CommitRef, TopicSet, is_visible};
+use eos_evidence::GroupId;
+use eos_fold::Part;
+use eos_items::ItemRef;
+use std::alloc::AllocError;
+
+/// So many visible records, and so many of them below a group's committed offsets.
+#[derive(Clone, Copy)]
+pub(crate) struct Count {
+    pub(crate) below: u64,
+    pub(crate) inputs: u64,
+}
+
+// ---- past the end
+
+fn push_past_end(
+    all: &mut Vec<Note>,
+    group: &GroupId,
+    part: &Part,
+    offset: i64,
+) -> Result<(), AllocError>
+    ensures { OnOk result (all.new.items ≡ all.old.items ++ past_end_at group.now part.now offset) }
+{
+    if offset > part.end() {
+        all.push(Note::PastEnd {
+            group: group.clone()?,
+            offset,
+            partition: PartitionName {
+                topic: part.topic().clone()?,
+                partition: part.partition(),
+            },
+            end: part.end(),
+        })?;
+    }
+    Ok(())
+}
+
+fn push_past_end_if(
+    all: &mut Vec<Note>,
+    group: &GroupId,
+    sources: &TopicSet<'_>,
+    part: &Part,
+    offset: i64,
+) -> Result<(), AllocError>
+    ensures { OnOk result (all.new.items ≡ all.old.items ++ (if is_part_of sources.now part.now then past_end_at group.now part.now offset else [])) }
+{
+    if sources.has(part.topic().as_slice()) {
+        push_past_end(all, group, part, offset)?;
+    }
+    Ok(())
+}
+
+/// Puts a note at the end for each partition of these topics of which the committed offset is past its end.
+///
+/// # Errors
+/// Only want of memory.
+pub(crate) fn push_past_ends(
+    all: &mut Vec<Note>,
+    group: &GroupId,
+    sources: &TopicSet<'_>,
+    parts: &[Part],
+    offsets: &[i64],
+) -> Result<(), AllocError>
+    requires { length offsets.now ≡ length parts.now }
+    ensures { OnOk result ((committed : Name → ℤ) → offsets.now ≡ map committed (map part_name parts.now)
+        → all.new.items ≡ all.old.items ++ flat_map (past_end_if sources.now group.now committed) parts.now) }
+{
+    for i in 0..parts.len() {
+        push_past_end_if(all, group, sources, &parts[i], offsets[i])?;
+    }
+    Ok(())
+}
+
+// ---- nothing committed
+
+/// Puts a note at the end where the group has no commit.
+///
+/// # Errors
+/// Only want of memory.
+pub(crate) fn push_nothing(
+    all: &mut Vec<Note>,
+    group: &GroupId,
+    commits: &[CommitRef<'_>],
+) -> Result<(), AllocError>
+    ensures { OnOk result (all.new.items ≡ all.old.items ++ nothing_by group.now (map plain_commit commits.now)) }
+{
+    if commits.is_empty() {
+        all.push(Note::NothingCommitted {
+            group: group.clone()?,
+        })?;
+    }
+    Ok(())
+}
+
+// ---- behind
+
+/// Puts a note at the end where fewer than all are below.
+///
+/// # Errors
+/// Only want of memory.
+pub(crate) fn push_behind(
+    all: &mut Vec<Note>,
+    group: &GroupId,
+    count: Count,
+) -> Result<(), AllocError>
+    ensures { OnOk result (all.new.items ≡ all.old.items ++ behind_by group.now count.below count.inputs) }
+{
+    if count.below < count.inputs {
+        all.push(Note::Behind {
+            group: group.clone()?,
+            below: count.below,
+            inputs: count.inputs,
+        })?;
+    }
+    Ok(())
+}
+
+// No machine has memory for as many records as 64 bits can't count.
+fn sum(a: u64, b: u64) -> Result<u64, AllocError>
+    ensures { IfOk result (λ s. s ≡ a + b) }
+{
+    a.checked_add(b).ok_or(AllocError)
+}
+
+fn is_below(offset: u64, committed: i64) -> bool
+    ensures { result ≡ int_lt (pos offset) committed }
+{
+    committed > 0 && offset < committed as u64
+}
+
+// With one record more.
+fn counted(count: Count, item: &ItemRef<'_>, committed: i64) -> Result<Count, AllocError>
+    ensures inputs { IfOk result (λ c. c.inputs ≡ count.inputs + count_visible (item.now ∷ [])) }
+    ensures below { IfOk result (λ c. c.below ≡ count.below + count_below committed (item.now ∷ [])) }
+{
+    if !is_visible(item.fate()) {
+        return Ok(count);
+    }
+    let inputs = sum(count.inputs, 1)?;
+    if !is_below(item.offset(), committed) {
+        return Ok(Count { inputs, ..count });
+    }
+    let below = sum(count.below, 1)?;
+    Ok(Count { below, inputs })
+}
+
+// With the records of a partition.
+fn count_part(count: Count, part: &Part, committed: i64) -> Result<Count, AllocError>
+    ensures inputs { IfOk result (λ c. c.inputs ≡ count.inputs + count_visible part.now.items) }
+    ensures below { IfOk result (λ c. c.below ≡ count.below + count_below committed part.now.items) }
+{
+    let mut so_far = count;
+    let mut records = part.items().cursor();
+    while let Some(item) = records.next() {
+        so_far = counted(so_far, &item, committed)?;
+    }
+    Ok(so_far)
+}
+
+// With the records of a partition, if it is of one of these topics.
+fn count_part_if(
+    count: Count,
+    sources: &TopicSet<'_>,
+    part: &Part,
+    committed: i64,
+) -> Result<Count, AllocError>
+    ensures inputs { IfOk result (λ c. c.inputs ≡ count.inputs + (if is_part_of sources.now part.now then count_visible part.now.items else 0)) }
+    ensures below { IfOk result (λ c. c.below ≡ count.below + (if is_part_of sources.now part.now then count_below committed part.now.items else 0)) }
+{
+    if sources.has(part.topic().as_slice()) {
+        count_part(count, part, committed)
+    } else {
+        Ok(count)
+    }
+}
+
+/// The visible records of these topics, and those of them below the committed offset of their partition.
+///
+/// # Errors
+/// Only want of memory.
+pub(crate) fn count_inputs(
+    sources: &TopicSet<'_>,
+    parts: &[Part],
+    offsets: &[i64],
+) -> Result<Count, AllocError>
+    requires { length offsets.now ≡ length parts.now }
+    ensures { IfOk result (λ c. (a : Application) → offsets.now ≡ map (committed_offset a.commits) (map part_name parts.now)
+        → a.inputs ≡ flat_map inputs_in (parts_of sources.now parts.now)
+        → (c.below ≡ length (inputs_below a)) × (c.inputs ≡ length a.inputs)) }
+{
+    let mut count = Count {
+        below: 0,
+        inputs: 0,
+    };
+    for i in 0..parts.len() {
+        count = count_part_if(count, sources, &parts[i], offsets[i])?;
+    }
+    Ok(count)
+}

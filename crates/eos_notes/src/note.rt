@@ -1,0 +1,69 @@
+//! What a note says.
+
+ghost use Rattle.std.specs.Prelude.{◌≡◌};
+ghost use Rattle.eos_notes.specs.ManifestNotes.{internal_name};
+
+use bytes::Bytes;
+use eos_base::PartitionName;
+use eos_evidence::GroupId;
+
+/// A sign that an evidence isn't the one that was meant. The variants stand in the order in which notes are listed.
+#[derive(Debug, Drop)]
+pub enum Note {
+    /// The group committed an offset of a partition of one of its source topics, which has no declared end.
+    Unlisted {
+        partition: PartitionName,
+        group: GroupId,
+    },
+    /// The committed offset of a source partition is above its declared end.
+    PastEnd {
+        group: GroupId,
+        offset: i64,
+        partition: PartitionName,
+        end: i64,
+    },
+    /// No partition of a source or output topic of the group has a declared end.
+    NoPartition {
+        topic: Bytes,
+        group: GroupId,
+    },
+    /// The partition of this number of a source or output topic has no declared end, but one of a greater number has. It is the
+    /// least such number.
+    Gap {
+        topic: Bytes,
+        number: u64,
+    },
+    /// No visible record commits an offset of the group for a source topic of it.
+    NothingCommitted {
+        group: GroupId,
+    },
+    /// No partition of an internal topic has a declared end.
+    NoInternal(InternalTopic),
+    /// So many of the visible records of the group's source topics, fewer than all, are below its committed offsets.
+    Behind {
+        group: GroupId,
+        below: u64,
+        inputs: u64,
+    },
+}
+
+/// A topic in which Kafka keeps its own records.
+#[derive(Clone, Copy, Debug, PartialEq, Eq)]
+pub enum InternalTopic {
+    /// The offsets that consumer groups have committed.
+    ConsumerOffsets,
+    /// The states of transactions.
+    TransactionState,
+}
+
+impl InternalTopic {
+    /// The topic's name.
+    pub fn name(self) -> &'static str
+        ensures { result.now ≡ internal_name self }
+    {
+        match self {
+            InternalTopic::ConsumerOffsets => "__consumer_offsets",
+            InternalTopic::TransactionState => "__transaction_state",
+        }
+    }
+}

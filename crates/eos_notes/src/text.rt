@@ -1,0 +1,150 @@
+//! The lines of notes.
+
+ghost use Rattle.std.specs.Prelude.{◌≡◌, OnOk, IfOk, string_bytes};
+ghost use Rattle.eos_text.specs.Adding.{Adds};
+ghost use Rattle.eos_notes.specs.Texts.{note_text, note_line, note_lines as lines_of};
+
+use crate::note::{InternalTopic, Note};
+use bytes::Bytes;
+use eos_base::PartitionName;
+use eos_evidence::GroupId;
+use eos_text::{push_escaped, push_text, push_value};
+use std::alloc::{AllocError, Global};
+
+/// The lines of these notes, in their order, each with its line feed.
+///
+/// # Errors
+/// Only want of memory.
+pub fn note_lines(alloc: Global, notes: &[Note]) -> Result<String, AllocError>
+    ensures { IfOk result (λ text. string_bytes text ≡ lines_of notes.now) }
+{
+    let mut text = String::new(alloc);
+    for note in notes {
+        push_line(alloc, &mut text, note)?;
+    }
+    Ok(text)
+}
+
+fn push_line(alloc: Global, out: &mut String, note: &Note) -> Result<(), AllocError>
+    ensures { OnOk result (Adds (string_bytes out.old) (string_bytes out.new) (note_line note.now)) }
+{
+    push_text(out, "eoscheck: note: ")?;
+    push_note(alloc, out, note)?;
+    push_text(out, "\n")?;
+    Ok(())
+}
+
+fn push_note(alloc: Global, out: &mut String, note: &Note) -> Result<(), AllocError>
+    ensures { OnOk result (Adds (string_bytes out.old) (string_bytes out.new) (note_text note.now)) }
+{
+    match note {
+        Note::Unlisted { partition, group } => push_unlisted(alloc, out, partition, group),
+        Note::PastEnd {
+            group,
+            offset,
+            partition,
+            end,
+        } => push_past_end(alloc, out, group, offset, partition, end),
+        Note::NoPartition { topic, group } => push_no_partition(alloc, out, topic, group),
+        Note::Gap { topic, number } => push_gap(alloc, out, topic, number),
+        Note::NothingCommitted { group } => push_nothing_committed(alloc, out, group),
+        Note::NoInternal(topic) => push_no_internal(out, *topic),
+        Note::Behind {
+            group,
+            below,
+            inputs,
+        } => push_behind(alloc, out, group, below, inputs),
+    }
+}
+
+fn push_unlisted(
+    alloc: Global,
+    out: &mut String,
+    partition: &PartitionName,
+    group: &GroupId,
+) -> Result<(), AllocError>
+    ensures { OnOk result (Adds (string_bytes out.old) (string_bytes out.new) (note_text (Note.Unlisted partition.now group.now))) }
+{
+    push_escaped(alloc, out, "", partition.topic.as_slice())?;
+    push_value(out, "-", &partition.partition)?;
+    push_escaped(alloc, out, " isn't in ends, but group ", group.as_bytes())?;
+    push_text(out, " committed an offset of it")?;
+    Ok(())
+}
+
+fn push_past_end(
+    alloc: Global,
+    out: &mut String,
+    group: &GroupId,
+    offset: &i64,
+    partition: &PartitionName,
+    end: &i64,
+) -> Result<(), AllocError>
+    ensures { OnOk result (Adds (string_bytes out.old) (string_bytes out.new) (note_text (Note.PastEnd group.now offset.now partition.now end.now))) }
+{
+    push_escaped(alloc, out, "group ", group.as_bytes())?;
+    push_value(out, " committed offset ", offset)?;
+    push_escaped(alloc, out, " of ", partition.topic.as_slice())?;
+    push_value(out, "-", &partition.partition)?;
+    push_value(out, ", past its end ", end)?;
+    Ok(())
+}
+
+fn push_no_partition(
+    alloc: Global,
+    out: &mut String,
+    topic: &Bytes,
+    group: &GroupId,
+) -> Result<(), AllocError>
+    ensures { OnOk result (Adds (string_bytes out.old) (string_bytes out.new) (note_text (Note.NoPartition topic.now group.now))) }
+{
+    push_escaped(alloc, out, "topic ", topic.as_slice())?;
+    push_escaped(alloc, out, " of group ", group.as_bytes())?;
+    push_text(out, " has no partition in ends")?;
+    Ok(())
+}
+
+fn push_gap(alloc: Global, out: &mut String, topic: &Bytes, number: &u64) -> Result<(), AllocError>
+    ensures { OnOk result (Adds (string_bytes out.old) (string_bytes out.new) (note_text (Note.Gap topic.now number.now))) }
+{
+    push_escaped(alloc, out, "topic ", topic.as_slice())?;
+    push_value(out, " has no partition ", number)?;
+    push_text(out, " in ends, but one of a greater number")?;
+    Ok(())
+}
+
+fn push_nothing_committed(
+    alloc: Global,
+    out: &mut String,
+    group: &GroupId,
+) -> Result<(), AllocError>
+    ensures { OnOk result (Adds (string_bytes out.old) (string_bytes out.new) (note_text (Note.NothingCommitted group.now))) }
+{
+    push_escaped(alloc, out, "group ", group.as_bytes())?;
+    push_text(out, " committed no offset of its sources")?;
+    Ok(())
+}
+
+fn push_no_internal(out: &mut String, topic: InternalTopic) -> Result<(), AllocError>
+    ensures { OnOk result (Adds (string_bytes out.old) (string_bytes out.new) (note_text (Note.NoInternal topic))) }
+{
+    push_value(out, "no partition of ", &topic.name())?;
+    push_text(out, " is in ends")?;
+    Ok(())
+}
+
+fn push_behind(
+    alloc: Global,
+    out: &mut String,
+    group: &GroupId,
+    below: &u64,
+    inputs: &u64,
+) -> Result<(), AllocError>
+    ensures { OnOk result (Adds (string_bytes out.old) (string_bytes out.new) (note_text (Note.Behind group.now below.now inputs.now))) }
+{
+    push_escaped(alloc, out, "group ", group.as_bytes())?;
+    push_value(out, " is behind: ", below)?;
+    push_value(out, " of ", inputs)?;
+    push_text(out, " visible inputs are below its committed offsets")?;
+    Ok(())
+}

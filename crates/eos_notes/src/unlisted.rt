@@ -1,0 +1,190 @@
+//! The notes of partitions that have no declared end, but of which a group has committed an offset.
+
+ghost use Rattle.std.specs.Prelude.{◌≡◌, ◌++◌, [], ◌∷◌, true, List, map, filter, IfOk, OnOk, IsPermutation, IsSorted};
+ghost use Rattle.std.specs.List.{Any, Contains};
+ghost use Rattle.std.specs.List.Sorted.{IsStrictlySortedBy};
+ghost use Rattle.std.specs.Ordering.{is_eq};
+ghost use Rattle.eos_base.specs.Members.{is_found};
+ghost use Rattle.eos_base.specs.PartitionNames.{name_cmp};
+ghost use Rattle.eos_base.specs.declared.partition_name.PartitionName.{PartitionName as Name};
+ghost use Rattle.eos_commits.specs.Plain.{plain_commit};
+ghost use Rattle.eos_evidence.specs.declared.ends.End.{End as EndOf};
+ghost use Rattle.eos_notes.specs.CommitNotes.{end_name, commits_for, unlisted_note, AreUnlisted, AreUnlistedNotes};
+ghost use Rattle.eos_notes.specs.steps.Unlisted.{plain_name, by_name, commit_name, is_unlisted, AreEachOnce};
+
+use crate::note::Note;
+use bytes::Bytes;
+use eos_base::{PartitionName, holds, in_order};
+use eos_commits::{CommitRef, commits_of};
+use eos_evidence::{App, End, GroupId};
+use eos_fold::Part;
+use std::alloc::{AllocError, Global};
+
+/// A partition's name whose topic is lent.
+#[derive(Clone, Copy, PartialEq, Eq, PartialOrd, Ord)]
+pub(crate) struct NameRef<'a> {
+    pub(crate) topic: &'a [u8],
+    pub(crate) partition: i32,
+}
+
+// The partitions that have a declared end.
+fn listed_names<'a>(alloc: Global, ends: &'a [End]) -> Result<Vec<NameRef<'a>>, AllocError>
+    ensures { IfOk result (λ names. map plain_name names.items ≡ map end_name ends.now) }
+{
+    let mut names = Vec::new(alloc);
+    for end in ends {
+        names.push(NameRef {
+            topic: end.topic.as_slice(),
+            partition: end.partition,
+        })?;
+    }
+    Ok(names)
+}
+
+// Whether the name is among these, which are in order.
+fn is_listed(listed: &[NameRef<'_>], name: &NameRef<'_>) -> bool
+    requires { IsSorted by_name listed.now }
+    ensures { result ≡ is_found name_cmp (map plain_name listed.now) (plain_name name.now) }
+{
+    holds(listed, name)
+}
+
+fn name_of<'a>(commit: &CommitRef<'a>) -> NameRef<'a>
+    ensures { plain_name result ≡ commit_name (plain_commit commit.entry.now) }
+{
+    NameRef {
+        topic: commit.topic,
+        partition: commit.partition,
+    }
+}
+
+// The partitions of these commits that aren't among the listed ones, which are in order.
+fn unlisted_names<'a>(
+    alloc: Global,
+    listed: &[NameRef<'_>],
+    commits: &[CommitRef<'a>],
+) -> Result<Vec<NameRef<'a>>, AllocError>
+    requires { IsSorted by_name listed.now }
+    ensures { IfOk result (λ names. map plain_name names.items ≡ filter (is_unlisted (map plain_name listed.now)) (map commit_name (map plain_commit commits.entry.now))) }
+{
+    let mut names = Vec::new(alloc);
+    for commit in commits {
+        let name = name_of(commit);
+        if !is_listed(listed, &name) {
+            names.push(name)?;
+        }
+    }
+    Ok(names)
+}
+
+// The items in order, of those that are tied one.
+fn distinct_in_order<T: Ord + Drop>(mut items: Vec<T>) -> Vec<T>
+    ensures ascend { IsStrictlySortedBy T.cmp result.items }
+    ensures sound { (x : T) → Contains result.items x → Contains items.items x }
+    ensures whole { (x : T) → Contains items.items x → Any (λ y. is_eq (T.cmp x y) ≡ true) result.items }
+{
+    items.sort_unstable();
+    items.dedup();
+    items
+}
+
+// Each name once, in order.
+fn each_once<'a>(names: Vec<NameRef<'a>>) -> Vec<NameRef<'a>>
+    ensures { AreEachOnce (map plain_name names.entry.items) (map plain_name result.items) }
+{
+    distinct_in_order(names)
+}
+
+fn own_name(alloc: Global, name: &NameRef<'_>) -> Result<PartitionName, AllocError>
+    ensures { IfOk result (λ n. n ≡ plain_name name.now) }
+{
+    Ok(PartitionName {
+        topic: Bytes::copy_from_slice(alloc, name.topic)?,
+        partition: name.partition,
+    })
+}
+
+fn push_note(
+    alloc: Global,
+    all: &mut Vec<Note>,
+    group: &GroupId,
+    name: &NameRef<'_>,
+) -> Result<(), AllocError>
+    ensures { OnOk result (all.new.items ≡ all.old.items ++ unlisted_note group.now (plain_name name.now) ∷ []) }
+{
+    let partition = own_name(alloc, name)?;
+    all.push(Note::Unlisted {
+        partition,
+        group: group.clone()?,
+    })?;
+    Ok(())
+}
+
+fn push_notes(
+    alloc: Global,
+    all: &mut Vec<Note>,
+    group: &GroupId,
+    names: &[NameRef<'_>],
+) -> Result<(), AllocError>
+    ensures { OnOk result (all.new.items ≡ all.old.items ++ map (unlisted_note group.now) (map plain_name names.now)) }
+{
+    for name in names {
+        push_note(alloc, all, group, name)?;
+    }
+    Ok(())
+}
+
+// The notes of one application, behind the others.
+fn push_app(
+    alloc: Global,
+    all: &mut Vec<Note>,
+    app: &App,
+    listed: &[NameRef<'_>],
+    parts: &[Part],
+) -> Result<(), AllocError>
+    requires { IsSorted by_name listed.now }
+    ensures { OnOk result ((ends : List EndOf) → IsPermutation (map end_name ends) (map plain_name listed.now)
+        → (names : List Name) × AreUnlisted ends (commits_for parts.now app.now) names × (all.new.items ≡ all.old.items ++ map (unlisted_note app.now.group) names)) }
+{
+    let commits = commits_of(alloc, app.group.as_bytes(), app.sources.as_slice(), parts)?;
+    let found = unlisted_names(alloc, listed, commits.as_slice())?;
+    let names = each_once(found);
+    push_notes(alloc, all, &app.group, names.as_slice())?;
+    Ok(())
+}
+
+// The notes of the applications, by the names that have a declared end, in order.
+fn notes_by(
+    alloc: Global,
+    apps: &[App],
+    listed: &[NameRef<'_>],
+    parts: &[Part],
+) -> Result<Vec<Note>, AllocError>
+    requires { IsSorted by_name listed.now }
+    ensures { IfOk result (λ all. (ends : List EndOf) → IsPermutation (map end_name ends) (map plain_name listed.now) → AreUnlistedNotes ends parts.now apps.now all.items) }
+{
+    let mut all = Vec::new(alloc);
+    for app in apps {
+        push_app(alloc, &mut all, app, listed, parts)?;
+    }
+    Ok(all)
+}
+
+/// A note for each partition of a source topic that has no declared end, but of which the application's group has committed an
+/// offset.
+///
+/// # Errors
+/// Only want of memory.
+pub(crate) fn unlisted_notes(
+    alloc: Global,
+    apps: &[App],
+    ends: &[End],
+    parts: &[Part],
+) -> Result<Vec<Note>, AllocError>
+    ensures { IfOk result (λ all. AreUnlistedNotes ends.now parts.now apps.now all.items) }
+{
+    let names = listed_names(alloc, ends)?;
+    let listed = in_order(names);
+    let all = notes_by(alloc, apps, listed.as_slice(), parts)?;
+    Ok(all)
+}

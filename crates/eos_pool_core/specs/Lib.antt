@@ -1,0 +1,3 @@
+pub mod PoolState
+pub mod PoolEvents
+pub mod steps

@@ -1,0 +1,160 @@
+//! The lines of the records that were asked for, and of their batches.
+
+ghost use Rattle.std.specs.Prelude.{◌≡◌, ◌++◌, ◌+◌, ◌^◌, ◌≤ℤ◌, ◌+ℤ◌, ℕ, pos, nat_lt, max, min, length, OnOk, string_bytes};
+ghost use Rattle.eos_text.specs.Adding.{Adds};
+ghost use Rattle.eos_segment.specs.Choosing.{its_headers, its_content, chosen_record, chosen_records, chosen_lines, asks_for_one as one_is_asked};
+ghost use Rattle.eos_segment.specs.Lines.{record_line, batch_line};
+ghost use Rattle.eos_segment.specs.Listing.{kind_word as kind_word_of};
+
+use crate::headers::push_headers;
+use crate::lines::{kind_word, push_head, push_record};
+use crate::options::ListingOptions;
+use eos_batch::{Batch, Record};
+use eos_decoded::{Reading, push_decoded};
+use std::alloc::{AllocError, Global};
+
+fn push_its_headers(
+    alloc: Global,
+    out: &mut String,
+    options: &ListingOptions,
+    batch: &Batch,
+    item: &Record,
+) -> Result<(), AllocError>
+    ensures { OnOk result (Adds (string_bytes out.old) (string_bytes out.new) (its_headers options.now batch.now item.now)) }
+{
+    if options.headers {
+        push_headers(alloc, out, batch, item)?;
+    }
+    Ok(())
+}
+
+/// Adds what a data record says, where it is read.
+fn push_content(
+    alloc: Global,
+    out: &mut String,
+    decode: Option<Reading>,
+    batch: &Batch,
+    item: &Record,
+) -> Result<(), AllocError>
+    ensures { OnOk result (Adds (string_bytes out.old) (string_bytes out.new) (its_content decode batch.now item.now)) }
+{
+    match decode {
+        None => Ok(()),
+        Some(reading) => {
+            if batch.is_control() {
+                return Ok(());
+            }
+            push_decoded(alloc, out, reading, item)
+        }
+    }
+}
+
+/// Adds the lines of a record that was asked for.
+fn push_asked(
+    alloc: Global,
+    out: &mut String,
+    options: &ListingOptions,
+    batch: &Batch,
+    offset: i64,
+    item: &Record,
+) -> Result<(), AllocError>
+    ensures { OnOk result (Adds (string_bytes out.old) (string_bytes out.new)
+        (record_line offset item.now ++ (its_headers options.now batch.now item.now ++ its_content options.now.decode batch.now item.now))) }
+{
+    push_record(alloc, out, offset, item)?;
+    push_its_headers(alloc, out, options, batch, item)?;
+    push_content(alloc, out, options.decode, batch, item)?;
+    Ok(())
+}
+
+#[tactic(auto, unfolding(crate::specs::Choosing::chosen_record))]
+fn push_chosen(
+    alloc: Global,
+    out: &mut String,
+    options: &ListingOptions,
+    batch: &Batch,
+    offset: i64,
+    item: &Record,
+) -> Result<(), AllocError>
+    requires { pos 0 ≤ℤ offset }
+    ensures { OnOk result (Adds (string_bytes out.old) (string_bytes out.new) (chosen_record options.now batch.now offset item.now)) }
+{
+    if options.ask_for(offset) {
+        push_asked(alloc, out, options, batch, offset, item)?;
+    }
+    Ok(())
+}
+
+/// Adds the lines of a batch's records that were asked for.
+fn push_records(
+    alloc: Global,
+    out: &mut String,
+    options: &ListingOptions,
+    batch: &Batch,
+) -> Result<(), AllocError>
+    requires low { pos 0 ≤ℤ batch.now.base_offset }
+    requires high { (batch.now.base_offset +ℤ pos (length batch.now.records)) ≤ℤ pos (2 ^ 63) }
+    ensures { OnOk result (Adds (string_bytes out.old) (string_bytes out.new)
+        (chosen_records options.now batch.now batch.now.base_offset batch.now.records)) }
+{
+    for (place, item) in batch.records.as_slice().iter().enumerate() {
+        let offset = batch.base_offset + place as i64;
+        push_chosen(alloc, out, options, batch, offset, item)?;
+    }
+    Ok(())
+}
+
+/// Whether one of so many offsets, from the first one on, was asked for.
+fn asks_between(options: &ListingOptions, base: &i64, count: usize) -> bool
+    requires low { pos 0 ≤ℤ base.now }
+    requires high { (base.now +ℤ pos count) ≤ℤ pos (2 ^ 63) }
+    ensures { (n : ℕ) → base.now ≡ pos n → result ≡ nat_lt (max options.now.from n) (min options.now.to (n + count)) }
+{
+    let first = *base as u64;
+    let end = first + count as u64;
+    options.from.max(first) < options.to.min(end)
+}
+
+/// Whether a record of this batch was asked for.
+fn asks_for_one(options: &ListingOptions, batch: &Batch) -> bool
+    requires low { pos 0 ≤ℤ batch.now.base_offset }
+    requires high { (batch.now.base_offset +ℤ pos (length batch.now.records)) ≤ℤ pos (2 ^ 63) }
+    ensures { result ≡ one_is_asked options.now batch.now.base_offset batch.now.records }
+{
+    asks_between(options, &batch.base_offset, batch.records.len())
+}
+
+fn push_whole(
+    alloc: Global,
+    out: &mut String,
+    options: &ListingOptions,
+    byte: usize,
+    batch: &Batch,
+) -> Result<(), AllocError>
+    requires low { pos 0 ≤ℤ batch.now.base_offset }
+    requires high { (batch.now.base_offset +ℤ pos (length batch.now.records)) ≤ℤ pos (2 ^ 63) }
+    ensures { OnOk result (Adds (string_bytes out.old) (string_bytes out.new)
+        (batch_line byte (kind_word_of batch.now) batch.now ++ chosen_records options.now batch.now batch.now.base_offset batch.now.records)) }
+{
+    push_head(out, byte, kind_word(batch), batch)?;
+    push_records(alloc, out, options, batch)?;
+    Ok(())
+}
+
+/// Adds the lines of the batch that begins at this byte, where one of its records was asked for.
+pub(crate) fn push_batch(
+    alloc: Global,
+    out: &mut String,
+    options: &ListingOptions,
+    byte: usize,
+    batch: &Batch,
+) -> Result<(), AllocError>
+    requires low { pos 0 ≤ℤ batch.now.base_offset }
+    requires high { (batch.now.base_offset +ℤ pos (length batch.now.records)) ≤ℤ pos (2 ^ 63) }
+    ensures { OnOk result (Adds (string_bytes out.old) (string_bytes out.new) (chosen_lines options.now byte batch.now)) }
+{
+    if asks_for_one(options, batch) {
+        push_whole(alloc, out, options, byte, batch)?;
+    }
+    Ok(())
+}

@@ -1,0 +1,4 @@
+-- What only private functions promise: steps towards what the public calls say.
+pub mod Candidates
+pub mod Keys
+pub mod LogCandidates

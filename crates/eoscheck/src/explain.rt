@@ -1,0 +1,28 @@
+//! `explain`: what a kind of fault is.
+
+ghost use Rattle.std.specs.Prelude.{◌≡◌, Err, OnOk, OnErr};
+ghost use Rattle.std.specs.Io.KnownBytes.{Appends, Keeps};
+ghost use Rattle.eos_catalogue.specs.Pages.{page_text};
+ghost use Rattle.eos_text.specs.Writing.{WritesFront};
+ghost use Rattle.eos_segment.specs.Running.{IsOfReading};
+
+use eos_catalogue::{Page, page_text};
+use eos_segment::RunFault;
+use eos_text::finish;
+use std::alloc::Global;
+use std::io::Write;
+
+/// Writes a page of the catalogue. The status is 0.
+///
+/// # Errors
+/// At `Write` a front of it was written, at `OutOfMemory` nothing. There is no other refusal.
+pub(crate) fn page_to<W: Write>(alloc: Global, page: &Page, writer: &mut W) -> Result<u8, RunFault>
+    ensures ok { OnOk result (Appends (W.contents writer.old) (W.contents writer.new) (page_text page.now)) }
+    ensures write { result ≡ Err RunFault.Write → WritesFront (W.contents writer.old) (W.contents writer.new) (page_text page.now) }
+    ensures memory { result ≡ Err RunFault.OutOfMemory → Keeps (W.contents writer.old) (W.contents writer.new) }
+    ensures only { OnErr result (IsOfReading result → ⊥) }
+{
+    let text = page_text(alloc, page)?;
+    finish(writer, text.as_bytes())?;
+    Ok(0)
+}

@@ -1,0 +1,94 @@
+"""The catalogue of faults: each kind of docs/YES.md has a page, and docs/FAULTS.md and the help of check have all of them.
+
+    python3 -B tests/fault_pages.py PROGRAM            compares
+    python3 -B tests/fault_pages.py PROGRAM --write    writes docs/FAULTS.md
+
+The kinds and their names are those of docs/YES.md, which another test holds against the definitions. The last line is
+'N passed, N failed'.
+"""
+import re
+import subprocess
+import sys
+
+PAGE = "docs/FAULTS.md"
+HEAD = """# The kinds of faults
+
+What `check` answers after *no*, kind by kind: what it says, what it means, what makes it happen, and what to look at next.
+`eoscheck explain --code 5.10` prints a page of it. A phase counts only where those before it have no fault; which definition
+stands behind a kind is in `YES.md`, and what an answer about a whole folder often is in `EVIDENCE.md`.
+
+This page is made from the program's own table, by `tests/fault_pages.py`.
+"""
+PHASES = {
+    "1": "Phase 1: a partition's log by itself",
+    "2": "Phase 2: the transaction log",
+    "3": "Phase 3: decisions and logs",
+    "4": "Phase 4: single visible records",
+    "5": "Phase 5: the outputs",
+}
+HEADINGS = ["What it says", "What it means", "What makes it happen, the likeliest first", "What to look at"]
+
+
+def kinds():
+    """The code and the name of each kind, in order."""
+    with open("docs/YES.md", encoding="utf-8") as file:
+        return re.findall(r"^\| ([1-5]\.\d+) \| `(\w+)` \|", file.read(), re.M)
+
+
+def run(program, *words):
+    return subprocess.run([program, *words], stdin=subprocess.DEVNULL, capture_output=True, text=True, check=False)
+
+
+def markdown(text):
+    title, *sections = text.rstrip("\n").split("\n\n")
+    said = [f"### {title}\n"]
+    for section in sections:
+        heading, _, lines = section.partition("\n")
+        said.append(f"**{heading}.**" + ("\n\n" if lines.startswith("- ") else " ") + lines + "\n")
+    return "\n".join(said)
+
+
+def main():
+    program = sys.argv[1]
+    passed, wrong, pages, phase = 0, [], [HEAD], ""
+    helped = run(program, "check", "--help").stdout
+
+    def expect(holds, why):
+        nonlocal passed
+        passed += bool(holds)
+        if not holds:
+            wrong.append(why)
+
+    for code, name in kinds():
+        ran = run(program, "explain", "--code", code)
+        expect((ran.returncode, ran.stderr) == (0, ""), f"{code}: status {ran.returncode}, {ran.stderr}")
+        expect(ran.stdout.startswith(f"{code} {name}\n"), f"{code}: its page isn't that of {name}")
+        expect([it.partition("\n")[0] for it in ran.stdout.split("\n\n")[1:]] == HEADINGS, f"{code}: other sections")
+        expect(max(map(len, ran.stdout.splitlines())) <= 78, f"{code}: a line is too long")
+        expect(re.search(rf"^  {re.escape(code)} +{name} ", helped, re.M), f"{code}: not in the help of check")
+        if code[0] != phase:
+            phase = code[0]
+            pages.append(f"## {PHASES[phase]}\n")
+        pages.append(markdown(ran.stdout))
+    text = "\n".join(pages)
+    if "--write" in sys.argv[2:]:
+        with open(PAGE, "w", encoding="utf-8") as file:
+            file.write(text)
+    with open(PAGE, encoding="utf-8") as file:
+        expect(file.read() == text, f"{PAGE} isn't what the program's pages say: write it by --write")
+    expect(len(re.findall(r"^  [1-5]\.\d+ +[A-Z]", helped, re.M)) == len(kinds()), "the help of check names other kinds")
+    for code in ("", "0.1", "1.12", "5.1", "6.1", "5.100", "510", "Repeated", "5.10 "):
+        ran = run(program, "explain", "--code", code)
+        want = (2, "", f"eoscheck: no fault has the code {code}\n")
+        expect((ran.returncode, ran.stdout, ran.stderr) == want, f"code {code!r}: {ran}")
+    for words in (["explain"], ["explain", "--code"], ["explain", "5.10"]):
+        ran = run(program, *words)
+        expect(ran.returncode == 2 and not ran.stdout and ran.stderr, f"{words}: {ran}")
+    for why in wrong:
+        print(f"FAILED: {why}")
+    print(f"{passed} passed, {len(wrong)} failed")
+    return bool(wrong)
+
+
+if __name__ == "__main__":
+    sys.exit(main())

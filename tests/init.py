@@ -1,0 +1,350 @@
+#!/usr/bin/env -S python3 -B
+"""What `init` makes of folders whose manifest was taken away: the same manifest again, or a refusal; and what it notes.
+
+    tests/init.py PROGRAM [REFUSE.SO]
+
+Simulated folders, and each of tests/evidence and tests/real-evidence that has a manifest, with ends in the form of
+kafka-get-offsets.sh. Those without an application, or with one that has no topics, no word gives. Which partitions the transaction log lists is read by tests/plain_logs.py. With REFUSE.SO
+(tests/refuse.c, built) the allocations of a run are refused, each in turn. Prints what is wrong, and as its last line
+'N passed, N failed'.
+"""
+import json
+import os
+import re
+import resource
+import shutil
+import signal
+import subprocess
+import sys
+import tempfile
+
+import plain_logs
+
+INTERNAL = {b"__consumer_offsets", b"__transaction_state"}
+CUT = "eoscheck: note: the ends are those of the copied logs, so a copy that was cut short can't be found\n"
+APP = "g:in:out"
+
+passed = failed = 0
+
+
+def expect(holds, what):
+    global passed, failed
+    if holds:
+        passed += 1
+    else:
+        failed += 1
+        print(f"FAILED: {what}")
+
+
+def run(*words, **settings):
+    done = subprocess.run([program, *map(str, words)], capture_output=True, timeout=120, **settings)
+    return done.returncode, done.stdout.decode(), done.stderr.decode()
+
+
+def init(folder, *words, **settings):
+    return run("init", *words, folder, **settings)
+
+
+def load(folder):
+    with open(os.path.join(folder, "evidence.json"), encoding="utf-8") as file:
+        return json.load(file)
+
+
+def apps_of(manifest):
+    return manifest["apps"] if manifest["version"] == 2 else [manifest]
+
+
+def words_of(apps):
+    found = []
+    for app in apps:
+        found += ["--app", ":".join([app["group"], ",".join(app["sources"]), ",".join(app["outputs"])])]
+    return found
+
+
+def said(manifest):
+    """What a manifest says, of either version."""
+    apps = [(app["group"], app["sources"], app["outputs"]) for app in apps_of(manifest)]
+    return manifest["version"], apps, manifest["ends"]
+
+
+def lines_of(ends):
+    return "".join(f"{name.rpartition('-')[0]}:{name.rpartition('-')[2]}:{end}\n" for name, end in sorted(ends.items()))
+
+
+def taken_away(source, name):
+    """A copy of a folder without its manifest, and the manifest."""
+    folder = os.path.join(scratch, name)
+    shutil.copytree(source, folder)
+    os.chmod(folder, 0o755)
+    manifest = load(folder)
+    os.remove(os.path.join(folder, "evidence.json"))
+    return folder, manifest
+
+
+def place(name):
+    topic, _, number = name.rpartition("-")
+    return topic.encode(), int(number)
+
+
+def folders_in(folder):
+    names = [name for name in os.listdir(folder) if re.fullmatch(r"[A-Za-z0-9._-]{1,249}-(0|[1-9]\d*)", name)]
+    return {place(name) for name in names if place(name)[1] < 2**31}
+
+
+def listed_in(folder):
+    """The partitions that a record of the transaction log lists, up to the first fault of each segment."""
+    found = set()
+    for topic, number in folders_in(folder):
+        path = os.path.join(folder, f"{topic.decode()}-{number}")
+        if topic != b"__transaction_state" or not os.path.isdir(path):
+            continue
+        for file in os.listdir(path):
+            if not re.fullmatch("[0-9]{20}[.]log", file):
+                continue
+            with open(os.path.join(path, file), "rb") as opened:
+                data, at = opened.read(), 0
+            while at < len(data):
+                try:
+                    batch, size = plain_logs.read_batch(data, at)
+                except plain_logs.Refused:
+                    break
+                at += size
+                for record in batch.records if batch.word in ("plain", "txn") else []:
+                    try:
+                        if plain_logs.state_key(record.key) is not None:
+                            found |= plain_logs.state_value(record.value).partitions or set()
+                    except plain_logs.Refused:
+                        pass
+    return found
+
+
+def wanted(folder, manifest):
+    """The ends that the manifest gets, and the first partition without one."""
+    topics = INTERNAL | {topic.encode() for app in apps_of(manifest) for topic in app["sources"] + app["outputs"]}
+    listed = listed_in(folder)
+    required = listed | {it for it in folders_in(folder) if it[0] in topics}
+    ends = {name: end for name, end in manifest["ends"].items() if place(name)[0] in topics or place(name) in listed}
+    lacking = sorted(required - {place(name) for name in manifest["ends"]})
+    return ends, lacking[0] if lacking else None
+
+
+def again(source, name):
+    """Makes the manifest of a folder again by its ends."""
+    folder, manifest = taken_away(source, name)
+    ends, lacking = wanted(folder, manifest)
+    apps = apps_of(manifest)
+    file = os.path.join(scratch, "ends.txt")
+    with open(file, "w", encoding="utf-8") as opened:
+        opened.write(lines_of(manifest["ends"]))
+    done = init(folder, *words_of(apps), "--ends", file)
+    if not apps or not all(app["sources"] and app["outputs"] for app in apps):
+        why = "not GROUP:SOURCE,..:OUTPUT,.." if apps else "required arguments"
+        expect(done[:2] == (2, "") and why in done[2], f"{name} has no application, or one without topics: {done}")
+        return folder, None
+    if lacking:
+        text = f"eoscheck: {lacking[0].decode()}-{lacking[1]} has no end\n"
+        expect(done == (2, "", text) and "evidence.json" not in os.listdir(folder), f"{name} lacks an end: {done}")
+        return folder, None
+    made = said(load(folder)) if done[0] == 0 else None
+    version = 1 if len(apps) == 1 else 2
+    expect(done[:2] == (0, f"wrote partitions={len(ends)}\n"), f"init of {name}: {done}")
+    expect(made == (version, said(manifest)[1], ends), f"the manifest of {name}: {made}")
+    expect(sorted(os.listdir(folder)) == sorted(os.listdir(source)), f"files beside the manifest of {name}")
+    return folder, manifest
+
+
+def simulated(seed, events):
+    source = os.path.join(scratch, f"seed-{seed}")
+    expect(run("simulate", "--seed", seed, "--events", events, source)[0] == 0, f"simulate of seed {seed}")
+    folder, manifest = taken_away(source, f"copy-{seed}")
+    made = []
+    for words, given, noted in (
+        (["--ends", "-"], lines_of(manifest["ends"]), ""),
+        (["--ends", "-", "--version1"], lines_of(manifest["ends"]) + "other:0:7\nother:1:9\n", ""),
+        (["--ends-from-logs"], "", CUT),
+    ):
+        done = init(folder, "--app", APP, *words, input=given.encode())
+        expect(done == (0, "wrote partitions=6\n", noted), f"init of seed {seed} by {words}: {done}")
+        made.append(load(folder) if done[0] == 0 else None)
+        if done[0] == 0:
+            os.remove(os.path.join(folder, "evidence.json"))
+    expect(made == [manifest] * 3, f"the manifests of seed {seed}: {made}")
+
+
+def sample_folders():
+    for collection in ("evidence", "real-evidence"):
+        with open(os.path.join(HERE, collection, "expected.tsv"), encoding="utf-8") as file:
+            rows = [line.rstrip("\n").split("\t") for line in file]
+        for name, status, line in rows:
+            if status == "2":
+                continue
+            folder, manifest = again(os.path.join(HERE, collection, name), f"{collection}-{name}")
+            whole = status == "0" and all(os.path.isdir(os.path.join(folder, it)) for it in (manifest or {"ends": []})["ends"])
+            if manifest and whole and os.path.isfile(os.path.join(folder, "evidence.json")):
+                ends = load(folder)["ends"]
+                os.remove(os.path.join(folder, "evidence.json"))
+                done = init(folder, *words_of(apps_of(manifest)), "--ends-from-logs")
+                found = load(folder)["ends"] if done[0] == 0 else None
+                expect(done[0] == 0 and done[2].startswith(CUT) and found == ends, f"{name} with the ends of its logs: {done}")
+
+
+# ---- what is refused
+
+
+def refused(folder, words, text, **settings):
+    """A refusal in one line, after which nothing was written."""
+    before = sorted(os.listdir(folder)) if os.path.isdir(folder) else None
+    done = init(folder, *words, **settings)
+    after = sorted(os.listdir(folder)) if os.path.isdir(folder) else None
+    expect(done == (2, "", f"eoscheck: {text}\n") and before == after, f"{words}: {done}")
+
+
+def limited(most):
+    """Settings of a run under which no file gets more than so many bytes."""
+
+    def limit():
+        signal.signal(signal.SIGXFSZ, signal.SIG_IGN)
+        resource.setrlimit(resource.RLIMIT_FSIZE, (most, most))
+
+    return {"preexec_fn": limit}
+
+
+def bad_input(source):
+    folder, manifest = taken_away(source, "bad")
+    good = lines_of(manifest["ends"])
+    ends, app = ["--ends", "-"], ["--app", APP]
+    for bad in ("in", "in:0", "in:0:", "in:0:x", "in:0:-1", "in:0:007", "in:x:1", "in::1", "in:00:1", ":0:1", "a b:0:1", "in:0:1:2x",
+                "in:2147483648:1", "in:0:9223372036854775808", "in:0:1\r", "", " in:0:1", "in:0: 1", "..:0:1", "t" * 250 + ":0:1"):
+        for at, text in ((1, f"{bad}\n{good}"), (7, f"{good}{bad}\n"), (3, "other:0:1\nother:1:1\n" + bad + "\n" + good)):
+            refused(folder, [*app, *ends], f"line {at} of -: not TOPIC:PARTITION:OFFSET", input=text.encode())
+    refused(folder, [*app, *ends], "line 7 of -: not TOPIC:PARTITION:OFFSET", input=good.encode() + b"\xff:0:1")
+    for name in manifest["ends"]:
+        text = "".join(line + "\n" for line in good.splitlines() if not line.startswith(":".join(name.rsplit("-", 1)) + ":"))
+        refused(folder, [*app, *ends], f"{name} has no end", input=text.encode())
+    refused(folder, [*app, *ends], "a partition has two ends", input=(good + good.splitlines()[0] + "\n").encode())
+    many = "".join(f"in:{number}:0\n" for number in range(100, 4200))
+    refused(folder, [*app, *ends], "limit", input=(good + many).encode())
+    for word in ("g", "g:in", ":", "::", "g::out", "g:in:", "g:in,:out", "g:in:out,", "g:a b:out", "g:in:out:", "in,out", "g:..:out"):
+        refused(folder, ["--app", word, *ends], f"--app {word}: not GROUP:SOURCE,..:OUTPUT,..", input=good.encode())
+    doubled = "--app: a topic stands twice or is Kafka's own, or two have one group or one output topic"
+    for words in (["g:in:in"], ["g:in,in:out"], ["g:__consumer_offsets:out"], ["g:in:__transaction_state"],
+                  [APP, "g:out:fin"], [APP, "h:out:out2,out"]):
+        refused(folder, [it for word in words for it in ("--app", word)] + ends, doubled, input=good.encode())
+    many = [it for number in range(257) for it in ("--app", f"g{number}:in:out{number}")]
+    refused(folder, [*many, *ends], "limit", input=good.encode())
+    one = "init takes one of --ends FILE and --ends-from-logs"
+    refused(folder, app, one)
+    refused(folder, [*app, *ends, "--ends-from-logs"], one)
+    refused(folder, ["--version1", *app, "--app", "h:out:fin", *ends], "init --version1 takes one --app")
+    refused(folder, [*app, "--ends", f"{scratch}/absent"], f"cannot read {scratch}/absent\n  no such file")
+    refused(folder, [*app, "--ends", scratch], f"cannot read {scratch}\n  a folder")
+    refused(f"{scratch}/absent", [*app, *ends], f"cannot read {scratch}/absent\n  no such file", input=good.encode())
+    refused(folder, [*app, *ends], f"cannot write {folder}/evidence.json", input=good.encode(), **limited(10))
+    for there in ("{}", ""):
+        with open(f"{folder}/evidence.json", "w", encoding="utf-8") as file:
+            file.write(there)
+        refused(folder, [*app, *ends], f"cannot write {folder}/evidence.json: it is there already", input=good.encode())
+        with open(f"{folder}/evidence.json", encoding="utf-8") as file:
+            expect(file.read() == there, "a manifest that is there stays")
+        os.remove(f"{folder}/evidence.json")
+    os.symlink("nowhere", f"{folder}/evidence.json")
+    refused(folder, [*app, *ends], f"cannot write {folder}/evidence.json: it is there already", input=good.encode())
+    os.remove(f"{folder}/evidence.json")
+    for words in (["init"], ["init", folder], ["init", *app, *ends], ["init", "--app", "--ends", "-", folder]):
+        status, out, text = run(*words)
+        expect((status, out) == (2, "") and text != "", f"bad words {words}")
+    with open("/dev/full", "w", encoding="utf-8") as full:
+        done = subprocess.run([program, "init", *app, "--ends-from-logs", folder], stdout=full, stderr=subprocess.PIPE, timeout=60)
+        expect((done.returncode, done.stderr.decode()) == (2, CUT + "eoscheck: cannot write -\n"), "init to a full device")
+
+
+# ---- what is said beside
+
+
+def noted(source):
+    """The notes, in the order of the partitions; the manifest is written, and `check` refuses what they tell."""
+    folder, manifest = taken_away(source, "noted")
+    first = "00000000000000000000.log"
+    os.remove(f"{folder}/__consumer_offsets-0/{first}")
+    with open(f"{folder}/in-0/{first}", "r+b") as file:
+        file.seek(22)
+        file.write(b"\x02")
+    shutil.rmtree(f"{folder}/out-1")
+    text = lines_of({**manifest["ends"], "in-7": 0})
+    done = init(folder, "--app", APP, "--ends", "-", input=text.encode())
+    notes = [
+        "__consumer_offsets-0 begins with segment 00000000000000000016.log: its first segments are missing",
+        "in-0 begins with a compressed batch",
+        "out-1 has no folder",
+    ]
+    want = (0, "wrote partitions=7\n", "".join(f"eoscheck: note: {note}\n" for note in notes))
+    expect(done == want, f"the notes: {done}")
+    expect(load(folder)["ends"] == {**manifest["ends"], "in-7": 0}, "the manifest beside the notes")
+    expect(run("check", folder)[0] == 1, "check of a folder with notes")
+
+
+def groups(source):
+    """A group with colons, and two applications."""
+    folder, manifest = taken_away(source, "groups")
+    text = lines_of({**manifest["ends"], "fin-0": 0, "not-0": 5}).encode()
+    done = init(folder, "--app", "a:b,c::in:out", "--app", "h é:out:fin", "--ends", "-", input=text)
+    want = {
+        "version": 2,
+        "apps": [
+            {"group": "a:b,c:", "sources": ["in"], "outputs": ["out"]},
+            {"group": "h é", "sources": ["out"], "outputs": ["fin"]},
+        ],
+        "ends": {**manifest["ends"], "fin-0": 0},
+    }
+    expect(done == (0, "wrote partitions=7\n", "") and load(folder) == want, f"two applications: {done}")
+
+
+def refused_memory(source, library):
+    """Each allocation of a run, or where there are many every so-manieth: the manifest is written, or the answer is want of
+    memory and nothing is."""
+    folder, manifest = taken_away(source, "memory")
+    files = sorted(os.listdir(folder))
+    count = os.path.join(scratch, "count")
+    words = dict(os.environ, LD_PRELOAD=library)
+    for given in (["--ends", "-"], ["--ends-from-logs"]):
+        text = lines_of(manifest["ends"]).encode()
+        good = init(folder, "--app", APP, *given, input=text, env=dict(words, REFUSE_COUNT=count))
+        expect(good[0] == 0 and load(folder) == manifest, f"{given} with allocations counted")
+        os.remove(f"{folder}/evidence.json")
+        with open(count, encoding="utf-8") as file:
+            total = int(file.read())
+        told = 0
+        for at in range(1, total + 1, max(1, total // 400)):
+            found = init(folder, "--app", APP, *given, input=text, env=dict(words, REFUSE_AT=str(at)))
+            if found[0] == 0 and found[1] == good[1]:
+                expect(load(folder) == manifest, f"{given}, allocation {at} refused: another manifest")
+                os.remove(f"{folder}/evidence.json")
+            else:
+                told += 1
+                right = found[:2] == (3, "") and found[2].endswith("eoscheck: out of memory\n")
+                left = [it for it in os.listdir(folder) if it != "evidence.json"]
+                expect(right and sorted(left) == files, f"{given}, allocation {at} refused: {found}")
+                if os.path.exists(f"{folder}/evidence.json"):
+                    expect(load(folder) == manifest, f"{given}, allocation {at} refused: a part of a manifest")
+                    os.remove(f"{folder}/evidence.json")
+        expect(told > 100, f"{given}: {told} of {total} refused allocations are told")
+
+
+def main():
+    for seed in range(1, 9):
+        simulated(seed, 40 * seed)
+    source = os.path.join(scratch, "seed-5")
+    sample_folders()
+    bad_input(source)
+    noted(source)
+    groups(source)
+    if len(sys.argv) > 2:
+        refused_memory(source, os.path.abspath(sys.argv[2]))
+    print(f"{passed} passed, {failed} failed")
+
+
+if __name__ == "__main__":
+    HERE = os.path.dirname(os.path.abspath(__file__))
+    program = os.path.abspath(sys.argv[1])
+    with tempfile.TemporaryDirectory() as scratch:
+        main()
