@@ -56,8 +56,8 @@ class Progress:
 
 
 def prove(crates, work=None):
-    """Proves these crates, and returns the names of those that are not proved. `work(crate, flags)` gives the status of one;
-    without it each is built as a library.
+    """Proves these crates, and returns the names of those that are not proved. `work(crate, flags)` gives the status of one,
+    None where its proof stands as it is; without it each is built as a library.
     """
     work = work or (lambda crate, flags: crate.build_rlib(flags, anew=False))
     progress = Progress(crates)
@@ -75,7 +75,8 @@ def prove(crates, work=None):
                 crate.out.seek(0)
                 print(f"== {crate.name}\n{crate.out.read()}", file=sys.stderr, flush=True)
         took = time.time() - start
-        progress.say(f"{crate.name}: {'NOT PROVED' if status else 'proved'} in {took:.0f} s", crate.name)
+        ended = "stands as it is" if status is None else f"{'NOT PROVED' if status else 'proved'} in {took:.0f} s"
+        progress.say(f"{crate.name}: {ended}", crate.name)
         return not status
 
     names = {it.name for it in crates}
@@ -92,7 +93,24 @@ def prove(crates, work=None):
 def crates_of_the_repository():
     """All crates, lowest first."""
     os.chdir(TOP)
-    return sorted(rtlib.crates_below(TOP), key=lambda it: len(it.below()))
+    crates = rtlib.crates_below(TOP)
+    for made in {type(it) for it in crates}:
+        made.stamp = remembered(made.stamp)
+    return sorted(crates, key=lambda it: len(it.below()))
+
+
+def remembered(stamp):
+    """A crate's stamp, remembered for a second: it asks for those of all below it, again on each path that leads to them."""
+    known = {}
+
+    def call(crate):
+        at, text = known.get(crate.name, (-1.0, ""))
+        if time.monotonic() > at + 1:
+            text = stamp(crate)
+            known[crate.name] = time.monotonic(), text
+        return text
+
+    return call
 
 
 def keep(crates):
