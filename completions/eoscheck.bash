@@ -12,9 +12,12 @@ _eoscheck() {
     --workers)
       mapfile -t COMPREPLY < <(compgen -W '' -- "$word")
       return ;;
+    --report)
+      mapfile -t COMPREPLY < <(compgen -f -- "$word")
+      return ;;
     esac
     case $word in
-    -*) mapfile -t COMPREPLY < <(compgen -W '--workers --json --quiet --progress -h --help' -- "$word") ;;
+    -*) mapfile -t COMPREPLY < <(compgen -W '--workers --json --quiet --progress --report -h --help' -- "$word") ;;
     *) mapfile -t COMPREPLY < <(compgen -d -- "$word") ;;
     esac ;;
   dump)
@@ -71,12 +74,54 @@ _eoscheck() {
     --events)
       mapfile -t COMPREPLY < <(compgen -W '' -- "$word")
       return ;;
+    --applications)
+      mapfile -t COMPREPLY < <(compgen -W '' -- "$word")
+      return ;;
+    --inputs)
+      mapfile -t COMPREPLY < <(compgen -W '' -- "$word")
+      return ;;
+    --outputs)
+      mapfile -t COMPREPLY < <(compgen -W '' -- "$word")
+      return ;;
+    --transaction-logs)
+      mapfile -t COMPREPLY < <(compgen -W '' -- "$word")
+      return ;;
+    --segment-records)
+      mapfile -t COMPREPLY < <(compgen -W '' -- "$word")
+      return ;;
+    --lose)
+      mapfile -t COMPREPLY < <(compgen -W '' -- "$word")
+      return ;;
+    --repeat)
+      mapfile -t COMPREPLY < <(compgen -W '' -- "$word")
+      return ;;
+    --abandon)
+      mapfile -t COMPREPLY < <(compgen -W '' -- "$word")
+      return ;;
+    --members)
+      mapfile -t COMPREPLY < <(compgen -W '' -- "$word")
+      return ;;
+    --restart-broker)
+      mapfile -t COMPREPLY < <(compgen -W '' -- "$word")
+      return ;;
+    --restart-coordinator)
+      mapfile -t COMPREPLY < <(compgen -W '' -- "$word")
+      return ;;
+    --abort)
+      mapfile -t COMPREPLY < <(compgen -W '' -- "$word")
+      return ;;
     --switch)
       mapfile -t COMPREPLY < <(compgen -W 'keep-duplicates no-fence no-bump lose-marker swap-marker hide-listing ignore-generation' -- "$word")
       return ;;
+    --switch-at)
+      mapfile -t COMPREPLY < <(compgen -W '' -- "$word")
+      return ;;
+    --mishap)
+      mapfile -t COMPREPLY < <(compgen -W '' -- "$word")
+      return ;;
     esac
     case $word in
-    -*) mapfile -t COMPREPLY < <(compgen -W '--seed --events --switch -h --help' -- "$word") ;;
+    -*) mapfile -t COMPREPLY < <(compgen -W '--seed --events --applications --inputs --outputs --transaction-logs --segment-records --lose --repeat --abandon --members --restart-broker --restart-coordinator --abort --switch --switch-at --mishap -h --help' -- "$word") ;;
     *) mapfile -t COMPREPLY < <(compgen -d -- "$word") ;;
     esac ;;
   esac

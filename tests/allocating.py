@@ -8,7 +8,7 @@ refuses the allocations.
 
 A line of the list is 'CRATE::FUNCTION PLACE': the function, of a type 'CRATE::TYPE::FUNCTION', and who refuses its
 allocations: 'TABLE.txt=CALL', a call of a table whose rows tests/run refuses; 'test LAYER::NAME', a test that it names; 'run
-COMMAND', a command that it runs so; or 'none'. A function is one of the list's where its crate exports it or its type, and its
+COMMAND', a command that it runs so; or 'none', and why nobody can. A function is one of the list's where its crate exports it or its type, and its
 result can be want of memory.
 """
 import glob
@@ -102,7 +102,7 @@ def is_there(kind, name, run):
     if kind == "run":
         return f"refused 1 {name} " in run.replace("\n", " \n") or f"{name}.py" in run
     if kind == "none":
-        return True
+        return bool(name)
     table, _, call = kind.partition(".txt=")
     path = f"tests/tables/{table}.txt"
     tables = re.search(r"for table in (.*); do\n *if python3 -B tests/refuse_each.py", run)

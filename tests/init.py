@@ -5,7 +5,7 @@
 
 Simulated folders, and each of tests/evidence and tests/real-evidence that has a manifest, with ends in the form of
 kafka-get-offsets.sh. Those without an application, or with one that has no topics, no word gives. Which partitions the transaction log lists is read by tests/plain_logs.py. With REFUSE.SO
-(tests/refuse.c, built) the allocations of a run are refused, each in turn. Prints what is wrong, and as its last line
+(tests/refuse.c, built) the allocations of some runs are refused, each in turn. Prints what is wrong, and as its last line
 'N passed, N failed'.
 """
 import json
@@ -299,35 +299,58 @@ def groups(source):
     expect(done == (0, "wrote partitions=7\n", "") and load(folder) == want, f"two applications: {done}")
 
 
-def refused_memory(source, library):
-    """Each allocation of a run, or where there are many every so-manieth: the manifest is written, or the answer is want of
-    memory and nothing is."""
-    folder, manifest = taken_away(source, "memory")
+def refused_memory(folder, manifest, words, notes, library):
+    """Each allocation of a run, or where there are many every so-manieth: the manifest is written and the notes are told, or the
+    answer is want of memory, maybe after some notes; then there is no manifest, or all of it."""
     files = sorted(os.listdir(folder))
     count = os.path.join(scratch, "count")
-    words = dict(os.environ, LD_PRELOAD=library)
-    for given in (["--ends", "-"], ["--ends-from-logs"]):
-        text = lines_of(manifest["ends"]).encode()
-        good = init(folder, "--app", APP, *given, input=text, env=dict(words, REFUSE_COUNT=count))
-        expect(good[0] == 0 and load(folder) == manifest, f"{given} with allocations counted")
-        os.remove(f"{folder}/evidence.json")
-        with open(count, encoding="utf-8") as file:
-            total = int(file.read())
-        told = 0
-        for at in range(1, total + 1, max(1, total // 400)):
-            found = init(folder, "--app", APP, *given, input=text, env=dict(words, REFUSE_AT=str(at)))
-            if found[0] == 0 and found[1] == good[1]:
-                expect(load(folder) == manifest, f"{given}, allocation {at} refused: another manifest")
-                os.remove(f"{folder}/evidence.json")
-            else:
-                told += 1
-                right = found[:2] == (3, "") and found[2].endswith("eoscheck: out of memory\n")
-                left = [it for it in os.listdir(folder) if it != "evidence.json"]
-                expect(right and sorted(left) == files, f"{given}, allocation {at} refused: {found}")
-                if os.path.exists(f"{folder}/evidence.json"):
-                    expect(load(folder) == manifest, f"{given}, allocation {at} refused: a part of a manifest")
-                    os.remove(f"{folder}/evidence.json")
-        expect(told > 100, f"{given}: {told} of {total} refused allocations are told")
+    setting = dict(os.environ, LD_PRELOAD=library)
+    text = lines_of(manifest["ends"]).encode()
+    good = init(folder, "--app", APP, *words, input=text, env=dict(setting, REFUSE_COUNT=count))
+    expect(good[0] == 0 and good[2] == notes and load(folder) == manifest, f"{words} with allocations counted: {good}")
+    os.remove(f"{folder}/evidence.json")
+    with open(count, encoding="utf-8") as file:
+        total = int(file.read())
+    told = after = 0
+    for at in range(1, total + 1, max(1, total // 400)):
+        found = init(folder, "--app", APP, *words, input=text, env=dict(setting, REFUSE_AT=str(at)))
+        made = os.path.exists(f"{folder}/evidence.json")
+        if made:
+            expect(load(folder) == manifest, f"{words}, allocation {at} refused: another manifest")
+            os.remove(f"{folder}/evidence.json")
+        if found == good:
+            expect(made, f"{words}, allocation {at} refused: no manifest")
+            continue
+        told += 1
+        after += made
+        said = found[2].removesuffix("eoscheck: out of memory\n")
+        right = found[:2] == (3, "") and said != found[2] and notes.startswith(said)
+        expect(right and sorted(os.listdir(folder)) == files, f"{words}, allocation {at} refused: {found}")
+    expect(told > min(100, total // 2), f"{words}: {told} of {total} refused allocations are told")
+    return after
+
+
+def refused_runs(source, library):
+    """The allocations of three runs: of a simulated folder with its ends and with those of its logs, and of a small folder in which
+    each kind of note on a partition is due."""
+    folder, manifest = taken_away(source, "memory")
+    refused_memory(folder, manifest, ["--ends", "-"], "", library)
+    refused_memory(folder, manifest, ["--ends-from-logs"], CUT, library)
+    folder = os.path.join(scratch, "short")
+    for name, base, data in (("in-0", 0, bytes(16) + b"\2" + bytes(5) + b"\2" + bytes(60)), ("out-0", 7, b"")):
+        os.makedirs(f"{folder}/{name}")
+        with open(f"{folder}/{name}/{base:020}.log", "wb") as file:
+            file.write(data)
+    manifest = {"version": 1, "group": "g", "sources": ["in"], "outputs": ["out"], "ends": {"in-0": 1, "out-0": 8, "out-1": 2}}
+    told = [
+        "in-0 begins with a compressed batch",
+        "out-0 begins with segment 00000000000000000007.log: its first segments are missing",
+        "out-1 has no folder",
+    ]
+    notes = "".join(f"eoscheck: note: {note}\n" for note in told)
+    after = refused_memory(folder, manifest, ["--ends", "-"], notes, library)
+    # a text of each note, and of its partition's name
+    expect(after >= 6, f"only {after} refused allocations are told after the manifest was written")
 
 
 def main():
@@ -339,7 +362,7 @@ def main():
     noted(source)
     groups(source)
     if len(sys.argv) > 2:
-        refused_memory(source, os.path.abspath(sys.argv[2]))
+        refused_runs(source, os.path.abspath(sys.argv[2]))
     print(f"{passed} passed, {failed} failed")
 
 

@@ -3,14 +3,17 @@
 
     tests/simulate.py PROGRAM [REFUSE.SO [SEEDS]]
 
-SEEDS (200) scripts of 50 to 2,000 events each, and each switch with 20 of them. Every fifth folder is read back by `dump`,
-and every tenth's verdict compared with that of tests/reference.py too. With REFUSE.SO (tests/refuse.c, built) the
-allocations of a run are refused, each in turn. Prints what is wrong, and as its last line 'N passed, N failed'.
+SEEDS (200) scripts of 50 to 2,000 events each, and each switch with 20 of them, after the script and, with 5, inside it. Every
+fifth folder is read back by `dump`, and every tenth's verdict compared with that of tests/reference.py too. Then random sizes
+and rates, each mishap with 8 seeds, several switches and mishaps at once; and the tables of docs/SIMULATOR.md, the help and
+these lists say the same. With REFUSE.SO (tests/refuse.c, built) the allocations of a run are refused, each in turn. Prints
+what is wrong, and as its last line 'N passed, N failed'.
 """
 import concurrent.futures
 import filecmp
 import json
 import os
+import random
 import re
 import resource
 import shutil
@@ -33,6 +36,44 @@ SWITCHES = {
     "swap-marker": "3.3 WrongKind",
     "hide-listing": "3.4 NotListed",
     "ignore-generation": "5.10 Repeated",
+}
+# What stands behind a switch's own fault, in all phases.
+BEHIND = {
+    "keep-duplicates": ["5.8", "5.10", "5.12"],
+    "no-fence": ["1.11"],
+    "no-bump": ["3.3", "3.5", "3.7", "5.8", "5.12"],
+    "lose-marker": [],
+    "swap-marker": ["3.5", "3.7", "5.8", "5.12"],
+    "hide-listing": ["3.5", "5.8", "5.10", "5.12"],
+    "ignore-generation": [],
+}
+# What may come before a switch's own fault where the rule is broken inside a script.
+INSIDE = {
+    "keep-duplicates": [],
+    "no-fence": ["1.6", "1.11"],
+    "no-bump": ["1.5"],
+    "lose-marker": ["1.6"],
+    "swap-marker": ["1.9"],
+    "hide-listing": ["1.6"],
+    "ignore-generation": [],
+}
+MISHAPS = {
+    "lost-output": "5.11 Missing",
+    "repeated-output": "5.10 Repeated",
+    "early-output": "5.7 Early",
+    "wrong-count": "5.8 CountDisagrees",
+    "wrong-number": "5.9 NumberRange",
+    "foreign-source": "5.5 ForeignSource",
+    "other-transaction": "5.12 OtherTransaction",
+}
+RATES = ["lose", "repeat", "abandon", "members", "restart-broker", "restart-coordinator", "abort"]
+# The ranges of the sizes, and what they are where nothing is said.
+SIZES = {
+    "applications": (1, 8, 2),
+    "inputs": (1, 16, 2),
+    "outputs": (1, 16, 2),
+    "transaction-logs": (1, 4, 1),
+    "segment-records": (1, 1000, 16),
 }
 
 passed = failed = 0
@@ -118,8 +159,150 @@ def switched(name, seed):
     wrote = simulate(seed, events_of(seed) % 400, folder, "--switch", name)
     said = run("check", "--workers", 1 + seed % 4, folder)
     notes = notes_reference.lines(folder)
+    behind = kinds_in(folder) if seed < 4 else set()
     shutil.rmtree(folder)
+    if not behind <= {SWITCHES[name].split()[0], *BEHIND[name]}:
+        return False
     return wrote == (0, WROTE, "") and said[0] == 1 and said[1].startswith(f"no {SWITCHES[name]} ") and said[2] == notes
+
+
+def told(folder):
+    """What `check` says of a folder with 1 and 4 workers, where the second program says the same, and else that it doesn't. The
+    folder is taken away."""
+    one, four = (run("check", "--quiet", "--workers", workers, folder) for workers in (1, 4))
+    said = reference.verdict(folder)
+    shutil.rmtree(folder)
+    return one[1].strip() if one == four and said + "\n" == one[1] else f"{one}, {four}, the reference {said}"
+
+
+def kinds_in(folder):
+    """The kinds of all faults that stand in a folder by the second program, whatever stands in the phases before. Where logs can't
+    be matched with decisions since markers are missing, phase 3 is left out."""
+    apps, parts = reference.read_folder(folder)
+    kinds = {f"1.{fault[1]}" for part in parts for fault in reference.partition_faults(part)}
+    logs = [part for part in parts if part.name[0] == reference.STATES]
+    states, bad = reference.read_states(logs)
+    kinds |= {f"2.{fault[2]}" for fault in reference.log_faults(logs, states, bad)}
+    if not any(kind == "1.11" for kind in kinds):
+        kinds |= {f"3.{fault[2]}" for fault in reference.match_faults(parts, reference.decisions_of(states))}
+    claims, commits, unread = reference.read_lineage(apps, parts)
+    kinds |= {f"4.{fault[3]}" for fault in unread}
+    for one in reference.split(apps, parts, claims, commits):
+        kinds |= {f"5.{fault[2]}" for fault in reference.lineage_faults(*one)}
+    return kinds
+
+
+def code_in(line):
+    return line.split()[1] if line.startswith("no ") else line
+
+
+def inside(name, seed):
+    """The first fault of a cluster that breaks a rule from a word on; or why it isn't one of those."""
+    folder = os.path.join(scratch, f"inside-{name}-{seed}")
+    events = 150 + seed * 37 % 250
+    wrote = simulate(seed, events, folder, "--switch", name, "--switch-at", events // 3)
+    if wrote != (0, WROTE, ""):
+        return f"{wrote}"
+    return code_in(told(folder))
+
+
+def insides(pool, seeds):
+    for name, fault in SWITCHES.items():
+        own = fault.split()[0]
+        found = list(pool.map(lambda seed: inside(name, seed), seeds))
+        expect(set(found) <= {own, *INSIDE[name]}, f"{name} inside a script: {found}")
+
+
+def erring(name, seed):
+    """What is wrong with a run in which an application errs, or None."""
+    folder = os.path.join(scratch, f"{name}-{seed}")
+    more = ["--mishap", name]
+    # at a chosen input, one of two outputs
+    at = f"in-{seed % 2}:{2 + seed % 3 * 3}"
+    if seed % 2:
+        more = ["--mishap", f"{name}@{at}"]
+    wrote = simulate(seed, 400 + seed * 37 % 400, folder, *more)
+    if wrote == (0, WROTE, "") and kinds_in(folder) != {MISHAPS[name].split()[0]}:
+        return f"{more}: {kinds_in(folder)}"
+    said = told(folder) if wrote == (0, WROTE, "") else f"{wrote}"
+    names = "foreign" + at[2:] if name == "foreign-source" else at
+    if not said.startswith(f"no {MISHAPS[name]} ") or (seed % 2 and f" source={names} " not in said):
+        return f"{more}: {said}"
+    return None
+
+
+def settings(choice):
+    """Random sizes and rates, as words and as the number of partitions that they give."""
+    sizes = {name: choice.randint(least, most) for name, (least, most, _) in SIZES.items()}
+    chosen = [name for name in RATES if choice.random() < 0.6]
+    rates = {name: choice.choice([0, choice.randint(1, 130)]) for name in chosen}
+    words = [word for name, value in {**sizes, **rates}.items() for word in (f"--{name}", value)]
+    return words, 1 + sizes["transaction-logs"] + sizes["inputs"] + sizes["outputs"]
+
+
+def other_settings(number):
+    """What is wrong with a run of random sizes and rates, or None."""
+    choice = random.Random(number)
+    words, partitions = settings(choice)
+    folder = os.path.join(scratch, f"other-{number}")
+    wrote = simulate(number, 300 + number * 37 % 700, folder, *words)
+    if wrote != (0, f"wrote partitions={partitions}\n", ""):
+        return f"{words}: {wrote}"
+    said = told(folder)
+    return None if YES.fullmatch(said + "\n") else f"{words}: {said}"
+
+
+def several():
+    """Several switches and mishaps at once."""
+    folder = os.path.join(scratch, "several")
+    more = [word for name in MISHAPS for word in ("--mishap", name)]
+    expect(simulate(7, 900, folder, *more) == (0, WROTE, ""), "all mishaps at once")
+    one = reference.verdict(folder)
+    expect(one.startswith("no 5.") and told(folder) == one, f"all mishaps at once: {one}")
+    for names in (["keep-duplicates", "no-bump"], ["swap-marker", "ignore-generation"], ["hide-listing", "swap-marker"]):
+        words = [word for name in names for word in ("--switch", name)]
+        expect(simulate(7, 200, folder, *words) == (0, WROTE, ""), f"simulate with {names}")
+        found = code_in(told(folder))
+        expect(found in [SWITCHES[name].split()[0] for name in names], f"check of {names}: {found}")
+    words = ["--switch", "no-bump", "--mishap", "lost-output"]
+    expect(simulate(7, 200, folder, *words) == (0, WROTE, ""), f"simulate with {words}")
+    expect(code_in(told(folder)) == "1.7", "the logs' fault comes before the outputs'")
+    # twice the same switch is once
+    other = os.path.join(scratch, "other")
+    simulate(7, 200, folder, "--switch", "no-fence")
+    simulate(7, 200, other, "--switch", "no-fence", "--switch", "no-fence")
+    expect(same_folder(folder, other), "a switch given twice")
+    # defaults that are given are the defaults
+    shutil.rmtree(folder)
+    shutil.rmtree(other)
+    simulate(7, 200, folder)
+    simulate(7, 200, other, *[word for name, it in SIZES.items() for word in (f"--{name}", it[2])])
+    expect(same_folder(folder, other), "default sizes that are given")
+
+
+def rows_below(text, heading):
+    """The rows of the first table below a heading, as lists of their cells."""
+    rows = re.search(rf"^## {heading}.*?\n((?:\|[^\n]*\n)+)", text, re.M | re.S)[1].splitlines()[2:]
+    return [[cell.strip() for cell in row.strip("|").split("|")] for row in rows]
+
+
+def documented():
+    with open(os.path.join(HERE, "../docs/SIMULATOR.md"), encoding="utf-8") as f:
+        text = f.read()
+    switches = [(row[0].strip("`"), *row[2:]) for row in rows_below(text, "Switches")]
+    wanted = [(name, fault, ", ".join(BEHIND[name]), ", ".join(INSIDE[name])) for name, fault in SWITCHES.items()]
+    expect(switches == wanted, f"the switches of docs/SIMULATOR.md: {switches}")
+    mishaps = {row[0].strip("`"): row[2] for row in rows_below(text, "Mishaps")}
+    expect(mishaps == MISHAPS, f"the mishaps of docs/SIMULATOR.md: {mishaps}")
+    sizes = {row[0].split("`")[1][2:]: tuple(map(int, row[1:])) for row in rows_below(text, "Sizes")}
+    expect(sizes == SIZES, f"the sizes of docs/SIMULATOR.md: {sizes}")
+    rates = [row for row in rows_below(text, "A script's words")]
+    expect(sum(float(row[1]) for row in rates) == 1000, "the rates of docs/SIMULATOR.md come to 1000")
+    said = run("simulate", "--help")[1]
+    for _, rate, option in rates:
+        named = re.search(rf"\b{option.strip('`')[2:]}\s+{re.escape(rate)}[,.]", said) if option else True
+        expect(named, f"the help says that {option} is {rate}")
+    expect(all(f"--{name} " in said for name in [*RATES, *SIZES]), "the help has all sizes and rates")
 
 
 def same_folder(one, other):
@@ -202,12 +385,38 @@ def bad_words():
         ["--seed", "7", "--events", "10001", folder],
         ["--seed", "7", "--events", "-1", folder],
         ["--seed", "7", "--events", "7", "--switch", "no-such", folder],
+        ["--seed", "7", "--events", "7", "--applications", "0", folder],
+        ["--seed", "7", "--events", "7", "--applications", "9", folder],
+        ["--seed", "7", "--events", "7", "--inputs", "17", folder],
+        ["--seed", "7", "--events", "7", "--outputs", "0", folder],
+        ["--seed", "7", "--events", "7", "--transaction-logs", "5", folder],
+        ["--seed", "7", "--events", "7", "--segment-records", "1001", folder],
+        ["--seed", "7", "--events", "7", "--lose", "1001", folder],
+        ["--seed", "7", "--events", "7", "--abort", "x", folder],
+        ["--seed", "7", "--events", "7", "--switch-at", "10001", folder],
         ["--seed", "7", "--events", "7", folder, "more"],
     ]:
         status, out, said = run("simulate", *words)
         expect((status, out) == (2, "") and said != "" and not os.path.exists(folder), f"bad words {words}")
+    for words, message in [
+        (["--lose", "1000"], "rates: more than 1000 in all"),
+        (["--repeat", "500", "--abort", "460"], "rates: more than 1000 in all"),
+        (["--switch-at", "3"], "--switch-at: no --switch"),
+        (["--switch", "no-bump", "--switch-at", "8"], "--switch-at: more than --events"),
+        (["--mishap", "no-such"], "--mishap: no mishap, or not NAME@in-N:O"),
+        (["--mishap", "lost-output@out-0:1"], "--mishap: no mishap, or not NAME@in-N:O"),
+        (["--mishap", "lost-output@in-00:1"], "--mishap: no mishap, or not NAME@in-N:O"),
+        (["--mishap", "lost-output@in-0:+1"], "--mishap: no mishap, or not NAME@in-N:O"),
+        (["--mishap", "lost-output@in-0:0"], "lost-output: no input suits this mishap"),
+        (["--mishap", "wrong-count@in-0:1"], "wrong-count: no input suits this mishap"),
+        (["--mishap", "other-transaction@in-2:1"], "other-transaction: no input suits this mishap"),
+        (["--mishap", "early-output@in-0:5000"], "early-output: no input suits this mishap"),
+    ]:
+        found = simulate(7, 7, folder, *words)
+        wanted = (2, "", f"eoscheck: {message}\n")
+        expect(found == wanted and not os.path.exists(folder), f"bad words {words}: {found}")
     status, out, said = run("simulate", "--help")
-    named = all(re.search(rf"{name} +{fault}", out) for name, fault in SWITCHES.items())
+    named = all(re.search(rf"{name} +{fault}", out) for name, fault in {**SWITCHES, **MISHAPS}.items())
     expect((status, said) == (0, "") and named, "the help of simulate")
 
 
@@ -246,9 +455,17 @@ def main():
         busy = sum(all(found) for found in counts)
         expect(busy > 0.9 * len(counts), f"{busy} of {len(counts)} runs have transactions, inputs and outputs")
         for name in SWITCHES:
-            told = list(pool.map(lambda seed: switched(name, seed), seeds[:20]))
-            expect(all(told), f"{name}: {told.count(False)} of {len(told)} runs don't give {SWITCHES[name]}")
+            right = list(pool.map(lambda seed: switched(name, seed), seeds[:20]))
+            expect(all(right), f"{name}: {right.count(False)} of {len(right)} runs don't give {SWITCHES[name]}")
+        insides(pool, seeds[:5])
+        for name in MISHAPS:
+            wrong = [it for it in pool.map(lambda seed: erring(name, seed), seeds[:8]) if it]
+            expect(not wrong, f"{name}: {wrong}")
+        wrong = [it for it in pool.map(other_settings, seeds[: max(1, len(seeds) // 5)]) if it]
+        expect(not wrong, f"other sizes and rates: {wrong}")
     worked()
+    several()
+    documented()
     refused_folders()
     bad_words()
     if len(sys.argv) > 2:

@@ -2,13 +2,15 @@
 """How many threads `check` starts, which only its speed depends on, and how many work at once: never more than there are workers.
 The caller does one share of each step itself, so a step in n shares starts n - 1, and with one worker none is started.
 
-With N workers, over P files and O partitions of output topics, these are: reading in min(P, N) shares, the workers' own pieces in
-N, the matching in N shards, the claims in as many shares as runs of O / N partitions, rounded up, make; and where there are 4,096
-claims or more, the sort of these, in at most N.
+With N workers, over P files and O partitions of output topics, these are: reading in as many shares as runs of P / N files, rounded
+up, make; the workers' own pieces in N, the matching in N shards, the claims in as many shares as runs of O / N partitions, rounded
+up, make; and where there are 4,096 claims or more, the sort of these, in at most N.
 
-    python3 -B tests/threads.py PROGRAM threads.so
+Without `--workers` there are four. Who asks `check_lineage` and names no number gets at most 64: the probe does.
 
-threads.so is tests/threads.c, built. The last line is 'N passed, N failed'.
+    python3 -B tests/threads.py PROGRAM threads.so PROBE
+
+threads.so is tests/threads.c, built, and PROBE crates/eos_probe. The last line is 'N passed, N failed'.
 """
 import json
 import os
@@ -50,36 +52,60 @@ def large(folder):
     return f"yes transactions=1 inputs={count} outputs={count}\n"
 
 
-def shares(outputs, workers):
-    """In how many runs of equal length, but the last, the partitions are cut."""
-    run = -(-outputs // workers)
-    return -(-outputs // run)
+def shares(things, workers):
+    """In how many runs of equal length, but the last, the files or the partitions are cut."""
+    run = -(-things // workers)
+    return -(-things // run)
 
 
-def main():
-    program, library = sys.argv[1:]
-    passed = failed = 0
+def counted(command, library, **settings):
+    """How a program ended, and how many threads it has started, and how many of these were there at once."""
+    with tempfile.NamedTemporaryFile(mode="r") as count:
+        words = dict(os.environ, LD_PRELOAD=os.path.abspath(library), THREAD_COUNT=count.name)
+        done = subprocess.run(command, env=words, capture_output=True, text=True, timeout=120, **settings)
+        return done, *map(int, (count.read() or "-1 -1").split())
+
+
+def check_runs(program, library):
+    """For each run of `check` whether it starts so many threads, and a text."""
     with tempfile.TemporaryDirectory() as made:
         said = large(made)
         # A folder, its answer, its files, its outputs' partitions, its workers, and in how many shares at most the claims are sorted.
-        cases = [(SMALL, "yes transactions=1 inputs=2 outputs=3\n", 5, 2, workers, 1) for workers in (1, 2, 8, 64)]
+        cases = [(SMALL, "yes transactions=1 inputs=2 outputs=3\n", 5, 2, workers, 1) for workers in (None, 1, 2, 4, 8, 64)]
         cases += [(made, said, 3 + OUTPUTS, OUTPUTS, workers, workers) for workers in (1, 2, 3, 8)]
-        for folder, answer, files, outputs, workers, sorting in cases:
-            least = min(files, workers) - 1 + 2 * (workers - 1) + shares(outputs, workers) - 1 + min(sorting - 1, 1)
+        for folder, answer, files, outputs, named, sorting in cases:
+            workers = named or 4
+            least = shares(files, workers) - 1 + 2 * (workers - 1) + shares(outputs, workers) - 1 + min(sorting - 1, 1)
             greatest = least + max(sorting - 2, 0)
-            with tempfile.NamedTemporaryFile(mode="r") as count:
-                words = dict(os.environ, LD_PRELOAD=os.path.abspath(library), THREAD_COUNT=count.name)
-                command = [program, "check", "--workers", str(workers), folder]
-                done = subprocess.run(command, env=words, capture_output=True, text=True, timeout=120)
-                started, most = map(int, (count.read() or "-1 -1").split())
-            if (done.returncode, done.stdout) == (0, answer) and least <= started <= greatest and most <= workers - 1:
-                passed += 1
-            else:
-                failed += 1
-                print(
-                    f"{folder}, {workers} workers: {started} threads, {most} at once, not {least} to {greatest} and {workers - 1}; "
-                    f"status {done.returncode}, {done.stdout}{done.stderr}"
-                )
+            words = ["--workers", str(named)] if named else []
+            done, started, most = counted([program, "check", *words, folder], library)
+            right = (done.returncode, done.stdout) == (0, answer) and least <= started <= greatest and most <= workers - 1
+            yield right, (
+                f"{folder}, {workers} workers: {started} threads, {most} at once, not {least} to {greatest} and {workers - 1}; "
+                f"status {done.returncode}, {done.stdout}{done.stderr}"
+            )
+
+
+def lineage_runs(probe, library):
+    """The same of the lineage alone, over so many partitions of outputs."""
+    for outputs in (1, OUTPUTS, 64, 65):
+        logs = "; ".join(f"out-{number}: plain (note of in-0:0)" for number in range(outputs))
+        row = table_logs.expand("check_lineage g:in:out {in-0: plain (a); " + logs + "}", {})
+        done, started, _ = counted([probe], library, input=row + "\n")
+        # The input isn't below the committed offset, which is 0: the first note comes too early.
+        right = done.stdout.startswith("no 5.7 Early source=in-0:0 output=0 at=out-0:0") and started == shares(outputs, 64) - 1
+        yield right, f"the lineage of {outputs} partitions of outputs: {started} threads; {done.stdout}{done.stderr}"
+
+
+def main():
+    program, library, probe = sys.argv[1:]
+    passed = failed = 0
+    for right, text in [*check_runs(program, library), *lineage_runs(probe, library)]:
+        if right:
+            passed += 1
+        else:
+            failed += 1
+            print(text)
     print(f"{passed} passed, {failed} failed")
     sys.exit(1 if failed else 0)
 

@@ -1,4 +1,5 @@
 pub mod RunsJoined
+pub mod TreeNodes
 pub mod RunsStanding
 pub mod RunsKept
 pub mod SeamsKept

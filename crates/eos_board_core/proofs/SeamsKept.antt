@@ -8,7 +8,7 @@ use Rattle.eos_base.proofs.Membership.{append_cases, append_left, append_right}
 use Rattle.eos_fold.specs.Sums.{NamedView}
 use Rattle.eos_board_core.specs.Runs.{AreKnown}
 use Rattle.eos_board_core.specs.steps.RunPlaces.{StandsAt, AreOwned, AreQueued, JointsAreListed, AreSound, NoneMeets, how_many}
-use Rattle.eos_board_core.proofs.RunsKept.{stands_cases, empty_owned}
+use Rattle.eos_board_core.proofs.RunsKept.{stands_cases, empty_owned, empty_reached}
 use Rattle.eos_board_core.proofs.RunsStanding.{none_replicated}
 
 -- ---- how many are listed
@@ -133,9 +133,10 @@ empty_queued n = record {
 no_run_here : (x : NamedView) → None ≡ Some x → ⊥
 no_run_here x e = cc
 
-pub empty_sound : (n : ℕ) → AreSound n (replicate n None) (replicate n None) [] (replicate n false)
+pub empty_sound : (n : ℕ) → AreSound n (replicate n None) (replicate n None) (replicate n 0) [] (replicate n false)
 empty_sound n = record {
   owned = empty_owned n;
+  reached = empty_reached n;
   queued = empty_queued n;
   joints = λ k l a b s t j. absurd (no_run_here a (sym (none_replicated NamedView n k) ∙ s));
 }

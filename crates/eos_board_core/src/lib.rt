@@ -7,6 +7,7 @@ mod board;
 mod follow;
 mod gate;
 mod places;
+mod reach;
 mod refused;
 
 pub use board::{Board, Receipt};

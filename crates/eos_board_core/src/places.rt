@@ -1,17 +1,19 @@
 //! The places of a board: one for each piece of the evidence.
 //!
-//! A run stands at its first piece's place, and each place that it covers names that first piece: so the ends of a run name
-//! each other, and neither a new run nor a pair is looked for among all runs. Seams where two runs meet wait in a queue, each
-//! at most once. All room is made at the start.
+//! A run stands at its first piece's place, and its last piece's place names that first piece: so the ends of a run name each
+//! other, and a pair isn't looked for among all runs. Whether a run's pieces are free, a tree answers that knows how far the
+//! runs reach: a run costs the same however many pieces it has. Seams where two runs meet wait in a queue, each at most once. All
+//! room is made at the start.
 
 ghost use Rattle.std.specs.Prelude.{◌≡◌, ◌+◌, ◌<◌, ◌≤◌, ℕ, true, false, None, List, [], ◌∷◌, length, slice_index_or, slice_set, replicate, vec_len, MatchBool, MatchOption, IfSome, IfNone, IfOk};
 ghost use Rattle.std.specs.VecDeque.{deque_capacity, deque_len};
 ghost use Rattle.eos_base.specs.Members.{Has};
 ghost use Rattle.eos_fold.specs.Sums.{Follows, NamedView};
 ghost use Rattle.eos_board_core.specs.Runs.{AreKnown, AreOrderlyFrom, IsTaken, Joins, NoneJoin, placed};
-ghost use Rattle.eos_board_core.specs.steps.RunPlaces.{AreOwned, AreQueued, BeginsHere, IsJoint, IsMarked, MeetsAt, NamesNone, NamesOne, NoneMeets};
+ghost use Rattle.eos_board_core.specs.steps.RunPlaces.{AreOwned, AreQueued, BeginsHere, IsJoint, MeetsAt, NoneMeets};
 
 use crate::follow::follows;
+use crate::reach::Reaches;
 use eos_fold::Named;
 use std::alloc::{AllocError, Global};
 use std::collections::VecDeque;
@@ -22,8 +24,10 @@ use std::marker::Model;
 pub struct Places {
     pieces: u64,
     runs: Vec<Option<Named>>,
-    /// Of each piece, the first piece of the run that it lies in.
+    /// At the last piece of each run, the first.
     firsts: Vec<Option<u64>>,
+    /// Of the run that begins at a place, the piece after its last; 0 where none does.
+    reaches: Reaches,
     /// The seams where two runs may meet. A seam is named by the piece after it.
     seams: VecDeque<u64>,
     /// Whether the seam waits in the queue.
@@ -42,12 +46,11 @@ impl Model for Places {
 
     ghost view = { λ p. record { pieces = p.pieces; runs = standing p.runs.items } };
 
-    ghost invariant = { λ p. AreSound p.pieces p.runs.items p.firsts.items p.seams.items p.listed.items × (p.pieces ≤ deque_capacity p.seams) × (p.pieces ≤ vec_capacity p.leaving) × (p.leaving.items ≡ []) };
+    ghost invariant = { λ p. AreSound p.pieces p.runs.items p.firsts.items p.reaches p.seams.items p.listed.items × (p.pieces ≤ deque_capacity p.seams) × (p.pieces ≤ vec_capacity p.leaving) × (p.leaving.items ≡ []) };
 }
 
 impl Places {
     /// So many places without a run.
-    #[tactic(auto, using(crate::proofs::RunsStanding::standing_none, crate::proofs::SeamsKept::empty_sound))]
     pub fn new(alloc: Global, pieces: u64) -> Result<Places, AllocError>
         ensures pieces { IfOk result (λ p. p.pieces ≡ pieces) }
         ensures runs { IfOk result (λ p. p.runs ≡ []) }
@@ -55,6 +58,7 @@ impl Places {
         let count = pieces as usize;
         let runs = nones(alloc, count)?;
         let firsts = nones(alloc, count)?;
+        let reaches = Reaches::new(alloc, count)?;
         let seams = VecDeque::with_capacity(alloc, count)?;
         let listed = unlisted(alloc, count)?;
         let leaving = Vec::with_capacity(alloc, count)?;
@@ -62,6 +66,7 @@ impl Places {
             pieces,
             runs,
             firsts,
+            reaches,
             seams,
             listed,
             leaving,
@@ -76,16 +81,17 @@ impl Places {
         self.pieces
     }
 
-    /// Whether no piece of this run lies in a run that stands here. It looks at the run's own places.
+    /// Whether no piece of this run lies in a run that stands here: no run that begins at its last piece or before reaches its
+    /// first.
     pub(crate) fn is_free(&self, run: &Named) -> bool
         requires { AreKnown self.now.pieces run.now }
         ensures { MatchBool result (IsTaken self.now.runs run.now → ⊥) (IsTaken self.now.runs run.now) }
     {
         let (first, last) = run.pieces();
-        are_none(&self.firsts, first as usize, last as usize)
+        self.reaches.are_within(last as usize + 1, first)
     }
 
-    /// Places a run. It writes to the run's own places.
+    /// Places a run.
     pub fn place(&mut self, run: Named)
         requires known { AreKnown self.old.pieces run }
         requires free { IsTaken self.old.runs run → ⊥ }
@@ -95,12 +101,13 @@ impl Places {
         let (first, last) = run.pieces();
         let at = first as usize;
         let end = last as usize;
-        mark(&mut self.firsts, at, end, Some(first));
+        self.firsts[end] = Some(first);
+        self.reaches.set(at, last + 1);
         self.runs[at] = Some(run);
         list_both(&mut self.seams, &mut self.listed, first, last);
     }
 
-    /// Takes out the run that begins at this piece. It writes to the run's own places.
+    /// Takes out the run that begins at this piece.
     fn take_out(&mut self, first: u64) -> Named
         requires { (run : NamedView) × Has self.old.runs run × (run.first ≡ first) }
         ensures first { result.first ≡ first }
@@ -113,7 +120,8 @@ impl Places {
             unreachable!()
         };
         let (_, last) = run.pieces();
-        mark(&mut self.firsts, at, last as usize, None);
+        self.firsts[last as usize] = None;
+        self.reaches.set(at, 0);
         run
     }
 
@@ -179,37 +187,14 @@ fn joint_at(runs: &[Option<Named>], firsts: &[Option<u64>], seam: usize) -> Opti
         return None;
     }
     let after = runs[seam].as_ref()?;
-    let first = firsts[seam - 1]?;
+    let Some(first) = firsts[seam - 1] else {
+        return None;
+    };
     let before = runs[first as usize].as_ref()?;
     if follows(before, after) {
         Some(first)
     } else {
         None
-    }
-}
-
-/// Whether each of these places, from the first to the last, names none.
-fn are_none(firsts: &Vec<Option<u64>>, first: usize, last: usize) -> bool
-    requires order { first ≤ last }
-    requires known { last < vec_len firsts.now }
-    ensures { MatchBool result (NamesNone first last firsts.now.items) (NamesOne first last firsts.now.items) }
-{
-    for j in first..last + 1 {
-        if firsts[j].is_some() {
-            return false;
-        }
-    }
-    true
-}
-
-/// Writes to each of these places, from the first to the last, which run's it is.
-fn mark(firsts: &mut Vec<Option<u64>>, first: usize, last: usize, owner: Option<u64>)
-    requires order { first ≤ last }
-    requires known { last < vec_len firsts.old }
-    ensures { IsMarked first last owner firsts.old.items firsts.new.items }
-{
-    for j in first..last + 1 {
-        firsts[j] = owner;
     }
 }
 

@@ -12,15 +12,23 @@ use Rattle.eos_machine.specs.Places.{place_count}
 use Rattle.eos_machine.specs.World.{World, log_at}
 use Rattle.eos_logs.specs.Evidences.{log_segments, cluster_segments, adding}
 use Rattle.eos_log_writer.proofs.Adding.{range_step}
+use Rattle.std.specs.Prelude.{IsOk}
+use Rattle.std.proofs.Common.{map}
+use Rattle.std.specs.List.{All}
+use Rattle.eos_evidence.specs.declared.application.App.{App}
+use Rattle.eos_evidence.specs.declared.ends.End.{End}
+use Rattle.eos_evidence.specs.declared.fault.SpecFault.{SpecFault}
+use Rattle.eos_evidence.specs.Parts.{Parts, accepted}
+use Rattle.eos_logs.specs.Evidences.{application, end_of}
+use Rattle.eos_logs.specs.Fitting.{IsFit}
+use Rattle.eos_logs.proofs.AcceptedParts.{accepted_parts}
+use Rattle.eos_evidence.specs.Evidence.{without_segments}
+use Rattle.eos_log_writer.specs.declared.segments.LogFault.{LogFault}
+use Rattle.eos_log_writer.specs.declared.segments.LogFault.TheVariants as faults
+use Rattle.eos_logs.specs.Evidences.{parts_of}
+use Rattle.eos_logs.specs.steps.Writable.{IsWritable}
+use Rattle.eos_logs.proofs.AllAdded.{IsAdded, adding_both, segments_added}
 use Rattle.eos_logs.specs.Batches.{HaveTexts}
-
-adding_both : (e : EvidenceParts) (xs ys : List Segment) → adding e (xs ++ ys) ≡ (adding e xs >>= λ f. adding f ys)
-adding_both e [] ys = refl
-adding_both e (x ∷ xs) ys = at (added e x) (λ f. adding_both f xs ys)
-  where
-    at : (r : Result EvidenceParts AddFault) → ((f : EvidenceParts) → adding f (xs ++ ys) ≡ (adding f xs >>= λ g. adding g ys)) → (r >>= λ f. adding f (xs ++ ys)) ≡ ((r >>= λ f. adding f xs) >>= λ f. adding f ys)
-    at (Ok f) h = h f
-    at (Err e) h = refl
 
 -- what is left to add of the segments of all logs
 log_added : (f : ℕ → List Segment) (e g : EvidenceParts) (all : Result EvidenceParts AddFault) (i n : ℕ) → i < n → all ≡ adding e (flat_map f (range_with_len i (n - i))) → adding e (f i) ≡ Ok g
@@ -50,3 +58,46 @@ logs_written c d w p log m is h k q l = elim (cases_lt q p) [
 
 pub all_logs : (c d : Config) (w : World) (p n : ℕ) → c ≡ d → n ≡ place_count c → n ≤ p → ((q : ℕ) → q < p → HaveTexts d 0 (log_at w q)) → (q : ℕ) → q < place_count d → HaveTexts d 0 (log_at w q)
 all_logs c d w p n m e l h q k = let f = ap place_count m in h q (omega (arith, f, e, l, k))
+
+-- ---- nothing is refused
+
+pub only_memory : (f : LogFault) → ((let r : Result (Unit {0}) LogFault = Err f in r ≡ Err faults.Refused) → ⊥) → f ≡ faults.OutOfMemory
+only_memory faults.Refused d = absurd (d refl)
+only_memory faults.OutOfMemory d = refl
+
+pub whole_taken : (c : Config) (w : World) (e : EvidenceParts) → IsWritable c w → e ≡ without_segments (parts_of c w) → IsOk (adding e (cluster_segments c w))
+whole_taken c w e g is = let a = segments_added c w g in subst (λ x. IsOk (adding x (cluster_segments c w))) (sym is) (subst IsOk (sym a.is) refl)
+
+-- the next log
+pub log_taken : (c : Config) (w : World) (all : Result EvidenceParts AddFault) (e : EvidenceParts) (p : ℕ) → IsOk all → p < place_count c
+    → all ≡ adding e (flat_map (λ q. log_segments c q (log_at w q)) (range_with_len p (place_count c - p))) → IsOk (adding e (log_segments c p (log_at w p)))
+log_taken c w all e p o l h =
+    at (adding e (log_segments c p (log_at w p))) (subst IsOk (h ∙ (ap (λ ks. adding e (flat_map (λ q. log_segments c q (log_at w q)) ks)) (range_step p (place_count c) l)
+    ∙ adding_both e (log_segments c p (log_at w p)) (flat_map (λ q. log_segments c q (log_at w q)) (range_with_len (p + 1) (place_count c - (p + 1)))))) o)
+  where
+    at : (r : Result EvidenceParts AddFault) → IsOk (r >>= λ f. adding f (flat_map (λ q. log_segments c q (log_at w q)) (range_with_len (p + 1) (place_count c - (p + 1))))) → IsOk r
+    at (Ok f) k = refl
+    at (Err x) k = k
+
+-- what add_log says, of the log at a place
+pub log_only : (c d : Config) (w : World) (p : ℕ) (log : List Item) (b : EvidenceParts) (R : Type 0) → c ≡ d → log ≡ log_at w p → IsWritable d w → p < place_count d → IsOk (adding b (log_segments d p (log_at w p)))
+    → (p < place_count c → All (IsFit c) log → IsOk (adding b (log_segments c p log)) → R) → R
+log_only c d w p log b R e i g l o h =
+    h (subst (λ k. p < place_count k) (sym e) l)
+    (subst (λ k. All (IsFit k) log) (sym e) (subst (All (IsFit d)) (sym i) (g.fit p)))
+    (subst (λ k. IsOk (adding b (log_segments k p log))) (sym e) (subst (λ xs. IsOk (adding b (log_segments d p xs))) (sym i) o))
+
+pub spec_taken : (c : Config) (w : World) → IsWritable c w → (apps : List App) (ends : List End) (f : SpecFault) → apps ≡ application ∷ [] → ends ≡ map (end_of c w) (range_with_len 0 (place_count c))
+    → (let r : Result Parts SpecFault = Err f in r ≡ accepted (record { apps = apps; ends = ends })) → ⊥
+spec_taken c w g apps ends f a e h =
+    let s : accepted (record { apps = apps; ends = ends }) ≡ accepted (parts_of c w) = λ i. accepted (record { apps = a i; ends = e i }) in
+    unlike f (parts_of c w) (h ∙ (s ∙ accepted_parts c w g.sizes g.short))
+  where
+    unlike : (f : SpecFault) (p : Parts) → (let r : Result Parts SpecFault = Err f in r ≡ Ok p) → ⊥
+    unlike f p q = cc q
+
+pub same_spec : (c : Config) (w : World) (s : Parts) → IsWritable c w → accepted (parts_of c w) ≡ Ok s → s ≡ parts_of c w
+same_spec c w s g h = inner s (parts_of c w) (sym h ∙ accepted_parts c w g.sizes g.short)
+  where
+    inner : (a b : Parts) → (let r : Result Parts SpecFault = Ok a in r ≡ Ok b) → a ≡ b
+    inner a b q = cc q

@@ -29,7 +29,9 @@ use Rattle.eos_machine.proofs.BoundedEvents.{bounded_run_under, bounded_opening,
 use Rattle.eos_machine.proofs.FormedEvents.{formed_run, formed_opening}
 use Rattle.eos_machine.proofs.Counting.{IsCounted, counted_run, counted_opening}
 use Rattle.eos_evidence.specs.Evidence.{EvidenceParts}
-use Rattle.eos_logs.specs.Evidences.{IsEvidenceOf}
+use Rattle.eos_logs.specs.Evidences.{IsEvidenceOf, HasRoomForAll}
+use Rattle.eos_logs.specs.steps.Writable.{IsWritable}
+use Rattle.eos_logs.proofs.ReachedItems.{writable}
 use Rattle.eos_logs.specs.Schedules.{IsOfSchedule}
 use Rattle.eos_store.specs.steps.Proper.{IsProper}
 use Rattle.eos_cluster.specs.Courses.{Course, IsTaken, IsTakenUnder, UnlessMemory, IsStep, IsStepUnder, IsCounted as IsCountedStep, IsReached, IsReachedUnder}
@@ -63,6 +65,10 @@ neighbours_fit_there c w i r h = neighbours_fit c w (keeps_sequences_there c w i
 
 pub of_schedule : (c : Config) (w : World) (e : EvidenceParts) → IsConfig c → IsReached c w → IsAtRest w → IsEvidenceOf c w e → IsOfSchedule e
 of_schedule c w e i r h k = record { config = c; world = w; events = r.taken; sizes = i; run = r.run; rest = h; evidence = k }
+
+-- within the room there is evidence of it
+pub writable_there : (c : Config) (w : World) → IsConfig c → IsReachedUnder c w → HasRoomForAll c w → IsWritable c w
+writable_there c w i r h = subst (IsWritable c) (sym r.run) (writable c r.taken i (subst (HasRoomForAll c) r.run h))
 
 -- ---- what an event needs
 

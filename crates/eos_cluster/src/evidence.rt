@@ -1,19 +1,21 @@
 //! The evidence of a cluster at rest.
 
-ghost use Rattle.std.specs.Prelude.{◌≡◌, ℕ, ◌<◌, Ok, map, IfOk, OnOk};
+ghost use Rattle.std.specs.Prelude.{◌≡◌, ℕ, ◌<◌, Ok, map, IfOk, OnOk, IsOk};
 ghost use Rattle.std.specs.List.{range_with_len};
 ghost use Rattle.eos_machine.specs.Places.{place_count};
 ghost use Rattle.eos_machine.specs.World.{log_at};
 ghost use Rattle.eos_cluster.specs.declared.evidence.EvidenceRefusal.{EvidenceRefusal};
 ghost use Rattle.eos_evidence.specs.Parts.{accepted};
-ghost use Rattle.eos_evidence.specs.Evidence.{IsEvidence};
+ghost use Rattle.eos_evidence.specs.Evidence.{IsEvidence, without_segments};
 ghost use Rattle.eos_logs.specs.Batches.{HaveTexts};
-ghost use Rattle.eos_logs.specs.Evidences.{end_of, parts_of, cluster_segments, adding, IsEvidenceOf};
+ghost use Rattle.eos_logs.specs.Evidences.{end_of, parts_of, log_segments, cluster_segments, adding, IsEvidenceOf};
+ghost use Rattle.eos_logs.specs.steps.Writable.{IsWritable};
+ghost use Rattle.eos_log_writer.specs.declared.segments.LogFault.{LogFault};
 ghost use Rattle.eos_cluster.specs.Names.{evidence_refusal_name};
 
 use eos_base::Listed;
 use eos_evidence::{End, Evidence, EvidenceBuilder, Spec};
-use eos_log_writer::{add_log, application, end_of, place_count};
+use eos_log_writer::{LogFault, add_log, application, end_of, place_count};
 use eos_store::Store;
 use std::alloc::AllocError;
 use thiserror::Error;
@@ -41,10 +43,14 @@ impl EvidenceRefusal {
 }
 
 /// The end of the partition at a place.
-fn end_at(store: &Store, place: usize) -> Result<End, AllocError>
-    ensures { IfOk result (λ e. e ≡ end_of store.now.config store.now.world place) }
+fn end_at(store: &Store, place: usize) -> End
+    requires { place < place_count store.now.config }
+    ensures { result ≡ end_of store.now.config store.now.world place }
 {
-    end_of(store.config(), place, store.log(place).len())
+    match end_of(store.config(), place, store.log(place).len()) {
+        Some(end) => end,
+        None => unreachable!(),
+    }
 }
 
 /// The ends of all partitions.
@@ -53,25 +59,54 @@ fn ends(store: &Store) -> Result<Vec<End>, AllocError>
 {
     let mut ends = Vec::new(store.alloc());
     for place in 0..place_count(store.config()) {
-        ends.push(end_at(store, place)?)?;
+        ends.push(end_at(store, place))?;
     }
     Ok(ends)
 }
 
+/// Want of memory, the one refusal of a log of a cluster.
+fn of_memory(_fault: LogFault) -> AllocError
+    requires { _fault ≡ LogFault.OutOfMemory }
+{
+    AllocError
+}
+
+/// Adds the segments of the log at a place.
+fn add_at(store: &Store, builder: &mut EvidenceBuilder, place: usize) -> Result<(), AllocError>
+    requires writable { IsWritable store.now.config store.now.world }
+    requires place { place < place_count store.now.config }
+    requires taken { IsOk (adding builder.old (log_segments store.now.config place (log_at store.now.world place))) }
+    ensures added { OnOk result (adding builder.old (log_segments store.now.config place (log_at store.now.world place)) ≡ Ok builder.new) }
+    ensures written { OnOk result (HaveTexts store.now.config 0 (log_at store.now.world place)) }
+{
+    match add_log(
+        store.alloc(),
+        builder,
+        store.config(),
+        place,
+        store.log(place),
+    ) {
+        Ok(()) => Ok(()),
+        Err(fault) => Err(of_memory(fault)),
+    }
+}
+
 /// Adds the segments of all logs.
 fn add_logs(store: &Store, builder: &mut EvidenceBuilder) -> Result<(), AllocError>
+    requires writable { IsWritable store.now.config store.now.world }
+    requires begun { builder.old ≡ without_segments (parts_of store.now.config store.now.world) }
     ensures added { OnOk result (adding builder.old (cluster_segments store.now.config store.now.world) ≡ Ok builder.new) }
     ensures written { OnOk result ((p : ℕ) → p < place_count store.now.config → HaveTexts store.now.config 0 (log_at store.now.world p)) }
 {
-    let config = store.config();
-    for place in 0..place_count(config) {
-        add_log(store.alloc(), builder, config, place, store.log(place))?;
+    for place in 0..place_count(store.config()) {
+        add_at(store, builder, place)?;
     }
     Ok(())
 }
 
 /// The spec of the evidence.
 fn spec_of(store: &Store) -> Result<Spec, AllocError>
+    requires { IsWritable store.now.config store.now.world }
     ensures { IfOk result (λ s. accepted (parts_of store.now.config store.now.world) ≡ Ok s) }
 {
     let mut apps = Vec::new(store.alloc());
@@ -79,12 +114,13 @@ fn spec_of(store: &Store) -> Result<Spec, AllocError>
     let ends = Listed::new(ends(store)?);
     match Spec::new(store.alloc(), Listed::new(apps), ends) {
         Ok(spec) => Ok(spec),
-        Err(_) => Err(AllocError),
+        Err(_) => unreachable!(),
     }
 }
 
-/// All logs, as evidence.
+/// All logs, as evidence. Nothing but a growth is refused.
 pub(crate) fn evidence_of(store: &Store) -> Result<Evidence, AllocError>
+    requires { IsWritable store.now.config store.now.world }
     ensures cluster { IfOk result (IsEvidenceOf store.now.config store.now.world) }
     ensures evidence { IfOk result IsEvidence }
 {

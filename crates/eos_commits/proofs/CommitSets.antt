@@ -13,7 +13,7 @@ use Rattle.eos_commits.specs.steps.CommitLists.{commits_at, commits_by}
 use Rattle.eos_commits.proofs.RoleSearch.{found_in_order}
 
 -- a list without what a test refuses, or nothing for that
-flat_filter : {X Y : Type 0} (f : X → List Y) (p : X → Bool) (xs : List X) → flat_map (λ x. if p x then f x else []) xs ≡ flat_map f (filter p xs)
+pub flat_filter : {X Y : Type 0} (f : X → List Y) (p : X → Bool) (xs : List X) → flat_map (λ x. if p x then f x else []) xs ≡ flat_map f (filter p xs)
 flat_filter f p [] = refl
 flat_filter {X} {Y} f p (x ∷ xs) = go (p x) (flat_filter f p xs)
   where
@@ -25,10 +25,10 @@ flat_filter {X} {Y} f p (x ∷ xs) = go (p x) (flat_filter f p xs)
 in_part : (group : Group) (sources : List Topic) (p : PartLog) → commits_at (is_of group sources) p ≡ (if is_offsets_part p then commits_in group sources p else [])
 in_part group sources p = ap (λ (cs : List Commit). if is_offsets_part p then cs else []) (flat_filter (commit_in group sources) (λ (x : Item). is_visible x.fate) p.items)
 
-in_log : (group : Group) (sources : List Topic) (ps : List PartLog) → commits_by (is_of group sources) ps ≡ commits_of group sources ps
+pub in_log : (group : Group) (sources : List Topic) (ps : List PartLog) → commits_by (is_of group sources) ps ≡ commits_of group sources ps
 in_log group sources ps = (λ i. flat_map (λ p. in_part group sources p i) ps) ∙ flat_filter (commits_in group sources) is_offsets_part ps
 
-same_test : (group : Group) (sources set : List Topic) → IsPermutation sources set → is_of group set ≡ is_of group sources
+pub same_test : (group : Group) (sources set : List Topic) → IsPermutation sources set → is_of group set ≡ is_of group sources
 same_test group sources set p = λ i key. is_same group key.group && found_in_order (slice_cmp nat_cmp) sources set key.topic p i
 
 pub commits_by_any : (group : Group) (sources set : List Topic) (ps : List PartLog) → IsPermutation sources set → commits_by (is_of group set) ps ≡ commits_of group sources ps

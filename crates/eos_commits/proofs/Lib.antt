@@ -4,6 +4,8 @@ pub mod VisibleOrder
 pub mod RecordsLaw
 pub mod RoleSearch
 pub mod CommitSets
+pub mod EntryLists
+pub mod EntryOrder
 pub mod Spots
 pub mod JudgedSpot
 pub mod FirstFault

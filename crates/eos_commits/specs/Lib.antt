@@ -3,4 +3,5 @@ pub mod Commits
 pub mod Kept
 pub mod Faults
 pub mod Plain
+pub mod Tables
 pub mod steps

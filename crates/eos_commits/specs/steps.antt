@@ -2,3 +2,4 @@
 pub mod Roles
 pub mod Walks
 pub mod CommitLists
+pub mod Entries

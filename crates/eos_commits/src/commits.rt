@@ -32,7 +32,7 @@ pub struct CommitRef<'a> {
 }
 
 // The commit of this key, where its value reads.
-fn commit_with<'a>(
+pub(crate) fn commit_with<'a>(
     key: KeyRef<'a>,
     value: Option<&[u8]>,
     writer: Option<(i64, i16)>,

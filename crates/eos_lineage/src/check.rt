@@ -1,9 +1,11 @@
 //! The lineage of all applications: the least fault, or the counts.
 
-ghost use Rattle.std.specs.Prelude.{◌≡◌, ◌+◌, ◌<◌, true, map, IfOk, IsPermutation};
+ghost use Rattle.std.specs.Prelude.{◌≡◌, ◌+◌, ◌<◌, true, List, map, IfOk, IsPermutation};
 ghost use Rattle.eos_base.specs.Least.{NoneStands};
+ghost use Rattle.eos_base.specs.Members.{Has};
 ghost use Rattle.eos_commits.specs.Commits.{commits_of as commits_in};
 ghost use Rattle.eos_commits.specs.Plain.{plain_commit};
+ghost use Rattle.eos_commits.specs.Tables.{IsTableOf};
 ghost use Rattle.eos_commits.specs.Faults.{AreInOrder, Stands as StandsAtRecord};
 ghost use Rattle.eos_fold.specs.Parts.{part_name};
 ghost use Rattle.eos_evidence.specs.declared.application.App.{App};
@@ -21,7 +23,7 @@ use crate::offsets::offsets_of;
 use crate::passes::PassTable;
 use crate::tables::Tables;
 use eos_base::PartitionName;
-use eos_commits::{CommitRef, TopicSet, commits_of, least_visible_fault};
+use eos_commits::{CommitRef, CommitTable, TopicSet, least_visible_fault};
 use eos_evidence::{App, GroupId, Spec};
 use eos_fold::Part;
 use std::alloc::{AllocError, Global};
@@ -68,19 +70,20 @@ fn check_application(
     rt: &(impl Threads + Sync),
     threads: usize,
     app: &App,
+    table: &CommitTable<'_>,
     all: &[PartitionName],
     names: &Names<'_>,
     parts: &[Part],
 ) -> Result<Tally, AllocError>
     requires threads { 0 < threads }
+    requires table { (apps : List App) × IsTableOf apps parts.now table.now × Has apps app.now }
     requires all { all.now ≡ map part_name parts.now }
     requires names { names.now ≡ all.now }
     ensures { AreInOrder parts.now → IfOk result (λ t. IsOutputsAnswer (application_of app.now parts.now) t.fault t.inputs t.outputs) }
 {
-    let topics = app.sources.as_slice();
-    let sources = TopicSet::of(alloc, topics)?;
+    let sources = TopicSet::of(alloc, app.sources.as_slice())?;
     let outputs = TopicSet::of(alloc, app.outputs.as_slice())?;
-    let commits = commits_of(alloc, app.group.as_bytes(), topics, parts)?;
+    let commits = table.commits_of(alloc, app)?;
     check_claims(
         alloc,
         rt,
@@ -128,10 +131,11 @@ fn check_each(
     requires names { names.now ≡ all.now }
     ensures { AreInOrder parts.now → NoneStands (StandsAtRecord apps.now parts.now) → IfOk result (IsAnswer apps.now parts.now) }
 {
+    let table = CommitTable::of(alloc, apps, parts)?;
     let mut inputs = 0u64;
     let mut outputs = 0u64;
     for app in apps {
-        let tally = check_application(alloc, rt, threads, app, all, names, parts)?;
+        let tally = check_application(alloc, rt, threads, app, &table, all, names, parts)?;
         let found = tally.fault;
         if let Some(fault) = found {
             let group = group_of(apps, app)?;

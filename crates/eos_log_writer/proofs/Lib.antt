@@ -1,3 +1,4 @@
 pub mod Adding
 pub mod Grouping
+pub mod Refusals
 pub mod Texts

@@ -1,2 +1,4 @@
 pub mod BatchParts
 pub mod Grouping
+pub mod Names
+pub mod steps

@@ -2,10 +2,11 @@
 #![tactic(auto)]
 
 mod batches;
+mod fitting;
 mod places;
 mod segments;
 mod values;
 mod writer;
 
 pub use places::place_count;
-pub use segments::{add_log, application, end_of};
+pub use segments::{LogFault, add_log, application, end_of};

@@ -1,20 +1,26 @@
 //! The logs of a cluster, cut into segments.
 
-ghost use Rattle.std.specs.Prelude.{◌≡◌, ◌*◌, ◌<◌, ◌^◌, pos, Ok, take, drop, IfOk, OnOk};
-ghost use Rattle.eos_machine.specs.Places.{IsConfig, topic_of, number_of};
+ghost use Rattle.std.specs.Prelude.{◌≡◌, ◌≢◌, ◌*◌, ◌<◌, ◌^◌, pos, Ok, Err, take, drop, length, IfOk, OnOk, IsOk, IfSome, IsNone};
+ghost use Rattle.std.specs.List.{All};
+ghost use Rattle.eos_machine.specs.Places.{IsConfig, place_count, topic_of, number_of};
+ghost use Rattle.eos_logs.specs.Fitting.{IsFit};
+ghost use Rattle.eos_log_writer.specs.declared.segments.LogFault.{LogFault};
+ghost use Rattle.eos_log_writer.specs.Names.{log_fault_name};
 ghost use Rattle.eos_evidence.specs.Evidence.{added};
 ghost use Rattle.eos_logs.specs.Batches.{HaveTexts};
 ghost use Rattle.eos_logs.specs.Evidences.{application, segment_count, segment_at, log_segments, adding};
 
 use crate::batches::items_text;
-use crate::places::{number_of, topic_of};
+use crate::fitting::are_fit;
+use crate::places::{number_of, place_count, topic_of};
 use crate::values;
 use crate::writer::{as_i32, as_i64};
 use bytes::Bytes;
 use eos_base::Listed;
-use eos_evidence::{App, End, EvidenceBuilder, GroupId, Segment};
+use eos_evidence::{AddFault, App, End, EvidenceBuilder, GroupId, Segment};
 use eos_machine::{Config, Item};
 use std::alloc::{AllocError, Global};
+use thiserror::Error;
 
 /// How many segments so many records take.
 fn segment_count(config: Config, records: usize) -> usize
@@ -48,51 +54,86 @@ fn segment_at(
     log: &[Item],
     i: usize,
 ) -> Result<Segment, AllocError>
-    requires { IsConfig config }
+    requires config { IsConfig config }
+    requires place { place < place_count config }
+    requires begins { i * config.segment_records < length log.now }
+    requires fits { All (IsFit config) log.now }
     ensures segment { IfOk result (λ s. s ≡ segment_at config place log.now i) }
     ensures written { OnOk result (HaveTexts config (i * config.segment_records) (take config.segment_records (drop (i * config.segment_records) log.now))) }
 {
-    let Some(base) = i.checked_mul(config.segment_records) else {
-        return Err(AllocError);
-    };
+    let base = i * config.segment_records;
     let items = part(log, base, config.segment_records);
-    if items.len() > usize::MAX - base {
-        return Err(AllocError);
-    }
     let bytes = items_text(alloc, config, base, items)?;
     Ok(Segment {
         topic: topic_of(config, place),
-        partition: as_i32(number_of(config, place))?,
-        base: as_i64(base as u64)?,
+        partition: as_i32(number_of(config, place)),
+        base: as_i64(base as u64),
         bytes,
     })
 }
 
+/// Why a log isn't added to evidence.
+#[derive(Clone, Copy, Debug, PartialEq, Eq, Error)]
+#[error("{name}", name = self.name())]
+pub enum LogFault {
+    /// The cluster has no such log: something in it doesn't fit its field, or the evidence refuses a segment of it.
+    Refused,
+    /// A growth was refused.
+    OutOfMemory,
+}
+
+impl LogFault {
+    /// The fault's name.
+    pub fn name(self) -> &'static str
+        ensures { result.now ≡ log_fault_name self }
+    {
+        match self {
+            LogFault::Refused => "Refused",
+            LogFault::OutOfMemory => "OutOfMemory",
+        }
+    }
+}
+
 /// Adds a segment.
-fn add(builder: &mut EvidenceBuilder, segment: Segment) -> Result<(), AllocError>
-    ensures { OnOk result (added builder.old segment ≡ Ok builder.new) }
+fn add(builder: &mut EvidenceBuilder, segment: Segment) -> Result<(), LogFault>
+    ensures added { OnOk result (added builder.old segment ≡ Ok builder.new) }
+    ensures only { IsOk (added builder.old segment) → result ≢ Err LogFault.Refused }
 {
     match builder.add(segment) {
         Ok(()) => Ok(()),
-        Err(_) => Err(AllocError),
+        Err(AddFault::OutOfMemory) => Err(LogFault::OutOfMemory),
+        Err(_) => Err(LogFault::Refused),
     }
 }
 
 /// Adds the segments of the log at a place.
+///
+/// # Errors
+/// `Refused` where the place, or something in the log, doesn't fit its field, or where the evidence refuses a segment: never of a
+/// log whose items fit and whose segments all go in. `OutOfMemory` where a growth was refused.
 pub fn add_log(
     alloc: Global,
     builder: &mut EvidenceBuilder,
     config: Config,
     place: usize,
     log: &[Item],
-) -> Result<(), AllocError>
+) -> Result<(), LogFault>
     requires { IsConfig config }
     ensures added { OnOk result (adding builder.old (log_segments config place log.now) ≡ Ok builder.new) }
     ensures written { OnOk result (HaveTexts config 0 log.now) }
+    ensures only { place < place_count config → All (IsFit config) log.now → IsOk (adding builder.old (log_segments config place log.now)) → result ≢ Err LogFault.Refused }
 {
+    if place >= place_count(config) {
+        return Err(LogFault::Refused);
+    }
+    if !are_fit(config, log) {
+        return Err(LogFault::Refused);
+    }
     let count = segment_count(config, log.len());
     for i in 0..count {
-        let segment = segment_at(alloc, config, place, log, i)?;
+        let Ok(segment) = segment_at(alloc, config, place, log, i) else {
+            return Err(LogFault::OutOfMemory);
+        };
         add(builder, segment)?;
     }
     Ok(())
@@ -113,14 +154,19 @@ pub fn application(alloc: Global) -> Result<App, AllocError>
     })
 }
 
-/// The end of the partition at a place, whose log has so many records.
-pub fn end_of(config: Config, place: usize, records: usize) -> Result<End, AllocError>
+/// The end of the partition at a place, whose log has so many records. None where a number of them doesn't fit its field, as
+/// no cluster has it.
+pub fn end_of(config: Config, place: usize, records: usize) -> Option<End>
     requires { IsConfig config }
-    ensures { IfOk result (λ e. e ≡ record { topic = topic_of config place; partition = pos (number_of config place); end = pos records }) }
+    ensures some { IfSome result (λ e. e ≡ record { topic = topic_of config place; partition = pos (number_of config place); end = pos records }) }
+    ensures none { IsNone result → place < place_count config → records < 2 ^ 63 → ⊥ }
 {
-    Ok(End {
+    if place >= place_count(config) || records > i64::MAX as usize {
+        return None;
+    }
+    Some(End {
         topic: topic_of(config, place),
-        partition: as_i32(number_of(config, place))?,
-        end: as_i64(records as u64)?,
+        partition: as_i32(number_of(config, place)),
+        end: as_i64(records as u64),
     })
 }

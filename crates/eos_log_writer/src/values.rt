@@ -1,6 +1,6 @@
 //! The keys, values and headers of a cluster's records.
 
-ghost use Rattle.std.specs.Prelude.{◌≡◌, ◌++◌, ◌∷◌, [], ◌+◌, List, length, ◌≤◌, Ok, IfOk, OnOk, pos};
+ghost use Rattle.std.specs.Prelude.{◌≡◌, ◌++◌, ◌∷◌, [], ◌+◌, List, length, ◌≤◌, ◌<◌, ◌^◌, Ok, IfOk, OnOk, pos};
 ghost use Rattle.eos_wire.specs.Numbers.{i32_text, i64_text, i16_text};
 ghost use Rattle.eos_txnlog.specs.Reading.{read_value};
 ghost use Rattle.eos_txnlog.specs.Writing as txnlog;
@@ -9,12 +9,17 @@ ghost use Rattle.eos_machine.specs.Places.{IsConfig, input_topic};
 ghost use Rattle.eos_machine.specs.Rest.{status_of, by_topic, value_of, with_number};
 ghost use Rattle.eos_txnlog.specs.declared.partitions.TopicPartitions.{TopicPartitions};
 ghost use Rattle.eos_log_writer.specs.Grouping.{starts_with};
+ghost use Rattle.std.specs.Int.{w64, cast_signed};
+ghost use Rattle.std.specs.List.{All};
+ghost use Rattle.eos_base.specs.declared.record_fault.RecordFault.{RecordFault};
+ghost use Rattle.eos_machine.specs.Places.{place_count};
+ghost use Rattle.eos_logs.specs.Fitting.{AreAllThere};
 ghost use Rattle.eos_logs.specs.Batches.{group, transactional_id, bytes_of, header, claim_headers, control_type};
 
 use crate::places::{number_of, topic_of};
 use crate::writer::{as_i16, as_i32, as_i64, producer_id};
 use bytes::Bytes;
-use eos_base::Listed;
+use eos_base::{Listed, RecordFault};
 use eos_batch::{Header, Kind};
 use eos_machine::{Claim, Config, Entry, Status};
 use eos_offsets::{Commit, OffsetKey};
@@ -61,13 +66,18 @@ pub(crate) fn i64_bytes(alloc: Global, number: i64) -> Result<Bytes, AllocError>
     Ok(Bytes::from_vec(out)?)
 }
 
+/// Want of memory, the one refusal that writing has here.
+fn of_memory(_fault: RecordFault) -> AllocError
+    requires { _fault ≡ RecordFault.OutOfMemory }
+{
+    AllocError
+}
+
 /// The transactional id of an application.
 fn transactional_id(alloc: Global, application: usize) -> Result<Bytes, AllocError>
+    requires { application ≤ 8 }
     ensures { IfOk result (λ b. b ≡ transactional_id application) }
 {
-    if application > 9 {
-        return Err(AllocError);
-    }
     let mut id = Vec::from_slice(alloc, b"app-".as_slice())?;
     id.push(48 + application as u8)?;
     Ok(Bytes::from_vec(id)?)
@@ -75,12 +85,13 @@ fn transactional_id(alloc: Global, application: usize) -> Result<Bytes, AllocErr
 
 /// The key of an application's transaction records.
 pub(crate) fn transaction_key(alloc: Global, application: usize) -> Result<Bytes, AllocError>
+    requires { application ≤ 8 }
     ensures { IfOk result (λ b. b ≡ bytes_of (txnlog.write_key (transactional_id application))) }
 {
     let id = transactional_id(alloc, application)?;
     match eos_txnlog::encode_key(alloc, &id) {
         Ok(key) => Ok(key),
-        Err(_) => Err(AllocError),
+        Err(fault) => Err(of_memory(fault)),
     }
 }
 
@@ -138,9 +149,10 @@ fn put_in_front(
     topic: Bytes,
     number: usize,
 ) -> Result<(), AllocError>
+    requires { number < 2 ^ 31 }
     ensures { OnOk result (groups.new.items ≡ with_number topic number groups.old.items) }
 {
-    let signed = as_i32(number)?;
+    let signed = as_i32(number);
     if starts_with(groups.as_slice(), &topic) {
         return join_first(groups, signed);
     }
@@ -151,7 +163,8 @@ fn put_in_front(
 
 /// The partitions at these places, by topic.
 fn by_topic(alloc: Global, config: Config, places: &[usize]) -> Result<Partitions, AllocError>
-    requires { IsConfig config }
+    requires config { IsConfig config }
+    requires places { All (λ p. p < place_count config) places.now }
     ensures { IfOk result (λ p. p ≡ by_topic config places.now) }
 {
     let mut groups = Vec::new(alloc);
@@ -167,6 +180,32 @@ fn by_topic(alloc: Global, config: Config, places: &[usize]) -> Result<Partition
     Ok(Listed::new(groups))
 }
 
+/// What a transaction record says.
+fn txn_value(
+    alloc: Global,
+    config: Config,
+    application: usize,
+    entry: &Entry,
+    event: u64,
+) -> Result<TxnValue, AllocError>
+    requires config { IsConfig config }
+    requires application { application ≤ 8 }
+    requires epoch { entry.now.epoch < 2 ^ 15 }
+    requires partitions { AreAllThere config entry.now.partitions }
+    requires event { event < 2 ^ 63 }
+    ensures { IfOk result (λ v. v ≡ value_of config application entry.now event) }
+{
+    Ok(TxnValue {
+        producer: producer_id(application),
+        epoch: as_i16(entry.epoch),
+        timeout: TIMEOUT,
+        status: txn_status(entry.status),
+        partitions: by_topic(alloc, config, entry.partitions.as_slice())?,
+        last_update: as_i64(event),
+        start: as_i64(event),
+    })
+}
+
 /// The value of a transaction record.
 pub(crate) fn transaction_value(
     alloc: Global,
@@ -175,53 +214,59 @@ pub(crate) fn transaction_value(
     entry: &Entry,
     event: u64,
 ) -> Result<Bytes, AllocError>
-    requires { IsConfig config }
+    requires config { IsConfig config }
+    requires application { application ≤ 8 }
+    requires epoch { entry.now.epoch < 2 ^ 15 }
+    requires partitions { AreAllThere config entry.now.partitions }
+    requires event { event < 2 ^ 63 }
     ensures value { IfOk result (λ b. b ≡ bytes_of (txnlog.write_value (pos 1) (value_of config application entry.now event))) }
     ensures reads { OnOk result (read_value (bytes_of (txnlog.write_value (pos 1) (value_of config application entry.now event))) ≡ Ok (value_of config application entry.now event)) }
 {
-    let value = TxnValue {
-        producer: producer_id(application)?,
-        epoch: as_i16(entry.epoch)?,
-        timeout: TIMEOUT,
-        status: txn_status(entry.status),
-        partitions: by_topic(alloc, config, entry.partitions.as_slice())?,
-        last_update: as_i64(event)?,
-        start: as_i64(event)?,
-    };
+    let value = txn_value(alloc, config, application, entry, event)?;
     match eos_txnlog::encode_value(alloc, &value, TXN_VALUE_VERSION) {
         Ok(bytes) => Ok(bytes),
-        Err(_) => Err(AllocError),
+        Err(fault) => Err(of_memory(fault)),
     }
 }
 
 /// The key of a commit of the group's offset in a partition of `in`.
 pub(crate) fn commit_key(alloc: Global, source: usize) -> Result<Bytes, AllocError>
+    requires { source < 2 ^ 31 }
     ensures { IfOk result (λ b. b ≡ bytes_of (offsets.write_key (record { group = group; topic = input_topic; partition = pos source }))) }
 {
     let key = OffsetKey {
         group: group(),
         topic: input_topic(),
-        partition: as_i32(source)?,
+        partition: as_i32(source),
     };
     match eos_offsets::encode_key(alloc, &key) {
         Ok(bytes) => Ok(bytes),
-        Err(_) => Err(AllocError),
+        Err(fault) => Err(of_memory(fault)),
     }
 }
 
-/// The value of a commit.
-pub(crate) fn commit_value(alloc: Global, source: usize, offset: u64) -> Result<Bytes, AllocError>
-    ensures { IfOk result (λ b. b ≡ bytes_of (offsets.write_value (record { group = group; topic = input_topic; partition = pos source; offset = pos offset }) (pos 3))) }
+/// A commit of an offset, with the eight bytes that it has.
+fn commit_of(source: usize, offset: u64) -> Commit
+    requires { source < 2 ^ 31 }
+    ensures { result ≡ record { group = group; topic = input_topic; partition = pos source; offset = cast_signed w64 offset } }
 {
-    let commit = Commit {
+    Commit {
         group: group(),
         topic: input_topic(),
-        partition: as_i32(source)?,
-        offset: as_i64(offset)?,
-    };
+        partition: as_i32(source),
+        offset: offset.cast_signed(),
+    }
+}
+
+/// The value of a commit. It has the eight bytes of the offset, whichever sign they have as an i64.
+pub(crate) fn commit_value(alloc: Global, source: usize, offset: u64) -> Result<Bytes, AllocError>
+    requires { source < 2 ^ 31 }
+    ensures { IfOk result (λ b. b ≡ bytes_of (offsets.write_value (record { group = group; topic = input_topic; partition = pos source; offset = pos offset }) (pos 3))) }
+{
+    let commit = commit_of(source, offset);
     match eos_offsets::encode_value(alloc, &commit, COMMIT_VALUE_VERSION) {
         Ok(bytes) => Ok(bytes),
-        Err(_) => Err(AllocError),
+        Err(fault) => Err(of_memory(fault)),
     }
 }
 

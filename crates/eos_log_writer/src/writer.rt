@@ -1,69 +1,52 @@
-//! By whom a batch is written.
-//!
-//! Numbers are taken from the state, where they are small: an epoch is at most 32767, an event's number at most 2^31. One
-//! that didn't fit its field would be answered as want of memory is.
+//! By whom a batch is written, and its numbers: what fits its field is a matter of the caller's.
 
-ghost use Rattle.std.specs.Prelude.{◌≡◌, pos, IfOk};
+ghost use Rattle.std.specs.Prelude.{◌≡◌, pos, ◌<◌, ◌≤◌, ◌^◌};
 ghost use Rattle.eos_machine.specs.Rest.{producer_id};
 ghost use Rattle.eos_logs.specs.Batches.{plain, transactional, control};
 
 use eos_logs::Writer;
-use std::alloc::AllocError;
 
 /// The producer id of the first application.
 const FIRST_PRODUCER: i64 = 1000;
 
-/// The most applications of a cluster, and more.
-const MANY_APPLICATIONS: usize = 10;
-
 /// The number as an i64.
-pub(crate) fn as_i64(number: u64) -> Result<i64, AllocError>
-    ensures { IfOk result (λ z. z ≡ pos number) }
+pub(crate) fn as_i64(number: u64) -> i64
+    requires { number < 2 ^ 63 }
+    ensures { result ≡ pos number }
 {
-    if number > i64::MAX as u64 {
-        return Err(AllocError);
-    }
-    Ok(number as i64)
+    number as i64
 }
 
 /// The number as an i32.
-pub(crate) fn as_i32(number: usize) -> Result<i32, AllocError>
-    ensures { IfOk result (λ z. z ≡ pos number) }
+pub(crate) fn as_i32(number: usize) -> i32
+    requires { number < 2 ^ 31 }
+    ensures { result ≡ pos number }
 {
-    if number > i32::MAX as usize {
-        return Err(AllocError);
-    }
-    Ok(number as i32)
+    number as i32
 }
 
 /// The number of a sequence as an i32.
-pub(crate) fn sequence_as_i32(number: u32) -> Result<i32, AllocError>
-    ensures { IfOk result (λ z. z ≡ pos number) }
+pub(crate) fn sequence_as_i32(number: u32) -> i32
+    requires { number < 2 ^ 31 }
+    ensures { result ≡ pos number }
 {
-    if number > i32::MAX as u32 {
-        return Err(AllocError);
-    }
-    Ok(number as i32)
+    number as i32
 }
 
 /// The epoch as an i16.
-pub(crate) fn as_i16(number: u16) -> Result<i16, AllocError>
-    ensures { IfOk result (λ z. z ≡ pos number) }
+pub(crate) fn as_i16(number: u16) -> i16
+    requires { number < 2 ^ 15 }
+    ensures { result ≡ pos number }
 {
-    if number > i16::MAX as u16 {
-        return Err(AllocError);
-    }
-    Ok(number as i16)
+    number as i16
 }
 
 /// The producer id of an application.
-pub(crate) fn producer_id(application: usize) -> Result<i64, AllocError>
-    ensures { IfOk result (λ z. z ≡ producer_id application) }
+pub(crate) fn producer_id(application: usize) -> i64
+    requires { application ≤ 8 }
+    ensures { result ≡ producer_id application }
 {
-    if application > MANY_APPLICATIONS {
-        return Err(AllocError);
-    }
-    Ok(FIRST_PRODUCER + application as i64)
+    FIRST_PRODUCER + application as i64
 }
 
 /// Of a plain batch.
@@ -79,29 +62,29 @@ pub(crate) fn plain() -> Writer
 }
 
 /// Of data in a transaction.
-pub(crate) fn transactional(
-    application: usize,
-    epoch: u16,
-    sequence: i32,
-) -> Result<Writer, AllocError>
-    ensures { IfOk result (λ w. w ≡ transactional application epoch sequence) }
+pub(crate) fn transactional(application: usize, epoch: u16, sequence: i32) -> Writer
+    requires application { application ≤ 8 }
+    requires epoch { epoch < 2 ^ 15 }
+    ensures { result ≡ transactional application epoch sequence }
 {
-    Ok(Writer {
+    Writer {
         attributes: 16,
-        producer: producer_id(application)?,
-        epoch: as_i16(epoch)?,
+        producer: producer_id(application),
+        epoch: as_i16(epoch),
         sequence,
-    })
+    }
 }
 
 /// Of an end marker.
-pub(crate) fn control(application: usize, epoch: u16) -> Result<Writer, AllocError>
-    ensures { IfOk result (λ w. w ≡ control application epoch) }
+pub(crate) fn control(application: usize, epoch: u16) -> Writer
+    requires application { application ≤ 8 }
+    requires epoch { epoch < 2 ^ 15 }
+    ensures { result ≡ control application epoch }
 {
-    Ok(Writer {
+    Writer {
         attributes: 48,
-        producer: producer_id(application)?,
-        epoch: as_i16(epoch)?,
+        producer: producer_id(application),
+        epoch: as_i16(epoch),
         sequence: -1,
-    })
+    }
 }

@@ -1,3 +1,5 @@
 pub mod Batches
 pub mod Evidences
+pub mod Fitting
 pub mod Schedules
+pub mod steps

@@ -1,10 +1,13 @@
 //! The notes of an evidence, in their order.
 
-ghost use Rattle.std.specs.Prelude.{◌≡◌, ◌++◌, [], false, map, IfOk, OnOk, IsPermutation};
+ghost use Rattle.std.specs.Prelude.{◌≡◌, ◌++◌, [], false, List, map, IfOk, OnOk, IsPermutation};
+ghost use Rattle.eos_base.specs.Members.{Has};
 ghost use Rattle.eos_check.specs.Good.{AreLogsOf};
 ghost use Rattle.eos_claims.specs.Outputs.{committed_offset};
 ghost use Rattle.eos_commits.specs.Faults.{AreInOrder};
 ghost use Rattle.eos_commits.specs.Plain.{plain_commit};
+ghost use Rattle.eos_commits.specs.Tables.{IsTableOf};
+ghost use Rattle.eos_evidence.specs.declared.application.App.{App as AppOf};
 ghost use Rattle.eos_fold.specs.Parts.{part_name};
 ghost use Rattle.eos_notes.specs.CommitNotes.{commits_for, past_ends_in, nothing_in, behind_in, past_ends, nothing_committed, behind};
 ghost use Rattle.eos_notes.specs.ManifestNotes.{absent_topics, gaps, absent_internals};
@@ -14,7 +17,7 @@ use crate::groups::{count_inputs, push_behind, push_nothing, push_past_ends};
 use crate::manifest::{push_absent_topics, push_gaps, push_internals};
 use crate::note::Note;
 use crate::unlisted::unlisted_notes;
-use eos_commits::{CommitRef, TopicSet, commits_of};
+use eos_commits::{CommitRef, CommitTable, TopicSet};
 use eos_evidence::{App, End, Evidence, Spec};
 use eos_fold::Part;
 use eos_lineage::committed_offsets;
@@ -65,15 +68,21 @@ fn take_commits(
 }
 
 // What an application's group has committed.
-fn take_app(alloc: Global, found: &mut Found, app: &App, parts: &[Part]) -> Result<(), AllocError>
-    requires { AreInOrder parts.now }
+fn take_app(
+    alloc: Global,
+    found: &mut Found,
+    app: &App,
+    table: &CommitTable<'_>,
+    parts: &[Part],
+) -> Result<(), AllocError>
+    requires order { AreInOrder parts.now }
+    requires table { (apps : List AppOf) × IsTableOf apps parts.now table.now × Has apps app.now }
     ensures past_ends { OnOk result (found.new.past_ends.items ≡ found.old.past_ends.items ++ past_ends_in parts.now app.now) }
     ensures nothing { OnOk result (found.new.nothing.items ≡ found.old.nothing.items ++ nothing_in parts.now app.now) }
     ensures behind { OnOk result (found.new.behind.items ≡ found.old.behind.items ++ behind_in parts.now app.now) }
 {
-    let topics = app.sources.as_slice();
-    let sources = TopicSet::of(alloc, topics)?;
-    let commits = commits_of(alloc, app.group.as_bytes(), topics, parts)?;
+    let sources = TopicSet::of(alloc, app.sources.as_slice())?;
+    let commits = table.commits_of(alloc, app)?;
     let commits = commits.as_slice();
     let offsets = committed_offsets(alloc, parts, commits)?;
     take_commits(found, app, &sources, parts, commits, offsets.as_slice())?;
@@ -87,9 +96,10 @@ fn found_of(alloc: Global, apps: &[App], parts: &[Part]) -> Result<Found, AllocE
     ensures nothing { IfOk result (λ f. f.nothing.items ≡ nothing_committed parts.now apps.now) }
     ensures behind { IfOk result (λ f. f.behind.items ≡ behind parts.now apps.now) }
 {
+    let table = CommitTable::of(alloc, apps, parts)?;
     let mut found = Found::new(alloc);
     for app in apps {
-        take_app(alloc, &mut found, app, parts)?;
+        take_app(alloc, &mut found, app, &table, parts)?;
     }
     Ok(found)
 }

@@ -4,10 +4,12 @@ ghost use Rattle.std.specs.Prelude.{◌≡◌, ◌++◌, [], ◌∷◌, true, Li
 ghost use Rattle.std.specs.List.{Any, Contains};
 ghost use Rattle.std.specs.List.Sorted.{IsStrictlySortedBy};
 ghost use Rattle.std.specs.Ordering.{is_eq};
-ghost use Rattle.eos_base.specs.Members.{is_found};
+ghost use Rattle.eos_base.specs.Members.{Has, is_found};
 ghost use Rattle.eos_base.specs.PartitionNames.{name_cmp};
 ghost use Rattle.eos_base.specs.declared.partition_name.PartitionName.{PartitionName as Name};
 ghost use Rattle.eos_commits.specs.Plain.{plain_commit};
+ghost use Rattle.eos_commits.specs.Tables.{IsTableOf};
+ghost use Rattle.eos_evidence.specs.declared.application.App.{App as AppOf};
 ghost use Rattle.eos_evidence.specs.declared.ends.End.{End as EndOf};
 ghost use Rattle.eos_notes.specs.CommitNotes.{end_name, commits_for, unlisted_note, AreUnlisted, AreUnlistedNotes};
 ghost use Rattle.eos_notes.specs.steps.Unlisted.{plain_name, by_name, commit_name, is_unlisted, AreEachOnce};
@@ -15,7 +17,7 @@ ghost use Rattle.eos_notes.specs.steps.Unlisted.{plain_name, by_name, commit_nam
 use crate::note::Note;
 use bytes::Bytes;
 use eos_base::{PartitionName, holds, in_order};
-use eos_commits::{CommitRef, commits_of};
+use eos_commits::{CommitRef, CommitTable};
 use eos_evidence::{App, End, GroupId};
 use eos_fold::Part;
 use std::alloc::{AllocError, Global};
@@ -139,14 +141,16 @@ fn push_app(
     alloc: Global,
     all: &mut Vec<Note>,
     app: &App,
+    table: &CommitTable<'_>,
     listed: &[NameRef<'_>],
     parts: &[Part],
 ) -> Result<(), AllocError>
-    requires { IsSorted by_name listed.now }
+    requires table { (apps : List AppOf) × IsTableOf apps parts.now table.now × Has apps app.now }
+    requires listed { IsSorted by_name listed.now }
     ensures { OnOk result ((ends : List EndOf) → IsPermutation (map end_name ends) (map plain_name listed.now)
         → (names : List Name) × AreUnlisted ends (commits_for parts.now app.now) names × (all.new.items ≡ all.old.items ++ map (unlisted_note app.now.group) names)) }
 {
-    let commits = commits_of(alloc, app.group.as_bytes(), app.sources.as_slice(), parts)?;
+    let commits = table.commits_of(alloc, app)?;
     let found = unlisted_names(alloc, listed, commits.as_slice())?;
     let names = each_once(found);
     push_notes(alloc, all, &app.group, names.as_slice())?;
@@ -163,9 +167,10 @@ fn notes_by(
     requires { IsSorted by_name listed.now }
     ensures { IfOk result (λ all. (ends : List EndOf) → IsPermutation (map end_name ends) (map plain_name listed.now) → AreUnlistedNotes ends parts.now apps.now all.items) }
 {
+    let table = CommitTable::of(alloc, apps, parts)?;
     let mut all = Vec::new(alloc);
     for app in apps {
-        push_app(alloc, &mut all, app, listed, parts)?;
+        push_app(alloc, &mut all, app, &table, listed, parts)?;
     }
     Ok(all)
 }

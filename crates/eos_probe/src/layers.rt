@@ -4,6 +4,7 @@ mod applications;
 mod logs;
 mod orders;
 mod parts;
+mod rungs;
 mod transactions;
 mod verdicts;
 
@@ -25,6 +26,7 @@ pub(crate) fn answer<R: Threads + Sync>(
         "part_kind" | "part_fault" | "fates" | "closes" | "markers" | "part" => {
             logs::answer(alloc, notes, line, call, rest)
         }
+        "summarise" => rungs::answer(alloc, notes, line, rest),
         "txn_log" | "match_shards" => transactions::answer(alloc, notes, line, call, rest),
         "verdict" => verdicts::both(alloc, notes, line, rest),
         "write_verdict" => verdicts::written(alloc, notes, line, rest),

@@ -180,7 +180,7 @@ impl Instance {
     /// Where a growth was refused.
     pub(crate) fn hear(
         &mut self,
-        plan: &Plan,
+        plan: &mut Plan,
         choice: Choice,
         reply: Reply,
     ) -> Result<Option<u64>, AllocError> {
@@ -217,7 +217,7 @@ impl Instance {
 
     fn hear_offset(
         &mut self,
-        plan: &Plan,
+        plan: &mut Plan,
         choice: Choice,
         source: usize,
         reply: Reply,

@@ -8,13 +8,20 @@
 
 mod ask;
 mod instance;
+mod mishap;
+mod mishaps;
 mod network;
 mod plan;
+mod rates;
 mod run;
 mod script;
+mod settings;
 mod settle;
 mod tail;
 
-pub use run::run_script;
+pub use mishap::{ChosenMishap, Input, Mishap};
+pub use rates::Rates;
+pub use run::{run_script, run_with};
 pub use script::Script;
+pub use settings::{Settings, Turning};
 pub use tail::run_tail;

@@ -1,5 +1,7 @@
 //! Who reads which inputs, and what is made of them.
 
+use crate::mishap::{ChosenMishap, Input, Mishap};
+use crate::mishaps::Mishaps;
 use bytes::Bytes;
 use eos_machine::{Claim, Config, Event};
 use std::alloc::{AllocError, Global};
@@ -11,6 +13,7 @@ pub(crate) struct Plan {
     generation: u64,
     /// The number of inputs of each partition of `in`.
     ends: Vec<u64>,
+    mishaps: Mishaps,
 }
 
 /// What a transaction asks of the cluster.
@@ -23,6 +26,12 @@ pub(crate) enum Request {
         offset: u64,
         output: u64,
         of: u64,
+    },
+    /// An output of an input with this offset of a topic that isn't read.
+    Foreign {
+        partition: usize,
+        source: usize,
+        offset: u64,
     },
     /// The offset after the inputs that were read.
     Commit {
@@ -44,13 +53,16 @@ impl Request {
             } => Event::Produce {
                 session,
                 partition,
-                claim: Claim {
-                    topic: Bytes::from_static(b"in".as_slice()),
-                    partition: as_i32(source as u64),
-                    offset: as_i64(offset),
-                    output: as_i32(output),
-                    of: as_i32(of),
-                },
+                claim: claim(b"in".as_slice(), source, offset, output, of),
+            },
+            Request::Foreign {
+                partition,
+                source,
+                offset,
+            } => Event::Produce {
+                session,
+                partition,
+                claim: claim(b"foreign".as_slice(), source, offset, 1, 1),
             },
             Request::Commit { source, offset } => Event::Commit {
                 session,
@@ -58,6 +70,17 @@ impl Request {
                 offset: as_i64(offset),
             },
         }
+    }
+}
+
+/// What an output says of its input.
+fn claim(topic: &'static [u8], source: usize, offset: u64, output: u64, of: u64) -> Claim {
+    Claim {
+        topic: Bytes::from_static(topic),
+        partition: as_i32(source as u64),
+        offset: as_i64(offset),
+        output: as_i32(output),
+        of: as_i32(of),
     }
 }
 
@@ -86,7 +109,11 @@ fn as_i32(number: u64) -> i32 {
 }
 
 impl Plan {
-    pub(crate) fn new(alloc: Global, config: Config) -> Result<Plan, AllocError> {
+    pub(crate) fn new(
+        alloc: Global,
+        config: Config,
+        mishaps: &[ChosenMishap],
+    ) -> Result<Plan, AllocError> {
         let mut ends = Vec::new(alloc);
         for _ in 0..config.inputs {
             ends.push(0)?;
@@ -95,6 +122,7 @@ impl Plan {
             config,
             generation: 0,
             ends,
+            mishaps: Mishaps::new(alloc, mishaps)?,
         })
     }
 
@@ -144,13 +172,18 @@ impl Plan {
         None
     }
 
+    /// The first mishap for which there was no input.
+    pub(crate) fn unmet(&self) -> Option<Mishap> {
+        self.mishaps.unmet()
+    }
+
     /// Adds what a transaction asks for the inputs of a partition from an offset on, at most so many of them: the outputs of
     /// each, and the offset after them.
     ///
     /// # Errors
     /// Where a growth was refused; some of it was added.
     pub(crate) fn add_requests(
-        &self,
+        &mut self,
         requests: &mut Vec<Request>,
         source: usize,
         from: u64,
@@ -160,35 +193,98 @@ impl Plan {
             Some(end) => *end,
             None => 0,
         };
-        let to = end.min(from.saturating_add(most));
+        let reach = end.min(from.saturating_add(most));
+        self.mishaps.choose(source, from, reach, end);
+        let to = self.mishaps.bound(source, from, reach, end);
         for offset in from..to {
-            self.add_outputs(requests, source, offset)?;
+            self.add_outputs(requests, Input { source, offset })?;
         }
         if from < to {
+            self.add_ahead(requests, Input { source, offset: to })?;
             requests.push(Request::Commit { source, offset: to })?;
         }
         Ok(())
     }
 
-    /// The input at offset o has o modulo 3 outputs, or one note where that is 0.
-    fn add_outputs(
+    /// The outputs of an input that is read, with the mishap that is due there.
+    fn add_outputs(&mut self, requests: &mut Vec<Request>, input: Input) -> Result<(), AllocError> {
+        let of = input.outputs();
+        match self.mishaps.meet(input, false) {
+            None => self.add_from(requests, input, of.min(1), of),
+            Some(Mishap::LostOutput) => self.add_from(requests, input, 1, of.saturating_sub(1)),
+            Some(Mishap::RepeatedOutput) => {
+                self.add_from(requests, input, 1, of)?;
+                self.add_output(requests, input, 1, of)
+            }
+            Some(Mishap::WrongCount) => {
+                self.add_from(requests, input, 1, of.saturating_sub(1))?;
+                self.add_output(requests, input, of, of.saturating_add(1))
+            }
+            Some(Mishap::WrongNumber) => {
+                self.add_from(requests, input, 1, of)?;
+                self.add_output(requests, input, of.saturating_add(1), of)
+            }
+            Some(Mishap::ForeignSource) => {
+                self.add_from(requests, input, 1, of)?;
+                self.add_foreign(requests, input)
+            }
+            Some(Mishap::EarlyOutput | Mishap::OtherTransaction) => Ok(()),
+        }
+    }
+
+    /// The outputs of the input after those that are read, where a mishap writes them ahead.
+    fn add_ahead(&mut self, requests: &mut Vec<Request>, input: Input) -> Result<(), AllocError> {
+        match self.mishaps.meet(input, true) {
+            Some(Mishap::EarlyOutput | Mishap::OtherTransaction) => {
+                self.add_from(requests, input, 1, input.outputs())
+            }
+            _ => Ok(()),
+        }
+    }
+
+    /// The outputs of these numbers, or one note of number 0.
+    fn add_from(
         &self,
         requests: &mut Vec<Request>,
-        source: usize,
-        offset: u64,
+        input: Input,
+        first: u64,
+        last: u64,
     ) -> Result<(), AllocError> {
-        let of = offset % 3;
-        let first = of.min(1);
-        for output in first..of + 1 {
-            let partition = remainder(offset.saturating_add(output), self.config.outputs);
-            requests.push(Request::Output {
-                partition,
-                source,
-                offset,
-                output,
-                of,
-            })?;
+        for output in first..last.saturating_add(1) {
+            self.add_output(requests, input, output, input.outputs())?;
         }
         Ok(())
+    }
+
+    /// An output of this number, which says that there are so many.
+    fn add_output(
+        &self,
+        requests: &mut Vec<Request>,
+        input: Input,
+        output: u64,
+        of: u64,
+    ) -> Result<(), AllocError> {
+        requests.push(Request::Output {
+            partition: self.partition_of(input, output),
+            source: input.source,
+            offset: input.offset,
+            output,
+            of,
+        })?;
+        Ok(())
+    }
+
+    fn add_foreign(&self, requests: &mut Vec<Request>, input: Input) -> Result<(), AllocError> {
+        requests.push(Request::Foreign {
+            partition: self.partition_of(input, 1),
+            source: input.source,
+            offset: input.offset,
+        })?;
+        Ok(())
+    }
+
+    /// Where an output is written.
+    fn partition_of(&self, input: Input, output: u64) -> usize {
+        remainder(input.offset.saturating_add(output), self.config.outputs)
     }
 }

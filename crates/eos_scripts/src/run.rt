@@ -1,12 +1,15 @@
 //! A run: each word of a script becomes an event by what is known of the cluster.
 
-ghost use Rattle.std.specs.Prelude.{◌≡◌};
+ghost use Rattle.std.specs.Prelude.{◌≡◌, None};
 
 use crate::ask::ask;
 use crate::instance::{Choice, Instance, Turn};
+use crate::mishap::Mishap;
 use crate::network::Network;
 use crate::plan::{Plan, remainder};
+use crate::rates::{Happening, Rates, Said};
 use crate::script::Script;
+use crate::settings::Settings;
 use crate::settle::settle;
 use bytes::Bytes;
 use eos_cluster::Cluster;
@@ -18,6 +21,7 @@ use std::mem;
 #[derive(Drop)]
 pub(crate) struct Run {
     alloc: Global,
+    rates: Rates,
     pub(crate) plan: Plan,
     pub(crate) network: Network,
     /// The present instance of each application, and after them abandoned ones that don't know it yet.
@@ -44,15 +48,50 @@ pub fn run_script(alloc: Global, cluster: &mut Cluster, script: &Script) -> Resu
     ensures config { cluster.new.config ≡ cluster.old.config }
     ensures honest { cluster.new.honest ≡ cluster.old.honest }
 {
-    let mut run = Run::new(alloc, cluster)?;
+    run_with(alloc, cluster, script, &Settings::today())?;
+    Ok(())
+}
+
+/// The same with other settings. Rates that come to more than 1,000 leave the later ones less. The answer is the first of the
+/// mishaps that didn't happen, since no input suited it, or none came in where it was to.
+///
+/// # Errors
+/// Where a growth was refused. The cluster has taken some of the events.
+pub fn run_with(
+    alloc: Global,
+    cluster: &mut Cluster,
+    script: &Script,
+    settings: &Settings<'_>,
+) -> Result<Option<Mishap>, AllocError>
+    ensures config { cluster.new.config ≡ cluster.old.config }
+    ensures honest { settings.now.turning ≡ None → cluster.new.honest ≡ cluster.old.honest }
+{
+    let mut run = Run::new(alloc, cluster, settings)?;
+    let mut number = 0u64;
     for word in script.words() {
+        turn_on(cluster, settings, number);
         run.take_word(cluster, *word)?;
+        number = number.saturating_add(1);
     }
-    settle(&mut run, cluster)
+    turn_on(cluster, settings, number);
+    settle(&mut run, cluster)?;
+    Ok(run.plan.unmet())
+}
+
+/// Turns the switches on that are to be on after so many words.
+fn turn_on(cluster: &mut Cluster, settings: &Settings<'_>, number: u64)
+    ensures config { cluster.new.config ≡ cluster.old.config }
+    ensures honest { settings.now.turning ≡ None → cluster.new.honest ≡ cluster.old.honest }
+{
+    if let Some(turning) = settings.turning
+        && turning.after == number
+    {
+        cluster.set(turning.switches);
+    }
 }
 
 impl Run {
-    fn new(alloc: Global, cluster: &Cluster) -> Result<Run, AllocError> {
+    fn new(alloc: Global, cluster: &Cluster, settings: &Settings<'_>) -> Result<Run, AllocError> {
         let config = cluster.config();
         let mut instances = Vec::new(alloc);
         for application in 0..config.applications {
@@ -60,26 +99,30 @@ impl Run {
         }
         Ok(Run {
             alloc,
-            plan: Plan::new(alloc, *config)?,
+            rates: settings.rates,
+            plan: Plan::new(alloc, *config, settings.mishaps)?,
             network: Network::new(),
             instances,
         })
     }
 
-    /// What a word says: its five low bits what happens, those above to whom.
+    /// A word: what it says happens.
     fn take_word(&mut self, cluster: &mut Cluster, word: u32) -> Result<(), AllocError>
         ensures config { cluster.new.config ≡ cluster.old.config }
         ensures honest { cluster.new.honest ≡ cluster.old.honest }
     {
-        let rest = u64::from(word / 32);
-        match word % 32 {
-            0..=2 => self.feed(cluster, rest),
-            3..=18 => self.work(cluster, rest),
-            19..=26 => self.carry(cluster),
-            27 => self.lose_or_carry(cluster, rest),
-            28..=29 => self.repeat(cluster, rest),
-            30 => self.work_abandoned(cluster, rest),
-            _ => self.disturb(cluster, rest),
+        let Said { happening, rest } = self.rates.said(word);
+        match happening {
+            Happening::Feed => self.feed(cluster, rest),
+            Happening::Work { aborts } => self.work(cluster, rest, aborts),
+            Happening::WorkAbandoned => self.work_abandoned(cluster, rest),
+            Happening::Carry => self.carry(cluster),
+            Happening::Lose => self.lose(),
+            Happening::Repeat => self.repeat(cluster, rest),
+            Happening::Abandon => self.abandon(rest),
+            Happening::ChangeMembers => self.change_members(cluster),
+            Happening::RestartBroker => self.restart_broker(cluster, rest),
+            Happening::RestartCoordinator => self.restart_coordinator(cluster),
         }
     }
 
@@ -99,7 +142,7 @@ impl Run {
     // ---- applications
 
     /// The present instance of an application takes its turn.
-    fn work(&mut self, cluster: &mut Cluster, choice: u64) -> Result<(), AllocError>
+    fn work(&mut self, cluster: &mut Cluster, choice: u64, aborts: bool) -> Result<(), AllocError>
         ensures config { cluster.new.config ≡ cluster.old.config }
         ensures honest { cluster.new.honest ≡ cluster.old.honest }
     {
@@ -107,7 +150,7 @@ impl Run {
         let choice = choice / 16;
         let chosen = Choice {
             inputs: 1 + choice % 3,
-            aborts: choice / 4 % 16 == 0,
+            aborts,
         };
         self.take_turn(cluster, application, chosen)
     }
@@ -163,7 +206,7 @@ impl Run {
             self.network.may_have_more();
         }
         if number < self.instances.len() {
-            let queued = self.instances[number].hear(&self.plan, choice, reply)?;
+            let queued = self.instances[number].hear(&mut self.plan, choice, reply)?;
             if let Some(message) = queued {
                 self.network.queued(message);
             }
@@ -204,16 +247,10 @@ impl Run {
         Ok(())
     }
 
-    /// The next message is lost, or arrives.
-    fn lose_or_carry(&mut self, cluster: &mut Cluster, choice: u64) -> Result<(), AllocError>
-        ensures config { cluster.new.config ≡ cluster.old.config }
-        ensures honest { cluster.new.honest ≡ cluster.old.honest }
-    {
-        if choice % 2 == 0 {
-            self.network.lose();
-            return Ok(());
-        }
-        self.carry(cluster)
+    /// The next message is lost.
+    fn lose(&mut self) -> Result<(), AllocError> {
+        self.network.lose();
+        Ok(())
     }
 
     /// A message arrives again, or late.
@@ -229,20 +266,6 @@ impl Run {
 
     // ---- disturbances
 
-    /// A session is abandoned, the members change, a broker or the coordinator restarts.
-    fn disturb(&mut self, cluster: &mut Cluster, choice: u64) -> Result<(), AllocError>
-        ensures config { cluster.new.config ≡ cluster.old.config }
-        ensures honest { cluster.new.honest ≡ cluster.old.honest }
-    {
-        let rest = choice / 8;
-        match choice % 8 {
-            0..=1 => self.abandon(rest),
-            2 => self.change_members(cluster),
-            3..=4 => self.restart_broker(cluster, rest),
-            _ => self.restart_coordinator(cluster),
-        }
-    }
-
     /// A new instance of an application takes the place of the present one, which goes on until it learns of it.
     fn abandon(&mut self, choice: u64) -> Result<(), AllocError> {
         let applications = self.plan.config().applications;
@@ -257,6 +280,14 @@ impl Run {
             self.instances.remove(applications);
         }
         Ok(())
+    }
+
+    /// A new instance of an application takes the place of the one of this number, which does nothing more.
+    pub(crate) fn forget(&mut self, number: usize) {
+        if number < self.instances.len() {
+            let application = self.instances[number].application();
+            self.instances[number] = Instance::new(self.alloc, application);
+        }
     }
 
     fn change_members(&mut self, cluster: &mut Cluster) -> Result<(), AllocError>

@@ -13,7 +13,8 @@ const STEADY: Choice = Choice {
     aborts: false,
 };
 
-/// Processes all inputs that are left without loss, and brings the cluster to rest.
+/// Processes all inputs that are left without loss, and brings the cluster to rest. Where the cluster breaks its rules, so that
+/// an application can't go on, its transaction is aborted in the end.
 pub(crate) fn settle(run: &mut Run, cluster: &mut Cluster) -> Result<(), AllocError>
     ensures config { cluster.new.config ≡ cluster.old.config }
     ensures honest { cluster.new.honest ≡ cluster.old.honest }
@@ -24,10 +25,10 @@ pub(crate) fn settle(run: &mut Run, cluster: &mut Cluster) -> Result<(), AllocEr
     carry_all(run, cluster)?;
     for _ in 0..applications.saturating_add(2) {
         if finish_each(run, cluster)? {
-            break;
+            return Ok(());
         }
     }
-    Ok(())
+    begin_each(run, cluster)
 }
 
 /// All messages arrive that are on their way.
@@ -72,4 +73,26 @@ fn finish(run: &mut Run, cluster: &mut Cluster, number: usize) -> Result<bool, A
         }
     }
     Ok(false)
+}
+
+/// Each application begins a new session, which aborts what an earlier one left open.
+fn begin_each(run: &mut Run, cluster: &mut Cluster) -> Result<(), AllocError>
+    ensures config { cluster.new.config ≡ cluster.old.config }
+    ensures honest { cluster.new.honest ≡ cluster.old.honest }
+{
+    for number in 0..run.instances.len() {
+        run.forget(number);
+        begin(run, cluster, number)?;
+        begin(run, cluster, number)?;
+    }
+    Ok(())
+}
+
+/// A new session begins, or what keeps it from that comes to its end.
+fn begin(run: &mut Run, cluster: &mut Cluster, number: usize) -> Result<(), AllocError>
+    ensures config { cluster.new.config ≡ cluster.old.config }
+    ensures honest { cluster.new.honest ≡ cluster.old.honest }
+{
+    run.take_turn(cluster, number, STEADY)?;
+    carry_all(run, cluster)
 }

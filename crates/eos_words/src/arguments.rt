@@ -61,6 +61,7 @@ impl Subcommand {
                 Argument::Json,
                 Argument::Quiet,
                 Argument::Progress,
+                Argument::Report,
                 Argument::Folders,
             ],
             Subcommand::Dump => &[
@@ -83,7 +84,21 @@ impl Subcommand {
             Subcommand::Simulate => &[
                 Argument::Seed,
                 Argument::Events,
+                Argument::Applications,
+                Argument::Inputs,
+                Argument::Outputs,
+                Argument::TransactionLogs,
+                Argument::SegmentRecords,
+                Argument::Lose,
+                Argument::Repeat,
+                Argument::Abandon,
+                Argument::Members,
+                Argument::RestartBroker,
+                Argument::RestartCoordinator,
+                Argument::Abort,
                 Argument::Switch,
+                Argument::SwitchAt,
+                Argument::Mishap,
                 Argument::NewFolder,
             ],
         }
@@ -97,6 +112,7 @@ pub(crate) enum Argument {
     Json,
     Quiet,
     Progress,
+    Report,
     Folders,
     Headers,
     Decode,
@@ -107,7 +123,21 @@ pub(crate) enum Argument {
     Code,
     Seed,
     Events,
+    Applications,
+    Inputs,
+    Outputs,
+    TransactionLogs,
+    SegmentRecords,
+    Lose,
+    Repeat,
+    Abandon,
+    Members,
+    RestartBroker,
+    RestartCoordinator,
+    Abort,
     Switch,
+    SwitchAt,
+    Mishap,
     NewFolder,
     Version1,
     App,
@@ -151,6 +181,7 @@ impl Argument {
             Argument::Json => "json",
             Argument::Quiet => "quiet",
             Argument::Progress => "progress",
+            Argument::Report => "report",
             Argument::Folders | Argument::NewFolder | Argument::CopiedFolder => "folder",
             Argument::Headers => "headers",
             Argument::Decode => "decode",
@@ -161,7 +192,21 @@ impl Argument {
             Argument::Code => "code",
             Argument::Seed => "seed",
             Argument::Events => "events",
+            Argument::Applications => "applications",
+            Argument::Inputs => "inputs",
+            Argument::Outputs => "outputs",
+            Argument::TransactionLogs => "transaction-logs",
+            Argument::SegmentRecords => "segment-records",
+            Argument::Lose => "lose",
+            Argument::Repeat => "repeat",
+            Argument::Abandon => "abandon",
+            Argument::Members => "members",
+            Argument::RestartBroker => "restart-broker",
+            Argument::RestartCoordinator => "restart-coordinator",
+            Argument::Abort => "abort",
             Argument::Switch => "switch",
+            Argument::SwitchAt => "switch-at",
+            Argument::Mishap => "mishap",
             Argument::Version1 => "version1",
             Argument::App => "app",
             Argument::Ends => "ends",
@@ -172,7 +217,20 @@ impl Argument {
     /// What help shows for its value.
     pub(crate) fn value_name<'a>(self) -> &'a str {
         match self {
-            Argument::Workers | Argument::Events => "N",
+            Argument::Workers
+            | Argument::Events
+            | Argument::Applications
+            | Argument::Inputs
+            | Argument::Outputs
+            | Argument::TransactionLogs
+            | Argument::SegmentRecords => "N",
+            Argument::Lose
+            | Argument::Repeat
+            | Argument::Abandon
+            | Argument::Members
+            | Argument::RestartBroker
+            | Argument::RestartCoordinator
+            | Argument::Abort => "RATE",
             Argument::Json
             | Argument::Quiet
             | Argument::Progress
@@ -183,11 +241,13 @@ impl Argument {
             Argument::Folders | Argument::NewFolder | Argument::CopiedFolder => "FOLDER",
             Argument::As => "RECORDS",
             Argument::From | Argument::To => "OFFSET",
-            Argument::File | Argument::Ends => "FILE",
+            Argument::File | Argument::Ends | Argument::Report => "FILE",
             Argument::App => "GROUP:SOURCE,..:OUTPUT,..",
             Argument::Code => "CODE",
             Argument::Seed => "S",
             Argument::Switch => "X",
+            Argument::SwitchAt => "WORD",
+            Argument::Mishap => "NAME[@in-N:O]",
         }
     }
 
@@ -197,6 +257,7 @@ impl Argument {
             Argument::Json => "Prints the verdict as a line of JSON",
             Argument::Quiet => "Leaves the notes on standard error out",
             Argument::Progress => "Tells on standard error how far it is",
+            Argument::Report => "Writes what was found to this new file, as JSON; one FOLDER",
             Argument::Folders => "The folder of the evidence, or several",
             Argument::NewFolder => "The folder that is made",
             Argument::Headers => "Prints below each record its timestamp and headers",
@@ -208,7 +269,21 @@ impl Argument {
             Argument::Code => "The code of a kind of fault, such as 5.10",
             Argument::Seed => "What the script is drawn from, 0 to 2^64 - 1",
             Argument::Events => "How many words the script has, 0 to 10000",
-            Argument::Switch => "The rule that the cluster breaks after the script",
+            Argument::Applications => "How many applications the group has, 1 to 8, or 2",
+            Argument::Inputs => "The partitions of `in`, 1 to 16, or 2",
+            Argument::Outputs => "The partitions of `out`, 1 to 16, or 2",
+            Argument::TransactionLogs => "The partitions of `__transaction_state`, 1 to 4, or 1",
+            Argument::SegmentRecords => "The records of a segment, 1 to 1000, or 16",
+            Argument::Lose => "Words, of 1000, by which a message is lost",
+            Argument::Repeat => "Words, of 1000, by which a message comes again",
+            Argument::Abandon => "Words, of 1000, by which a session is abandoned",
+            Argument::Members => "Words, of 1000, by which the members change",
+            Argument::RestartBroker => "Words, of 1000, by which a broker restarts",
+            Argument::RestartCoordinator => "Words, of 1000, by which the coordinator does",
+            Argument::Abort => "Words, of 1000, by which a transaction is given up",
+            Argument::Switch => "A rule that the cluster breaks; may be repeated",
+            Argument::Mishap => "A mistake of an application, once; may be repeated",
+            Argument::SwitchAt => "Breaks them after so many words, not after the script",
             Argument::Version1 => "Wants a manifest of version 1, which takes one --app",
             Argument::App => "An application, its sources and its outputs; may be repeated",
             Argument::Ends => "Lines TOPIC:PARTITION:OFFSET; - is the standard input",
@@ -225,7 +300,22 @@ impl Argument {
                 | Argument::Json
                 | Argument::Quiet
                 | Argument::Progress
+                | Argument::Report
+                | Argument::Applications
+                | Argument::Inputs
+                | Argument::Outputs
+                | Argument::TransactionLogs
+                | Argument::SegmentRecords
+                | Argument::Lose
+                | Argument::Repeat
+                | Argument::Abandon
+                | Argument::Members
+                | Argument::RestartBroker
+                | Argument::RestartCoordinator
+                | Argument::Abort
                 | Argument::Switch
+                | Argument::SwitchAt
+                | Argument::Mishap
                 | Argument::Headers
                 | Argument::Decode
                 | Argument::As
@@ -249,14 +339,28 @@ impl Argument {
             | Argument::EndsFromLogs => Form::Flag,
             Argument::Folders => Form::Several,
             Argument::NewFolder | Argument::CopiedFolder | Argument::File => Form::Alone,
-            Argument::Ends => Form::Valued(ValueParser::NonEmptyString),
-            Argument::App => Form::Repeated(ValueParser::NonEmptyString),
+            Argument::Ends | Argument::Report => Form::Valued(ValueParser::NonEmptyString),
+            Argument::App | Argument::Mishap => Form::Repeated(ValueParser::NonEmptyString),
             Argument::Seed | Argument::From | Argument::To => {
                 Form::Valued(ValueParser::Unsigned(0, u64::MAX))
             }
             Argument::As => Form::Valued(ValueParser::Names(&READINGS)),
-            Argument::Events => Form::Valued(ValueParser::Unsigned(0, 10_000)),
-            Argument::Switch => Form::Valued(ValueParser::Names(&SWITCHES)),
+            Argument::Events | Argument::SwitchAt => {
+                Form::Valued(ValueParser::Unsigned(0, 10_000))
+            }
+            Argument::Applications => Form::Valued(ValueParser::Unsigned(1, 8)),
+            Argument::Inputs => Form::Valued(ValueParser::Unsigned(1, 16)),
+            Argument::Outputs => Form::Valued(ValueParser::Unsigned(1, 16)),
+            Argument::TransactionLogs => Form::Valued(ValueParser::Unsigned(1, 4)),
+            Argument::SegmentRecords => Form::Valued(ValueParser::Unsigned(1, 1000)),
+            Argument::Lose
+            | Argument::Repeat
+            | Argument::Abandon
+            | Argument::Members
+            | Argument::RestartBroker
+            | Argument::RestartCoordinator
+            | Argument::Abort => Form::Valued(ValueParser::Unsigned(0, 1000)),
+            Argument::Switch => Form::Repeated(ValueParser::Names(&SWITCHES)),
             Argument::Code => Form::Valued(ValueParser::String),
         }
     }

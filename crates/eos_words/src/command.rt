@@ -2,7 +2,9 @@
 
 use crate::arguments::{Argument, Form, Subcommand};
 use crate::help::{ABOUT, STATUSES};
-use crate::request::{Answer, Check, Init, Listing, NoRequest, Request, Simulation};
+use crate::request::{
+    Answer, Check, Init, Listing, NoRequest, Request, Simulation, Sizes, Thousandths,
+};
 use clap::builder::ValueParser;
 use clap::error::{Error, ErrorKind};
 use clap::{Arg, ArgAction, ArgMatches, Command};
@@ -11,7 +13,8 @@ use std::alloc::{AllocError, Global};
 /// How many workers there are where the words don't say.
 const WORKERS: u64 = 4;
 
-const VERSION: &str = "0.1.0";
+/// The version of the program.
+pub const VERSION: &str = "0.1.0";
 
 /// Every record, and nothing more of it.
 const EVERY_RECORD: Listing<'static> = Listing {
@@ -133,7 +136,7 @@ fn read_request<'a>(
         "chain" => Ok(read_segment_words(inner, Answer::Chain)),
         "explain" => Ok(read_explain(inner)),
         "init" => read_init(alloc, inner),
-        "simulate" => Ok(read_simulate(inner)),
+        "simulate" => read_simulate(alloc, inner),
         _ => Ok(None),
     }
 }
@@ -166,6 +169,7 @@ fn read_check<'a>(
         json: inner.get_flag("json"),
         quiet: inner.get_flag("quiet"),
         progress: inner.get_flag("progress"),
+        report: inner.get_str("report"),
         folders: folders.to_vec(alloc)?,
     })))
 }
@@ -192,15 +196,61 @@ fn read_init<'a>(alloc: Global, inner: &ArgMatches<'a>) -> Result<Option<Request
     })))
 }
 
-fn read_simulate<'a>(inner: &ArgMatches<'a>) -> Option<Request<'a>> {
-    let seed = inner.get_one::<u64>("seed")?;
-    let events = inner.get_one::<u64>("events")?;
-    let switch = inner.get_str("switch");
-    let folder = inner.get_str("folder")?;
-    Some(Request::Simulate(Simulation {
+fn read_simulate<'a>(
+    alloc: Global,
+    inner: &ArgMatches<'a>,
+) -> Result<Option<Request<'a>>, AllocError> {
+    let Some(seed) = inner.get_one::<u64>("seed") else {
+        return Ok(None);
+    };
+    let Some(events) = inner.get_one::<u64>("events") else {
+        return Ok(None);
+    };
+    let Some(folder) = inner.get_str("folder") else {
+        return Ok(None);
+    };
+    Ok(Some(Request::Simulate(Simulation {
         seed,
         events,
-        switch,
+        sizes: read_sizes(inner),
+        rates: read_rates(inner),
+        switches: read_all(alloc, inner, "switch")?,
+        switch_at: inner.get_one::<u64>("switch-at"),
+        mishaps: read_all(alloc, inner, "mishap")?,
         folder,
-    }))
+    })))
+}
+
+/// All values of an argument that may be repeated.
+fn read_all<'a>(
+    alloc: Global,
+    inner: &ArgMatches<'a>,
+    name: &str,
+) -> Result<Vec<&'a str>, AllocError> {
+    match inner.get_strs(name) {
+        Some(values) => values.to_vec(alloc),
+        None => Ok(Vec::new(alloc)),
+    }
+}
+
+fn read_sizes(inner: &ArgMatches<'_>) -> Sizes {
+    Sizes {
+        applications: inner.get_one::<u64>("applications"),
+        inputs: inner.get_one::<u64>("inputs"),
+        outputs: inner.get_one::<u64>("outputs"),
+        transaction_logs: inner.get_one::<u64>("transaction-logs"),
+        segment_records: inner.get_one::<u64>("segment-records"),
+    }
+}
+
+fn read_rates(inner: &ArgMatches<'_>) -> Thousandths {
+    Thousandths {
+        lose: inner.get_one::<u64>("lose"),
+        repeat: inner.get_one::<u64>("repeat"),
+        abandon: inner.get_one::<u64>("abandon"),
+        members: inner.get_one::<u64>("members"),
+        restart_broker: inner.get_one::<u64>("restart-broker"),
+        restart_coordinator: inner.get_one::<u64>("restart-coordinator"),
+        abort: inner.get_one::<u64>("abort"),
+    }
 }

@@ -36,9 +36,10 @@ After the verdict stands on standard error a line `eoscheck: note: ..` for each
 sign that the evidence isn't the one that was meant, as a group that committed
 nothing (docs/EVIDENCE.md lists them). A note changes no verdict and no status.
 
-After the verdict stands on standard error a line `eoscheck: note: ..` for each
-sign that the evidence isn't the one that was meant, as a group that committed
-nothing (docs/EVIDENCE.md lists them). A note changes no verdict and no status.
+With --report FILE the verdict, the notes and how long the check took are also
+written to FILE, as one JSON object (docs/report.schema.json). FILE may not be
+there before; it is made before the check begins, and taken away where there is
+no verdict. --report goes with one FOLDER.
 
   1.1 BadBatch          no batch begins there: see `eoscheck dump --help`
   1.2 Gap               another offset or segment than the next: a lost or
@@ -222,16 +223,22 @@ each, in transactions. A script of N words, drawn from the seed, says what
 happens: inputs come in, requests are lost and come twice, sessions are
 abandoned and go on as zombies, transactions are aborted, the members of the
 group change, brokers and the coordinator restart. Then what is left is
-processed, and the cluster comes to rest. The same seed and N give the same
-bytes on every machine.
+processed, and the cluster comes to rest. The same words of the command line
+give the same bytes on every machine.
 
 FOLDER must not be there. It gets `evidence.json` and a folder for each
 partition, with segments of 16 records. `wrote partitions=6` (status 0) says
 that all of it was written; `eoscheck check FOLDER` then says yes, and
 `eoscheck dump` lists what stands in a segment.
 
-With --switch the cluster breaks one rule in a few events after the script, as a
-bad broker or coordinator would. `check` then says no, by this fault:
+A RATE is how many of 1000 words say it. One that is not given is as ever: lose
+15.625, repeat 62.5, abandon 7.8125, members 3.90625, restart-broker 7.8125,
+restart-coordinator 11.71875, abort 31.25. All seven come to 1000 at most.
+
+With --switch the cluster breaks a rule, as a bad broker or coordinator would:
+in a few events after the script, or from a word on that --switch-at gives.
+`check` then says no, by this fault; inside a script another may come before
+it (docs/SIMULATOR.md):
 
   keep-duplicates    1.4 Sequence     a record that came twice stands twice
   no-fence           1.5 ZombieEpoch  a zombie writes after a newer epoch
@@ -240,6 +247,18 @@ bad broker or coordinator would. `check` then says no, by this fault:
   swap-marker        3.3 WrongKind    out-1 has an abort where out-0 has a commit
   hide-listing       3.4 NotListed    transactions don't list out-1, but write it
   ignore-generation  5.10 Repeated    two members process the same input
+
+With --mishap an application errs, once: at the input O of in-N, or at the first
+that suits. An input at offset O has O modulo 3 outputs, or a note where that is
+0; a mishap needs one with outputs, wrong-count one with two.
+
+  lost-output        5.11 Missing           its last output is not written
+  repeated-output    5.10 Repeated          its first output is written twice
+  early-output       5.7 Early              its outputs, but nobody commits it
+  wrong-count        5.8 CountDisagrees     its second output says 2 of 3
+  wrong-number       5.9 NumberRange        one more output than it counts
+  foreign-source     5.5 ForeignSource      an output of a topic nobody reads
+  other-transaction  5.12 OtherTransaction  its outputs one transaction early
 
 It shows what a fault looks like and that the checker finds it, and says nothing
 of real brokers.";

@@ -6,5 +6,7 @@ mod command;
 mod help;
 mod request;
 
-pub use command::read_words;
-pub use request::{Answer, Check, Init, Listing, NoRequest, Request, Simulation};
+pub use command::{VERSION, read_words};
+pub use request::{
+    Answer, Check, Init, Listing, NoRequest, Request, Simulation, Sizes, Thousandths,
+};

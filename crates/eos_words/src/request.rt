@@ -50,21 +50,58 @@ pub struct Check<'a> {
     pub quiet: bool,
     /// Whether it is told how far the check is.
     pub progress: bool,
+    /// The file that is made of the report, if one is wanted.
+    pub report: Option<&'a str>,
     /// The folders in the order given, at least one, none of them the empty text.
     pub folders: Vec<&'a str>,
 }
 
 /// What a simulated cluster is to do.
-#[derive(Clone, Copy)]
+#[derive(Drop)]
 pub struct Simulation<'a> {
     /// The seed of its script.
     pub seed: u64,
     /// The number of the script's words, at most 10,000.
     pub events: u64,
-    /// The name of the rule that it breaks afterwards, if any.
-    pub switch: Option<&'a str>,
+    /// How large the cluster is.
+    pub sizes: Sizes,
+    /// How often what happens.
+    pub rates: Thousandths,
+    /// The names of the rules that it breaks.
+    pub switches: Vec<&'a str>,
+    /// After how many words it breaks them, if not after the script.
+    pub switch_at: Option<u64>,
+    /// The words of the mistakes that the applications make.
+    pub mishaps: Vec<&'a str>,
     /// The folder that is made.
     pub folder: &'a str,
+}
+
+/// How large a simulated cluster is, where that is said.
+#[derive(Clone, Copy)]
+pub struct Sizes {
+    /// From 1 to 8.
+    pub applications: Option<u64>,
+    /// The partitions of `in`, from 1 to 16.
+    pub inputs: Option<u64>,
+    /// The partitions of `out`, from 1 to 16.
+    pub outputs: Option<u64>,
+    /// The partitions of `__transaction_state`, from 1 to 4.
+    pub transaction_logs: Option<u64>,
+    /// From 1 to 1,000.
+    pub segment_records: Option<u64>,
+}
+
+/// Of a thousand words how many say this, where that is said: from 0 to 1,000.
+#[derive(Clone, Copy)]
+pub struct Thousandths {
+    pub lose: Option<u64>,
+    pub repeat: Option<u64>,
+    pub abandon: Option<u64>,
+    pub members: Option<u64>,
+    pub restart_broker: Option<u64>,
+    pub restart_coordinator: Option<u64>,
+    pub abort: Option<u64>,
 }
 
 /// Of which folder a manifest is made, and by what.

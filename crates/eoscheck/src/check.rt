@@ -1,18 +1,20 @@
 //! `check`: whether the promise of exactly once was kept in an evidence.
 
-ghost use Rattle.std.specs.Prelude.{◌≡◌, ◌≤◌, ◌++◌, true, Err, IfOk, OnErr, string_bytes};
+ghost use Rattle.std.specs.Prelude.{◌≡◌, ◌≤◌, ◌++◌, true, Err, IfOk, OnErr, option_map, string_bytes};
 ghost use Rattle.std.specs.Io.KnownBytes.{Keeps};
 ghost use Rattle.eos_text.specs.Writing.{Writes, WritesFrontOf};
 ghost use Rattle.eos_report.specs.VerdictTexts.{status_of};
-ghost use Rattle.eoscheck.specs.Checking.{IsCheckAnswer, IsAnswerAbout, IsNotesText, verdict_answer};
+ghost use Rattle.eoscheck.specs.Checking.{IsCheckAnswer, IsAnswerAbout, IsNotesText, IsReportAsked, verdict_answer};
 ghost use Rattle.eoscheck.specs.Subjects.{subject_text};
 ghost use Rattle.eos_segment.specs.Running.{IsOfReading};
 
 use crate::notes::lines_of;
+use crate::report::{Timed, report_of};
 use crate::subject::Subject;
 use eos_board_core::Gate;
 use eos_check::{Verdict, logs_of, verdict_of};
 use eos_evidence::Evidence;
+use eos_json_report::About;
 use eos_report::{verdict_json, verdict_line};
 use eos_segment::RunFault;
 use eos_text::{finish, push_text, push_value};
@@ -21,35 +23,57 @@ use std::io::Write;
 use std::sync::Wait;
 use std::thread::Threads;
 
+/// How the outside is told of a check.
+#[derive(Clone, Copy)]
+pub struct Asked<'a> {
+    /// Whether the verdict is a line of JSON.
+    pub json: bool,
+    /// Whether the notes are left out.
+    pub quiet: bool,
+    /// Which of several folders it is about.
+    pub subject: Subject<'a>,
+    /// What a report says of the run, if one is wanted.
+    pub report: Option<About<'a>>,
+}
+
+/// What is left to be told after the verdict was written.
+#[derive(Drop)]
+pub struct Said {
+    /// The exit status: 0 for yes, 1 for no.
+    pub status: u8,
+    /// The lines of the notes, which are empty where these are left out.
+    pub notes: String,
+    /// The report, if one was wanted.
+    pub report: Option<String>,
+}
+
 /// Writes the verdict over an evidence, by so many workers, 1 to 64, as a line of text or as a line of JSON; of one of several
-/// folders after the words that say which. The status is 0 for yes, 1 for no. Beside it are the lines of the notes, which are
-/// empty where these are left out. The workers pass the gate.
+/// folders after the words that say which. The workers pass the gate.
 ///
 /// # Errors
 /// At `Write` a front of the line was written, at `OutOfMemory` nothing. There is no other refusal.
-pub fn check_to<W: Write, G: Gate>(
+pub fn check_to<W: Write, G: Gate + Timed>(
     alloc: Global,
     rt: &(impl Threads + Wait + Sync),
     evidence: &Evidence,
     workers: u64,
-    json: bool,
-    quiet: bool,
-    subject: Subject<'_>,
+    asked: Asked<'_>,
     gate: &G,
     writer: &mut W,
-) -> Result<(u8, String), RunFault>
+) -> Result<Said, RunFault>
     requires some { 1 ≤ workers }
     requires most { workers ≤ 64 }
-    ensures ok { IfOk result (λ r. Writes (IsAnswerAbout (subject_text subject.entry) evidence.now json) (W.contents writer.old) (W.contents writer.new) r.0) }
-    ensures notes { IfOk result (λ r. IsNotesText evidence.now quiet (string_bytes r.1)) }
-    ensures write { result ≡ Err RunFault.Write → WritesFrontOf (IsAnswerAbout (subject_text subject.entry) evidence.now json) (W.contents writer.old) (W.contents writer.new) }
+    ensures ok { IfOk result (λ r. Writes (IsAnswerAbout (subject_text asked.entry.subject) evidence.now asked.entry.json) (W.contents writer.old) (W.contents writer.new) r.status) }
+    ensures notes { IfOk result (λ r. IsNotesText evidence.now asked.entry.quiet (string_bytes r.notes)) }
+    ensures report { IfOk result (λ r. IsReportAsked evidence.now asked.entry.report (option_map string_bytes r.report)) }
+    ensures write { result ≡ Err RunFault.Write → WritesFrontOf (IsAnswerAbout (subject_text asked.entry.subject) evidence.now asked.entry.json) (W.contents writer.old) (W.contents writer.new) }
     ensures memory { result ≡ Err RunFault.OutOfMemory → Keeps (W.contents writer.old) (W.contents writer.new) }
     ensures only { OnErr result (IsOfReading result → ⊥) }
 {
-    let (line, status, notes) = answer(alloc, rt, evidence, workers, json, quiet, gate)?;
-    let text = text_about(alloc, subject, line.as_str())?;
+    let (line, said) = answer(alloc, rt, evidence, workers, asked, gate)?;
+    let text = text_about(alloc, asked.subject, line.as_str())?;
     finish(writer, text.as_bytes())?;
-    Ok((status, notes))
+    Ok(said)
 }
 
 /// A line, after the words on which folder it is about.
@@ -62,27 +86,35 @@ fn text_about(alloc: Global, subject: Subject<'_>, line: &str) -> Result<String,
     Ok(text)
 }
 
-/// The line of the verdict, the exit status and the lines of the notes.
-fn answer<G: Gate>(
+/// The line of the verdict, and what else is told.
+fn answer<G: Gate + Timed>(
     alloc: Global,
     rt: &(impl Threads + Wait + Sync),
     evidence: &Evidence,
     workers: u64,
-    json: bool,
-    quiet: bool,
+    asked: Asked<'_>,
     gate: &G,
-) -> Result<(String, u8, String), AllocError>
+) -> Result<(String, Said), AllocError>
     requires { (1 ≤ workers) × (workers ≤ 64) }
-    ensures line { IfOk result (λ r. IsCheckAnswer evidence.now json (string_bytes r.0) r.1) }
-    ensures notes { IfOk result (λ r. IsNotesText evidence.now quiet (string_bytes r.2)) }
+    ensures line { IfOk result (λ r. IsCheckAnswer evidence.now asked.entry.json (string_bytes r.0) r.1.status) }
+    ensures notes { IfOk result (λ r. IsNotesText evidence.now asked.entry.quiet (string_bytes r.1.notes)) }
+    ensures report { IfOk result (λ r. IsReportAsked evidence.now asked.entry.report (option_map string_bytes r.1.report)) }
 {
     let logs = logs_of(alloc, rt, evidence, workers, gate)?;
     let logs = logs.as_slice();
     let verdict = verdict_of(alloc, rt, evidence, logs, workers as u32)?;
-    let line = answer_line(alloc, &verdict, json)?;
+    let line = answer_line(alloc, &verdict, asked.json)?;
     let status = status_of(&verdict);
-    let notes = lines_of(alloc, evidence, logs, quiet)?;
-    Ok((line, status, notes))
+    let notes = lines_of(alloc, evidence, logs, asked.quiet)?;
+    let report = report_of(alloc, evidence, logs, &verdict, asked.report, gate)?;
+    Ok((
+        line,
+        Said {
+            status,
+            notes,
+            report,
+        },
+    ))
 }
 
 /// The line of a verdict, as text or as JSON.

@@ -29,6 +29,8 @@ pub(crate) enum Ending<'a> {
     Manifest(SpecFault, &'a Cause),
     /// No kind of fault has this code.
     NoSuchCode(&'a str),
+    /// What the words say of this doesn't fit the rest, and why.
+    Unfit(&'a str, &'a str),
     /// The simulated cluster has a transaction that is open or still ending.
     NotAtRest,
     /// An input is larger than it may be.
@@ -71,6 +73,7 @@ impl<'a> Ending<'a> {
             | Ending::CannotWrite(_)
             | Ending::Manifest(_, _)
             | Ending::NoSuchCode(_)
+            | Ending::Unfit(_, _)
             | Ending::NotAtRest
             | Ending::Limit(_) => 2,
             Ending::OutOfMemory => 3,
@@ -111,6 +114,7 @@ impl Display for Ending<'_> {
             Ending::CannotWrite(path) => write!(f, "eoscheck: cannot write {path}\n"),
             Ending::Manifest(fault, _) => write!(f, "eoscheck: evidence.json: {}\n", fault.name()),
             Ending::NoSuchCode(code) => write!(f, "eoscheck: no fault has the code {code}\n"),
+            Ending::Unfit(what, why) => write!(f, "eoscheck: {what}: {why}\n"),
             Ending::NotAtRest => write!(f, "eoscheck: the cluster is not at rest\n"),
             Ending::Limit(_) => write!(f, "eoscheck: limit\n"),
             Ending::OutOfMemory => write!(f, "eoscheck: out of memory\n"),

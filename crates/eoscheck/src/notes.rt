@@ -8,7 +8,6 @@ use crate::subject::Subject;
 use eos_evidence::Evidence;
 use eos_fold::Part;
 use eos_notes::{note_lines, notes};
-use eos_segment::RunFault;
 use std::alloc::{AllocError, Global};
 
 /// The lines of the notes of an evidence whose logs these are, or nothing where they are left out.
@@ -39,14 +38,8 @@ fn found_lines(alloc: Global, evidence: &Evidence, logs: &[Part]) -> Result<Stri
 
 /// Prints the lines of the notes behind an answer that was written, each after the words on which folder it is about. Where
 /// standard error takes nothing, the status is all that is left.
-pub(crate) fn say_notes(
-    rt: &HostRuntime,
-    subject: Subject<'_>,
-    answered: Result<(u8, String), RunFault>,
-) -> Result<u8, RunFault> {
-    let (status, lines) = answered?;
-    for line in lines.as_str().lines() {
+pub(crate) fn say_notes(rt: &HostRuntime, subject: Subject<'_>, lines: &str) {
+    for line in lines.lines() {
         let _ = eprint!(rt; "{subject}{line}\n");
     }
-    Ok(status)
 }

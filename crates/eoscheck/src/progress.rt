@@ -1,9 +1,11 @@
 //! How far a check is, as standard error is told, and how long its stages took.
 
+use crate::report::Timed;
 use crate::subject::Subject;
 use eos_board_core::Gate;
 use eos_fold::Named;
 use eos_folder::Watch;
+use eos_json_report::Times;
 use std::sync::atomic::{AtomicU64, Ordering};
 use std::time::Instant;
 
@@ -14,18 +16,21 @@ const PAUSE: u64 = 250;
 #[derive(Drop)]
 pub(crate) struct Meter<'a> {
     rt: &'a HostRuntime,
-    /// When the run began; none where nothing is told, or where there is no clock.
+    /// Whether it is told at all.
+    tells: bool,
+    /// When the run began; none where nobody asks, or where there is no clock.
     start: Option<Instant>,
     /// The first millisecond at which something may be told again.
     open_from: AtomicU64,
 }
 
 impl<'a> Meter<'a> {
-    /// A run begins. Nothing is told of it where that isn't wanted.
-    pub(crate) fn start(rt: &'a HostRuntime, is_wanted: bool) -> Meter<'a> {
+    /// A run begins. Nothing is told of it where that isn't wanted; its stages are timed then where a report is.
+    pub(crate) fn start(rt: &'a HostRuntime, tells: bool, is_reported: bool) -> Meter<'a> {
         Meter {
             rt,
-            start: if is_wanted {
+            tells,
+            start: if tells || is_reported {
                 Instant::now(rt).ok()
             } else {
                 None
@@ -34,7 +39,7 @@ impl<'a> Meter<'a> {
         }
     }
 
-    /// The milliseconds since it began; none where nothing is told.
+    /// The milliseconds since it began; none where nobody asks.
     fn now(&self) -> Option<u64> {
         let elapsed = self.start?.elapsed(self.rt).ok()?;
         let seconds = elapsed.as_secs().saturating_mul(1000);
@@ -112,7 +117,7 @@ impl<'a> Progress<'a> {
     fn step(&self, name: &str, stage: &Stage, bytes: u64) {
         if let Some(now) = self.meter.now() {
             stage.add(bytes, now);
-            if self.meter.takes_turn(now) {
+            if self.meter.tells && self.meter.takes_turn(now) {
                 self.tell(name, stage);
             }
         }
@@ -130,24 +135,34 @@ impl<'a> Progress<'a> {
 
     /// The check is done: tells how long its stages took.
     pub(crate) fn end(&self) {
-        let Some(now) = self.meter.now() else {
-            return;
-        };
-        let read = self.read.last.load(Ordering::SeqCst).max(self.begun);
-        let folded = self.folded.last.load(Ordering::SeqCst).max(read);
-        let judged = now.max(folded);
-        self.tell_times(read - self.begun, folded - read, judged - folded);
+        if self.meter.tells && self.meter.start.is_some() {
+            self.tell_times(self.times());
+        }
     }
 
-    /// Tells how many milliseconds each stage took.
-    fn tell_times(&self, read: u64, folded: u64, judged: u64) {
+    fn tell_times(&self, times: Times) {
         let subject = self.subject;
-        let (read, read_rest) = (read / 1000, read % 1000);
-        let (folded, folded_rest) = (folded / 1000, folded % 1000);
-        let (judged, judged_rest) = (judged / 1000, judged % 1000);
+        let (read, read_rest) = (times.read / 1000, times.read % 1000);
+        let (folded, folded_rest) = (times.folded / 1000, times.folded % 1000);
+        let (judged, judged_rest) = (times.judged / 1000, times.judged % 1000);
         let _ = eprint!(self.meter.rt;
             "{subject}eoscheck: seconds read={read}.{read_rest:03} folded={folded}.{folded_rest:03} judged={judged}.{judged_rest:03}\n"
         );
+    }
+}
+
+impl Timed for Progress<'_> {
+    /// How long its stages took until now; nothing where there is no clock.
+    fn times(&self) -> Times {
+        let now = self.meter.now().unwrap_or(self.begun);
+        let read = self.read.last.load(Ordering::SeqCst).max(self.begun);
+        let folded = self.folded.last.load(Ordering::SeqCst).max(read);
+        let judged = now.max(folded);
+        Times {
+            read: read - self.begun,
+            folded: folded - read,
+            judged: judged - folded,
+        }
     }
 }
 

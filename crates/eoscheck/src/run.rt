@@ -1,21 +1,24 @@
 //! A run: the words, the files and streams that they name, and what the outside is told.
 
-use crate::check::check_to;
+use crate::check::{Asked, check_to};
+use crate::course::Course;
 use crate::decoding::options_of;
 use crate::ending::{Ending, Told};
 use crate::explain::page_to;
 use crate::init::init_folder;
 use crate::notes::say_notes;
 use crate::progress::{Meter, Progress};
-use crate::simulate::{SimulationFault, simulate, switch_named, told_to};
+use crate::report::{fill_file, make_file};
+use crate::simulate::{SimulationFault, simulate, told_to};
 use crate::subject::Subject;
 use eos_catalogue::page_of;
 use eos_evidence::Evidence;
 use eos_folder::{
     Cause, FolderFault, WritingFault, make_folder, read_folder, remove_folder, write_evidence,
 };
+use eos_json_report::About;
 use eos_segment::{RunFault, chain_to, dump_to};
-use eos_words::{Answer, Check, NoRequest, Request, Simulation, read_words};
+use eos_words::{Answer, Check, NoRequest, Request, Simulation, VERSION, read_words};
 use std::alloc::Global;
 use std::fs::File;
 use std::io::{ErrorKind, IsTerminal, Read};
@@ -76,10 +79,28 @@ fn end_about(rt: &HostRuntime, subject: Subject<'_>, ending: Ending<'_>) -> u8 {
 fn act(rt: &HostRuntime, threads: &(impl Threads + Wait + Sync), request: Request<'_>) -> u8 {
     match request {
         Request::Segment { answer, file } => answer_segment(rt, answer, file),
-        Request::Check(words) => check_folders(rt, threads, &words),
+        Request::Check(words) => check_words(rt, threads, &words),
         Request::Explain { code } => explain_code(rt, code),
-        Request::Simulate(words) => simulate_folder(rt, words),
+        Request::Simulate(words) => simulate_folder(rt, &words),
         Request::Init(words) => init_folder(rt, &words),
+    }
+}
+
+/// Checks folders of evidence, and writes the report of one, if that is asked for.
+fn check_words(rt: &HostRuntime, threads: &(impl Threads + Wait + Sync), words: &Check<'_>) -> u8 {
+    let Some(path) = words.report else {
+        return check_folders(rt, threads, words).status;
+    };
+    if words.folders.len() > 1 {
+        let _ = eprint!(rt; "eoscheck: check --report takes one FOLDER\n");
+        return 2;
+    }
+    match make_file(rt, path) {
+        Err(status) => status,
+        Ok(file) => {
+            let done = check_folders(rt, threads, words);
+            fill_file(rt, path, file, done.report, done.status)
+        }
     }
 }
 
@@ -89,13 +110,14 @@ fn check_folders(
     rt: &HostRuntime,
     threads: &(impl Threads + Wait + Sync),
     words: &Check<'_>,
-) -> u8 {
+) -> Done {
     let meter = Meter::start(
         rt,
         words.progress || !words.quiet && rt.stderr().is_terminal(),
+        words.report.is_some(),
     );
     let folders = words.folders.as_slice();
-    let mut status = 0;
+    let mut all = Done::with_status(0);
     for folder in folders {
         let subject = if folders.len() > 1 {
             Subject::Folder(folder)
@@ -104,20 +126,33 @@ fn check_folders(
         };
         let progress = Progress::begin(&meter, subject);
         let done = check_folder(rt, threads, words, folder, &progress);
-        status = done.status.max(status);
+        all.status = done.status.max(all.status);
+        all.report = done.report;
         if done.is_last {
             break;
         }
     }
-    status
+    all
 }
 
-/// What became of one of several folders.
-#[derive(Clone, Copy)]
+/// What became of one of several folders, or of all.
+#[derive(Drop)]
 struct Done {
     status: u8,
     /// Whether output can't be written, so that no further one is looked at.
     is_last: bool,
+    /// The report on it, if one was asked for.
+    report: Option<String>,
+}
+
+impl Done {
+    fn with_status(status: u8) -> Done {
+        Done {
+            status,
+            is_last: false,
+            report: None,
+        }
+    }
 }
 
 fn check_folder(
@@ -129,10 +164,7 @@ fn check_folder(
 ) -> Done {
     match read_folder(rt, threads, folder, words.workers.clamp(1, 64), progress) {
         Ok(evidence) => judge(rt, threads, words, folder, &evidence, progress),
-        Err(fault) => Done {
-            status: end_unread(rt, progress.subject, &fault),
-            is_last: false,
-        },
+        Err(fault) => Done::with_status(end_unread(rt, progress.subject, &fault)),
     }
 }
 
@@ -144,23 +176,51 @@ fn judge(
     evidence: &Evidence,
     progress: &Progress<'_>,
 ) -> Done {
+    let workers = words.workers.clamp(1, 64);
+    let asked = asked_by(words, folder, progress.subject);
+    let writer = &mut io::writer(rt);
     let answered = check_to(
         rt.alloc(),
         threads,
         evidence,
-        words.workers.clamp(1, 64),
-        words.json,
-        words.quiet,
-        progress.subject,
+        workers,
+        asked,
         progress,
-        &mut io::writer(rt),
+        writer,
     );
     progress.end();
-    let answered = say_notes(rt, progress.subject, answered);
-    let ending = Ending::of_answer(answered, folder, STANDARD, &Cause::Unknown);
-    Done {
-        status: end_about(rt, progress.subject, ending),
-        is_last: matches!(answered, Err(RunFault::Write)),
+    match answered {
+        Ok(said) => {
+            say_notes(rt, progress.subject, said.notes.as_str());
+            Done {
+                status: end_about(rt, progress.subject, Ending::Answered(said.status)),
+                is_last: false,
+                report: said.report,
+            }
+        }
+        Err(fault) => {
+            let ending = Ending::of_answer(Err(fault), folder, STANDARD, &Cause::Unknown);
+            Done {
+                status: end_about(rt, progress.subject, ending),
+                is_last: matches!(fault, RunFault::Write),
+                report: None,
+            }
+        }
+    }
+}
+
+/// How the outside is told of the check of a folder.
+fn asked_by<'a>(words: &Check<'a>, folder: &'a str, subject: Subject<'a>) -> Asked<'a> {
+    let about = About {
+        version: VERSION,
+        folder,
+        workers: words.workers,
+    };
+    Asked {
+        json: words.json,
+        quiet: words.quiet,
+        subject,
+        report: words.report.map(|_| about),
     }
 }
 
@@ -190,18 +250,15 @@ fn explain_code(rt: &HostRuntime, code: &str) -> u8 {
 }
 
 /// Writes what a simulated cluster leaves as a new folder, and on standard output that it did.
-fn simulate_folder(rt: &HostRuntime, words: Simulation<'_>) -> u8 {
-    let switch = match words.switch {
-        None => None,
-        Some(name) => match switch_named(name) {
-            Some(switch) => Some(switch),
-            None => return end(rt, Ending::BadWords),
-        },
+fn simulate_folder(rt: &HostRuntime, words: &Simulation<'_>) -> u8 {
+    let course = match Course::of_words(rt.alloc(), words) {
+        Ok(course) => course,
+        Err(fault) => return end_unmade(rt, fault),
     };
     if let Err(fault) = make_folder(rt, words.folder) {
         return end_unwritten(rt, fault);
     }
-    let evidence = match simulate(rt.alloc(), words.seed, words.events, switch) {
+    let evidence = match simulate(rt.alloc(), &course) {
         Ok(evidence) => evidence,
         Err(fault) => {
             remove_folder(rt, words.folder);
@@ -224,6 +281,7 @@ fn end_unmade(rt: &HostRuntime, fault: SimulationFault) -> u8 {
     match fault {
         SimulationFault::NotAtRest => end(rt, Ending::NotAtRest),
         SimulationFault::Limit => end(rt, Ending::Limit(&Cause::Unknown)),
+        SimulationFault::Unfit(what, why) => end(rt, Ending::Unfit(what, why)),
         SimulationFault::OutOfMemory => end(rt, Ending::OutOfMemory),
     }
 }

@@ -1,31 +1,22 @@
 //! `simulate`: what a simulated cluster leaves behind.
 
-ghost use Rattle.std.specs.Prelude.{◌≡◌, true, None, Err, IfOk, IfSome, OnErr, string_bytes};
+ghost use Rattle.std.specs.Prelude.{◌≡◌, true, false, Err, IfOk, OnErr, string_bytes};
 ghost use Rattle.std.specs.Io.KnownBytes.{Appends, Keeps};
 ghost use Rattle.eos_text.specs.Writing.{WritesFront};
-ghost use Rattle.eos_machine.specs.Switching.{switch_name};
+ghost use Rattle.eos_machine.specs.Switching.{any_on};
 ghost use Rattle.eos_schedules.specs.Schedules.{HasRightLogs, HasNoFaultInLogs};
 ghost use Rattle.eoscheck.specs.Simulated.{wrote_line};
 ghost use Rattle.eos_segment.specs.Running.{IsOfReading};
 ghost use Rattle.eoscheck.specs.declared.simulate.SimulationFault.TheVariants.{OutOfMemory};
 
-use eos_cluster::{Cluster, EvidenceRefusal, NewFault, Switch, Switches};
+use crate::course::{Course, SWITCHES, is_on};
+use eos_cluster::{Cluster, EvidenceRefusal, NewFault, Switches};
 use eos_evidence::Evidence;
-use eos_machine::Config;
-use eos_scripts::{Script, run_script, run_tail};
+use eos_scripts::{Script, run_tail, run_with};
 use eos_segment::RunFault;
 use eos_text::{finish, push_text, push_value};
 use std::alloc::{AllocError, AllocFailed, Global};
 use std::io::Write;
-
-/// How large the cluster is.
-const SIZES: Config = Config {
-    applications: 2,
-    inputs: 2,
-    outputs: 2,
-    transaction_logs: 1,
-    segment_records: 16,
-};
 
 /// Why a simulated cluster leaves no evidence.
 #[derive(Clone, Copy, Debug, PartialEq, Eq)]
@@ -34,6 +25,8 @@ pub(crate) enum SimulationFault {
     NotAtRest,
     /// Its logs may have more segments than evidence may have.
     Limit,
+    /// Two options don't fit each other: what doesn't, and why.
+    Unfit(&'static str, &'static str),
     /// A growth of memory was refused.
     OutOfMemory,
 }
@@ -54,37 +47,44 @@ impl<T: Drop> From<AllocFailed<T>> for SimulationFault {
     }
 }
 
-/// What a cluster leaves that is driven by so many words of a seed's script. With a switch it breaks that rule afterwards, in
-/// a few further events. Without one its logs have no fault.
-pub(crate) fn simulate(
-    alloc: Global,
-    seed: u64,
-    words: u64,
-    switch: Option<Switch>,
-) -> Result<Evidence, SimulationFault>
-    ensures right { switch ≡ None → IfOk result HasRightLogs }
-    ensures faultless { switch ≡ None → IfOk result HasNoFaultInLogs }
+/// What a cluster leaves that is driven by the words of a seed's script. With switches it breaks these rules, if not inside the
+/// script then afterwards, in a few further events each. Without one its logs have no fault.
+pub(crate) fn simulate(alloc: Global, course: &Course) -> Result<Evidence, SimulationFault>
+    ensures right { any_on course.now.switches ≡ false → IfOk result HasRightLogs }
+    ensures faultless { any_on course.now.switches ≡ false → IfOk result HasNoFaultInLogs }
 {
-    let mut cluster = driven(alloc, seed, words)?;
-    if let Some(switch) = switch {
-        cluster.set(Switches::only(switch));
-        run_tail(&mut cluster, switch)?;
+    let mut cluster = driven(alloc, course)?;
+    if course.switches.any_on() {
+        cluster.set(course.switches);
+        show(&mut cluster, course.switches)?;
     }
     evidence_of(&cluster)
 }
 
+/// Drives a cluster by the events that show the switches which are on.
+fn show(cluster: &mut Cluster, switches: Switches) -> Result<(), AllocError> {
+    for switch in SWITCHES {
+        if is_on(switches, switch) {
+            run_tail(cluster, switch)?;
+        }
+    }
+    Ok(())
+}
+
 /// A cluster that has done what the script says.
-fn driven(alloc: Global, seed: u64, words: u64) -> Result<Cluster, SimulationFault>
-    ensures { IfOk result (λ cluster. cluster.honest ≡ true) }
+fn driven(alloc: Global, course: &Course) -> Result<Cluster, SimulationFault>
+    ensures { any_on course.now.switches ≡ false → IfOk result (λ cluster. cluster.honest ≡ true) }
 {
-    let mut cluster = match Cluster::new(alloc, SIZES) {
+    let mut cluster = match Cluster::new(alloc, course.config) {
         Ok(cluster) => cluster,
         Err(NewFault::Range) => return Err(SimulationFault::Limit),
         Err(NewFault::OutOfMemory) => return Err(SimulationFault::OutOfMemory),
     };
-    let script = Script::from_seed(alloc, seed, words)?;
-    run_script(alloc, &mut cluster, &script)?;
-    Ok(cluster)
+    let script = Script::from_seed(alloc, course.seed, course.words)?;
+    match run_with(alloc, &mut cluster, &script, &course.settings())? {
+        None => Ok(cluster),
+        Some(mishap) => Err(SimulationFault::Unfit(mishap.name(), "no input suits this mishap")),
+    }
 }
 
 /// The cluster's logs.
@@ -124,25 +124,4 @@ fn line_of(alloc: Global, evidence: &Evidence) -> Result<String, AllocError>
     push_value(&mut line, "wrote partitions=", &evidence.partitions().len())?;
     push_text(&mut line, "\n")?;
     Ok(line)
-}
-
-/// The switch of this name.
-pub(crate) fn switch_named(name: &str) -> Option<Switch>
-    ensures { IfSome result (λ switch. switch_name switch ≡ name.now) }
-{
-    let switches = [
-        Switch::KeepDuplicates,
-        Switch::NoFence,
-        Switch::NoBump,
-        Switch::LoseMarker,
-        Switch::SwapMarker,
-        Switch::HideListing,
-        Switch::IgnoreGeneration,
-    ];
-    for switch in switches {
-        if switch.name() == name {
-            return Some(switch);
-        }
-    }
-    None
 }

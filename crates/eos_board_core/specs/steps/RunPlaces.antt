@@ -1,9 +1,9 @@
--- The board's places, one for each piece: the run that begins there, the first piece of the run that the piece lies in, and
--- whether the seam before the piece is listed as one where two runs may meet.
+-- The board's places, one for each piece: the run that begins there, the first piece of the run that ends there, how far the run
+-- reaches that begins there, and whether the seam before the piece is listed as one where two runs may meet.
 use Rattle.std.specs.Prelude.{◌≡◌, ◌+◌, ◌≤◌, ◌<◌, ℕ, Bool, true, false, Option, None, Some, List, [], ◌∷◌, length, slice_index_or}
 use Rattle.eos_base.specs.Members.{Has}
 use Rattle.eos_fold.specs.Sums.{NamedView}
-use Rattle.eos_board_core.specs.Runs.{HasPiece, AreKnown, Joins}
+use Rattle.eos_board_core.specs.Runs.{AreKnown, Joins}
 
 -- the runs at their places, in the order of the places
 abbrev pub standing : List (Option NamedView) → List NamedView
@@ -14,14 +14,26 @@ standing (Some run ∷ places) = run ∷ standing places
 abbrev pub StandsAt : List (Option NamedView) → ℕ → NamedView → Type 0
 StandsAt runs k run = slice_index_or runs k None ≡ Some run
 
--- Each run stands at its first piece's place, which each of its pieces names; and what is named stands there.
+-- Each run stands at its first piece's place, which its last piece's place names; what is named stands there; and each ends before
+-- the next begins.
 pub record AreOwned (pieces : ℕ) (runs : List (Option NamedView)) (firsts : List (Option ℕ)) : Type 0 where
   pub runs_len : length runs ≡ pieces
   pub firsts_len : length firsts ≡ pieces
   pub home : (k : ℕ) (run : NamedView) → StandsAt runs k run → run.first ≡ k
   pub known : (k : ℕ) (run : NamedView) → StandsAt runs k run → AreKnown pieces run
-  pub own : (k j : ℕ) (run : NamedView) → StandsAt runs k run → HasPiece run j → slice_index_or firsts j None ≡ Some k
-  pub named : (j first : ℕ) → slice_index_or firsts j None ≡ Some first → (run : NamedView) × StandsAt runs first run × HasPiece run j
+  pub own : (k : ℕ) (run : NamedView) → StandsAt runs k run → slice_index_or firsts run.last None ≡ Some k
+  pub named : (j first : ℕ) → slice_index_or firsts j None ≡ Some first → (run : NamedView) × StandsAt runs first run × (run.last ≡ j)
+  pub apart : (k l : ℕ) (a b : NamedView) → k < l → StandsAt runs k a → StandsAt runs l b → a.last < b.first
+
+-- the piece after the run's last, or 0 where there is no run
+abbrev pub reach_of : Option NamedView → ℕ
+reach_of None = 0
+reach_of (Some run) = run.last + 1
+
+-- these are the reaches of the runs at their places
+pub record AreReached (pieces : ℕ) (runs : List (Option NamedView)) (reaches : List ℕ) : Type 0 where
+  pub reaches_len : length reaches ≡ pieces
+  pub reach : (k : ℕ) → slice_index_or reaches k 0 ≡ reach_of (slice_index_or runs k None)
 
 -- how many of these are true
 abbrev pub how_many : List Bool → ℕ
@@ -40,25 +52,11 @@ pub record AreQueued (pieces : ℕ) (seams : List ℕ) (listed : List Bool) : Ty
 abbrev pub JointsAreListed : List (Option NamedView) → List Bool → Type 0
 JointsAreListed runs listed = (k l : ℕ) (a b : NamedView) → StandsAt runs k a → StandsAt runs l b → Joins a b → slice_index_or listed l false ≡ true
 
-pub record AreSound (pieces : ℕ) (runs : List (Option NamedView)) (firsts : List (Option ℕ)) (seams : List ℕ) (listed : List Bool) : Type 0 where
+pub record AreSound (pieces : ℕ) (runs : List (Option NamedView)) (firsts : List (Option ℕ)) (reaches : List ℕ) (seams : List ℕ) (listed : List Bool) : Type 0 where
   pub owned : AreOwned pieces runs firsts
+  pub reached : AreReached pieces runs reaches
   pub queued : AreQueued pieces seams listed
   pub joints : JointsAreListed runs listed
-
--- from this place to that one each names this owner; nothing else has changed
-pub record IsMarked (first last : ℕ) (owner : Option ℕ) (old new : List (Option ℕ)) : Type 0 where
-  pub len : length new ≡ length old
-  pub inside : (j : ℕ) → first ≤ j → j ≤ last → slice_index_or new j None ≡ owner
-  pub before : (j : ℕ) → j < first → slice_index_or new j None ≡ slice_index_or old j None
-  pub after : (j : ℕ) → last < j → slice_index_or new j None ≡ slice_index_or old j None
-
--- from this place to that one none is named
-abbrev pub NamesNone : ℕ → ℕ → List (Option ℕ) → Type 0
-NamesNone first last firsts = (j : ℕ) → first ≤ j → j ≤ last → slice_index_or firsts j None ≡ None
-
--- or one is
-abbrev pub NamesOne : ℕ → ℕ → List (Option ℕ) → Type 0
-NamesOne first last firsts = (j : ℕ) × (owner : ℕ) × (first ≤ j) × (j ≤ last) × (slice_index_or firsts j None ≡ Some owner)
 
 -- two runs meet at this seam, of which the first begins here
 abbrev pub MeetsAt : List (Option NamedView) → ℕ → ℕ → Type 0

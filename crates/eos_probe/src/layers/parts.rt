@@ -1,6 +1,7 @@
 //! The logs of partitions as words: `TOPIC-NUMBER:END:BASE/BYTES,BASE/BYTES`, a base and bytes for each segment.
 
-ghost use Rattle.std.specs.Prelude.{IsTrue};
+ghost use Rattle.std.specs.Prelude.{IfOk, IsTrue};
+ghost use Rattle.eos_fold.specs.Sums.{IsFit};
 ghost use Rattle.eos_fold.specs.Standing.{AreOf};
 
 use super::orders::{Order, joined};
@@ -11,6 +12,30 @@ use eos_evidence::Segment;
 use eos_fold::{Named, Part};
 use std::alloc::{AllocError, Global};
 
+/// A segment of the partition, within the limits.
+pub(super) fn segment_of(
+    alloc: Global,
+    notes: &mut Notes,
+    name: &PartitionName,
+    word: &str,
+) -> Result<Segment, AllocError>
+    ensures { IfOk result IsFit }
+{
+    let (base, digits) = sides(notes, word, '/');
+    let base = number_of(notes, base);
+    let bytes = bytes_of(alloc, notes, digits)?;
+    if base < 0 || bytes.len() > 1 << 30 {
+        notes.is_bad = true;
+        return Err(AllocError);
+    }
+    Ok(Segment {
+        topic: name.topic.clone()?,
+        partition: name.partition,
+        base,
+        bytes,
+    })
+}
+
 /// The run of one segment.
 fn piece_of(
     alloc: Global,
@@ -19,18 +44,7 @@ fn piece_of(
     piece: u64,
     word: &str,
 ) -> Result<Named, AllocError> {
-    let (base, digits) = sides(notes, word, '/');
-    let base = number_of(notes, base);
-    let bytes = bytes_of(alloc, notes, digits)?;
-    if base < 0 || bytes.len() > 1 << 30 {
-        return bad(notes);
-    }
-    let segment = Segment {
-        topic: name.topic.clone()?,
-        partition: name.partition,
-        base,
-        bytes,
-    };
+    let segment = segment_of(alloc, notes, name, word)?;
     match Named::of(alloc, piece, segment) {
         Ok(run) => Ok(run),
         Err(_) => Err(AllocError),

@@ -1,6 +1,7 @@
 use Rattle.std.proofs.Common.{◌+◌, ◌∙◌, ap, sym, subst, take, List, Option, None, ℕ}
 use Rattle.eos_base.specs.Least.{IsLeast}
 use Rattle.eos_evidence.specs.declared.application.App.{App}
+use Rattle.eos_commits.proofs.PushedMore.{item_has}
 use Rattle.eos_claims.specs.declared.fault.OutputFault.{OutputFault}
 use Rattle.eos_claims.specs.Faults as outputs
 use Rattle.eos_lineage.specs.declared.fault.LineageFault.TheVariants.{Output}
@@ -42,3 +43,7 @@ pub returns : goal.returns
 returns g c = λ are none.
     all_passed c.args.apps.now c.args.parts.now c.loop-app.inputs c.loop-app.outputs none
     (subst (λ (ts : List App). PassedSoFar ts c.args.parts.now c.loop-app.inputs c.loop-app.outputs) (take_all c.args.apps.now c.loop-app.app-index c.loop-app-test.false) (c.loop-app.invariant are))
+
+pub check_application-requires-clause-table : goal.check_application-requires-clause-table
+check_application-requires-clause-table g c = λ lifetimes lives.
+    (c.args.apps.now, c.in_ok-table.ensures, item_has c.args.apps.now c.loop-app.app-index c.app-item.result c.loop-app-test.true c.app-item.is)

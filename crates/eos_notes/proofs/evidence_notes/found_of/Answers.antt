@@ -1,3 +1,4 @@
+use Rattle.eos_commits.proofs.PushedMore.{item_has}
 use Rattle.eos_notes.specs.CommitNotes.{past_ends_in, nothing_in, behind_in}
 use Rattle.eos_notes.proofs.PushedMore.{made_more}
 use Rattle.eos_notes.proofs.evidence_notes.found_of.Goals as goal
@@ -15,3 +16,7 @@ loop-app-preserved c =
       made_more (nothing_in logs) _ _ apps i app lt c.app-item.is so_far.1 now.nothing,
       made_more (behind_in logs) _ _ apps i app lt c.app-item.is so_far.2 now.behind,
     )
+
+pub take_app-requires-clause-table : goal.take_app-requires-clause-table
+take_app-requires-clause-table c =
+    (c.args.apps.now, c.in_ok-table.ensures, item_has c.args.apps.now c.loop-app.app-index c.app-item.result c.loop-app-test.true c.app-item.is)

@@ -3,7 +3,6 @@ use Rattle.std.specs.List.{filter}
 use Rattle.eos_base.specs.declared.partition_name.PartitionName.{PartitionName}
 use Rattle.eos_claims.specs.Outputs.{Commit}
 use Rattle.eos_commits.specs.declared.commits.CommitRef.{CommitRef}
-use Rattle.eos_commits.specs.Commits.{commits_of}
 use Rattle.eos_commits.specs.Plain.{plain_commit}
 use Rattle.eos_notes.specs.declared.unlisted.NameRef.{NameRef}
 use Rattle.eos_notes.specs.CommitNotes.{commits_for, unlisted_note}
@@ -17,10 +16,10 @@ returns c = λ ends perm.
     let app = c.args.app.now in
     let listed = map plain_name c.args.listed.now in
     let names = c.each_once-names.result.items in
-    let commits : map plain_commit c.as_slice-2.result.now ≡ commits_for logs app
-    = ap (λ (cs : List CommitRef). map plain_commit cs) c.as_slice-2.ensures.value ∙ (c.in_ok-commits.ensures ∙ (λ j. commits_of (c.as_bytes.ensures j) (c.as_slice.ensures j) logs)) in
+    let commits : map plain_commit c.as_slice.result.now ≡ commits_for logs app
+    = ap (λ (cs : List CommitRef). map plain_commit cs) c.as_slice.ensures.value ∙ c.in_ok-commits.ensures c.requires.table.0 logs c.requires.table.1 c.requires.table.2 in
     let found : map plain_name c.in_ok-found.found.items ≡ filter (is_unlisted listed) (map commit_name (commits_for logs app))
     = c.in_ok-found.ensures ∙ ap (λ (cs : List Commit). filter (is_unlisted listed) (map commit_name cs)) commits in
     let once = subst (λ (ns : List PartitionName). AreEachOnce ns (map plain_name names)) found c.each_once-names.ensures in
-    let pushed = c.in_ok-push_notes.ensures ∙ ap (λ (ns : List NameRef). c.args.all.now.items ++ map (unlisted_note app.group) (map plain_name ns)) c.as_slice-3.ensures.value in
+    let pushed = c.in_ok-push_notes.ensures ∙ ap (λ (ns : List NameRef). c.args.all.now.items ++ map (unlisted_note app.group) (map plain_name ns)) c.as_slice-2.ensures.value in
     (map plain_name names, are_unlisted ends listed (commits_for logs app) (map plain_name names) perm once, pushed)

@@ -46,10 +46,12 @@ loop-seam-preserved c =
       pieces = i.pieces;
       runs = i.runs;
       firsts = i.firsts;
+      reaches = i.reaches;
       leaving = i.leaving;
       room = omega (arith, i.room, c.unlist.ensures.room);
       sound = record {
         owned = i.sound.owned;
+        reached = i.sound.reached;
         queued = subst (λ (n : ℕ). AreQueued n c.unlist.new.seams.items c.unlist.new.listed.items) count c.unlist.ensures.queued;
         joints = subst (λ (bs : List Bool). JointsAreListed now.runs.items bs) (sym c.unlist.ensures.listed) (joints_less now.runs.items now.listed.items seam i.sound.joints none);
       };

@@ -1,9 +1,9 @@
-use Rattle.std.proofs.Common.{◌≡◌, ◌+◌, ℕ, Some, true, false, sym, ap, subst, ◌∙◌, arith}
+use Rattle.std.proofs.Common.{◌≡◌, ◌+◌, ℕ, Some, List, true, false, sym, ap, subst, ◌∙◌, arith}
 use Rattle.std.specs.Prelude.{slice_index_or, vec_len}
 use Rattle.std.proofs.Math.ListN.{set}
 use Rattle.eos_board_core.specs.Runs.{PlacesView, AreKnown, IsTaken, placed}
-use Rattle.eos_board_core.specs.steps.RunPlaces.{AreSound, AreQueued, IsMarked, standing}
-use Rattle.eos_board_core.proofs.RunsKept.{placed_owned, placed_standing}
+use Rattle.eos_board_core.specs.steps.RunPlaces.{AreSound, AreQueued, standing}
+use Rattle.eos_board_core.proofs.RunsKept.{placed_owned, placed_reached, placed_standing}
 use Rattle.eos_board_core.proofs.SeamsKept.{joints_placed}
 use Rattle.eos_board_core.proofs.places.Places.place.Goals as goal
 
@@ -13,7 +13,7 @@ invariant_of-self c =
     let inside = c.self.inside in
     let places = inside.runs.items in
     let firsts = inside.firsts.items in
-    let marked = c.mark.new.firsts.items in
+    let reaches = inside.reaches in
     let listed = inside.listed.items in
     let seams2 = c.list_both.new.seams.items in
     let listed2 = c.list_both.new.listed.items in
@@ -22,17 +22,20 @@ invariant_of-self c =
     let last = c.pieces-first.ensures.last in
     let known : AreKnown inside.pieces run = subst (λ (v : PlacesView). AreKnown v.pieces run) (sym c.self.view_is) c.requires.known in
     let free : IsTaken (standing places) run → ⊥ = subst (λ (v : PlacesView). IsTaken v.runs run → ⊥) (sym c.self.view_is) c.requires.free in
-    let m : IsMarked run.first run.last (Some run.first) firsts marked =
-    subst (λ (f : ℕ). IsMarked f run.last (Some f) firsts marked) first (subst (λ (l : ℕ). IsMarked c.pieces-first.result.0 l (Some c.pieces-first.result.0) firsts marked) last c.mark.ensures) in
     let count : vec_len inside.listed ≡ inside.pieces = omega (arith, inside.listed.ok.0, sound.queued.listed_len) in
     let front : slice_index_or listed2 run.first false ≡ true = subst (λ (f : ℕ). slice_index_or listed2 f false ≡ true) first c.list_both.ensures.first in
-    let after : AreSound inside.pieces (set places run.first (Some run)) marked seams2 listed2 = record {
-      owned = placed_owned inside.pieces places firsts marked run sound.owned known free m;
+    let after : AreSound inside.pieces (set places run.first (Some run)) (set firsts run.last (Some run.first)) (set reaches run.first (run.last + 1)) seams2 listed2 = record {
+      owned = placed_owned inside.pieces places firsts run sound.owned known free;
+      reached = placed_reached inside.pieces places firsts reaches run sound.owned known sound.reached;
       queued = subst (λ (n : ℕ). AreQueued n seams2 listed2) count c.list_both.ensures.queued;
       joints = joints_placed inside.pieces places firsts listed listed2 run sound.owned known sound.joints c.list_both.ensures.kept front
           (λ h. subst (λ (l : ℕ). slice_index_or listed2 (l + 1) false ≡ true) last (c.list_both.ensures.last (omega (arith, h, last, count))));
-    } in (
-      subst (λ (f : ℕ). AreSound inside.pieces (set places f (Some run)) marked seams2 listed2) (sym first) after,
+    } in
+    let at_first : AreSound inside.pieces (set places c.pieces-first.result.0 (Some run)) (set firsts run.last (Some c.pieces-first.result.0)) (set reaches c.pieces-first.result.0 (run.last + 1)) seams2 listed2 =
+    subst (λ (f : ℕ). AreSound inside.pieces (set places f (Some run)) (set firsts run.last (Some f)) (set reaches f (run.last + 1)) seams2 listed2) (sym first) after in
+    let at_last =
+    subst (λ (l : ℕ). AreSound inside.pieces (set places c.pieces-first.result.0 (Some run)) (set firsts l (Some c.pieces-first.result.0)) (set reaches c.pieces-first.result.0 (l + 1)) seams2 listed2) (sym last) at_first in (
+      subst (λ (xs : List ℕ). AreSound inside.pieces (set places c.pieces-first.result.0 (Some run)) (set firsts c.pieces-first.result.1 (Some c.pieces-first.result.0)) xs seams2 listed2) (sym c.set.ensures) at_last,
       omega (arith, c.self.invariant.1, c.list_both.ensures.room),
       c.self.invariant.2,
       c.self.invariant.3,

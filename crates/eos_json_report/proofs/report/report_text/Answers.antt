@@ -1,0 +1,19 @@
+-- The text reads back as the value that was made, since that nests no deeper than it may.
+use Rattle.std.proofs.Common.{◌≤◌, ◌∙◌, sym, subst, ap, Some, string_bytes}
+use Rattle.serde_json.specs.Data.{depth}
+use Rattle.serde_json.specs.Read.{max_depth}
+use Rattle.serde_json.specs.View.{view}
+use Rattle.eos_json_report.proofs.Depths.{report_depth}
+use Rattle.eos_json_report.proofs.report.report_text.Goals as goal
+
+pub returns : goal.returns
+returns c =
+    let value = view c.in_ok-value.value in
+    let shallow = subst (λ d. depth d ≤ max_depth) (sym c.in_ok-value.ensures)
+    (report_depth c.args.about c.args.found.verdict.now c.args.found.notes.now c.args.found.tallies.now (view c.in_ok-seconds.seconds) c.in_ok-seconds.ensures) in
+    record {
+      seconds = view c.in_ok-seconds.seconds;
+      line = string_bytes c.in_ok-text.text;
+      ends = c.in_ok-push_str.ensures.bytes;
+      reads = c.in_ok-text.ensures.reads_back shallow ∙ ap Some c.in_ok-value.ensures;
+    }

@@ -1,0 +1,49 @@
+-- The report of a check: what was checked by what, the verdict with its counts or its fault, the notes, the tables of partitions and
+-- groups, and how long it took.
+use Rattle.std.specs.Prelude.{◌≡◌, List, ◌++◌, ℕ, codes, map, Some}
+use Rattle.serde_json.specs.Data.{Data, Members, no_members, Items, no_items, item, object, array, string, put}
+use Rattle.serde_json.specs.Read.{read}
+use Rattle.serde_json.specs.View.{items_of}
+use Rattle.eos_check.specs.declared.verdict.Counts.{Counts}
+use Rattle.eos_check.specs.declared.verdict.Verdict.{Verdict}
+use Rattle.eos_check.specs.declared.verdict.Verdict.TheVariants.{Yes, No}
+use Rattle.eos_notes.specs.declared.note.Note.{Note}
+use Rattle.eos_json_report.specs.declared.about.About.{About}
+use Rattle.eos_json_report.specs.Values.{count}
+use Rattle.eos_json_report.specs.FaultValues.{fault_value}
+use Rattle.eos_tallies.specs.declared.tally.Tallies.{Tallies}
+use Rattle.eos_json_report.specs.NoteValues.{note_value}
+use Rattle.eos_json_report.specs.TallyValues.{with_tallies}
+
+unfoldable pub counts_value : Counts → Data
+counts_value c =
+    object (put (codes "transactions") (count c.transactions) (put (codes "outputs") (count c.outputs) (put (codes "inputs") (count c.inputs) no_members)))
+
+-- the answer, and the counts of a yes or the first fault
+unfoldable pub with_verdict : Verdict → Members → Members
+with_verdict (Yes counts) ms = put (codes "counts") (counts_value counts) (put (codes "answer") (string (codes "yes")) ms)
+with_verdict (No fault) ms = put (codes "faults") (array (item (fault_value fault) no_items)) (put (codes "answer") (string (codes "no")) ms)
+
+abbrev pub note_items : List Note → Items
+note_items notes = items_of (map note_value notes)
+
+unfoldable pub program_value : About → Data
+program_value about = object (put (codes "version") (string about.version.now) (put (codes "name") (string (codes "eoscheck")) no_members))
+
+-- the number of the schema, the program, and what it was asked
+unfoldable pub with_about : About → Members → Members
+with_about about ms =
+    put (codes "workers") (count about.workers) (put (codes "folder") (string about.folder.now)
+    (put (codes "program") (program_value about) (put (codes "schema") (count 1) ms)))
+
+-- all of it; what stands for the seconds is said by nobody
+unfoldable pub report_value : About → Verdict → List Note → Tallies → Data → Data
+report_value about verdict notes tallies seconds =
+    object (put (codes "seconds") seconds (with_tallies tallies (put (codes "notes") (array (note_items notes)) (with_verdict verdict (with_about about no_members)))))
+
+-- a line that reads as the report
+pub record IsReportText (about : About) (verdict : Verdict) (notes : List Note) (tallies : Tallies) (text : List ℕ) : Type 0 where
+  pub seconds : Data
+  pub line : List ℕ
+  pub ends : text ≡ line ++ codes "\n"
+  pub reads : read line ≡ Some (report_value about verdict notes tallies seconds)

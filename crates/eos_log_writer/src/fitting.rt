@@ -1,0 +1,102 @@
+//! Whether what stands in a log fits the fields of its batches.
+
+ghost use Rattle.std.specs.Prelude.{◌≡◌, ◌^◌, ◌&&◌, nat_lt};
+ghost use Rattle.std.specs.List.{list_all};
+ghost use Rattle.eos_machine.specs.Places.{IsConfig};
+ghost use Rattle.eos_logs.specs.steps.Fits.{are_all_there, is_fit};
+
+use crate::places::place_count;
+use eos_machine::{Config, Entry, Item};
+
+/// One more than the greatest number of a field of 64 bits.
+const NUMBERS: u64 = 1 << 63;
+
+/// One more than the greatest sequence.
+const SEQUENCES: u32 = 1 << 31;
+
+/// One more than the greatest producer epoch.
+const EPOCHS: u16 = 1 << 15;
+
+/// The longest name that a topic has.
+const LONGEST_TOPIC: usize = 249;
+
+/// Whether these are all below a number.
+fn are_below(count: usize, places: &[usize]) -> bool
+    ensures { result ≡ list_all (λ p. nat_lt p count) places.now }
+{
+    places.iter().all(|place| *place < count)
+}
+
+/// Whether these partitions are there, and no more than there are.
+fn are_all_there(config: Config, places: &[usize]) -> bool
+    requires { IsConfig config }
+    ensures { result ≡ are_all_there config places.now }
+{
+    are_below(place_count(config), places) && places.len() <= place_count(config)
+}
+
+/// Whether a state fits, without its event.
+fn is_entry_fit(config: Config, application: usize, entry: &Entry) -> bool
+    requires { IsConfig config }
+    ensures { result ≡ (nat_lt application config.applications && nat_lt entry.now.epoch (2 ^ 15) && are_all_there config entry.now.partitions) }
+{
+    application < config.applications
+        && entry.epoch < EPOCHS
+        && are_all_there(config, entry.partitions.as_slice())
+}
+
+/// Whether an item fits.
+fn is_fit(config: Config, item: &Item) -> bool
+    requires { IsConfig config }
+    ensures { result ≡ is_fit config item.now }
+{
+    match item {
+        Item::Fed { event } => *event < NUMBERS,
+        Item::State {
+            application,
+            entry,
+            event,
+        } => is_entry_fit(config, *application, entry) && *event < NUMBERS,
+        Item::Output {
+            application,
+            epoch,
+            sequence,
+            claim,
+            value,
+            event,
+        } => {
+            *application < config.applications
+                && *epoch < EPOCHS
+                && *sequence < SEQUENCES
+                && claim.topic.len() <= LONGEST_TOPIC
+                && *value < NUMBERS
+                && *event < NUMBERS
+        }
+        Item::Offset {
+            application,
+            epoch,
+            source,
+            event,
+            ..
+        } => {
+            *application < config.applications
+                && *epoch < EPOCHS
+                && *source < config.inputs
+                && *event < NUMBERS
+        }
+        Item::Marker {
+            application,
+            epoch,
+            event,
+            ..
+        } => *application < config.applications && *epoch < EPOCHS && *event < NUMBERS,
+    }
+}
+
+/// Whether each item of a log fits.
+pub(crate) fn are_fit(config: Config, log: &[Item]) -> bool
+    requires { IsConfig config }
+    ensures { result ≡ list_all (is_fit config) log.now }
+{
+    log.iter().all(|item| is_fit(config, item))
+}

@@ -1,0 +1,10 @@
+pub mod AcceptedParts
+pub mod AllAdded
+pub mod BatchSizes
+pub mod BatchTests
+pub mod FittingTests
+pub mod KeptItems
+pub mod ListedPlaces
+pub mod PlaceNames
+pub mod ReachedItems
+pub mod SegmentsFit

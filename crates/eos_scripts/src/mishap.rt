@@ -1,0 +1,134 @@
+//! Mistakes that an application makes, each once, at one input.
+
+/// A mistake of an application, of which an input has the outputs that it shouldn't have.
+#[derive(Clone, Copy, Debug, PartialEq, Eq)]
+pub enum Mishap {
+    /// Its last output is never written.
+    LostOutput,
+    /// Its first output is written twice.
+    RepeatedOutput,
+    /// Its outputs are written, but its partition is neither committed past it nor read on.
+    EarlyOutput,
+    /// Its second output says that there are three.
+    WrongCount,
+    /// An output is written beside them whose number is above their count.
+    WrongNumber,
+    /// An output is written beside them that names a topic which isn't read.
+    ForeignSource,
+    /// Its outputs are written in the transaction before the one that commits past it.
+    OtherTransaction,
+}
+
+/// All of them.
+const MISHAPS: [Mishap; 7] = [
+    Mishap::LostOutput,
+    Mishap::RepeatedOutput,
+    Mishap::EarlyOutput,
+    Mishap::WrongCount,
+    Mishap::WrongNumber,
+    Mishap::ForeignSource,
+    Mishap::OtherTransaction,
+];
+
+impl Mishap {
+    /// The mishap's name, as a program's words have it.
+    pub fn name(self) -> &'static str {
+        match self {
+            Mishap::LostOutput => "lost-output",
+            Mishap::RepeatedOutput => "repeated-output",
+            Mishap::EarlyOutput => "early-output",
+            Mishap::WrongCount => "wrong-count",
+            Mishap::WrongNumber => "wrong-number",
+            Mishap::ForeignSource => "foreign-source",
+            Mishap::OtherTransaction => "other-transaction",
+        }
+    }
+
+    /// The mishap of this name, if there is one.
+    fn named(name: &str) -> Option<Mishap> {
+        for mishap in MISHAPS {
+            if mishap.name() == name {
+                return Some(mishap);
+            }
+        }
+        None
+    }
+
+    /// Whether the outputs are written in the transaction before.
+    pub(crate) fn is_ahead(self) -> bool {
+        self == Mishap::EarlyOutput || self == Mishap::OtherTransaction
+    }
+
+    /// Whether it can happen at an input with so many outputs.
+    pub(crate) fn suits(self, outputs: u64) -> bool {
+        let least = if self == Mishap::WrongCount { 2 } else { 1 };
+        outputs >= least
+    }
+}
+
+/// An input, by its partition of `in` and its offset.
+#[derive(Clone, Copy, Debug, PartialEq, Eq)]
+pub struct Input {
+    pub source: usize,
+    pub offset: u64,
+}
+
+impl Input {
+    /// How many outputs it has: its offset modulo 3; where that is 0 it has a note.
+    pub(crate) fn outputs(self) -> u64 {
+        self.offset % 3
+    }
+
+    /// The input that a text `in-N:O` names, if it names one.
+    fn from_text(text: &str) -> Option<Input> {
+        let (source, offset) = text.strip_prefix("in-")?.split_once(':')?;
+        Some(Input {
+            source: number_in(source)? as usize,
+            offset: number_in(offset)?,
+        })
+    }
+}
+
+/// The number that a text of digits is, without a needless 0.
+fn number_in(text: &str) -> Option<u64> {
+    if text.starts_with('+') || (text.starts_with('0') && text != "0") {
+        return None;
+    }
+    text.parse::<u64>().ok()
+}
+
+/// A mishap, and the input at which it happens; where none is chosen, the first that suits it.
+#[derive(Clone, Copy, Debug, PartialEq, Eq)]
+pub struct ChosenMishap {
+    pub mishap: Mishap,
+    pub at: Option<Input>,
+}
+
+impl ChosenMishap {
+    /// What a word says: `NAME`, or `NAME@in-N:O`. `None` where it is neither.
+    pub fn from_word(word: &str) -> Option<ChosenMishap> {
+        match word.split_once('@') {
+            Some((name, place)) => Some(ChosenMishap {
+                mishap: Mishap::named(name)?,
+                at: Some(Input::from_text(place)?),
+            }),
+            None => Some(ChosenMishap {
+                mishap: Mishap::named(word)?,
+                at: None,
+            }),
+        }
+    }
+
+    /// Whether it happens at this input.
+    pub(crate) fn is_at(self, input: Input) -> bool {
+        self.at == Some(input) && self.mishap.suits(input.outputs())
+    }
+
+    /// Whether it happens at this input, or after it in its partition.
+    pub(crate) fn is_from(self, input: Input) -> bool {
+        match self.at {
+            Some(at) => at.source == input.source && at.offset >= input.offset,
+            None => false,
+        }
+    }
+}

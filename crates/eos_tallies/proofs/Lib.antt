@@ -1,0 +1,4 @@
+pub mod SegmentWalks
+pub mod SegmentsPassed
+pub mod PartitionRows
+pub mod SourceRows

@@ -1,0 +1,4 @@
+pub mod PartitionTallies
+pub mod GroupTallies
+pub mod Tallies
+pub mod steps
