@@ -17,10 +17,10 @@ use Rattle.eos_evidence.specs.Ends.{end_cmp}
 use Rattle.eos_touch.specs.declared.fault.PartitionFault.{PartitionFault}
 use Rattle.eos_fold.specs.Parts.{PartLog}
 use Rattle.eos_fold.specs.Standing as folds
-use Rattle.eos_check.specs.Good.{IsLogOf, AreLogsOf}
+use Rattle.eos_lineage.specs.EvidenceLogs.{IsLogOf, AreLogsOf}
 use Rattle.eos_check.specs.Verdicts.{StandsInPartitions, partition_cmp, name_in}
 use Rattle.eos_check.specs.steps.Phases.{first_fault}
-use Rattle.eos_check.proofs.LogsInOrder.{ends_of, end_name}
+use Rattle.eos_lineage.proofs.LogsInOrder.{ends_of, end_name}
 
 -- a fault that stands in one partition is of it
 pub of_partition : (p : Partition) (l : PartLog) (of : IsLogOf p l) (f : PartitionFault)

@@ -9,10 +9,12 @@ use Rattle.eos_table.proofs.LogLaw.{law as log_law}
 use Rattle.eos_table.proofs.AtomicLaw.{law as atomic_law}
 use Rattle.eos_lineage.proofs.LineageLaw.{law as lineage_law}
 use Rattle.eos_check.specs.declared.verdict.Fault.TheVariants.{Partition as InPartition, Log, Match, Lineage}
-use Rattle.eos_check.specs.Good.{AreLogsOf, EachKeepsRules, Good}
+use Rattle.eos_lineage.specs.EvidenceLogs.{AreLogsOf}
+use Rattle.eos_check.specs.Good.{EachKeepsRules, Good}
 use Rattle.eos_check.specs.Verdicts.{StandsInPartitions, StandsInLog, StandsInMatching, Stands}
 use Rattle.eos_check.proofs.RulesLaw.{law as rules_law}
-use Rattle.eos_check.proofs.LogsInOrder.{in_order, log_in_order}
+use Rattle.eos_lineage.proofs.LogsInOrder.{in_order}
+use Rattle.eos_check.proofs.TransactionLogInOrder.{log_in_order}
 
 pub none_from : (ps : List Partition) (ls : List PartLog) (of : AreLogsOf ps ls) → EachKeepsRules ps ls of → NoneStands (StandsInPartitions ps ls of)
 none_from [] [] of h f s = s

@@ -3,7 +3,7 @@ pub mod EndedData
 pub mod RulesLaw
 pub mod NextMarkers
 pub mod VisibleLaw
-pub mod LogsInOrder
+pub mod TransactionLogInOrder
 pub mod FirstFault
 pub mod GoodLaw
 pub mod VerdictsMade

@@ -18,7 +18,7 @@ use Rattle.eos_summary.specs.Settling.{data_in}
 use Rattle.eos_batch.specs.Marker.{markers_of}
 use Rattle.eos_fold.specs.Standing as folds
 use Rattle.eos_fold.proofs.ClosesOnce.{close_total}
-use Rattle.eos_check.specs.Good.{IsLogOf, AreLogsOf}
+use Rattle.eos_lineage.specs.EvidenceLogs.{IsLogOf, AreLogsOf}
 use Rattle.eos_check.specs.Verdicts.{StandsInPartitions}
 use Rattle.eos_check.proofs.FrontsUnique.{one_front}
 

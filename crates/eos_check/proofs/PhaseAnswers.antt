@@ -18,11 +18,12 @@ use Rattle.eos_lineage.specs.declared.fault.LineageFault.{LineageFault}
 use Rattle.eos_lineage.specs.Faults as lineage
 use Rattle.eos_check.specs.declared.verdict.Fault.TheVariants.{Partition as InPartition, Log, Lineage}
 use Rattle.eos_check.specs.declared.verdict.Verdict.TheVariants.{Yes, No}
-use Rattle.eos_check.specs.Good.{AreLogsOf}
+use Rattle.eos_lineage.specs.EvidenceLogs.{AreLogsOf}
 use Rattle.eos_check.specs.Verdicts.{StandsInPartitions, StandsInLog, StandsInMatching, partition_cmp, IsVerdictOf, IsVerdict}
 use Rattle.eos_check.specs.steps.Phases.{first_fault, IsMatched, IsTransacted}
 use Rattle.eos_check.proofs.FirstFault.{least_of_first}
-use Rattle.eos_check.proofs.LogsInOrder.{sorted, in_order, log_in_order}
+use Rattle.eos_lineage.proofs.LogsInOrder.{sorted, in_order}
+use Rattle.eos_check.proofs.TransactionLogInOrder.{log_in_order}
 use Rattle.eos_check.proofs.VerdictsMade.{no_partition, no_log, no_match, no_lineage, yes}
 
 pub if_ok : {X E : Type 0} (r : Result X E) (P Q : X → Type 0) → ((x : X) → P x → Q x) → IfOk r P → IfOk r Q

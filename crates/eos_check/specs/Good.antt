@@ -6,22 +6,11 @@ use Rattle.std.specs.Prelude.{List, [], ◌∷◌, ⊤}
 use Rattle.eos_evidence.specs.declared.partition.Partition.{Partition}
 use Rattle.eos_evidence.specs.Evidence.{EvidenceParts}
 use Rattle.eos_fold.specs.Parts.{PartLog}
-use Rattle.eos_fold.specs.Whole.{IsPartOf}
 use Rattle.eos_table.specs.TransactionLog.{IsTransactionLog, transaction_parts, decisions_of}
 use Rattle.eos_table.specs.Atomic.{Atomic}
+use Rattle.eos_lineage.specs.EvidenceLogs.{AreLogsOf}
 use Rattle.eos_lineage.specs.Lineage.{LineageKept}
 use Rattle.eos_check.specs.PartitionRules.{KeepsRules}
-
--- what the segments of a partition say
-abbrev pub IsLogOf : Partition → PartLog → Type 0
-IsLogOf p log = IsPartOf p.end.topic p.end.partition p.end.end p.segments log
-
--- the logs of these partitions, in order
-abbrev pub AreLogsOf : List Partition → List PartLog → Type 0
-AreLogsOf [] [] = ⊤
-AreLogsOf [] (l ∷ ls) = ⊥
-AreLogsOf (p ∷ ps) [] = ⊥
-AreLogsOf (p ∷ ps) (l ∷ ls) = IsLogOf p l × AreLogsOf ps ls
 
 -- each partition's log is whole, sequenced and fenced
 abbrev pub EachKeepsRules : (ps : List Partition) (ls : List PartLog) → AreLogsOf ps ls → Type 0

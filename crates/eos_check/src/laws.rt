@@ -3,7 +3,8 @@
 ghost use Rattle.std.specs.Prelude.{◌≡◌, ◌↔◌, ℕ, ℤ, List};
 ghost use Rattle.eos_base.specs.Least.{NoneStands};
 ghost use Rattle.eos_batch.specs.declared.batch.Batch.{Batch};
-ghost use Rattle.eos_check.specs.Good.{AreLogsOf, Good, IsLogOf};
+ghost use Rattle.eos_lineage.specs.EvidenceLogs.{AreLogsOf, IsLogOf};
+ghost use Rattle.eos_check.specs.Good.{Good};
 ghost use Rattle.eos_check.specs.PartitionRules.{KeepsRules};
 ghost use Rattle.eos_check.specs.Verdicts.{Stands, IsVerdict};
 ghost use Rattle.eos_check.specs.VisibleRecords.{VisibleByMarkers};

@@ -1,7 +1,7 @@
 //! The check of an evidence by one thread.
 
 ghost use Rattle.std.specs.Prelude.{◌≡◌, ◌<◌, IfOk, Ok};
-ghost use Rattle.eos_check.specs.Good.{AreLogsOf};
+ghost use Rattle.eos_lineage.specs.EvidenceLogs.{AreLogsOf};
 ghost use Rattle.eos_check.specs.Verdicts.{IsVerdict, IsVerdictOf};
 ghost use Rattle.eos_check.specs.steps.Phases.{IsTransacted};
 ghost use Rattle.eos_evidence.specs.Evidence.{EvidenceParts, IsEvidence};

@@ -2,7 +2,7 @@
 //! thread's own work.
 
 ghost use Rattle.std.specs.Prelude.{◌≡◌, ◌+◌, ◌<◌, ◌≤◌, ◌^◌, ◌++◌, [], ◌∷◌, length, IfOk, IfSome, IsTrue};
-ghost use Rattle.eos_check.specs.Good.{IsLogOf, AreLogsOf};
+ghost use Rattle.eos_lineage.specs.EvidenceLogs.{IsLogOf, AreLogsOf};
 ghost use Rattle.eos_check.specs.steps.Runs.{AreOwn, IsBehind, IsRunOf};
 ghost use Rattle.eos_evidence.specs.Evidence.{IsPartition};
 ghost use Rattle.eos_fold.specs.Sums.{IsFit};

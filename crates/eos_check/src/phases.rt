@@ -1,7 +1,7 @@
 //! The phases of the check over the logs, one after the other.
 
 ghost use Rattle.std.specs.Prelude.{◌≡◌, ◌<◌, IfOk, option_map};
-ghost use Rattle.eos_check.specs.Good.{AreLogsOf};
+ghost use Rattle.eos_lineage.specs.EvidenceLogs.{AreLogsOf};
 ghost use Rattle.eos_check.specs.steps.Phases.{first_fault, IsMatched, IsTransacted};
 ghost use Rattle.eos_evidence.specs.Evidence.{EvidenceParts, IsEvidence};
 

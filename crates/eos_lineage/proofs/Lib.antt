@@ -5,6 +5,7 @@ pub mod WalksJoined
 pub mod CommittedTable
 pub mod FirstFault
 pub mod LineageLaw
+pub mod LogsInOrder
 pub mod NameSearch
 pub mod OutputsTally
 pub mod PartsLineage

@@ -1,3 +1,4 @@
+pub mod EvidenceLogs
 pub mod Lineage
 pub mod Faults
 pub mod steps

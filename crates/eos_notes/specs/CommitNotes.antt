@@ -10,14 +10,11 @@ use Rattle.eos_evidence.specs.declared.application.App.{App}
 use Rattle.eos_evidence.specs.declared.ends.End.{End}
 use Rattle.eos_fold.specs.Parts.{PartLog, part_name}
 use Rattle.eos_claims.specs.Outputs.{Application, Commit, committed_offset}
-use Rattle.eos_commits.specs.Commits.{Group, commits_of}
+use Rattle.eos_commits.specs.Commits.{Group}
+use Rattle.eos_lineage.specs.EvidenceLogs.{commits_for}
 use Rattle.eos_lineage.specs.Lineage.{application_of, inputs_below, parts_of}
 use Rattle.eos_notes.specs.declared.note.Note.{Note}
 use Rattle.eos_notes.specs.declared.note.Note.TheVariants.{Unlisted, PastEnd, NothingCommitted, Behind}
-
--- the commits of an application's group under its source topics, in the order of their log
-abbrev pub commits_for : List PartLog → App → List Commit
-commits_for logs app = commits_of app.group app.sources logs
 
 -- ---- TOPIC-N isn't in ends, but group G committed an offset of it
 

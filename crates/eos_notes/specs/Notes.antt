@@ -5,14 +5,10 @@ use Rattle.std.specs.List.{list_any}
 use Rattle.eos_evidence.specs.Evidence.{EvidenceParts}
 use Rattle.eos_evidence.specs.Parts.{Parts}
 use Rattle.eos_fold.specs.Parts.{PartLog}
-use Rattle.eos_check.specs.Good.{AreLogsOf}
+use Rattle.eos_lineage.specs.EvidenceLogs.{AreLogsOf, has_fault}
 use Rattle.eos_notes.specs.declared.note.Note.{Note}
 use Rattle.eos_notes.specs.ManifestNotes.{absent_topics, gaps, absent_internals}
 use Rattle.eos_notes.specs.CommitNotes.{AreUnlistedNotes, past_ends, nothing_committed, behind}
-
--- a partition's log has a fault: then it isn't known which records are visible
-abbrev pub has_fault : List PartLog → Bool
-has_fault logs = list_any (λ p. is_some p.fault) logs
 
 -- what the manifest alone shows
 abbrev pub of_manifest : Parts → List Note

@@ -2,16 +2,16 @@
 
 ghost use Rattle.std.specs.Prelude.{◌≡◌, ◌++◌, [], false, List, map, IfOk, OnOk, IsPermutation};
 ghost use Rattle.eos_base.specs.Members.{Has};
-ghost use Rattle.eos_check.specs.Good.{AreLogsOf};
+ghost use Rattle.eos_lineage.specs.EvidenceLogs.{AreLogsOf, commits_for, has_fault as has_fault_in};
 ghost use Rattle.eos_claims.specs.Outputs.{committed_offset};
 ghost use Rattle.eos_commits.specs.Faults.{AreInOrder};
 ghost use Rattle.eos_commits.specs.Plain.{plain_commit};
 ghost use Rattle.eos_commits.specs.Tables.{IsTableOf};
 ghost use Rattle.eos_evidence.specs.declared.application.App.{App as AppOf};
 ghost use Rattle.eos_fold.specs.Parts.{part_name};
-ghost use Rattle.eos_notes.specs.CommitNotes.{commits_for, past_ends_in, nothing_in, behind_in, past_ends, nothing_committed, behind};
+ghost use Rattle.eos_notes.specs.CommitNotes.{past_ends_in, nothing_in, behind_in, past_ends, nothing_committed, behind};
 ghost use Rattle.eos_notes.specs.ManifestNotes.{absent_topics, gaps, absent_internals};
-ghost use Rattle.eos_notes.specs.Notes.{has_fault as has_fault_in, of_manifest, AreNotesBy, AreNotes};
+ghost use Rattle.eos_notes.specs.Notes.{of_manifest, AreNotesBy, AreNotes};
 
 use crate::groups::{count_inputs, push_behind, push_nothing, push_past_ends};
 use crate::manifest::{push_absent_topics, push_gaps, push_internals};

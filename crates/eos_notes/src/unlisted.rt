@@ -11,7 +11,8 @@ ghost use Rattle.eos_commits.specs.Plain.{plain_commit};
 ghost use Rattle.eos_commits.specs.Tables.{IsTableOf};
 ghost use Rattle.eos_evidence.specs.declared.application.App.{App as AppOf};
 ghost use Rattle.eos_evidence.specs.declared.ends.End.{End as EndOf};
-ghost use Rattle.eos_notes.specs.CommitNotes.{end_name, commits_for, unlisted_note, AreUnlisted, AreUnlistedNotes};
+ghost use Rattle.eos_lineage.specs.EvidenceLogs.{commits_for};
+ghost use Rattle.eos_notes.specs.CommitNotes.{end_name, unlisted_note, AreUnlisted, AreUnlistedNotes};
 ghost use Rattle.eos_notes.specs.steps.Unlisted.{plain_name, by_name, commit_name, is_unlisted, AreEachOnce};
 
 use crate::note::Note;

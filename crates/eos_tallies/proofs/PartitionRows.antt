@@ -5,9 +5,9 @@ use Rattle.eos_evidence.specs.declared.application.App.{App}
 use Rattle.eos_evidence.specs.declared.partition.Partition.{Partition}
 use Rattle.eos_evidence.specs.Parts.{outputs_of}
 use Rattle.eos_fold.specs.Parts.{PartLog}
-use Rattle.eos_check.specs.Good.{AreLogsOf}
+use Rattle.eos_lineage.specs.EvidenceLogs.{AreLogsOf}
 use Rattle.eos_commits.specs.Commits.{Topic}
-use Rattle.eos_notes.proofs.TopicSets.{same_test}
+use Rattle.eos_commits.proofs.RoleSearch.{found_in_order}
 use Rattle.eos_tallies.specs.declared.tally.TopicRoles.{TopicRoles}
 use Rattle.eos_tallies.specs.declared.tally.PartitionTally.{PartitionTally}
 use Rattle.eos_tallies.specs.PartitionTallies.{sources_of, roles_by, roles_of, IsPartitionTally, ArePartitionTallies}
@@ -47,4 +47,7 @@ rows_more roles ps ls before after i p l t lt same is_p is_l so_far row pushed =
 -- whatever the order of the topics
 pub same_roles : (apps : List App) (sources outputs : List Topic) → IsPermutation (sources_of apps) sources → IsPermutation (outputs_of apps) outputs
     → roles_by (is_found (slice_cmp nat_cmp) sources) (is_found (slice_cmp nat_cmp) outputs) ≡ roles_of apps
-same_roles apps sources outputs p q = λ i. roles_by (same_test (sources_of apps) sources p i) (same_test (outputs_of apps) outputs q i)
+same_roles apps sources outputs p q =
+    let same : (topics set : List Topic) → IsPermutation topics set → is_found (slice_cmp nat_cmp) set ≡ is_found (slice_cmp nat_cmp) topics =
+        λ topics set r i topic. found_in_order (slice_cmp nat_cmp) topics set topic r i in
+    λ i. roles_by (same (sources_of apps) sources p i) (same (outputs_of apps) outputs q i)

@@ -8,8 +8,7 @@ use Rattle.eos_fold.specs.Parts.{PartLog, part_name}
 use Rattle.eos_claims.specs.Outputs.{committed_offset}
 use Rattle.eos_commits.specs.Visible.{visible}
 use Rattle.eos_lineage.specs.Lineage.{parts_of}
-use Rattle.eos_notes.specs.CommitNotes.{commits_for}
-use Rattle.eos_notes.specs.Notes.{has_fault}
+use Rattle.eos_lineage.specs.EvidenceLogs.{commits_for, has_fault}
 use Rattle.eos_tallies.specs.declared.tally.SourceTally.{SourceTally}
 use Rattle.eos_tallies.specs.declared.tally.GroupTally.{GroupTally}
 

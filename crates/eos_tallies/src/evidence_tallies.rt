@@ -1,7 +1,7 @@
 //! The tables of an evidence.
 
 ghost use Rattle.std.specs.Prelude.{◌≡◌, IfOk};
-ghost use Rattle.eos_check.specs.Good.{AreLogsOf};
+ghost use Rattle.eos_lineage.specs.EvidenceLogs.{AreLogsOf};
 ghost use Rattle.eos_tallies.specs.Tallies.{AreTallies};
 
 use crate::groups::group_tallies_of;

@@ -6,8 +6,7 @@ ghost use Rattle.eos_claims.specs.Outputs.{committed_offset};
 ghost use Rattle.eos_commits.specs.Faults.{AreInOrder};
 ghost use Rattle.eos_fold.specs.Parts.{part_name};
 ghost use Rattle.eos_lineage.specs.Lineage.{is_part_of};
-ghost use Rattle.eos_notes.specs.CommitNotes.{commits_for};
-ghost use Rattle.eos_notes.specs.Notes.{has_fault as has_fault_in};
+ghost use Rattle.eos_lineage.specs.EvidenceLogs.{commits_for, has_fault as has_fault_in};
 ghost use Rattle.eos_tallies.specs.GroupTallies.{source_tally, source_tally_at, group_tally as tally_of_group, group_tallies};
 ghost use Rattle.eos_tallies.specs.steps.Counted.{source_if};
 

@@ -4,7 +4,7 @@ ghost use Rattle.std.specs.Prelude.{◌≡◌, ◌++◌, ◌∷◌, [], flat_map
 ghost use Rattle.std.specs.Ordering.{nat_cmp};
 ghost use Rattle.std.specs.Cmp.Lexicographic.{slice_cmp};
 ghost use Rattle.eos_base.specs.Members.{is_found};
-ghost use Rattle.eos_check.specs.Good.{AreLogsOf};
+ghost use Rattle.eos_lineage.specs.EvidenceLogs.{AreLogsOf};
 ghost use Rattle.eos_commits.specs.Commits.{is_same as is_same_text};
 ghost use Rattle.eos_evidence.specs.Parts.{outputs_of as outputs_in};
 ghost use Rattle.eos_tallies.specs.PartitionTallies.{sources_of as sources_in, roles_by, bytes_in, visible_in, IsPartitionTally, roles_of, ArePartitionTallies};

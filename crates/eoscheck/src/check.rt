@@ -3,6 +3,8 @@
 ghost use Rattle.std.specs.Prelude.{◌≡◌, ◌≤◌, ◌++◌, true, Err, IfOk, OnErr, option_map, string_bytes};
 ghost use Rattle.std.specs.Io.KnownBytes.{Keeps};
 ghost use Rattle.eos_text.specs.Writing.{Writes, WritesFrontOf};
+ghost use Rattle.eos_check.specs.Verdicts.{IsVerdict};
+ghost use Rattle.eos_lineage.specs.EvidenceLogs.{AreLogsOf};
 ghost use Rattle.eos_report.specs.VerdictTexts.{status_of};
 ghost use Rattle.eoscheck.specs.Checking.{IsCheckAnswer, IsAnswerAbout, IsNotesText, IsReportAsked, verdict_answer};
 ghost use Rattle.eoscheck.specs.Subjects.{subject_text};
@@ -14,6 +16,7 @@ use crate::subject::Subject;
 use eos_board_core::Gate;
 use eos_check::{Verdict, logs_of, verdict_of};
 use eos_evidence::Evidence;
+use eos_fold::Part;
 use eos_json_report::About;
 use eos_report::{verdict_json, verdict_line};
 use eos_segment::RunFault;
@@ -101,20 +104,52 @@ fn answer<G: Gate + Timed>(
     ensures report { IfOk result (λ r. IsReportAsked evidence.now asked.entry.report (option_map string_bytes r.1.report)) }
 {
     let logs = logs_of(alloc, rt, evidence, workers, gate)?;
-    let logs = logs.as_slice();
-    let verdict = verdict_of(alloc, rt, evidence, logs, workers as u32)?;
-    let line = answer_line(alloc, &verdict, asked.json)?;
-    let status = status_of(&verdict);
+    let verdict = verdict_of(alloc, rt, evidence, logs.as_slice(), workers as u32)?;
+    answer_of(alloc, evidence, logs.as_slice(), &verdict, asked, gate)
+}
+
+/// The same of an evidence whose logs and verdict these are.
+fn answer_of<T: Timed>(
+    alloc: Global,
+    evidence: &Evidence,
+    logs: &[Part],
+    verdict: &Verdict,
+    asked: Asked<'_>,
+    timed: &T,
+) -> Result<(String, Said), AllocError>
+    requires logs { AreLogsOf evidence.now.partitions logs.now }
+    requires verdict { IsVerdict evidence.now verdict.now }
+    ensures line { IfOk result (λ r. IsCheckAnswer evidence.now asked.entry.json (string_bytes r.0) r.1.status) }
+    ensures notes { IfOk result (λ r. IsNotesText evidence.now asked.entry.quiet (string_bytes r.1.notes)) }
+    ensures report { IfOk result (λ r. IsReportAsked evidence.now asked.entry.report (option_map string_bytes r.1.report)) }
+{
+    let line = answer_line(alloc, verdict, asked.json)?;
+    let said = said_of(alloc, evidence, logs, verdict, asked, timed)?;
+    Ok((line, said))
+}
+
+/// What is told beside the line.
+fn said_of<T: Timed>(
+    alloc: Global,
+    evidence: &Evidence,
+    logs: &[Part],
+    verdict: &Verdict,
+    asked: Asked<'_>,
+    timed: &T,
+) -> Result<Said, AllocError>
+    requires logs { AreLogsOf evidence.now.partitions logs.now }
+    requires verdict { IsVerdict evidence.now verdict.now }
+    ensures status { IfOk result (λ said. said.status ≡ status_of verdict.now) }
+    ensures notes { IfOk result (λ said. IsNotesText evidence.now asked.entry.quiet (string_bytes said.notes)) }
+    ensures report { IfOk result (λ said. IsReportAsked evidence.now asked.entry.report (option_map string_bytes said.report)) }
+{
     let notes = lines_of(alloc, evidence, logs, asked.quiet)?;
-    let report = report_of(alloc, evidence, logs, &verdict, asked.report, gate)?;
-    Ok((
-        line,
-        Said {
-            status,
-            notes,
-            report,
-        },
-    ))
+    let report = report_of(alloc, evidence, logs, verdict, asked.report, timed)?;
+    Ok(Said {
+        status: status_of(verdict),
+        notes,
+        report,
+    })
 }
 
 /// The line of a verdict, as text or as JSON.

@@ -1,7 +1,7 @@
 //! The notes of an evidence, as `check` prints them on standard error.
 
 ghost use Rattle.std.specs.Prelude.{false, IfOk, string_bytes};
-ghost use Rattle.eos_check.specs.Good.{AreLogsOf};
+ghost use Rattle.eos_lineage.specs.EvidenceLogs.{AreLogsOf};
 ghost use Rattle.eoscheck.specs.Checking.{IsNotesText};
 
 use crate::subject::Subject;

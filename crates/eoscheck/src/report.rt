@@ -1,7 +1,7 @@
 //! The report of a check, and the file that it is written to.
 
 ghost use Rattle.std.specs.Prelude.{◌≡◌, IfOk, Some, option_map, string_bytes};
-ghost use Rattle.eos_check.specs.Good.{AreLogsOf};
+ghost use Rattle.eos_lineage.specs.EvidenceLogs.{AreLogsOf};
 ghost use Rattle.eos_check.specs.Verdicts.{IsVerdict};
 ghost use Rattle.eoscheck.specs.Checking.{IsReport, IsReportAsked};
 

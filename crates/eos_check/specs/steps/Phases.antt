@@ -12,7 +12,7 @@ use Rattle.eos_table.specs.TransactionLog.{transaction_parts, decisions_of}
 use Rattle.eos_check.specs.declared.verdict.Fault.{Fault}
 use Rattle.eos_check.specs.declared.verdict.Fault.TheVariants.{Match}
 use Rattle.eos_check.specs.declared.verdict.Verdict.TheVariants.{No}
-use Rattle.eos_check.specs.Good.{AreLogsOf}
+use Rattle.eos_lineage.specs.EvidenceLogs.{AreLogsOf}
 use Rattle.eos_check.specs.Verdicts.{StandsInPartitions, StandsInLog, StandsInMatching, IsVerdictOf}
 
 -- the fault of the first partition that has one

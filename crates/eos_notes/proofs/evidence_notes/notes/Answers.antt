@@ -1,4 +1,4 @@
-use Rattle.eos_check.proofs.LogsInOrder.{in_order}
+use Rattle.eos_lineage.proofs.LogsInOrder.{in_order}
 use Rattle.eos_notes.proofs.evidence_notes.notes.Goals as goal
 
 pub all_notes-requires : goal.all_notes-requires

@@ -5,7 +5,8 @@ use Rattle.eos_claims.specs.Outputs.{Commit}
 use Rattle.eos_commits.specs.declared.commits.CommitRef.{CommitRef}
 use Rattle.eos_commits.specs.Plain.{plain_commit}
 use Rattle.eos_notes.specs.declared.unlisted.NameRef.{NameRef}
-use Rattle.eos_notes.specs.CommitNotes.{commits_for, unlisted_note}
+use Rattle.eos_lineage.specs.EvidenceLogs.{commits_for}
+use Rattle.eos_notes.specs.CommitNotes.{unlisted_note}
 use Rattle.eos_notes.specs.steps.Unlisted.{plain_name, commit_name, is_unlisted, AreEachOnce}
 use Rattle.eos_notes.proofs.EachOnce.{are_unlisted}
 use Rattle.eos_notes.proofs.unlisted.push_app.Goals as goal

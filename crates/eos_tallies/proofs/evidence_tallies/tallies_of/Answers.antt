@@ -1,4 +1,4 @@
-use Rattle.eos_check.proofs.LogsInOrder.{in_order}
+use Rattle.eos_lineage.proofs.LogsInOrder.{in_order}
 use Rattle.eos_tallies.proofs.evidence_tallies.tallies_of.Goals as goal
 
 pub group_tallies_of-requires : goal.group_tallies_of-requires

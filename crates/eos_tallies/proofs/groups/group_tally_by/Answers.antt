@@ -1,7 +1,7 @@
 use Rattle.std.proofs.Common.{◌∙◌, map, ap}
 use Rattle.std.specs.List.{filter}
 use Rattle.eos_claims.specs.Outputs.{committed_offset}
-use Rattle.eos_notes.specs.CommitNotes.{commits_for}
+use Rattle.eos_lineage.specs.EvidenceLogs.{commits_for}
 use Rattle.eos_tallies.specs.GroupTallies.{source_tally}
 use Rattle.eos_tallies.proofs.SourceRows.{same_parts}
 use Rattle.eos_tallies.proofs.groups.group_tally_by.Goals as goal
