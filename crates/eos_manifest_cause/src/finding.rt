@@ -1,5 +1,8 @@
 //! What can be wrong in the JSON value of a manifest, and where.
 
+ghost use Rattle.std.specs.Prelude.{◌≡◌};
+ghost use Rattle.eos_manifest_cause.specs.declared.finding.Finding.TheVariants.{OutOfMemory};
+
 use eos_evidence::SpecFault;
 use serde_json::Value;
 use std::alloc::{AllocError, AllocFailed};
@@ -81,12 +84,16 @@ impl Finding<'_> {
 }
 
 impl<'a> From<AllocError> for Finding<'a> {
+    ghost from_gives = { λ _ e. e ≡ OutOfMemory };
+
     fn from(_e: AllocError) -> Finding<'a> {
         Finding::OutOfMemory
     }
 }
 
 impl<'a, T: Drop> From<AllocFailed<T>> for Finding<'a> {
+    ghost from_gives = { λ _ e. e ≡ OutOfMemory };
+
     fn from(_e: AllocFailed<T>) -> Finding<'a> {
         Finding::OutOfMemory
     }
