@@ -1,5 +1,8 @@
 //! Writing evidence as a folder.
 
+ghost use Rattle.std.specs.Prelude.{◌≡◌};
+ghost use Rattle.eos_folder.specs.declared.writing.WritingFault.TheVariants.{OutOfMemory};
+
 use crate::paths::{manifest_path, partition_path, segment_path};
 use eos_evidence::{Evidence, Partition, spec_text};
 use std::alloc::AllocError;
@@ -16,6 +19,8 @@ pub enum WritingFault {
 }
 
 impl From<AllocError> for WritingFault {
+    ghost from_gives = { λ _ e. e ≡ OutOfMemory };
+
     fn from(_e: AllocError) -> WritingFault {
         WritingFault::OutOfMemory
     }
