@@ -1,5 +1,5 @@
 -- A report nests no deeper than a JSON text may, so that it reads back.
-use Rattle.std.proofs.Common.{◌≤◌, ℕ, List, [], ◌∷◌, Bool, true, false, Option, None, Some, Ordering, Less, Equal, Greater, cond, arith, nat_cmp, ◌+◌, option_map, unwrap_or, codes}
+use Rattle.std.proofs.Common.{◌≤◌, ℕ, List, [], ◌∷◌, Bool, true, false, Option, None, Some, Ordering, Less, Equal, Greater, cond, arith, nat_cmp, ◌+◌, option_map, unwrap_or, codes, subst, sym}
 use Rattle.std.specs.Cmp.Lexicographic.{slice_cmp}
 use Rattle.std.specs.Ordering.{match_ordering}
 use Rattle.std.specs.Str.{is_utf8}
@@ -23,6 +23,7 @@ use Rattle.eos_check.specs.declared.verdict.Verdict.TheVariants.{Yes, No}
 use Rattle.eos_notes.specs.declared.note.Note.{Note}
 use Rattle.eos_notes.specs.declared.note.Note.TheVariants as notes
 use Rattle.eos_json_report.specs.declared.about.About.{About}
+use Rattle.eos_json_report.specs.declared.about.Times.{Times}
 use Rattle.eos_check.specs.Verdicts.{phase_of, name_of}
 use Rattle.eos_json_report.specs.Values.{count, text_value, with_partition, with_place, place_value}
 use Rattle.eos_json_report.specs.FaultValues.{with_details, with_partition_fault, with_log_details, with_log_fault, with_found, with_match_fault, with_visible_details, with_visible_fault, with_claim, with_group, with_output_fault, with_where, code_of, fault_value}
@@ -33,7 +34,7 @@ use Rattle.eos_tallies.specs.declared.tally.SourceTally.{SourceTally}
 use Rattle.eos_tallies.specs.declared.tally.GroupTally.{GroupTally}
 use Rattle.eos_tallies.specs.declared.tally.Tallies.{Tallies}
 use Rattle.eos_json_report.specs.TallyValues.{with_roles, roles_value, visible_value, with_sizes, with_tally, partition_value, partition_items, with_source, source_value, source_items, with_group_tally, group_value, group_items, groups_value, with_tallies}
-use Rattle.eos_json_report.specs.Reports.{note_items, counts_value, with_verdict, program_value, with_about, report_value}
+use Rattle.eos_json_report.specs.Reports.{note_items, counts_value, with_verdict, program_value, with_about, report_value, AreSeconds, AreTimes}
 
 -- ---- members that are put in
 
@@ -300,7 +301,7 @@ noted_depth about v ns =
     put_depth 5 (codes "notes") (array (note_items ns)) (judged about v) (listed (note_items ns) (notes_depth ns))
     (verdict_depth v (with_about about no_members) (about_depth about no_members (omega arith)))
 
-pub report_depth : (about : About) (v : Verdict) (ns : List Note) (t : Tallies) (seconds : Data) → depth seconds ≤ 1 → depth (report_value about v ns t seconds) ≤ max_depth
+report_depth : (about : About) (v : Verdict) (ns : List Note) (t : Tallies) (seconds : Data) → depth seconds ≤ 1 → depth (report_value about v ns t seconds) ≤ max_depth
 unfolding report_value
 report_depth about v ns t seconds p =
     let tabled : Members = with_tallies t (noted about v ns) in
@@ -309,6 +310,24 @@ report_depth about v ns t seconds p =
 
 -- ---- seconds
 
-pub number_depth : (o : Option Num) → depth (unwrap_or (option_map number o) null) ≤ 0
+number_depth : (o : Option Num) → depth (unwrap_or (option_map number o) null) ≤ 0
 number_depth None = omega arith
 number_depth (Some n) = omega arith
+
+seconds_depth : (milliseconds : ℕ) (value : Data) → AreSeconds milliseconds value → depth value ≤ 0
+seconds_depth milliseconds value a = subst (λ d. depth d ≤ 0) (sym a.is) (number_depth _)
+
+times_depth : (times : Times) (value : Data) → AreTimes times value → depth value ≤ 1
+times_depth times value a =
+    let read : Members = put (codes "read") a.read no_members in
+    let folded : Members = put (codes "folded") a.folded read in
+    let judged : Members = put (codes "judged") a.judged folded in
+    subst (λ d. depth d ≤ 1) (sym a.is)
+    (object_depth 0 judged
+    (put_depth 0 (codes "judged") a.judged folded (seconds_depth _ _ a.judges)
+    (put_depth 0 (codes "folded") a.folded read (seconds_depth _ _ a.folds)
+    (put_depth 0 (codes "read") a.read no_members (seconds_depth _ _ a.reads) (omega arith)))))
+
+pub timed_depth : (about : About) (v : Verdict) (ns : List Note) (t : Tallies) (times : Times) (seconds : Data) → AreTimes times seconds
+    → depth (report_value about v ns t seconds) ≤ max_depth
+timed_depth about v ns t times seconds a = report_depth about v ns t seconds (times_depth times seconds a)

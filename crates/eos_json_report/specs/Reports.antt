@@ -1,7 +1,10 @@
 -- The report of a check: what was checked by what, the verdict with its counts or its fault, the notes, the tables of partitions and
 -- groups, and how long it took.
-use Rattle.std.specs.Prelude.{◌≡◌, List, ◌++◌, ℕ, codes, map, Some}
-use Rattle.serde_json.specs.Data.{Data, Members, no_members, Items, no_items, item, object, array, string, put}
+use Rattle.std.specs.Prelude.{◌≡◌, List, ◌++◌, ◌*◌, ℕ, codes, map, Some, option_map, unwrap_or}
+use Rattle.std.specs.Duration.{as_nanos, as_secs_f64}
+use Rattle.std.specs.declared.time.Duration.{Duration}
+use Rattle.serde_json.specs.Data.{Data, Members, no_members, Items, no_items, item, object, array, string, number, null, put}
+use Rattle.serde_json.specs.Find.{of_float}
 use Rattle.serde_json.specs.Read.{read}
 use Rattle.serde_json.specs.View.{items_of}
 use Rattle.eos_check.specs.declared.verdict.Counts.{Counts}
@@ -9,6 +12,7 @@ use Rattle.eos_check.specs.declared.verdict.Verdict.{Verdict}
 use Rattle.eos_check.specs.declared.verdict.Verdict.TheVariants.{Yes, No}
 use Rattle.eos_notes.specs.declared.note.Note.{Note}
 use Rattle.eos_json_report.specs.declared.about.About.{About}
+use Rattle.eos_json_report.specs.declared.about.Times.{Times}
 use Rattle.eos_json_report.specs.Values.{count}
 use Rattle.eos_json_report.specs.FaultValues.{fault_value}
 use Rattle.eos_tallies.specs.declared.tally.Tallies.{Tallies}
@@ -36,7 +40,23 @@ with_about about ms =
     put (codes "workers") (count about.workers) (put (codes "folder") (string about.folder.now)
     (put (codes "program") (program_value about) (put (codes "schema") (count 1) ms)))
 
--- all of it; what stands for the seconds is said by nobody
+-- so many milliseconds as a number of seconds, as `Duration::as_secs_f64` rounds it
+pub record AreSeconds (milliseconds : ℕ) (value : Data) : Type 0 where
+  pub duration : Duration
+  pub lasts : as_nanos duration ≡ milliseconds * 1_000_000
+  pub is : value ≡ unwrap_or (option_map number (of_float (as_secs_f64 duration))) null
+
+-- the seconds of each stage
+pub record AreTimes (times : Times) (value : Data) : Type 0 where
+  pub read : Data
+  pub folded : Data
+  pub judged : Data
+  pub reads : AreSeconds times.read read
+  pub folds : AreSeconds times.folded folded
+  pub judges : AreSeconds times.judged judged
+  pub is : value ≡ object (put (codes "judged") judged (put (codes "folded") folded (put (codes "read") read no_members)))
+
+-- all of it
 unfoldable pub report_value : About → Verdict → List Note → Tallies → Data → Data
 report_value about verdict notes tallies seconds =
     object (put (codes "seconds") seconds (with_tallies tallies (put (codes "notes") (array (note_items notes)) (with_verdict verdict (with_about about no_members)))))
@@ -44,6 +64,14 @@ report_value about verdict notes tallies seconds =
 -- a line that reads as the report
 pub record IsReportText (about : About) (verdict : Verdict) (notes : List Note) (tallies : Tallies) (text : List ℕ) : Type 0 where
   pub seconds : Data
+  pub line : List ℕ
+  pub ends : text ≡ line ++ codes "\n"
+  pub reads : read line ≡ Some (report_value about verdict notes tallies seconds)
+
+-- a line that reads as the report, and in it the seconds are those of these times
+pub record IsTimedReportText (about : About) (verdict : Verdict) (notes : List Note) (tallies : Tallies) (times : Times) (text : List ℕ) : Type 0 where
+  pub seconds : Data
+  pub are : AreTimes times seconds
   pub line : List ℕ
   pub ends : text ≡ line ++ codes "\n"
   pub reads : read line ≡ Some (report_value about verdict notes tallies seconds)

@@ -2,7 +2,7 @@ use Rattle.eoscheck.proofs.report.made_report.Goals as goal
 
 pub returns : goal.returns
 returns g c =
-    let says = rw c.as_slice.ensures.value at c.in_ok-text.ensures in
+    let says = rw c.as_slice.ensures.value at c.in_ok-text.ensures.says in
     record {
       verdict = c.args.verdict.now;
       notes = c.in_ok-notes.notes.items;
