@@ -49,5 +49,5 @@ pub same_roles : (apps : List App) (sources outputs : List Topic) → IsPermutat
     → roles_by (is_found (slice_cmp nat_cmp) sources) (is_found (slice_cmp nat_cmp) outputs) ≡ roles_of apps
 same_roles apps sources outputs p q =
     let same : (topics set : List Topic) → IsPermutation topics set → is_found (slice_cmp nat_cmp) set ≡ is_found (slice_cmp nat_cmp) topics =
-        λ topics set r i topic. found_in_order (slice_cmp nat_cmp) topics set topic r i in
+    λ topics set r i topic. found_in_order (slice_cmp nat_cmp) topics set topic r i in
     λ i. roles_by (same (sources_of apps) sources p i) (same (outputs_of apps) outputs q i)
