@@ -5,9 +5,9 @@
 
 SEEDS (200) scripts of 50 to 2,000 events each, and each switch with 20 of them, after the script and, with 5, inside it. Every
 fifth folder is read back by `dump`, and every tenth's verdict compared with that of tests/reference.py too. Then random sizes
-and rates, each mishap with 8 seeds, several switches and mishaps at once; and the tables of docs/SIMULATOR.md, the help and
-these lists say the same. With REFUSE.SO (tests/refuse.c, built) the allocations of a run are refused, each in turn. Prints
-what is wrong, and as its last line 'N passed, N failed'.
+and rates, each rate's least and most, each mishap with 8 seeds, several switches and mishaps at once; and the tables of
+docs/SIMULATOR.md, the help and these lists say the same. With REFUSE.SO (tests/refuse.c, built) the allocations of a run are
+refused, each in turn. Prints what is wrong, and as its last line 'N passed, N failed'.
 """
 import concurrent.futures
 import filecmp
@@ -252,6 +252,27 @@ def other_settings(number):
     return None if YES.fullmatch(said + "\n") else f"{words}: {said}"
 
 
+def rates():
+    """Each rate is heard: with the same seed its least and its most make other logs. And where nothing is lost, given up, moved,
+    restarted or aborted, no transaction is.
+    """
+    for name in RATES:
+        one, other = (os.path.join(scratch, f"{name}-{rate}") for rate in (0, 130))
+        made = [simulate(7, 600, folder, f"--{name}", rate) for folder, rate in ((one, 0), (other, 130))]
+        expect(made == [(0, WROTE, "")] * 2, f"--{name} 0 and 130: {made}")
+        expect(not same_folder(one, other), f"--{name} is not heard")
+    usual, calm = os.path.join(scratch, "usual"), os.path.join(scratch, "calm")
+    simulate(7, 600, usual)
+    simulate(7, 600, calm, *(word for name in RATES for word in (f"--{name}", 0)))
+    expect(aborted(usual) > 0 and aborted(calm) == 0, f"abort markers: {aborted(usual)} and {aborted(calm)}")
+
+
+def aborted(folder):
+    """How many abort markers the logs of a folder have."""
+    paths = (os.path.join(path, name) for path, _, names in os.walk(folder) for name in names if name.endswith(".log"))
+    return sum(line.endswith(" abort") for path in paths for line in run("dump", path)[1].splitlines())
+
+
 def several():
     """Several switches and mishaps at once."""
     folder = os.path.join(scratch, "several")
@@ -464,6 +485,7 @@ def main():
         wrong = [it for it in pool.map(other_settings, seeds[: max(1, len(seeds) // 5)]) if it]
         expect(not wrong, f"other sizes and rates: {wrong}")
     worked()
+    rates()
     several()
     documented()
     refused_folders()
