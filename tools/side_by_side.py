@@ -8,11 +8,16 @@ import sys
 import tempfile
 import threading
 import time
+from concurrent.futures import FIRST_COMPLETED, ThreadPoolExecutor, wait
 
 from kit import TOP, rt, rtlib
 
 # Where a crate has no line in the table, its seconds are guessed by its lines.
 SECONDS_OF_A_LINE = 0.2
+
+# How many processors the proof gets on which the longest chain of others waits. Two shorten a proof by a third or more, and
+# cost a tenth more of the processors; what more would gain is less than what it takes from the others.
+JOBS_OF_THE_CHAIN = 2
 
 
 def expected():
@@ -86,8 +91,38 @@ def prove(crates, work=None):
         call = lambda given, jobs, it=crate: task(it, given, jobs)
         tasks[crate.name, "proof"] = (waits, progress.cost[crate.name], rt.need(crate), call)
     progress.say(f"proving {len(crates)} crates on {rt.processors()} processors")
-    given = rt.in_lanes(tasks)
+    given = in_lanes(tasks)
     return [it.name for it in crates if not given[it.name, "proof"]]
+
+
+def in_lanes(tasks):
+    """Runs tasks side by side, each once those that it waits for have ended, and returns what each gave. A task is what it waits
+    for, its cost, its memory, and a call that gets what was given and how many jobs it may use. The kit's function of this name
+    gives each task one processor while others wait; here the longest chain is the shorter for two.
+    """
+    lanes, memory, behind = rt.processors(), 0.85 * rt.free(), dict.fromkeys(tasks, 0.0)
+    for key in reversed([*tasks]):
+        behind[key] += tasks[key][1]
+        for it in tasks[key][0]:
+            behind[it] = max(behind[it], behind[key])
+    left, running, given = sorted(tasks, key=lambda it: -behind[it]), {}, {}
+    with ThreadPoolExecutor(lanes) as pool:
+        while left or running:
+            longest = max(behind[it] for it in [*left, *(key for key, _, _ in running.values())])
+            ready = [it for it in left if all(below in given for below in tasks[it][0])]
+            for at, key in enumerate(ready):
+                idle = lanes - sum(jobs for _, _, jobs in running.values())
+                room = memory - sum(needs for _, needs, _ in running.values())
+                _, _, needs, call = tasks[key]
+                if idle <= 0 or running and needs > room:
+                    continue
+                wanted = max(idle // (len(ready) - at), JOBS_OF_THE_CHAIN if behind[key] == longest else 1)
+                jobs = max(1, min(wanted, idle, 4, 1 + int((room / needs - 1) / 0.6)))
+                left.remove(key)
+                running[pool.submit(call, given, jobs)] = key, needs * (1 + 0.6 * (jobs - 1)), jobs
+            for it in wait(running, return_when=FIRST_COMPLETED).done:
+                given[running.pop(it)[0]] = it.result()
+    return given
 
 
 def crates_of_the_repository():

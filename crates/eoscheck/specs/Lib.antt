@@ -1,4 +1,1 @@
 pub mod Checking
-pub mod Endings
-pub mod Simulated
-pub mod Subjects

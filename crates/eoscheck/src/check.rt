@@ -7,14 +7,14 @@ ghost use Rattle.eos_check.specs.Verdicts.{IsVerdict};
 ghost use Rattle.eos_lineage.specs.EvidenceLogs.{AreLogsOf};
 ghost use Rattle.eos_report.specs.VerdictTexts.{status_of};
 ghost use Rattle.eoscheck.specs.Checking.{IsCheckAnswer, IsAnswerAbout, IsNotesText, IsReportAsked, verdict_answer};
-ghost use Rattle.eoscheck.specs.Subjects.{subject_text};
+ghost use Rattle.eos_ending.specs.Subjects.{subject_text};
 ghost use Rattle.eos_segment.specs.Running.{IsOfReading};
 
 use crate::notes::lines_of;
 use crate::report::{Timed, report_of};
-use crate::subject::Subject;
 use eos_board_core::Gate;
 use eos_check::{Verdict, logs_of, verdict_of};
+use eos_ending::Subject;
 use eos_evidence::Evidence;
 use eos_fold::Part;
 use eos_json_report::About;

@@ -3,17 +3,10 @@
 #![tactic(auto)]
 
 mod check;
-mod course;
-mod decoding;
-mod ending;
-mod explain;
-mod init;
 mod notes;
 mod progress;
 mod report;
 mod run;
-mod simulate;
-mod subject;
 
 use std::process::ExitCode;
 

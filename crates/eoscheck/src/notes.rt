@@ -4,7 +4,7 @@ ghost use Rattle.std.specs.Prelude.{false, IfOk, string_bytes};
 ghost use Rattle.eos_lineage.specs.EvidenceLogs.{AreLogsOf};
 ghost use Rattle.eoscheck.specs.Checking.{IsNotesText};
 
-use crate::subject::Subject;
+use eos_ending::Subject;
 use eos_evidence::Evidence;
 use eos_fold::Part;
 use eos_notes::{note_lines, notes};

@@ -1,8 +1,8 @@
 //! How far a check is, as standard error is told, and how long its stages took.
 
 use crate::report::Timed;
-use crate::subject::Subject;
 use eos_board_core::Gate;
+use eos_ending::Subject;
 use eos_fold::Named;
 use eos_folder::Watch;
 use eos_json_report::Times;

@@ -5,9 +5,8 @@ ghost use Rattle.eos_lineage.specs.EvidenceLogs.{AreLogsOf};
 ghost use Rattle.eos_check.specs.Verdicts.{IsVerdict};
 ghost use Rattle.eoscheck.specs.Checking.{IsReport, IsReportAsked};
 
-use crate::ending::{Ending, Told};
-use crate::subject::Subject;
 use eos_check::Verdict;
+use eos_ending::{Ending, end};
 use eos_evidence::Evidence;
 use eos_fold::Part;
 use eos_json_report::{About, Findings, Times, report_text};
@@ -108,19 +107,9 @@ fn end_unwritten(rt: &HostRuntime, path: &str, kind: ErrorKind) -> u8 {
         ErrorKind::AlreadyExists => ": it is there already",
         ErrorKind::NotFound => ": no such folder",
         ErrorKind::PermissionDenied => ": permission denied",
-        ErrorKind::OutOfMemory => return end_without_memory(rt),
+        ErrorKind::OutOfMemory => return end(rt, Ending::OutOfMemory),
         _ => "",
     };
     let _ = eprint!(rt; "eoscheck: cannot write {path}{why}\n");
     2
-}
-
-fn end_without_memory(rt: &HostRuntime) -> u8 {
-    let ending = Ending::OutOfMemory;
-    let told = Told {
-        subject: Subject::Only,
-        ending,
-    };
-    let _ = eprint!(rt; "{told}");
-    ending.status()
 }

@@ -1,33 +1,22 @@
 //! A run: the words, the files and streams that they name, and what the outside is told.
 
 use crate::check::{Asked, check_to};
-use crate::course::Course;
-use crate::decoding::options_of;
-use crate::ending::{Ending, Told};
-use crate::explain::page_to;
-use crate::init::init_folder;
 use crate::notes::say_notes;
 use crate::progress::{Meter, Progress};
 use crate::report::{fill_file, make_file};
-use crate::simulate::{SimulationFault, simulate, told_to};
-use crate::subject::Subject;
-use eos_catalogue::page_of;
+use eos_commands::{answer_segment, explain_code, init_folder};
+use eos_ending::{Ending, STANDARD, Subject, end, end_about};
 use eos_evidence::Evidence;
-use eos_folder::{
-    Cause, FolderFault, WritingFault, make_folder, read_folder, remove_folder, write_evidence,
-};
+use eos_folder::{Cause, FolderFault, read_folder};
 use eos_json_report::About;
-use eos_segment::{RunFault, chain_to, dump_to};
-use eos_words::{Answer, Check, NoRequest, Request, Simulation, VERSION, read_words};
+use eos_segment::RunFault;
+use eos_simulate::simulate_folder;
+use eos_words::{Check, NoRequest, Request, VERSION, read_words};
 use std::alloc::Global;
-use std::fs::File;
-use std::io::{ErrorKind, IsTerminal, Read};
+use std::io::{ErrorKind, IsTerminal};
 use std::sync::Wait;
 use std::thread::Threads;
 use std::{env, io};
-
-/// The name of a standard stream.
-const STANDARD: &str = "-";
 
 /// Does what the words of the command line say, and gives the exit status.
 pub(crate) fn run(rt: &HostRuntime, threads: &(impl Threads + Wait + Sync)) -> u8 {
@@ -62,18 +51,6 @@ fn tell_of_waiting(rt: &HostRuntime) {
     let _ = eprint!(rt;
         "eoscheck: waits for a segment on standard input; 'eoscheck --help' says what else there is\n"
     );
-}
-
-/// Says how the run ended, and gives the exit status. Where standard error takes nothing, the status is all that is left.
-fn end(rt: &HostRuntime, ending: Ending<'_>) -> u8 {
-    end_about(rt, Subject::Only, ending)
-}
-
-/// The same of a part of the run that is about one of several folders.
-fn end_about(rt: &HostRuntime, subject: Subject<'_>, ending: Ending<'_>) -> u8 {
-    let told = Told { subject, ending };
-    let _ = eprint!(rt; "{told}");
-    ending.status()
 }
 
 fn act(rt: &HostRuntime, threads: &(impl Threads + Wait + Sync), request: Request<'_>) -> u8 {
@@ -233,108 +210,4 @@ fn end_unread(rt: &HostRuntime, subject: Subject<'_>, fault: &FolderFault) -> u8
         FolderFault::OutOfMemory => Ending::OutOfMemory,
     };
     end_about(rt, subject, ending)
-}
-
-/// Prints the catalogue's page of a kind of fault.
-fn explain_code(rt: &HostRuntime, code: &str) -> u8 {
-    match page_of(code) {
-        Some(page) => {
-            let answered = page_to(rt.alloc(), page, &mut io::writer(rt));
-            end(
-                rt,
-                Ending::of_answer(answered, STANDARD, STANDARD, &Cause::Unknown),
-            )
-        }
-        None => end(rt, Ending::NoSuchCode(code)),
-    }
-}
-
-/// Writes what a simulated cluster leaves as a new folder, and on standard output that it did.
-fn simulate_folder(rt: &HostRuntime, words: &Simulation<'_>) -> u8 {
-    let course = match Course::of_words(rt.alloc(), words) {
-        Ok(course) => course,
-        Err(fault) => return end_unmade(rt, fault),
-    };
-    if let Err(fault) = make_folder(rt, words.folder) {
-        return end_unwritten(rt, fault);
-    }
-    let evidence = match simulate(rt.alloc(), &course) {
-        Ok(evidence) => evidence,
-        Err(fault) => {
-            remove_folder(rt, words.folder);
-            return end_unmade(rt, fault);
-        }
-    };
-    if let Err(fault) = write_evidence(rt, words.folder, &evidence) {
-        remove_folder(rt, words.folder);
-        return end_unwritten(rt, fault);
-    }
-    let told = told_to(rt.alloc(), &evidence, &mut io::writer(rt));
-    end(
-        rt,
-        Ending::of_answer(told, words.folder, STANDARD, &Cause::Unknown),
-    )
-}
-
-/// Says why there is no evidence of a simulated cluster.
-fn end_unmade(rt: &HostRuntime, fault: SimulationFault) -> u8 {
-    match fault {
-        SimulationFault::NotAtRest => end(rt, Ending::NotAtRest),
-        SimulationFault::Limit => end(rt, Ending::Limit(&Cause::Unknown)),
-        SimulationFault::Unfit(what, why) => end(rt, Ending::Unfit(what, why)),
-        SimulationFault::OutOfMemory => end(rt, Ending::OutOfMemory),
-    }
-}
-
-/// Says why a folder wasn't written.
-fn end_unwritten(rt: &HostRuntime, fault: WritingFault) -> u8 {
-    match fault {
-        WritingFault::CannotWrite(path) => end(rt, Ending::CannotWrite(path.as_str())),
-        WritingFault::OutOfMemory => end(rt, Ending::OutOfMemory),
-    }
-}
-
-/// Answers about a segment, and says why where it can't.
-fn answer_segment(rt: &HostRuntime, answer: Answer<'_>, file: &str) -> u8 {
-    let answered = read_and_answer(rt, answer, file);
-    let cause = cause_of_none(rt, answered, file);
-    end(rt, Ending::of_answer(answered, file, STANDARD, &cause))
-}
-
-/// Why there is no answer about this file, where it is the file's.
-fn cause_of_none(rt: &HostRuntime, answered: Result<u8, RunFault>, file: &str) -> Cause {
-    match answered {
-        Err(RunFault::Read) if file == STANDARD => Cause::of_reader(rt.alloc(), &mut rt.reader()),
-        Err(RunFault::Read) => Cause::of_file(rt, file),
-        Err(RunFault::Limit) => Cause::long_file(rt.alloc(), file),
-        _ => Cause::Unknown,
-    }
-}
-
-/// Answers about a segment from a file or from standard input, on standard output.
-fn read_and_answer(rt: &HostRuntime, answer: Answer<'_>, path: &str) -> Result<u8, RunFault> {
-    if path == STANDARD {
-        return write_answer(rt, answer, path, &mut rt.reader());
-    }
-    match File::open(rt, path) {
-        Ok(mut file) => write_answer(rt, answer, path, &mut file),
-        Err(e) if e.kind() == ErrorKind::OutOfMemory => Err(RunFault::OutOfMemory),
-        Err(_) => Err(RunFault::Read),
-    }
-}
-
-fn write_answer<R: Read>(
-    rt: &HostRuntime,
-    answer: Answer<'_>,
-    path: &str,
-    reader: &mut R,
-) -> Result<u8, RunFault> {
-    let mut writer = io::writer(rt);
-    match answer {
-        Answer::Listing(words) => {
-            let options = options_of(&words, path);
-            dump_to(rt.alloc(), &options, reader, &mut writer)
-        }
-        Answer::Chain => chain_to(rt.alloc(), reader, &mut writer),
-    }
 }

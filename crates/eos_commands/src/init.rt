@@ -1,7 +1,6 @@
 //! `init`: the manifest of a folder of copied logs.
 
-use crate::ending::{Ending, Told};
-use crate::subject::Subject;
+use eos_ending::{Ending, STANDARD, end};
 use eos_evidence::SpecFault;
 use eos_folder::Cause;
 use eos_init_files::{Given, InitFault, Made, init, name_text};
@@ -17,7 +16,7 @@ const DOUBLED_ENDS: &str = "a partition has two ends";
 
 /// Writes the manifest of a folder, what is to be told of the logs on standard error, and how many partitions it has on
 /// standard output. Gives the exit status.
-pub(crate) fn init_folder(rt: &HostRuntime, words: &Init<'_>) -> u8 {
+pub fn init_folder(rt: &HostRuntime, words: &Init<'_>) -> u8 {
     if words.ends.is_some() == words.ends_from_logs {
         return refuse(rt, "init takes one of --ends FILE and --ends-from-logs");
     }
@@ -41,16 +40,6 @@ pub(crate) fn init_folder(rt: &HostRuntime, words: &Init<'_>) -> u8 {
     }
 }
 
-/// Says how the run ended, and gives the exit status.
-fn end(rt: &HostRuntime, ending: Ending<'_>) -> u8 {
-    let told = Told {
-        subject: Subject::Only,
-        ending,
-    };
-    let _ = eprint!(rt; "{told}");
-    ending.status()
-}
-
 fn refuse(rt: &HostRuntime, why: &str) -> u8 {
     let _ = eprint!(rt; "eoscheck: {why}\n");
     2
@@ -65,7 +54,7 @@ fn tell(rt: &HostRuntime, made: &Made) -> Result<u8, AllocError> {
     }
     match finish(&mut io::writer(rt), line.as_bytes()) {
         Ok(()) => Ok(0),
-        Err(_) => Ok(end(rt, Ending::CannotWrite("-"))),
+        Err(_) => Ok(end(rt, Ending::CannotWrite(STANDARD))),
     }
 }
 
@@ -85,7 +74,7 @@ fn explain(rt: &HostRuntime, words: &Init<'_>, fault: InitFault) -> Result<u8, A
             format!(in alloc; "--app {word}: not GROUP:SOURCE,..:OUTPUT,..")?
         }
         InitFault::Line(number) => {
-            let file = words.ends.unwrap_or("-");
+            let file = words.ends.unwrap_or(STANDARD);
             format!(in alloc; "line {number} of {file}: not TOPIC:PARTITION:OFFSET")?
         }
         InitFault::NoEnd(name) => {

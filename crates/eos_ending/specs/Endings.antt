@@ -5,8 +5,8 @@ use Rattle.eos_folder.specs.declared.cause.Cause.{Cause}
 use Rattle.eos_folder.specs.Causes.{cause_text, is_unknown}
 use Rattle.eos_segment.specs.declared.fault.RunFault.{RunFault}
 use Rattle.eos_segment.specs.declared.fault.RunFault.TheVariants as faults
-use Rattle.eoscheck.specs.declared.ending.Ending.{Ending}
-use Rattle.eoscheck.specs.declared.ending.Ending.TheVariants.{Answered, Helped, BadWords, NotText, CannotRead, CannotWrite, Manifest, NoSuchCode, Unfit, NotAtRest, Limit, OutOfMemory}
+use Rattle.eos_ending.specs.declared.ending.Ending.{Ending}
+use Rattle.eos_ending.specs.declared.ending.Ending.TheVariants.{Answered, Helped, BadWords, NotText, CannotRead, CannotWrite, Manifest, NoSuchCode, Unfit, NotAtRest, Limit, OutOfMemory}
 
 -- the exit status
 abbrev pub status_of : Ending → ℕ

@@ -6,7 +6,7 @@ use eos_segment::{ListingOptions, Reading};
 use eos_words::Listing;
 
 /// Which records of the file at this path are listed, and with what.
-pub(crate) fn options_of(words: &Listing<'_>, path: &str) -> ListingOptions
+pub fn options_of(words: &Listing<'_>, path: &str) -> ListingOptions
     ensures from { result.from ≡ words.now.from }
     ensures to { result.to ≡ words.now.to }
     ensures headers { result.headers ≡ words.now.headers }

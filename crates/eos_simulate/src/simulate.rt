@@ -5,9 +5,9 @@ ghost use Rattle.std.specs.Io.KnownBytes.{Appends, Keeps};
 ghost use Rattle.eos_text.specs.Writing.{WritesFront};
 ghost use Rattle.eos_machine.specs.Switching.{any_on};
 ghost use Rattle.eos_schedules.specs.Schedules.{HasRightLogs, HasNoFaultInLogs};
-ghost use Rattle.eoscheck.specs.Simulated.{wrote_line};
+ghost use Rattle.eos_simulate.specs.Simulated.{wrote_line};
 ghost use Rattle.eos_segment.specs.Running.{IsOfReading};
-ghost use Rattle.eoscheck.specs.declared.simulate.SimulationFault.TheVariants.{OutOfMemory};
+ghost use Rattle.eos_simulate.specs.declared.simulate.SimulationFault.TheVariants.{OutOfMemory};
 
 use crate::course::{Course, SWITCHES, is_on};
 use eos_cluster::{Cluster, EvidenceRefusal, NewFault, Switches};
@@ -20,7 +20,7 @@ use std::io::Write;
 
 /// Why a simulated cluster leaves no evidence.
 #[derive(Clone, Copy, Debug, PartialEq, Eq)]
-pub(crate) enum SimulationFault {
+pub enum SimulationFault {
     /// A transaction is open or still ending.
     NotAtRest,
     /// Its logs may have more segments than evidence may have.
@@ -49,7 +49,7 @@ impl<T: Drop> From<AllocFailed<T>> for SimulationFault {
 
 /// What a cluster leaves that is driven by the words of a seed's script. With switches it breaks these rules, if not inside the
 /// script then afterwards, in a few further events each. Without one its logs have no fault.
-pub(crate) fn simulate(alloc: Global, course: &Course) -> Result<Evidence, SimulationFault>
+pub fn simulate(alloc: Global, course: &Course) -> Result<Evidence, SimulationFault>
     ensures right { any_on course.now.switches ≡ false → IfOk result HasRightLogs }
     ensures faultless { any_on course.now.switches ≡ false → IfOk result HasNoFaultInLogs }
 {

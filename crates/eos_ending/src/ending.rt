@@ -1,8 +1,8 @@
 //! How a run ends: a table of exit statuses and of what is said on standard error.
 
 ghost use Rattle.std.specs.Prelude.{◌≡◌, Some, option_map};
-ghost use Rattle.eoscheck.specs.Endings.{status_of, message_of, is_silent, cause_of, cause_line, told_text, status_after, message_after, cause_after};
-ghost use Rattle.eoscheck.specs.Subjects.{subject_text};
+ghost use Rattle.eos_ending.specs.Endings.{status_of, message_of, is_silent, cause_of, cause_line, told_text, status_after, message_after, cause_after};
+ghost use Rattle.eos_ending.specs.Subjects.{subject_text};
 
 use crate::subject::Subject;
 use eos_evidence::SpecFault;
@@ -12,7 +12,7 @@ use std::fmt::{Display, Formatter, Write};
 
 /// How a run ended, or its part that is about one folder. Printed, it is the first line that standard error is told, or nothing.
 #[derive(Clone, Copy)]
-pub(crate) enum Ending<'a> {
+pub enum Ending<'a> {
     /// The answer was written; it has this exit status.
     Answered(u8),
     /// The help or the version was printed.
@@ -41,7 +41,7 @@ pub(crate) enum Ending<'a> {
 
 impl<'a> Ending<'a> {
     /// How a run ended that read this input and wrote its answer to this output. Where it didn't read it, this is why.
-    pub(crate) fn of_answer(
+    pub fn of_answer(
         answer: Result<u8, RunFault>,
         input: &'a str,
         output: &'a str,
@@ -61,7 +61,7 @@ impl<'a> Ending<'a> {
     }
 
     /// The exit status.
-    pub(crate) fn status(&self) -> u8
+    pub fn status(&self) -> u8
         ensures { result ≡ status_of self.now }
     {
         match self {
@@ -144,9 +144,9 @@ impl Display for CauseLine<'_> {
 /// What standard error is told of how a run ended, or its part that is about one of several folders. Printed, it is one line or
 /// two, or nothing.
 #[derive(Clone, Copy)]
-pub(crate) struct Told<'a> {
-    pub(crate) subject: Subject<'a>,
-    pub(crate) ending: Ending<'a>,
+pub struct Told<'a> {
+    pub subject: Subject<'a>,
+    pub ending: Ending<'a>,
 }
 
 impl Display for Told<'_> {

@@ -32,7 +32,7 @@ pub(crate) const SWITCHES: [Switch; 7] = [
 
 /// What a simulated cluster does.
 #[derive(Drop)]
-pub(crate) struct Course {
+pub struct Course {
     pub(crate) config: Config,
     pub(crate) seed: u64,
     pub(crate) words: u64,
@@ -45,7 +45,7 @@ pub(crate) struct Course {
 
 impl Course {
     /// What the words say.
-    pub(crate) fn of_words(
+    pub fn of_words(
         alloc: Global,
         words: &Simulation<'_>,
     ) -> Result<Course, SimulationFault> {

@@ -1,13 +1,13 @@
 //! Which of several folders a line is about.
 
 ghost use Rattle.std.specs.Prelude.{Some};
-ghost use Rattle.eoscheck.specs.Subjects.{subject_text};
+ghost use Rattle.eos_ending.specs.Subjects.{subject_text};
 
 use std::fmt::{Display, Formatter, Write};
 
 /// Which folder a line is about. Printed, it is how the line begins.
 #[derive(Clone, Copy)]
-pub(crate) enum Subject<'a> {
+pub enum Subject<'a> {
     /// There is only one, so nothing is said.
     Only,
     /// This one of several.
