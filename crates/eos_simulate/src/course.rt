@@ -45,10 +45,7 @@ pub struct Course {
 
 impl Course {
     /// What the words say.
-    pub fn of_words(
-        alloc: Global,
-        words: &Simulation<'_>,
-    ) -> Result<Course, SimulationFault> {
+    pub fn of_words(alloc: Global, words: &Simulation<'_>) -> Result<Course, SimulationFault> {
         let rates = rates_of(&words.rates);
         if !rates.fit() {
             return Err(SimulationFault::Unfit("rates", "more than 1000 in all"));
