@@ -3,7 +3,7 @@
 ghost use Rattle.std.specs.Prelude.{◌≡◌, false, None, IfSome};
 ghost use Rattle.eos_machine.specs.Switching.{switch_name, any_on};
 
-use crate::simulate::SimulationFault;
+use crate::making::SimulationFault;
 use eos_cluster::{Switch, Switches};
 use eos_machine::Config;
 use eos_scripts::{ChosenMishap, Rates, Settings, Turning};

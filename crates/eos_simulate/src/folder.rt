@@ -1,7 +1,7 @@
 //! The folder of a simulated cluster's evidence, which is there whole or not at all.
 
 use crate::course::Course;
-use crate::simulate::{SimulationFault, simulate, told_to};
+use crate::making::{SimulationFault, simulate, told_to};
 use eos_ending::{Ending, STANDARD, end};
 use eos_folder::{Cause, WritingFault, make_folder, remove_folder, write_evidence};
 use eos_words::Simulation;

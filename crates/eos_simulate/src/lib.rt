@@ -3,8 +3,8 @@
 
 mod course;
 mod folder;
-mod simulate;
+mod making;
 
 pub use course::Course;
 pub use folder::simulate_folder;
-pub use simulate::{SimulationFault, simulate, told_to};
+pub use making::{SimulationFault, simulate, told_to};

@@ -1,4 +1,4 @@
-//! `simulate`: what a simulated cluster leaves behind.
+//! Making the evidence: what a simulated cluster leaves behind.
 
 ghost use Rattle.std.specs.Prelude.{◌≡◌, true, false, Err, IfOk, OnErr, string_bytes};
 ghost use Rattle.std.specs.Io.KnownBytes.{Appends, Keeps};
@@ -7,7 +7,7 @@ ghost use Rattle.eos_machine.specs.Switching.{any_on};
 ghost use Rattle.eos_schedules.specs.Schedules.{HasRightLogs, HasNoFaultInLogs};
 ghost use Rattle.eos_simulate.specs.Simulated.{wrote_line};
 ghost use Rattle.eos_segment.specs.Running.{IsOfReading};
-ghost use Rattle.eos_simulate.specs.declared.simulate.SimulationFault.TheVariants.{OutOfMemory};
+ghost use Rattle.eos_simulate.specs.declared.making.SimulationFault.TheVariants.{OutOfMemory};
 
 use crate::course::{Course, SWITCHES, is_on};
 use eos_cluster::{Cluster, EvidenceRefusal, NewFault, Switches};
