@@ -1,0 +1,2 @@
+pub mod FirstOfAll
+pub mod PhaseLists

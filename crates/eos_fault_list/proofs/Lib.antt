@@ -1,0 +1,2 @@
+pub mod TiedKept
+pub mod WholeList

@@ -1,0 +1,19 @@
+use Rattle.std.proofs.Common.{◌++◌, ap, ◌∙◌, w32, rules}
+use Rattle.std.proofs.lemmas.Int.{to_z-of_z}
+use mir.Val.{SFits}
+use Rattle.eos_log_faults.specs.steps.Gathered.{split_at, lesser_home}
+use Rattle.eos_log_faults.proofs.DoubledTables.{homes_more}
+use Rattle.eos_log_faults.proofs.doubled.take_home.Goals as goal
+
+pub returns-clause-faults : goal.returns-clause-faults
+returns-clause-faults c = λ before are.
+    c.in_ok-push_split.ensures ∙ ap (λ z. c.args.faults.now.items ++ split_at c.args.mark.now z) (c.home_of-home.ensures ∙ are c.args.mark.now.id)
+
+pub returns-clause-homes : goal.returns-clause-homes
+returns-clause-homes c = λ before are.
+    let fits : SFits w32 c.args.mark.now.partition = search rules in
+    let number = to_z-of_z w32 c.args.mark.now.partition fits in
+    let lesser = c.lesser_home.ensures ∙ (ap (lesser_home c.home_of-home.result) number ∙ ap (λ z. lesser_home z c.args.mark.now.partition) c.home_of-home.ensures) in
+    let lesser_fits : SFits w32 c.lesser_home.result = search rules in
+    let same = to_z-of_z w32 c.lesser_home.result lesser_fits in
+    homes_more c.args.homes.now c.put_home.new.homes before c.args.mark.now _ are (same ∙ lesser) c.in_ok-put_home.ensures

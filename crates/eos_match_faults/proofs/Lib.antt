@@ -1,0 +1,3 @@
+pub mod PlaceTests
+pub mod PlacesSound
+pub mod PlacesWhole

@@ -1,0 +1,3 @@
+pub mod PlacedBatches
+pub mod PlacedEnds
+pub mod AllPlaced

@@ -1,0 +1,4 @@
+//! All faults of a partition by itself: what each place of its front shows.
+#![tactic(auto)]
+
+pub mod laws;
