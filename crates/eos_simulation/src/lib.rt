@@ -1,6 +1,9 @@
 //! The simulated cluster and the theorem on every schedule, brought together: of an honest cluster's evidence no fault of the
-//! logs stands in it. It stands above both, so that neither has to be proved before the other.
+//! logs stands in it, and there is such evidence wherever there is room. It stands above both, so that neither has to be proved
+//! before the other.
 #![tactic(auto)]
+
+pub mod laws;
 
 ghost use Rattle.std.specs.Prelude.{◌≡◌, ◌↔◌, true, Err, IfOk};
 ghost use Rattle.eos_cluster.specs.declared.evidence.EvidenceRefusal.{EvidenceRefusal};
