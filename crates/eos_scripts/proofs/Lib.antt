@@ -1,1 +1,3 @@
 pub mod Drawing
+pub mod MoreDeeds
+pub mod OneAfterAnother

@@ -1,2 +1,4 @@
+pub mod Driven
 pub mod Rates
 pub mod Words
+pub mod steps

@@ -49,11 +49,13 @@ impl Network {
         }
     }
 
-    /// The next message is lost, where there is one.
-    pub(crate) fn lose(&mut self) {
-        if self.next < self.known {
-            self.next += 1;
+    /// The next message is lost, where there is one. Whether there was.
+    pub(crate) fn lose(&mut self) -> bool {
+        if self.next >= self.known {
+            return false;
         }
+        self.next += 1;
+        true
     }
 
     /// An earlier message, lost or not: one of the last eight, or any.

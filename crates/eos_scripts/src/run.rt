@@ -1,16 +1,14 @@
 //! A run: each word of a script becomes an event by what is known of the cluster.
 
-ghost use Rattle.std.specs.Prelude.{◌≡◌, None};
+ghost use Rattle.std.specs.Prelude.{◌≡◌};
+ghost use Rattle.eos_scripts.specs.steps.Drives.{HasAsked};
 
-use crate::ask::ask;
+use crate::driver::Driver;
 use crate::instance::{Choice, Instance, Turn};
-use crate::mishap::Mishap;
 use crate::network::Network;
 use crate::plan::{Plan, remainder};
 use crate::rates::{Happening, Rates, Said};
-use crate::script::Script;
 use crate::settings::Settings;
-use crate::settle::settle;
 use bytes::Bytes;
 use eos_cluster::Cluster;
 use eos_machine::{Event, Reply};
@@ -31,67 +29,12 @@ pub(crate) struct Run {
 /// How many abandoned instances go on at most.
 const ABANDONED: usize = 4;
 
-/// Drives a cluster by a script. Each word becomes at most one event, by what the run knows of the cluster. The applications read
-/// from their committed offsets, in transactions, and write for the input at offset o of a partition of `in` its o modulo 3
-/// outputs, or one note where that is 0; each transaction commits the offsets after all inputs whose outputs it writes.
-/// The partition p of `in` belongs to the application of number p plus the group's generation, modulo their number.
-/// Meanwhile messages are lost and repeated, sessions are abandoned and go on as zombies, transactions are aborted, the members
-/// of the group change, brokers and the coordinator restart. After the last word all inputs that are left are processed
-/// without loss, and the cluster comes to rest, unless it takes no more events or an application's producer epochs are
-/// spent. The same script does the same on every machine.
-///
-/// The cluster is a new one: of inputs and sessions that it had before, the run knows nothing.
-///
-/// # Errors
-/// Where a growth was refused. The cluster has taken some of the events.
-pub fn run_script(alloc: Global, cluster: &mut Cluster, script: &Script) -> Result<(), AllocError>
-    ensures config { cluster.new.config ≡ cluster.old.config }
-    ensures honest { cluster.new.honest ≡ cluster.old.honest }
-{
-    run_with(alloc, cluster, script, &Settings::today())?;
-    Ok(())
-}
-
-/// The same with other settings. Rates that come to more than 1,000 leave the later ones less. The answer is the first of the
-/// mishaps that didn't happen, since no input suited it, or none came in where it was to.
-///
-/// # Errors
-/// Where a growth was refused. The cluster has taken some of the events.
-pub fn run_with(
-    alloc: Global,
-    cluster: &mut Cluster,
-    script: &Script,
-    settings: &Settings<'_>,
-) -> Result<Option<Mishap>, AllocError>
-    ensures config { cluster.new.config ≡ cluster.old.config }
-    ensures honest { settings.now.turning ≡ None → cluster.new.honest ≡ cluster.old.honest }
-{
-    let mut run = Run::new(alloc, cluster, settings)?;
-    let mut number = 0u64;
-    for word in script.words() {
-        turn_on(cluster, settings, number);
-        run.take_word(cluster, *word)?;
-        number = number.saturating_add(1);
-    }
-    turn_on(cluster, settings, number);
-    settle(&mut run, cluster)?;
-    Ok(run.plan.unmet())
-}
-
-/// Turns the switches on that are to be on after so many words.
-fn turn_on(cluster: &mut Cluster, settings: &Settings<'_>, number: u64)
-    ensures config { cluster.new.config ≡ cluster.old.config }
-    ensures honest { settings.now.turning ≡ None → cluster.new.honest ≡ cluster.old.honest }
-{
-    if let Some(turning) = settings.turning
-        && turning.after == number
-    {
-        cluster.set(turning.switches);
-    }
-}
-
 impl Run {
-    fn new(alloc: Global, cluster: &Cluster, settings: &Settings<'_>) -> Result<Run, AllocError> {
+    pub(crate) fn new(
+        alloc: Global,
+        cluster: &Cluster,
+        settings: &Settings<'_>,
+    ) -> Result<Run, AllocError> {
         let config = cluster.config();
         let mut instances = Vec::new(alloc);
         for application in 0..config.applications {
@@ -107,33 +50,43 @@ impl Run {
     }
 
     /// A word: what it says happens.
-    fn take_word(&mut self, cluster: &mut Cluster, word: u32) -> Result<(), AllocError>
-        ensures config { cluster.new.config ≡ cluster.old.config }
-        ensures honest { cluster.new.honest ≡ cluster.old.honest }
+    pub(crate) fn take_word(
+        &mut self,
+        cluster: &mut Cluster,
+        driver: &mut Driver,
+        word: u32,
+    ) -> Result<(), AllocError>
+        requires { driver.old.course ≡ cluster.old }
+        ensures { HasAsked cluster.old driver.old cluster.new driver.new }
     {
         let Said { happening, rest } = self.rates.said(word);
         match happening {
-            Happening::Feed => self.feed(cluster, rest),
-            Happening::Work { aborts } => self.work(cluster, rest, aborts),
-            Happening::WorkAbandoned => self.work_abandoned(cluster, rest),
-            Happening::Carry => self.carry(cluster),
-            Happening::Lose => self.lose(),
-            Happening::Repeat => self.repeat(cluster, rest),
+            Happening::Feed => self.feed(cluster, driver, rest),
+            Happening::Work { aborts } => self.work(cluster, driver, rest, aborts),
+            Happening::WorkAbandoned => self.work_abandoned(cluster, driver, rest),
+            Happening::Carry => self.carry(cluster, driver),
+            Happening::Lose => self.lose(driver),
+            Happening::Repeat => self.repeat(cluster, driver, rest),
             Happening::Abandon => self.abandon(rest),
-            Happening::ChangeMembers => self.change_members(cluster),
-            Happening::RestartBroker => self.restart_broker(cluster, rest),
-            Happening::RestartCoordinator => self.restart_coordinator(cluster),
+            Happening::ChangeMembers => self.change_members(cluster, driver),
+            Happening::RestartBroker => self.restart_broker(cluster, driver, rest),
+            Happening::RestartCoordinator => self.restart_coordinator(cluster, driver),
         }
     }
 
     // ---- inputs
 
-    fn feed(&mut self, cluster: &mut Cluster, choice: u64) -> Result<(), AllocError>
-        ensures config { cluster.new.config ≡ cluster.old.config }
-        ensures honest { cluster.new.honest ≡ cluster.old.honest }
+    fn feed(
+        &mut self,
+        cluster: &mut Cluster,
+        driver: &mut Driver,
+        choice: u64,
+    ) -> Result<(), AllocError>
+        requires { driver.old.course ≡ cluster.old }
+        ensures { HasAsked cluster.old driver.old cluster.new driver.new }
     {
         let source = remainder(choice, self.plan.config().inputs);
-        if let Reply::Done(offset) = ask(cluster, Event::Feed { source })? {
+        if let Reply::Done(offset) = driver.ask(cluster, Event::Feed { source })? {
             self.plan.fed(source, offset);
         }
         Ok(())
@@ -142,9 +95,15 @@ impl Run {
     // ---- applications
 
     /// The present instance of an application takes its turn.
-    fn work(&mut self, cluster: &mut Cluster, choice: u64, aborts: bool) -> Result<(), AllocError>
-        ensures config { cluster.new.config ≡ cluster.old.config }
-        ensures honest { cluster.new.honest ≡ cluster.old.honest }
+    fn work(
+        &mut self,
+        cluster: &mut Cluster,
+        driver: &mut Driver,
+        choice: u64,
+        aborts: bool,
+    ) -> Result<(), AllocError>
+        requires { driver.old.course ≡ cluster.old }
+        ensures { HasAsked cluster.old driver.old cluster.new driver.new }
     {
         let application = remainder(choice, self.plan.config().applications);
         let choice = choice / 16;
@@ -152,13 +111,18 @@ impl Run {
             inputs: 1 + choice % 3,
             aborts,
         };
-        self.take_turn(cluster, application, chosen)
+        self.take_turn(cluster, driver, application, chosen)
     }
 
     /// An abandoned instance takes its turn, if there is one, and is forgotten once it knows that it is abandoned.
-    fn work_abandoned(&mut self, cluster: &mut Cluster, choice: u64) -> Result<(), AllocError>
-        ensures config { cluster.new.config ≡ cluster.old.config }
-        ensures honest { cluster.new.honest ≡ cluster.old.honest }
+    fn work_abandoned(
+        &mut self,
+        cluster: &mut Cluster,
+        driver: &mut Driver,
+        choice: u64,
+    ) -> Result<(), AllocError>
+        requires { driver.old.course ≡ cluster.old }
+        ensures { HasAsked cluster.old driver.old cluster.new driver.new }
     {
         let applications = self.plan.config().applications;
         if self.instances.len() <= applications {
@@ -170,7 +134,7 @@ impl Run {
             inputs: 2,
             aborts: false,
         };
-        self.take_turn(cluster, number, chosen)?;
+        self.take_turn(cluster, driver, number, chosen)?;
         if number < self.instances.len() && self.instances[number].is_gone() {
             self.instances.remove(number);
         }
@@ -181,21 +145,22 @@ impl Run {
     pub(crate) fn take_turn(
         &mut self,
         cluster: &mut Cluster,
+        driver: &mut Driver,
         number: usize,
         choice: Choice,
     ) -> Result<(), AllocError>
-        ensures config { cluster.new.config ≡ cluster.old.config }
-        ensures honest { cluster.new.honest ≡ cluster.old.honest }
+        requires { driver.old.course ≡ cluster.old }
+        ensures { HasAsked cluster.old driver.old cluster.new driver.new }
     {
         if number >= self.instances.len() {
             return Ok(());
         }
         match self.instances[number].turn(&self.plan, choice) {
             Turn::Ask(event) => {
-                let reply = ask(cluster, event)?;
+                let reply = driver.ask(cluster, event)?;
                 self.hear(number, choice, reply)
             }
-            Turn::Again(message) => self.deliver(cluster, message),
+            Turn::Again(message) => self.deliver(cluster, driver, message),
             Turn::Rest => Ok(()),
         }
     }
@@ -217,11 +182,16 @@ impl Run {
     // ---- messages
 
     /// A message arrives.
-    fn deliver(&mut self, cluster: &mut Cluster, message: u64) -> Result<(), AllocError>
-        ensures config { cluster.new.config ≡ cluster.old.config }
-        ensures honest { cluster.new.honest ≡ cluster.old.honest }
+    fn deliver(
+        &mut self,
+        cluster: &mut Cluster,
+        driver: &mut Driver,
+        message: u64,
+    ) -> Result<(), AllocError>
+        requires { driver.old.course ≡ cluster.old }
+        ensures { HasAsked cluster.old driver.old cluster.new driver.new }
     {
-        let reply = ask(cluster, Event::Deliver { message })?;
+        let reply = driver.ask(cluster, Event::Deliver { message })?;
         self.hear_arrival(message, reply);
         Ok(())
     }
@@ -235,12 +205,16 @@ impl Run {
     }
 
     /// The next message arrives, in order.
-    pub(crate) fn carry(&mut self, cluster: &mut Cluster) -> Result<(), AllocError>
-        ensures config { cluster.new.config ≡ cluster.old.config }
-        ensures honest { cluster.new.honest ≡ cluster.old.honest }
+    pub(crate) fn carry(
+        &mut self,
+        cluster: &mut Cluster,
+        driver: &mut Driver,
+    ) -> Result<(), AllocError>
+        requires { driver.old.course ≡ cluster.old }
+        ensures { HasAsked cluster.old driver.old cluster.new driver.new }
     {
         if let Some(message) = self.network.next() {
-            let reply = ask(cluster, Event::Deliver { message })?;
+            let reply = driver.ask(cluster, Event::Deliver { message })?;
             self.network.passed(is_message(reply));
             self.hear_arrival(message, reply);
         }
@@ -248,18 +222,30 @@ impl Run {
     }
 
     /// The next message is lost.
-    fn lose(&mut self) -> Result<(), AllocError> {
-        self.network.lose();
+    fn lose(&mut self, driver: &mut Driver) -> Result<(), AllocError>
+        ensures { driver.new ≡ driver.old }
+    {
+        if self.network.lose() {
+            driver.count_lost();
+        }
         Ok(())
     }
 
     /// A message arrives again, or late.
-    fn repeat(&mut self, cluster: &mut Cluster, choice: u64) -> Result<(), AllocError>
-        ensures config { cluster.new.config ≡ cluster.old.config }
-        ensures honest { cluster.new.honest ≡ cluster.old.honest }
+    fn repeat(
+        &mut self,
+        cluster: &mut Cluster,
+        driver: &mut Driver,
+        choice: u64,
+    ) -> Result<(), AllocError>
+        requires { driver.old.course ≡ cluster.old }
+        ensures { HasAsked cluster.old driver.old cluster.new driver.new }
     {
         match self.network.earlier(choice % 2 == 0, choice / 2) {
-            Some(message) => self.deliver(cluster, message),
+            Some(message) => {
+                driver.count_repeated();
+                self.deliver(cluster, driver, message)
+            }
             None => Ok(()),
         }
     }
@@ -290,19 +276,28 @@ impl Run {
         }
     }
 
-    fn change_members(&mut self, cluster: &mut Cluster) -> Result<(), AllocError>
-        ensures config { cluster.new.config ≡ cluster.old.config }
-        ensures honest { cluster.new.honest ≡ cluster.old.honest }
+    fn change_members(
+        &mut self,
+        cluster: &mut Cluster,
+        driver: &mut Driver,
+    ) -> Result<(), AllocError>
+        requires { driver.old.course ≡ cluster.old }
+        ensures { HasAsked cluster.old driver.old cluster.new driver.new }
     {
-        if let Reply::Done(_) = ask(cluster, Event::Members)? {
+        if let Reply::Done(_) = driver.ask(cluster, Event::Members)? {
             self.plan.change_members();
         }
         Ok(())
     }
 
-    fn restart_broker(&mut self, cluster: &mut Cluster, choice: u64) -> Result<(), AllocError>
-        ensures config { cluster.new.config ≡ cluster.old.config }
-        ensures honest { cluster.new.honest ≡ cluster.old.honest }
+    fn restart_broker(
+        &mut self,
+        cluster: &mut Cluster,
+        driver: &mut Driver,
+        choice: u64,
+    ) -> Result<(), AllocError>
+        requires { driver.old.course ≡ cluster.old }
+        ensures { HasAsked cluster.old driver.old cluster.new driver.new }
     {
         let config = self.plan.config();
         let rest = choice / 4;
@@ -315,7 +310,7 @@ impl Run {
             2 => (b"in".as_slice(), remainder(rest, config.inputs)),
             _ => (b"out".as_slice(), remainder(rest, config.outputs)),
         };
-        ask(
+        driver.ask(
             cluster,
             Event::BrokerRestart {
                 topic: Bytes::from_static(topic),
@@ -325,11 +320,15 @@ impl Run {
         Ok(())
     }
 
-    pub(crate) fn restart_coordinator(&mut self, cluster: &mut Cluster) -> Result<(), AllocError>
-        ensures config { cluster.new.config ≡ cluster.old.config }
-        ensures honest { cluster.new.honest ≡ cluster.old.honest }
+    pub(crate) fn restart_coordinator(
+        &mut self,
+        cluster: &mut Cluster,
+        driver: &mut Driver,
+    ) -> Result<(), AllocError>
+        requires { driver.old.course ≡ cluster.old }
+        ensures { HasAsked cluster.old driver.old cluster.new driver.new }
     {
-        ask(cluster, Event::CoordinatorRestart)?;
+        driver.ask(cluster, Event::CoordinatorRestart)?;
         self.network.may_have_more();
         Ok(())
     }

@@ -1,5 +1,5 @@
-use Rattle.std.proofs.Common.{◌≡◌}
+use Rattle.eos_scripts.specs.steps.Drives.{HasAsked}
 use Rattle.eos_scripts.proofs.tail.end.Given as goal
 
 abbrev pub invariant-loop-place : goal.invariant-loop-place
-invariant-loop-place l = (l.cluster.config ≡ l.fn.cluster.config) × (l.cluster.honest ≡ l.fn.cluster.honest)
+invariant-loop-place l = HasAsked l.fn.cluster l.fn.driver l.cluster l.driver
