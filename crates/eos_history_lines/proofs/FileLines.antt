@@ -1,0 +1,91 @@
+-- The lines of a text, one after the other.
+use Rattle.std.proofs.Common.{◌≡◌, ◌<◌, ℕ, List, [], ◌∷◌, ◌++◌, Bool, true, false, ◌||◌, ◌==◌, Option, None, Some, length, length-append, append_assoc, append-nil, subst, refl, ap, sym, ◌∙◌, arith}
+use Rattle.std.specs.List.{AllZip}
+use Rattle.serde_json.specs.Read.{read}
+use Rattle.eos_history_lines.specs.declared.line.Line.{Line}
+use Rattle.eos_history_lines.specs.declared.line.Tail.{Tail}
+use Rattle.eos_history_lines.specs.Divided.{lines_of}
+use Rattle.eos_history_lines.specs.Lines.{line_value, tail_value}
+use Rattle.eos_history_lines.specs.Files.{SaysLine, SayRows}
+use Rattle.eos_history_lines.specs.steps.Pieces.{has_feed, IsFirstLine, or_nothing}
+
+no_first : (a b : Bool) → (a || b) ≡ false → a ≡ false
+no_first true b h = h
+no_first false b h = refl
+
+no_second : (a b : Bool) → (a || b) ≡ false → b ≡ false
+no_second true b h = absurd (cc h)
+no_second false b h = h
+
+-- the first line feed divides
+divided_there : (before after : List ℕ) → has_feed before ≡ false → lines_of (before ++ 10 ∷ after) ≡ before ∷ lines_of after
+unfolding lines_of
+divided_there [] after h = refl
+divided_there (b ∷ bs) after h = rw (no_first (b == 10) (has_feed bs) h, divided_there bs after (no_second (b == 10) (has_feed bs) h)) refl
+
+-- a line alone
+alone : (byte : ℕ) (text : List ℕ) → has_feed (byte ∷ text) ≡ false → lines_of (byte ∷ text) ≡ (byte ∷ text) ∷ []
+unfolding lines_of
+alone byte [] h = rw (no_first (byte == 10) false h) refl
+alone byte (b ∷ bs) h = rw (no_first (byte == 10) (has_feed (b ∷ bs)) h, alone b bs (no_second (byte == 10) (has_feed (b ∷ bs)) h)) refl
+
+pub line_and_rest : (text line : List ℕ) (rest : Option (List ℕ)) → 0 < length text → IsFirstLine text line rest → lines_of text ≡ line ∷ lines_of (or_nothing rest)
+unfolding lines_of
+line_and_rest [] line None some h = absurd (omega arith)
+line_and_rest (b ∷ bs) line None some h = rw (h.0) (alone b bs (subst (λ (t : List ℕ). has_feed t ≡ false) h.0 h.1))
+line_and_rest text line (Some rest) some h = ap lines_of h.0 ∙ divided_there line rest h.1
+
+pub shorter : (text line : List ℕ) (rest : Option (List ℕ)) → 0 < length text → IsFirstLine text line rest → length (or_nothing rest) < length text
+shorter text line None some h = some
+shorter text line (Some rest) some h = omega (arith, ap length h.0, length-append line (10 ∷ rest))
+
+-- ---- what they say
+
+push_zip : (ts : List (List ℕ)) (ls : List Line) (t : List ℕ) (l : Line) → AllZip SaysLine ts ls → SaysLine t l → AllZip SaysLine (ts ++ t ∷ []) (ls ++ l ∷ [])
+push_zip [] [] t l a h = (h, tt)
+push_zip [] (m ∷ ls) t l a h = absurd a
+push_zip (u ∷ ts) [] t l a h = absurd a
+push_zip (u ∷ ts) (m ∷ ls) t l a h = (a.0, push_zip ts ls t l a.1 h)
+
+pub no_rows : SayRows [] [] None
+no_rows = record { done = []; last = []; parts = refl; each = tt; ends = refl }
+
+one_more : (texts : List (List ℕ)) (lines : List Line) (text : List ℕ) (h : SayRows texts lines None) → texts ++ text ∷ [] ≡ h.done ++ text ∷ []
+one_more texts lines text h = ap (λ ts. ts ++ text ∷ []) (h.parts ∙ ap (λ ts. h.done ++ ts) h.ends ∙ append-nil h.done)
+
+pub one_line : (texts : List (List ℕ)) (lines : List Line) (text : List ℕ) (l : Line) → SayRows texts lines None → read text ≡ Some (line_value l) → SayRows (texts ++ text ∷ []) (lines ++ l ∷ []) None
+one_line texts lines text l h said = record {
+  done = h.done ++ text ∷ [];
+  last = [];
+  parts = one_more texts lines text h ∙ sym (append-nil (h.done ++ text ∷ []));
+  each = push_zip h.done lines text l h.each said;
+  ends = refl;
+}
+
+pub one_tail : (texts : List (List ℕ)) (lines : List Line) (text : List ℕ) (t : Tail) → SayRows texts lines None → read text ≡ Some (tail_value t) → SayRows (texts ++ text ∷ []) lines (Some t)
+one_tail texts lines text t h said = record {
+  done = h.done;
+  last = text ∷ [];
+  parts = one_more texts lines text h;
+  each = h.each;
+  ends = (text, refl, said);
+}
+
+-- what was read of a text, and what is left of it
+pub record Read (whole rest : List ℕ) (lines : List Line) (tail : Option Tail) : Type 0 where
+  pub texts : List (List ℕ)
+  pub split : lines_of whole ≡ texts ++ lines_of rest
+  pub rows : SayRows texts lines tail
+
+pub read_none : (whole : List ℕ) → Read whole whole [] None
+read_none whole = record { texts = []; split = refl; rows = no_rows }
+
+pub read_all : (whole rest : List ℕ) (lines : List Line) (tail : Option Tail) → Read whole rest lines tail → length rest ≡ 0 → SayRows (lines_of whole) lines tail
+unfolding lines_of
+read_all whole [] lines tail h none = subst (λ ts. SayRows ts lines tail) (sym (h.split ∙ append-nil h.texts)) h.rows
+read_all whole (b ∷ bs) lines tail h none = absurd (omega (arith, none))
+
+-- one line more was read
+pub split_more : (whole rest line : List ℕ) (lines : List (List ℕ)) (texts : List (List ℕ)) → lines_of whole ≡ texts ++ lines_of rest → lines_of rest ≡ line ∷ lines
+    → lines_of whole ≡ (texts ++ line ∷ []) ++ lines
+split_more whole rest line lines texts split first = split ∙ ap (λ ls. texts ++ ls) first ∙ sym (append_assoc texts (line ∷ []) lines)

@@ -1,0 +1,3 @@
+pub mod PlainLines
+pub mod FileLines
+pub mod ReadBack

@@ -1,0 +1,260 @@
+//! Events as members of a JSON object, and read from them.
+
+ghost use Rattle.std.specs.Prelude.{◌≡◌, IfOk, OnOk};
+ghost use Rattle.serde_json.specs.View.{view};
+ghost use Rattle.eos_history_lines.specs.steps.Held.{held};
+ghost use Rattle.eos_history_lines.specs.Lines.{with_claim, claim_value, with_arguments, with_event};
+ghost use Rattle.eos_history_lines.specs.steps.Reading.{event_in, event_called, feed_in, start_in, restart_in, deliver_in, event_of_session, produce_in, claim_within, claim_in, commit_in, end_in, fetch_in};
+
+use crate::members::{count_in, integer_in, kind_in, size_in, small_in, text_in};
+use crate::object::Object;
+use crate::words::{event_word, kind_word};
+use bytes::Bytes;
+use eos_machine::{Claim, Event};
+use serde_json::Value;
+use std::alloc::{AllocError, Global};
+
+// ---- written
+
+#[tactic(auto, unfolding(crate::specs::Lines::with_event))]
+pub(crate) fn put_event(alloc: Global, out: &mut Object, event: &Event) -> Result<(), AllocError>
+    ensures { OnOk result (held out.new ≡ with_event event.now (held out.old)) }
+{
+    out.put_str("event", event_word(event))?;
+    put_arguments(alloc, out, event)
+}
+
+#[tactic(auto, unfolding(crate::specs::Lines::with_arguments))]
+fn put_arguments(alloc: Global, out: &mut Object, event: &Event) -> Result<(), AllocError>
+    ensures { OnOk result (held out.new ≡ with_arguments event.now (held out.old)) }
+{
+    match event {
+        Event::Feed { source } => out.put_size("source", *source),
+        Event::Start { application } => out.put_size("application", *application),
+        Event::Produce {
+            session,
+            partition,
+            claim,
+        } => {
+            out.put_size("session", *session)?;
+            out.put_size("partition", *partition)?;
+            out.put("claim", value_of_claim(alloc, claim)?)
+        }
+        Event::Commit {
+            session,
+            source,
+            offset,
+        } => {
+            out.put_size("session", *session)?;
+            out.put_size("source", *source)?;
+            out.put_integer("offset", *offset)
+        }
+        Event::End { session, kind } => {
+            out.put_size("session", *session)?;
+            out.put_str("kind", kind_word(*kind))
+        }
+        Event::Resume { session } => out.put_size("session", *session),
+        Event::Fetch { session, source } => {
+            out.put_size("session", *session)?;
+            out.put_size("source", *source)
+        }
+        Event::BrokerRestart { topic, partition } => {
+            out.put_topic("topic", topic.as_slice())?;
+            out.put_size("partition", *partition)
+        }
+        Event::Members | Event::CoordinatorRestart => Ok(()),
+        Event::Deliver { message } => out.put_count("message", *message),
+    }
+}
+
+#[tactic(auto, unfolding(crate::specs::Lines::claim_value))]
+fn value_of_claim(alloc: Global, claim: &Claim) -> Result<Value, AllocError>
+    ensures { IfOk result (λ value. view value ≡ claim_value claim.now) }
+{
+    let mut made = Object::new(alloc);
+    put_claim(&mut made, claim)?;
+    Ok(made.into_value())
+}
+
+#[tactic(auto, unfolding(crate::specs::Lines::with_claim))]
+fn put_claim(out: &mut Object, claim: &Claim) -> Result<(), AllocError>
+    ensures { OnOk result (held out.new ≡ with_claim claim.now (held out.old)) }
+{
+    out.put_topic("topic", claim.topic.as_slice())?;
+    out.put_integer("partition", i64::from(claim.partition))?;
+    out.put_integer("offset", claim.offset)?;
+    out.put_integer("output", i64::from(claim.output))?;
+    out.put_integer("of", i64::from(claim.of))
+}
+
+// ---- read
+
+/// The event that an object says, or nothing where it says none.
+pub(crate) fn read_event(alloc: Global, value: &Value) -> Result<Option<Event>, AllocError>
+    ensures { IfOk result (λ event. event ≡ event_in (view value.now)) }
+{
+    match text_in(value, "event") {
+        Some(word) => read_event_called(alloc, word, value),
+        None => Ok(None),
+    }
+}
+
+fn read_event_called(alloc: Global, word: &str, value: &Value) -> Result<Option<Event>, AllocError>
+    ensures { IfOk result (λ event. event ≡ event_called word.now (view value.now)) }
+{
+    if word == "feed" {
+        Ok(read_feed(value))
+    } else if word == "start" {
+        Ok(read_start(value))
+    } else if word == "members" {
+        Ok(Some(Event::Members))
+    } else if word == "broker-restart" {
+        read_restart(alloc, value)
+    } else if word == "coordinator-restart" {
+        Ok(Some(Event::CoordinatorRestart))
+    } else if word == "deliver" {
+        Ok(read_delivery(value))
+    } else {
+        read_event_of_session(alloc, word, value)
+    }
+}
+
+fn read_feed(value: &Value) -> Option<Event>
+    ensures { result ≡ feed_in (view value.now) }
+{
+    let source = size_in(value, "source")?;
+    Some(Event::Feed { source })
+}
+
+fn read_start(value: &Value) -> Option<Event>
+    ensures { result ≡ start_in (view value.now) }
+{
+    let application = size_in(value, "application")?;
+    Some(Event::Start { application })
+}
+
+fn read_restart(alloc: Global, value: &Value) -> Result<Option<Event>, AllocError>
+    ensures { IfOk result (λ event. event ≡ restart_in (view value.now)) }
+{
+    let Some(topic) = text_in(value, "topic") else {
+        return Ok(None);
+    };
+    let Some(partition) = size_in(value, "partition") else {
+        return Ok(None);
+    };
+    let topic = Bytes::copy_from_slice(alloc, topic.as_bytes())?;
+    Ok(Some(Event::BrokerRestart { topic, partition }))
+}
+
+fn read_delivery(value: &Value) -> Option<Event>
+    ensures { result ≡ deliver_in (view value.now) }
+{
+    let message = count_in(value, "message")?;
+    Some(Event::Deliver { message })
+}
+
+// ---- those of a session
+
+fn read_event_of_session(
+    alloc: Global,
+    word: &str,
+    value: &Value,
+) -> Result<Option<Event>, AllocError>
+    ensures { IfOk result (λ event. event ≡ event_of_session word.now (view value.now)) }
+{
+    let Some(session) = size_in(value, "session") else {
+        return Ok(None);
+    };
+    if word == "produce" {
+        read_produce(alloc, session, value)
+    } else if word == "commit" {
+        Ok(read_commit(session, value))
+    } else if word == "end" {
+        Ok(read_end(session, value))
+    } else if word == "resume" {
+        Ok(Some(Event::Resume { session }))
+    } else if word == "fetch" {
+        Ok(read_fetch(session, value))
+    } else {
+        Ok(None)
+    }
+}
+
+fn read_produce(alloc: Global, session: usize, value: &Value) -> Result<Option<Event>, AllocError>
+    ensures { IfOk result (λ event. event ≡ produce_in session (view value.now)) }
+{
+    let Some(partition) = size_in(value, "partition") else {
+        return Ok(None);
+    };
+    let Some(claim) = read_claim_in(alloc, value)? else {
+        return Ok(None);
+    };
+    Ok(Some(Event::Produce {
+        session,
+        partition,
+        claim,
+    }))
+}
+
+fn read_claim_in(alloc: Global, value: &Value) -> Result<Option<Claim>, AllocError>
+    ensures { IfOk result (λ claim. claim ≡ claim_within (view value.now)) }
+{
+    match value.get("claim") {
+        Some(claim) => read_claim(alloc, claim),
+        None => Ok(None),
+    }
+}
+
+fn read_claim(alloc: Global, value: &Value) -> Result<Option<Claim>, AllocError>
+    ensures { IfOk result (λ claim. claim ≡ claim_in (view value.now)) }
+{
+    let Some(topic) = text_in(value, "topic") else {
+        return Ok(None);
+    };
+    let Some(partition) = small_in(value, "partition") else {
+        return Ok(None);
+    };
+    let Some(offset) = integer_in(value, "offset") else {
+        return Ok(None);
+    };
+    let Some(output) = small_in(value, "output") else {
+        return Ok(None);
+    };
+    let Some(of) = small_in(value, "of") else {
+        return Ok(None);
+    };
+    let topic = Bytes::copy_from_slice(alloc, topic.as_bytes())?;
+    Ok(Some(Claim {
+        topic,
+        partition,
+        offset,
+        output,
+        of,
+    }))
+}
+
+fn read_commit(session: usize, value: &Value) -> Option<Event>
+    ensures { result ≡ commit_in session (view value.now) }
+{
+    let source = size_in(value, "source")?;
+    let offset = integer_in(value, "offset")?;
+    Some(Event::Commit {
+        session,
+        source,
+        offset,
+    })
+}
+
+fn read_end(session: usize, value: &Value) -> Option<Event>
+    ensures { result ≡ end_in session (view value.now) }
+{
+    let kind = kind_in(value)?;
+    Some(Event::End { session, kind })
+}
+
+fn read_fetch(session: usize, value: &Value) -> Option<Event>
+    ensures { result ≡ fetch_in session (view value.now) }
+{
+    let source = size_in(value, "source")?;
+    Some(Event::Fetch { session, source })
+}

@@ -1,0 +1,105 @@
+//! Lines, read from the members of a JSON object. What is read may lack what stands there besides: the value of what was read is
+//! compared with it afterwards.
+
+ghost use Rattle.std.specs.Prelude.{◌≡◌, IfOk};
+ghost use Rattle.serde_json.specs.View.{view};
+ghost use Rattle.eos_history_lines.specs.steps.Reading.{switches_at, sizes_in, head_in, asked_in, deed_in, line_in, tail_in};
+
+use crate::events::read_event;
+use crate::line::{Deed, Head, Line, Tail};
+use crate::members::{count_in, size_in};
+use crate::replies::read_reply;
+use crate::switch_names::switches_in;
+use eos_machine::{Config, Switches};
+use serde_json::Value;
+use std::alloc::{AllocError, Global};
+
+pub(crate) fn read_head(value: &Value) -> Option<Head>
+    ensures { result ≡ head_in (view value.now) }
+{
+    let config = read_sizes(value)?;
+    let switches = read_switches(value, "switches")?;
+    let seed = count_in(value, "seed")?;
+    let words = count_in(value, "words")?;
+    Some(Head {
+        config,
+        switches,
+        seed,
+        words,
+    })
+}
+
+fn read_sizes(value: &Value) -> Option<Config>
+    ensures { result ≡ sizes_in (view value.now) }
+{
+    let applications = size_in(value, "applications")?;
+    let inputs = size_in(value, "inputs")?;
+    let outputs = size_in(value, "outputs")?;
+    let transaction_logs = size_in(value, "transaction_logs")?;
+    let segment_records = size_in(value, "segment_records")?;
+    Some(Config {
+        applications,
+        inputs,
+        outputs,
+        transaction_logs,
+        segment_records,
+    })
+}
+
+fn read_switches(value: &Value, name: &str) -> Option<Switches>
+    ensures { result ≡ switches_at name.now (view value.now) }
+{
+    let names = value.get(name).and_then(Value::as_array)?;
+    Some(switches_in(names.as_slice()))
+}
+
+pub(crate) fn read_line(alloc: Global, value: &Value) -> Result<Option<Line>, AllocError>
+    ensures { IfOk result (λ line. line ≡ line_in (view value.now)) }
+{
+    let Some(number) = count_in(value, "number") else {
+        return Ok(None);
+    };
+    let Some(deed) = read_deed(alloc, value)? else {
+        return Ok(None);
+    };
+    Ok(Some(Line { number, deed }))
+}
+
+fn read_deed(alloc: Global, value: &Value) -> Result<Option<Deed>, AllocError>
+    ensures { IfOk result (λ deed. deed ≡ deed_in (view value.now)) }
+{
+    match value.get("set") {
+        None => read_asked(alloc, value),
+        Some(names) => match names.as_array() {
+            Some(names) => Ok(Some(Deed::Set(switches_in(names.as_slice())))),
+            None => Ok(None),
+        },
+    }
+}
+
+fn read_asked(alloc: Global, value: &Value) -> Result<Option<Deed>, AllocError>
+    ensures { IfOk result (λ deed. deed ≡ asked_in (view value.now)) }
+{
+    let Some(event) = read_event(alloc, value)? else {
+        return Ok(None);
+    };
+    let Some(reply) = read_reply(value) else {
+        return Ok(None);
+    };
+    Ok(Some(Deed::Asked { event, reply }))
+}
+
+pub(crate) fn read_tail(value: &Value) -> Option<Tail>
+    ensures { result ≡ tail_in (view value.now) }
+{
+    let events = count_in(value, "events")?;
+    let transactions = count_in(value, "transactions")?;
+    let lost = count_in(value, "lost")?;
+    let repeated = count_in(value, "repeated")?;
+    Some(Tail {
+        events,
+        transactions,
+        lost,
+        repeated,
+    })
+}

@@ -1,0 +1,81 @@
+//! Replies, read from the members of a JSON object.
+
+ghost use Rattle.std.specs.Prelude.{◌≡◌};
+ghost use Rattle.serde_json.specs.View.{view};
+ghost use Rattle.eos_history_lines.specs.steps.Reading.{reply_in, reply_said, reply_called, plain_reply, refusal_called};
+
+use crate::members::count_in;
+use eos_machine::Reply;
+use serde_json::Value;
+
+/// The reply that an object says, or that it says none; nothing where what stands there is no reply.
+pub(crate) fn read_reply(value: &Value) -> Option<Option<Reply>>
+    ensures { result ≡ reply_in (view value.now) }
+{
+    match value.get("reply") {
+        None => Some(None),
+        Some(word) => match read_reply_said(word, value) {
+            Some(reply) => Some(Some(reply)),
+            None => None,
+        },
+    }
+}
+
+fn read_reply_said(word: &Value, value: &Value) -> Option<Reply>
+    ensures { result ≡ reply_said (view word.now) (view value.now) }
+{
+    match word.as_str() {
+        Some(word) => read_reply_called(word, value),
+        None => None,
+    }
+}
+
+fn read_reply_called(word: &str, value: &Value) -> Option<Reply>
+    ensures { result ≡ reply_called word.now (view value.now) }
+{
+    if word == "done" {
+        match count_in(value, "value") {
+            Some(number) => Some(Reply::Done(number)),
+            None => None,
+        }
+    } else {
+        plain_reply(word)
+    }
+}
+
+/// A reply that has no value.
+pub(crate) fn plain_reply(word: &str) -> Option<Reply>
+    ensures { result ≡ plain_reply word.now }
+{
+    if word == "fenced" {
+        Some(Reply::Fenced)
+    } else if word == "out-of-order" {
+        Some(Reply::OutOfOrder)
+    } else if word == "duplicate-kept" {
+        Some(Reply::DuplicateKept)
+    } else if word == "wrong-state" {
+        Some(Reply::WrongState)
+    } else if word == "busy" {
+        Some(Reply::Busy)
+    } else {
+        refusal_called(word)
+    }
+}
+
+fn refusal_called(word: &str) -> Option<Reply>
+    ensures { result ≡ refusal_called word.now }
+{
+    if word == "stale-generation" {
+        Some(Reply::StaleGeneration)
+    } else if word == "epochs-spent" {
+        Some(Reply::EpochsSpent)
+    } else if word == "unknown" {
+        Some(Reply::Unknown)
+    } else if word == "out-of-memory" {
+        Some(Reply::OutOfMemory)
+    } else if word == "full" {
+        Some(Reply::Full)
+    } else {
+        None
+    }
+}

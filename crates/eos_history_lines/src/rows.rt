@@ -1,0 +1,145 @@
+//! Lines read from their texts.
+
+ghost use Rattle.std.specs.Prelude.{◌≡◌, ◌≢◌, ◌≤◌, Err, Some, None, IfOk, IfErr, IfSome, IsUtf8, option_map};
+ghost use Rattle.serde_json.specs.Data.{depth};
+ghost use Rattle.serde_json.specs.Read.{read as read_text, max_depth};
+ghost use Rattle.serde_json.specs.View.{view};
+ghost use Rattle.eos_history_lines.specs.Lines.{head_value, row_value};
+ghost use Rattle.eos_history_lines.specs.Fits.{FitsRow};
+ghost use Rattle.eos_history_lines.specs.steps.Reading.{line_in, tail_in, row_in};
+ghost use Rattle.eos_history_lines.specs.declared.fault.LineFault.TheVariants.{NotJson, OutOfMemory};
+ghost use Rattle.eos_history_lines.specs.declared.line.Head.{Head};
+ghost use Rattle.eos_history_lines.specs.declared.line.Row.{Row};
+ghost use Rattle.eos_history_lines.specs.declared.line.Row.TheVariants as rows;
+
+use crate::fault::LineFault;
+use crate::line::{Head, Row};
+use crate::mistake::Mistake;
+use crate::reader::{read_head, read_line, read_tail};
+use crate::same::is_same;
+use crate::search::{mistake_of_head, mistake_of_line, mistake_of_tail};
+use crate::values::{value_of_head, value_of_row};
+use serde_json::Value;
+use std::alloc::{AllocError, Global};
+
+/// The first line of a history, whatever the order of its members.
+///
+/// # Errors
+/// `NotJson` where it is no JSON text; `Mistaken` where it has another value than a first line has; `OutOfMemory`.
+pub fn head_of(alloc: Global, text: &[u8]) -> Result<Head, LineFault>
+    ensures ok { IfOk result (λ head. read_text text.now ≡ Some (head_value head)) }
+    ensures json { result ≡ Err NotJson → IsUtf8 text.now → read_text text.now ≡ None }
+    ensures err { IfErr result (λ e. e ≢ OutOfMemory → IsUtf8 text.now → (head : Head) → read_text text.now ≢ Some (head_value head)) }
+{
+    let value = match parse(alloc, text) {
+        Ok(value) => value,
+        Err(fault) => return Err(fault),
+    };
+    match exact_head(alloc, &value) {
+        Ok(Some(head)) => Ok(head),
+        Ok(None) => Err(LineFault::Mistaken(mistake_of_head(&value))),
+        Err(_) => Err(LineFault::OutOfMemory),
+    }
+}
+
+/// A line of a history after its first, whatever the order of its members. One whose topics aren't UTF-8 may be refused.
+///
+/// # Errors
+/// `NotJson` where it is no JSON text; `Mistaken` where it has another value than such a line has; `OutOfMemory`.
+pub fn row_of(alloc: Global, text: &[u8]) -> Result<Row, LineFault>
+    ensures ok { IfOk result (λ row. read_text text.now ≡ Some (row_value row)) }
+    ensures json { result ≡ Err NotJson → IsUtf8 text.now → read_text text.now ≡ None }
+    ensures err { IfErr result (λ e. e ≢ OutOfMemory → IsUtf8 text.now → (row : Row) → FitsRow row → read_text text.now ≢ Some (row_value row)) }
+{
+    let value = match parse(alloc, text) {
+        Ok(value) => value,
+        Err(fault) => return Err(fault),
+    };
+    match exact_row(alloc, &value) {
+        Ok(Some(row)) => Ok(row),
+        Ok(None) => Err(LineFault::Mistaken(mistake_of_row(&value))),
+        Err(_) => Err(LineFault::OutOfMemory),
+    }
+}
+
+/// The JSON value of a text.
+fn parse(alloc: Global, text: &[u8]) -> Result<Value, LineFault>
+    ensures ok { IfOk result (λ value. read_text text.now ≡ Some (view value)) }
+    ensures shallow { IfOk result (λ value. depth (view value) ≤ max_depth) }
+    ensures json { result ≡ Err NotJson → IsUtf8 text.now → read_text text.now ≡ None }
+    ensures err { IfErr result (λ e. e ≢ OutOfMemory → IsUtf8 text.now → read_text text.now ≡ None) }
+{
+    match Value::from_slice(alloc, text) {
+        Ok(value) => Ok(value),
+        Err(error) => {
+            if error.is_memory() {
+                Err(LineFault::OutOfMemory)
+            } else {
+                Err(LineFault::NotJson)
+            }
+        }
+    }
+}
+
+/// The first line whose value this is, if there is one.
+fn exact_head(alloc: Global, value: &Value) -> Result<Option<Head>, AllocError>
+    requires { depth (view value.now) ≤ max_depth }
+    ensures some { IfOk result (λ head. IfSome head (λ h. view value.now ≡ head_value h)) }
+    ensures none { IfOk result (λ head. head ≡ None → (h : Head) → view value.now ≢ head_value h) }
+{
+    let Some(head) = read_head(value) else {
+        return Ok(None);
+    };
+    let written = value_of_head(alloc, &head)?;
+    let same = is_same(alloc, value, &written)?;
+    if same { Ok(Some(head)) } else { Ok(None) }
+}
+
+/// The line after the first whose value this is, if there is one.
+fn exact_row(alloc: Global, value: &Value) -> Result<Option<Row>, AllocError>
+    requires { depth (view value.now) ≤ max_depth }
+    ensures some { IfOk result (λ row. IfSome row (λ r. view value.now ≡ row_value r)) }
+    ensures none { IfOk result (λ row. row ≡ None → (r : Row) → FitsRow r → view value.now ≢ row_value r) }
+{
+    let found = read_row(alloc, value)?;
+    let Some(row) = found else {
+        return Ok(None);
+    };
+    let written = value_of_row(alloc, &row)?;
+    let same = is_same(alloc, value, &written)?;
+    if same { Ok(Some(row)) } else { Ok(None) }
+}
+
+fn read_row(alloc: Global, value: &Value) -> Result<Option<Row>, AllocError>
+    ensures { IfOk result (λ row. row ≡ row_in (view value.now)) }
+{
+    match value.get("events") {
+        Some(_) => Ok(read_last_row(value)),
+        None => read_line_row(alloc, value),
+    }
+}
+
+fn read_last_row(value: &Value) -> Option<Row>
+    ensures { result ≡ option_map (λ t. rows.Tail t) (tail_in (view value.now)) }
+{
+    match read_tail(value) {
+        Some(tail) => Some(Row::Tail(tail)),
+        None => None,
+    }
+}
+
+fn read_line_row(alloc: Global, value: &Value) -> Result<Option<Row>, AllocError>
+    ensures { IfOk result (λ row. row ≡ option_map (λ l. rows.Line l) (line_in (view value.now))) }
+{
+    match read_line(alloc, value)? {
+        Some(line) => Ok(Some(Row::Line(line))),
+        None => Ok(None),
+    }
+}
+
+fn mistake_of_row(value: &Value) -> Mistake {
+    match value.get("events") {
+        Some(_) => mistake_of_tail(value),
+        None => mistake_of_line(value),
+    }
+}

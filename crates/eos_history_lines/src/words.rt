@@ -1,0 +1,52 @@
+//! The words of a history.
+
+ghost use Rattle.std.specs.Prelude.{◌≡◌};
+ghost use Rattle.eos_history_lines.specs.Words.{kind_word, event_word, reply_word};
+
+use eos_batch::Kind;
+use eos_machine::{Event, Reply};
+
+pub(crate) fn kind_word(kind: Kind) -> &'static str
+    ensures { result.now ≡ kind_word kind }
+{
+    match kind {
+        Kind::Commit => "commit",
+        Kind::Abort => "abort",
+    }
+}
+
+pub(crate) fn event_word(event: &Event) -> &'static str
+    ensures { result.now ≡ event_word event.now }
+{
+    match event {
+        Event::Feed { .. } => "feed",
+        Event::Start { .. } => "start",
+        Event::Produce { .. } => "produce",
+        Event::Commit { .. } => "commit",
+        Event::End { .. } => "end",
+        Event::Resume { .. } => "resume",
+        Event::Fetch { .. } => "fetch",
+        Event::Members => "members",
+        Event::BrokerRestart { .. } => "broker-restart",
+        Event::CoordinatorRestart => "coordinator-restart",
+        Event::Deliver { .. } => "deliver",
+    }
+}
+
+pub(crate) fn reply_word(reply: Reply) -> &'static str
+    ensures { result.now ≡ reply_word reply }
+{
+    match reply {
+        Reply::Done(_) => "done",
+        Reply::Fenced => "fenced",
+        Reply::OutOfOrder => "out-of-order",
+        Reply::DuplicateKept => "duplicate-kept",
+        Reply::WrongState => "wrong-state",
+        Reply::Busy => "busy",
+        Reply::StaleGeneration => "stale-generation",
+        Reply::EpochsSpent => "epochs-spent",
+        Reply::Unknown => "unknown",
+        Reply::OutOfMemory => "out-of-memory",
+        Reply::Full => "full",
+    }
+}
