@@ -119,9 +119,15 @@ _eoscheck() {
     --mishap)
       mapfile -t COMPREPLY < <(compgen -W '' -- "$word")
       return ;;
+    --history)
+      mapfile -t COMPREPLY < <(compgen -f -- "$word")
+      return ;;
+    --schedule)
+      mapfile -t COMPREPLY < <(compgen -f -- "$word")
+      return ;;
     esac
     case $word in
-    -*) mapfile -t COMPREPLY < <(compgen -W '--seed --events --applications --inputs --outputs --transaction-logs --segment-records --lose --repeat --abandon --members --restart-broker --restart-coordinator --abort --switch --switch-at --mishap -h --help' -- "$word") ;;
+    -*) mapfile -t COMPREPLY < <(compgen -W '--seed --events --applications --inputs --outputs --transaction-logs --segment-records --lose --repeat --abandon --members --restart-broker --restart-coordinator --abort --switch --switch-at --mishap --history --schedule -h --help' -- "$word") ;;
     *) mapfile -t COMPREPLY < <(compgen -d -- "$word") ;;
     esac ;;
   esac

@@ -44,4 +44,6 @@ complete -c eoscheck -n '__fish_seen_subcommand_from simulate' -l abort -x -d 'W
 complete -c eoscheck -n '__fish_seen_subcommand_from simulate' -l switch -x -a 'keep-duplicates no-fence no-bump lose-marker swap-marker hide-listing ignore-generation' -d 'A rule that the cluster breaks; may be repeated'
 complete -c eoscheck -n '__fish_seen_subcommand_from simulate' -l switch-at -x -d 'Breaks them after so many words, not after the script'
 complete -c eoscheck -n '__fish_seen_subcommand_from simulate' -l mishap -x -d 'A mistake of an application, once; may be repeated'
+complete -c eoscheck -n '__fish_seen_subcommand_from simulate' -l history -r -d 'Writes all that happens to this new file, as JSON lines'
+complete -c eoscheck -n '__fish_seen_subcommand_from simulate' -l schedule -r -d 'Runs the lines of such a file, in place of a script'
 complete -c eoscheck -n '__fish_seen_subcommand_from simulate' -s h -l help -d 'Print help'

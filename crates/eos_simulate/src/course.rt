@@ -5,6 +5,7 @@ ghost use Rattle.eos_machine.specs.Switching.{switch_name, any_on};
 
 use crate::making::SimulationFault;
 use eos_cluster::{Switch, Switches};
+use eos_history_lines::Head;
 use eos_machine::Config;
 use eos_scripts::{ChosenMishap, Rates, Settings, Turning};
 use eos_words::{Simulation, Sizes, Thousandths};
@@ -70,6 +71,16 @@ impl Course {
             switch_at: words.switch_at,
             mishaps: mishaps_of(alloc, words.mishaps.as_slice())?,
         })
+    }
+
+    /// The first line of its history.
+    pub(crate) fn head(&self) -> Head {
+        Head {
+            config: self.config,
+            switches: self.switches,
+            seed: self.seed,
+            words: self.words,
+        }
     }
 
     /// What its run is besides its script.

@@ -1,10 +1,17 @@
-//! The command `simulate`: what its words make of a simulated cluster, the evidence that this leaves, and its folder.
+//! The command `simulate`: what its words or a schedule make of a simulated cluster, the evidence that this leaves, its folder,
+//! and the history of it.
 #![tactic(auto)]
 
 mod course;
 mod folder;
+mod history_file;
+mod kept;
 mod making;
+mod replaying;
+mod schedule_file;
 
 pub use course::Course;
 pub use folder::simulate_folder;
+pub use kept::simulate_kept;
 pub use making::{SimulationFault, simulate, told_to};
+pub use replaying::{ReplayFault, replay};

@@ -3,8 +3,11 @@
 ghost use Rattle.std.specs.Prelude.{◌≡◌, true, false, Err, IfOk, OnErr, string_bytes};
 ghost use Rattle.std.specs.Io.KnownBytes.{Appends, Keeps};
 ghost use Rattle.eos_text.specs.Writing.{WritesFront};
+ghost use Rattle.eos_logs.specs.Evidences.{IsEvidenceOf};
+ghost use Rattle.eos_logs.specs.Schedules.{IsOfSchedule};
 ghost use Rattle.eos_machine.specs.Switching.{any_on};
 ghost use Rattle.eos_schedules.specs.Schedules.{HasRightLogs, HasNoFaultInLogs};
+ghost use Rattle.eos_simulate.specs.Histories.{new_course};
 ghost use Rattle.eos_simulate.specs.Simulated.{wrote_line};
 ghost use Rattle.eos_segment.specs.Running.{IsOfReading};
 ghost use Rattle.eos_simulate.specs.declared.making.SimulationFault.TheVariants.{OutOfMemory};
@@ -12,7 +15,8 @@ ghost use Rattle.eos_simulate.specs.declared.making.SimulationFault.TheVariants.
 use crate::course::{Course, SWITCHES, is_on};
 use eos_cluster::{Cluster, EvidenceRefusal, NewFault, Switches};
 use eos_evidence::Evidence;
-use eos_scripts::{Script, run_tail, run_with};
+use eos_machine::Config;
+use eos_scripts::{Mishap, Script, run_tail, run_with};
 use eos_segment::RunFault;
 use eos_text::{finish, push_text, push_value};
 use std::alloc::{AllocError, AllocFailed, Global};
@@ -50,6 +54,7 @@ impl<T: Drop> From<AllocFailed<T>> for SimulationFault {
 /// What a cluster leaves that is driven by the words of a seed's script. With switches it breaks these rules, if not inside the
 /// script then afterwards, in a few further events each. Without one its logs have no fault.
 pub fn simulate(alloc: Global, course: &Course) -> Result<Evidence, SimulationFault>
+    ensures schedule { any_on course.now.switches ≡ false → IfOk result IsOfSchedule }
     ensures right { any_on course.now.switches ≡ false → IfOk result HasRightLogs }
     ensures faultless { any_on course.now.switches ≡ false → IfOk result HasNoFaultInLogs }
 {
@@ -71,24 +76,40 @@ fn show(cluster: &mut Cluster, switches: Switches) -> Result<(), AllocError> {
     Ok(())
 }
 
+/// A cluster of these sizes before any event.
+pub(crate) fn new_cluster(alloc: Global, config: Config) -> Result<Cluster, SimulationFault>
+    ensures { IfOk result (λ cluster. cluster ≡ new_course config) }
+{
+    match Cluster::new(alloc, config) {
+        Ok(cluster) => Ok(cluster),
+        Err(NewFault::Range) => Err(SimulationFault::Limit),
+        Err(NewFault::OutOfMemory) => Err(SimulationFault::OutOfMemory),
+    }
+}
+
 /// A cluster that has done what the script says.
 fn driven(alloc: Global, course: &Course) -> Result<Cluster, SimulationFault>
     ensures { any_on course.now.switches ≡ false → IfOk result (λ cluster. cluster.honest ≡ true) }
 {
-    let mut cluster = match Cluster::new(alloc, course.config) {
-        Ok(cluster) => cluster,
-        Err(NewFault::Range) => return Err(SimulationFault::Limit),
-        Err(NewFault::OutOfMemory) => return Err(SimulationFault::OutOfMemory),
-    };
+    let mut cluster = new_cluster(alloc, course.config)?;
     let script = Script::from_seed(alloc, course.seed, course.words)?;
-    match run_with(alloc, &mut cluster, &script, &course.settings())? {
-        None => Ok(cluster),
+    let unmet = run_with(alloc, &mut cluster, &script, &course.settings())?;
+    none_unmet(unmet)?;
+    Ok(cluster)
+}
+
+/// Refuses a mishap that didn't happen.
+pub(crate) fn none_unmet(unmet: Option<Mishap>) -> Result<(), SimulationFault> {
+    match unmet {
+        None => Ok(()),
         Some(mishap) => Err(SimulationFault::Unfit(mishap.name(), "no input suits this mishap")),
     }
 }
 
 /// The cluster's logs.
-fn evidence_of(cluster: &Cluster) -> Result<Evidence, SimulationFault>
+pub(crate) fn evidence_of(cluster: &Cluster) -> Result<Evidence, SimulationFault>
+    ensures evidence { IfOk result (IsEvidenceOf cluster.now.config cluster.now.world) }
+    ensures schedule { cluster.now.honest ≡ true → IfOk result IsOfSchedule }
     ensures right { cluster.now.honest ≡ true → IfOk result HasRightLogs }
     ensures faultless { cluster.now.honest ≡ true → IfOk result HasNoFaultInLogs }
 {

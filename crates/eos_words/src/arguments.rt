@@ -99,6 +99,8 @@ impl Subcommand {
                 Argument::Switch,
                 Argument::SwitchAt,
                 Argument::Mishap,
+                Argument::History,
+                Argument::Schedule,
                 Argument::NewFolder,
             ],
         }
@@ -138,6 +140,8 @@ pub(crate) enum Argument {
     Switch,
     SwitchAt,
     Mishap,
+    History,
+    Schedule,
     NewFolder,
     Version1,
     App,
@@ -173,6 +177,27 @@ static SWITCHES: [&str; 7] = [
 
 static READINGS: [&str; 3] = ["outputs", "transactions", "offsets"];
 
+/// What a schedule says already.
+static SCHEDULED: [&str; 17] = [
+    "seed",
+    "events",
+    "applications",
+    "inputs",
+    "outputs",
+    "transaction-logs",
+    "segment-records",
+    "lose",
+    "repeat",
+    "abandon",
+    "members",
+    "restart-broker",
+    "restart-coordinator",
+    "abort",
+    "switch",
+    "switch-at",
+    "mishap",
+];
+
 impl Argument {
     /// The name by which it is asked for, and written where it isn't written alone.
     pub(crate) fn name<'a>(self) -> &'a str {
@@ -207,6 +232,8 @@ impl Argument {
             Argument::Switch => "switch",
             Argument::SwitchAt => "switch-at",
             Argument::Mishap => "mishap",
+            Argument::History => "history",
+            Argument::Schedule => "schedule",
             Argument::Version1 => "version1",
             Argument::App => "app",
             Argument::Ends => "ends",
@@ -241,7 +268,11 @@ impl Argument {
             Argument::Folders | Argument::NewFolder | Argument::CopiedFolder => "FOLDER",
             Argument::As => "RECORDS",
             Argument::From | Argument::To => "OFFSET",
-            Argument::File | Argument::Ends | Argument::Report => "FILE",
+            Argument::File
+            | Argument::Ends
+            | Argument::Report
+            | Argument::History
+            | Argument::Schedule => "FILE",
             Argument::App => "GROUP:SOURCE,..:OUTPUT,..",
             Argument::Code => "CODE",
             Argument::Seed => "S",
@@ -284,6 +315,8 @@ impl Argument {
             Argument::Switch => "A rule that the cluster breaks; may be repeated",
             Argument::Mishap => "A mistake of an application, once; may be repeated",
             Argument::SwitchAt => "Breaks them after so many words, not after the script",
+            Argument::History => "Writes all that happens to this new file, as JSON lines",
+            Argument::Schedule => "Runs the lines of such a file, in place of a script",
             Argument::Version1 => "Wants a manifest of version 1, which takes one --app",
             Argument::App => "An application, its sources and its outputs; may be repeated",
             Argument::Ends => "Lines TOPIC:PARTITION:OFFSET; - is the standard input",
@@ -316,6 +349,8 @@ impl Argument {
                 | Argument::Switch
                 | Argument::SwitchAt
                 | Argument::Mishap
+                | Argument::History
+                | Argument::Schedule
                 | Argument::Headers
                 | Argument::Decode
                 | Argument::As
@@ -325,6 +360,14 @@ impl Argument {
                 | Argument::Ends
                 | Argument::EndsFromLogs
         )
+    }
+
+    /// The names of those that may not stand beside it. One that has to be there may then be left out.
+    pub(crate) fn excluded(self) -> &'static [&'static str] {
+        match self {
+            Argument::Schedule => &SCHEDULED,
+            _ => &[],
+        }
     }
 
     pub(crate) fn form<'a>(self) -> Form<'a> {
@@ -339,7 +382,9 @@ impl Argument {
             | Argument::EndsFromLogs => Form::Flag,
             Argument::Folders => Form::Several,
             Argument::NewFolder | Argument::CopiedFolder | Argument::File => Form::Alone,
-            Argument::Ends | Argument::Report => Form::Valued(ValueParser::NonEmptyString),
+            Argument::Ends | Argument::Report | Argument::History | Argument::Schedule => {
+                Form::Valued(ValueParser::NonEmptyString)
+            }
             Argument::App | Argument::Mishap => Form::Repeated(ValueParser::NonEmptyString),
             Argument::Seed | Argument::From | Argument::To => {
                 Form::Valued(ValueParser::Unsigned(0, u64::MAX))

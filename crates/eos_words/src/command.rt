@@ -87,7 +87,7 @@ fn make_subcommands<'a>(alloc: Global) -> Result<Vec<Command<'a>>, AllocError> {
 fn make_subcommand<'a>(alloc: Global, it: Subcommand) -> Result<Command<'a>, AllocError> {
     let mut arguments = Vec::new(alloc);
     for argument in it.arguments() {
-        arguments.push(make_argument(alloc, *argument))?;
+        arguments.push(make_argument(alloc, *argument)?)?;
     }
     Command::new(alloc, it.name())
         .about(it.about())
@@ -95,7 +95,11 @@ fn make_subcommand<'a>(alloc: Global, it: Subcommand) -> Result<Command<'a>, All
         .args(arguments)
 }
 
-fn make_argument<'a>(alloc: Global, it: Argument) -> Arg<'a> {
+fn make_argument<'a>(alloc: Global, it: Argument) -> Result<Arg<'a>, AllocError> {
+    make_form(alloc, it).conflicts_with_all(it.excluded())
+}
+
+fn make_form<'a>(alloc: Global, it: Argument) -> Arg<'a> {
     let argument = Arg::new(alloc, it.name())
         .help(it.help())
         .required(it.is_required());
@@ -200,25 +204,41 @@ fn read_simulate<'a>(
     alloc: Global,
     inner: &ArgMatches<'a>,
 ) -> Result<Option<Request<'a>>, AllocError> {
-    let Some(seed) = inner.get_one::<u64>("seed") else {
-        return Ok(None);
-    };
-    let Some(events) = inner.get_one::<u64>("events") else {
+    let Some(script) = read_script(inner) else {
         return Ok(None);
     };
     let Some(folder) = inner.get_str("folder") else {
         return Ok(None);
     };
     Ok(Some(Request::Simulate(Simulation {
-        seed,
-        events,
+        seed: script.seed,
+        events: script.events,
         sizes: read_sizes(inner),
         rates: read_rates(inner),
         switches: read_all(alloc, inner, "switch")?,
         switch_at: inner.get_one::<u64>("switch-at"),
         mishaps: read_all(alloc, inner, "mishap")?,
+        history: inner.get_str("history"),
+        schedule: inner.get_str("schedule"),
         folder,
     })))
+}
+
+/// What a script is drawn from, and the number of its words.
+#[derive(Clone, Copy)]
+struct ScriptWords {
+    seed: u64,
+    events: u64,
+}
+
+/// Where a schedule is run, there is no script.
+fn read_script(inner: &ArgMatches<'_>) -> Option<ScriptWords> {
+    if inner.get_str("schedule").is_some() {
+        return Some(ScriptWords { seed: 0, events: 0 });
+    }
+    let seed = inner.get_one::<u64>("seed")?;
+    let events = inner.get_one::<u64>("events")?;
+    Some(ScriptWords { seed, events })
 }
 
 /// All values of an argument that may be repeated.

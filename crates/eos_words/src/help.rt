@@ -260,5 +260,13 @@ that suits. An input at offset O has O modulo 3 outputs, or a note where that is
   foreign-source     5.5 ForeignSource      an output of a topic nobody reads
   other-transaction  5.12 OtherTransaction  its outputs one transaction early
 
+With --history all that happens is written to FILE, which must not be there, as
+JSON lines (docs/SIMULATOR.md): what the cluster is, each event with its reply,
+and the totals. --schedule runs the lines of such a file, so that they can be
+cut, edited and run again. It says what --seed, --events, the sizes, the rates,
+--switch, --switch-at and --mishap would say, so none of them goes with it; a
+reply may be left out, and one that comes out differently is told with its
+number (status 1).
+
 It shows what a fault looks like and that the checker finds it, and says nothing
 of real brokers.";

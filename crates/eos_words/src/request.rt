@@ -59,9 +59,9 @@ pub struct Check<'a> {
 /// What a simulated cluster is to do.
 #[derive(Drop)]
 pub struct Simulation<'a> {
-    /// The seed of its script.
+    /// The seed of its script, or 0 where a schedule is run.
     pub seed: u64,
-    /// The number of the script's words, at most 10,000.
+    /// The number of the script's words, at most 10,000, or 0 where a schedule is run.
     pub events: u64,
     /// How large the cluster is.
     pub sizes: Sizes,
@@ -73,6 +73,10 @@ pub struct Simulation<'a> {
     pub switch_at: Option<u64>,
     /// The words of the mistakes that the applications make.
     pub mishaps: Vec<&'a str>,
+    /// The file that is made of what happens, if one is wanted.
+    pub history: Option<&'a str>,
+    /// The file of what is to happen, if it isn't a script. Then nothing else is said but a history and the folder.
+    pub schedule: Option<&'a str>,
     /// The folder that is made.
     pub folder: &'a str,
 }

@@ -3,9 +3,8 @@
 use crate::check::{Asked, check_to};
 use crate::notes::say_notes;
 use crate::progress::{Meter, Progress};
-use crate::report::{fill_file, make_file};
 use eos_commands::{answer_segment, explain_code, init_folder};
-use eos_ending::{Ending, STANDARD, Subject, end, end_about};
+use eos_ending::{Ending, STANDARD, Subject, end, end_about, fill_file, make_file};
 use eos_evidence::Evidence;
 use eos_folder::{Cause, FolderFault, read_folder};
 use eos_json_report::About;

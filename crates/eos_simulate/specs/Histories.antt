@@ -1,0 +1,39 @@
+-- What was done to a simulated cluster, and the evidence that it leaves.
+use Rattle.std.specs.Prelude.{◌≡◌, true, List, [], ◌∷◌, map, None}
+use Rattle.eos_evidence.specs.Evidence.{EvidenceParts}
+use Rattle.eos_machine.specs.declared.config.Config.{Config}
+use Rattle.eos_machine.specs.Switching.{none}
+use Rattle.eos_machine.specs.World.{opening}
+use Rattle.eos_cluster.specs.Courses.{Course}
+use Rattle.eos_logs.specs.Evidences.{IsEvidenceOf}
+use Rattle.eos_scripts.specs.declared.deed.Deed.{Deed}
+use Rattle.eos_scripts.specs.declared.deed.Deed.TheVariants as done
+use Rattle.eos_scripts.specs.Driven.{Leads}
+use Rattle.eos_history_lines.specs.declared.line.Deed.{Deed as SaidDeed}
+use Rattle.eos_history_lines.specs.declared.line.Deed.TheVariants as said
+use Rattle.eos_history_lines.specs.declared.line.Line.{Line}
+
+-- a cluster of these sizes before any event
+abbrev pub new_course : Config → Course
+new_course c = record { config = c; world = opening c; switches = none; honest = true }
+
+-- these deeds, one after the other, lead a new cluster of these sizes to a state of which this is the evidence
+pub record IsLeftBy (c : Config) (deeds : List Deed) (e : EvidenceParts) : Type 0 where
+  pub course : Course
+  pub leads : Leads (new_course c) deeds course
+  pub evidence : IsEvidenceOf course.config course.world e
+
+-- what was done, and what a line says of it, without the replies
+abbrev pub act_of : Deed → SaidDeed
+act_of (done.Asked event reply) = said.Asked event None
+act_of (done.Set switches) = said.Set switches
+
+abbrev pub act_said : SaidDeed → SaidDeed
+act_said (said.Asked event reply) = said.Asked event None
+act_said (said.Set switches) = said.Set switches
+
+abbrev pub acts_of : List Deed → List SaidDeed
+acts_of ds = map act_of ds
+
+abbrev pub acts_said : List Line → List SaidDeed
+acts_said ls = map (λ l. act_said l.deed) ls

@@ -1,0 +1,88 @@
+//! Making the evidence, with a history of what was done for it.
+
+ghost use Rattle.std.specs.Prelude.{◌≡◌, [], true, false, IfOk};
+ghost use Rattle.eos_logs.specs.Schedules.{IsOfSchedule};
+ghost use Rattle.eos_machine.specs.Switching.{any_on};
+ghost use Rattle.eos_schedules.specs.Schedules.{HasRightLogs, HasNoFaultInLogs};
+ghost use Rattle.eos_scripts.specs.Driven.{IsKept};
+ghost use Rattle.eos_simulate.specs.Histories.{new_course, IsLeftBy};
+
+use crate::course::{Course, SWITCHES, is_on};
+use crate::making::{SimulationFault, evidence_of, new_cluster, none_unmet};
+use eos_cluster::{Cluster, Switches};
+use eos_evidence::Evidence;
+use eos_scripts::{History, Script, run_kept, run_tail_kept};
+use std::alloc::{AllocError, Global};
+
+/// What `simulate` makes, and keeps in a history what is done to the cluster.
+pub fn simulate_kept(
+    alloc: Global,
+    course: &Course,
+    history: &mut History,
+) -> Result<Evidence, SimulationFault>
+    ensures kept { history.old ≡ [] → IfOk result (IsLeftBy course.now.config history.new) }
+    ensures schedule { any_on course.now.switches ≡ false → IfOk result IsOfSchedule }
+    ensures right { any_on course.now.switches ≡ false → IfOk result HasRightLogs }
+    ensures faultless { any_on course.now.switches ≡ false → IfOk result HasNoFaultInLogs }
+{
+    let cluster = broken(alloc, course, history)?;
+    evidence_of(&cluster)
+}
+
+/// A cluster that has done what the script says, and then has broken the rules whose switches are on.
+#[tactic(auto, using(crate::proofs::Deeds::kept_on))]
+fn broken(alloc: Global, course: &Course, history: &mut History) -> Result<Cluster, SimulationFault>
+    ensures kept { IfOk result (λ cluster. IsKept (new_course course.now.config) history.old cluster history.new) }
+    ensures honest { any_on course.now.switches ≡ false → IfOk result (λ cluster. cluster.honest ≡ true) }
+{
+    let mut cluster = driven(alloc, course, history)?;
+    break_rules(alloc, &mut cluster, history, course.switches)?;
+    Ok(cluster)
+}
+
+fn driven(alloc: Global, course: &Course, history: &mut History) -> Result<Cluster, SimulationFault>
+    ensures kept { IfOk result (λ cluster. IsKept (new_course course.now.config) history.old cluster history.new) }
+    ensures honest { any_on course.now.switches ≡ false → IfOk result (λ cluster. cluster.honest ≡ true) }
+{
+    let mut cluster = new_cluster(alloc, course.config)?;
+    let script = Script::from_seed(alloc, course.seed, course.words)?;
+    let settings = course.settings();
+    let unmet = run_kept(alloc, &mut cluster, history, &script, &settings)?;
+    none_unmet(unmet)?;
+    Ok(cluster)
+}
+
+/// Sets the switches, if any is on, and drives the cluster by the events that show those which are.
+#[tactic(auto, using(crate::proofs::Deeds::kept_on, crate::proofs::Deeds::kept_still))]
+fn break_rules(
+    alloc: Global,
+    cluster: &mut Cluster,
+    history: &mut History,
+    switches: Switches,
+) -> Result<(), AllocError>
+    ensures kept { IsKept cluster.old history.old cluster.new history.new }
+    ensures honest { any_on switches ≡ false → cluster.new.honest ≡ cluster.old.honest }
+{
+    if !switches.any_on() {
+        return Ok(());
+    }
+    history.set(cluster, switches)?;
+    show(alloc, cluster, history, switches)
+}
+
+#[tactic(auto, using(crate::proofs::Deeds::kept_on, crate::proofs::Deeds::kept_still))]
+fn show(
+    alloc: Global,
+    cluster: &mut Cluster,
+    history: &mut History,
+    switches: Switches,
+) -> Result<(), AllocError>
+    ensures { IsKept cluster.old history.old cluster.new history.new }
+{
+    for switch in SWITCHES {
+        if is_on(switches, switch) {
+            run_tail_kept(alloc, cluster, history, switch)?;
+        }
+    }
+    Ok(())
+}
