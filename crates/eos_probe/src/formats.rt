@@ -3,6 +3,7 @@
 mod batch;
 mod claims;
 mod evidence;
+mod history;
 mod names;
 mod offsets;
 mod touches;
@@ -35,7 +36,14 @@ pub(crate) fn of_bytes(
 ) -> Result<(), AllocError> {
     let (first, more) = first_of(rest);
     match bytes_of(alloc, notes, first) {
-        Ok(bytes) => wire::answer(alloc, notes, line, call, &bytes, more),
+        Ok(bytes) => match call {
+            "read_history_head"
+            | "read_history_row"
+            | "read_history"
+            | "write_history"
+            | "history_fault" => history::answer(alloc, notes, line, call, &bytes),
+            _ => wire::answer(alloc, notes, line, call, &bytes, more),
+        },
         Err(error) => Err(error),
     }
 }

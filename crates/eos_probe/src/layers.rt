@@ -27,7 +27,9 @@ pub(crate) fn answer<R: Threads + Sync>(
             logs::answer(alloc, notes, line, call, rest)
         }
         "summarise" => rungs::answer(alloc, notes, line, rest),
-        "txn_log" | "match_shards" => transactions::answer(alloc, notes, line, call, rest),
+        "txn_log" | "all_log_faults" | "match_shards" => {
+            transactions::answer(alloc, notes, line, call, rest)
+        }
         "verdict" => verdicts::both(alloc, notes, line, rest),
         "write_verdict" => verdicts::written(alloc, notes, line, rest),
         _ => applications::answer(rt, alloc, notes, line, call, rest),

@@ -1,0 +1,328 @@
+#!/usr/bin/env -S python3 -B
+"""What `simulate --history` writes, and what `simulate --schedule` makes of it.
+
+    tests/histories.py PROGRAM [REFUSE.SO]
+
+A folder is the same with a history and without one; its history's lines count up, and its totals are those that this file
+counts in the lines, and the transactions those of `check`. Run again, each history gives the same folder byte for byte: of
+random scripts with random sizes, rates, switches and mishaps. Schedules written by hand have an answer worked out by hand.
+Lines that are cut, edited, broken or answered otherwise are told with their numbers, and nothing is left. With REFUSE.SO
+(tests/refuse.c, built) the allocations of a run are refused. Prints what is wrong, and as its last line 'N passed, N failed'.
+"""
+import concurrent.futures
+import filecmp
+import json
+import os
+import random
+import re
+import shutil
+import subprocess
+import sys
+import tempfile
+
+SWITCHES = ["keep-duplicates", "no-fence", "no-bump", "lose-marker", "swap-marker", "hide-listing", "ignore-generation"]
+MISHAPS = ["lost-output", "repeated-output", "wrong-count", "wrong-number", "foreign-source"]
+RATES = ["lose", "repeat", "abandon", "members", "restart-broker", "restart-coordinator"]
+SIZES = {"applications": (1, 8), "inputs": (1, 16), "outputs": (1, 16), "transaction-logs": (1, 4), "segment-records": (1, 40)}
+ARGUMENTS = {
+    "feed": {"source"},
+    "start": {"application"},
+    "produce": {"session", "partition", "claim"},
+    "commit": {"session", "source", "offset"},
+    "end": {"session", "kind"},
+    "resume": {"session"},
+    "fetch": {"session", "source"},
+    "members": set(),
+    "broker-restart": {"topic", "partition"},
+    "coordinator-restart": set(),
+    "deliver": {"message"},
+}
+REPLIES = {"done", "fenced", "out-of-order", "duplicate-kept", "wrong-state", "busy", "stale-generation", "epochs-spent", "unknown"}
+HEAD = {
+    "schema": 1, "applications": 2, "inputs": 2, "outputs": 2, "transaction_logs": 1, "segment_records": 16,
+    "switches": [], "seed": 0, "words": 0,
+}
+
+passed = failed = 0
+
+
+def expect(holds, what):
+    global passed, failed
+    if holds:
+        passed += 1
+    else:
+        failed += 1
+        print(f"FAILED: {what}")
+
+
+def run(*words, **settings):
+    done = subprocess.run([program, *map(str, words)], capture_output=True, timeout=300, **settings)
+    return done.returncode, done.stdout.decode(), done.stderr.decode()
+
+
+def same_folder(one, other):
+    found = filecmp.dircmp(one, other)
+    if found.left_only or found.right_only or found.funny_files:
+        return False
+    _, unlike, failing = filecmp.cmpfiles(one, other, found.common_files, shallow=False)
+    return not unlike and not failing and all(same_folder(f"{one}/{it}", f"{other}/{it}") for it in found.common_dirs)
+
+
+def lines_of(path):
+    with open(path) as file:
+        return [json.loads(line) for line in file.read().splitlines()]
+
+
+def settings_of(seed):
+    """Random words for a script, and how many of them it has."""
+    chance = random.Random(seed)
+    words, events = [], chance.randrange(0, 700)
+    if chance.random() < 0.6:
+        for name, (least, most) in SIZES.items():
+            if chance.random() < 0.5:
+                words += [f"--{name}", chance.randrange(least, most + 1)]
+    if chance.random() < 0.6:
+        for name in RATES:
+            if chance.random() < 0.5:
+                words += [f"--{name}", chance.randrange(0, 120)]
+    for name in SWITCHES:
+        if chance.random() < 0.12:
+            words += ["--switch", name]
+    if "--switch" in words and chance.random() < 0.5:
+        words += ["--switch-at", chance.randrange(0, events + 1)]
+    if chance.random() < 0.2:
+        words += ["--mishap", chance.choice(MISHAPS)]
+    return words, events
+
+
+def wrong_lines(lines, folder):
+    """What is wrong with a history's lines, or None."""
+    head, deeds, tail = lines[0], lines[1:-1], lines[-1]
+    if set(head) != set(HEAD) or set(tail) != {"events", "transactions", "lost", "repeated"}:
+        return f"{head} {tail}"
+    if [it["number"] for it in deeds] != list(range(1, len(deeds) + 1)):
+        return "the numbers don't count up"
+    asked = [it for it in deeds if "event" in it]
+    for it in asked:
+        rest = set(it) - {"number", "event", "reply"} - ({"value"} if it["reply"] == "done" else set())
+        if it["reply"] not in REPLIES or rest != ARGUMENTS[it["event"]]:
+            return f"{it}"
+    if any(set(it) != {"number", "set"} for it in deeds if "event" not in it) or tail["events"] != len(asked):
+        return "other lines, or their number"
+    said = run("check", "--quiet", folder)[1]
+    counts = re.fullmatch(r"yes transactions=(\d+) .*\n", said)
+    if counts and tail["transactions"] < int(counts[1]):
+        return f"{tail}, but {said}"
+    return None
+
+
+def again(seed):
+    """What is wrong with the history of a random script, run again; None where nothing is, and False where there was none."""
+    words, events = settings_of(seed)
+    at = f"{scratch}/{seed}"
+    plain, kept, made, history, second = (f"{at}-{it}" for it in ("plain", "kept", "made", "history", "second"))
+    script = ["simulate", "--seed", seed, "--events", events, *words]
+    first = run(*script, plain)
+    with_history = run(*script, "--history", history, kept)
+    if first != with_history:
+        return f"{words}: {first} and {with_history}"
+    if first[0] != 0:
+        return f"{words}: a history without a folder" if os.path.exists(history) else False
+    lines = lines_of(history)
+    wrong = None
+    if not same_folder(plain, kept):
+        wrong = "another folder with a history"
+    elif run("simulate", "--schedule", history, "--history", second, made) != first or not same_folder(plain, made):
+        wrong = "another folder when it is run again"
+    elif lines_of(second)[:-1] != lines[:-1] or lines_of(second)[-1] != {**lines[-1], "lost": 0, "repeated": 0}:
+        wrong = "another history when it is run again"
+    else:
+        wrong = wrong_lines(lines, kept)
+    for it in (plain, kept, made):
+        shutil.rmtree(it)
+    return wrong and f"seed {seed} {words}: {wrong}"
+
+
+def schedule(*lines):
+    """A file of these lines, which are objects or texts."""
+    path = f"{scratch}/schedule"
+    with open(path, "w") as file:
+        file.writelines((it if isinstance(it, str) else json.dumps(it)) + "\n" for it in lines)
+    return path
+
+
+def replayed(*lines):
+    """The answer to a schedule of these lines; the folder is there only where there is one."""
+    folder = f"{scratch}/replayed"
+    answer = run("simulate", "--schedule", schedule(*lines), folder)
+    expect(os.path.isdir(folder) == (answer[0] == 0), f"{lines}: a folder, or none")
+    if os.path.isdir(folder):
+        counts = run("check", "--quiet", folder)[1]
+        shutil.rmtree(folder)
+        return answer[0], answer[1] + counts, answer[2]
+    return answer
+
+
+def event(number, name, **arguments):
+    return {"number": number, "event": name, **arguments}
+
+
+def worked():
+    """A transaction by hand: one input, one output with its claim, committed past, its end and its markers delivered."""
+    claim = {"topic": "in", "partition": 0, "offset": 1, "output": 1, "of": 1}
+    first = {"topic": "in", "partition": 0, "offset": 0, "output": 0, "of": 0}
+    deeds = [
+        event(1, "feed", source=0, reply="done", value=0),
+        event(2, "feed", source=0, reply="done", value=1),
+        event(3, "start", application=0, reply="done", value=0),
+        event(4, "produce", session=0, partition=0, claim=first, reply="done", value=0),
+        event(5, "produce", session=0, partition=1, claim=claim, reply="done", value=1),
+        event(6, "commit", session=0, source=0, offset=2, reply="done", value=2),
+        event(7, "deliver", message=0),
+        event(8, "deliver", message=1),
+        event(9, "deliver", message=2),
+        event(10, "end", session=0, kind="commit", reply="done", value=3),
+        event(11, "deliver", message=3),
+        event(12, "deliver", message=4),
+        event(13, "deliver", message=5),
+        event(14, "deliver", message=6),
+        event(15, "deliver", message=7, reply="unknown"),
+    ]
+    good = (0, "wrote partitions=6\nyes transactions=1 inputs=2 outputs=1\n", "")
+    expect(replayed(HEAD, *deeds) == good, "a worked schedule")
+    # any numbers, members in another order, replies left out, the totals behind
+    plain = [dict(reversed([(k, v) for k, v in it.items() if k not in ("reply", "value")])) | {"number": 7} for it in deeds]
+    expect(replayed(HEAD, *plain, {"events": 0, "transactions": 0, "lost": 0, "repeated": 0}) == good, "the same without replies")
+    # its marker in out-1 is lost
+    lost = deeds[:9] + [{"number": 99, "set": ["lose-marker"]}] + deeds[9:]
+    answer = replayed(HEAD, *lost)
+    expect(answer[0] == 0 and "\nno 1.11 OpenAtEnd " in answer[1], f"a lost marker: {answer}")
+    # cut before the end: a transaction is open
+    expect(replayed(HEAD, *deeds[:9]) == (2, "", "eoscheck: the cluster is not at rest\n"), "a schedule that is cut")
+    # nothing happens
+    expect(replayed(HEAD) == (0, "wrote partitions=6\nyes transactions=0 inputs=0 outputs=0\n", ""), "no events")
+    # a reply that isn't so
+    for place, reply in ((0, {"reply": "done", "value": 1}), (2, {"reply": "busy"}), (14, {"reply": "fenced"})):
+        edited = list(deeds)
+        edited[place] = {k: v for k, v in deeds[place].items() if k not in ("reply", "value")} | reply
+        status, out, told = replayed(HEAD, *edited)
+        begin = f"eoscheck: {scratch}/schedule: number {place + 1} is answered otherwise: "
+        expect((status, out) == (1, "") and told.startswith(begin), f"another reply: {status} {told}")
+        expect(json.loads(told[len(begin):]) == deeds[place], f"another reply: {told}")
+
+
+def refused():
+    """Each line that is refused, with its number: status 2 and no folder."""
+    feed = event(1, "feed", source=0)
+    rows = [
+        (1, [""]),
+        (1, ["{"]),
+        (1, ["[]"]),
+        (1, [feed]),
+        (1, [{**HEAD, "schema": 2}]),
+        (1, [{**HEAD, "seed": -1}]),
+        (1, [{k: v for k, v in HEAD.items() if k != "inputs"}]),
+        (1, [{**HEAD, "switches": ["no-such-rule"]}]),
+        (1, [{**HEAD, "colour": "red"}]),
+        (2, [HEAD, ""]),
+        (2, [HEAD, "feed"]),
+        (2, [HEAD, HEAD]),
+        (2, [HEAD, {**feed, "event": "eat"}]),
+        (2, [HEAD, {**feed, "source": "0"}]),
+        (2, [HEAD, {**feed, "source": 0.5}]),
+        (2, [HEAD, {"number": 1, "event": "feed"}]),
+        (2, [HEAD, {"event": "feed", "source": 0}]),
+        (2, [HEAD, {**feed, "session": 0}]),
+        (2, [HEAD, {**feed, "reply": "perhaps"}]),
+        (2, [HEAD, {**feed, "reply": "done"}]),
+        (2, [HEAD, {"number": 1, "set": ["no-such-rule"]}]),
+        (2, [HEAD, {"number": 1, "set": "no-fence"}]),
+        (2, [HEAD, event(1, "end", session=0, kind="perhaps")]),
+        (3, [HEAD, feed, feed | {"event": "Feed"}]),
+        (3, [HEAD, feed, "", feed]),
+        (3, [HEAD, {"events": 0, "transactions": 0, "lost": 0, "repeated": 0}, feed]),
+    ]
+    for number, lines in rows:
+        status, out, told = replayed(*lines)
+        begin = f"eoscheck: {scratch}/schedule: line {number}: "
+        well = (status, out) == (2, "") and told.startswith(begin) and told.count("\n") == 1 and len(told) > len(begin) + 5
+        expect(well, f"{lines}: {status} {out!r} {told!r}")
+    status, out, told = replayed({**HEAD, "inputs": 17})
+    expect((status, out, told) == (2, "", "eoscheck: limit\n"), f"a size out of range: {status} {told}")
+    folder = f"{scratch}/none"
+    for what in (f"{scratch}/no-such-file", scratch):
+        status, out, told = run("simulate", "--schedule", what, folder)
+        expect((status, out) == (2, "") and told.startswith(f"eoscheck: cannot read {what}\n"), f"{what}: {told}")
+    for words in (["--seed", 1], ["--events", 1], ["--switch", "no-fence"], ["--inputs", 3], ["--lose", 1], ["--mishap", "lost-output"]):
+        status, out, told = run("simulate", "--schedule", schedule(HEAD), *words, folder)
+        expect((status, out) == (2, "") and told.startswith("error: "), f"--schedule with {words}: {told}")
+    expect(not os.path.exists(folder), "a refused schedule leaves a folder")
+
+
+def files():
+    """A history that is there already, or that can't be written, bars the run; what fails leaves neither."""
+    there, folder = f"{scratch}/there", f"{scratch}/unmade"
+    with open(there, "w") as file:
+        file.write("mine\n")
+    script = ["simulate", "--seed", 1, "--events", 20]
+    rows = [
+        (there, f"eoscheck: cannot write {there}: it is there already\n"),
+        (f"{scratch}/no/such", f"eoscheck: cannot write {scratch}/no/such: no such folder\n"),
+    ]
+    for path, message in rows:
+        expect(run(*script, "--history", path, folder) == (2, "", message), f"--history {path}")
+    with open(there) as file:
+        expect(file.read() == "mine\n", "a history was written over another file")
+    os.mkdir(folder)
+    status, _, told = run(*script, "--history", f"{scratch}/unwritten", folder)
+    expect(status == 2 and not os.path.exists(f"{scratch}/unwritten"), f"a history without a folder: {told}")
+    os.rmdir(folder)
+    expect(not os.path.exists(folder), "a folder without a history")
+
+
+def refused_memory(library):
+    """Each allocation, or where there are many every so-manieth: the folder and the history are there, or neither is whole."""
+    history, folder = f"{scratch}/memory", f"{scratch}/memory-folder"
+    words = dict(os.environ, LD_PRELOAD=library)
+    for script in (["--seed", 7, "--events", 5], ["--schedule", schedule(HEAD, event(1, "feed", source=0))]):
+        count = f"{scratch}/count"
+        good = run("simulate", *script, "--history", history, folder, env=dict(words, REFUSE_COUNT=count))
+        whole = lines_of(history)
+        with open(count) as file:
+            total = int(file.read())
+        told = 0
+        for at in range(1, total + 1, max(1, total // 300)):
+            shutil.rmtree(folder, ignore_errors=True)
+            if os.path.exists(history):
+                os.remove(history)
+            found = run("simulate", *script, "--history", history, folder, env=dict(words, REFUSE_AT=str(at)))
+            if found == (3, "", "eoscheck: out of memory\n"):
+                told += 1
+                expect(not os.path.exists(history) or lines_of(history) == whole, f"allocation {at} refused: a part of a history")
+            elif found != good or lines_of(history) != whole:
+                expect(False, f"allocation {at} refused: {found}")
+        expect(told > 20, f"{script}: {told} of {total} refused allocations are told")
+        shutil.rmtree(folder, ignore_errors=True)
+        if os.path.exists(history):
+            os.remove(history)
+
+
+def main():
+    with concurrent.futures.ThreadPoolExecutor(4) as pool:
+        found = list(pool.map(again, range(1, 121)))
+    for it in found:
+        expect(not it, it)
+    made = found.count(None)
+    expect(made > 60, f"only {made} of {len(found)} random scripts leave a folder")
+    worked()
+    refused()
+    files()
+    if len(sys.argv) > 2:
+        refused_memory(os.path.abspath(sys.argv[2]))
+    print(f"{passed} passed, {failed} failed")
+
+
+if __name__ == "__main__":
+    program = os.path.abspath(sys.argv[1])
+    with tempfile.TemporaryDirectory() as scratch:
+        main()
