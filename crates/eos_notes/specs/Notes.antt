@@ -1,7 +1,6 @@
 -- The notes of an evidence: signs that it isn't the one that was meant, in the order in which `check` prints them. They change no
 -- verdict.
-use Rattle.std.specs.Prelude.{◌≡◌, Bool, true, false, List, ◌++◌, is_some}
-use Rattle.std.specs.List.{list_any}
+use Rattle.std.specs.Prelude.{◌≡◌, Bool, true, false, List, ◌++◌}
 use Rattle.eos_evidence.specs.Evidence.{EvidenceParts}
 use Rattle.eos_evidence.specs.Parts.{Parts}
 use Rattle.eos_fold.specs.Parts.{PartLog}
