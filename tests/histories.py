@@ -21,7 +21,7 @@ import sys
 import tempfile
 
 SWITCHES = ["keep-duplicates", "no-fence", "no-bump", "lose-marker", "swap-marker", "hide-listing", "ignore-generation"]
-MISHAPS = ["lost-output", "repeated-output", "wrong-count", "wrong-number", "foreign-source"]
+MISHAPS = ["lost-output", "repeated-output", "wrong-count", "wrong-number", "foreign-source", "no-headers", "offset-deleted"]
 RATES = ["lose", "repeat", "abandon", "members", "restart-broker", "restart-coordinator"]
 SIZES = {"applications": (1, 8), "inputs": (1, 16), "outputs": (1, 16), "transaction-logs": (1, 4), "segment-records": (1, 40)}
 ARGUMENTS = {
@@ -202,6 +202,12 @@ def worked():
     lost = deeds[:9] + [{"number": 99, "set": ["lose-marker"]}] + deeds[9:]
     answer = replayed(HEAD, *lost)
     expect(answer[0] == 0 and "\nno 1.11 OpenAtEnd " in answer[1], f"a lost marker: {answer}")
+    # a record without headers, and an offset that is deleted in place of its commit
+    for place, name, fault in ((4, "claim", "4.1 BadLineage"), (5, "offset", "4.4 OffsetDeleted")):
+        edited = list(deeds)
+        edited[place] = deeds[place] | {name: None}
+        answer = replayed(HEAD, *edited)
+        expect(answer[0] == 0 and f"\nno {fault} " in answer[1], f"{name} is null: {answer}")
     # cut before the end: a transaction is open
     expect(replayed(HEAD, *deeds[:9]) == (2, "", "eoscheck: the cluster is not at rest\n"), "a schedule that is cut")
     # nothing happens
@@ -243,6 +249,8 @@ def refused():
         (2, [HEAD, {"number": 1, "set": ["no-such-rule"]}]),
         (2, [HEAD, {"number": 1, "set": "no-fence"}]),
         (2, [HEAD, event(1, "end", session=0, kind="perhaps")]),
+        (2, [HEAD, event(1, "produce", session=0, partition=0)]),
+        (2, [HEAD, event(1, "commit", session=0, source=0)]),
         (3, [HEAD, feed, feed | {"event": "Feed"}]),
         (3, [HEAD, feed, "", feed]),
         (3, [HEAD, {"events": 0, "transactions": 0, "lost": 0, "repeated": 0}, feed]),

@@ -54,8 +54,11 @@ def event(words):
     if choice in (1, 2):
         return f"start:{number(words)}"
     if choice in (3, 4, 5):
-        return f"produce:{number(words)},{number(words)}"
+        name = "bare" if words.next() % 8 == 0 else "produce"
+        return f"{name}:{number(words)},{number(words)}"
     if choice == 6:
+        if words.next() % 8 == 0:
+            return f"delete:{number(words)},{number(words)}"
         return f"offset:{number(words)},{number(words)},{-1 if words.next() % 8 == 0 else 1}"
     if choice in (7, 8):
         session = number(words)

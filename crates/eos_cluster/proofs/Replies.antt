@@ -52,11 +52,11 @@ delivered u c w n (Some (messages.Offset a e g q v)) =
 delivered u c w n (Some (messages.End a e k)) = either _ _ _ tt (either _ _ _ tt (either _ _ _ tt (either _ _ _ tt tt)))
 delivered u c w n (Some (messages.Marker a m k p)) = either _ _ _ tt (either _ _ _ tt (either _ _ _ tt tt))
 
-produced : (c : Config) (w : World) (n p : ℕ) (x : Claim) (s : Option Session) → IsProperAnswer (produce c w n p x s)
+produced : (c : Config) (w : World) (n p : ℕ) (x : Option Claim) (s : Option Session) → IsProperAnswer (produce c w n p x s)
 produced c w n p x None = tt
 produced c w n p x (Some s) = either _ _ _ tt (either _ _ _ tt tt)
 
-committed : (c : Config) (w : World) (n q v : ℕ) (s : Option Session) → IsProperAnswer (commit_offset c w n q v s)
+committed : (c : Config) (w : World) (n q : ℕ) (v : Option ℕ) (s : Option Session) → IsProperAnswer (commit_offset c w n q v s)
 committed c w n q v None = tt
 committed c w n q v (Some s) = either _ _ _ tt (either _ _ _ tt tt)
 
@@ -79,8 +79,9 @@ proper : (u : Switches) (c : Config) (w : World) (e : Event) → IsProper (happe
 proper u c w (events.Feed p) = either _ _ _ tt tt
 proper u c w (events.Start a) = either _ _ _ tt (either _ _ _ tt (either _ _ _ tt (started u c w a (if (coord_at w a).started then (coord_at w a).epoch + 1 else 0))))
 proper u c w (events.Produce n p x) = produced c w n p x (slice_get w.sessions n)
-proper u c w (events.Commit n q (pos v)) = committed c w n q v (slice_get w.sessions n)
-proper u c w (events.Commit n q (negsuc v)) = tt
+proper u c w (events.Commit n q None) = committed c w n q None (slice_get w.sessions n)
+proper u c w (events.Commit n q (Some (pos v))) = committed c w n q (Some v) (slice_get w.sessions n)
+proper u c w (events.Commit n q (Some (negsuc v))) = tt
 proper u c w (events.End n k) = ended w n k (slice_get w.sessions n)
 proper u c w (events.Resume n) = resumes c w n (slice_get w.sessions n)
 proper u c w (events.Fetch n q) = fetched c w q (slice_get w.sessions n)

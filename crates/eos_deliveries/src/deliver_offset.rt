@@ -1,6 +1,6 @@
 //! An offset arrives at the broker of the offsets, and its transaction at the coordinator.
 
-ghost use Rattle.std.specs.Prelude.{◌≡◌, ℕ, ◌<◌, IfOk};
+ghost use Rattle.std.specs.Prelude.{◌≡◌, ℕ, ◌<◌, Option, IfOk};
 ghost use Rattle.eos_machine.specs.Places.{offsets_place};
 ghost use Rattle.eos_machine.specs.declared.item.Item.TheVariants.{Offset};
 ghost use Rattle.eos_machine.specs.Rules.{is_stale};
@@ -30,7 +30,7 @@ fn judge_offset(
 ) -> Result<bool, Reply>
     requires application { request.application < store.now.config.applications }
     requires place { request.place ≡ offsets_place }
-    ensures { (q v : ℕ) → deliver_offset switches store.now.config store.now.world request.number request.application request.epoch generation q v
+    ensures { (q : ℕ) (v : Option ℕ) → deliver_offset switches store.now.config store.now.world request.number request.application request.epoch generation q v
         ≡ judged switches store.now.config store.now.world request (Offset request.application request.epoch q v store.now.world.events) result }
 {
     let Request {
@@ -64,7 +64,7 @@ pub(crate) fn offset_arrival(
     request: Request,
     generation: u64,
     source: usize,
-    offset: u64,
+    offset: Option<u64>,
 ) -> Result<Arrival, Reply>
     requires application { request.application < store.now.config.applications }
     requires place { request.place ≡ offsets_place }

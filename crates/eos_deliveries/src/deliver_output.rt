@@ -1,6 +1,6 @@
 //! A record arrives at a broker, and its transaction at the coordinator.
 
-ghost use Rattle.std.specs.Prelude.{◌≡◌, ℕ, ◌<◌, IfOk};
+ghost use Rattle.std.specs.Prelude.{◌≡◌, ℕ, ◌<◌, Option, IfOk};
 ghost use Rattle.eos_machine.specs.declared.item.Item.TheVariants.{Output};
 ghost use Rattle.eos_machine.specs.declared.item.Claim.{Claim};
 ghost use Rattle.eos_machine.specs.declared.state.Producer.{Producer};
@@ -46,7 +46,7 @@ fn judge_output(
     sequence: u32,
 ) -> Result<bool, Reply>
     requires { request.application < store.now.config.applications }
-    ensures { (x : Claim) (v : ℕ) → deliver_output switches store.now.config store.now.world request.number request.application request.epoch request.place sequence x v
+    ensures { (x : Option Claim) (v : ℕ) → deliver_output switches store.now.config store.now.world request.number request.application request.epoch request.place sequence x v
         ≡ judged switches store.now.config store.now.world request (Output request.application request.epoch sequence x v store.now.world.events) result }
 {
     let Request {
@@ -80,7 +80,7 @@ pub(crate) fn output_arrival(
     switches: Switches,
     request: Request,
     sequence: u32,
-    claim: &Claim,
+    claim: &Option<Claim>,
     value: u64,
 ) -> Result<Result<Arrival, Reply>, AllocError>
     requires { request.application < store.now.config.applications }

@@ -45,12 +45,12 @@ fn event_of(word: u32) -> Event {
         2 => Event::Produce {
             session,
             partition: two,
-            claim: claim_of((rest % 2) as i32, offset),
+            claim: Some(claim_of((rest % 2) as i32, offset)),
         },
         3 => Event::Commit {
             session,
             source: two,
-            offset,
+            offset: Some(offset),
         },
         4 => Event::End {
             session,

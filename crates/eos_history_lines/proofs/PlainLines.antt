@@ -22,7 +22,7 @@ use Rattle.eos_history_lines.specs.declared.line.Line.{Line}
 use Rattle.eos_history_lines.specs.declared.line.Tail.{Tail}
 use Rattle.eos_history_lines.specs.declared.line.Row.{Row}
 use Rattle.eos_history_lines.specs.declared.line.Row.TheVariants as rows
-use Rattle.eos_history_lines.specs.Lines.{count, integer, topic_value, named_if, switch_names, switches_value, with_sizes, with_asked, head_value, with_claim, claim_value, with_arguments, with_event, with_value, with_reply, with_deed, line_value, with_tail, tail_value, row_value}
+use Rattle.eos_history_lines.specs.Lines.{count, integer, topic_value, named_if, switch_names, switches_value, with_sizes, with_asked, head_value, with_claim, claim_value, claimed, offset_or_null, with_arguments, with_event, with_value, with_reply, with_deed, line_value, with_tail, tail_value, row_value}
 
 -- no float, and at most so deep
 pub record Flat (n : ℕ) (d : Data) : Type 0 where
@@ -163,6 +163,14 @@ claim_flat : (c : Claim) → Flat 2 (claim_value c)
 unfolding claim_value
 claim_flat c = object_flat 1 _ (claim_members c no_members (none_flat 1))
 
+claimed_flat : (c : Option Claim) → Flat 2 (claimed c)
+claimed_flat None = record { plain = refl; shallow = omega arith }
+claimed_flat (Some c) = claim_flat c
+
+offset_flat : (n : ℕ) (z : Option ℤ) → Flat n (offset_or_null z)
+offset_flat n None = record { plain = refl; shallow = omega arith }
+offset_flat n (Some z) = integer_flat n z
+
 one : (k : List ℕ) (m : ℕ) (ms : JsonMembers) → FlatMembers 2 ms → FlatMembers 2 (put k (count m) ms)
 one k m ms h = put_flat 2 k (count m) ms (count_flat 2 m) h
 
@@ -170,8 +178,8 @@ arguments_flat : (e : Event) (ms : JsonMembers) → FlatMembers 2 ms → FlatMem
 unfolding with_arguments
 arguments_flat (Feed source) ms h = one _ source ms h
 arguments_flat (Start application) ms h = one _ application ms h
-arguments_flat (Produce session partition claim) ms h = put_flat 2 _ _ _ (claim_flat claim) (one _ partition _ (one _ session ms h))
-arguments_flat (Commit session source offset) ms h = put_flat 2 _ _ _ (integer_flat 2 offset) (one _ source _ (one _ session ms h))
+arguments_flat (Produce session partition claim) ms h = put_flat 2 _ _ _ (claimed_flat claim) (one _ partition _ (one _ session ms h))
+arguments_flat (Commit session source offset) ms h = put_flat 2 _ _ _ (offset_flat 2 offset) (one _ source _ (one _ session ms h))
 arguments_flat (End session kind) ms h = put_flat 2 _ _ _ (string_flat 2 _) (one _ session ms h)
 arguments_flat (Resume session) ms h = one _ session ms h
 arguments_flat (Fetch session source) ms h = one _ source _ (one _ session ms h)

@@ -1,13 +1,13 @@
 -- What is read from the value of a line is that line.
 use Rattle.std.proofs.Common.{◌≡◌, ◌^◌, ℕ, ℤ, pos, negsuc, List, [], ◌∷◌, ◌++◌, Bool, true, false, ◌||◌, nat_lt, nat_le, Option, None, Some, option_map, codes, FitsSigned, refl, sym, ap, ◌∙◌, arith}
-use Rattle.std.specs.Prelude.{bytes_eq, option_and_then}
+use Rattle.std.specs.Prelude.{IfSome, bytes_eq, option_and_then}
 use Rattle.std.specs.Int.{w32, w64}
 use Rattle.std.proofs.lemmas.Int.{ints}
 use Rattle.std.proofs.lemmas.Bool.Decides.{nat_tests}
 use Rattle.std.proofs.lemmas.Slice.Eq.{bytes_eq-Decides}
 use Rattle.serde_json.proofs.Views.{get_member-put, get_member-put_other}
 use Rattle.serde_json.specs.Data.{Data, Members as JsonMembers, no_members, put, string, object, array}
-use Rattle.serde_json.specs.Find.{get, get_member, as_number, as_u64, as_i64, as_str, of_integer}
+use Rattle.serde_json.specs.Find.{get, get_member, as_null, as_number, as_u64, as_i64, as_str, of_integer}
 use Rattle.serde_json.specs.Read.{read}
 use Rattle.serde_json.specs.View.{items_of}
 use Rattle.eos_batch.specs.declared.marker.Kind.TheVariants as kinds
@@ -28,8 +28,8 @@ use Rattle.eos_history_lines.specs.declared.line.Row.{Row}
 use Rattle.eos_history_lines.specs.declared.line.Row.TheVariants as rows
 use Rattle.eos_history_lines.specs.Fits.{FitsClaim, FitsEvent, FitsDeed, FitsRow}
 use Rattle.eos_history_lines.specs.Words.{event_word}
-use Rattle.eos_history_lines.specs.Lines.{count, integer, topic_value, named_if, switch_names, switches_value, with_sizes, with_asked, head_value, with_claim, claim_value, with_arguments, with_event, with_value, with_reply, with_deed, line_value, with_tail, tail_value, row_value}
-use Rattle.eos_history_lines.specs.steps.Reading.{as_small, claim_in, event_called, event_in, reply_in, reply_from, is_text, is_named, switches_in, head_in, deed_from, deed_in, line_in, tail_in, row_from, row_in}
+use Rattle.eos_history_lines.specs.Lines.{count, integer, topic_value, named_if, switch_names, switches_value, with_sizes, with_asked, head_value, with_claim, claim_value, claimed, offset_or_null, with_arguments, with_event, with_value, with_reply, with_deed, line_value, with_tail, tail_value, row_value}
+use Rattle.eos_history_lines.specs.steps.Reading.{as_small, claim_in, claim_or_none, offset_or_none, event_called, event_in, reply_in, reply_from, is_text, is_named, switches_in, head_in, deed_from, deed_in, line_in, tail_in, row_from, row_in}
 
 -- ---- looking up what was put
 
@@ -105,6 +105,10 @@ small_back (negsuc n) fits = let few : nat_le n 2147483647 ≡ true = grind (ari
 
 -- ---- events
 
+no_null : (c : Claim) → as_null (claim_value c) ≡ None
+unfolding claim_value
+no_null c = refl
+
 claim_back : (c : Claim) → FitsClaim c → claim_in (claim_value c) ≡ Some c
 unfolding claim_value with_claim
 claim_back c h =
@@ -119,6 +123,17 @@ claim_back c h =
       small_back c.of h.of,
     ) refl
 
+claim_said : (c : Option Claim) → IfSome c FitsClaim → claim_or_none (claimed c) ≡ Some c
+claim_said None h = refl
+claim_said (Some c) h = by (claim_value c) (no_null c) (claim_back c h)
+  where
+    by : (d : Data) → as_null d ≡ None → claim_in d ≡ Some c → claim_or_none d ≡ Some (Some c)
+    by d n e = rw (n, e) refl
+
+offset_said : (z : Option ℤ) → IfSome z (FitsSigned w64) → offset_or_none (offset_or_null z) ≡ Some z
+offset_said None h = refl
+offset_said (Some z) h = rw (integer_back z h) refl
+
 event_back : (e : Event) (ms : JsonMembers) → FitsEvent e → event_called (event_word e) (object (with_arguments e ms)) ≡ Some e
 unfolding with_arguments
 event_back (Feed source) ms h = rw (get_member-put (codes "source") (count source) ms) refl
@@ -127,25 +142,25 @@ event_back (Produce session partition claim) ms h =
     let one = put (codes "session") (count session) ms in
     let two = put (codes "partition") (count partition) one in
     rw (
-      get_member-put (codes "claim") (claim_value claim) two,
-      other (codes "partition") (codes "claim") (claim_value claim) two refl,
+      get_member-put (codes "claim") (claimed claim) two,
+      other (codes "partition") (codes "claim") (claimed claim) two refl,
       get_member-put (codes "partition") (count partition) one,
-      other (codes "session") (codes "claim") (claim_value claim) two refl,
+      other (codes "session") (codes "claim") (claimed claim) two refl,
       other (codes "session") (codes "partition") (count partition) one refl,
       get_member-put (codes "session") (count session) ms,
-      claim_back claim h,
+      claim_said claim h,
     ) refl
 event_back (Commit session source offset) ms h =
     let one = put (codes "session") (count session) ms in
     let two = put (codes "source") (count source) one in
     rw (
-      get_member-put (codes "offset") (integer offset) two,
-      other (codes "source") (codes "offset") (integer offset) two refl,
+      get_member-put (codes "offset") (offset_or_null offset) two,
+      other (codes "source") (codes "offset") (offset_or_null offset) two refl,
       get_member-put (codes "source") (count source) one,
-      other (codes "session") (codes "offset") (integer offset) two refl,
+      other (codes "session") (codes "offset") (offset_or_null offset) two refl,
       other (codes "session") (codes "source") (count source) one refl,
       get_member-put (codes "session") (count session) ms,
-      integer_back offset h,
+      offset_said offset h,
     ) refl
 event_back (End session kinds.Commit) ms h =
     let one = put (codes "session") (count session) ms in

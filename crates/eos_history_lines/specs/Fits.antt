@@ -1,5 +1,5 @@
 -- What a line of a history may hold: topics that are UTF-8, and numbers that their types hold.
-use Rattle.std.specs.Prelude.{◌≡◌, true, FitsSigned, ⊤}
+use Rattle.std.specs.Prelude.{◌≡◌, true, IfSome, FitsSigned, ⊤}
 use Rattle.std.specs.Int.{w32, w64}
 use Rattle.std.specs.Str.{is_utf8}
 use Rattle.eos_machine.specs.declared.item.Claim.{Claim}
@@ -20,8 +20,8 @@ pub record FitsClaim (c : Claim) : Type 0 where
 abbrev pub FitsEvent : Event → Type 0
 FitsEvent (Feed source) = ⊤
 FitsEvent (Start application) = ⊤
-FitsEvent (Produce session partition claim) = FitsClaim claim
-FitsEvent (Commit session source offset) = FitsSigned w64 offset
+FitsEvent (Produce session partition claim) = IfSome claim FitsClaim
+FitsEvent (Commit session source offset) = IfSome offset (FitsSigned w64)
 FitsEvent (End session kind) = ⊤
 FitsEvent (Resume session) = ⊤
 FitsEvent (Fetch session source) = ⊤

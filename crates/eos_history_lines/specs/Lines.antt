@@ -2,7 +2,7 @@
 use Rattle.std.specs.Prelude.{ℕ, ℤ, Bool, List, [], ◌∷◌, ◌++◌, codes, Option, None, Some, if◌then◌else◌}
 use Rattle.std.specs.Str.{is_utf8}
 use Rattle.hex.specs.Hex.{encode_lower}
-use Rattle.serde_json.specs.Data.{Data, Members as JsonMembers, no_members, object, array, string, number, unsigned, put}
+use Rattle.serde_json.specs.Data.{Data, Members as JsonMembers, no_members, null, object, array, string, number, unsigned, put}
 use Rattle.serde_json.specs.Find.{of_integer}
 use Rattle.serde_json.specs.View.{items_of}
 use Rattle.eos_machine.specs.declared.config.Config.{Config}
@@ -73,13 +73,22 @@ with_claim c ms =
 unfoldable pub claim_value : Claim → Data
 claim_value c = object (with_claim c no_members)
 
+-- null where it has none
+abbrev pub claimed : Option Claim → Data
+claimed None = null
+claimed (Some c) = claim_value c
+
+abbrev pub offset_or_null : Option ℤ → Data
+offset_or_null None = null
+offset_or_null (Some z) = integer z
+
 unfoldable pub with_arguments : Event → JsonMembers → JsonMembers
 with_arguments (Feed source) ms = put (codes "source") (count source) ms
 with_arguments (Start application) ms = put (codes "application") (count application) ms
 with_arguments (Produce session partition claim) ms =
-    put (codes "claim") (claim_value claim) (put (codes "partition") (count partition) (put (codes "session") (count session) ms))
+    put (codes "claim") (claimed claim) (put (codes "partition") (count partition) (put (codes "session") (count session) ms))
 with_arguments (Commit session source offset) ms =
-    put (codes "offset") (integer offset) (put (codes "source") (count source) (put (codes "session") (count session) ms))
+    put (codes "offset") (offset_or_null offset) (put (codes "source") (count source) (put (codes "session") (count session) ms))
 with_arguments (End session kind) ms = put (codes "kind") (string (kind_word kind)) (put (codes "session") (count session) ms)
 with_arguments (Resume session) ms = put (codes "session") (count session) ms
 with_arguments (Fetch session source) ms = put (codes "source") (count source) (put (codes "session") (count session) ms)

@@ -3,8 +3,8 @@
 ghost use Rattle.std.specs.Prelude.{◌≡◌, IfOk, OnOk};
 ghost use Rattle.serde_json.specs.View.{view};
 ghost use Rattle.eos_history_lines.specs.steps.Held.{held};
-ghost use Rattle.eos_history_lines.specs.Lines.{with_claim, claim_value, with_arguments, with_event};
-ghost use Rattle.eos_history_lines.specs.steps.Reading.{event_in, event_called, feed_in, start_in, restart_in, deliver_in, event_of_session, produce_in, claim_within, claim_in, commit_in, end_in, fetch_in};
+ghost use Rattle.eos_history_lines.specs.Lines.{with_claim, claim_value, claimed, offset_or_null, with_arguments, with_event};
+ghost use Rattle.eos_history_lines.specs.steps.Reading.{event_in, event_called, feed_in, start_in, restart_in, deliver_in, event_of_session, produce_in, claim_within, claim_or_none, claim_in, commit_in, offset_within, offset_or_none, end_in, fetch_in};
 
 use crate::members::{count_in, integer_in, kind_in, size_in, small_in, text_in};
 use crate::object::Object;
@@ -38,7 +38,7 @@ fn put_arguments(alloc: Global, out: &mut Object, event: &Event) -> Result<(), A
         } => {
             out.put_size("session", *session)?;
             out.put_size("partition", *partition)?;
-            out.put("claim", value_of_claim(alloc, claim)?)
+            out.put("claim", value_of_claimed(alloc, claim)?)
         }
         Event::Commit {
             session,
@@ -47,7 +47,7 @@ fn put_arguments(alloc: Global, out: &mut Object, event: &Event) -> Result<(), A
         } => {
             out.put_size("session", *session)?;
             out.put_size("source", *source)?;
-            out.put_integer("offset", *offset)
+            out.put("offset", value_of_offset(*offset))
         }
         Event::End { session, kind } => {
             out.put_size("session", *session)?;
@@ -64,6 +64,24 @@ fn put_arguments(alloc: Global, out: &mut Object, event: &Event) -> Result<(), A
         }
         Event::Members | Event::CoordinatorRestart => Ok(()),
         Event::Deliver { message } => out.put_count("message", *message),
+    }
+}
+
+fn value_of_offset(offset: Option<i64>) -> Value
+    ensures { view result ≡ offset_or_null offset }
+{
+    match offset {
+        Some(offset) => Value::from(offset),
+        None => Value::Null,
+    }
+}
+
+fn value_of_claimed(alloc: Global, claim: &Option<Claim>) -> Result<Value, AllocError>
+    ensures { IfOk result (λ value. view value ≡ claimed claim.now) }
+{
+    match claim {
+        Some(claim) => value_of_claim(alloc, claim),
+        None => Ok(Value::Null),
     }
 }
 
@@ -196,11 +214,23 @@ fn read_produce(alloc: Global, session: usize, value: &Value) -> Result<Option<E
     }))
 }
 
-fn read_claim_in(alloc: Global, value: &Value) -> Result<Option<Claim>, AllocError>
+fn read_claim_in(alloc: Global, value: &Value) -> Result<Option<Option<Claim>>, AllocError>
     ensures { IfOk result (λ claim. claim ≡ claim_within (view value.now)) }
 {
     match value.get("claim") {
-        Some(claim) => read_claim(alloc, claim),
+        Some(claim) => read_claim_or_none(alloc, claim),
+        None => Ok(None),
+    }
+}
+
+fn read_claim_or_none(alloc: Global, value: &Value) -> Result<Option<Option<Claim>>, AllocError>
+    ensures { IfOk result (λ claim. claim ≡ claim_or_none (view value.now)) }
+{
+    if value.is_null() {
+        return Ok(Some(None));
+    }
+    match read_claim(alloc, value)? {
+        Some(claim) => Ok(Some(Some(claim))),
         None => Ok(None),
     }
 }
@@ -237,12 +267,33 @@ fn read_commit(session: usize, value: &Value) -> Option<Event>
     ensures { result ≡ commit_in session (view value.now) }
 {
     let source = size_in(value, "source")?;
-    let offset = integer_in(value, "offset")?;
+    let offset = offset_within(value)?;
     Some(Event::Commit {
         session,
         source,
         offset,
     })
+}
+
+fn offset_within(value: &Value) -> Option<Option<i64>>
+    ensures { result ≡ offset_within (view value.now) }
+{
+    match value.get("offset") {
+        Some(offset) => offset_or_none(offset),
+        None => None,
+    }
+}
+
+fn offset_or_none(value: &Value) -> Option<Option<i64>>
+    ensures { result ≡ offset_or_none (view value.now) }
+{
+    if value.is_null() {
+        return Some(None);
+    }
+    match value.as_i64() {
+        Some(offset) => Some(Some(offset)),
+        None => None,
+    }
 }
 
 fn read_end(session: usize, value: &Value) -> Option<Event>

@@ -159,6 +159,7 @@ fn look_at_argument(value: &Value, argument: Argument) -> Result<(), Mistake> {
     let name = argument.name();
     match argument {
         Argument::Claim => look_at_claim(value_at(value, name)?),
+        Argument::Offset if value_at(value, name)?.is_null() => Ok(()),
         Argument::Offset => look_at(value, name, Wanted::Integer),
         Argument::Kind => look_at(value, name, Wanted::Kind),
         Argument::Topic => look_at(value, name, Wanted::Text),
@@ -171,6 +172,9 @@ fn look_at_argument(value: &Value, argument: Argument) -> Result<(), Mistake> {
 }
 
 fn look_at_claim(claim: &Value) -> Result<(), Mistake> {
+    if claim.is_null() {
+        return Ok(());
+    }
     if !claim.is_object() {
         return Err(Mistake::Another("claim", "an object"));
     }

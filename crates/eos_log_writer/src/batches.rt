@@ -20,14 +20,14 @@ use eos_logs::Writer;
 use eos_machine::{Claim, Config, Entry, Item};
 use std::alloc::{AllocError, Global};
 
-fn record_of(key: Option<Bytes>, value: Bytes, headers: Vec<Header>) -> Record
+fn record_of(key: Option<Bytes>, value: Option<Bytes>, headers: Vec<Header>) -> Record
     ensures { result ≡ record_of key value headers.items }
 {
     Record {
         attributes: 0,
         timestamp_delta: 0,
         key,
-        value: Some(value),
+        value,
         headers: Listed::new(headers),
     }
 }
@@ -37,7 +37,7 @@ fn fed_record(alloc: Global, event: u64) -> Result<Record, AllocError>
     ensures { IfOk result (λ r. r ≡ fed_record event) }
 {
     let value = values::i64_bytes(alloc, as_i64(event))?;
-    Ok(record_of(None, value, Vec::new(alloc)))
+    Ok(record_of(None, Some(value), Vec::new(alloc)))
 }
 
 fn state_record(
@@ -57,19 +57,19 @@ fn state_record(
 {
     let key = values::transaction_key(alloc, application)?;
     let value = values::transaction_value(alloc, config, application, entry, event)?;
-    Ok(record_of(Some(key), value, Vec::new(alloc)))
+    Ok(record_of(Some(key), Some(value), Vec::new(alloc)))
 }
 
-fn output_record(alloc: Global, claim: &Claim, value: u64) -> Result<Record, AllocError>
+fn output_record(alloc: Global, claim: &Option<Claim>, value: u64) -> Result<Record, AllocError>
     requires { value < 2 ^ 63 }
     ensures { IfOk result (λ r. r ≡ output_record claim.now value) }
 {
     let value = values::i64_bytes(alloc, as_i64(value))?;
-    let headers = values::claim_headers(alloc, claim)?;
-    Ok(record_of(None, value, headers))
+    let headers = values::headers_of(alloc, claim)?;
+    Ok(record_of(None, Some(value), headers))
 }
 
-fn offset_record(alloc: Global, source: usize, offset: u64) -> Result<Record, AllocError>
+fn offset_record(alloc: Global, source: usize, offset: Option<u64>) -> Result<Record, AllocError>
     requires { source < 2 ^ 31 }
     ensures { IfOk result (λ r. r ≡ offset_record source offset) }
 {
@@ -83,7 +83,7 @@ fn marker_record(alloc: Global, kind: Kind) -> Result<Record, AllocError>
 {
     let key = values::marker_key(alloc, kind)?;
     let value = values::marker_value(alloc)?;
-    Ok(record_of(Some(key), value, Vec::new(alloc)))
+    Ok(record_of(Some(key), Some(value), Vec::new(alloc)))
 }
 
 /// A batch of one record.

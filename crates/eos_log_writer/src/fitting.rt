@@ -1,12 +1,13 @@
 //! Whether what stands in a log fits the fields of its batches.
 
-ghost use Rattle.std.specs.Prelude.{◌≡◌, ◌^◌, ◌&&◌, nat_lt};
+ghost use Rattle.std.specs.Prelude.{◌≡◌, ◌^◌, ◌&&◌, length, nat_lt, nat_le};
 ghost use Rattle.std.specs.List.{list_all};
 ghost use Rattle.eos_machine.specs.Places.{IsConfig};
+ghost use Rattle.eos_machine.specs.Sessions.{claimed_topic};
 ghost use Rattle.eos_logs.specs.steps.Fits.{are_all_there, is_fit};
 
 use crate::places::place_count;
-use eos_machine::{Config, Entry, Item};
+use eos_machine::{Claim, Config, Entry, Item};
 
 /// One more than the greatest number of a field of 64 bits.
 const NUMBERS: u64 = 1 << 63;
@@ -33,6 +34,16 @@ fn are_all_there(config: Config, places: &[usize]) -> bool
     ensures { result ≡ are_all_there config places.now }
 {
     are_below(place_count(config), places) && places.len() <= place_count(config)
+}
+
+/// Whether the topic is short enough that a record's claim names.
+fn is_topic_fit(claim: &Option<Claim>) -> bool
+    ensures { result ≡ nat_le (length (claimed_topic claim.now)) 249 }
+{
+    match claim {
+        Some(claim) => claim.topic.len() <= LONGEST_TOPIC,
+        None => true,
+    }
 }
 
 /// Whether a state fits, without its event.
@@ -68,7 +79,7 @@ fn is_fit(config: Config, item: &Item) -> bool
             *application < config.applications
                 && *epoch < EPOCHS
                 && *sequence < SEQUENCES
-                && claim.topic.len() <= LONGEST_TOPIC
+                && is_topic_fit(claim)
                 && *value < NUMBERS
                 && *event < NUMBERS
         }

@@ -14,7 +14,7 @@ ghost use Rattle.std.specs.List.{All};
 ghost use Rattle.eos_base.specs.declared.record_fault.RecordFault.{RecordFault};
 ghost use Rattle.eos_machine.specs.Places.{place_count};
 ghost use Rattle.eos_logs.specs.Fitting.{AreAllThere};
-ghost use Rattle.eos_logs.specs.Batches.{group, transactional_id, bytes_of, header, claim_headers, control_type};
+ghost use Rattle.eos_logs.specs.Batches.{group, transactional_id, bytes_of, header, claim_headers, headers_of, commit_value, control_type};
 
 use crate::places::{number_of, topic_of};
 use crate::writer::{as_i16, as_i32, as_i64, producer_id};
@@ -258,8 +258,8 @@ fn commit_of(source: usize, offset: u64) -> Commit
     }
 }
 
-/// The value of a commit. It has the eight bytes of the offset, whichever sign they have as an i64.
-pub(crate) fn commit_value(alloc: Global, source: usize, offset: u64) -> Result<Bytes, AllocError>
+/// The value of a commit of an offset. It has the offset's eight bytes, whichever sign they have as an i64.
+fn offset_value(alloc: Global, source: usize, offset: u64) -> Result<Bytes, AllocError>
     requires { source < 2 ^ 31 }
     ensures { IfOk result (λ b. b ≡ bytes_of (offsets.write_value (record { group = group; topic = input_topic; partition = pos source; offset = pos offset }) (pos 3))) }
 {
@@ -267,6 +267,21 @@ pub(crate) fn commit_value(alloc: Global, source: usize, offset: u64) -> Result<
     match eos_offsets::encode_value(alloc, &commit, COMMIT_VALUE_VERSION) {
         Ok(bytes) => Ok(bytes),
         Err(fault) => Err(of_memory(fault)),
+    }
+}
+
+/// The value of a commit, where it has one: a commit that deletes the offset is a tombstone.
+pub(crate) fn commit_value(
+    alloc: Global,
+    source: usize,
+    offset: Option<u64>,
+) -> Result<Option<Bytes>, AllocError>
+    requires { source < 2 ^ 31 }
+    ensures { IfOk result (λ b. b ≡ commit_value source offset) }
+{
+    match offset {
+        Some(offset) => Ok(Some(offset_value(alloc, source, offset)?)),
+        None => Ok(None),
     }
 }
 
@@ -280,7 +295,7 @@ fn header(key: &'static [u8], value: Bytes) -> Header
 }
 
 /// The five lineage headers.
-pub(crate) fn claim_headers(alloc: Global, claim: &Claim) -> Result<Vec<Header>, AllocError>
+fn claim_headers(alloc: Global, claim: &Claim) -> Result<Vec<Header>, AllocError>
     ensures { IfOk result (λ h. h.items ≡ claim_headers claim.now) }
 {
     let mut headers = Vec::new(alloc);
@@ -293,6 +308,16 @@ pub(crate) fn claim_headers(alloc: Global, claim: &Claim) -> Result<Vec<Header>,
     headers.push(header(b"eo.output".as_slice(), i32_bytes(alloc, claim.output)?))?;
     headers.push(header(b"eo.of".as_slice(), i32_bytes(alloc, claim.of)?))?;
     Ok(headers)
+}
+
+/// The headers of an output record: a record without a claim has none.
+pub(crate) fn headers_of(alloc: Global, claim: &Option<Claim>) -> Result<Vec<Header>, AllocError>
+    ensures { IfOk result (λ h. h.items ≡ headers_of claim.now) }
+{
+    match claim {
+        Some(claim) => claim_headers(alloc, claim),
+        None => Ok(Vec::new(alloc)),
+    }
 }
 
 /// The number of a kind of control record.

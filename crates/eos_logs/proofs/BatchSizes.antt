@@ -28,7 +28,8 @@ use Rattle.eos_machine.specs.declared.item.Entry.{Entry}
 use Rattle.eos_machine.specs.declared.item.Item.{Item}
 use Rattle.eos_machine.specs.declared.item.Item.TheVariants.{Fed, State, Output, Offset, Marker}
 use Rattle.eos_machine.specs.Rest.{by_topic, with_number, value_of}
-use Rattle.eos_logs.specs.Batches.{group, transactional_id, bytes_of, record_of, fed_record, state_record, header, claim_headers, output_record, offset_record, control_type, marker_record, item_batch, texts_from}
+use Rattle.eos_machine.specs.Sessions.{claimed_topic}
+use Rattle.eos_logs.specs.Batches.{group, transactional_id, bytes_of, record_of, fed_record, state_record, header, claim_headers, headers_of, output_record, commit_value, offset_record, control_type, marker_record, item_batch, texts_from}
 use Rattle.eos_logs.specs.Fitting.{IsFit, AreAllThere}
 
 -- ---- numbers and texts
@@ -248,6 +249,15 @@ claim_length x l =
     (e5 ∙ ap (λ n. length (header_text (header (codes "eo.of") (i32_text x.of))) + n) z)))) in
     omega (arith, s, h1, h2, h3, h4, h5, n2, n3, n4, n5, l)
 
+headers_length : (x : Option Claim) → length (claimed_topic x) ≤ 249 → length (headers_text (headers_of x)) ≤ 500
+headers_length None l = let z = no_headers in omega (arith, z)
+headers_length (Some x) l = claim_length x l
+
+commit_value_length : (q : ℕ) (v : Option ℕ) → length (optional_text (commit_value q v)) ≤ 50
+commit_value_length q None = let z = null_short in omega (arith, z)
+commit_value_length q (Some v) =
+    let w = optional_short (bytes_of (offsets.write_value (record { group = group; topic = input_topic; partition = pos q; offset = pos v }) (pos 3))) in let l = offset_value_length q v in omega (arith, w, l)
+
 -- ---- an item, and several
 
 i64_value : (z : ℤ) → length (optional_text (Some (i64_text z))) ≤ 13
@@ -261,11 +271,10 @@ item_short c o (State a x n) i h =
     let v = optional_short (bytes_of (write_value (pos 1) (value_of c a x n))) in let vl = value_length c a x n i h.2 in
     let b = batch_short (item_batch c o (State a x n)) (state_record c a x n) 30 8010 0 refl (omega (arith, k, kl)) (omega (arith, v, vl)) (let z = no_headers in omega (arith, z)) in omega (arith, b)
 item_short c o (Output a e s x v n) i h =
-    let b = batch_short (item_batch c o (Output a e s x v n)) (output_record x v) 5 13 500 refl null_short (i64_value (pos v)) (claim_length x h.3) in omega (arith, b)
+    let b = batch_short (item_batch c o (Output a e s x v n)) (output_record x v) 5 13 500 refl null_short (i64_value (pos v)) (headers_length x h.3) in omega (arith, b)
 item_short c o (Offset a e q v n) i h =
     let k = optional_short (bytes_of (offsets.write_key (record { group = group; topic = input_topic; partition = pos q }))) in let kl = offset_key_length q in
-    let w = optional_short (bytes_of (offsets.write_value (record { group = group; topic = input_topic; partition = pos q; offset = pos v }) (pos 3))) in let wl = offset_value_length q v in
-    let b = batch_short (item_batch c o (Offset a e q v n)) (offset_record q v) 30 50 0 refl (omega (arith, k, kl)) (omega (arith, w, wl)) (let z = no_headers in omega (arith, z)) in omega (arith, b)
+    let b = batch_short (item_batch c o (Offset a e q v n)) (offset_record q v) 30 50 0 refl (omega (arith, k, kl)) (commit_value_length q v) (let z = no_headers in omega (arith, z)) in omega (arith, b)
 item_short c o (Marker a e k n) i h =
     let t = optional_short (i16_text (pos 0) ++ i16_text (control_type k)) in
     let tl : length (i16_text (pos 0) ++ i16_text (control_type k)) ≡ 4 = simp (length-append, length-i16_text) refl in

@@ -27,7 +27,7 @@ use Rattle.eos_machine.specs.Logs.{entries_of, last_state}
 use Rattle.eos_machine.specs.Rules.{marker_of}
 use Rattle.eos_machine.specs.Tests.{is_ongoing, has, ongoing_partitions}
 use Rattle.eos_machine.specs.Answers.{Answer, when}
-use Rattle.eos_machine.specs.Sessions.{new_session, sequence_of, after_output, after_offset, after_end, after_resume, sent, produce, commit_offset, commit, end_session, resume_ended, resume, fetch}
+use Rattle.eos_machine.specs.Sessions.{new_session, claimed_topic, sequence_of, after_output, after_offset, after_end, after_resume, sent, produce, commit_offset, commit, end_session, resume_ended, resume, fetch}
 use Rattle.eos_machine.specs.Deliveries.{with_partition, appended, accept, fenced, marked, ticked_off, ticked, without, deliver}
 use Rattle.eos_machine.specs.Machine.{start_session, start, reread, due_again, queued_again, happens_under, counted, step_under, run_under}
 use Rattle.eos_machine.specs.Formed.{Names, IsOfOne, IsFormed}
@@ -40,12 +40,12 @@ use Rattle.eos_logs.proofs.ListedPlaces.{AreListed, listed_filter, listed_more, 
 abbrev pub KeptItem : (List ℕ → Type 0) → Config → Item → Type 0
 KeptItem P c (Fed n) = n < 2 ^ 31
 KeptItem P c (State a x n) = (a < c.applications) × AreListed c x.partitions × (n < 2 ^ 31)
-KeptItem P c (Output a e s x v n) = (a < c.applications) × P x.topic × (v < 2 ^ 31) × (n < 2 ^ 31)
+KeptItem P c (Output a e s x v n) = (a < c.applications) × P (claimed_topic x) × (v < 2 ^ 31) × (n < 2 ^ 31)
 KeptItem P c (Offset a e q v n) = (a < c.applications) × (q < c.inputs) × (n < 2 ^ 31)
 KeptItem P c (Marker a e k n) = (a < c.applications) × (n < 2 ^ 31)
 
 abbrev pub KeptMessage : (List ℕ → Type 0) → Config → Message → Type 0
-KeptMessage P c (messages.Output a e p s x v) = P x.topic × (v < 2 ^ 31)
+KeptMessage P c (messages.Output a e p s x v) = P (claimed_topic x) × (v < 2 ^ 31)
 KeptMessage P c (messages.Offset a e g q v) = q < c.inputs
 KeptMessage P c (messages.End a e k) = ⊤
 KeptMessage P c (messages.Marker a e k p) = ⊤
@@ -60,7 +60,7 @@ pub record Kept (P : List ℕ → Type 0) (c : Config) (k : ℕ) (w : World) : T
 abbrev pub TopicIs : (List ℕ → Type 0) → Event → Type 0
 TopicIs P (events.Feed p) = ⊤
 TopicIs P (events.Start a) = ⊤
-TopicIs P (events.Produce n p x) = length x.topic ≤ 249 → P x.topic
+TopicIs P (events.Produce n p x) = length (claimed_topic x) ≤ 249 → P (claimed_topic x)
 TopicIs P (events.Commit n q v) = ⊤
 TopicIs P (events.End n k) = ⊤
 TopicIs P (events.Resume n) = ⊤
@@ -234,21 +234,22 @@ kept_sent P c k w n s x h i = record { coordinators = h.coordinators; logs = h.l
 kept_like : (P : List ℕ → Type 0) (c : Config) (k : ℕ) (w : World) (ss : List Session) (ac : List Bool) (g n : ℕ) → Kept P c k w → Kept P c k (record { logs = w.logs; coordinators = w.coordinators; messages = w.messages; accepted = ac; sessions = ss; generation = g; events = n })
 kept_like P c k w ss ac g n h = record { coordinators = h.coordinators; logs = h.logs; messages = h.messages; count = h.count }
 
-kept_produce : (P : List ℕ → Type 0) (c : Config) (k : ℕ) (w : World) (n p : ℕ) (x : Claim) (r : Option Session) → w.events < 2 ^ 31 → (length x.topic ≤ 249 → P x.topic) → Kept P c k w → Kept P c k (produce c w n p x r).0
+kept_produce : (P : List ℕ → Type 0) (c : Config) (k : ℕ) (w : World) (n p : ℕ) (x : Option Claim) (r : Option Session) → w.events < 2 ^ 31 → (length (claimed_topic x) ≤ 249 → P (claimed_topic x)) → Kept P c k w → Kept P c k (produce c w n p x r).0
 kept_produce P c k w n p x None e t h = h
 kept_produce P c k w n p x (Some s) e t h =
     kept_if P c k _ _ _ h (λ f1.
-    let l : length x.topic ≤ 249 = not_lt 249 (length x.topic) (or_parts (not (nat_lt p c.outputs)) (nat_lt 249 (length x.topic)) f1).1 in
+    let l : length (claimed_topic x) ≤ 249 = not_lt 249 (length (claimed_topic x)) (or_parts (not (nat_lt p c.outputs)) (nat_lt 249 (length (claimed_topic x))) f1).1 in
     kept_if P c k _ _ _ h (λ f2. kept_sent P c k w n (after_output s p (length w.messages)) (messages.Output s.application s.epoch p (sequence_of s p) x w.events) h (t l, e)))
 
-kept_offset : (P : List ℕ → Type 0) (c : Config) (k : ℕ) (w : World) (n q v : ℕ) (r : Option Session) → Kept P c k w → Kept P c k (commit_offset c w n q v r).0
+kept_offset : (P : List ℕ → Type 0) (c : Config) (k : ℕ) (w : World) (n q : ℕ) (v : Option ℕ) (r : Option Session) → Kept P c k w → Kept P c k (commit_offset c w n q v r).0
 kept_offset P c k w n q v None h = h
 kept_offset P c k w n q v (Some s) h = kept_if P c k _ _ _ h (λ f1. kept_if P c k _ _ _ h (λ f2.
     kept_sent P c k w n (after_offset s (length w.messages)) (messages.Offset s.application s.epoch s.generation q v) h (is_lt q c.inputs (not_false _ f1))))
 
-kept_commit : (P : List ℕ → Type 0) (c : Config) (k : ℕ) (w : World) (n q : ℕ) (v : ℤ) → Kept P c k w → Kept P c k (commit c w n q v).0
-kept_commit P c k w n q (pos v) h = kept_offset P c k w n q v (slice_get w.sessions n) h
-kept_commit P c k w n q (negsuc v) h = h
+kept_commit : (P : List ℕ → Type 0) (c : Config) (k : ℕ) (w : World) (n q : ℕ) (v : Option ℤ) → Kept P c k w → Kept P c k (commit c w n q v).0
+kept_commit P c k w n q None h = kept_offset P c k w n q None (slice_get w.sessions n) h
+kept_commit P c k w n q (Some (pos v)) h = kept_offset P c k w n q (Some v) (slice_get w.sessions n) h
+kept_commit P c k w n q (Some (negsuc v)) h = h
 
 kept_end : (P : List ℕ → Type 0) (c : Config) (m : ℕ) (w : World) (n : ℕ) (k : Kind) (r : Option Session) → Kept P c m w → Kept P c m (end_session w n k r).0
 kept_end P c m w n k None h = h

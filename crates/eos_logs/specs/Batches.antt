@@ -38,15 +38,15 @@ bytes_of (Err fault) = []
 
 -- ---- records
 
-abbrev pub record_of : Option (List ℕ) → List ℕ → List Header → Record
-record_of key value headers = record { attributes = pos 0; timestamp_delta = pos 0; key = key; value = Some value; headers = headers }
+abbrev pub record_of : Option (List ℕ) → Option (List ℕ) → List Header → Record
+record_of key value headers = record { attributes = pos 0; timestamp_delta = pos 0; key = key; value = value; headers = headers }
 
 -- an input's value is the number of its event
 abbrev pub fed_record : ℕ → Record
-fed_record n = record_of None (i64_text (pos n)) []
+fed_record n = record_of None (Some (i64_text (pos n))) []
 
 abbrev pub state_record : Config → ℕ → Entry → ℕ → Record
-state_record c a x n = record_of (Some (bytes_of (txnlog.write_key (transactional_id a)))) (bytes_of (txnlog.write_value (pos 1) (value_of c a x n))) []
+state_record c a x n = record_of (Some (bytes_of (txnlog.write_key (transactional_id a)))) (Some (bytes_of (txnlog.write_value (pos 1) (value_of c a x n)))) []
 
 abbrev pub header : List ℕ → List ℕ → Header
 header key value = record { key = key; value = Some value }
@@ -56,13 +56,22 @@ claim_headers x =
     header (codes "eo.topic") x.topic ∷ header (codes "eo.partition") (i32_text x.partition) ∷ header (codes "eo.offset") (i64_text x.offset)
     ∷ header (codes "eo.output") (i32_text x.output) ∷ header (codes "eo.of") (i32_text x.of) ∷ []
 
-abbrev pub output_record : Claim → ℕ → Record
-output_record x v = record_of None (i64_text (pos v)) (claim_headers x)
+-- a record without a claim has none
+abbrev pub headers_of : Option Claim → List Header
+headers_of None = []
+headers_of (Some x) = claim_headers x
 
-abbrev pub offset_record : ℕ → ℕ → Record
+abbrev pub output_record : Option Claim → ℕ → Record
+output_record x v = record_of None (Some (i64_text (pos v))) (headers_of x)
+
+-- a commit that deletes the offset has no value: it is a tombstone
+abbrev pub commit_value : ℕ → Option ℕ → Option (List ℕ)
+commit_value q None = None
+commit_value q (Some v) = Some (bytes_of (offsets.write_value (record { group = group; topic = input_topic; partition = pos q; offset = pos v }) (pos 3)))
+
+abbrev pub offset_record : ℕ → Option ℕ → Record
 offset_record q v =
-    record_of (Some (bytes_of (offsets.write_key (record { group = group; topic = input_topic; partition = pos q }))))
-    (bytes_of (offsets.write_value (record { group = group; topic = input_topic; partition = pos q; offset = pos v }) (pos 3))) []
+    record_of (Some (bytes_of (offsets.write_key (record { group = group; topic = input_topic; partition = pos q })))) (commit_value q v) []
 
 abbrev pub control_type : Kind → ℤ
 control_type Abort = pos 0
@@ -70,7 +79,7 @@ control_type Commit = pos 1
 
 -- version 0 and the type; version 0 and the coordinator's epoch, 0
 abbrev pub marker_record : Kind → Record
-marker_record k = record_of (Some (i16_text (pos 0) ++ i16_text (control_type k))) (i16_text (pos 0) ++ i32_text (pos 0)) []
+marker_record k = record_of (Some (i16_text (pos 0) ++ i16_text (control_type k))) (Some (i16_text (pos 0) ++ i32_text (pos 0))) []
 
 -- ---- batches
 

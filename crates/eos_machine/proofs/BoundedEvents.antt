@@ -226,7 +226,7 @@ sequence_within n s p h = all_at (λ q. q ≤ n) s.sequences p 0 (omega arith) h
 bounded_sent : (n : ℕ) (w : World) (m : ℕ) (s : Session) (x : Message) → Bounded n w → IsSafe n s → IsSent n x → Bounded n (like w (w.messages ++ x ∷ []) (w.accepted ++ false ∷ []) (slice_set w.sessions m s) w.generation w.events)
 bounded_sent n w m s x b h k = bounded_like n w _ _ _ _ _ b (All-push (IsSent n) w.messages x b.messages k) (All-set (IsSafe n) w.sessions m s h b.sessions) b.generation
 
-bounded_produce : (n : ℕ) (c : Config) (w : World) (m p : ℕ) (x : Claim) (r : Option Session) → Bounded n w → SafeIf n r → Bounded (n + 1) (produce c w m p x r).0
+bounded_produce : (n : ℕ) (c : Config) (w : World) (m p : ℕ) (x : Option Claim) (r : Option Session) → Bounded n w → SafeIf n r → Bounded (n + 1) (produce c w m p x r).0
 bounded_produce n c w m p x None b h = bounded_more n w b
 bounded_produce n c w m p x (Some s) b h =
     let d = bounded_more n w b in
@@ -235,13 +235,14 @@ bounded_produce n c w m p x (Some s) b h =
     bounded_sent (n + 1) w m (after_output s p (length w.messages)) (messages.Output s.application s.epoch p (sequence_of s p) x w.events) d
     (h.0, All-set (λ q. q ≤ n + 1) s.sequences p (sequence_of s p + 1) (omega (arith, l)) (sequences_more n s.sequences h.1)) (h.0, omega (arith, l))))
 
-bounded_commit_offset : (n : ℕ) (c : Config) (w : World) (m q v : ℕ) (r : Option Session) → Bounded n w → SafeIf n r → Bounded n (commit_offset c w m q v r).0
+bounded_commit_offset : (n : ℕ) (c : Config) (w : World) (m q : ℕ) (v : Option ℕ) (r : Option Session) → Bounded n w → SafeIf n r → Bounded n (commit_offset c w m q v r).0
 bounded_commit_offset n c w m q v None b h = b
 bounded_commit_offset n c w m q v (Some s) b h = bounded_if n _ _ _ (λ t. b) (λ f1. bounded_if n _ _ _ (λ t. b) (λ f2. bounded_sent n w m (after_offset s (length w.messages)) _ b h h.0))
 
-bounded_commit : (n : ℕ) (c : Config) (w : World) (m q : ℕ) (v : ℤ) → Bounded n w → Bounded n (commit c w m q v).0
-bounded_commit n c w m q (pos v) b = bounded_commit_offset n c w m q v (slice_get w.sessions m) b (safe_at n w.sessions m b.sessions)
-bounded_commit n c w m q (negsuc v) b = b
+bounded_commit : (n : ℕ) (c : Config) (w : World) (m q : ℕ) (v : Option ℤ) → Bounded n w → Bounded n (commit c w m q v).0
+bounded_commit n c w m q None b = bounded_commit_offset n c w m q None (slice_get w.sessions m) b (safe_at n w.sessions m b.sessions)
+bounded_commit n c w m q (Some (pos v)) b = bounded_commit_offset n c w m q (Some v) (slice_get w.sessions m) b (safe_at n w.sessions m b.sessions)
+bounded_commit n c w m q (Some (negsuc v)) b = b
 
 bounded_end : (n : ℕ) (w : World) (m : ℕ) (k : Kind) (r : Option Session) → Bounded n w → SafeIf n r → Bounded n (end_session w m k r).0
 bounded_end n w m k None b h = b

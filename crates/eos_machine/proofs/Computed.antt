@@ -7,7 +7,7 @@ use Rattle.eos_machine.specs.World.{World}
 use Rattle.eos_machine.specs.Switching.{none}
 use Rattle.eos_machine.specs.Machine.{step, run, run_under}
 use Rattle.eos_machine.specs.SwitchedRuns.{Breaks, all_under}
-use Rattle.eos_machine.specs.Runs.{Commits, Restarts, Fences, Fetches, Lists}
+use Rattle.eos_machine.specs.Runs.{Commits, Restarts, Fences, Fetches, Omits, Lists}
 
 pub commits : Commits
 unfolding when
@@ -24,6 +24,10 @@ fences = record { early = refl; late = refl; output = refl }
 pub fetches : Fetches
 unfolding when
 fetches = record { replies = refl; input = refl; offsets = refl }
+
+pub omits : Omits
+unfolding when
+omits = record { replies = refl; output = refl; offsets = refl }
 
 pub lists : Lists
 unfolding when

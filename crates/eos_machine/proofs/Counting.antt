@@ -91,17 +91,18 @@ few_deliver n c w m (Some (messages.Marker a e k p)) h =
     let i : Few (n + 1) (with_item w p (Marker a e k w.events)) = few_item n w p (Marker a e k w.events) h in
     few_if (n + 1) _ _ _ (few_more n w h) (few_if (n + 1) _ _ _ i (few_if (n + 1) _ _ _ (few_finished (n + 1) c (with_coord (with_item w p (Marker a e k w.events)) a (ticked_off (coord_at w a) p)) a k i) i))
 
-few_session : (n : ℕ) (c : Config) (w : World) (m p : ℕ) (x : Claim) (r : Option Session) → Few n w → Few n (produce c w m p x r).0
+few_session : (n : ℕ) (c : Config) (w : World) (m p : ℕ) (x : Option Claim) (r : Option Session) → Few n w → Few n (produce c w m p x r).0
 few_session n c w m p x None h = h
 few_session n c w m p x (Some s) h = few_if n _ _ _ h (few_if n _ _ _ h h)
 
-few_commit : (n : ℕ) (c : Config) (w : World) (m q v : ℕ) (r : Option Session) → Few n w → Few n (commit_offset c w m q v r).0
+few_commit : (n : ℕ) (c : Config) (w : World) (m q : ℕ) (v : Option ℕ) (r : Option Session) → Few n w → Few n (commit_offset c w m q v r).0
 few_commit n c w m q v None h = h
 few_commit n c w m q v (Some s) h = few_if n _ _ _ h (few_if n _ _ _ h h)
 
-few_commits : (n : ℕ) (c : Config) (w : World) (m q : ℕ) (v : ℤ) → Few n w → Few n (commit c w m q v).0
-few_commits n c w m q (pos v) h = few_commit n c w m q v (slice_get w.sessions m) h
-few_commits n c w m q (negsuc v) h = h
+few_commits : (n : ℕ) (c : Config) (w : World) (m q : ℕ) (v : Option ℤ) → Few n w → Few n (commit c w m q v).0
+few_commits n c w m q None h = few_commit n c w m q None (slice_get w.sessions m) h
+few_commits n c w m q (Some (pos v)) h = few_commit n c w m q (Some v) (slice_get w.sessions m) h
+few_commits n c w m q (Some (negsuc v)) h = h
 
 few_end : (n : ℕ) (w : World) (m : ℕ) (k : Kind) (r : Option Session) → Few n w → Few n (end_session w m k r).0
 few_end n w m k None h = h

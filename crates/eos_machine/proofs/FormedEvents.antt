@@ -16,7 +16,7 @@ use Rattle.eos_machine.specs.declared.event.Event.TheVariants as events
 use Rattle.eos_machine.specs.Rules.{marker_of}
 use Rattle.eos_machine.specs.Tests.{is_ongoing, has, ongoing_partitions}
 use Rattle.eos_machine.specs.Answers.{Answer, when, Done, Fenced}
-use Rattle.eos_machine.specs.Sessions.{new_session, sequence_of, after_output, after_offset, after_end, after_resume, sent, produce, commit_offset, commit, end_session, resume_ended, resume, fetch}
+use Rattle.eos_machine.specs.Sessions.{claimed_topic, new_session, sequence_of, after_output, after_offset, after_end, after_resume, sent, produce, commit_offset, commit, end_session, resume_ended, resume, fetch}
 use Rattle.eos_machine.specs.Deliveries.{with_partition, appended, accept, fenced, marked, ticked_off, ticked, deliver}
 use Rattle.eos_machine.specs.Machine.{start_session, start, reread, due_again, queued_again, happens_under, counted, step_under, run_under}
 use Rattle.eos_machine.specs.Formed.{Names, IsOfOne, IsFormed}
@@ -131,20 +131,21 @@ formed_sent c w n s x f o h = record {
   sessions = All-set (IsOfOne c) w.sessions n s o f.sessions;
 }
 
-formed_produce : (c : Config) (w : World) (n p : ℕ) (x : Claim) (r : Option Session) → IsFormed c w → OneIf c r → IsFormed c (produce c w n p x r).0
+formed_produce : (c : Config) (w : World) (n p : ℕ) (x : Option Claim) (r : Option Session) → IsFormed c w → OneIf c r → IsFormed c (produce c w n p x r).0
 formed_produce c w n p x None f o = f
 formed_produce c w n p x (Some s) f o =
     formed_if c _ _ _ f (λ f1.
-    let l : p < c.outputs = is_lt p c.outputs (not_false _ (or_parts (not (nat_lt p c.outputs)) (nat_lt 249 (length x.topic)) f1).0) in
+    let l : p < c.outputs = is_lt p c.outputs (not_false _ (or_parts (not (nat_lt p c.outputs)) (nat_lt 249 (length (claimed_topic x))) f1).0) in
     formed_if c _ _ _ f (λ f2. formed_sent c w n (after_output s p (length w.messages)) (messages.Output s.application s.epoch p (sequence_of s p) x w.events) f o (o, l)))
 
-formed_offset : (c : Config) (w : World) (n q v : ℕ) (r : Option Session) → IsFormed c w → OneIf c r → IsFormed c (commit_offset c w n q v r).0
+formed_offset : (c : Config) (w : World) (n q : ℕ) (v : Option ℕ) (r : Option Session) → IsFormed c w → OneIf c r → IsFormed c (commit_offset c w n q v r).0
 formed_offset c w n q v None f o = f
 formed_offset c w n q v (Some s) f o = formed_if c _ _ _ f (λ f1. formed_if c _ _ _ f (λ f2. formed_sent c w n (after_offset s (length w.messages)) (messages.Offset s.application s.epoch s.generation q v) f o o))
 
-formed_commit : (c : Config) (w : World) (n q : ℕ) (v : ℤ) → IsFormed c w → IsFormed c (commit c w n q v).0
-formed_commit c w n q (pos v) f = formed_offset c w n q v (slice_get w.sessions n) f (session_at c w.sessions n f.sessions)
-formed_commit c w n q (negsuc v) f = f
+formed_commit : (c : Config) (w : World) (n q : ℕ) (v : Option ℤ) → IsFormed c w → IsFormed c (commit c w n q v).0
+formed_commit c w n q None f = formed_offset c w n q None (slice_get w.sessions n) f (session_at c w.sessions n f.sessions)
+formed_commit c w n q (Some (pos v)) f = formed_offset c w n q (Some v) (slice_get w.sessions n) f (session_at c w.sessions n f.sessions)
+formed_commit c w n q (Some (negsuc v)) f = f
 
 formed_end : (c : Config) (w : World) (n : ℕ) (k : Kind) (r : Option Session) → IsFormed c w → OneIf c r → IsFormed c (end_session w n k r).0
 formed_end c w n k None f o = f

@@ -20,7 +20,7 @@ use Rattle.eos_machine.specs.Application.{Mark, Batch, End, Decision, IsOrdered}
 use Rattle.eos_machine.specs.Logs.{mark_in, entries_of, marks_of, last_state, producer_at, next_sequence, not_above, unseen}
 use Rattle.eos_machine.specs.Tests.{is_ongoing, is_prepare, has, is_nil, is_commit, is_current, waits_for, ongoing_partitions}
 use Rattle.eos_machine.specs.Answers.{Answer, when}
-use Rattle.eos_machine.specs.Sessions.{new_session, after_output, after_offset, after_end, after_resume, sent, produce, commit_offset, commit, end_session, resume_ended, resume, fetch}
+use Rattle.eos_machine.specs.Sessions.{claimed_topic, new_session, after_output, after_offset, after_end, after_resume, sent, produce, commit_offset, commit, end_session, resume_ended, resume, fetch}
 use Rattle.eos_machine.specs.Deliveries.{with_partition, accept, deliver_output, deliver_offset, deliver_end, without, ticked_off, deliver_marker, deliver}
 use Rattle.eos_machine.specs.Machine.{feed, start_session, start, reread, due_again, queued_again, restarted, happens, counted, step, run}
 use Rattle.eos_machine.specs.Rest.{decisions_of}
@@ -307,7 +307,7 @@ good_accept c w n a p e q x g r lp is cur np f num =
     let gi : Good c (with_item (with_partition none c w a p) p x) = good_item c (with_partition none c w a p) p x a (Batch e q) gv is pt.range.part (appended_keeps (app_of c (with_partition none c w a p) a) p e q (gv.apps a) pt.there) kept in
     good_like c (with_item (with_partition none c w a p) p x) _ _ _ _ _ gi gi.due gi.sessions
 
-good_output : (c : Config) (w : World) (n a e p s : ℕ) (x : Claim) (v : ℕ) → Good c w → InRange c w a p → IsPlace c p → Good c (deliver_output none c w n a e p s x v).0
+good_output : (c : Config) (w : World) (n a e p s : ℕ) (x : Option Claim) (v : ℕ) → Good c w → InRange c w a p → IsPlace c p → Good c (deliver_output none c w n a e p s x v).0
 good_output c w n a e p s x v g r lp =
     good_if c _ _ _ (λ h. g) (λ f.
     good_if c _ _ _ (λ h. g) (λ f2.
@@ -315,7 +315,7 @@ good_output c w n a e p s x v g r lp =
     good_if c _ _ _ (λ h. g) (λ f4.
     good_if c _ _ _ (λ h. g) (λ f5. good_accept c w n a p e (Some s) (Output a e s x v w.events) g r lp (of_output a e s x v w.events) (not_false _ f4) f5 f (eqb-true s (next_sequence (producer_at w a p) e) (not_false _ f3)))))))
 
-good_offset : (c : Config) (w : World) (n a e y q v : ℕ) → Good c w → InRange c w a offsets_place → Good c (deliver_offset none c w n a e y q v).0
+good_offset : (c : Config) (w : World) (n a e y q : ℕ) (v : Option ℕ) → Good c w → InRange c w a offsets_place → Good c (deliver_offset none c w n a e y q v).0
 good_offset c w n a e y q v g r =
     good_if c _ _ _ (λ h. g) (λ f1.
     good_if c _ _ _ (λ h. g) (λ f2.
@@ -439,20 +439,21 @@ session_at c (x ∷ ss) (suc n) h = session_at c ss n (All-tail (IsOfOne c) x ss
 good_sent : (c : Config) (w : World) (n : ℕ) (s : Session) (x : Message) → Good c w → IsOfOne c s → IsDue c w x → Good c (sent w n s x)
 good_sent c w n s x g o d = good_like c w (w.messages ++ x ∷ []) _ _ w.generation w.events g (All-push (IsDue c w) w.messages x g.due d) (All-set (IsOfOne c) w.sessions n s o g.sessions)
 
-good_produce : (c : Config) (w : World) (n p : ℕ) (x : Claim) (r : Option Session) → Good c w → OneIf c r → Good c (produce c w n p x r).0
+good_produce : (c : Config) (w : World) (n p : ℕ) (x : Option Claim) (r : Option Session) → Good c w → OneIf c r → Good c (produce c w n p x r).0
 good_produce c w n p x None g o = g
 good_produce c w n p x (Some s) g o =
     good_if c _ _ _ (λ h. g) (λ f.
-    let l : p < c.outputs = is_lt p c.outputs (not_false _ (or_parts (not (nat_lt p c.outputs)) (nat_lt 249 (length x.topic)) f).0) in
+    let l : p < c.outputs = is_lt p c.outputs (not_false _ (or_parts (not (nat_lt p c.outputs)) (nat_lt 249 (length (claimed_topic x))) f).0) in
     good_if c _ _ _ (λ h. g) (λ h. good_sent c w n (after_output s p (length w.messages)) _ g o (o, l)))
 
-good_commit_offset : (c : Config) (w : World) (n q v : ℕ) (r : Option Session) → Good c w → OneIf c r → Good c (commit_offset c w n q v r).0
+good_commit_offset : (c : Config) (w : World) (n q : ℕ) (v : Option ℕ) (r : Option Session) → Good c w → OneIf c r → Good c (commit_offset c w n q v r).0
 good_commit_offset c w n q v None g o = g
 good_commit_offset c w n q v (Some s) g o = good_if c _ _ _ (λ h. g) (λ f. good_if c _ _ _ (λ h. g) (λ h. good_sent c w n (after_offset s (length w.messages)) _ g o o))
 
-good_commit : (c : Config) (w : World) (n q : ℕ) (v : ℤ) → Good c w → Good c (commit c w n q v).0
-good_commit c w n q (pos v) g = good_commit_offset c w n q v (slice_get w.sessions n) g (session_at c w.sessions n g.sessions)
-good_commit c w n q (negsuc v) g = g
+good_commit : (c : Config) (w : World) (n q : ℕ) (v : Option ℤ) → Good c w → Good c (commit c w n q v).0
+good_commit c w n q None g = good_commit_offset c w n q None (slice_get w.sessions n) g (session_at c w.sessions n g.sessions)
+good_commit c w n q (Some (pos v)) g = good_commit_offset c w n q (Some v) (slice_get w.sessions n) g (session_at c w.sessions n g.sessions)
+good_commit c w n q (Some (negsuc v)) g = g
 
 good_end_session : (c : Config) (w : World) (n : ℕ) (k : Kind) (r : Option Session) → Good c w → OneIf c r → Good c (end_session w n k r).0
 good_end_session c w n k None g o = g

@@ -103,10 +103,10 @@ pub record IsOf (a : ℕ) (x : Item) (t : Mark) : Type 0 where
   pub others : (b : ℕ) → b ≢ a → mark_in b x ≡ None
   pub no_entry : (b : ℕ) → entry_in b x ≡ None
 
-pub of_output : (a e s : ℕ) (x : Claim) (v m : ℕ) → IsOf a (Output a e s x v m) (Batch e (Some s))
+pub of_output : (a e s : ℕ) (x : Option Claim) (v m : ℕ) → IsOf a (Output a e s x v m) (Batch e (Some s))
 of_output a e s x v m = record { itself = rw (is_same a) refl; others = λ b n. rw (not_same a b (λ q. n (sym q))) refl; no_entry = λ b. refl }
 
-pub of_offset : (a e q v m : ℕ) → IsOf a (Offset a e q v m) (Batch e None)
+pub of_offset : (a e q : ℕ) (v : Option ℕ) (m : ℕ) → IsOf a (Offset a e q v m) (Batch e None)
 of_offset a e q v m = record { itself = rw (is_same a) refl; others = λ b n. rw (not_same a b (λ q. n (sym q))) refl; no_entry = λ b. refl }
 
 pub of_marker : (a e : ℕ) (k : Kind) (m : ℕ) → IsOf a (Marker a e k m) (End e k)

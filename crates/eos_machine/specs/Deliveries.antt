@@ -35,7 +35,7 @@ abbrev pub fenced : Switches → World → ℕ → ℕ → Item → Answer
 fenced u w n p x = if u.no_fence then (appended w n p x, Done (length (log_at w p))) else (w, Fenced)
 
 -- at the partition p
-abbrev pub deliver_output : Switches → Config → World → ℕ → ℕ → ℕ → ℕ → ℕ → Claim → ℕ → Answer
+abbrev pub deliver_output : Switches → Config → World → ℕ → ℕ → ℕ → ℕ → ℕ → Option Claim → ℕ → Answer
 deliver_output u c w n a e p s x v =
     when (nat_lt e (producer_at w a p).high) (fenced u w n p (Output a e s x v w.events)) (
     when (is_repeated u (producer_at w a p) e s) (w, DuplicateKept) (
@@ -44,7 +44,7 @@ deliver_output u c w n a e p s x v =
     when (is_prepare (coord_at w a).status) (w, Busy) (
     (accept u c w n a p (Output a e s x v w.events), Done (length (log_at w p))))))))
 
-abbrev pub deliver_offset : Switches → Config → World → ℕ → ℕ → ℕ → ℕ → ℕ → ℕ → Answer
+abbrev pub deliver_offset : Switches → Config → World → ℕ → ℕ → ℕ → ℕ → ℕ → Option ℕ → Answer
 deliver_offset u c w n a e g q v =
     when (slice_index_or w.accepted n false) (w, DuplicateKept) (
     when (is_stale u g w.generation) (w, StaleGeneration) (

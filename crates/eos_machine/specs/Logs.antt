@@ -113,13 +113,18 @@ has_open_commit q (Output a e s x v n ∷ xs) = has_open_commit q xs
 has_open_commit q (Offset a e r v n ∷ xs) = if r == q && is_open (first_kind a xs) then true else has_open_commit q xs
 has_open_commit q (Marker a e k n ∷ xs) = has_open_commit q xs
 
--- the offset of the last commit for this source whose next marker is COMMIT, or this one where there is none
+-- where a group begins after a commit: at 0 where that deletes its offset
+abbrev pub begins_at : Option ℕ → ℕ
+begins_at None = 0
+begins_at (Some v) = v
+
+-- where a group begins after the last commit for this source whose next marker is COMMIT, or this offset where there is none
 abbrev pub committed_from : ℕ → ℕ → List Item → ℕ
 committed_from q d [] = d
 committed_from q d (Fed n ∷ xs) = committed_from q d xs
 committed_from q d (State a x n ∷ xs) = committed_from q d xs
 committed_from q d (Output a e s x v n ∷ xs) = committed_from q d xs
-committed_from q d (Offset a e r v n ∷ xs) = committed_from q (if r == q && is_committed (first_kind a xs) then v else d) xs
+committed_from q d (Offset a e r v n ∷ xs) = committed_from q (if r == q && is_committed (first_kind a xs) then begins_at v else d) xs
 committed_from q d (Marker a e k n ∷ xs) = committed_from q d xs
 
 -- the committed offset of a source: 0 at first

@@ -1,5 +1,5 @@
 -- Short schedules, with what is answered and what stands in the logs after them.
-use Rattle.std.specs.Prelude.{◌≡◌, pos, negsuc, List, [], ◌∷◌, drop}
+use Rattle.std.specs.Prelude.{◌≡◌, pos, negsuc, List, [], ◌∷◌, Option, Some, None, drop}
 use Rattle.eos_batch.specs.declared.marker.Kind.TheVariants.{Commit, Abort}
 use Rattle.eos_machine.specs.Places.{Config, input_topic, output_topic}
 use Rattle.eos_machine.specs.World.{World, Claim, Event, Reply, Empty, Ongoing, Prepare, Complete, Fed, State, Output, Offset, Marker, opening, log_at}
@@ -16,8 +16,8 @@ abbrev pub single : Config
 single = record { applications = 1; inputs = 1; outputs = 1; transaction_logs = 1; segment_records = 1 }
 
 -- the only output of the input at in-0:0
-abbrev pub claim : Claim
-claim = record { topic = input_topic; partition = pos 0; offset = pos 0; output = pos 1; of = pos 1 }
+abbrev pub claim : Option Claim
+claim = Some (record { topic = input_topic; partition = pos 0; offset = pos 0; output = pos 1; of = pos 1 })
 
 -- what is answered to a list of events, and the state after it
 abbrev pub Answers : Config → List Event → List Reply → Type 0
@@ -64,18 +64,29 @@ pub record Fences : Type 0 where
 -- an offset is committed: while its transaction is open nobody fetches it, and another generation of the group never does
 abbrev pub fetching : List Event
 fetching =
-    events.Feed 0 ∷ events.Start 0 ∷ events.Fetch 0 0 ∷ events.Commit 0 0 (negsuc 0) ∷ events.Commit 0 0 (pos 1) ∷ events.End 0 Commit ∷ events.Deliver 0 ∷ events.Deliver 0 ∷ events.Fetch 0 0
+    events.Feed 0 ∷ events.Start 0 ∷ events.Fetch 0 0 ∷ events.Commit 0 0 (Some (negsuc 0)) ∷ events.Commit 0 0 (Some (pos 1)) ∷ events.End 0 Commit ∷ events.Deliver 0 ∷ events.Deliver 0 ∷ events.Fetch 0 0
     ∷ events.End 0 Commit ∷ events.Deliver 1 ∷ events.Deliver 2 ∷ events.Fetch 0 0 ∷ events.Members ∷ events.Fetch 0 0 ∷ []
 
 pub record Fetches : Type 0 where
   pub replies : Answers pair fetching (Done 0 ∷ Done 0 ∷ Done 0 ∷ Unknown ∷ Done 0 ∷ WrongState ∷ Done 0 ∷ DuplicateKept ∷ Busy ∷ Done 1 ∷ Done 2 ∷ Done 1 ∷ Done 1 ∷ Done 0 ∷ StaleGeneration ∷ [])
   pub input : log_at (after pair fetching) 2 ≡ Fed 0 ∷ []
-  pub offsets : log_at (after pair fetching) 0 ≡ Offset 0 0 0 1 6 ∷ Marker 0 1 Commit 11 ∷ []
+  pub offsets : log_at (after pair fetching) 0 ≡ Offset 0 0 0 (Some 1) 6 ∷ Marker 0 1 Commit 11 ∷ []
+
+-- a record without headers and an offset are committed; then the offset is deleted, and the group begins at 0 again
+abbrev pub omitting : List Event
+omitting =
+    events.Start 0 ∷ events.Produce 0 0 None ∷ events.Commit 0 0 (Some (pos 3)) ∷ events.Deliver 0 ∷ events.Deliver 1 ∷ events.End 0 Commit ∷ events.Deliver 2 ∷ events.Deliver 3 ∷ events.Deliver 4 ∷ events.Fetch 0 0
+    ∷ events.Resume 0 ∷ events.Commit 0 0 None ∷ events.Deliver 5 ∷ events.End 0 Commit ∷ events.Deliver 6 ∷ events.Deliver 7 ∷ events.Fetch 0 0 ∷ []
+
+pub record Omits : Type 0 where
+  pub replies : Answers pair omitting (Done 0 ∷ Done 0 ∷ Done 1 ∷ Done 0 ∷ Done 0 ∷ Done 2 ∷ Done 3 ∷ Done 1 ∷ Done 1 ∷ Done 3 ∷ Done 1 ∷ Done 5 ∷ Done 2 ∷ Done 6 ∷ Done 7 ∷ Done 3 ∷ Done 0 ∷ [])
+  pub output : log_at (after pair omitting) 4 ≡ Output 0 0 0 None 1 3 ∷ Marker 0 1 Commit 7 ∷ []
+  pub offsets : log_at (after pair omitting) 0 ≡ Offset 0 0 0 (Some 3) 4 ∷ Marker 0 1 Commit 8 ∷ Offset 0 1 0 None 12 ∷ Marker 0 2 Commit 15 ∷ []
 
 -- a transaction of three partitions, with a record that comes too early: a number goes last under its topic
 abbrev pub listing : List Event
 listing =
-    events.Start 0 ∷ events.Produce 0 0 claim ∷ events.Produce 0 0 claim ∷ events.Deliver 1 ∷ events.Deliver 0 ∷ events.Commit 0 1 (pos 5) ∷ events.Deliver 2 ∷ events.Produce 0 1 claim ∷ events.Deliver 3 ∷ events.Deliver 1
+    events.Start 0 ∷ events.Produce 0 0 claim ∷ events.Produce 0 0 claim ∷ events.Deliver 1 ∷ events.Deliver 0 ∷ events.Commit 0 1 (Some (pos 5)) ∷ events.Deliver 2 ∷ events.Produce 0 1 claim ∷ events.Deliver 3 ∷ events.Deliver 1
     ∷ events.End 0 Abort ∷ events.Deliver 4 ∷ []
 
 pub record Lists : Type 0 where

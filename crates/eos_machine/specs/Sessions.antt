@@ -1,5 +1,5 @@
 -- What a session asks: its requests become messages (KIP-98, "Data flow"; KIP-447, the group's generation).
-use Rattle.std.specs.Prelude.{ℕ, ◌+◌, ◌==◌, nat_lt, ℤ, pos, negsuc, Bool, false, not, ◌&&◌, ◌||◌, [], ◌∷◌, ◌++◌, length, replicate, slice_get, slice_index_or, slice_set, Option, Some, None}
+use Rattle.std.specs.Prelude.{ℕ, ◌+◌, ◌==◌, nat_lt, ℤ, pos, negsuc, Bool, false, not, ◌&&◌, ◌||◌, List, [], ◌∷◌, ◌++◌, length, replicate, slice_get, slice_index_or, slice_set, Option, Some, None}
 use Rattle.std.specs.List.{list_any}
 use Rattle.eos_batch.specs.declared.marker.Kind.{Kind}
 use Rattle.eos_machine.specs.Places.{Config, offsets_place}
@@ -37,14 +37,19 @@ after_resume c s = record s { epoch = s.epoch + 1; ending = None; sequences = re
 abbrev pub sent : World → ℕ → Session → Message → World
 sent w n s x = with_sessions (with_messages w (x ∷ [])) (slice_set w.sessions n s)
 
-abbrev pub produce : Config → World → ℕ → ℕ → Claim → Option Session → Answer
+-- the topic that a record's claim names; a record without a claim names none
+abbrev pub claimed_topic : Option Claim → List ℕ
+claimed_topic None = []
+claimed_topic (Some x) = x.topic
+
+abbrev pub produce : Config → World → ℕ → ℕ → Option Claim → Option Session → Answer
 produce c w n p x None = (w, Unknown)
 produce c w n p x (Some s) =
-    when (not (nat_lt p c.outputs) || nat_lt 249 (length x.topic)) (w, Unknown) (
+    when (not (nat_lt p c.outputs) || nat_lt 249 (length (claimed_topic x))) (w, Unknown) (
     when (not (is_active s.ending)) (w, WrongState) (
     (sent w n (after_output s p (length w.messages)) (messages.Output s.application s.epoch p (sequence_of s p) x w.events), Done (length w.messages))))
 
-abbrev pub commit_offset : Config → World → ℕ → ℕ → ℕ → Option Session → Answer
+abbrev pub commit_offset : Config → World → ℕ → ℕ → Option ℕ → Option Session → Answer
 commit_offset c w n q v None = (w, Unknown)
 commit_offset c w n q v (Some s) =
     when (not (nat_lt q c.inputs)) (w, Unknown) (
@@ -52,9 +57,10 @@ commit_offset c w n q v (Some s) =
     (sent w n (after_offset s (length w.messages)) (messages.Offset s.application s.epoch s.generation q v), Done (length w.messages))))
 
 -- no offset is below 0
-abbrev pub commit : Config → World → ℕ → ℕ → ℤ → Answer
-commit c w n q (pos v) = commit_offset c w n q v (slice_get w.sessions n)
-commit c w n q (negsuc v) = (w, Unknown)
+abbrev pub commit : Config → World → ℕ → ℕ → Option ℤ → Answer
+commit c w n q None = commit_offset c w n q None (slice_get w.sessions n)
+commit c w n q (Some (pos v)) = commit_offset c w n q (Some v) (slice_get w.sessions n)
+commit c w n q (Some (negsuc v)) = (w, Unknown)
 
 -- a message that no broker has accepted
 abbrev pub is_missing : World → ℕ → Bool

@@ -1,5 +1,5 @@
 -- A short schedule under each switch, with what is answered and what stands in the logs after it.
-use Rattle.std.specs.Prelude.{◌≡◌, pos, List, [], ◌∷◌, map}
+use Rattle.std.specs.Prelude.{◌≡◌, pos, List, [], ◌∷◌, Some, map}
 use Rattle.eos_batch.specs.declared.marker.Kind.TheVariants.{Commit, Abort}
 use Rattle.eos_machine.specs.declared.switches.Switch.{Switch}
 use Rattle.eos_machine.specs.declared.switches.Switch.TheVariants.{KeepDuplicates, NoFence, NoBump, LoseMarker, SwapMarker, HideListing, IgnoreGeneration}
@@ -42,7 +42,7 @@ both =
 
 -- the members of the group change before an offset comes
 abbrev pub changed : List Event
-changed = events.Start 0 ∷ events.Commit 0 0 (pos 1) ∷ events.Members ∷ events.Deliver 0 ∷ []
+changed = events.Start 0 ∷ events.Commit 0 0 (Some (pos 1)) ∷ events.Members ∷ events.Deliver 0 ∷ []
 
 pub record Breaks : Type 0 where
   pub duplicates : AnswersWith KeepDuplicates twice (Done 0 ∷ Done 0 ∷ Done 0 ∷ Done 1 ∷ [])
@@ -63,4 +63,4 @@ pub record Breaks : Type 0 where
       ∷ State 0 (record { status = Complete Commit; epoch = 1; partitions = [] }) 8 ∷ []
   pub hidden : log_at (after_with HideListing both) 5 ≡ Output 0 0 0 claim 2 4 ∷ Marker 0 1 Commit 8 ∷ []
   pub generation : AnswersWith IgnoreGeneration changed (Done 0 ∷ Done 0 ∷ Done 0 ∷ Done 0 ∷ [])
-  pub ignored : log_at (after_with IgnoreGeneration changed) 0 ≡ Offset 0 0 0 1 3 ∷ []
+  pub ignored : log_at (after_with IgnoreGeneration changed) 0 ≡ Offset 0 0 0 (Some 1) 3 ∷ []

@@ -16,17 +16,18 @@ pub enum Event {
     Start {
         application: usize,
     },
-    /// A session sends a record to a partition of `out`.
+    /// A session sends a record to a partition of `out`, without headers where it has no claim.
     Produce {
         session: usize,
         partition: usize,
-        claim: Claim,
+        claim: Option<Claim>,
     },
-    /// A session sends an offset of a partition of `in`, to be committed with its transaction.
+    /// A session sends an offset of a partition of `in`, to be committed with its transaction; without one the offset that
+    /// the group has there is to be deleted.
     Commit {
         session: usize,
         source: usize,
-        offset: i64,
+        offset: Option<i64>,
     },
     /// A session asks its transaction to end.
     End {

@@ -50,21 +50,23 @@ pub enum Item {
         entry: Entry,
         event: u64,
     },
-    /// A transactional record of `out`. Its value is the number of the event that produced it.
+    /// A transactional record of `out`. Its value is the number of the event that produced it; without a claim it has no
+    /// headers.
     Output {
         application: usize,
         epoch: u16,
         sequence: u32,
-        claim: Claim,
+        claim: Option<Claim>,
         value: u64,
         event: u64,
     },
-    /// A transactional commit of the group's offset in a partition of `in`.
+    /// A transactional commit of the group's offset in a partition of `in`; without an offset it has no value, and deletes
+    /// the group's.
     Offset {
         application: usize,
         epoch: u16,
         source: usize,
-        offset: u64,
+        offset: Option<u64>,
         event: u64,
     },
     /// The end marker of a transaction.

@@ -11,7 +11,7 @@ ghost use Rattle.eos_machine.specs.Switching.{none};
 ghost use Rattle.eos_machine.specs.Formed.{IsFormed};
 ghost use Rattle.eos_machine.specs.Machine.{run, run_under};
 ghost use Rattle.eos_machine.specs.Rest.{KeepsSequences, NeighboursFit, StepsFit, IsAtRest, AllAtomic};
-ghost use Rattle.eos_machine.specs.Runs.{Commits, Restarts, Fences, Fetches, Lists};
+ghost use Rattle.eos_machine.specs.Runs.{Commits, Restarts, Fences, Fetches, Omits, Lists};
 ghost use Rattle.eos_machine.specs.SwitchedRuns.{Breaks, all_under};
 
 /// At any time no fault of a sequence or of an epoch stands at any batch: none of the kinds FirstSequence, Sequence,
@@ -60,6 +60,7 @@ pub fn schedules()
     ensures restarts { Restarts }
     ensures fences { Fences }
     ensures fetches { Fetches }
+    ensures omits { Omits }
     ensures lists { Lists }
 {}
 

@@ -45,22 +45,22 @@ pub struct Session {
 /// A request on its way.
 #[derive(Debug, Drop)]
 pub enum Message {
-    /// A record for a partition of `out`.
+    /// A record for a partition of `out`; without a claim it has no headers.
     Output {
         application: usize,
         epoch: u16,
         partition: usize,
         sequence: u32,
-        claim: Claim,
+        claim: Option<Claim>,
         value: u64,
     },
-    /// An offset of a partition of `in`, to be committed.
+    /// An offset of a partition of `in`, to be committed, or none, which is to delete it.
     Offset {
         application: usize,
         epoch: u16,
         generation: u64,
         source: usize,
-        offset: u64,
+        offset: Option<u64>,
     },
     /// The end of a transaction, asked of the coordinator.
     End {

@@ -98,17 +98,18 @@ placed_session c w a e h = placed_if c _ _ _ h (placed_written c w a _ h)
 placed_start : (c : Config) (w : World) (a : ℕ) → Placed c w → Placed c (start none c w a).0
 placed_start c w a h = placed_if c _ _ _ h (placed_if c _ _ _ h (placed_if c _ _ _ (placed_prepared c w a Abort (coord_at w a).partitions h) (placed_session c w a _ h)))
 
-placed_produce : (c : Config) (w : World) (m p : ℕ) (x : Claim) (r : Option Session) → Placed c w → Placed c (produce c w m p x r).0
+placed_produce : (c : Config) (w : World) (m p : ℕ) (x : Option Claim) (r : Option Session) → Placed c w → Placed c (produce c w m p x r).0
 placed_produce c w m p x None h = h
 placed_produce c w m p x (Some s) h = placed_if c _ _ _ h (placed_if c _ _ _ h h)
 
-placed_offset : (c : Config) (w : World) (m q v : ℕ) (r : Option Session) → Placed c w → Placed c (commit_offset c w m q v r).0
+placed_offset : (c : Config) (w : World) (m q : ℕ) (v : Option ℕ) (r : Option Session) → Placed c w → Placed c (commit_offset c w m q v r).0
 placed_offset c w m q v None h = h
 placed_offset c w m q v (Some s) h = placed_if c _ _ _ h (placed_if c _ _ _ h h)
 
-placed_commit : (c : Config) (w : World) (m q : ℕ) (v : ℤ) → Placed c w → Placed c (commit c w m q v).0
-placed_commit c w m q (pos v) h = placed_offset c w m q v (slice_get w.sessions m) h
-placed_commit c w m q (negsuc v) h = h
+placed_commit : (c : Config) (w : World) (m q : ℕ) (v : Option ℤ) → Placed c w → Placed c (commit c w m q v).0
+placed_commit c w m q None h = placed_offset c w m q None (slice_get w.sessions m) h
+placed_commit c w m q (Some (pos v)) h = placed_offset c w m q (Some v) (slice_get w.sessions m) h
+placed_commit c w m q (Some (negsuc v)) h = h
 
 placed_end : (c : Config) (w : World) (m : ℕ) (k : Kind) (r : Option Session) → Placed c w → Placed c (end_session w m k r).0
 placed_end c w m k None h = h

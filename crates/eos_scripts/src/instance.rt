@@ -121,10 +121,7 @@ impl Instance {
                 session: self.session,
                 source,
             }),
-            Stage::Sending(number) => match self.requests.get(number) {
-                Some(request) => Turn::Ask(request.event(self.session)),
-                None => Turn::Rest,
-            },
+            Stage::Sending(number) => self.send_next(number),
             Stage::Waiting => self.wait_or_end(choice.aborts),
             Stage::Ending(message) => Turn::Again(message),
             Stage::Ended => Turn::Ask(Event::Resume {
@@ -150,6 +147,28 @@ impl Instance {
                 }
             }
         };
+    }
+
+    /// Sends the request of this number. An offset that is deleted is so before anything else is asked, so that the one which
+    /// is committed after it stands.
+    fn send_next(&self, number: usize) -> Turn {
+        if let Some(message) = self.undeleted(number) {
+            return Turn::Again(message);
+        }
+        match self.requests.get(number) {
+            Some(request) => Turn::Ask(request.event(self.session)),
+            None => Turn::Rest,
+        }
+    }
+
+    /// The message of the request before this one, where that is to delete an offset and wasn't accepted.
+    fn undeleted(&self, number: usize) -> Option<u64> {
+        let last = number.checked_sub(1)?;
+        let sent = self.sent.get(last)?;
+        match self.requests.get(last)? {
+            Request::Delete { .. } if !sent.is_accepted => Some(sent.message),
+            _ => None,
+        }
     }
 
     /// Sends the first message again that wasn't accepted; where all were, asks for the end.

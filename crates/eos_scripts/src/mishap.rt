@@ -1,6 +1,6 @@
 //! Mistakes that an application makes, each once, at one input.
 
-/// A mistake of an application, of which an input has the outputs that it shouldn't have.
+/// A mistake of an application at one input: the outputs are not those that it should have, or its offset is lost.
 #[derive(Clone, Copy, Debug, PartialEq, Eq)]
 pub enum Mishap {
     /// Its last output is never written.
@@ -17,10 +17,14 @@ pub enum Mishap {
     ForeignSource,
     /// Its outputs are written in the transaction before the one that commits past it.
     OtherTransaction,
+    /// An output is written beside them that has no headers.
+    NoHeaders,
+    /// The offset of its partition is deleted before the one after it is committed.
+    OffsetDeleted,
 }
 
 /// All of them.
-const MISHAPS: [Mishap; 7] = [
+const MISHAPS: [Mishap; 9] = [
     Mishap::LostOutput,
     Mishap::RepeatedOutput,
     Mishap::EarlyOutput,
@@ -28,6 +32,8 @@ const MISHAPS: [Mishap; 7] = [
     Mishap::WrongNumber,
     Mishap::ForeignSource,
     Mishap::OtherTransaction,
+    Mishap::NoHeaders,
+    Mishap::OffsetDeleted,
 ];
 
 impl Mishap {
@@ -41,6 +47,8 @@ impl Mishap {
             Mishap::WrongNumber => "wrong-number",
             Mishap::ForeignSource => "foreign-source",
             Mishap::OtherTransaction => "other-transaction",
+            Mishap::NoHeaders => "no-headers",
+            Mishap::OffsetDeleted => "offset-deleted",
         }
     }
 
@@ -61,7 +69,11 @@ impl Mishap {
 
     /// Whether it can happen at an input with so many outputs.
     pub(crate) fn suits(self, outputs: u64) -> bool {
-        let least = if self == Mishap::WrongCount { 2 } else { 1 };
+        let least = match self {
+            Mishap::WrongCount => 2,
+            Mishap::OffsetDeleted => 0,
+            _ => 1,
+        };
         outputs >= least
     }
 }

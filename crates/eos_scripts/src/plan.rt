@@ -33,6 +33,14 @@ pub(crate) enum Request {
         source: usize,
         offset: u64,
     },
+    /// An output that has no headers.
+    Bare {
+        partition: usize,
+    },
+    /// That the group's offset is deleted.
+    Delete {
+        source: usize,
+    },
     /// The offset after the inputs that were read.
     Commit {
         source: usize,
@@ -53,7 +61,7 @@ impl Request {
             } => Event::Produce {
                 session,
                 partition,
-                claim: claim(b"in".as_slice(), source, offset, output, of),
+                claim: Some(claim(b"in".as_slice(), source, offset, output, of)),
             },
             Request::Foreign {
                 partition,
@@ -62,12 +70,22 @@ impl Request {
             } => Event::Produce {
                 session,
                 partition,
-                claim: claim(b"foreign".as_slice(), source, offset, 1, 1),
+                claim: Some(claim(b"foreign".as_slice(), source, offset, 1, 1)),
+            },
+            Request::Bare { partition } => Event::Produce {
+                session,
+                partition,
+                claim: None,
+            },
+            Request::Delete { source } => Event::Commit {
+                session,
+                source,
+                offset: None,
             },
             Request::Commit { source, offset } => Event::Commit {
                 session,
                 source,
-                offset: as_i64(offset),
+                offset: Some(as_i64(offset)),
             },
         }
     }
@@ -228,6 +246,17 @@ impl Plan {
                 self.add_from(requests, input, 1, of)?;
                 self.add_foreign(requests, input)
             }
+            Some(Mishap::NoHeaders) => {
+                self.add_from(requests, input, 1, of)?;
+                self.add_bare(requests, input)
+            }
+            Some(Mishap::OffsetDeleted) => {
+                self.add_from(requests, input, of.min(1), of)?;
+                requests.push(Request::Delete {
+                    source: input.source,
+                })?;
+                Ok(())
+            }
             Some(Mishap::EarlyOutput | Mishap::OtherTransaction) => Ok(()),
         }
     }
@@ -279,6 +308,13 @@ impl Plan {
             partition: self.partition_of(input, 1),
             source: input.source,
             offset: input.offset,
+        })?;
+        Ok(())
+    }
+
+    fn add_bare(&self, requests: &mut Vec<Request>, input: Input) -> Result<(), AllocError> {
+        requests.push(Request::Bare {
+            partition: self.partition_of(input, 1),
         })?;
         Ok(())
     }

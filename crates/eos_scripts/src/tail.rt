@@ -154,7 +154,7 @@ fn process(
         Event::Commit {
             session,
             source: 0,
-            offset: as_i64(offset.saturating_add(1)),
+            offset: Some(as_i64(offset.saturating_add(1))),
         },
     )?;
     deliver(cluster, driver, output)?;
@@ -199,7 +199,7 @@ fn produce(
         Event::Produce {
             session,
             partition,
-            claim,
+            claim: Some(claim),
         },
     )
 }

@@ -11,7 +11,7 @@ use Rattle.eos_machine.specs.declared.state.Producer.{Producer}
 use Rattle.eos_machine.specs.Application.{Mark, Batch, End}
 use Rattle.eos_machine.specs.Places.{offsets_place}
 use Rattle.eos_machine.specs.World.{World, log_at}
-use Rattle.eos_machine.specs.Logs.{marks_of, mark_in, unseen, after_mark, producer_from, producer_of, kind_in, first_kind, is_open, is_committed, has_open_commit}
+use Rattle.eos_machine.specs.Logs.{marks_of, mark_in, unseen, after_mark, producer_from, producer_of, kind_in, first_kind, is_open, is_committed, begins_at, has_open_commit}
 use Rattle.eos_machine.proofs.Worlds.{is_same}
 use Rattle.eos_sessions.specs.declared.fetches.Fetched.{Fetched}
 use Rattle.eos_sessions.specs.Fetching.{AreEnds, IsFetched, IsThere, IsSettled, IsNotOf, HasNone}
@@ -24,7 +24,7 @@ has_last s [] e h = λ n. absurd cc
 has_last s (Batch f q ∷ ts) e h = has_last (after_mark s (Batch f q)) ts f refl
 has_last s (End f k ∷ ts) e h = has_last (after_mark s (End f k)) ts e h
 
-front_of : (a b e q v n : ℕ) (xs : List Item) → b ≡ a → marks_of a (Offset b e q v n ∷ xs) ≡ Batch e None ∷ marks_of a xs
+front_of : (a b e q : ℕ) (v : Option ℕ) (n : ℕ) (xs : List Item) → b ≡ a → marks_of a (Offset b e q v n ∷ xs) ≡ Batch e None ∷ marks_of a xs
 front_of a b e q v n xs m = rw m (rw (is_same a) refl)
 
 no_offset : (a : ℕ) (s : Producer) (x : Item) (xs : List Item) → (producer_from s (marks_of a (x ∷ xs))).last ≡ None → IsNotOf a x
@@ -77,7 +77,7 @@ settled_one q n v f log (State a y m) xs c r o h k = k
 settled_one q n v f log (Output a e s y w m) xs c r o h k = k
 settled_one q n v f log (Offset a e p w m) xs c r o h k = (
   k.0 ∙ sym (same_open (p == q) (first_kind a xs) (has_open_commit q xs) (at (is_open (first_kind a xs)) refl)),
-  λ d. k.1 (if p == q && is_committed (first_kind a xs) then w else d) ∙ (rw c refl),
+  λ d. k.1 (if p == q && is_committed (first_kind a xs) then begins_at w else d) ∙ (rw c refl),
 )
   where
     at : (t : Bool) → is_open (first_kind a xs) ≡ t → t ≡ false

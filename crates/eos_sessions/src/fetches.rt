@@ -4,6 +4,7 @@ ghost use Rattle.std.specs.Prelude.{◌≡◌, ◌∷◌, ◌<◌, true, List, N
 ghost use Rattle.eos_machine.specs.declared.item.Item.{Item};
 ghost use Rattle.eos_machine.specs.Places.{offsets_place};
 ghost use Rattle.eos_machine.specs.World.{log_at};
+ghost use Rattle.eos_machine.specs.Logs.{begins_at};
 ghost use Rattle.eos_machine.specs.Sessions.{fetch};
 ghost use Rattle.eos_sessions.specs.Fetching.{AreEnds, IsFetched, IsSettled};
 ghost use Rattle.eos_store.specs.Named.{IsFrom};
@@ -19,7 +20,7 @@ use std::alloc::{AllocError, Global};
 struct Fetched {
     /// Whether an open transaction holds a commit for it.
     is_open: bool,
-    /// The last offset that was committed.
+    /// Where the group begins after the last commit.
     committed: Option<u64>,
 }
 
@@ -63,6 +64,13 @@ fn note_marker(ends: &mut Vec<Option<Kind>>, item: &Item)
     }
 }
 
+/// Where a group begins after a commit: at 0 where that deletes its offset.
+fn begins_at(offset: Option<u64>) -> u64
+    ensures { result ≡ begins_at offset }
+{
+    offset.unwrap_or(0)
+}
+
 /// Goes back by one item, which may be a commit for this source.
 fn note_commit(fetched: Fetched, item: &Item, source: usize, ends: &[Option<Kind>]) -> Fetched
     ensures { (xs : List Item) → IsFrom (length ends.now) item.now → AreEnds ends.now xs → IsFetched source fetched xs → IsFetched source result (item.now ∷ xs) }
@@ -84,7 +92,7 @@ fn note_commit(fetched: Fetched, item: &Item, source: usize, ends: &[Option<Kind
                 },
                 Some(Kind::Commit) => Fetched {
                     is_open: fetched.is_open,
-                    committed: Some(fetched.committed.unwrap_or(*offset)),
+                    committed: Some(fetched.committed.unwrap_or(begins_at(*offset))),
                 },
                 Some(Kind::Abort) => fetched,
             }

@@ -4,7 +4,7 @@ ghost use Rattle.std.specs.Prelude.{◌≡◌, ℤ, ◌==◌, nat_lt, not, ◌||
 ghost use Rattle.std.specs.List.{list_any};
 ghost use Rattle.eos_machine.specs.World.{coord_at};
 ghost use Rattle.eos_machine.specs.Tests.{is_active, is_commit, is_prepare, is_complete};
-ghost use Rattle.eos_machine.specs.Sessions.{produce, commit_offset, commit, is_missing, end_session, resume};
+ghost use Rattle.eos_machine.specs.Sessions.{claimed_topic, produce, commit_offset, commit, is_missing, end_session, resume};
 ghost use Rattle.eos_store.specs.Named.{IsSmall};
 
 use crate::starts::LAST_EPOCH;
@@ -17,11 +17,21 @@ use std::alloc::AllocError;
 /// The most bytes that a topic's name has.
 const MAX_TOPIC_BYTES: usize = 249;
 
-/// Whether data names no partition, or a topic that there can't be.
-fn names_nothing(config: Config, partition: usize, claim: &Claim) -> bool
-    ensures { result ≡ (not (nat_lt partition config.outputs) || nat_lt 249 (length claim.now.topic)) }
+/// How many bytes the topic has that a record's claim names.
+fn topic_len(claim: &Option<Claim>) -> usize
+    ensures { result ≡ length (claimed_topic claim.now) }
 {
-    partition >= config.outputs || claim.topic.len() > MAX_TOPIC_BYTES
+    match claim {
+        Some(claim) => claim.topic.len(),
+        None => 0,
+    }
+}
+
+/// Whether data names no partition, or a topic that there can't be.
+fn names_nothing(config: Config, partition: usize, claim: &Option<Claim>) -> bool
+    ensures { result ≡ (not (nat_lt partition config.outputs) || nat_lt 249 (length (claimed_topic claim.now))) }
+{
+    partition >= config.outputs || topic_len(claim) > MAX_TOPIC_BYTES
 }
 
 fn is_active(session: &Session) -> bool
@@ -58,7 +68,7 @@ pub fn produce(
     store: &mut Store,
     number: usize,
     partition: usize,
-    claim: Claim,
+    claim: Option<Claim>,
 ) -> Result<Reply, AllocError>
     requires { IsSmall (slice_get store.old.world.sessions number) }
     ensures ok { IfOk result (λ r. (store.new.world, r) ≡ produce store.old.config store.old.world number partition claim (slice_get store.old.world.sessions number)) }
@@ -94,7 +104,7 @@ fn commit_offset(
     store: &mut Store,
     number: usize,
     source: usize,
-    offset: u64,
+    offset: Option<u64>,
 ) -> Result<Reply, AllocError>
     ensures ok { IfOk result (λ r. (store.new.world, r) ≡ commit_offset store.old.config store.old.world number source offset (slice_get store.old.world.sessions number)) }
     ensures err { OnErr result (store.new.world ≡ store.old.world) }
@@ -124,21 +134,22 @@ fn commit_offset(
     Ok(Reply::Done(place))
 }
 
-/// A session sends an offset of a partition of `in`.
+/// A session sends an offset of a partition of `in`, or that it is to be deleted.
 pub fn commit(
     store: &mut Store,
     number: usize,
     source: usize,
-    offset: i64,
+    offset: Option<i64>,
 ) -> Result<Reply, AllocError>
     ensures ok { IfOk result (λ r. (store.new.world, r) ≡ commit store.old.config store.old.world number source offset) }
     ensures err { OnErr result (store.new.world ≡ store.old.world) }
     ensures config { store.new.config ≡ store.old.config }
 {
-    if offset < 0 {
-        return Ok(Reply::Unknown);
+    match offset {
+        None => commit_offset(store, number, source, None),
+        Some(offset) if offset < 0 => Ok(Reply::Unknown),
+        Some(offset) => commit_offset(store, number, source, Some(offset as u64)),
     }
-    commit_offset(store, number, source, offset as u64)
 }
 
 /// A session asks its transaction to end.

@@ -1,5 +1,5 @@
 -- Each item of a log that fits is written as a text of its batch.
-use Rattle.std.proofs.Common.{ℕ, ◌+◌, ◌^◌, ◌<◌, ℤ, pos, negsuc, List, [], ◌∷◌, ◌++◌, length, Option, refl, sym, ap, subst, arith, codes, FitsSigned, w32}
+use Rattle.std.proofs.Common.{ℕ, ◌+◌, ◌^◌, ◌<◌, ℤ, pos, negsuc, List, [], ◌∷◌, ◌++◌, length, Option, Some, None, refl, sym, ap, subst, arith, codes, FitsSigned, w32}
 use Rattle.std.specs.Prelude.{⊤}
 use Rattle.std.specs.List.{All}
 use Rattle.std.proofs.lemmas.List.Elements.{All-head, All-tail}
@@ -14,10 +14,11 @@ use Rattle.eos_txnlog.specs.Writing.{write_key}
 use Rattle.eos_offsets.specs.Writing as offsets
 use Rattle.eos_machine.specs.declared.config.Config.{Config}
 use Rattle.eos_machine.specs.declared.item.Claim.{Claim}
+use Rattle.eos_machine.specs.Sessions.{claimed_topic}
 use Rattle.eos_machine.specs.declared.item.Item.{Item}
 use Rattle.eos_machine.specs.declared.item.Item.TheVariants.{Fed, State, Output, Offset, Marker}
 use Rattle.eos_machine.specs.Places.{IsConfig, input_topic}
-use Rattle.eos_logs.specs.Batches.{group, transactional_id, bytes_of, record_of, fed_record, state_record, claim_headers, output_record, offset_record, control_type, marker_record, plain, transactional, control, item_batch, HasText, HaveTexts}
+use Rattle.eos_logs.specs.Batches.{group, transactional_id, bytes_of, record_of, fed_record, state_record, claim_headers, headers_of, output_record, offset_record, control_type, marker_record, plain, transactional, control, item_batch, HasText, HaveTexts}
 use Rattle.eos_logs.specs.Fitting.{IsFit}
 use Rattle.eos_logs.proofs.BatchSizes.{key_written}
 use Rattle.eos_logs.proofs.BatchTests.{item_tested}
@@ -42,7 +43,7 @@ fits_control c a e i l m =
 
 -- ---- what is written
 
-widths : (key : Option (List ℕ)) (value : List ℕ) (headers : List Header) → HasRecordWidths (record_of key value headers)
+widths : (key : Option (List ℕ)) (value : Option (List ℕ)) (headers : List Header) → HasRecordWidths (record_of key value headers)
 widths key value headers = record { attributes = record { sfits = omega arith }; timestamp_delta = record { sfits = omega arith } }
 
 id_bytes : (a : ℕ) → a < 8 → IsBytes (transactional_id a)
@@ -59,6 +60,10 @@ headers_of_claim x h = (
   h,
   (known_bytes (codes "eo.partition") refl, i32_bytes x.partition, (known_bytes (codes "eo.offset") refl, i64_bytes x.offset, (known_bytes (codes "eo.output") refl, i32_bytes x.output, (known_bytes (codes "eo.of") refl, i32_bytes x.of, tt)))),
 )
+
+headers_bytes : (x : Option Claim) → IsBytes (claimed_topic x) → AreHeaders (headers_of x)
+headers_bytes None h = tt
+headers_bytes (Some x) h = headers_of_claim x h
 
 named_bytes : (name : List ℕ) → IsBytes name → IsBytes (offsets.string_text name)
 named_bytes name h = IsBytes-append (i16_text (pos (length name))) name (i16_bytes (pos (length name))) h
@@ -78,6 +83,10 @@ offset_value q v =
     (IsBytes-append (i32_text (negsuc 0)) (offsets.string_text [] ++ (i64_text (pos 0) ++ [])) (i32_bytes (negsuc 0))
     (IsBytes-append (offsets.string_text []) (i64_text (pos 0) ++ []) (named_bytes [] no_bytes) (IsBytes-append (i64_text (pos 0)) [] (i64_bytes (pos 0)) no_bytes))))
 
+commit_bytes : (q : ℕ) (v : Option ℕ) → IsOfBytes (offset_record q v)
+commit_bytes q None = record { key = offset_key q; value = tt; headers = tt }
+commit_bytes q (Some v) = record { key = offset_key q; value = offset_value q v; headers = tt }
+
 marker_bytes : (k : Kind) → IsOfBytes (marker_record k)
 marker_bytes k = record {
   key = IsBytes-append (i16_text (pos 0)) (i16_text (control_type k)) (i16_bytes (pos 0)) (i16_bytes (control_type k));
@@ -91,7 +100,7 @@ marker_bytes k = record {
 abbrev pub HasBytes : Item → Type 0
 HasBytes (Fed n) = ⊤
 HasBytes (State a x n) = ⊤
-HasBytes (Output a e s x v n) = IsBytes x.topic
+HasBytes (Output a e s x v n) = IsBytes (claimed_topic x)
 HasBytes (Offset a e q v n) = ⊤
 HasBytes (Marker a e k n) = ⊤
 
@@ -103,10 +112,9 @@ item_text c o (State a x n) i l f h =
     (record { key = state_key a (let most = i.applications.1 in omega (arith, f.0, most)); value = state_bytes c a x n i f.2; headers = tt })
 item_text c o (Output a e s x v n) i l f h =
     one_text o n (transactional a e (pos s)) (output_record x v) (item_tested c o (Output a e s x v n) i l f) l f.5 (fits_transactional c a e (pos s) i f.0 f.1 (record { sfits = f.2 })) (widths _ _ _)
-    (record { key = tt; value = i64_bytes (pos v); headers = headers_of_claim x h })
+    (record { key = tt; value = i64_bytes (pos v); headers = headers_bytes x h })
 item_text c o (Offset a e q v n) i l f h =
-    one_text o n (transactional a e (negsuc 0)) (offset_record q v) (item_tested c o (Offset a e q v n) i l f) l f.3 (fits_transactional c a e (negsuc 0) i f.0 f.1 (record { sfits = omega arith })) (widths _ _ _)
-    (record { key = offset_key q; value = offset_value q v; headers = tt })
+    one_text o n (transactional a e (negsuc 0)) (offset_record q v) (item_tested c o (Offset a e q v n) i l f) l f.3 (fits_transactional c a e (negsuc 0) i f.0 f.1 (record { sfits = omega arith })) (widths _ _ _) (commit_bytes q v)
 item_text c o (Marker a e k n) i l f h =
     one_text o n (control a e) (marker_record k) (item_tested c o (Marker a e k n) i l f) l f.2 (fits_control c a e i f.0 f.1) (widths _ _ _) (marker_bytes k)
 

@@ -5,6 +5,7 @@ use Rattle.eos_evidence.specs.Evidence.{EvidenceParts, IsEvidence}
 use Rattle.eos_machine.specs.declared.config.Config.{Config}
 use Rattle.eos_machine.specs.declared.event.Event.{Event}
 use Rattle.eos_machine.specs.declared.event.Event.TheVariants as events
+use Rattle.eos_machine.specs.Sessions.{claimed_topic}
 use Rattle.eos_machine.specs.World.{World}
 use Rattle.eos_logs.specs.Evidences.{IsEvidenceOf}
 use Rattle.eos_logs.specs.Schedules.{IsOfSchedule}
@@ -14,7 +15,7 @@ use Rattle.eos_schedules.specs.Schedules.{HasRightLogs, HasNoFaultInLogs}
 abbrev pub SendsBytes : Event → Type 0
 SendsBytes (events.Feed p) = ⊤
 SendsBytes (events.Start a) = ⊤
-SendsBytes (events.Produce n p x) = IsBytes x.topic
+SendsBytes (events.Produce n p x) = IsBytes (claimed_topic x)
 SendsBytes (events.Commit n q v) = ⊤
 SendsBytes (events.End n k) = ⊤
 SendsBytes (events.Resume n) = ⊤

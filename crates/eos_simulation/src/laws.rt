@@ -21,7 +21,11 @@ pub fn sends_bytes(event: &Event)
     ensures { SendsBytes event.now }
 {
     match event {
-        Event::Produce { claim, .. } => are_bytes(claim.topic.as_slice()),
+        Event::Produce {
+            claim: Some(claim),
+            ..
+        } => are_bytes(claim.topic.as_slice()),
+        Event::Produce { claim: None, .. } => {}
         Event::Feed { .. } => {}
         Event::Start { .. } => {}
         Event::Commit { .. } => {}

@@ -18,7 +18,7 @@ fn sample(alloc: Global) -> Result<PartitionLog, AllocError>
         application: 1,
         epoch: 3,
         source: 0,
-        offset: 5,
+        offset: Some(5),
         event: 7,
     });
     log.append(Item::Marker {

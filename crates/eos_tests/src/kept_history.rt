@@ -45,13 +45,13 @@ fn event_of(step: Step) -> Event {
         Step::Produce(session) => Event::Produce {
             session,
             partition: 0,
-            claim: Claim {
+            claim: Some(Claim {
                 topic: Bytes::from_static(b"in"),
                 partition: 0,
                 offset: 0,
                 output: 1,
                 of: 1,
-            },
+            }),
         },
         Step::Deliver(message) => Event::Deliver { message },
         Step::End(session, kind) => Event::End { session, kind },

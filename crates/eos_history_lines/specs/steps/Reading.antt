@@ -1,7 +1,7 @@
 -- What a JSON value says, looked up member by member; other members and the order of switches aren't looked at.
-use Rattle.std.specs.Prelude.{ℕ, ℤ, pos, negsuc, List, Bool, false, ◌&&◌, ◌||◌, int_le, codes, bytes_eq, Option, None, Some, option_map, option_and_then, if◌then◌else◌}
+use Rattle.std.specs.Prelude.{ℕ, ℤ, pos, negsuc, List, Bool, false, ◌&&◌, ◌||◌, int_le, codes, bytes_eq, Option, None, Some, is_some, option_map, option_and_then, if◌then◌else◌}
 use Rattle.serde_json.specs.Data.{Data, Items, no_items, item}
-use Rattle.serde_json.specs.Find.{get, as_number, as_u64, as_i64, as_str, as_array}
+use Rattle.serde_json.specs.Find.{get, as_null, as_number, as_u64, as_i64, as_str, as_array}
 use Rattle.eos_batch.specs.declared.marker.Kind.{Kind}
 use Rattle.eos_batch.specs.declared.marker.Kind.TheVariants as kinds
 use Rattle.eos_machine.specs.declared.item.Claim.{Claim}
@@ -65,14 +65,24 @@ claim_in d =
     option_map (λ n. record { topic = topic; partition = partition; offset = offset; output = output; of = n })
     (small_in (codes "of") d)) (small_in (codes "output") d)) (integer_in (codes "offset") d)) (small_in (codes "partition") d)) (text_in (codes "topic") d)
 
-abbrev pub claim_within : Data → Option Claim
-claim_within d = option_and_then claim_in (get (codes "claim") d)
+-- null says that there is none
+abbrev pub claim_or_none : Data → Option (Option Claim)
+claim_or_none d = if is_some (as_null d) then Some None else option_map (λ c. Some c) (claim_in d)
+
+abbrev pub claim_within : Data → Option (Option Claim)
+claim_within d = option_and_then claim_or_none (get (codes "claim") d)
+
+abbrev pub offset_or_none : Data → Option (Option ℤ)
+offset_or_none d = if is_some (as_null d) then Some None else option_map (λ z. Some z) (option_and_then as_i64 (as_number d))
+
+abbrev pub offset_within : Data → Option (Option ℤ)
+offset_within d = option_and_then offset_or_none (get (codes "offset") d)
 
 abbrev pub produce_in : ℕ → Data → Option Event
 produce_in session d = option_and_then (λ partition. option_map (λ claim. Produce session partition claim) (claim_within d)) (count_in (codes "partition") d)
 
 abbrev pub commit_in : ℕ → Data → Option Event
-commit_in session d = option_and_then (λ source. option_map (λ offset. Commit session source offset) (integer_in (codes "offset") d)) (count_in (codes "source") d)
+commit_in session d = option_and_then (λ source. option_map (λ offset. Commit session source offset) (offset_within d)) (count_in (codes "source") d)
 
 abbrev pub end_in : ℕ → Data → Option Event
 end_in session d = option_map (λ kind. End session kind) (kind_in d)

@@ -1,4 +1,4 @@
-use Rattle.eos_machine.proofs.Computed.{commits, restarts, fences, fetches, lists}
+use Rattle.eos_machine.proofs.Computed.{commits, restarts, fences, fetches, omits, lists}
 use Rattle.eos_machine.proofs.laws.schedules.Goals as goal
 
 pub returns-clause-commits : goal.returns-clause-commits
@@ -12,6 +12,9 @@ returns-clause-fences c = fences
 
 pub returns-clause-fetches : goal.returns-clause-fetches
 returns-clause-fetches c = fetches
+
+pub returns-clause-omits : goal.returns-clause-omits
+returns-clause-omits c = omits
 
 pub returns-clause-lists : goal.returns-clause-lists
 returns-clause-lists c = lists
