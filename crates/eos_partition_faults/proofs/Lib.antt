@@ -1,3 +1,10 @@
 pub mod PlacedBatches
 pub mod PlacedEnds
 pub mod AllPlaced
+pub mod OpenIds
+pub mod KindsTested
+pub mod WalkSteps
+pub mod SegmentSteps
+pub mod FrontSteps
+pub mod Ties
+pub mod AllFound

@@ -16,11 +16,11 @@ use Rattle.eos_partition_faults.specs.PartitionPlaces.{Placed, is_left_open, ope
 
 -- ---- producer ids that are left open
 
-open_is : (t : Option Touch) → is_left_open t ≡ true → IsOpen t
+pub open_is : (t : Option Touch) → is_left_open t ≡ true → IsOpen t
 open_is None e = absurd cc
 open_is (Some t) e = e
 
-is_open_there : (t : Option Touch) → IsOpen t → is_left_open t ≡ true
+pub is_open_there : (t : Option Touch) → IsOpen t → is_left_open t ≡ true
 is_open_there None h = absurd h
 is_open_there (Some t) h = h
 

@@ -1,1 +1,3 @@
 pub mod PartitionPlaces
+pub mod PartitionLists
+pub mod steps
