@@ -1,1 +1,2 @@
 pub mod MatchPlaces
+pub mod steps

@@ -1,4 +1,16 @@
-//! All faults between decisions and logs: what each place shows.
+//! All faults between decisions and logs: what each place shows, and all of them in the order that makes the first of them
+//! least.
 #![tactic(auto)]
 
+mod content;
+mod decided;
+mod faults;
+mod key;
 pub mod laws;
+mod look;
+mod ordered;
+mod places;
+mod reading;
+mod tables;
+
+pub use faults::all_match_faults;

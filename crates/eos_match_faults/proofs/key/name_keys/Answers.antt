@@ -1,0 +1,15 @@
+use Rattle.std.proofs.Common.{List, [], ◌∷◌, ◌++◌, ◌∙◌, ap, map}
+use Rattle.std.proofs.lemmas.List.{map-append}
+use Rattle.eos_fold.specs.Parts.{part_name}
+use Rattle.eos_match_faults.specs.declared.key.NameRef.{NameRef}
+use Rattle.eos_match_faults.specs.steps.Keys.{plain_name}
+use Rattle.eos_table.proofs.FoldMore.{mapped_more}
+use Rattle.eos_match_faults.proofs.key.name_keys.Goals as goal
+
+pub loop-part-preserved : goal.loop-part-preserved
+loop-part-preserved c =
+    let old = c.loop-part.keys.items in
+    let pushed = ap (λ (keys : List NameRef). map plain_name keys) c.in_ok-push.ensures.items
+    ∙ (map-append plain_name old (c.name_of_part.result ∷ []) ∙ ap (λ name. map plain_name old ++ name ∷ []) c.name_of_part.ensures) in
+    mapped_more part_name (map plain_name old) (map plain_name c.push.new.self.items)
+    c.args.parts.now c.loop-part.part-index c.part-item.result c.loop-part-test.true c.part-item.is c.loop-part.invariant pushed
