@@ -1,0 +1,20 @@
+//! What the list of all faults says beside the least one. These functions do nothing; their contracts are theorems.
+
+ghost use Rattle.std.specs.Prelude.{List, [], ◌∷◌};
+ghost use Rattle.eos_base.specs.Least.{NoneStands, IsLeast};
+ghost use Rattle.eos_evidence.specs.declared.application.App.{App};
+ghost use Rattle.eos_fold.specs.Parts.{PartLog};
+ghost use Rattle.eos_commits.specs.declared.fault.VisibleFault.{VisibleFault};
+ghost use Rattle.eos_commits.specs.Faults.{visible_cmp, Stands};
+ghost use Rattle.eos_fault_list.specs.AllOf.{IsAllOf};
+
+/// The first of all faults of visible records is the least.
+pub fn first_record_fault()
+    ensures { (apps : List App) (ps : List PartLog) (first : VisibleFault) (others : List VisibleFault) →
+        IsAllOf visible_cmp (Stands apps ps) (first ∷ others) → IsLeast visible_cmp (Stands apps ps) first }
+{}
+
+/// Where the list is empty, no fault stands.
+pub fn no_record_fault()
+    ensures { (apps : List App) (ps : List PartLog) → IsAllOf visible_cmp (Stands apps ps) [] → NoneStands (Stands apps ps) }
+{}
