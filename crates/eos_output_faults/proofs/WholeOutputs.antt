@@ -1,0 +1,64 @@
+-- What was found, in order and each once, is the list of one application's faults.
+use Rattle.std.proofs.Common.{◌≡◌, List, map, sym, subst, ◌∙◌, inl, inr, true, flat_map, IsPermutation}
+use Rattle.std.specs.List.Sorted.{IsStrictlySortedBy}
+use Rattle.std.specs.Ordering.{is_eq}
+use Rattle.std.proofs.lemmas.List.Sorted.{Contains-permutation, IsPermutation-sym}
+use Rattle.eos_base.specs.Members.{Has}
+use Rattle.eos_base.proofs.Exact.{is_tied}
+use Rattle.eos_base.proofs.Membership.{append_cases, append_left, append_right, flat_has, has_flat, map_has, has_map}
+use Rattle.eos_claims.specs.declared.place.Place.{Place}
+use Rattle.eos_claims.specs.declared.fault.OutputFault.{OutputFault}
+use Rattle.eos_claims.specs.Outputs.{Application, ReadsSources}
+use Rattle.eos_claims.specs.Candidates.{AreApart}
+use Rattle.eos_claims.specs.Faults.{fault_cmp}
+use Rattle.eos_claims.proofs.FaultOrder.{fault_exact}
+use Rattle.eos_fault_list.proofs.TiedKept.{contained_has, has_contained}
+use Rattle.eos_fault_list.proofs.WholeList.{plain_rises}
+use Rattle.eos_output_faults.specs.declared.lent.LentPlace.{LentPlace}
+use Rattle.eos_output_faults.specs.declared.ordered.Ordered.{Ordered}
+use Rattle.eos_output_faults.specs.steps.Gathered.{shown_at, lacking, gathered_by, gathered, AreOutputFaults}
+use Rattle.eos_output_faults.specs.steps.Plain.{place_at, fault_in}
+use Rattle.eos_output_faults.proofs.GatheredSound.{sound}
+use Rattle.eos_output_faults.proofs.GatheredWhole.{all_whole, one_missing}
+
+-- at inputs that are all among others
+moved : (a : Application) (xs ys : List Place) → ((i : Place) → Has xs i → Has ys i) → (f : OutputFault) → Has (gathered_by a xs) f → Has (gathered_by a ys) f
+moved a xs ys there f h = elim (append_cases (flat_map (shown_at a) a.claims) (flat_map (lacking a) xs) f h) [
+  | inl x ↦ append_left (flat_map (shown_at a) a.claims) (flat_map (lacking a) ys) f x
+  | inr x ↦ let r = flat_has (lacking a) xs f x in append_right (flat_map (shown_at a) a.claims) (flat_map (lacking a) ys) f (has_flat (lacking a) ys r.0 f (there r.0 r.1) r.2)
+]
+
+in_other_order : {X : Type 0} (xs ys : List X) → IsPermutation xs ys → (x : X) → Has xs x → Has ys x
+in_other_order xs ys perm x h = contained_has ys x (Contains-permutation xs ys x perm (has_contained xs x h))
+
+mapped_order : {X Y : Type 0} (f : X → Y) (xs ys : List X) → IsPermutation xs ys → (y : Y) → Has (map f xs) y → Has (map f ys) y
+mapped_order f xs ys perm y h = let r = map_has f xs y h in subst (Has (map f ys)) r.2 (has_map f ys r.0 (in_other_order xs ys perm r.0 r.1))
+
+pub whole_outputs : (a : Application) → ReadsSources a → AreApart a → (places sorted : List LentPlace) → map place_at places ≡ a.inputs → IsPermutation places sorted → (found kept : List Ordered)
+    → map fault_in found ≡ gathered_by a (map place_at sorted) → IsStrictlySortedBy (λ (x y : Ordered). fault_cmp (fault_in x) (fault_in y)) kept → ((x : Ordered) → Has kept x → Has found x)
+    → ((x : Ordered) → Has found x → (y : Ordered) × Has kept y × (is_eq (fault_cmp (fault_in x) (fault_in y)) ≡ true)) → AreOutputFaults a (map fault_in kept)
+whole_outputs a reads apart places sorted inputs perm found kept is rises each all = record {
+  rises = plain_rises fault_in fault_cmp kept rises;
+  each = λ f h. sound a f (there f h);
+  all = λ f st. elim (all_whole a reads apart f st) [
+    | inl h ↦ inl (back f h)
+    | inr r ↦ inr (r.0, back r.0 r.1, r.2, r.3)
+  ];
+  one_missing = λ f g h k of. one_missing a f g (there f h) (there g k) of;
+}
+  where
+    there : (f : OutputFault) → Has (map fault_in kept) f → Has (gathered a) f
+    there f h =
+        let r = map_has fault_in kept f h in
+        let in_found = has_map fault_in found r.0 (each r.0 r.1) in
+        let by_sorted = subst (λ fs. Has fs (fault_in r.0)) is in_found in
+        let by_inputs = moved a (map place_at sorted) a.inputs (λ i m. subst (λ is. Has is i) inputs (mapped_order place_at sorted places (IsPermutation-sym places sorted perm) i m)) (fault_in r.0) by_sorted in
+        subst (Has (gathered a)) r.2 by_inputs
+
+    back : (f : OutputFault) → Has (gathered a) f → Has (map fault_in kept) f
+    back f h =
+        let by_sorted = moved a a.inputs (map place_at sorted) (λ i m. mapped_order place_at places sorted perm i (subst (λ is. Has is i) (sym inputs) m)) f h in
+        let r = map_has fault_in found f (subst (λ fs. Has fs f) (sym is) by_sorted) in
+        let k = all r.0 r.1 in
+        let same = fault_exact (fault_in r.0) (fault_in k.0) (is_tied (fault_cmp (fault_in r.0) (fault_in k.0)) k.2) in
+        subst (Has (map fault_in kept)) (sym same ∙ r.2) (has_map fault_in kept k.0 k.1)

@@ -1,0 +1,3 @@
+pub mod LineageFaults
+pub mod OneInput
+pub mod steps

@@ -1,0 +1,73 @@
+//! All faults of one application's outputs.
+
+ghost use Rattle.std.specs.Prelude.{◌≡◌, map, IfOk, IsPermutation};
+ghost use Rattle.eos_claims.specs.Outputs.{Application, ReadsSources};
+ghost use Rattle.eos_claims.specs.Candidates.{AreApart};
+ghost use Rattle.eos_commits.specs.Plain.{plain_commit};
+ghost use Rattle.eos_output_faults.specs.steps.Gathered.{AreOutputFaults};
+ghost use Rattle.eos_output_faults.specs.steps.Plain.{claim_at, place_at, fault_in};
+ghost use Rattle.eos_output_faults.specs.steps.Tables.{AreTables};
+
+use crate::commits::{offsets_of, reached_by};
+use crate::firsts::{firsts_of, places_of};
+use crate::inputs::Inputs;
+use crate::lent::{LentPlace, VisibleClaim};
+use crate::ordered::Ordered;
+use crate::shown::found;
+use crate::tables::Tables;
+use eos_claims::OutputFault;
+use eos_commits::{CommitRef, TopicSet};
+use eos_fault_list::distinct_in_order;
+use std::alloc::{AllocError, Global};
+
+fn tables_of<'a>(
+    alloc: Global,
+    sources: TopicSet<'a>,
+    inputs: Vec<LentPlace<'a>>,
+    commits: &[CommitRef<'a>],
+    claims: &[VisibleClaim<'a>],
+) -> Result<Tables<'a>, AllocError>
+    ensures tables { (a : Application) → IsPermutation a.sources sources.entry → map place_at inputs.entry.items ≡ a.inputs → map plain_commit commits.now ≡ a.commits
+        → map claim_at claims.now ≡ a.claims → IfOk result (λ tables. AreTables a tables) }
+    ensures inputs { IfOk result (λ tables. IsPermutation inputs.entry.items tables.inputs) }
+{
+    let offsets = offsets_of(alloc, commits)?;
+    let reached = reached_by(alloc, commits)?;
+    let firsts = firsts_of(alloc, claims)?;
+    let places = places_of(alloc, claims)?;
+    Ok(Tables {
+        sources,
+        inputs: Inputs::of(inputs),
+        offsets,
+        reached,
+        firsts,
+        places,
+    })
+}
+
+fn to_ordered(alloc: Global, faults: Vec<OutputFault>) -> Result<Vec<Ordered>, AllocError>
+    ensures { IfOk result (λ list. map fault_in list.items ≡ faults.items) }
+{
+    let mut list = Vec::new(alloc);
+    for fault in faults {
+        list.push(Ordered { fault })?;
+    }
+    Ok(list)
+}
+
+/// All faults of the outputs of an application that reads these topics and records, commits so, and claims so. Of the outputs
+/// that one input lacks it has the first.
+pub(crate) fn output_faults<'a>(
+    alloc: Global,
+    sources: TopicSet<'a>,
+    inputs: Vec<LentPlace<'a>>,
+    commits: &[CommitRef<'a>],
+    claims: &[VisibleClaim<'a>],
+) -> Result<Vec<Ordered>, AllocError>
+    ensures { (a : Application) → ReadsSources a → AreApart a → IsPermutation a.sources sources.entry → map place_at inputs.entry.items ≡ a.inputs → map plain_commit commits.now ≡ a.commits
+        → map claim_at claims.now ≡ a.claims → IfOk result (λ faults. AreOutputFaults a (map fault_in faults.items)) }
+{
+    let tables = tables_of(alloc, sources, inputs, commits, claims)?;
+    let faults = to_ordered(alloc, found(alloc, &tables, claims)?)?;
+    Ok(distinct_in_order(faults))
+}

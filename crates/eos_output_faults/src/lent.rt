@@ -1,0 +1,27 @@
+//! Places and claims whose names are lent from the logs.
+
+/// A partition's name. Names are ordered by the topic's bytes, then the number.
+#[derive(Clone, Copy, PartialEq, Eq, PartialOrd, Ord)]
+pub(crate) struct LentName<'a> {
+    pub topic: &'a [u8],
+    pub partition: i32,
+}
+
+/// A place, in the order of places. No partition of its name needs to be there.
+#[derive(Clone, Copy, PartialEq, Eq, PartialOrd, Ord)]
+pub(crate) struct LentPlace<'a> {
+    pub partition: LentName<'a>,
+    pub offset: u64,
+}
+
+/// A visible record of an output topic, as it claims to be an output.
+#[derive(Clone, Copy)]
+pub(crate) struct VisibleClaim<'a> {
+    pub source: LentPlace<'a>,
+    pub output: u32,
+    pub of: u32,
+    /// Where the claim stands.
+    pub at: LentPlace<'a>,
+    /// The producer id and epoch of its transaction, if it is of one.
+    pub writer: Option<(i64, i16)>,
+}
