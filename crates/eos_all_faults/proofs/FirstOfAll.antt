@@ -34,7 +34,8 @@ use Rattle.eos_check.specs.declared.verdict.Fault.TheVariants.{Partition as InPa
 use Rattle.eos_check.specs.declared.verdict.Verdict.TheVariants.{No}
 use Rattle.eos_check.specs.Verdicts.{Stands, partition_cmp, name_in, verdict_cmp, IsVerdictOf}
 use Rattle.eos_fault_list.proofs.WholeList.{first_less, less_upto, same_list}
-use Rattle.eos_all_faults.specs.AllFaults.{OfOneInput, IsLaterMissing, AreAllFaults}
+use Rattle.eos_output_faults.specs.OneInput.{OfOneInput}
+use Rattle.eos_all_faults.specs.AllFaults.{IsLaterMissing, AreAllFaults}
 
 partition_total : IsTotalOrder partition_cmp
 partition_total = then_total (on_total name_in name_total) (then_total (on_total (λ f. f.offset) nat_cmp_total)

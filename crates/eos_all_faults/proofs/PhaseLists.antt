@@ -1,4 +1,4 @@
--- The list of the first phase that has a fault is that of all.
+-- The list of the first phase that has a fault is that of all; so is that of the last, also where it is empty.
 use Rattle.std.proofs.Common.{◌≡◌, List, ◌∷◌, map, refl, subst, inl, inr, ◌⊎◌}
 use Rattle.eos_base.specs.Members.{Has}
 use Rattle.eos_base.specs.Least.{NoneStands}
@@ -18,7 +18,8 @@ use Rattle.eos_check.specs.declared.verdict.Fault.TheVariants.{Partition as InPa
 use Rattle.eos_check.specs.Verdicts.{StandsInPartitions, StandsInLog, StandsInMatching, Stands, partition_cmp, verdict_cmp}
 use Rattle.eos_fault_list.specs.AllOf.{IsAllOf}
 use Rattle.eos_fault_list.proofs.WholeList.{plain_rises}
-use Rattle.eos_all_faults.specs.AllFaults.{IsLaterOf, IsLaterMissing, AreLineageFaults, AreAllFaults}
+use Rattle.eos_output_faults.specs.LineageFaults.{IsLaterOf, AreLineageFaults}
+use Rattle.eos_all_faults.specs.AllFaults.{IsLaterMissing, AreAllFaults}
 
 -- the phases are told apart
 in_partition : (f : PartitionFault) (g : LineageFault) → InPartition f ≡ Lineage g → ⊥
@@ -86,24 +87,24 @@ module _ (e : EvidenceParts) (ls : List PartLog) (of : AreLogsOf e.partitions ls
       here (Match f) s = inl (has_map Match (x ∷ xs) f ((all.members f).1 s.2))
       here (Lineage f) s = absurd (s.2 x first)
 
-  pub lineage_list : (x : LineageFault) (xs : List LineageFault) → NoneStands (StandsInPartitions e.partitions ls of) → NoneStands (StandsInLog ls) → NoneStands (StandsInMatching ls)
-      → AreLineageFaults e.spec.apps ls (x ∷ xs) → AreAllFaults e ls of (map Lineage (x ∷ xs))
-  lineage_list x xs none no_log no_match all = record {
-    rises = plain_rises Lineage (verdict_cmp e.spec.apps) (x ∷ xs) all.rises;
-    each = λ f h. let r = map_has Lineage (x ∷ xs) f h in subst (Stands e ls of) r.2 (none, no_log, no_match, all.each r.0 r.1);
+  pub lineage_list : (xs : List LineageFault) → NoneStands (StandsInPartitions e.partitions ls of) → NoneStands (StandsInLog ls) → NoneStands (StandsInMatching ls)
+      → AreLineageFaults e.spec.apps ls xs → AreAllFaults e ls of (map Lineage xs)
+  lineage_list xs none no_log no_match all = record {
+    rises = plain_rises Lineage (verdict_cmp e.spec.apps) xs all.rises;
+    each = λ f h. let r = map_has Lineage xs f h in subst (Stands e ls of) r.2 (none, no_log, no_match, all.each r.0 r.1);
     all = here;
     one_missing = λ group f g h k one. all.one_missing group f g (back (Output group f) h) (back (Output group g) k) one;
   }
     where
-      back : (f : LineageFault) → Has (map Lineage (x ∷ xs)) (Lineage f) → Has (x ∷ xs) f
-      back f h = let r = map_has Lineage (x ∷ xs) (Lineage f) h in subst (Has (x ∷ xs)) (inside r.0 f r.2) r.1
+      back : (f : LineageFault) → Has (map Lineage xs) (Lineage f) → Has xs f
+      back f h = let r = map_has Lineage xs (Lineage f) h in subst (Has xs) (inside r.0 f r.2) r.1
 
-      told : (f : LineageFault) → Has (x ∷ xs) f ⊎ IsLaterOf (x ∷ xs) f → Has (map Lineage (x ∷ xs)) (Lineage f) ⊎ IsLaterMissing (map Lineage (x ∷ xs)) (Lineage f)
-      told f (inl h) = inl (has_map Lineage (x ∷ xs) f h)
+      told : (f : LineageFault) → Has xs f ⊎ IsLaterOf xs f → Has (map Lineage xs) (Lineage f) ⊎ IsLaterMissing (map Lineage xs) (Lineage f)
+      told f (inl h) = inl (has_map Lineage xs f h)
       told (Record f) (inr later) = absurd later
-      told (Output group f) (inr later) = inr (later.0, has_map Lineage (x ∷ xs) (Output group later.0) later.1, later.2, later.3)
+      told (Output group f) (inr later) = inr (later.0, has_map Lineage xs (Output group later.0) later.1, later.2, later.3)
 
-      here : (f : Fault) → Stands e ls of f → Has (map Lineage (x ∷ xs)) f ⊎ IsLaterMissing (map Lineage (x ∷ xs)) f
+      here : (f : Fault) → Stands e ls of f → Has (map Lineage xs) f ⊎ IsLaterMissing (map Lineage xs) f
       here (InPartition f) s = absurd (none f s)
       here (Log f) s = absurd (no_log f s.1)
       here (Match f) s = absurd (no_match f s.2)

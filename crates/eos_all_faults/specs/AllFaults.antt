@@ -3,41 +3,17 @@
 use Rattle.std.specs.Prelude.{◌≡◌, ◌⊎◌, ◌<◌, List, Option}
 use Rattle.std.specs.List.Sorted.{IsStrictlySortedBy}
 use Rattle.eos_base.specs.Members.{Has}
-use Rattle.eos_evidence.specs.declared.application.App.{App}
 use Rattle.eos_evidence.specs.Evidence.{EvidenceParts}
 use Rattle.eos_fold.specs.Parts.{PartLog}
 use Rattle.eos_claims.specs.declared.fault.OutputFault.{OutputFault}
-use Rattle.eos_claims.specs.declared.fault.OutputKind.TheVariants.{Missing}
 use Rattle.eos_commits.specs.Commits.{Group}
 use Rattle.eos_lineage.specs.declared.fault.LineageFault.{LineageFault}
 use Rattle.eos_lineage.specs.declared.fault.LineageFault.TheVariants.{Record, Output}
-use Rattle.eos_lineage.specs.Faults as lineage
 use Rattle.eos_lineage.specs.EvidenceLogs.{AreLogsOf}
+use Rattle.eos_output_faults.specs.OneInput.{OfOneInput}
 use Rattle.eos_check.specs.declared.verdict.Fault.{Fault}
 use Rattle.eos_check.specs.declared.verdict.Fault.TheVariants.{Partition as InPartition, Log, Match, Lineage}
 use Rattle.eos_check.specs.Verdicts.{Stands, verdict_cmp}
-
--- two outputs that one input lacks
-pub record OfOneInput (f g : OutputFault) : Type 0 where
-  pub first : f.kind ≡ Missing
-  pub second : g.kind ≡ Missing
-  pub source : f.source ≡ g.source
-
--- ---- those of the lineage
-
--- the list has an output of lesser number that the same input lacks
-abbrev pub IsLaterOf : List LineageFault → LineageFault → Type 0
-IsLaterOf list (Record f) = ⊥
-IsLaterOf list (Output group f) = (g : OutputFault) × Has list (Output group g) × OfOneInput g f × (g.output < f.output)
-
--- all faults of visible records, or where there are none, of the applications' outputs
-pub record AreLineageFaults (apps : List App) (ls : List PartLog) (list : List LineageFault) : Type 0 where
-  pub rises : IsStrictlySortedBy (lineage.lineage_cmp apps) list
-  pub each : (f : LineageFault) → Has list f → lineage.Stands apps ls f
-  pub all : (f : LineageFault) → lineage.Stands apps ls f → Has list f ⊎ IsLaterOf list f
-  pub one_missing : (group : Option Group) (f g : OutputFault) → Has list (Output group f) → Has list (Output group g) → OfOneInput f g → f ≡ g
-
--- ---- those of all phases
 
 abbrev pub IsLaterIn : List Fault → LineageFault → Type 0
 IsLaterIn list (Record f) = ⊥

@@ -1,1 +1,2 @@
 pub mod AllFaults
+pub mod steps

@@ -17,7 +17,8 @@ ghost use Rattle.eos_check.specs.declared.verdict.Fault.TheVariants.{Partition a
 ghost use Rattle.eos_check.specs.declared.verdict.Verdict.TheVariants.{No};
 ghost use Rattle.eos_check.specs.Verdicts.{StandsInPartitions, StandsInLog, StandsInMatching, Stands, partition_cmp, IsVerdictOf};
 ghost use Rattle.eos_fault_list.specs.AllOf.{IsAllOf};
-ghost use Rattle.eos_all_faults.specs.AllFaults.{AreAllFaults, AreLineageFaults};
+ghost use Rattle.eos_output_faults.specs.LineageFaults.{AreLineageFaults};
+ghost use Rattle.eos_all_faults.specs.AllFaults.{AreAllFaults};
 
 /// The first of all faults is the verdict's.
 pub fn first_fault()

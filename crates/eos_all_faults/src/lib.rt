@@ -1,4 +1,10 @@
-//! All faults of an evidence as one list: what it is, beside the verdict, and how the list of a phase is that of all.
+//! All faults of an evidence as one list: what it is, beside the verdict, how the list of a phase is that of all, and the list
+//! itself.
 #![tactic(auto)]
 
+mod all;
 pub mod laws;
+mod partitions;
+
+pub use all::all_faults;
+pub use partitions::all_partition_faults;
