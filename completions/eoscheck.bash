@@ -17,7 +17,7 @@ _eoscheck() {
       return ;;
     esac
     case $word in
-    -*) mapfile -t COMPREPLY < <(compgen -W '--workers --json --quiet --progress --report -h --help' -- "$word") ;;
+    -*) mapfile -t COMPREPLY < <(compgen -W '--workers --json --all --quiet --progress --report -h --help' -- "$word") ;;
     *) mapfile -t COMPREPLY < <(compgen -d -- "$word") ;;
     esac ;;
   dump)

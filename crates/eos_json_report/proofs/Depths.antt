@@ -34,7 +34,7 @@ use Rattle.eos_tallies.specs.declared.tally.SourceTally.{SourceTally}
 use Rattle.eos_tallies.specs.declared.tally.GroupTally.{GroupTally}
 use Rattle.eos_tallies.specs.declared.tally.Tallies.{Tallies}
 use Rattle.eos_json_report.specs.TallyValues.{with_roles, roles_value, visible_value, with_sizes, with_tally, partition_value, partition_items, with_source, source_value, source_items, with_group_tally, group_value, group_items, groups_value, with_tallies}
-use Rattle.eos_json_report.specs.Reports.{note_items, counts_value, with_verdict, program_value, with_about, report_value, AreSeconds, AreTimes}
+use Rattle.eos_json_report.specs.Reports.{note_items, fault_items, counts_value, with_verdict, program_value, with_about, report_value, AreSeconds, AreTimes}
 
 -- ---- members that are put in
 
@@ -53,9 +53,6 @@ object_depth n ms p = omega (arith, p)
 
 within : (d : Data) → depth d ≤ 3 → depth d ≤ 5
 within d p = omega (arith, p)
-
-alone : (d : Data) → depth d ≤ 3 → depth (array (item d no_items)) ≤ 5
-alone d p = omega (arith, p)
 
 listed : (ds : Items) → items_depth ds ≤ 3 → depth (array ds) ≤ 5
 listed ds p = omega (arith, p)
@@ -255,13 +252,17 @@ counts_depth : (c : Counts) → depth (counts_value c) ≤ 3
 unfolding counts_value
 counts_depth c = object_depth 2 (counted c no_members) (counted_depth c no_members (omega arith))
 
-verdict_depth : (v : Verdict) (ms : Members) → members_depth ms ≤ 5 → members_depth (with_verdict v ms) ≤ 5
+faults_depth : (fs : List Fault) → items_depth (fault_items fs) ≤ 3
+faults_depth [] = omega arith
+faults_depth (f ∷ fs) = omega (arith, fault_depth f, faults_depth fs)
+
+verdict_depth : (v : Verdict) (fs : List Fault) (ms : Members) → members_depth ms ≤ 5 → members_depth (with_verdict v fs ms) ≤ 5
 unfolding with_verdict
-verdict_depth (Yes counts) ms q =
+verdict_depth (Yes counts) fs ms q =
     put_depth 5 (codes "counts") (counts_value counts) (put (codes "answer") (string (codes "yes")) ms) (within (counts_value counts) (counts_depth counts))
     (put_depth 5 (codes "answer") (string (codes "yes")) ms (omega arith) q)
-verdict_depth (No fault) ms q =
-    put_depth 5 (codes "faults") (array (item (fault_value fault) no_items)) (put (codes "answer") (string (codes "no")) ms) (alone (fault_value fault) (fault_depth fault))
+verdict_depth (No fault) fs ms q =
+    put_depth 5 (codes "faults") (array (fault_items fs)) (put (codes "answer") (string (codes "no")) ms) (listed (fault_items fs) (faults_depth fs))
     (put_depth 5 (codes "answer") (string (codes "no")) ms (omega arith) q)
 
 abbrev named : About → Members → Members
@@ -290,23 +291,24 @@ allowed : (d : Data) → depth d ≤ 6 → depth d ≤ max_depth
 allowed d p = omega (arith, p)
 
 -- what the report has before the notes, and all its members
-abbrev judged : About → Verdict → Members
-judged about v = with_verdict v (with_about about no_members)
+abbrev judged : About → Verdict → List Fault → Members
+judged about v fs = with_verdict v fs (with_about about no_members)
 
-abbrev noted : About → Verdict → List Note → Members
-noted about v ns = put (codes "notes") (array (note_items ns)) (judged about v)
+abbrev noted : About → Verdict → List Fault → List Note → Members
+noted about v fs ns = put (codes "notes") (array (note_items ns)) (judged about v fs)
 
-noted_depth : (about : About) (v : Verdict) (ns : List Note) → members_depth (noted about v ns) ≤ 5
-noted_depth about v ns =
-    put_depth 5 (codes "notes") (array (note_items ns)) (judged about v) (listed (note_items ns) (notes_depth ns))
-    (verdict_depth v (with_about about no_members) (about_depth about no_members (omega arith)))
+noted_depth : (about : About) (v : Verdict) (fs : List Fault) (ns : List Note) → members_depth (noted about v fs ns) ≤ 5
+noted_depth about v fs ns =
+    put_depth 5 (codes "notes") (array (note_items ns)) (judged about v fs) (listed (note_items ns) (notes_depth ns))
+    (verdict_depth v fs (with_about about no_members) (about_depth about no_members (omega arith)))
 
-report_depth : (about : About) (v : Verdict) (ns : List Note) (t : Tallies) (seconds : Data) → depth seconds ≤ 1 → depth (report_value about v ns t seconds) ≤ max_depth
+report_depth : (about : About) (v : Verdict) (fs : List Fault) (ns : List Note) (t : Tallies) (seconds : Data) → depth seconds ≤ 1
+    → depth (report_value about v fs ns t seconds) ≤ max_depth
 unfolding report_value
-report_depth about v ns t seconds p =
-    let tabled : Members = with_tallies t (noted about v ns) in
+report_depth about v fs ns t seconds p =
+    let tabled : Members = with_tallies t (noted about v fs ns) in
     let whole : Members = put (codes "seconds") seconds tabled in
-    allowed (object whole) (object_depth 5 whole (put_depth 5 (codes "seconds") seconds tabled (small seconds p) (tallies_depth t (noted about v ns) (noted_depth about v ns))))
+    allowed (object whole) (object_depth 5 whole (put_depth 5 (codes "seconds") seconds tabled (small seconds p) (tallies_depth t (noted about v fs ns) (noted_depth about v fs ns))))
 
 -- ---- seconds
 
@@ -328,6 +330,6 @@ times_depth times value a =
     (put_depth 0 (codes "folded") a.folded read (seconds_depth _ _ a.folds)
     (put_depth 0 (codes "read") a.read no_members (seconds_depth _ _ a.reads) (omega arith)))))
 
-pub timed_depth : (about : About) (v : Verdict) (ns : List Note) (t : Tallies) (times : Times) (seconds : Data) → AreTimes times seconds
-    → depth (report_value about v ns t seconds) ≤ max_depth
-timed_depth about v ns t times seconds a = report_depth about v ns t seconds (times_depth times seconds a)
+pub timed_depth : (about : About) (v : Verdict) (fs : List Fault) (ns : List Note) (t : Tallies) (times : Times) (seconds : Data) → AreTimes times seconds
+    → depth (report_value about v fs ns t seconds) ≤ max_depth
+timed_depth about v fs ns t times seconds a = report_depth about v fs ns t seconds (times_depth times seconds a)

@@ -3,11 +3,12 @@
 use Rattle.std.specs.Prelude.{◌≡◌, List, ◌++◌, ◌*◌, ℕ, codes, map, Some, option_map, unwrap_or}
 use Rattle.std.specs.Duration.{as_nanos, as_secs_f64}
 use Rattle.std.specs.declared.time.Duration.{Duration}
-use Rattle.serde_json.specs.Data.{Data, Members, no_members, Items, no_items, item, object, array, string, number, null, put}
+use Rattle.serde_json.specs.Data.{Data, Members, no_members, Items, object, array, string, number, null, put}
 use Rattle.serde_json.specs.Find.{of_float}
 use Rattle.serde_json.specs.Read.{read}
 use Rattle.serde_json.specs.View.{items_of}
 use Rattle.eos_check.specs.declared.verdict.Counts.{Counts}
+use Rattle.eos_check.specs.declared.verdict.Fault.{Fault}
 use Rattle.eos_check.specs.declared.verdict.Verdict.{Verdict}
 use Rattle.eos_check.specs.declared.verdict.Verdict.TheVariants.{Yes, No}
 use Rattle.eos_notes.specs.declared.note.Note.{Note}
@@ -23,10 +24,13 @@ unfoldable pub counts_value : Counts → Data
 counts_value c =
     object (put (codes "transactions") (count c.transactions) (put (codes "outputs") (count c.outputs) (put (codes "inputs") (count c.inputs) no_members)))
 
--- the answer, and the counts of a yes or the first fault
-unfoldable pub with_verdict : Verdict → Members → Members
-with_verdict (Yes counts) ms = put (codes "counts") (counts_value counts) (put (codes "answer") (string (codes "yes")) ms)
-with_verdict (No fault) ms = put (codes "faults") (array (item (fault_value fault) no_items)) (put (codes "answer") (string (codes "no")) ms)
+abbrev pub fault_items : List Fault → Items
+fault_items faults = items_of (map fault_value faults)
+
+-- the answer, and the counts of a yes or the faults that are told of a no
+unfoldable pub with_verdict : Verdict → List Fault → Members → Members
+with_verdict (Yes counts) faults ms = put (codes "counts") (counts_value counts) (put (codes "answer") (string (codes "yes")) ms)
+with_verdict (No fault) faults ms = put (codes "faults") (array (fault_items faults)) (put (codes "answer") (string (codes "no")) ms)
 
 abbrev pub note_items : List Note → Items
 note_items notes = items_of (map note_value notes)
@@ -57,21 +61,21 @@ pub record AreTimes (times : Times) (value : Data) : Type 0 where
   pub is : value ≡ object (put (codes "judged") judged (put (codes "folded") folded (put (codes "read") read no_members)))
 
 -- all of it
-unfoldable pub report_value : About → Verdict → List Note → Tallies → Data → Data
-report_value about verdict notes tallies seconds =
-    object (put (codes "seconds") seconds (with_tallies tallies (put (codes "notes") (array (note_items notes)) (with_verdict verdict (with_about about no_members)))))
+unfoldable pub report_value : About → Verdict → List Fault → List Note → Tallies → Data → Data
+report_value about verdict faults notes tallies seconds =
+    object (put (codes "seconds") seconds (with_tallies tallies (put (codes "notes") (array (note_items notes)) (with_verdict verdict faults (with_about about no_members)))))
 
 -- a line that reads as the report
-pub record IsReportText (about : About) (verdict : Verdict) (notes : List Note) (tallies : Tallies) (text : List ℕ) : Type 0 where
+pub record IsReportText (about : About) (verdict : Verdict) (faults : List Fault) (notes : List Note) (tallies : Tallies) (text : List ℕ) : Type 0 where
   pub seconds : Data
   pub line : List ℕ
   pub ends : text ≡ line ++ codes "\n"
-  pub reads : read line ≡ Some (report_value about verdict notes tallies seconds)
+  pub reads : read line ≡ Some (report_value about verdict faults notes tallies seconds)
 
 -- a line that reads as the report, and in it the seconds are those of these times
-pub record IsTimedReportText (about : About) (verdict : Verdict) (notes : List Note) (tallies : Tallies) (times : Times) (text : List ℕ) : Type 0 where
+pub record IsTimedReportText (about : About) (verdict : Verdict) (faults : List Fault) (notes : List Note) (tallies : Tallies) (times : Times) (text : List ℕ) : Type 0 where
   pub seconds : Data
   pub are : AreTimes times seconds
   pub line : List ℕ
   pub ends : text ≡ line ++ codes "\n"
-  pub reads : read line ≡ Some (report_value about verdict notes tallies seconds)
+  pub reads : read line ≡ Some (report_value about verdict faults notes tallies seconds)

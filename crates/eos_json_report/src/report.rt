@@ -1,11 +1,10 @@
 //! The report of a check, as a text.
 
 ghost use Rattle.std.specs.Prelude.{◌≡◌, IfOk, OnOk, string_bytes};
-ghost use Rattle.serde_json.specs.Data.{Data, item, no_items, put as with_member};
+ghost use Rattle.serde_json.specs.Data.{Data, put as with_member};
 ghost use Rattle.serde_json.specs.View.{view, items_view};
 ghost use Rattle.eos_json_report.specs.steps.Held.{held};
-ghost use Rattle.eos_json_report.specs.FaultValues.{fault_value};
-ghost use Rattle.eos_json_report.specs.Reports.{counts_value, with_verdict, program_value, with_about, report_value, AreSeconds, AreTimes, IsReportText, IsTimedReportText};
+ghost use Rattle.eos_json_report.specs.Reports.{counts_value, fault_items, with_verdict, program_value, with_about, report_value, AreSeconds, AreTimes, IsReportText, IsTimedReportText};
 
 use crate::about::{About, Times};
 use crate::fault::value_of_fault;
@@ -23,6 +22,8 @@ use std::time::Duration;
 #[derive(Clone, Copy)]
 pub struct Findings<'a> {
     pub verdict: &'a Verdict,
+    /// At no, the faults that are told: the first alone, or all. At yes they aren't looked at.
+    pub faults: &'a [Fault],
     pub notes: &'a [Note],
     pub tallies: &'a Tallies,
 }
@@ -37,8 +38,8 @@ pub fn report_text(
     found: Findings<'_>,
     times: Times,
 ) -> Result<String, AllocError>
-    ensures says { IfOk result (λ text. IsReportText about.entry found.entry.verdict.now found.entry.notes.now found.entry.tallies.now (string_bytes text)) }
-    ensures timed { IfOk result (λ text. IsTimedReportText about.entry found.entry.verdict.now found.entry.notes.now found.entry.tallies.now times (string_bytes text)) }
+    ensures says { IfOk result (λ text. IsReportText about.entry found.entry.verdict.now found.entry.faults.now found.entry.notes.now found.entry.tallies.now (string_bytes text)) }
+    ensures timed { IfOk result (λ text. IsTimedReportText about.entry found.entry.verdict.now found.entry.faults.now found.entry.notes.now found.entry.tallies.now times (string_bytes text)) }
 {
     let seconds = value_of_times(alloc, times)?;
     let value = value_of_report(alloc, about, found, seconds)?;
@@ -54,11 +55,11 @@ fn value_of_report(
     found: Findings<'_>,
     seconds: Value,
 ) -> Result<Value, AllocError>
-    ensures { IfOk result (λ value. view value ≡ report_value about.entry found.entry.verdict.now found.entry.notes.now found.entry.tallies.now (view seconds)) }
+    ensures { IfOk result (λ value. view value ≡ report_value about.entry found.entry.verdict.now found.entry.faults.now found.entry.notes.now found.entry.tallies.now (view seconds)) }
 {
     let mut made = Object::new(alloc);
     put_about(alloc, &mut made, about)?;
-    put_verdict(alloc, &mut made, found.verdict)?;
+    put_verdict(alloc, &mut made, found.verdict, found.faults)?;
     let notes = values_of_notes(alloc, found.notes)?;
     made.put("notes", Value::Array(notes))?;
     put_tallies(alloc, &mut made, found.tallies)?;
@@ -88,8 +89,13 @@ fn value_of_program(alloc: Global, about: About<'_>) -> Result<Value, AllocError
 }
 
 #[tactic(auto, unfolding(crate::specs::Reports::with_verdict))]
-fn put_verdict(alloc: Global, out: &mut Object, verdict: &Verdict) -> Result<(), AllocError>
-    ensures { OnOk result (held out.new ≡ with_verdict verdict.now (held out.old)) }
+fn put_verdict(
+    alloc: Global,
+    out: &mut Object,
+    verdict: &Verdict,
+    faults: &[Fault],
+) -> Result<(), AllocError>
+    ensures { OnOk result (held out.new ≡ with_verdict verdict.now faults.now (held out.old)) }
 {
     match verdict {
         Verdict::Yes(counts) => {
@@ -97,9 +103,9 @@ fn put_verdict(alloc: Global, out: &mut Object, verdict: &Verdict) -> Result<(),
             let counts = value_of_counts(alloc, *counts)?;
             out.put("counts", counts)
         }
-        Verdict::No(fault) => {
+        Verdict::No(_) => {
             out.put_str("answer", "no")?;
-            let faults = values_of_faults(alloc, fault)?;
+            let faults = values_of_faults(alloc, faults)?;
             out.put("faults", Value::Array(faults))
         }
     }
@@ -116,11 +122,13 @@ fn value_of_counts(alloc: Global, counts: Counts) -> Result<Value, AllocError>
     Ok(made.into_value())
 }
 
-fn values_of_faults(alloc: Global, fault: &Fault) -> Result<Vec<Value>, AllocError>
-    ensures { IfOk result (λ values. items_view values.items ≡ item (fault_value fault.now) no_items) }
+fn values_of_faults(alloc: Global, faults: &[Fault]) -> Result<Vec<Value>, AllocError>
+    ensures { IfOk result (λ values. items_view values.items ≡ fault_items faults.now) }
 {
     let mut values = Vec::new(alloc);
-    values.push(value_of_fault(alloc, fault)?)?;
+    for fault in faults {
+        values.push(value_of_fault(alloc, fault)?)?;
+    }
     Ok(values)
 }
 

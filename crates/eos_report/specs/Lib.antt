@@ -1,3 +1,4 @@
 pub mod Faults
 pub mod FaultTexts
 pub mod VerdictTexts
+pub mod FaultLists

@@ -3,7 +3,9 @@
 
 mod fault;
 mod fault_text;
+mod listing;
 mod report;
 
 pub use fault::ReportFault;
+pub use listing::{fault_list, fault_list_json};
 pub use report::{verdict_json, verdict_line, write_verdict};

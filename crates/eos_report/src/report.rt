@@ -66,7 +66,7 @@ fn push_counts(out: &mut String, counts: &Counts) -> Result<(), AllocError>
     Ok(())
 }
 
-fn push_no(alloc: Global, out: &mut String, fault: &Fault) -> Result<(), AllocError>
+pub(crate) fn push_no(alloc: Global, out: &mut String, fault: &Fault) -> Result<(), AllocError>
     ensures { OnOk result (Adds (string_bytes out.old) (string_bytes out.new) (verdict_text (Verdict.No fault.now))) }
 {
     push_text(out, "no ")?;
@@ -102,7 +102,7 @@ fn json_of_counts(alloc: Global, counts: Counts) -> Result<Value, AllocError>
     })
 }
 
-fn json_of_fault(alloc: Global, fault: &Fault) -> Result<Value, AllocError>
+pub(crate) fn json_of_fault(alloc: Global, fault: &Fault) -> Result<Value, AllocError>
     ensures { IfOk result (λ value. view value ≡ verdict_value (Verdict.No fault.now)) }
 {
     let text = text_of_fault(alloc, fault)?;

@@ -59,6 +59,7 @@ impl Subcommand {
             Subcommand::Check => &[
                 Argument::Workers,
                 Argument::Json,
+                Argument::All,
                 Argument::Quiet,
                 Argument::Progress,
                 Argument::Report,
@@ -112,6 +113,7 @@ impl Subcommand {
 pub(crate) enum Argument {
     Workers,
     Json,
+    All,
     Quiet,
     Progress,
     Report,
@@ -204,6 +206,7 @@ impl Argument {
         match self {
             Argument::Workers => "workers",
             Argument::Json => "json",
+            Argument::All => "all",
             Argument::Quiet => "quiet",
             Argument::Progress => "progress",
             Argument::Report => "report",
@@ -259,6 +262,7 @@ impl Argument {
             | Argument::RestartCoordinator
             | Argument::Abort => "RATE",
             Argument::Json
+            | Argument::All
             | Argument::Quiet
             | Argument::Progress
             | Argument::Headers
@@ -286,6 +290,7 @@ impl Argument {
         match self {
             Argument::Workers => "How many threads work at most, 1 to 64, or 4; same answer",
             Argument::Json => "Prints the verdict as a line of JSON",
+            Argument::All => "Prints all faults, a line each, and how many there are",
             Argument::Quiet => "Leaves the notes on standard error out",
             Argument::Progress => "Tells on standard error how far it is",
             Argument::Report => "Writes what was found to this new file, as JSON; one FOLDER",
@@ -331,6 +336,7 @@ impl Argument {
             self,
             Argument::Workers
                 | Argument::Json
+                | Argument::All
                 | Argument::Quiet
                 | Argument::Progress
                 | Argument::Report
@@ -374,6 +380,7 @@ impl Argument {
         match self {
             Argument::Workers => Form::Valued(ValueParser::Unsigned(1, 64)),
             Argument::Json
+            | Argument::All
             | Argument::Quiet
             | Argument::Progress
             | Argument::Headers

@@ -171,6 +171,7 @@ fn read_check<'a>(
     Ok(Some(Request::Check(Check {
         workers: inner.get_one::<u64>("workers").unwrap_or(WORKERS),
         json: inner.get_flag("json"),
+        all: inner.get_flag("all"),
         quiet: inner.get_flag("quiet"),
         progress: inner.get_flag("progress"),
         report: inner.get_str("report"),

@@ -32,6 +32,11 @@ read and summarised, and at the end how many seconds each stage took.
 where those before it have none. With --json the same stands in an object.
 `eoscheck explain --code PHASE.KIND` says what makes it happen.
 
+With --all each fault of that phase has its line, in the order that makes the
+first one first, and the last line is `faults=N`; with --json each line is an
+object. Of the outputs that one input lacks only that of the least number is
+listed. A yes is one line, as it is without --all.
+
 After the verdict stands on standard error a line `eoscheck: note: ..` for each
 sign that the evidence isn't the one that was meant, as a group that committed
 nothing (docs/EVIDENCE.md lists them). A note changes no verdict and no status.
@@ -250,7 +255,8 @@ it (docs/SIMULATOR.md):
 
 With --mishap an application errs, once: at the input O of in-N, or at the first
 that suits. An input at offset O has O modulo 3 outputs, or a note where that is
-0; a mishap needs one with outputs, wrong-count one with two.
+0; a mishap needs one with outputs, wrong-count one with two, and offset-deleted
+any.
 
   lost-output        5.11 Missing           its last output is not written
   repeated-output    5.10 Repeated          its first output is written twice
@@ -259,6 +265,8 @@ that suits. An input at offset O has O modulo 3 outputs, or a note where that is
   wrong-number       5.9 NumberRange        one more output than it counts
   foreign-source     5.5 ForeignSource      an output of a topic nobody reads
   other-transaction  5.12 OtherTransaction  its outputs one transaction early
+  no-headers         4.1 BadLineage         one output more, without headers
+  offset-deleted     4.4 OffsetDeleted      its group's offset is deleted
 
 With --history all that happens is written to FILE, which must not be there, as
 JSON lines (docs/SIMULATOR.md): what the cluster is, each event with its reply,

@@ -46,6 +46,8 @@ pub struct Check<'a> {
     pub workers: u64,
     /// Whether the verdict is printed as JSON.
     pub json: bool,
+    /// Whether all faults are printed, and not the first alone.
+    pub all: bool,
     /// Whether the notes are left out.
     pub quiet: bool,
     /// Whether it is told how far the check is.

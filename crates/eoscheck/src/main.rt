@@ -2,10 +2,6 @@
 //! epochs of their producers, writes manifests for copied logs, and the logs of a simulated cluster.
 #![tactic(auto)]
 
-mod check;
-mod notes;
-mod progress;
-mod report;
 mod run;
 
 use std::process::ExitCode;

@@ -10,7 +10,7 @@ pub returns-clause-timed : goal.returns-clause-timed
 returns-clause-timed c =
     let seconds = view c.in_ok-seconds.seconds in
     let shallow = subst (λ d. depth d ≤ max_depth) (sym c.in_ok-value.ensures)
-    (timed_depth c.args.about c.args.found.verdict.now c.args.found.notes.now c.args.found.tallies.now c.args.times seconds c.in_ok-seconds.ensures) in
+    (timed_depth c.args.about c.args.found.verdict.now c.args.found.faults.now c.args.found.notes.now c.args.found.tallies.now c.args.times seconds c.in_ok-seconds.ensures) in
     record {
       seconds = seconds;
       are = c.in_ok-seconds.ensures;

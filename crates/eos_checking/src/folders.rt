@@ -1,0 +1,169 @@
+//! `check` of folders: reads them one after the other, and tells of each its verdict and what else is wanted.
+
+use crate::check::{Asked, check_to};
+use crate::notes::say_notes;
+use crate::progress::{Meter, Progress};
+use eos_ending::{Ending, STANDARD, Subject, end_about, fill_file, make_file};
+use eos_evidence::Evidence;
+use eos_folder::{Cause, FolderFault, read_folder};
+use eos_json_report::About;
+use eos_segment::RunFault;
+use eos_words::{Check, VERSION};
+use std::io;
+use std::io::IsTerminal;
+use std::sync::Wait;
+use std::thread::Threads;
+
+/// Checks the folders of evidence that the words name, writes the report of one, if that is asked for, and gives the exit status.
+pub fn check_words(
+    rt: &HostRuntime,
+    threads: &(impl Threads + Wait + Sync),
+    words: &Check<'_>,
+) -> u8 {
+    let Some(path) = words.report else {
+        return check_folders(rt, threads, words).status;
+    };
+    if words.folders.len() > 1 {
+        let _ = eprint!(rt; "eoscheck: check --report takes one FOLDER\n");
+        return 2;
+    }
+    match make_file(rt, path) {
+        Err(status) => status,
+        Ok(file) => {
+            let done = check_folders(rt, threads, words);
+            fill_file(rt, path, file, done.report, done.status)
+        }
+    }
+}
+
+/// Reads folders of evidence, one after the other, and writes the verdict of each on standard output. The status is the greatest.
+/// After output that can't be written it stops.
+fn check_folders(
+    rt: &HostRuntime,
+    threads: &(impl Threads + Wait + Sync),
+    words: &Check<'_>,
+) -> Done {
+    let meter = Meter::start(
+        rt,
+        words.progress || !words.quiet && rt.stderr().is_terminal(),
+        words.report.is_some(),
+    );
+    let folders = words.folders.as_slice();
+    let mut all = Done::with_status(0);
+    for folder in folders {
+        let subject = if folders.len() > 1 {
+            Subject::Folder(folder)
+        } else {
+            Subject::Only
+        };
+        let progress = Progress::begin(&meter, subject);
+        let done = check_folder(rt, threads, words, folder, &progress);
+        all.status = done.status.max(all.status);
+        all.report = done.report;
+        if done.is_last {
+            break;
+        }
+    }
+    all
+}
+
+/// What became of one of several folders, or of all.
+#[derive(Drop)]
+struct Done {
+    status: u8,
+    /// Whether output can't be written, so that no further one is looked at.
+    is_last: bool,
+    /// The report on it, if one was asked for.
+    report: Option<String>,
+}
+
+impl Done {
+    fn with_status(status: u8) -> Done {
+        Done {
+            status,
+            is_last: false,
+            report: None,
+        }
+    }
+}
+
+fn check_folder(
+    rt: &HostRuntime,
+    threads: &(impl Threads + Wait + Sync),
+    words: &Check<'_>,
+    folder: &str,
+    progress: &Progress<'_>,
+) -> Done {
+    match read_folder(rt, threads, folder, words.workers.clamp(1, 64), progress) {
+        Ok(evidence) => judge(rt, threads, words, folder, &evidence, progress),
+        Err(fault) => Done::with_status(end_unread(rt, progress.subject, &fault)),
+    }
+}
+
+fn judge(
+    rt: &HostRuntime,
+    threads: &(impl Threads + Wait + Sync),
+    words: &Check<'_>,
+    folder: &str,
+    evidence: &Evidence,
+    progress: &Progress<'_>,
+) -> Done {
+    let workers = words.workers.clamp(1, 64);
+    let asked = asked_by(words, folder, progress.subject);
+    let writer = &mut io::writer(rt);
+    let answered = check_to(
+        rt.alloc(),
+        threads,
+        evidence,
+        workers,
+        asked,
+        progress,
+        writer,
+    );
+    progress.end();
+    match answered {
+        Ok(said) => {
+            say_notes(rt, progress.subject, said.notes.as_str());
+            Done {
+                status: end_about(rt, progress.subject, Ending::Answered(said.status)),
+                is_last: false,
+                report: said.report,
+            }
+        }
+        Err(fault) => {
+            let ending = Ending::of_answer(Err(fault), folder, STANDARD, &Cause::Unknown);
+            Done {
+                status: end_about(rt, progress.subject, ending),
+                is_last: matches!(fault, RunFault::Write),
+                report: None,
+            }
+        }
+    }
+}
+
+/// How the outside is told of the check of a folder.
+fn asked_by<'a>(words: &Check<'a>, folder: &'a str, subject: Subject<'a>) -> Asked<'a> {
+    let about = About {
+        version: VERSION,
+        folder,
+        workers: words.workers,
+    };
+    Asked {
+        json: words.json,
+        all: words.all,
+        quiet: words.quiet,
+        subject,
+        report: words.report.map(|_| about),
+    }
+}
+
+/// Says why a folder isn't read, and gives the exit status.
+pub fn end_unread(rt: &HostRuntime, subject: Subject<'_>, fault: &FolderFault) -> u8 {
+    let ending = match fault {
+        FolderFault::CannotRead(path, cause) => Ending::CannotRead(path.as_str(), cause),
+        FolderFault::Manifest(fault, cause) => Ending::Manifest(*fault, cause),
+        FolderFault::Limit(cause) => Ending::Limit(cause),
+        FolderFault::OutOfMemory => Ending::OutOfMemory,
+    };
+    end_about(rt, subject, ending)
+}
