@@ -5,8 +5,8 @@
 
 Each is a folder of tests/evidence, or one that tests/made_evidence.py makes, with 0 to 3 changes of its logs and manifest,
 under right checksums and mostly with offsets, sequences and ends made right again, so that the later phases are reached.
-Then its logs are cut into other segments, which may not change the verdict where the logs are whole. Everything follows
-from SEED. It prints the differences, how often each answer was seen and which fault never was, and ends in 1 where there
+Then its logs are cut into other segments, which may not change the verdict or the list of all faults where the logs are whole.
+Everything follows from SEED. It prints the differences, how often each answer was seen and which fault never was, and ends in 1 where there
 is a difference. The folders that differ are kept in KEEP, where that is given.
 """
 import collections
@@ -626,15 +626,30 @@ def json_of(line):
     return json.dumps({"answer": "yes", **counts}, separators=(",", ":"), sort_keys=True)
 
 
+def list_of(lines, json_form=False):
+    """What `check --all` prints where these are the faults, or the counts."""
+    shown = [json_of(line) for line in lines] if json_form else lines
+    if lines[0].startswith("no"):
+        shown = shown + [json.dumps({"faults": len(lines)}, separators=(",", ":")) if json_form else f"faults={len(lines)}"]
+    return "".join(f"{line}\n" for line in shown)
+
+
 def compare(program, path, seen, rng):
-    """What the program answers and what it should, each as status, output and message."""
-    line = reference.verdict(path)
-    seen[line.split()[2] if line.startswith("no") else "yes"] += 1
-    words, shown = rng.choice([([], line), ([], line), (["--json"], json_of(line))])
-    command = [program, "check", *words, "--workers", rng.choice("14"), path]
-    done = subprocess.run(command, capture_output=True, timeout=60)
-    found = done.returncode, done.stdout.decode(), done.stderr.decode()
-    return line, found, (0 if line.startswith("yes") else 1, shown + "\n", notes_reference.lines(path))
+    """What the program answers, first alone and then all, and what it should, each as status, output and message."""
+    lines = reference.listed(path)
+    line, status, notes = lines[0], 0 if lines[0].startswith("yes") else 1, notes_reference.lines(path)
+    seen.update([line.split()[2] if line.startswith("no") else "yes"])
+    json_form, workers, found, wanted = rng.random() < 0.3, rng.sample("14", 2), [], []
+    for words, count, shown in ([], workers[0], (json_of(line) if json_form else line) + "\n"), (
+        ["--all"],
+        workers[1],
+        list_of(lines, json_form),
+    ):
+        command = [program, "check", *words, *["--json"] * json_form, "--workers", count, path]
+        done = subprocess.run(command, capture_output=True, timeout=60)
+        found.append((done.returncode, done.stdout.decode(), done.stderr.decode()))
+        wanted.append((status, shown, notes))
+    return lines, found, wanted
 
 
 def main():
@@ -661,7 +676,7 @@ def main():
                 folder.write(paths[-1])
                 answers.append(compare(program, paths[-1], seen, rng))
             lines, said, wanted = zip(*answers)
-            whole = not lines[0].startswith(("no 1.1 ", "no 1.2 "))
+            whole = not any(line.startswith(("no 1.1 ", "no 1.2 ")) for line in lines[0])
             if said != wanted or (whole and lines[0] != lines[1]):
                 wrong += 1
                 print(f"evidence {i} with seed {seed}, {name} with {done}: {said}, not {wanted}")

@@ -2,9 +2,10 @@
 """The verdict of `eoscheck check`, worked out by a second program from the definitions.
 
     tests/reference.py FOLDER
+    tests/reference.py FOLDER --all
 
-It reads the folder, lists every fault that stands, phase by phase, and prints the least one, or the counts where none
-stands. Apart from that it asks what good evidence is, of all pairs of touches and all claims, without a word on faults,
+It reads the folder, lists every fault that stands, phase by phase, and prints the least one, or with --all those of the first
+phase that has one, or the counts where none stands. Apart from that it asks what good evidence is, of all pairs of touches and all claims, without a word on faults,
 and stops where the two disagree. It shares no code with the program, but the same authors wrote it: what they misread
 stands in both. The manifest has to be a legal one.
 """
@@ -327,38 +328,45 @@ def place_text(place):
     return f"{escaped(place[0])}-{place[1]}" + (f":{place[2]}" if len(place) > 2 else "")
 
 
-def first_fault(apps, parts):
-    """The line of the least fault, or the counts."""
-    found = min(((part.name, *fault) for part in parts for fault in partition_faults(part)), default=None)
+def all_faults(apps, parts):
+    """The lines of all faults of the first phase that has one, in their order, each once; or the line of the counts."""
+    found = sorted({(part.name, *fault) for part in parts for fault in partition_faults(part)})
     if found:
-        name, offset, kind, _, rest = found
-        return f"no 1.{kind} {PARTITION_FAULTS[kind - 1]} {place_text(name)} offset={offset} {rest}"
+        return [
+            f"no 1.{kind} {PARTITION_FAULTS[kind - 1]} {place_text(name)} offset={offset} {rest}"
+            for name, offset, kind, _, rest in found
+        ]
     logs = [part for part in parts if part.name[0] == STATES]
     states, bad = read_states(logs)
-    found = min(log_faults(logs, states, bad), default=None)
+    found = sorted(set(log_faults(logs, states, bad)))
     if found:
-        name, offset, kind, _, rest = found
-        return f"no 2.{kind} {LOG_FAULTS[kind - 1]} {place_text(name)} offset={offset} {rest}"
+        return [
+            f"no 2.{kind} {LOG_FAULTS[kind - 1]} {place_text(name)} offset={offset} {rest}"
+            for name, offset, kind, _, rest in found
+        ]
     decisions = decisions_of(states)
-    found = min(match_faults(parts, decisions), default=None)
+    found = sorted(set(match_faults(parts, decisions)))
     if found:
-        producer, epoch, kind, name = found
-        rest = f" partition={place_text(name)}" if name else ""
-        return f"no 3.{kind} {MATCH_FAULTS[kind - 1]} producer={producer} epoch={epoch}{rest}"
+        return [match_line(*fault) for fault in found]
     claims, commits, faults = read_lineage(apps, parts)
-    found = min(faults, default=None)
-    if found:
-        *place, kind, rest = found
-        return f"no 4.{kind} {LINEAGE_FAULTS[kind - 1]} {place_text(place[:2])} offset={place[2]} {rest}".rstrip()
-    inputs_count = 0
+    if faults:
+        return [
+            f"no 4.{kind} {LINEAGE_FAULTS[kind - 1]} {place_text(place[:2])} offset={place[2]} {rest}".rstrip()
+            for *place, kind, rest in sorted(set(faults))
+        ]
+    lines, inputs_count = [], 0
     for app, inputs, mine, own in split(apps, parts, claims, commits):
-        found = min(lineage_faults(app, inputs, mine, own), default=None)
-        if found:
-            source, output, kind, place = found
+        for source, output, kind, place in sorted(set(lineage_faults(app, inputs, mine, own))):
             rest = (f" at={place_text(place)}" if place else "") + (f" group={escaped(app.group)}" if len(apps) > 1 else "")
-            return f"no 5.{kind} {LINEAGE_FAULTS[kind - 1]} source={place_text(source)} output={output}{rest}"
+            lines.append(f"no 5.{kind} {LINEAGE_FAULTS[kind - 1]} source={place_text(source)} output={output}{rest}")
         inputs_count += sum(i[2] < committed(own, i[:2]) for i in inputs)
-    return f"yes transactions={len(decisions)} inputs={inputs_count} outputs={sum(claim.of > 0 for claim in claims)}"
+    counts = f"yes transactions={len(decisions)} inputs={inputs_count} outputs={sum(claim.of > 0 for claim in claims)}"
+    return lines or [counts]
+
+
+def match_line(producer, epoch, kind, name):
+    rest = f" partition={place_text(name)}" if name else ""
+    return f"no 3.{kind} {MATCH_FAULTS[kind - 1]} producer={producer} epoch={epoch}{rest}"
 
 
 def split(apps, parts, claims, commits):
@@ -386,13 +394,18 @@ def is_good(apps, parts):
     )
 
 
-def verdict(folder):
+def listed(folder):
+    """The lines that `check --all` has for a folder, but for the last one, which counts them."""
     apps, parts = read_folder(folder)
-    line = first_fault(apps, parts)
-    if line.startswith("yes") != is_good(apps, parts):
-        raise AssertionError(f"{folder}: '{line}' is not what the definition of good evidence says")
-    return line
+    lines = all_faults(apps, parts)
+    if lines[0].startswith("yes") != is_good(apps, parts):
+        raise AssertionError(f"{folder}: '{lines[0]}' is not what the definition of good evidence says")
+    return lines
+
+
+def verdict(folder):
+    return listed(folder)[0]
 
 
 if __name__ == "__main__":
-    print(verdict(sys.argv[1]))
+    print(*listed(sys.argv[1])[: None if "--all" in sys.argv[2:] else 1], sep="\n")

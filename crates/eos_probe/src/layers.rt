@@ -27,7 +27,7 @@ pub(crate) fn answer<R: Threads + Sync>(
             logs::answer(alloc, notes, line, call, rest)
         }
         "summarise" => rungs::answer(alloc, notes, line, rest),
-        "txn_log" | "all_log_faults" | "match_shards" => {
+        "txn_log" | "all_log_faults" | "all_match_faults" | "match_shards" => {
             transactions::answer(alloc, notes, line, call, rest)
         }
         "verdict" => verdicts::both(alloc, notes, line, rest),

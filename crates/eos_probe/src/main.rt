@@ -40,8 +40,8 @@ fn layer_of(call: &str) -> Family {
     match call {
         "part_kind" | "part_fault" | "fates" | "closes" | "markers" | "part" => Family::Layers,
         "summarise" => Family::Layers,
-        "txn_log" | "all_log_faults" | "match_shards" => Family::Layers,
-        "verdict" | "write_verdict" => Family::Layers,
+        "txn_log" | "all_log_faults" | "all_match_faults" | "match_shards" => Family::Layers,
+        "verdict" | "write_verdict" | "all_output_faults" => Family::Layers,
         "check_lineage" | "least_visible_fault" | "commits_of" | "committed" | "topic_set" => {
             Family::Layers
         }

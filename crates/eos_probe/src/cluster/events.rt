@@ -21,7 +21,7 @@ pub(super) fn sizes_of(notes: &mut Notes, text: &str) -> Config {
 pub(super) fn count_of(name: &str) -> usize {
     match name {
         "members" | "coordinator" => 0,
-        "produce" | "fetch" => 2,
+        "produce" | "bare" | "delete" | "fetch" => 2,
         "offset" => 3,
         _ => 1,
     }
@@ -38,7 +38,8 @@ fn claim() -> Claim {
     }
 }
 
-/// The event of this name with these numbers: of a session, the partition of `out` or `in`, and the offset.
+/// The event of this name with these numbers: of a session, the partition of `out` or `in`, and the offset; `bare` is a record
+/// without headers, `delete` an offset's deletion.
 pub(super) fn event_of(name: &str, numbers: [i64; 5]) -> Option<Event> {
     let first = place(numbers[0]);
     let second = place(numbers[1]);
@@ -46,12 +47,22 @@ pub(super) fn event_of(name: &str, numbers: [i64; 5]) -> Option<Event> {
         "produce" => Some(Event::Produce {
             session: first,
             partition: second,
-            claim: claim(),
+            claim: Some(claim()),
         }),
         "offset" => Some(Event::Commit {
             session: first,
             source: second,
-            offset: numbers[2],
+            offset: Some(numbers[2]),
+        }),
+        "bare" => Some(Event::Produce {
+            session: first,
+            partition: second,
+            claim: None,
+        }),
+        "delete" => Some(Event::Commit {
+            session: first,
+            source: second,
+            offset: None,
         }),
         "fetch" => Some(Event::Fetch {
             session: first,

@@ -11,6 +11,7 @@ use eos_commits::{TopicSet, commits_of, committed, last_committed, least_visible
 use eos_evidence::{App, GroupId, Spec, SpecFault};
 use eos_fold::Part;
 use eos_lineage::{LineageFault, check_lineage};
+use eos_output_faults::all_output_faults;
 use eos_text::push_value;
 use std::alloc::{AllocError, Global};
 use std::thread::Threads;
@@ -69,6 +70,25 @@ fn lineage<R: Threads + Sync>(
     }
 }
 
+/// Writes all faults of the applications' outputs, or that there is none.
+fn outputs(
+    alloc: Global,
+    line: &mut String,
+    spec: &Spec,
+    parts: &[Part],
+) -> Result<(), AllocError> {
+    for fault in all_output_faults(alloc, spec, parts)? {
+        if !line.is_empty() {
+            line.push_str("; ")?;
+        }
+        push_fault(alloc, line, Some(Fault::Lineage(fault)))?;
+    }
+    if line.is_empty() {
+        line.push_str("none")?;
+    }
+    Ok(())
+}
+
 /// Writes the least fault of single records.
 fn visible(
     alloc: Global,
@@ -99,6 +119,7 @@ fn of_apps<R: Threads + Sync>(
     let parts = parts_of(alloc, notes, words)?;
     match call {
         "check_lineage" => lineage(rt, alloc, line, &spec, parts.as_slice()),
+        "all_output_faults" => outputs(alloc, line, &spec, parts.as_slice()),
         _ => visible(alloc, line, &spec, parts.as_slice()),
     }
 }

@@ -6,6 +6,7 @@ use crate::words::{Notes, or_bad, show, sides};
 use eos_check::Fault;
 use eos_fold::Part;
 use eos_log_faults::all_log_faults;
+use eos_match_faults::all_match_faults;
 use eos_table::{TxnTable, match_shard, txn_log};
 use eos_text::push_value;
 use eos_txnlog::Decision;
@@ -92,6 +93,20 @@ fn push_all(alloc: Global, line: &mut String, parts: &[Part]) -> Result<(), Allo
     Ok(())
 }
 
+/// Writes all faults between decisions and logs, or that there is none.
+fn push_matches(alloc: Global, line: &mut String, parts: &[Part]) -> Result<(), AllocError> {
+    for fault in all_match_faults(alloc, parts)? {
+        if !line.is_empty() {
+            line.push_str("; ")?;
+        }
+        push_fault(alloc, line, Some(Fault::Match(fault)))?;
+    }
+    if line.is_empty() {
+        line.push_str("none")?;
+    }
+    Ok(())
+}
+
 /// What is said of the words `PART PART ..`, or `SHARDS PART PART ..` of the shards.
 pub(super) fn answer(
     alloc: Global,
@@ -107,6 +122,10 @@ pub(super) fn answer(
     if call == "all_log_faults" {
         let parts = parts_of(alloc, notes, rest)?;
         return push_all(alloc, line, parts.as_slice());
+    }
+    if call == "all_match_faults" {
+        let parts = parts_of(alloc, notes, rest)?;
+        return push_matches(alloc, line, parts.as_slice());
     }
     let (shards, words) = sides(notes, rest, ' ');
     let shards = or_bad(notes, shards.parse::<u32>().ok(), 0);
