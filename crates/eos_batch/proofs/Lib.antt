@@ -1,6 +1,5 @@
 pub mod BatchParts
 pub mod BatchTexts
-pub mod CursorParts
 pub mod DataBatches
 pub mod EncodingLeast
 pub mod EncodingSizes

@@ -10,7 +10,7 @@ use Rattle.eos_batch.specs.declared.record.Record.{Record}
 use Rattle.eos_batch.specs.Reading.{used_up, bytes_at, body_at, placed_at, record_at}
 use Rattle.eos_batch.specs.Places.{IsAt, whole_at, found_at}
 use Rattle.eos_batch.proofs.BatchTexts.{IsBytes-drop}
-use Rattle.eos_batch.proofs.CursorParts.{part-rest}
+use Rattle.eos_wire.proofs.CursorParts.{part-rest}
 use Rattle.eos_batch.proofs.ReadLoops.{with_front}
 use Rattle.eos_batch.proofs.TextParts.{bind_ok, must_ok, bytes_sound, bytes_whole}
 

@@ -27,14 +27,13 @@ ghost use Rattle.eos_batch.specs.Real.{IsReal};
 ghost use Rattle.eos_batch.specs.Reading.{count_fits, offsets_fit, frame_at, sealed_at, head_at, batch_at};
 
 use crate::batch::Batch;
-use crate::cursor::Cursor;
 use crate::fault::BatchFault;
 use crate::read_record::records_of;
 use crate::record::Records;
 use crate::rules::is_compressed;
 use crate::walk::{open_batch, test_opened};
 use bytes::Bytes;
-use eos_wire::{are_bytes, crc32c};
+use eos_wire::{Cursor, are_bytes, crc32c};
 use std::alloc::Global;
 
 /// The bytes up to the length, which counts those after it.
@@ -86,11 +85,8 @@ pub(crate) fn frame_of<'a>(rest: &mut Cursor<'a>) -> Result<(i64, Cursor<'a>), B
     if len < LEAST_LENGTH {
         return Err(BatchFault::Length);
     }
-    let len = len as usize;
-    if rest.len() < len {
-        return Err(BatchFault::Truncated);
-    }
-    Ok((base_offset, rest.part(len)))
+    let body = rest.take(len as usize).ok_or(BatchFault::Truncated)?;
+    Ok((base_offset, body))
 }
 
 /// The leader epoch of a batch with the right checksum.

@@ -2,12 +2,12 @@
 #![tactic(auto)]
 
 mod batch;
-mod cursor;
 mod decode;
 mod encode;
 mod encode_record;
 mod encode_size;
 mod fault;
+mod field;
 mod head;
 pub mod laws;
 mod marker;

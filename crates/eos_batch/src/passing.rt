@@ -7,10 +7,10 @@ ghost use Rattle.eos_batch.specs.Reading.{header_at, headers_at, placed_at, reco
 ghost use Rattle.eos_batch.specs.Places.{IsAt, records_in};
 ghost use Rattle.eos_batch.specs.steps.Reading.{Passes, PassesFrom};
 
-use crate::cursor::Cursor;
 use crate::fault::BatchFault;
+use crate::field::{read_bytes, read_count, read_int, read_long, read_optional};
 use bytes::Bytes;
-use eos_wire::are_bytes;
+use eos_wire::{Cursor, are_bytes};
 
 #[inline(always)]
 #[tactic(auto, unfolding(crate::specs::Reading::header_at))]
@@ -18,8 +18,8 @@ fn pass_header(rest: &mut Cursor) -> Result<(), BatchFault>
     ensures passes { PassesFrom result rest.new (header_at rest.old) }
     ensures real { IfErr result IsReal }
 {
-    let _key = rest.bytes()?;
-    let _value = rest.optional()?;
+    let _key = read_bytes(rest)?;
+    let _value = read_optional(rest)?;
     Ok(())
 }
 
@@ -42,11 +42,11 @@ fn pass_placed(rest: &mut Cursor, place: u32) -> Result<(), BatchFault>
     ensures real { IfErr result IsReal }
 {
     let _attributes = rest.i8().ok_or(BatchFault::Record)?;
-    let _timestamp_delta = rest.varlong()?;
-    let delta = rest.varint()?;
-    let _key = rest.optional()?;
-    let _value = rest.optional()?;
-    let count = rest.count()?;
+    let _timestamp_delta = read_long(rest)?;
+    let delta = read_int(rest)?;
+    let _key = read_optional(rest)?;
+    let _value = read_optional(rest)?;
+    let count = read_count(rest)?;
     pass_headers(rest, count)?;
     if !rest.is_empty() {
         return Err(BatchFault::Record);
@@ -74,9 +74,9 @@ pub fn pass_record(bytes: &Bytes, from: usize, end: usize, place: u32) -> Result
     are_bytes(bytes.as_slice());
     let _size = bytes.len();
     let mut rest = Cursor::between(bytes, from, end);
-    let mut text = rest.bytes()?;
+    let mut text = read_bytes(&mut rest)?;
     pass_placed(&mut text, place)?;
-    Ok(end - rest.len())
+    Ok(end - rest.left())
 }
 
 /// Reads over the records of a batch, which take the bytes from `begin` to `end`.

@@ -20,10 +20,11 @@ ghost use Rattle.eos_batch.specs.Answers.{Gives};
 ghost use Rattle.eos_batch.specs.steps.Reading.{Pushes, PushesFrom};
 ghost use Rattle.eos_batch.specs.Reading.{header_at, headers_at, placed_at, record_at, records_at};
 
-use crate::cursor::Cursor;
 use crate::fault::BatchFault;
+use crate::field::{read_bytes, read_count, read_int, read_long, read_optional};
 use crate::record::{Header, Headers, Record, Records};
 use bytes::Bytes;
+use eos_wire::Cursor;
 use std::alloc::{AllocError, Global};
 
 /// Owns these bytes too, if there are any.
@@ -41,8 +42,8 @@ pub(crate) fn shared(bytes: Option<Cursor>) -> Result<Option<Bytes>, AllocError>
 fn header_of(rest: &mut Cursor) -> Result<Header, BatchFault>
     ensures { Gives result rest.new (header_at rest.old) }
 {
-    let key = rest.bytes()?;
-    let value = rest.optional()?;
+    let key = read_bytes(rest)?;
+    let value = read_optional(rest)?;
     Ok(Header {
         key: key.share()?,
         value: shared(value)?,
@@ -78,11 +79,11 @@ fn push_placed(
     ensures { Pushes result records.old.items records.new.items (placed_at place rest.old) }
 {
     let attributes = rest.i8().ok_or(BatchFault::Record)?;
-    let timestamp_delta = rest.varlong()?;
-    let delta = rest.varint()?;
-    let key = rest.optional()?;
-    let value = rest.optional()?;
-    let count = rest.count()?;
+    let timestamp_delta = read_long(rest)?;
+    let delta = read_int(rest)?;
+    let key = read_optional(rest)?;
+    let value = read_optional(rest)?;
+    let count = read_count(rest)?;
     let headers = headers_of(alloc, rest, count)?;
     if !rest.is_empty() {
         return Err(BatchFault::Record);
@@ -111,7 +112,7 @@ fn push_record(
 ) -> Result<(), BatchFault>
     ensures { PushesFrom result records.old.items records.new.items rest.new (record_at place rest.old) }
 {
-    let mut text = rest.bytes()?;
+    let mut text = read_bytes(rest)?;
     push_placed(alloc, records, &mut text, place)
 }
 

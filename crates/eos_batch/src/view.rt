@@ -9,11 +9,12 @@ ghost use Rattle.eos_batch.specs.Answers.{Answers, Gives};
 ghost use Rattle.eos_batch.specs.Reading.{header_at};
 ghost use Rattle.eos_batch.specs.Places.{whole_at, found_at, parts_at};
 
-use crate::cursor::Cursor;
 use crate::fault::BatchFault;
+use crate::field::{read_bytes, read_count, read_int, read_long, read_optional};
 use crate::read_record::{headers_of, shared};
 use crate::record::Record;
 use bytes::Bytes;
+use eos_wire::Cursor;
 use std::alloc::Global;
 use std::marker::Model;
 
@@ -26,14 +27,14 @@ pub fn own_record(alloc: Global, bytes: &Bytes, at: usize) -> Result<Record, Bat
     requires { at ≤ length bytes.now }
     ensures { Answers result (found_at at bytes.now) }
 {
-    let mut all = Cursor::new(bytes, at);
-    let mut rest = all.bytes()?;
+    let mut all = Cursor::starting_at(bytes, at);
+    let mut rest = read_bytes(&mut all)?;
     let attributes = rest.i8().ok_or(BatchFault::Record)?;
-    let timestamp_delta = rest.varlong()?;
-    let _delta = rest.varint()?;
-    let key = rest.optional()?;
-    let value = rest.optional()?;
-    let count = rest.count()?;
+    let timestamp_delta = read_long(&mut rest)?;
+    let _delta = read_int(&mut rest)?;
+    let key = read_optional(&mut rest)?;
+    let value = read_optional(&mut rest)?;
+    let count = read_count(&mut rest)?;
     let headers = headers_of(alloc, &mut rest, count)?;
     if !rest.is_empty() {
         return Err(BatchFault::Record);
@@ -64,11 +65,11 @@ fn parts_of<'a>(mut rest: Cursor<'a>) -> Result<Parts<'a>, BatchFault>
     ensures real { IfErr result IsReal }
 {
     let attributes = rest.i8().ok_or(BatchFault::Record)?;
-    let timestamp_delta = rest.varlong()?;
-    let _delta = rest.varint()?;
-    let key = rest.optional()?;
-    let value = rest.optional()?;
-    let count = rest.count()?;
+    let timestamp_delta = read_long(&mut rest)?;
+    let _delta = read_int(&mut rest)?;
+    let key = read_optional(&mut rest)?;
+    let value = read_optional(&mut rest)?;
+    let count = read_count(&mut rest)?;
     Ok(Parts {
         attributes,
         timestamp_delta,
@@ -118,8 +119,8 @@ fn header_of<'a>(rest: &mut Cursor<'a>) -> Result<HeaderRef<'a>, BatchFault>
     ensures gives { Gives result rest.new (header_at rest.old) }
     ensures real { IfErr result IsReal }
 {
-    let key = rest.bytes()?;
-    let value = rest.optional()?;
+    let key = read_bytes(rest)?;
+    let value = read_optional(rest)?;
     Ok(HeaderRef { key, value })
 }
 
@@ -235,8 +236,8 @@ pub fn view_record<'a>(bytes: &'a Bytes, at: usize) -> RecordRef<'a>
     requires found { (r : Record) × (found_at at bytes.now ≡ Ok r) }
     ensures { found_at at bytes.now ≡ Ok result }
 {
-    let mut rest = Cursor::new(bytes, at);
-    match rest.bytes() {
+    let mut rest = Cursor::starting_at(bytes, at);
+    match read_bytes(&mut rest) {
         Ok(text) => record_of(text),
         Err(_) => unreachable!(),
     }

@@ -10,14 +10,13 @@ ghost use Rattle.eos_batch.specs.steps.Reading.{Passes};
 ghost use Rattle.eos_batch.specs.Reading.{with_records, batch_at};
 
 use crate::batch::Batch;
-use crate::cursor::Cursor;
 use crate::decode::{FRAME, frame_of, head_of, sealed_of};
 use crate::fault::BatchFault;
 use crate::passing::pass_records;
 use crate::rules::{has_right_producer, is_control_content, is_end};
 use crate::view::{RecordRef, view_record};
 use bytes::Bytes;
-use eos_wire::are_bytes;
+use eos_wire::{Cursor, are_bytes};
 use std::alloc::Global;
 
 /// A batch whose records are not read.
@@ -47,9 +46,9 @@ pub fn open_batch(alloc: Global, bytes: &Bytes, at: usize) -> Result<Opened, Bat
 {
     are_bytes(bytes.as_slice());
     let _size = bytes.len();
-    let mut rest = Cursor::new(bytes, at);
+    let mut rest = Cursor::starting_at(bytes, at);
     let (base_offset, mut body) = frame_of(&mut rest)?;
-    let end = at + (FRAME + body.len());
+    let end = at + (FRAME + body.left());
     let leader_epoch = sealed_of(&mut body)?;
     let head = head_of(alloc, &mut body, base_offset, leader_epoch)?;
     if head.is_compressed() {
@@ -61,7 +60,7 @@ pub fn open_batch(alloc: Global, bytes: &Bytes, at: usize) -> Result<Opened, Bat
     if !head.offsets_fit() {
         return Err(BatchFault::Count);
     }
-    let begin = end - body.len();
+    let begin = end - body.left();
     Ok(Opened {
         batch: head.batch,
         count: head.count.unsigned_abs(),

@@ -1,13 +1,13 @@
 //! Fields, read one after the other from shared bytes. A run of bytes is a cursor of its own until it is kept, and then
 //! another owner of the bytes, which are never copied. The widths stand at the head of the module on fields.
 
-ghost use Rattle.std.specs.Prelude.{◌≡◌, ◌≤◌, ◌<◌, ◌^◌, ◌==◌, ◌-◌, length, take, drop, IfOk};
-ghost use Rattle.eos_wire.specs.Varint.{uvarint_at};
-ghost use Rattle.eos_wire.specs.Numbers.{bytes_at, i8_at, i16_at, i32_at, i64_at};
+ghost use Rattle.std.specs.Prelude.{◌≡◌, ◌≤◌, ◌<◌, ◌^◌, ◌==◌, ◌-◌, length, take, drop, slice_range, IfOk};
+ghost use Rattle.eos_wire.specs.Varint.{uvarint_at, varint_at, varlong_at};
+ghost use Rattle.eos_wire.specs.Numbers.{bytes_at, i8_at, i16_at, i32_at, i64_at, u32_at};
 ghost use Rattle.eos_wire.specs.Fields.{Reads, with_rest};
 
 use crate::fields::Fields;
-use crate::varint::read_uvarint;
+use crate::varint::{read_uvarint, read_varint, read_varlong};
 use bytes::Bytes;
 use std::alloc::AllocError;
 use std::marker::Model;
@@ -39,6 +39,23 @@ impl<'a> Cursor<'a> {
         Cursor { bytes, at: 0, end }
     }
 
+    /// A cursor at the byte `at`.
+    pub fn starting_at(bytes: &'a Bytes, at: usize) -> Cursor<'a>
+        requires { at ≤ length bytes.now }
+        ensures { result ≡ drop at bytes.now }
+    {
+        let end = bytes.len();
+        Cursor { bytes, at, end }
+    }
+
+    /// A cursor over the bytes from `at` up to `end`.
+    pub fn between(bytes: &'a Bytes, at: usize, end: usize) -> Cursor<'a>
+        requires { (at ≤ end) × (end ≤ length bytes.now) × (end < 2 ^ 63) }
+        ensures { result ≡ slice_range bytes.now at end }
+    {
+        Cursor { bytes, at, end }
+    }
+
     /// Another cursor at the same place.
     pub fn fork(&self) -> Cursor<'a>
         ensures { result ≡ self.now }
@@ -52,7 +69,8 @@ impl<'a> Cursor<'a> {
 
     /// How many bytes are left.
     pub fn left(&self) -> usize
-        ensures { result ≡ length self.now }
+        ensures value { result ≡ length self.now }
+        ensures bound { result < 2 ^ 63 }
     {
         self.end - self.at
     }
@@ -127,6 +145,37 @@ impl<'a> Cursor<'a> {
         let mut fields = Fields::new(self.rest());
         let number = fields.i64()?;
         self.keep(fields.left());
+        Some(number)
+    }
+
+    /// A UINT32.
+    #[tactic(auto, unfolding(crate::specs::Numbers::u32_at))]
+    pub fn u32(&mut self) -> Option<u32>
+        ensures { Reads result self.new (u32_at self.old) }
+    {
+        let mut fields = Fields::new(self.rest());
+        let number = fields.u32()?;
+        self.keep(fields.left());
+        Some(number)
+    }
+
+    /// A varint of 32 bits.
+    #[inline(always)]
+    pub fn varint(&mut self) -> Option<i32>
+        ensures { Reads result self.new (with_rest self.old (varint_at self.old)) }
+    {
+        let (number, len) = read_varint(self.rest())?;
+        self.advance(len);
+        Some(number)
+    }
+
+    /// A varint of 64 bits.
+    #[inline(always)]
+    pub fn varlong(&mut self) -> Option<i64>
+        ensures { Reads result self.new (with_rest self.old (varlong_at self.old)) }
+    {
+        let (number, len) = read_varlong(self.rest())?;
+        self.advance(len);
         Some(number)
     }
 

@@ -7,13 +7,13 @@ use Rattle.eos_batch.proofs.passing.pass_record.Goals as goal
 pub overflow_sub-result : goal.overflow_sub-result
 overflow_sub-result c =
     let fits : IsBytes c.args.bytes.now = subst IsBytes c.as_slice.ensures c.are_bytes.ensures in
-    let read : bytes_at (slice_range c.args.bytes.now c.args.from c.args.end) ≡ Ok (c.in_ok-text.text, c.bytes.new.self) = rw c.between-rest.ensures at c.in_ok-text.ensures.gives in
-    let p = passed c.args.bytes.now c.args.from c.args.end c.in_ok-text.text c.bytes.new.self fits c.requires.inside c.requires.end read in
-    omega (arith, p.left.fits, c.len.ensures.value)
+    let read : bytes_at (slice_range c.args.bytes.now c.args.from c.args.end) ≡ Ok (c.in_ok-text.text, c.read_bytes.new.rest) = rw c.between-rest.ensures at c.in_ok-text.ensures.gives in
+    let p = passed c.args.bytes.now c.args.from c.args.end c.in_ok-text.text c.read_bytes.new.rest fits c.requires.inside c.requires.end read in
+    omega (arith, p.left.fits, c.left.ensures.value)
 
 pub returns-clause-found : goal.returns-clause-found
 returns-clause-found c =
     let fits : IsBytes c.args.bytes.now = subst IsBytes c.as_slice.ensures c.are_bytes.ensures in
-    let read : bytes_at (slice_range c.args.bytes.now c.args.from c.args.end) ≡ Ok (c.in_ok-text.text, c.bytes.new.self) = rw c.between-rest.ensures at c.in_ok-text.ensures.gives in
-    let p = passed c.args.bytes.now c.args.from c.args.end c.in_ok-text.text c.bytes.new.self fits c.requires.inside c.requires.end read in
-    is_at c.args.bytes.now c.args.place c.args.from c.args.end _ c.in_ok-text.text c.bytes.new.self c.in_ok-pass_placed.ensures.passes.0 p (ap (λ (n : ℕ). c.args.end - n) c.len.ensures.value) read c.in_ok-pass_placed.ensures.passes.1
+    let read : bytes_at (slice_range c.args.bytes.now c.args.from c.args.end) ≡ Ok (c.in_ok-text.text, c.read_bytes.new.rest) = rw c.between-rest.ensures at c.in_ok-text.ensures.gives in
+    let p = passed c.args.bytes.now c.args.from c.args.end c.in_ok-text.text c.read_bytes.new.rest fits c.requires.inside c.requires.end read in
+    is_at c.args.bytes.now c.args.place c.args.from c.args.end _ c.in_ok-text.text c.read_bytes.new.rest c.in_ok-pass_placed.ensures.passes.0 p (ap (λ (n : ℕ). c.args.end - n) c.left.ensures.value) read c.in_ok-pass_placed.ensures.passes.1
