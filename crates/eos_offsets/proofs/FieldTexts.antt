@@ -1,35 +1,28 @@
 -- A field that is read is a text at the front, and each field's text is read, whatever follows.
-use Rattle.std.proofs.Common.{◌≡◌, ℕ, zero, suc, ◌^◌, ◌<◌, Bool, true, false, eqb, List, [], ◌++◌, length, take, drop, Option, Some, None, Result, Ok, Err, refl, sym, ap, subst, ◌∙◌, append_assoc, append-nil, arith, ℤ, pos, negsuc, inl, inr}
+use Rattle.std.proofs.Common.{◌≡◌, ℕ, zero, suc, ◌^◌, ◌<◌, Bool, true, false, eqb, List, [], ◌++◌, length, Option, Some, None, Result, Ok, Err, refl, sym, ap, subst, ◌∙◌, append_assoc, append-nil, arith, ℤ, pos, negsuc, inl, inr}
 use Rattle.std.specs.Prelude.{FitsSigned}
 use Rattle.std.specs.Int.{w16}
-use Rattle.std.proofs.lemmas.Bool.{lt-ltb, le-ltb, cases_lt, eqb-true}
+use Rattle.std.proofs.lemmas.Bool.{eqb-true}
 use Rattle.std.proofs.lemmas.Int.{ints}
-use Rattle.std.proofs.lemmas.List.{take_at, drop_at, take-append-drop, length-append, length-take-le, nil_from_length}
+use Rattle.std.proofs.lemmas.List.{nil_from_length}
 use Rattle.eos_wire.specs.Numbers.{IsBytes, bytes_at, i16_text, i32_text, i64_text, i16_at, i32_at, i64_at}
 use Rattle.eos_wire.proofs.NumberTexts.{IsBytes-append_right, i16_sound, i16_whole, i32_sound, i32_whole, i64_sound, i64_whole}
 use Rattle.eos_base.specs.declared.record_fault.RecordFault.{RecordFault}
 use Rattle.eos_base.specs.declared.record_fault.RecordFault.TheVariants as faults
-use Rattle.eos_offsets.specs.Text.{IsString, IsMetadata, IfPresent, IsInt32, IsInt64}
+use Rattle.eos_offsets.specs.Text.{IsMetadata, IfPresent, IsInt32, IsInt64}
+use Rattle.eos_fields.specs.declared.form.Form.TheVariants.{Plain}
+use Rattle.eos_fields.specs.Texts.{IsStringText}
+use Rattle.eos_fields.proofs.Takes.{ok_is, glue, Taken, Cut, cut_sound, cut_whole}
 use Rattle.eos_base.specs.Steps.{◌>>=◌, must}
 use Rattle.eos_base.specs.Records.{present, ended, Settles}
-use Rattle.eos_offsets.specs.Reading.{string_from, string_at, after_metadata_from, after_metadata, after_field}
+use Rattle.eos_offsets.specs.Reading.{after_metadata_from, after_metadata, after_field}
 
 -- ---- steps
-
-pub bind_ok : {A B : Type 0} (r : Result A RecordFault) (f : A → Result B RecordFault) (y : B) → (r >>= f) ≡ Ok y → (x : A) × (r ≡ Ok x) × (f x ≡ Ok y)
-bind_ok (Ok x) f y e = (x, refl, e)
-bind_ok (Err d) f y e = absurd cc
 
 -- a step that reads a field, or finds too few bytes
 pub field_ok : {A B : Type 0} (o : Option A) (f : A → Result B RecordFault) (y : B) → (present o >>= f) ≡ Ok y → (x : A) × (o ≡ Some x) × (f x ≡ Ok y)
 field_ok (Some x) f y e = (x, refl, e)
 field_ok None f y e = absurd cc
-
-abbrev done : {A : Type 0} → A → Result A RecordFault
-done x = Ok x
-
-pub ok_is : {A : Type 0} (x y : A) → done x ≡ done y → x ≡ y
-ok_is x y e = cc
 
 -- ---- as the decoders answer
 
@@ -38,10 +31,6 @@ settles_ok (Ok y) said x a e = a ∙ e
 settles_ok (Err d) said x a e = absurd cc
 
 -- ---- parts
-
--- two texts, one after the other
-glue : (a t b u c : List ℕ) → a ≡ t ++ b → b ≡ u ++ c → a ≡ (t ++ u) ++ c
-glue a t b u c p q = p ∙ (ap (λ (xs : List ℕ). t ++ xs) q ∙ sym (append_assoc t u c))
 
 pub followed : (a t b c : List ℕ) → a ≡ t ++ b → b ≡ c → a ≡ t ++ c
 followed a t b c p q = p ∙ ap (λ (xs : List ℕ). t ++ xs) q
@@ -52,43 +41,12 @@ used_up a t b p q = p ∙ (ap (λ (xs : List ℕ). t ++ xs) q ∙ append-nil t)
 
 -- ---- what is taken from the front
 
--- a text of the value, and the bytes after it
-pub record Taken {X : Type 0} (P : List ℕ → X → Type 0) (bytes : List ℕ) (x : X × List ℕ) : Type 0 where
-  pub text : List ℕ
-  pub parts : bytes ≡ text ++ x.1
-  pub holds : P text x.0
-  pub rest_fits : IsBytes x.1
-
 -- a text whose value doesn't matter, and the bytes after it
 pub record Passed (P : List ℕ → Type 0) (bytes rest : List ℕ) : Type 0 where
   pub text : List ℕ
   pub parts : bytes ≡ text ++ rest
   pub holds : P text
   pub rest_fits : IsBytes rest
-
-some_is : {X : Type 0} (x y : X) → Some x ≡ Some y → x ≡ y
-some_is x y e = cc
-
-record Cut (n : ℕ) (bytes : List ℕ) (x : List ℕ × List ℕ) : Type 0 where
-  pub parts : bytes ≡ x.0 ++ x.1
-  pub len : length x.0 ≡ n
-
-bytes_sound : (n : ℕ) (bytes : List ℕ) (x : List ℕ × List ℕ) → bytes_at n bytes ≡ Some x → Cut n bytes x
-bytes_sound n bytes x e =
-    elim (cases_lt (length bytes) n) [
-      | inl l ↦ let f : None ≡ Some x = rw (lt-ltb (length bytes) n l) at e in absurd cc
-      | inr r ↦
-          let made : List ℕ × List ℕ = (take n bytes, drop n bytes) in
-          let f : Some made ≡ Some x = rw (le-ltb (length bytes) n r) at e in
-          subst (Cut n bytes) (some_is made x f) (record { parts = sym (take-append-drop n bytes); len = length-take-le n bytes r })
-    ]
-
-bytes_whole : (text rest : List ℕ) → bytes_at (length text) (text ++ rest) ≡ Some (text, rest)
-bytes_whole text rest = rw (le-ltb (length (text ++ rest)) (length text) (omega (arith, length-append text rest)), take_at text rest (length text) refl, drop_at text rest (length text) refl) refl
-
-found : {A : Type 0} (o : Option A) (x : A) → present o ≡ Ok x → o ≡ Some x
-found (Some y) x e = cc
-found None x e = absurd cc
 
 -- ---- strings
 
@@ -99,38 +57,21 @@ fits_count : (n : ℕ) → n < 2 ^ 15 → FitsSigned w16 (pos n)
 fits_count n lt = search (arith, ints)
 
 -- a length that was read, and so many bytes after it
-string_joined : (bytes : List ℕ) (n : ℕ) (rest : List ℕ) (x : List ℕ × List ℕ) → FitsSigned w16 (pos n) → bytes ≡ i16_text (pos n) ++ rest → IsBytes rest → Cut n rest x → Taken IsString bytes x
+string_joined : (bytes : List ℕ) (n : ℕ) (rest : List ℕ) (x : List ℕ × List ℕ) → FitsSigned w16 (pos n) → bytes ≡ i16_text (pos n) ++ rest → IsBytes rest → Cut n rest x → Taken (IsStringText Plain) bytes x
 string_joined bytes n rest x fits parts rest_fits cut =
     record {
       text = i16_text (pos n) ++ x.0;
       parts = glue bytes (i16_text (pos n)) rest x.0 x.1 parts cut.parts;
-      holds = record { length_fits = subst (λ (m : ℕ). m < 2 ^ 15) (sym cut.len) (count_fits n fits); parts = ap (λ (m : ℕ). i16_text (pos m) ++ x.0) (sym cut.len) };
+      holds = (i16_text (pos n), (subst (λ (m : ℕ). m < 2 ^ 15) (sym cut.len) (count_fits n fits), ap (λ (m : ℕ). i16_text (pos m)) (sym cut.len)), refl);
       rest_fits = IsBytes-append_right x.0 x.1 (subst IsBytes cut.parts rest_fits);
     }
-
-string_cases : (bytes : List ℕ) (z : ℤ) (rest : List ℕ) (x : List ℕ × List ℕ) → FitsSigned w16 z → bytes ≡ i16_text z ++ rest → IsBytes rest → string_from z rest ≡ Ok x → Taken IsString bytes x
-string_cases bytes (pos n) rest x fits parts rest_fits e = string_joined bytes n rest x fits parts rest_fits (bytes_sound n rest x (found (bytes_at n rest) x e))
-string_cases bytes (negsuc n) rest x fits parts rest_fits e = absurd cc
-
-pub string_sound : (bytes : List ℕ) (x : List ℕ × List ℕ) → IsBytes bytes → string_at bytes ≡ Ok x → Taken IsString bytes x
-unfolding string_at
-string_sound bytes x fits e =
-    let b = field_ok (i16_at bytes) (λ z. string_from z.0 z.1) x e in
-    let t = i16_sound bytes b.0 fits b.1 in
-    string_cases bytes b.0.0 b.0.1 x t.small t.parts t.rest_fits b.2
-
-pub string_whole : (text bytes rest : List ℕ) → IsString text bytes → string_at (text ++ rest) ≡ Ok (bytes, rest)
-unfolding string_at
-string_whole text bytes rest h =
-    let e : text ++ rest ≡ i16_text (pos (length bytes)) ++ (bytes ++ rest) = ap (λ (xs : List ℕ). xs ++ rest) h.parts ∙ append_assoc (i16_text (pos (length bytes))) bytes rest in
-    rw (e, i16_whole (pos (length bytes)) (bytes ++ rest) (fits_count (length bytes) h.length_fits), bytes_whole bytes rest) refl
 
 -- ---- metadata
 
 metadata_cases : (bytes : List ℕ) (z : ℤ) (rest after : List ℕ) → FitsSigned w16 z → bytes ≡ i16_text z ++ rest → IsBytes rest → after_metadata_from z rest ≡ Ok after → Passed IsMetadata bytes after
 metadata_cases bytes (pos n) rest after fits parts rest_fits e =
     let b = field_ok (bytes_at n rest) (λ x. Ok x.1) after e in
-    let t = string_joined bytes n rest b.0 fits parts rest_fits (bytes_sound n rest b.0 b.1) in
+    let t = string_joined bytes n rest b.0 fits parts rest_fits (cut_sound n rest b.0 (ap present b.1)) in
     subst (Passed IsMetadata bytes) (ok_is b.0.1 after b.2) (record { text = t.text; parts = t.parts; holds = inl (b.0.0, t.holds); rest_fits = t.rest_fits })
 metadata_cases bytes (negsuc zero) rest after fits parts rest_fits e =
     subst (Passed IsMetadata bytes) (ok_is rest after e) (record { text = i16_text (negsuc 0); parts = parts; holds = inr refl; rest_fits = rest_fits })
@@ -147,8 +88,9 @@ pub metadata_whole : (text rest : List ℕ) → IsMetadata text → after_metada
 unfolding after_metadata
 metadata_whole text rest (inl h) =
     let bytes = h.0 in
-    let e : text ++ rest ≡ i16_text (pos (length bytes)) ++ (bytes ++ rest) = ap (λ (xs : List ℕ). xs ++ rest) h.1.parts ∙ append_assoc (i16_text (pos (length bytes))) bytes rest in
-    rw (e, i16_whole (pos (length bytes)) (bytes ++ rest) (fits_count (length bytes) h.1.length_fits), bytes_whole bytes rest) refl
+    let parts : text ≡ i16_text (pos (length bytes)) ++ bytes = h.1.2 ∙ ap (λ (xs : List ℕ). xs ++ bytes) h.1.1.1 in
+    let e : text ++ rest ≡ i16_text (pos (length bytes)) ++ (bytes ++ rest) = ap (λ (xs : List ℕ). xs ++ rest) parts ∙ append_assoc (i16_text (pos (length bytes))) bytes rest in
+    rw (e, i16_whole (pos (length bytes)) (bytes ++ rest) (fits_count (length bytes) h.1.1.0), cut_whole bytes rest) refl
 metadata_whole text rest (inr h) = rw (h, i16_whole (negsuc 0) rest (search (arith, ints))) refl
 
 -- ---- fields that only some versions have

@@ -8,28 +8,33 @@ use Rattle.std.proofs.lemmas.Int.{ints}
 use Rattle.eos_wire.specs.Numbers.{IsBytes, i16_text, i32_text, i16_at, i32_at}
 use Rattle.eos_wire.proofs.NumberTexts.{i16_sound, i16_whole, i32_sound, i32_whole}
 use Rattle.eos_base.specs.declared.record_fault.RecordFault.{RecordFault}
+use Rattle.eos_fields.specs.declared.form.Form.TheVariants.{Plain}
+use Rattle.eos_fields.specs.Texts.{IsStringText}
+use Rattle.eos_fields.specs.Reading.{string_from}
+use Rattle.eos_fields.proofs.Takes.{bind_ok, ok_is}
+use Rattle.eos_fields.proofs.FieldTexts.{string_sound, string_whole}
 use Rattle.eos_offsets.specs.declared.key.OffsetKey.{OffsetKey}
-use Rattle.eos_offsets.specs.Text.{IsString, IsKeyText, IsOtherKeyText}
-use Rattle.eos_offsets.specs.Reading.{string_at, key_fields_of, is_key_version, some_of, read_key}
-use Rattle.eos_offsets.proofs.FieldTexts.{bind_ok, field_ok, ok_is, followed, used_up, string_sound, string_whole, ended_ok}
+use Rattle.eos_offsets.specs.Text.{IsKeyText, IsOtherKeyText}
+use Rattle.eos_offsets.specs.Reading.{key_fields_of, is_key_version, some_of, read_key}
+use Rattle.eos_offsets.proofs.FieldTexts.{field_ok, followed, used_up, ended_ok}
 
 -- the fields after the version
 pub record IsFieldsText (text : List ℕ) (key : OffsetKey) : Type 0 where
   pub group : List ℕ
   pub topic : List ℕ
-  pub group_text : IsString group key.group
-  pub topic_text : IsString topic key.topic
+  pub group_text : IsStringText Plain group key.group
+  pub topic_text : IsStringText Plain topic key.topic
   pub partition_fits : FitsSigned w32 key.partition
   pub parts : text ≡ group ++ (topic ++ i32_text key.partition)
 
 fields_sound : (bytes : List ℕ) (key : OffsetKey) → IsBytes bytes → key_fields_of bytes ≡ Ok key → IsFieldsText bytes key
 unfolding key_fields_of
 fields_sound bytes key fits e =
-    let g = bind_ok (string_at bytes) _ key e in
-    let t = bind_ok (string_at g.0.1) _ key g.2 in
+    let g = bind_ok (string_from Plain bytes) _ key e in
+    let t = bind_ok (string_from Plain g.0.1) _ key g.2 in
     let p = field_ok (i32_at t.0.1) _ key t.2 in
-    let tg = string_sound bytes g.0 fits g.1 in
-    let tc = string_sound g.0.1 t.0 tg.rest_fits t.1 in
+    let tg = string_sound Plain bytes g.0 fits g.1 in
+    let tc = string_sound Plain g.0.1 t.0 tg.rest_fits t.1 in
     let tp = i32_sound t.0.1 p.0 tc.rest_fits p.1 in
     let made : OffsetKey = record { group = g.0.0; topic = t.0.0; partition = p.0.0 } in
     let last = ended_ok made key p.0.1 p.2 in
@@ -48,7 +53,7 @@ fields_whole : (text : List ℕ) (key : OffsetKey) → IsFieldsText text key →
 unfolding key_fields_of
 fields_whole text key h =
     let p : i32_at (i32_text key.partition) ≡ Some (key.partition, []) = ap i32_at (sym (append-nil (i32_text key.partition))) ∙ i32_whole key.partition [] h.partition_fits in
-    rw (h.parts, string_whole h.group key.group (h.topic ++ i32_text key.partition) h.group_text, string_whole h.topic key.topic (i32_text key.partition) h.topic_text, p) refl
+    rw (h.parts, string_whole Plain h.group key.group (h.topic ++ i32_text key.partition) h.group_text, string_whole Plain h.topic key.topic (i32_text key.partition) h.topic_text, p) refl
 
 -- ---- the version
 

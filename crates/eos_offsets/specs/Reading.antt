@@ -7,6 +7,8 @@ use Rattle.eos_base.specs.Steps.{◌>>=◌}
 use Rattle.eos_base.specs.Records.{present, ended}
 use Rattle.eos_base.specs.declared.record_fault.RecordFault.{RecordFault}
 use Rattle.eos_base.specs.declared.record_fault.RecordFault.TheVariants as faults
+use Rattle.eos_fields.specs.declared.form.Form.TheVariants.{Plain}
+use Rattle.eos_fields.specs.Reading.{string_from}
 use Rattle.eos_offsets.specs.declared.key.OffsetKey.{OffsetKey}
 
 -- a fault that bytes can have: not want of memory, and no record has a status
@@ -32,15 +34,6 @@ abbrev pub Passes : Result (Unit {0}) RecordFault → List ℕ → Result (List 
 Passes (Ok _) rest read = read ≡ Ok rest
 Passes (Err e) rest read = read ≡ Err e
 
-abbrev pub string_from : ℤ → List ℕ → Result (List ℕ × List ℕ) RecordFault
-string_from (pos n) bytes = present (bytes_at n bytes)
-string_from (negsuc n) bytes = Err faults.Length
-
-unfoldable pub string_at : List ℕ → Result (List ℕ × List ℕ) RecordFault
-string_at bytes = do
-  len ← present (i16_at bytes)
-  string_from len.0 len.1
-
 -- what follows the metadata
 abbrev pub after_metadata_from : ℤ → List ℕ → Result (List ℕ) RecordFault
 after_metadata_from (pos n) bytes = present (bytes_at n bytes) >>= λ x. Ok x.1
@@ -58,8 +51,8 @@ is_key_version version = int_eq version (pos 0) || int_eq version (pos 1)
 -- the fields after the version
 unfoldable pub key_fields_of : List ℕ → Result OffsetKey RecordFault
 key_fields_of bytes = do
-  group ← string_at bytes
-  topic ← string_at group.1
+  group ← string_from Plain bytes
+  topic ← string_from Plain group.1
   partition ← present (i32_at topic.1)
   ended (record { group = group.0; topic = topic.0; partition = partition.0 }, partition.1)
 

@@ -1,20 +1,17 @@
 -- Which bytes are a key or a value of `__consumer_offsets`, as Kafka's schemas OffsetCommitKey (versions 0 and 1) and
 -- OffsetCommitValue (versions 0 to 3) lay them out: expireTimestamp is of version 1 alone (dropped by KIP-211), leaderEpoch
 -- came with version 3 (KIP-320). Numbers are big-endian, INT16, INT32 and INT64 being the two's complement in 2, 4 and 8 bytes.
-use Rattle.std.specs.Prelude.{◌≡◌, ◌≢◌, ◌⊎◌, ℕ, ◌^◌, ◌<◌, ℤ, pos, negsuc, ◌≤ℤ◌, FitsSigned, Bool, true, false, List, [], ◌++◌, length}
+use Rattle.std.specs.Prelude.{◌≡◌, ◌≢◌, ◌⊎◌, ℕ, ℤ, pos, negsuc, ◌≤ℤ◌, FitsSigned, Bool, true, false, List, [], ◌++◌}
 use Rattle.std.specs.Ordering.{int_eq}
 use Rattle.std.specs.Int.{w16, w32, w64}
 use Rattle.eos_wire.specs.Numbers.{i16_text, i32_text, i64_text}
+use Rattle.eos_fields.specs.declared.form.Form.TheVariants.{Plain}
+use Rattle.eos_fields.specs.Texts.{IsStringText}
 use Rattle.eos_offsets.specs.declared.key.OffsetKey.{OffsetKey}
-
--- STRING: an INT16, which is the number of the bytes that follow, and the bytes
-pub record IsString (text bytes : List ℕ) : Type 0 where
-  pub length_fits : length bytes < 2 ^ 15
-  pub parts : text ≡ i16_text (pos (length bytes)) ++ bytes
 
 -- the metadata: a string, or the length -1, which stands for an empty one
 abbrev pub IsMetadata : List ℕ → Type 0
-IsMetadata text = ((bytes : List ℕ) × IsString text bytes) ⊎ (text ≡ i16_text (negsuc 0))
+IsMetadata text = ((bytes : List ℕ) × IsStringText Plain text bytes) ⊎ (text ≡ i16_text (negsuc 0))
 
 -- a field that only some versions have
 abbrev pub IfPresent : Bool → (List ℕ → Type 0) → List ℕ → Type 0
@@ -33,8 +30,8 @@ pub record IsKeyText (text : List ℕ) (key : OffsetKey) : Type 0 where
   pub group : List ℕ
   pub topic : List ℕ
   pub version_known : (version ≡ pos 0) ⊎ (version ≡ pos 1)
-  pub group_text : IsString group key.group
-  pub topic_text : IsString topic key.topic
+  pub group_text : IsStringText Plain group key.group
+  pub topic_text : IsStringText Plain topic key.topic
   pub partition_fits : FitsSigned w32 key.partition
   pub parts : text ≡ i16_text version ++ (group ++ (topic ++ i32_text key.partition))
 

@@ -10,22 +10,22 @@
 //! Numbers are big-endian. A STRING is an INT16, the number of its bytes, and the bytes. Source: Kafka's schema
 //! `OffsetCommitKey`.
 
-ghost use Rattle.std.specs.Prelude.{◌≡◌, ◌<◌, ◌^◌, ◌++◌, length, Ok, None, Some, OnOk, IfOk, IfErr};
-ghost use Rattle.eos_base.specs.Records.{Parses, Settles};
+ghost use Rattle.std.specs.Prelude.{◌≡◌, true, length, Ok, None, Some, IfOk, IfErr};
+ghost use Rattle.eos_base.specs.Records.{Settles};
+ghost use Rattle.eos_fields.specs.declared.form.Form.TheVariants.{Plain};
+ghost use Rattle.eos_fields.specs.Writing.{fits_length};
 ghost use Rattle.eos_offsets.specs.Text.{IsKeyText, IsOtherKeyText};
-ghost use Rattle.eos_offsets.specs.Reading.{IsOfBytes, IsNotStatus, string_at, key_fields_of, read_key};
-ghost use Rattle.eos_offsets.specs.Writing.{string_text, key_bytes, write_key};
+ghost use Rattle.eos_offsets.specs.Reading.{IsNotStatus, key_fields_of, read_key};
+ghost use Rattle.eos_offsets.specs.Writing.{key_bytes, write_key};
 
-use bytes::{BufMut, Bytes, BytesMut};
+use bytes::Bytes;
 use eos_base::RecordFault;
-use eos_wire::{Cursor, are_bytes};
+use eos_fields::{Form, fits_length, read_text, write_text};
+use eos_wire::{Cursor, are_bytes, write_i16, write_i32};
 use std::alloc::{AllocError, Global};
 
 /// The version that is written.
 const KEY_VERSION: i16 = 1;
-
-/// The most bytes that a STRING's length can count.
-const STRING_LIMIT: usize = 32767;
 
 /// A group and a partition that it reads.
 #[derive(Clone, Debug, PartialEq, Eq, Drop)]
@@ -35,27 +35,14 @@ pub struct OffsetKey {
     pub partition: i32,
 }
 
-/// A STRING, as a part of the input.
-#[tactic(auto, unfolding(crate::specs::Reading::string_at))]
-fn read_string<'a>(rest: &mut Cursor<'a>) -> Result<Cursor<'a>, RecordFault>
-    ensures reading { Parses result rest.new (string_at rest.old) }
-    ensures faults { IfErr result IsOfBytes }
-{
-    let len = rest.i16().ok_or(RecordFault::Short)?;
-    if len < 0 {
-        return Err(RecordFault::Length);
-    }
-    rest.take(len as usize).ok_or(RecordFault::Short)
-}
-
 /// Reads the fields after the version, which are all that is left.
 #[tactic(auto, unfolding(crate::specs::Reading::key_fields_of))]
 fn read_fields(mut rest: Cursor<'_>) -> Result<OffsetKey, RecordFault>
     ensures answer { Settles result (key_fields_of rest.entry) }
     ensures faults { IfErr result IsNotStatus }
 {
-    let group = read_string(&mut rest)?;
-    let topic = read_string(&mut rest)?;
+    let group = read_text(&mut rest, Form::Plain)?;
+    let topic = read_text(&mut rest, Form::Plain)?;
     let partition = rest.i32().ok_or(RecordFault::Short)?;
     if !rest.is_empty() {
         return Err(RecordFault::Trailing);
@@ -97,29 +84,19 @@ pub fn decode_key(_alloc: Global, bytes: &Bytes) -> Result<Option<OffsetKey>, Re
     read_key(Cursor::new(bytes))
 }
 
-/// Writes a STRING.
-#[tactic(auto, unfolding(eos_wire::specs::Numbers::i16_text))]
-fn put_string(out: &mut BytesMut, text: &Bytes) -> Result<(), AllocError>
-    requires { length text.now < 2 ^ 15 }
-    ensures { OnOk result (out.new.items ≡ out.old.items ++ string_text text.now) }
-{
-    out.put_i16(text.len() as i16)?;
-    out.put_slice(text.as_slice())
-}
-
 /// Writes a key, field after field.
 fn write_key(alloc: Global, key: &OffsetKey) -> Result<Bytes, AllocError>
-    requires group { length key.now.group < 2 ^ 15 }
-    requires topic { length key.now.topic < 2 ^ 15 }
+    requires group { fits_length Plain (length key.now.group) ≡ true }
+    requires topic { fits_length Plain (length key.now.topic) ≡ true }
     ensures bytes { IfOk result (λ bytes. bytes ≡ key_bytes key.now) }
     ensures text { IfOk result (λ bytes. IsKeyText bytes key.now) }
 {
-    let mut out = BytesMut::new(alloc);
-    out.put_i16(KEY_VERSION)?;
-    put_string(&mut out, &key.group)?;
-    put_string(&mut out, &key.topic)?;
-    out.put_i32(key.partition)?;
-    Ok(out.freeze()?)
+    let mut out = Vec::new(alloc);
+    write_i16(&mut out, KEY_VERSION)?;
+    write_text(&mut out, Form::Plain, &key.group)?;
+    write_text(&mut out, Form::Plain, &key.topic)?;
+    write_i32(&mut out, key.partition)?;
+    Ok(Bytes::from_vec(out)?)
 }
 
 /// The bytes of a key, in version 1.
@@ -132,7 +109,7 @@ pub fn encode_key(alloc: Global, key: &OffsetKey) -> Result<Bytes, RecordFault>
     ensures reads_back { IfOk result (λ bytes. read_key bytes ≡ Ok (Some key.now)) }
     ensures faults { IfErr result IsNotStatus }
 {
-    if key.group.len() > STRING_LIMIT || key.topic.len() > STRING_LIMIT {
+    if !fits_length(Form::Plain, key.group.len()) || !fits_length(Form::Plain, key.topic.len()) {
         return Err(RecordFault::Length);
     }
     Ok(write_key(alloc, key)?)

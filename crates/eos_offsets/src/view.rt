@@ -1,7 +1,9 @@
 //! Keys and values that are read where they stand. Nothing is shared or copied, and no memory is taken.
 
 ghost use Rattle.std.specs.Prelude.{◌≡◌, IfErr};
-ghost use Rattle.eos_offsets.specs.Reading.{IsOfBytes, string_at, key_fields_of, read_key, read_value};
+ghost use Rattle.eos_fields.specs.declared.form.Form.TheVariants.{Plain};
+ghost use Rattle.eos_fields.specs.Reading.{string_from};
+ghost use Rattle.eos_offsets.specs.Reading.{IsOfBytes, key_fields_of, read_key, read_value};
 ghost use Rattle.eos_offsets.specs.Views.{Lends, LendsKey, LendsAnyKey};
 
 use crate::value::read_value;
@@ -17,9 +19,9 @@ pub struct KeyRef<'a> {
 }
 
 /// A STRING, as a part of the input.
-#[tactic(auto, unfolding(crate::specs::Reading::string_at))]
+#[tactic(auto, unfolding(eos_fields::specs::Reading::string_from, eos_fields::specs::Reading::length_from))]
 fn view_string<'a>(fields: &mut Fields<'a>) -> Result<&'a [u8], RecordFault>
-    ensures reading { Lends result fields.new (string_at fields.old) }
+    ensures reading { Lends result fields.new (string_from Plain fields.old) }
     ensures faults { IfErr result IsOfBytes }
 {
     let len = fields.i16().ok_or(RecordFault::Short)?;

@@ -1,6 +1,4 @@
 pub mod SameNames
-pub mod Loop
-pub mod Takes
 pub mod FieldTexts
 pub mod ValueTexts
 pub mod Appended

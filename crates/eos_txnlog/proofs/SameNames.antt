@@ -1,7 +1,7 @@
 -- Sets of names, as they are looked up: in each topic, in order, and both ways.
-use Rattle.std.proofs.Common.{◌≡◌, ℕ, Bool, true, false, List, [], ◌∷◌, ◌++◌, refl, sym, ap, ◌∙◌, subst, ℤ, inl, inr}
-use Rattle.std.specs.Prelude.{◌↔◌, ◌&&◌, ◌||◌, map, flat_map, IsPermutation}
-use Rattle.std.specs.List.{list_any, list_all}
+use Rattle.std.proofs.Common.{◌≡◌, ℕ, Bool, true, false, List, [], ◌∷◌, refl, sym, ap, ◌∙◌, subst, ℤ, inl, inr}
+use Rattle.std.specs.Prelude.{◌↔◌, ◌&&◌, ◌||◌, map, IsPermutation}
+use Rattle.std.specs.List.{list_any}
 use Rattle.std.specs.Ordering.{is_eq, int_eq, int_cmp, nat_cmp, ordering_then}
 use Rattle.std.specs.Str.{bytes_eq}
 use Rattle.std.specs.Cmp.Lexicographic.{slice_cmp}

@@ -1,21 +1,23 @@
 -- What is written is a text of the value.
-use Rattle.std.proofs.Common.{◌≡◌, ℕ, suc, ◌+◌, ◌^◌, Bool, true, false, List, [], ◌∷◌, ◌++◌, length, flat_map, Some, Result, Ok, Err, refl, sym, append_assoc, arith, ℤ, pos, inl}
-use Rattle.std.specs.Prelude.{◌&&◌, All, FitsSigned, IfOk, OnOk}
+use Rattle.std.proofs.Common.{◌≡◌, ℕ, suc, ◌+◌, ◌^◌, Bool, true, false, List, [], ◌∷◌, length, flat_map, Some, Result, Ok, Err, refl, sym, append_assoc, arith, ℤ, inl}
+use Rattle.std.specs.Prelude.{◌&&◌, All, FitsSigned, IfOk}
 use Rattle.std.specs.Int.{w32}
 use Rattle.std.specs.List.{list_all}
 use Rattle.std.proofs.lemmas.Bool.{ltb-true}
 use Rattle.std.proofs.lemmas.List.{append-nil}
-use Rattle.eos_wire.specs.Numbers.{i16_text, i32_text}
+use Rattle.eos_wire.specs.Numbers.{i32_text}
 use Rattle.eos_wire.specs.Writing.{uvarint_of}
 use Rattle.eos_wire.proofs.Spellings.{uvarint_shortest}
 use Rattle.eos_base.specs.declared.record_fault.RecordFault.{RecordFault}
-use Rattle.eos_txnlog.specs.declared.form.Form.{Form}
-use Rattle.eos_txnlog.specs.declared.form.Form.TheVariants.{Plain, Flexible}
+use Rattle.eos_fields.specs.declared.form.Form.{Form}
+use Rattle.eos_fields.specs.declared.form.Form.TheVariants.{Plain, Flexible}
 use Rattle.eos_txnlog.specs.declared.partitions.TopicPartitions.{TopicPartitions}
 use Rattle.eos_txnlog.specs.declared.value.TxnValue.{TxnValue}
-use Rattle.eos_txnlog.specs.Text.{form_of, IsLengthText, IsCountText, IsStringText, AreTexts, IsListText, IsNumberText, IsSectionText, IsKeyText, IsTopicText, IsBodyText, IsValueText, FitNumbers, IsInRange}
+use Rattle.eos_fields.specs.Texts.{IsLengthText, IsCountText, IsStringText, AreTexts, IsListText, IsSectionText}
+use Rattle.eos_txnlog.specs.Text.{form_of, IsNumberText, IsKeyText, IsTopicText, IsBodyText, IsValueText, FitNumbers, IsInRange}
 use Rattle.eos_txnlog.specs.Reading.{read_value, read_key}
-use Rattle.eos_txnlog.specs.Writing.{fits_length, fits_count, length_text, count_text, section_text, string_text, numbers_text, fits_topic, topic_text, fits_partitions, partitions_text, body_text, value_text, key_text}
+use Rattle.eos_fields.specs.Writing.{fits_length, fits_count, length_text, count_text, section_text, string_text}
+use Rattle.eos_txnlog.specs.Writing.{numbers_text, fits_topic, topic_text, fits_partitions, partitions_text, body_text, value_text, key_text}
 use Rattle.eos_txnlog.proofs.ValueTexts.{value_whole, key_whole}
 
 both : (a b : Bool) → (a && b) ≡ true → (a ≡ true) × (b ≡ true)

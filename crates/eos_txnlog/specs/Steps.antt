@@ -1,6 +1,6 @@
 -- Which record of a transactional id may follow which: Kafka's `TransactionState` (the valid previous states), as KIP-890
 -- leaves it, where the end of a transaction raises the producer epoch. `None` is no record before, or a tombstone.
-use Rattle.std.specs.Prelude.{int_le, Bool, true, false, not, ◌&&◌, ◌||◌, List, [], ◌∷◌, Option, Some, None, option_map, Result, Ok, Err, if◌then◌else◌}
+use Rattle.std.specs.Prelude.{int_le, Bool, not, ◌&&◌, ◌||◌, List, [], ◌∷◌, Option, Some, None, option_map, Result, Ok, Err, if◌then◌else◌}
 use Rattle.std.specs.List.{list_any}
 use Rattle.std.specs.Ordering.{int_eq}
 use Rattle.eos_txnlog.specs.declared.status.Status.{Status}

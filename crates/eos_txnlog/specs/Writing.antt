@@ -1,48 +1,22 @@
 -- The bytes that are written for a key or a value of `__transaction_state` (Kafka's schemas `TransactionLogKey` and
 -- `TransactionLogValue`; KIP-482 for the flexible form), and what fits its length fields. The choices of the writer:
 -- numbers in their shortest spelling, an empty list by the count 0, and no tagged fields.
-use Rattle.std.specs.Prelude.{ℕ, ◌+◌, ◌^◌, ℤ, pos, Bool, true, false, ◌&&◌, List, [], ◌++◌, length, flat_map, Result, Ok, Err, nat_lt}
+use Rattle.std.specs.Prelude.{ℕ, ℤ, pos, Bool, ◌&&◌, List, ◌++◌, length, flat_map, Result}
 use Rattle.std.specs.List.{list_all}
 use Rattle.eos_wire.specs.Numbers.{i8_text, i16_text, i32_text, i64_text}
-use Rattle.eos_wire.specs.Writing.{uvarint_of}
 use Rattle.eos_base.specs.Steps.{◌>>=◌, must}
 use Rattle.eos_base.specs.declared.record_fault.RecordFault.{RecordFault}
 use Rattle.eos_base.specs.declared.record_fault.RecordFault.TheVariants as faults
-use Rattle.eos_txnlog.specs.declared.form.Form.{Form}
-use Rattle.eos_txnlog.specs.declared.form.Form.TheVariants.{Plain, Flexible}
+use Rattle.eos_fields.specs.declared.form.Form.{Form}
+use Rattle.eos_fields.specs.declared.form.Form.TheVariants.{Plain}
+use Rattle.eos_fields.specs.Writing.{fits_length, fits_count, count_text, section_text, string_text}
 use Rattle.eos_txnlog.specs.declared.partitions.TopicPartitions.{TopicPartitions}
 use Rattle.eos_txnlog.specs.declared.value.TxnValue.{TxnValue}
 use Rattle.eos_txnlog.specs.Status.{status_number}
 use Rattle.eos_txnlog.specs.Text.{form_of}
 use Rattle.eos_txnlog.specs.Reading.{known_form}
 
--- ---- lengths
-
-abbrev pub fits_length : Form → ℕ → Bool
-fits_length Plain n = nat_lt n (2 ^ 15)
-fits_length Flexible n = nat_lt (n + 1) (2 ^ 32)
-
-abbrev pub fits_count : Form → ℕ → Bool
-fits_count Plain n = nat_lt n (2 ^ 31)
-fits_count Flexible n = nat_lt (n + 1) (2 ^ 32)
-
-abbrev pub length_text : Form → ℕ → List ℕ
-length_text Plain n = i16_text (pos n)
-length_text Flexible n = uvarint_of (n + 1)
-
-abbrev pub count_text : Form → ℕ → List ℕ
-count_text Plain n = i32_text (pos n)
-count_text Flexible n = uvarint_of (n + 1)
-
--- a section without a field
-abbrev pub section_text : Form → List ℕ
-section_text Plain = []
-section_text Flexible = uvarint_of 0
-
--- ---- texts and lists
-
-abbrev pub string_text : Form → List ℕ → List ℕ
-string_text form bytes = length_text form (length bytes) ++ bytes
+-- ---- lists
 
 abbrev pub numbers_text : Form → List ℤ → List ℕ
 numbers_text form numbers = count_text form (length numbers) ++ flat_map i32_text numbers

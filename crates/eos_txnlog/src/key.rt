@@ -9,16 +9,15 @@
 
 ghost use Rattle.std.specs.Prelude.{◌≡◌, ℕ, List, true, length, Some, Ok, IfSome, IfOk};
 ghost use Rattle.eos_base.specs.Records.{Settles};
-ghost use Rattle.eos_txnlog.specs.declared.form.Form.TheVariants.{Plain};
+ghost use Rattle.eos_fields.specs.declared.form.Form.TheVariants.{Plain};
 ghost use Rattle.eos_txnlog.specs.Text.{IsKeyText};
 ghost use Rattle.eos_txnlog.specs.Reading.{read_key};
-ghost use Rattle.eos_txnlog.specs.Writing.{fits_length, key_text, write_key};
+ghost use Rattle.eos_fields.specs.Writing.{fits_length};
+ghost use Rattle.eos_txnlog.specs.Writing.{key_text, write_key};
 
-use crate::field::read_text;
-use crate::form::Form;
-use crate::writing::{fits_length, write_text};
 use bytes::Bytes;
 use eos_base::RecordFault;
+use eos_fields::{Form, fits_length, read_text, write_text};
 use eos_wire::{Cursor, are_bytes, write_i16};
 use std::alloc::{AllocError, Global};
 

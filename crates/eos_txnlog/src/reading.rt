@@ -20,16 +20,16 @@ ghost use Rattle.std.specs.Prelude.{Ok, IfOk};
 ghost use Rattle.eos_base.specs.Records.{Gives, Parses, Settles, skipped};
 ghost use Rattle.eos_txnlog.specs.declared.value.TxnValue.{TxnValue};
 ghost use Rattle.eos_txnlog.specs.Text.{IsValueText};
-ghost use Rattle.eos_txnlog.specs.Reading.{many_from, number_from, numbers_from, topic_from, partitions_from, body_from, whole_body, read_value};
+ghost use Rattle.eos_fields.specs.Reading.{many_from};
+ghost use Rattle.eos_txnlog.specs.Reading.{number_from, numbers_from, topic_from, partitions_from, body_from, whole_body, read_value};
 
-use crate::field::{
-    read_count, read_number, read_numbers_count, read_status, read_text, skip_numbers, skip_section,
-};
-use crate::form::Form;
+use crate::field::{read_number, read_numbers_count, read_status, skip_numbers};
+use crate::form::form_of;
 use crate::partitions::{Numbers, Partitions, TopicPartitions};
 use crate::value::TxnValue;
 use bytes::Bytes;
 use eos_base::{Listed, RecordFault};
+use eos_fields::{Form, read_count, read_text, skip_section};
 use eos_wire::{Cursor, are_bytes};
 use std::alloc::Global;
 
@@ -168,7 +168,7 @@ fn read_value(alloc: Global, mut rest: Cursor<'_>) -> Result<TxnValue, RecordFau
     ensures { Settles result (read_value rest.entry) }
 {
     let version = rest.i16().ok_or(RecordFault::Short)?;
-    let Some(form) = Form::from_version(version) else {
+    let Some(form) = form_of(version) else {
         return Err(RecordFault::Version);
     };
     read_body(alloc, rest, form)

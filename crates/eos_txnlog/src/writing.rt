@@ -11,37 +11,19 @@ ghost use Rattle.eos_wire.specs.Writing.{uvarint_of};
 ghost use Rattle.eos_base.specs.Records.{Settles};
 ghost use Rattle.eos_txnlog.specs.Text.{FitNumbers, FitsHead, FitsTail, IsInRange, IsValueText};
 ghost use Rattle.eos_txnlog.specs.Reading.{read_value};
-ghost use Rattle.eos_txnlog.specs.Writing.{fits_length, length_text, fits_count, count_text, section_text, string_text, numbers_text, fits_topic, topic_text, partitions_text, fits_partitions, head_text, tail_text, body_text, value_text, write_value};
+ghost use Rattle.eos_fields.specs.Writing.{fits_length, length_text, fits_count, count_text, section_text, string_text};
+ghost use Rattle.eos_txnlog.specs.Writing.{numbers_text, fits_topic, topic_text, partitions_text, fits_partitions, head_text, tail_text, body_text, value_text, write_value};
 
-use crate::form::Form;
+use crate::form::form_of;
 use crate::partitions::TopicPartitions;
 use crate::value::TxnValue;
 use bytes::Bytes;
 use eos_base::RecordFault;
-use eos_wire::{write_i8, write_i16, write_i32, write_i64, write_uvarint};
+use eos_fields::{Form, fits_count, fits_length, write_count, write_section, write_text};
+use eos_wire::{write_i8, write_i16, write_i32, write_i64};
 use std::alloc::{AllocError, Global};
 
 // ---- what fits its length field
-
-/// Whether a text of so many bytes fits its length field.
-pub(crate) fn fits_length(form: Form, len: usize) -> bool
-    ensures { result ≡ fits_length form len }
-{
-    match form {
-        Form::Plain => len <= i16::MAX as usize,
-        Form::Flexible => len < u32::MAX as usize,
-    }
-}
-
-/// Whether a list of so many items fits its count field.
-fn fits_count(form: Form, count: usize) -> bool
-    ensures { result ≡ fits_count form count }
-{
-    match form {
-        Form::Plain => count <= i32::MAX as usize,
-        Form::Flexible => count < u32::MAX as usize,
-    }
-}
 
 fn fits_topic(form: Form, topic: &TopicPartitions) -> bool
     ensures { result ≡ fits_topic form topic.now }
@@ -67,47 +49,6 @@ fn fits_partitions(form: Form, topics: &[TopicPartitions]) -> bool
 }
 
 // ---- what fits, written
-
-/// The length of a text.
-fn write_length(out: &mut Vec<u8>, form: Form, len: usize) -> Result<(), AllocError>
-    requires { fits_length form len ≡ true }
-    ensures { OnOk result (out.new.items ≡ out.old.items ++ length_text form len) }
-{
-    match form {
-        Form::Plain => write_i16(out, len as i16),
-        Form::Flexible => write_uvarint(out, len as u32 + 1),
-    }
-}
-
-/// The count of a list.
-fn write_count(out: &mut Vec<u8>, form: Form, count: usize) -> Result<(), AllocError>
-    requires { fits_count form count ≡ true }
-    ensures { OnOk result (out.new.items ≡ out.old.items ++ count_text form count) }
-{
-    match form {
-        Form::Plain => write_i32(out, count as i32),
-        Form::Flexible => write_uvarint(out, count as u32 + 1),
-    }
-}
-
-/// A section without a field, which only the flexible form has.
-fn write_section(out: &mut Vec<u8>, form: Form) -> Result<(), AllocError>
-    ensures { OnOk result (out.new.items ≡ out.old.items ++ section_text form) }
-{
-    match form {
-        Form::Plain => Ok(()),
-        Form::Flexible => write_uvarint(out, 0),
-    }
-}
-
-/// A text.
-pub(crate) fn write_text(out: &mut Vec<u8>, form: Form, text: &Bytes) -> Result<(), AllocError>
-    requires { fits_length form (length text.now) ≡ true }
-    ensures { OnOk result (out.new.items ≡ out.old.items ++ string_text form text.now) }
-{
-    write_length(out, form, text.len())?;
-    out.extend_from_slice(text.as_slice())
-}
 
 /// Numbers, one after the other.
 fn write_many_numbers(out: &mut Vec<u8>, numbers: &[i32]) -> Result<(), AllocError>
@@ -230,7 +171,7 @@ pub fn encode_value(alloc: Global, value: &TxnValue, version: i16) -> Result<Byt
     ensures text { IfOk result (λ bytes. IsValueText bytes value.now) }
     ensures reads_back { IfOk result (λ bytes. read_value bytes ≡ Ok value.now) }
 {
-    let Some(form) = Form::from_version(version) else {
+    let Some(form) = form_of(version) else {
         return Err(RecordFault::Version);
     };
     if !fits_partitions(form, value.partitions.as_slice()) {

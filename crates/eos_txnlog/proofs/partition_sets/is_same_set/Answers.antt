@@ -1,4 +1,4 @@
-use Rattle.std.proofs.Common.{◌≡◌, ◌∙◌, ap, sym, subst, rules}
+use Rattle.std.proofs.Common.{◌≡◌, ◌∙◌, sym, subst, rules}
 use Rattle.std.specs.Prelude.{◌&&◌, IsPermutation}
 use Rattle.eos_txnlog.specs.PartitionSets.{names_of, are_within, is_same_set}
 use Rattle.eos_txnlog.proofs.SameNames.{same_means, same_in_order}

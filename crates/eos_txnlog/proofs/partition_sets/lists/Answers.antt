@@ -1,4 +1,4 @@
-use Rattle.std.proofs.Common.{◌≡◌, ◌∙◌, sym, subst, true, false, List, ℕ, ℤ, rules, arith, get_or}
+use Rattle.std.proofs.Common.{◌≡◌, ◌∙◌, sym, subst, true, false, arith, get_or}
 use Rattle.std.specs.List.{list_any}
 use Rattle.std.proofs.lemmas.Grind.{common_steps}
 use Rattle.std.proofs.lemmas.Int.{to_z-of_z}
@@ -6,7 +6,7 @@ use Rattle.std.proofs.lemmas.List.Folds.{list_any_at}
 use Rattle.eos_base.specs.Members.{is_found}
 use Rattle.eos_base.specs.PartitionNames.{name_cmp}
 use Rattle.eos_txnlog.specs.declared.partitions.TopicPartitions.{TopicPartitions}
-use Rattle.eos_txnlog.specs.PartitionSets.{name_of, names_in_topic, lists}
+use Rattle.eos_txnlog.specs.PartitionSets.{name_of, names_in_topic}
 use Rattle.eos_txnlog.proofs.SameNames.{found_in_some, lists_means}
 use Rattle.eos_txnlog.proofs.partition_sets.lists.Goals as goal
 

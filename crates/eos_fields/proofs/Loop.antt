@@ -5,8 +5,8 @@ use Rattle.eos_base.specs.declared.record_fault.RecordFault.{RecordFault}
 use Rattle.eos_base.specs.declared.record_fault.RecordFault.TheVariants as faults
 use Rattle.eos_base.specs.Steps.{◌>>=◌}
 use Rattle.eos_base.specs.Records.{Fails, Refuses, skipped}
-use Rattle.eos_txnlog.specs.Reading.{many_from}
-use Rattle.eos_txnlog.proofs.Takes.{done}
+use Rattle.eos_fields.specs.Reading.{many_from}
+use Rattle.eos_fields.proofs.Takes.{done}
 
 -- what fails is passed on
 pub fails_through : {A B : Type 0} (e : RecordFault) (r : Result A RecordFault) (s : Result B RecordFault) → ((f : RecordFault) → r ≡ Err f → s ≡ Err f) → Fails e r → Fails e s

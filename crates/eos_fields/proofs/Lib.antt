@@ -1,0 +1,3 @@
+pub mod Takes
+pub mod Loop
+pub mod FieldTexts
