@@ -14,6 +14,7 @@ pub mod PiecesDrawn
 pub mod SettledShards
 pub mod PhaseAnswers
 pub mod FrontsUnique
+pub mod WholeTexts
 pub mod VerdictsUnique
 pub mod LogsUnique
 pub mod OneVerdict

@@ -1,5 +1,5 @@
 -- Where no fault stands in the partitions, an evidence has one list of logs.
-use Rattle.std.proofs.Common.{◌≡◌, suc, inl, inr, true, List, [], ◌∷◌, Option, Some, None, refl, sym, ap, subst, ◌∙◌, arith}
+use Rattle.std.proofs.Common.{◌≡◌, ◌↔◌, suc, inl, inr, true, List, [], ◌∷◌, Option, Some, None, refl, sym, ap, subst, ◌∙◌, arith}
 use Rattle.std.specs.List.{All}
 use Rattle.std.specs.Ordering.{is_lt, ordering_reverse}
 use Rattle.std.specs.declared.cmp.Ordering.{Ordering}
@@ -13,7 +13,6 @@ use Rattle.eos_items.specs.Items.{items_of}
 use Rattle.eos_fold.specs.declared.close.Close.{Close}
 use Rattle.eos_fold.specs.Closes.{close_cmp, closes_of}
 use Rattle.eos_fold.specs.Parts.{PartLog, Ascends}
-use Rattle.eos_fold.specs.Whole.{AreCloses}
 use Rattle.eos_summary.specs.Settling.{data_in}
 use Rattle.eos_batch.specs.Marker.{markers_of}
 use Rattle.eos_fold.specs.Standing as folds
@@ -77,8 +76,11 @@ one_list (c ∷ cs) (d ∷ ds) a b f g =
     by_first : c ≡ d → (((x : Close) → Has cs x → Has ds x) → ((x : Close) → Has ds x → Has cs x) → cs ≡ ds) → c ∷ cs ≡ d ∷ ds
     by_first e others = let tails = others (forth e) (back e) in λ i. e i ∷ tails i
 
-one_closes : (bs : List Batch) (cs ds : List Close) → AreCloses (closes_of bs) cs → AreCloses (closes_of bs) ds → cs ≡ ds
-one_closes bs cs ds h k = one_list cs ds h.ascend k.ascend (λ c m. (k.members c).1 ((h.members c).0 m)) (λ c m. (h.members c).1 ((k.members c).0 m))
+abbrev Hold : List Close → List Batch → Type 0
+Hold cs bs = (c : Close) → Has cs c ↔ Has (closes_of bs) c
+
+one_closes : (bs : List Batch) (cs ds : List Close) → Ascends cs → Ascends ds → Hold cs bs → Hold ds bs → cs ≡ ds
+one_closes bs cs ds up rise h k = one_list cs ds up rise (λ c m. (k c).1 ((h c).0 m)) (λ c m. (h c).1 ((k c).0 m))
 
 -- ---- the logs
 
@@ -92,14 +94,14 @@ one_log p l m of are none =
     let none_too : NoneStands (folds.IsStanding p.end.topic p.end.partition p.end.end are.batches are.stop) =
     subst (λ s. NoneStands (folds.IsStanding p.end.topic p.end.partition p.end.end are.batches s)) front.1
     (subst (λ (bs : List Batch). NoneStands (folds.IsStanding p.end.topic p.end.partition p.end.end bs of.stop)) front.0 none) in
-    let topic = of.of_topic ∙ sym are.of_topic in
-    let number = of.of_number ∙ sym are.of_number in
-    let end = of.until ∙ sym are.until in
+    let topic = of.log.of_topic ∙ sym are.log.of_topic in
+    let number = of.log.of_number ∙ sym are.log.of_number in
+    let end = of.log.until ∙ sym are.log.until in
     let fault = no_fault folds.fault_cmp (folds.IsStanding p.end.topic p.end.partition p.end.end of.batches of.stop) l.fault of.fault none
     ∙ sym (no_fault folds.fault_cmp (folds.IsStanding p.end.topic p.end.partition p.end.end are.batches are.stop) m.fault are.fault none_too) in
-    let items = of.items ∙ (ap (λ (bs : List Batch). items_of (data_in bs)) front.0 ∙ sym are.items) in
-    let markers = of.markers ∙ (ap markers_of front.0 ∙ sym are.markers) in
-    let closes = one_closes are.batches l.closes m.closes (subst (λ (bs : List Batch). AreCloses (closes_of bs) l.closes) front.0 of.closes) are.closes in
+    let items = of.log.items ∙ (ap (λ (bs : List Batch). items_of (data_in bs)) front.0 ∙ sym are.log.items) in
+    let markers = of.log.markers ∙ (ap markers_of front.0 ∙ sym are.log.markers) in
+    let closes = one_closes are.batches l.closes m.closes of.ascends are.ascends (subst (λ (bs : List Batch). Hold l.closes bs) front.0 of.log.closes) are.log.closes in
     λ i. record { topic = topic i; number = number i; end = end i; fault = fault i; items = items i; closes = closes i; markers = markers i }
 
 pub one_logs : (ps : List Partition) (ls ms : List PartLog) (of : AreLogsOf ps ls) (are : AreLogsOf ps ms) → NoneStands (StandsInPartitions ps ls of) → ls ≡ ms

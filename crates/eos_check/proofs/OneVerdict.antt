@@ -33,7 +33,7 @@ module _ (e : EvidenceParts) (is : IsEvidence e) where
   move ls of are (Lineage f) s = (λ g t. s.0 g (same_standing e.partitions ls ls are of g t), s.1, s.2, s.3)
 
   moved : (ls : List PartLog) (of are : AreLogsOf e.partitions ls) (w : Verdict) → IsVerdictOf e ls are w → IsVerdictOf e ls of w
-  moved ls of are (Yes c) h = ((law e ls of is).1 (λ f s. (law e ls are is).0 h.0 f (move ls of are f s)), h.1)
+  moved ls of are (Yes c) h = h
   moved ls of are (No f) h = record { stands = move ls are of f h.stands; least = λ g s. h.least g (move ls of are g s) }
 
   same_logs : (ls ms : List PartLog) → ls ≡ ms → (of : AreLogsOf e.partitions ls) (are : AreLogsOf e.partitions ms) (w : Verdict) → IsVerdictOf e ms are w → IsVerdictOf e ls of w

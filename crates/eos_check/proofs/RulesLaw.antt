@@ -23,6 +23,7 @@ use Rattle.eos_fold.specs.Fronts.{IsFront, GoesOn}
 use Rattle.eos_touch.specs.Touches.{touches_of, last_touch, last_of}
 use Rattle.eos_fold.specs.Standing.{IsStanding, StandsIn, IsOpen}
 use Rattle.eos_check.specs.PartitionRules.{IsWhole, IsTransactional, HasMarker, KeepsRules}
+use Rattle.eos_check.proofs.WholeTexts.{same_front, at_the_end}
 use Rattle.eos_check.proofs.PairFaults.{EachHasRecords, NoPairAfter, rules_kept, no_pair, after_split, last_behind, touches_cut, each_after}
 use Rattle.eos_check.proofs.EndedData.{data_says, marker_among, marker_or_open, open_unended}
 
@@ -80,8 +81,10 @@ at_end topic number end bs AtEnd none = refl
 at_end topic number end bs (NoBatch s b f) none = absurd (stands_not topic number end bs (NoBatch s b f) none (records_in bs) (BadBatch s b f) (refl, refl))
 at_end topic number end bs (Elsewhere n) none = absurd (stands_not topic number end bs (Elsewhere n) none (records_in bs) (Gap n) (refl, refl))
 
-whole : (topic : List ℕ) (number end : ℤ) (bs : List Batch) (stop : Stop) → NoFault topic number end bs stop → IsWhole end bs stop
-whole topic number end bs stop none = record { all = all; records = by_test (int_eq (pos (records_in bs)) end) refl }
+whole : (topic : List ℕ) (number end : ℤ) (segments : List Segment) (bs : List Batch) (stop : Stop) → IsFront 0 segments bs stop → NoFault topic number end bs stop
+    → IsWhole end segments bs
+whole topic number end segments bs stop front none =
+    record { texts = at_the_end segments bs bs stop front (all, refl); records = by_test (int_eq (pos (records_in bs)) end) refl }
   where
     all : stop ≡ AtEnd
     all = at_end topic number end bs stop none
@@ -128,17 +131,17 @@ ended topic number end bs stop right none before b after e t =
 -- ---- the law
 
 pub law : (topic : List ℕ) (number end : ℤ) (segments : List Segment) (bs : List Batch) (stop : Stop) → IsFront 0 segments bs stop
-    → NoFault topic number end bs stop ↔ KeepsRules topic end bs stop
+    → NoFault topic number end bs stop ↔ KeepsRules topic end segments bs
 law topic number end segments bs stop front = (forward, backward)
   where
     right : EachRight bs
     right = right_front 0 segments bs stop front
 
-    forward : NoFault topic number end bs stop → KeepsRules topic end bs stop
+    forward : NoFault topic number end bs stop → KeepsRules topic end segments bs
     forward none =
         let kept = rules_kept (not (is_internal topic)) bs (have_records bs right) (pairs topic number end bs stop none) in
         record {
-          whole = whole topic number end bs stop none;
+          whole = whole topic number end segments bs stop front none;
           sequenced = λ i id. (kept id).0 (ap not i);
           fenced = record { pairs = λ id. (kept id).1; ended = ended topic number end bs stop right none };
         }
@@ -147,12 +150,15 @@ law topic number end segments bs stop front = (forward, backward)
     if_checked true e = absurd cc
     if_checked false e = refl
 
-    none_of : KeepsRules topic end bs stop → (offset : ℕ) (kind : PartitionFaultKind) → StandsIn (not (is_internal topic)) end bs stop offset kind → ⊥
-    none_of k offset (BadBatch s b f) h = no_batch stop k.whole.all h.0
+    at_stop : KeepsRules topic end segments bs → stop ≡ AtEnd
+    at_stop k = (same_front segments bs bs stop front k.whole.texts).0
+
+    none_of : KeepsRules topic end segments bs → (offset : ℕ) (kind : PartitionFaultKind) → StandsIn (not (is_internal topic)) end bs stop offset kind → ⊥
+    none_of k offset (BadBatch s b f) h = no_batch stop (at_stop k) h.0
       where
         no_batch : (x : Stop) → x ≡ AtEnd → x ≡ NoBatch s b f → ⊥
         no_batch x p q = cc
-    none_of k offset (Gap n) h = no_gap stop k.whole.all h.0
+    none_of k offset (Gap n) h = no_gap stop (at_stop k) h.0
       where
         no_gap : (x : Stop) → x ≡ AtEnd → x ≡ Elsewhere n → ⊥
         no_gap x p q = cc
@@ -162,5 +168,5 @@ law topic number end segments bs stop front = (forward, backward)
     none_of k offset (End declared) h = h.1 k.whole.records
     none_of k offset (OpenAtEnd producer) h = open_unended producer bs k.fenced.ended h.1
 
-    backward : KeepsRules topic end bs stop → NoFault topic number end bs stop
+    backward : KeepsRules topic end segments bs → NoFault topic number end bs stop
     backward k fault h = none_of k fault.offset fault.kind h.stands

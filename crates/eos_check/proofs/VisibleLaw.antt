@@ -202,7 +202,7 @@ law p log of offset = (forward, backward)
     forward : IsVisibleAt log offset → (b : Batch) × IsCommittedAt bs offset b
     forward (x, has, at) =
         let shown = filter_has (λ (y : Item). is_visible y.fate) log.items x has in
-        let held = flat_has items_in (data_in bs) x (subst (λ (xs : List Item). Has xs x) of.items shown.0) in
+        let held = flat_has items_in (data_in bs) x (subst (λ (xs : List Item). Has xs x) of.log.items shown.0) in
         let d = data_found bs held.0 held.1 in
         let i = in_batch held.0 0 held.0.records x held.2 in
         let begins : held.0.offset ≡ offset_of d.here = ap (λ (y : DataBatch). y.offset) (sym d.same) in
@@ -230,5 +230,5 @@ law p log of offset = (forward, backward)
         let d = in_log b at.after in
         let i = item_at d 0 d.records offset (omega (arith, low)) (omega (arith, high)) in
         let inside : Has (data_in bs) d = subst (λ (xs : List Batch). Has (data_in xs) d) (sym at.parts) (has_data at.before at.after b h.of_data) in
-        let held : Has log.items i.item = subst (λ (xs : List Item). Has xs i.item) (sym of.items) (has_flat items_in (data_in bs) d i.item inside i.has) in
+        let held : Has log.items i.item = subst (λ (xs : List Item). Has xs i.item) (sym of.log.items) (has_flat items_in (data_in bs) d i.item inside i.has) in
         (i.item, has_filter (λ (y : Item). is_visible y.fate) log.items i.item held (ap is_visible i.fate ∙ v), i.offset)

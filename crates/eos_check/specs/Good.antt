@@ -1,27 +1,34 @@
 -- What it means that the promise of exactly once was kept in an evidence: for each partition the segments of its log, with the
--- offset after its last record.
+-- offset after its last record. The logs are what the segments' batches say.
 -- Sources: KIP-98 (idempotent and transactional producers), KIP-447 (offsets committed with the outputs), KIP-890 (an epoch a
 -- transaction).
 use Rattle.std.specs.Prelude.{List, [], ◌∷◌, ⊤}
+use Rattle.eos_batch.specs.declared.batch.Batch.{Batch}
 use Rattle.eos_evidence.specs.declared.partition.Partition.{Partition}
 use Rattle.eos_evidence.specs.Evidence.{EvidenceParts}
 use Rattle.eos_fold.specs.Parts.{PartLog}
+use Rattle.eos_fold.specs.Whole.{IsReadFrom}
 use Rattle.eos_table.specs.TransactionLog.{IsTransactionLog, transaction_parts, decisions_of}
 use Rattle.eos_table.specs.Atomic.{Atomic}
-use Rattle.eos_lineage.specs.EvidenceLogs.{AreLogsOf}
 use Rattle.eos_lineage.specs.Lineage.{LineageKept}
 use Rattle.eos_check.specs.PartitionRules.{KeepsRules}
 
--- each partition's log is whole, sequenced and fenced
-abbrev pub EachKeepsRules : (ps : List Partition) (ls : List PartLog) → AreLogsOf ps ls → Type 0
-EachKeepsRules [] [] of = ⊤
-EachKeepsRules [] (l ∷ ls) of = ⊤
-EachKeepsRules (p ∷ ps) [] of = ⊤
-EachKeepsRules (p ∷ ps) (l ∷ ls) of = KeepsRules p.end.topic p.end.end of.0.batches of.0.stop × EachKeepsRules ps ls of.1
+-- the log of this partition, whose batches are whole, sequenced and fenced
+pub record IsKeptLog (p : Partition) (log : PartLog) : Type 0 where
+  pub batches : List Batch
+  pub read : IsReadFrom p.end.topic p.end.partition p.end.end batches log
+  pub rules : KeepsRules p.end.topic p.end.end p.segments batches
 
-pub record Good (e : EvidenceParts) (logs : List PartLog) (of : AreLogsOf e.partitions logs) : Type 0 where
+-- the logs of these partitions, in order
+abbrev pub AreKeptLogs : List Partition → List PartLog → Type 0
+AreKeptLogs [] [] = ⊤
+AreKeptLogs [] (l ∷ ls) = ⊥
+AreKeptLogs (p ∷ ps) [] = ⊥
+AreKeptLogs (p ∷ ps) (l ∷ ls) = IsKeptLog p l × AreKeptLogs ps ls
+
+pub record Good (e : EvidenceParts) (logs : List PartLog) : Type 0 where
   -- the logs are whole and fenced, and no sequence is repeated or missing in a producer epoch
-  pub partitions : EachKeepsRules e.partitions logs of
+  pub partitions : AreKeptLogs e.partitions logs
   -- the transaction log reads and keeps the steps of its transactional ids
   pub transaction_log : IsTransactionLog (transaction_parts logs)
   -- every transaction is committed in all its partitions or aborted in all

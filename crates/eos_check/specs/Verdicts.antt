@@ -90,7 +90,7 @@ pub record AreCounts (e : EvidenceParts) (ls : List PartLog) (c : Counts) : Type
 
 -- of the evidence whose logs these are
 abbrev pub IsVerdictOf : (e : EvidenceParts) (ls : List PartLog) → AreLogsOf e.partitions ls → Verdict → Type 0
-IsVerdictOf e ls of (Yes counts) = Good e ls of × AreCounts e ls counts
+IsVerdictOf e ls of (Yes counts) = Good e ls × AreCounts e ls counts
 IsVerdictOf e ls of (No fault) = IsLeast (verdict_cmp e.spec.apps) (Stands e ls of) fault
 
 abbrev pub IsVerdict : EvidenceParts → Verdict → Type 0

@@ -26,7 +26,7 @@ use Rattle.eos_fold.specs.Closes.{close_in, closes_in, rank_of, close_cmp}
 use Rattle.eos_fold.specs.contracts.close.CloseOrd.TheImpl.{ghosts as order}
 use Rattle.eos_fold.specs.contracts.close.ClosePartialEq.TheImpl.{ghosts as test}
 use Rattle.eos_fold.specs.Parts.{Ascends}
-use Rattle.eos_fold.specs.Whole.{AreCloses}
+use Rattle.eos_fold.specs.steps.Whole.{AreCloses}
 
 -- ---- the order
 

@@ -1,5 +1,6 @@
 -- A partition, made from what a summary says of its whole log.
-use Rattle.std.proofs.Common.{◌≡◌, List, [], ◌∷◌, sym, ap, subst, ◌∙◌, arith, ℤ, ℕ, Option}
+use Rattle.std.proofs.Common.{◌≡◌, ◌↔◌, List, [], ◌∷◌, sym, ap, subst, ◌∙◌, arith, ℤ, ℕ, Option}
+use Rattle.eos_base.specs.Members.{Has}
 use Rattle.eos_evidence.specs.declared.segment.Segment.{Segment}
 use Rattle.eos_items.specs.declared.item.Item.{Item}
 use Rattle.eos_items.specs.Items.{items_of}
@@ -11,8 +12,8 @@ use Rattle.eos_fold.specs.declared.summary.Summary.{Summary}
 use Rattle.eos_fold.specs.Parts.{PartLog, Rises}
 use Rattle.eos_fold.specs.Standing.{IsPartitionFault, AreOf}
 use Rattle.eos_summary.specs.Settling.{data_in}
-use Rattle.eos_fold.specs.Whole.{AreCloses, IsPartOf}
-use Rattle.eos_fold.specs.steps.Whole.{BeginsIn, IsWhole}
+use Rattle.eos_fold.specs.Whole.{IsPartOf}
+use Rattle.eos_fold.specs.steps.Whole.{BeginsIn, IsWhole, AreCloses}
 use Rattle.eos_fold.proofs.RisingItems.{items_rise}
 use Rattle.eos_fold.proofs.SteadyFronts.{front_steady}
 
@@ -42,12 +43,15 @@ part_of topic number end segments s w part a b c f items markers closes = record
   batches = w.batches;
   stop = s.stop;
   front = w.front;
-  of_topic = a;
-  of_number = b;
-  until = c;
-  fault = f;
-  items = items ∙ ap items_of (same_data topic segments s w);
+  log = record {
+    of_topic = a;
+    of_number = b;
+    until = c;
+    items = items ∙ ap items_of (same_data topic segments s w);
+    markers = markers ∙ w.keeps.markers;
+    closes = subst (λ (all : List Close). (close : Close) → Has part.closes close ↔ Has all close) (ap closes_in (same_data topic segments s w) ∙ closes_read w.batches) closes.members;
+  };
   rises = rise topic segments s part.items w items;
-  markers = markers ∙ w.keeps.markers;
-  closes = subst (λ (all : List Close). AreCloses all part.closes) (ap closes_in (same_data topic segments s w) ∙ closes_read w.batches) closes;
+  ascends = closes.ascend;
+  fault = f;
 }

@@ -3,7 +3,7 @@
 ghost use Rattle.std.specs.Prelude.{◌≡◌, ◌++◌, IfOk, OnOk};
 ghost use Rattle.std.specs.Option.{option_to_list};
 ghost use Rattle.eos_fold.specs.Closes.{close_cmp, close_in, closes_in};
-ghost use Rattle.eos_fold.specs.Whole.{AreCloses};
+ghost use Rattle.eos_fold.specs.steps.Whole.{AreCloses};
 
 use eos_batch::Kind;
 use eos_items::{DataHead, Ending, LogIndex};

@@ -24,7 +24,7 @@ abbrev pub end_name : End → PartitionName
 end_name e = record { topic = e.topic; partition = e.partition }
 
 pub name_is : (p : Partition) (l : PartLog) → IsLogOf p l → part_name l ≡ end_name p.end
-name_is p l of = λ i. record { topic = of.of_topic i; partition = of.of_number i }
+name_is p l of = λ i. record { topic = of.log.of_topic i; partition = of.log.of_number i }
 
 -- ---- names
 

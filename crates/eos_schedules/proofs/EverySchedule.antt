@@ -67,7 +67,7 @@ right_logs e h logs of =
       atomic = is_atomic h.config h.world logs s at;
     }
 
-no_fault : (e : EvidenceParts) (logs : List PartLog) (of : AreLogsOf e.partitions logs) → IsEvidence e → AreRight e logs of → HaveNoFault e logs of
+no_fault : (e : EvidenceParts) (logs : List PartLog) (of : AreLogsOf e.partitions logs) → IsEvidence e → AreRight e logs → HaveNoFault e logs of
 no_fault e logs of i r = record {
   in_partitions = none_from e.partitions logs of r.partitions;
   in_log = (log_law (transaction_parts logs) (log_in_order logs (in_order e logs i of))).0 r.transaction_log;

@@ -23,7 +23,7 @@ use Rattle.eos_fold.specs.Parts.{PartLog}
 use Rattle.eos_fold.specs.Standing.{StandsIn}
 use Rattle.eos_fold.specs.Closes.{closes_of}
 use Rattle.eos_summary.specs.Settling.{data_in}
-use Rattle.eos_fold.specs.Whole.{AreCloses}
+use Rattle.eos_fold.specs.steps.Whole.{AreCloses}
 use Rattle.eos_machine.specs.declared.config.Config.{Config}
 use Rattle.eos_machine.specs.Places.{IsConfig, place_count, topic_of, number_of, is_sequenced}
 use Rattle.eos_machine.specs.declared.item.Item.{Item}
@@ -32,7 +32,7 @@ use Rattle.eos_machine.specs.Rest.{NeighboursFit, AllAtomic, StepsFit, IsAtRest,
 use Rattle.eos_machine.proofs.Good.{Good}
 use Rattle.eos_check.specs.PartitionRules.{KeepsRules}
 use Rattle.eos_lineage.specs.EvidenceLogs.{IsLogOf, AreLogsOf}
-use Rattle.eos_check.specs.Good.{EachKeepsRules}
+use Rattle.eos_check.specs.Good.{IsKeptLog, AreKeptLogs}
 use Rattle.eos_check.proofs.FrontsUnique.{one_front}
 use Rattle.eos_check.proofs.PairFaults.{EachHasRecords, touches_have_records, no_pair}
 use Rattle.eos_check.proofs.RulesLaw.{right_front, have_records, NoFault, law as rules_law}
@@ -70,7 +70,7 @@ no_fault c w p s l fault h = none_of fault.offset fault.kind h.stands
     none_of offset (End declared) k = k.1 (ap pos (records_are c 0 (log_at w p)))
     none_of offset (OpenAtEnd producer) k = none_open c (log_at w p) producer p (decisions_of c w) (λ a. (s.atomic a).matched p) k.1
 
-place_keeps : (c : Config) (w : World) (p : ℕ) → IsSettled c w → p < place_count c → KeepsRules (topic_of c p) (pos (length (log_at w p))) (log_batches c w p) AtEnd
+place_keeps : (c : Config) (w : World) (p : ℕ) → IsSettled c w → p < place_count c → KeepsRules (topic_of c p) (pos (length (log_at w p))) (log_segments c p (log_at w p)) (log_batches c w p)
 place_keeps c w p s l = (rules_law (topic_of c p) (pos (number_of c p)) (pos (length (log_at w p))) (log_segments c p (log_at w p)) (log_batches c w p) AtEnd (front c w p s l)).0 (no_fault c w p s l)
 
 -- ---- the logs of the evidence are these
@@ -84,18 +84,21 @@ same_front c w p bs stop s l f = one_front 0 (log_segments c p (log_at w p)) bs 
 abbrev IsPlaceOf : Config → World → Partition → Type 0
 IsPlaceOf c w p = (q : ℕ) × (q < place_count c) × (p ≡ partition_at c w q)
 
-keeps : (c : Config) (w : World) (p : Partition) (l : PartLog) (of : IsLogOf p l) → IsSettled c w → IsPlaceOf c w p → KeepsRules p.end.topic p.end.end of.batches of.stop
+keeps : (c : Config) (w : World) (p : Partition) (l : PartLog) → IsLogOf p l → IsSettled c w → IsPlaceOf c w p → IsKeptLog p l
 keeps c w p l of s q =
     let e : p ≡ partition_at c w q.0 = q.2 in
     let same = same_front c w q.0 of.batches of.stop s q.1 (subst (λ x. IsFront 0 x.segments of.batches of.stop) e of.front) in
-    subst (λ x. KeepsRules x.end.topic x.end.end of.batches of.stop) (sym e)
-    (subst (λ bs. KeepsRules (topic_of c q.0) (pos (length (log_at w q.0))) bs of.stop) (sym same.0)
-    (subst (KeepsRules (topic_of c q.0) (pos (length (log_at w q.0))) (log_batches c w q.0)) (sym same.1) (place_keeps c w q.0 s q.1)))
+    record {
+      batches = of.batches;
+      read = of.log;
+      rules = subst (λ x. KeepsRules x.end.topic x.end.end x.segments of.batches) (sym e)
+          (subst (KeepsRules (topic_of c q.0) (pos (length (log_at w q.0))) (log_segments c q.0 (log_at w q.0))) (sym same.0) (place_keeps c w q.0 s q.1));
+    }
 
-each_keeps : (c : Config) (w : World) (ps : List Partition) (ls : List PartLog) (of : AreLogsOf ps ls) → IsSettled c w → ((p : Partition) → Has ps p → IsPlaceOf c w p) → EachKeepsRules ps ls of
+each_keeps : (c : Config) (w : World) (ps : List Partition) (ls : List PartLog) → AreLogsOf ps ls → IsSettled c w → ((p : Partition) → Has ps p → IsPlaceOf c w p) → AreKeptLogs ps ls
 each_keeps c w [] [] of s h = tt
-each_keeps c w [] (l ∷ ls) of s h = tt
-each_keeps c w (p ∷ ps) [] of s h = tt
+each_keeps c w [] (l ∷ ls) of s h = of
+each_keeps c w (p ∷ ps) [] of s h = of
 each_keeps c w (p ∷ ps) (l ∷ ls) of s h = (keeps c w p l of.0 s (h p (inl refl)), each_keeps c w ps ls of.1 s (λ r m. h r (inr m)))
 
 each_is : (c : Config) (w : World) (a n : ℕ) → a + n ≤ place_count c → (p : Partition) → Has (map (partition_at c w) (range_with_len a n)) p → IsPlaceOf c w p
@@ -104,7 +107,7 @@ each_is c w a (suc n) l p (inl e) = (a, omega (arith, l), sym e)
 each_is c w a (suc n) l p (inr h) = each_is c w (a + 1) n (omega (arith, l)) p h
 
 -- whole, sequenced and fenced
-pub all_keep : (c : Config) (w : World) (ps : List Partition) (ls : List PartLog) (of : AreLogsOf ps ls) → IsSettled c w → ps ≡ map (partition_at c w) (range_with_len 0 (place_count c)) → EachKeepsRules ps ls of
+pub all_keep : (c : Config) (w : World) (ps : List Partition) (ls : List PartLog) → AreLogsOf ps ls → IsSettled c w → ps ≡ map (partition_at c w) (range_with_len 0 (place_count c)) → AreKeptLogs ps ls
 all_keep c w ps ls of s e = each_keeps c w ps ls of s (λ p h. each_is c w 0 (place_count c) (omega arith) p (subst (λ qs. Has qs p) e h))
 
 -- ---- what they hold
@@ -113,11 +116,11 @@ is_log : (c : Config) (w : World) (p : ℕ) (l : PartLog) → IsSettled c w → 
 is_log c w p l s m of =
     let same = same_front c w p of.batches of.stop s m of.front in
     record {
-      topic = of.of_topic;
-      number = of.of_number;
-      items = of.items ∙ ap (λ bs. items_of (data_in bs)) same.0;
-      markers = of.markers ∙ ap markers_of same.0;
-      closes = subst (λ bs. AreCloses (closes_of bs) l.closes) same.0 of.closes;
+      topic = of.log.of_topic;
+      number = of.log.of_number;
+      items = of.log.items ∙ ap (λ bs. items_of (data_in bs)) same.0;
+      markers = of.log.markers ∙ ap markers_of same.0;
+      closes = subst (λ bs. AreCloses (closes_of bs) l.closes) same.0 (record { members = of.log.closes; ascend = of.ascends });
     }
 
 are_at : (c : Config) (w : World) (a n : ℕ) (ls : List PartLog) → IsSettled c w → a + n ≤ place_count c → AreLogsOf (map (partition_at c w) (range_with_len a n)) ls → AreAt c w a n ls

@@ -9,7 +9,7 @@ use Rattle.eos_fold.specs.Parts.{PartLog}
 use Rattle.eos_table.specs.TransactionLog.{IsTransactionLog, transaction_parts, decisions_of}
 use Rattle.eos_table.specs.Atomic.{Atomic}
 use Rattle.eos_lineage.specs.EvidenceLogs.{AreLogsOf}
-use Rattle.eos_check.specs.Good.{EachKeepsRules}
+use Rattle.eos_check.specs.Good.{AreKeptLogs}
 use Rattle.eos_check.specs.Verdicts.{StandsInPartitions, StandsInLog, StandsInMatching}
 use Rattle.eos_check.specs.declared.verdict.Fault.{Fault}
 use Rattle.eos_check.specs.declared.verdict.Fault.TheVariants.{Partition as InPartition, Log, Match, Lineage}
@@ -17,9 +17,9 @@ use Rattle.eos_check.specs.declared.verdict.Verdict.{Verdict}
 use Rattle.eos_check.specs.declared.verdict.Verdict.TheVariants.{Yes, No}
 
 -- all that the checker asks of logs, but for what their outputs say
-pub record AreRight (e : EvidenceParts) (logs : List PartLog) (of : AreLogsOf e.partitions logs) : Type 0 where
+pub record AreRight (e : EvidenceParts) (logs : List PartLog) : Type 0 where
   -- each partition's log is whole, sequenced and fenced
-  pub partitions : EachKeepsRules e.partitions logs of
+  pub partitions : AreKeptLogs e.partitions logs
   -- the transaction log reads, keeps the steps of its transactional ids, and leaves no transaction going on
   pub transaction_log : IsTransactionLog (transaction_parts logs)
   -- every transaction is committed in all its partitions or aborted in all
@@ -33,7 +33,7 @@ pub record HaveNoFault (e : EvidenceParts) (logs : List PartLog) (of : AreLogsOf
 
 -- whatever logs are read out of the evidence
 abbrev pub HasRightLogs : EvidenceParts → Type 0
-HasRightLogs e = (logs : List PartLog) (of : AreLogsOf e.partitions logs) → AreRight e logs of
+HasRightLogs e = (logs : List PartLog) (of : AreLogsOf e.partitions logs) → AreRight e logs
 
 abbrev pub HasNoFaultInLogs : EvidenceParts → Type 0
 HasNoFaultInLogs e = (logs : List PartLog) (of : AreLogsOf e.partitions logs) → HaveNoFault e logs of

@@ -1,7 +1,9 @@
--- What a summary says of a partition's whole log, whose front begins at 0, and what stands where the front ends.
-use Rattle.std.specs.Prelude.{◌≡◌, ℕ, ℤ, pos, unsigned_abs, not, List, [], ◌∷◌, Option, Some, if◌then◌else◌, ⊤}
+-- What a summary says of a partition's whole log, whose front begins at 0, what stands where the front ends, and the closes
+-- that are kept.
+use Rattle.std.specs.Prelude.{◌≡◌, ◌↔◌, ℕ, ℤ, pos, unsigned_abs, not, List, [], ◌∷◌, Option, Some, if◌then◌else◌, ⊤}
 use Rattle.std.specs.Option.{option_map}
 use Rattle.std.specs.Ordering.{int_eq}
+use Rattle.eos_base.specs.Members.{Has}
 use Rattle.eos_batch.specs.declared.batch.Batch.{Batch}
 use Rattle.eos_evidence.specs.declared.segment.Segment.{Segment}
 use Rattle.eos_evidence.specs.Topics.{is_internal}
@@ -12,6 +14,8 @@ use Rattle.eos_fold.specs.declared.stop.Stop.TheVariants.{AtEnd, NoBatch, Elsewh
 use Rattle.eos_fold.specs.declared.summary.Summary.{Summary}
 use Rattle.eos_fold.specs.Sums.{Keeps}
 use Rattle.eos_fold.specs.Fronts.{IsFront}
+use Rattle.eos_fold.specs.declared.close.Close.{Close}
+use Rattle.eos_fold.specs.Parts.{Ascends}
 
 -- the first segment is of this topic
 abbrev pub BeginsIn : List ℕ → List Segment → Type 0
@@ -31,3 +35,8 @@ abbrev pub kind_at_stop : Stop → ℕ → ℤ → Option ℤ → Option Partiti
 kind_at_stop (NoBatch segment byte fault) next end left = Some (BadBatch segment byte fault)
 kind_at_stop (Elsewhere found) next end left = Some (Gap found)
 kind_at_stop AtEnd next end left = if int_eq (pos next) end then option_map OpenAtEnd left else Some (End (unsigned_abs end))
+
+-- exactly these closes, each once, in ascending order
+pub record AreCloses (all closes : List Close) : Type 0 where
+  pub members : (c : Close) → Has closes c ↔ Has all c
+  pub ascend : Ascends closes

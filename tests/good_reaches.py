@@ -1,0 +1,113 @@
+"""What stands behind *good*: the definitions that `Good` reaches, followed by their names from file to file.
+
+    python3 -B tests/good_reaches.py [REVISION | --files]
+
+Prints how many definitions, files and lines they are; a line counts that is neither blank nor a comment. With a revision the
+same is counted there and said beside it, with --files the count of each file. It fails where *good* is said by what the checker
+does: the list of a partition's faults, the front of a log and why it ends, the decoder, a summary. docs/YES.md says how
+many they are at most. The last line is 'N passed, N failed'.
+"""
+import collections
+import io
+import os
+import re
+import subprocess
+import sys
+import tarfile
+import tempfile
+
+from specs_steps import Definitions
+
+ROOT = ("eos_check.specs.Good", "Good")
+PAGE = "docs/YES.md"
+SAID = re.compile(r"at most (\d+) definitions in (\d+) files, (\d+) lines")
+
+# By the module and the name; of a module without a name each definition counts.
+OF_THE_CHECKER = (
+    ("eos_base.specs.Least", None),
+    ("eos_batch.specs.Reading", None),
+    ("eos_touch.specs.Pair", "stands"),
+    ("eos_touch.specs.FaultNames", None),
+    ("eos_summary.specs.Summaries", None),
+    ("eos_fold.specs.Standing", None),
+    ("eos_fold.specs.Sums", None),
+    ("eos_fold.specs.Fronts", "IsFront"),
+    ("eos_fold.specs.declared.stop.Stop", None),
+    ("eos_fold.specs.declared.summary.Summary", None),
+    ("eos_table.specs.LogFaults", None),
+    ("eos_table.specs.MatchFaults", None),
+    ("eos_commits.specs.Faults", None),
+    ("eos_claims.specs.Faults", None),
+    ("eos_lineage.specs.Faults", None),
+)
+
+
+def reached(words):
+    """All that is named on the way from the root: definitions, and types of the code."""
+    found, waiting = set(), [ROOT]
+    while waiting:
+        key = waiting.pop()
+        if key not in found:
+            found.add(key)
+            waiting += words.get(key, ())
+    return found
+
+
+class Counts:
+    """The definitions of the tree that is the working directory."""
+
+    def __init__(self):
+        definitions = Definitions()
+        self.names = reached(definitions.words)
+        own = [key for key in self.names if key in definitions.words]
+        self.files = collections.Counter()
+        for key in own:
+            self.files[definitions.place[key]] += definitions.lines[key]
+        crates = {it.split("/")[1] for it in self.files}
+        self.sums = (len(own), len(self.files), len(crates), sum(self.files.values()))
+
+    def __str__(self):
+        return "{} definitions in {} files of {} crates, {} lines".format(*self.sums)
+
+
+def counts_at(revision):
+    packed = subprocess.run(["git", "archive", revision, "crates"], check=True, capture_output=True).stdout
+    here = os.getcwd()
+    with tempfile.TemporaryDirectory() as folder, tarfile.open(fileobj=io.BytesIO(packed)) as tree:
+        tree.extractall(folder, filter="data")
+        os.chdir(folder)
+        try:
+            return Counts()
+        finally:
+            os.chdir(here)
+
+
+def main(arguments):
+    now = Counts()
+    if arguments == ["--files"]:
+        for path, lines in now.files.most_common():
+            print(f"{lines:5} {path}")
+    elif arguments:
+        before = counts_at(arguments[0])
+        print(f"{arguments[0]}: {before}")
+        less = before.sums[3] - now.sums[3]
+        print(f"{less} lines fewer, {100 * less / before.sums[3]:.1f} of a hundred")
+    print(now)
+    failed = 0
+    for module, name in OF_THE_CHECKER:
+        for key in sorted(key for key in now.names if key[0] == module and name in (None, key[1])):
+            print(f"{'.'.join(key)}: good is said by what the checker does")
+            failed += 1
+    with open(PAGE, encoding="utf-8") as file:
+        said = SAID.search(file.read().replace("\n", " "))
+    definitions, files, _, lines = now.sums
+    if not said or any(most < it for most, it in zip(map(int, said.groups()), (definitions, files, lines))):
+        print(f"{PAGE} says {said[0] if said else 'no counts'}")
+        failed += 1
+    checks = len(OF_THE_CHECKER) + 1
+    print(f"{max(checks - failed, 0)} passed, {failed} failed")
+    return 1 if failed or now.sums[0] < 100 else 0
+
+
+if __name__ == "__main__":
+    sys.exit(main(sys.argv[1:]))
