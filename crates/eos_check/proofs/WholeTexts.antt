@@ -15,7 +15,7 @@ use Rattle.eos_check.proofs.FrontsUnique.{one_front}
 pub front_of : (at : ℕ) (ss : List Segment) (bs : List Batch) → AreTexts at ss bs → IsFront at ss bs AtEnd
 front_of at [] bs h = (h, refl)
 front_of at (s ∷ ss) bs h =
-    inr (h.0, h.1, AtEnd, record { rest = []; texts = h.4; continuous = h.5; stops = refl }, h.2, h.3, front_of (at + records_in h.1) ss h.2 h.6)
+    inr (h.0, h.1, AtEnd, record { rest = []; texts = h.4; continuous = h.5; stops = refl }, (h.2, h.3, front_of (at + records_in h.1) ss h.2 h.6))
 
 one_more : (at : ℕ) (s : Segment) (ss : List Segment) (bs inside : List Batch) (inner : Stop) → base_of s ≡ at → IsSegmentFront at s.bytes inside inner
     → ((others : List Batch) → IsFront (at + records_in inside) ss others AtEnd → AreTexts (at + records_in inside) ss others)

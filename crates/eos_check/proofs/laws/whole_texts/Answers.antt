@@ -1,8 +1,8 @@
 use Rattle.eos_check.proofs.WholeTexts as texts
 use Rattle.eos_check.proofs.laws.whole_texts.Goals as goal
 
-pub returns-fronts : goal.returns-fronts
-returns-fronts c = texts.fronts
+pub returns-clause-fronts : goal.returns-clause-fronts
+returns-clause-fronts c = texts.fronts
 
-pub returns-parts : goal.returns-parts
-returns-parts c = texts.parts
+pub returns-clause-parts : goal.returns-clause-parts
+returns-clause-parts c = texts.parts
