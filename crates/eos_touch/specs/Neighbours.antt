@@ -11,8 +11,8 @@ use Rattle.eos_touch.specs.Rules.{Sequenced, Fenced, IsInOrder}
 
 -- a data batch has records
 abbrev pub HasRecords : Touch → Type 0
-HasRecords (Data e t s c) = 1 ≤ c
-HasRecords (End e k) = ⊤
+HasRecords (Data epoch transactional base count) = 1 ≤ count
+HasRecords (End epoch kind) = ⊤
 
 -- the first after nothing or the one before, and each other one after its neighbour
 abbrev pub EachAfter : (Option Touch → Touch → Type 0) → Option Touch → List Touch → Type 0

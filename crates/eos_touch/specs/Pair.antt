@@ -44,24 +44,24 @@ same_kind Commit Abort = false
 same_kind Abort Commit = false
 
 abbrev pub same_bool : Bool → Bool → Bool
-same_bool true b = b
-same_bool false b = not b
+same_bool true other = other
+same_bool false other = not other
 
 -- ---- the kinds, each of the touch before, if there is one, and the next
 
 -- the first data of an epoch, and its base sequence isn't 0
 abbrev pub first_sequence : Option Touch → Touch → Bool
-first_sequence None (Data e t s c) = not (is_first s)
-first_sequence (Some (Data f u r d)) (Data e t s c) = int_lt f e && not (is_first s)
-first_sequence (Some (End f k)) (Data e t s c) = int_le f e && not (is_first s)
-first_sequence before (End e k) = false
+first_sequence None (Data epoch transactional base count) = not (is_first base)
+first_sequence (Some (Data last_epoch last_transactional last_base last_count)) (Data epoch transactional base count) = int_lt last_epoch epoch && not (is_first base)
+first_sequence (Some (End last_epoch last_kind)) (Data epoch transactional base count) = int_le last_epoch epoch && not (is_first base)
+first_sequence before (End epoch kind) = false
 
 -- data after data of its epoch, and the sequences don't go on
 abbrev pub sequence : Option Touch → Touch → Bool
 sequence None next = false
-sequence (Some (Data f u r d)) (Data e t s c) = int_eq f e && not (int_eq s (sequence_at r d))
-sequence (Some (Data f u r d)) (End e k) = false
-sequence (Some (End f k)) next = false
+sequence (Some (Data last_epoch last_transactional last_base last_count)) (Data epoch transactional base count) = int_eq last_epoch epoch && not (int_eq base (sequence_at last_base last_count))
+sequence (Some (Data last_epoch last_transactional last_base last_count)) (End epoch kind) = false
+sequence (Some (End last_epoch last_kind)) next = false
 
 -- the epoch falls
 abbrev pub zombie_epoch : Option Touch → Touch → Bool
@@ -76,9 +76,9 @@ epoch_while_open (Some before) next = is_open before && (is_open next && int_lt 
 -- a marker right after data of its own epoch
 abbrev pub no_bump : Option Touch → Touch → Bool
 no_bump None next = false
-no_bump (Some (Data f u r d)) (End e k) = int_eq f e
-no_bump (Some (Data f u r d)) (Data e t s c) = false
-no_bump (Some (End f k)) next = false
+no_bump (Some (Data last_epoch last_transactional last_base last_count)) (End epoch kind) = int_eq last_epoch epoch
+no_bump (Some (Data last_epoch last_transactional last_base last_count)) (Data epoch transactional base count) = false
+no_bump (Some (End last_epoch last_kind)) next = false
 
 -- one of the two is data of no transaction, and the other isn't
 abbrev pub mixed_producer : Option Touch → Touch → Bool
@@ -88,9 +88,9 @@ mixed_producer (Some before) next = not (same_bool (is_plain before) (is_plain n
 -- two markers of one epoch and of two kinds
 abbrev pub marker_kind : Option Touch → Touch → Bool
 marker_kind None next = false
-marker_kind (Some (End f k)) (End e l) = int_eq f e && not (same_kind k l)
-marker_kind (Some (End f k)) (Data e t s c) = false
-marker_kind (Some (Data f u r d)) next = false
+marker_kind (Some (End last_epoch last_kind)) (End epoch kind) = int_eq last_epoch epoch && not (same_kind last_kind kind)
+marker_kind (Some (End last_epoch last_kind)) (Data epoch transactional base count) = false
+marker_kind (Some (Data last_epoch last_transactional last_base last_count)) next = false
 
 -- does a fault of this kind stand at the next touch? Sequences count only where they are checked
 abbrev pub stands : Bool → Option Touch → Touch → PairFault → Bool
