@@ -1,5 +1,5 @@
 -- The lesser of two, again and again, is the least.
-use Rattle.std.proofs.Common.{◌≡◌, List, [], ◌∷◌, Option, Some, None, fold, refl, sym, subst, ap, ◌∙◌, inl, inr, ◌⊎◌, true, false, Bool, MatchOption}
+use Rattle.std.proofs.Common.{◌≡◌, List, [], ◌∷◌, Option, Some, None, fold, refl, sym, subst, ap, ◌∙◌, inl, inr, ◌⊎◌, true, false, Bool, MatchOption, option_map, if◌then◌else◌}
 use Rattle.std.specs.Ordering.{is_gt, ordering_reverse}
 use Rattle.std.specs.Cmp.{IsTotalOrder}
 use Rattle.std.specs.declared.cmp.Ordering.{Ordering}
@@ -8,6 +8,16 @@ use Rattle.std.proofs.lemmas.Cmp.{upto, tied_itself}
 use Rattle.eos_base.specs.Members.{Has}
 use Rattle.eos_base.specs.Least.{IsExact, UpTo, IsLeast, IsLeastOrNone, lesser_of}
 use Rattle.eos_base.proofs.Decides.{differs}
+
+-- the lesser of two is that of what they stand for, if these are ordered alike
+pub lesser_viewed : {X Y : Type 0} (view : X → Y) (cmp : X → X → Ordering) (other : Y → Y → Ordering) → ((x y : X) → cmp x y ≡ other (view x) (view y))
+    → (best : Option X) (next : X) → option_map view (lesser_of cmp best next) ≡ lesser_of other (option_map view best) (view next)
+lesser_viewed view cmp other alike None next = refl
+lesser_viewed {X} {Y} view cmp other alike (Some x) next = chosen (is_gt (cmp x next)) ∙ ap (λ o. if is_gt o then Some (view next) else Some (view x)) (alike x next)
+  where
+    chosen : (b : Bool) → option_map view (if b then Some next else Some x) ≡ (if b then Some (view next) else Some (view x))
+    chosen true = refl
+    chosen false = refl
 
 -- neither is greater
 pub both_least : {X : Type 0} {cmp : X → X → Ordering} → IsTotalOrder cmp → IsExact cmp → (x y : X) → UpTo cmp x y → UpTo cmp y x → x ≡ y

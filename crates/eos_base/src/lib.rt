@@ -1,13 +1,15 @@
 //! What every crate of the checker stands on: the list type that contracts see as a list, lists in order as sets, the
-//! names of partitions, and the faults of the internal logs' records.
+//! least of what is found, the names of partitions, and the faults of the internal logs' records.
 #![tactic(auto)]
 
+mod least;
 mod listed;
 mod partition_name;
 mod record_fault;
 mod sorted;
 
+pub use least::{lesser, offer};
 pub use listed::Listed;
 pub use partition_name::PartitionName;
 pub use record_fault::RecordFault;
-pub use sorted::{holds, in_order};
+pub use sorted::{Sorted, holds, in_order};

@@ -7,8 +7,9 @@ ghost use Rattle.eos_base.specs.FaultNames.{record_fault_name, record_number};
 use std::alloc::{AllocError, AllocFailed};
 use thiserror::Error;
 
-/// The first field of a key or value that can't be read or written. Its text is its name.
-#[derive(Clone, Copy, Debug, PartialEq, Eq, Error)]
+/// The first field of a key or value that can't be read or written. Its text is its name. They are ordered as they stand
+/// here.
+#[derive(Clone, Copy, Debug, PartialEq, Eq, PartialOrd, Ord, Error)]
 #[error("{name}", name = self.name())]
 pub enum RecordFault {
     /// The bytes run out.

@@ -12,8 +12,9 @@ use crate::value::TxnValue;
 use std::fmt::{Display, Formatter, Write};
 use thiserror::Error;
 
-/// Why a record of a transactional id may not follow the one before it. The text of a fault is its name.
-#[derive(Clone, Copy, Debug, PartialEq, Eq, Error)]
+/// Why a record of a transactional id may not follow the one before it. The text of a fault is its name. They are
+/// ordered as they stand here.
+#[derive(Clone, Copy, Debug, PartialEq, Eq, PartialOrd, Ord, Error)]
 pub enum TxnFault {
     /// The status may not follow the one before.
     Order,
