@@ -49,14 +49,15 @@ def main():
     for phase, path, first in (
         ("1", "crates/eos_touch/specs/FaultNames.antt", "number_of"),
         ("1", "crates/eos_touch/specs/Pair.antt", "number_of"),
-        ("2", "crates/eos_table/specs/LogFaults.antt", "rank"),
-        ("3", "crates/eos_table/specs/MatchFaults.antt", "rank"),
+        ("2", "crates/eos_table/specs/LogFaults.antt", "row_of"),
+        ("3", "crates/eos_table/specs/MatchFaults.antt", "row_of"),
         ("4", "crates/eos_commits/specs/Faults.antt", "rank"),
         ("5", "crates/eos_claims/specs/Faults.antt", "rank"),
     ):
         with open(path, encoding="utf-8") as file:
-            for name, number in re.findall(rf"^{first} \(?(\w+)[^=\n]* = (\d+)$", file.read(), re.M):
+            for name, number, printed in re.findall(rf'^{first} \(?(\w+)[^=\n]* = \(?(\d+)(?:, codes "(\w+)"\))?$', file.read(), re.M):
                 kinds[f"{phase}.{number}"] = name
+                expect(printed in ("", name), f"{phase}.{number} {name} is printed {printed}")
     for code in sorted(kinds.keys() | said.keys()):
         expect(kinds.get(code) == said.get(code), f"{code} is {kinds.get(code)} in the definitions, and {said.get(code)} on the page")
     print("\n".join(wrong))

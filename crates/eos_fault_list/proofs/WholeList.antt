@@ -102,3 +102,16 @@ all_by_keys {K} {X} f cmp Stands one found kept up each all sound whole = record
         let kept_stands = sound (f k.0) (has_map f found k.0 (each k.0 k.1)) in
         let same : f k.0 ≡ x = sym (one (f r.0) (f k.0) stands kept_stands (is_tied (cmp (f r.0) (f k.0)) k.2)) ∙ r.2 in
         subst (Has (map f kept)) same (has_map f kept k.0 k.1)
+
+-- What was found, in order and each once, gives the list, where what was found is what stands.
+pub all_by_order : {X : Type 0} (cmp : X → X → Ordering) (Stands : X → Type 0) → ((x y : X) → Stands x → Stands y → cmp x y ≡ Equal → x ≡ y) → (found kept : List X)
+    → IsStrictlySortedBy cmp kept → ((x : X) → Has kept x → Has found x) → ((x : X) → Has found x → (y : X) × Has kept y × (is_eq (cmp x y) ≡ true))
+    → ((x : X) → Has found x → Stands x) → ((x : X) → Stands x → Has found x) → IsAllOf cmp Stands kept
+all_by_order {X} cmp Stands one found kept up each all sound whole = record { rises = up; members = λ x. (λ h. sound x (each x h), back x) }
+  where
+    back : (x : X) → Stands x → Has kept x
+    back x st =
+        let h = whole x st in
+        let k = all x h in
+        let same : k.0 ≡ x = sym (one x k.0 st (sound k.0 (each k.0 k.1)) (is_tied (cmp x k.0) k.2)) in
+        subst (Has kept) same k.1

@@ -1,14 +1,12 @@
 //! All faults of the transaction log, as one list.
 
-ghost use Rattle.std.specs.Prelude.{◌≡◌, IfOk, map};
+ghost use Rattle.std.specs.Prelude.{◌≡◌, IfOk};
 ghost use Rattle.eos_table.specs.TransactionLog.{transaction_parts, AreInOrder};
 ghost use Rattle.eos_table.specs.LogFaults.{log_cmp, Stands as StandsInLog};
 ghost use Rattle.eos_fault_list.specs.AllOf.{IsAllOf};
 ghost use Rattle.eos_log_faults.specs.steps.Gathered.{gathered};
-ghost use Rattle.eos_log_faults.specs.steps.Plain.{plain};
 
 use crate::doubled::push_doubled;
-use crate::ordered::Ordered;
 use crate::reading::{Reading, read_log};
 use eos_fault_list::distinct_in_order;
 use eos_fold::Part;
@@ -24,26 +22,6 @@ fn found(alloc: Global, parts: &[Part]) -> Result<Vec<LogFault>, AllocError>
     Ok(faults)
 }
 
-fn to_ordered(alloc: Global, faults: Vec<LogFault>) -> Result<Vec<Ordered>, AllocError>
-    ensures { IfOk result (λ list. map plain list.items ≡ faults.items) }
-{
-    let mut list = Vec::new(alloc);
-    for fault in faults {
-        list.push(Ordered { fault })?;
-    }
-    Ok(list)
-}
-
-fn from_ordered(alloc: Global, faults: Vec<Ordered>) -> Result<Vec<LogFault>, AllocError>
-    ensures { IfOk result (λ list. list.items ≡ map plain faults.items) }
-{
-    let mut list = Vec::new(alloc);
-    for ordered in faults {
-        list.push(ordered.fault)?;
-    }
-    Ok(list)
-}
-
 /// Every fault of the transaction log that stands, in the order in which the least of them counts, each once: where an id
 /// has a record in a lesser partition, each of its records in this one has a fault, and so on for each kind and place.
 /// None where the log keeps its rule; else the first is that of `txn_log`.
@@ -56,7 +34,6 @@ fn from_ordered(alloc: Global, faults: Vec<Ordered>) -> Result<Vec<LogFault>, Al
 pub fn all_log_faults(alloc: Global, parts: &[Part]) -> Result<Vec<LogFault>, AllocError>
     ensures { let log = transaction_parts parts.now in AreInOrder log → IfOk result (λ faults. IsAllOf log_cmp (StandsInLog log) faults.items) }
 {
-    let faults = to_ordered(alloc, found(alloc, parts)?)?;
-    let list = from_ordered(alloc, distinct_in_order(faults))?;
-    Ok(list)
+    let faults = found(alloc, parts)?;
+    Ok(distinct_in_order(faults))
 }

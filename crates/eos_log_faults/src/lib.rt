@@ -6,7 +6,6 @@ mod doubled;
 mod faults;
 pub mod laws;
 mod mark;
-mod ordered;
 mod reading;
 
 pub use faults::all_log_faults;

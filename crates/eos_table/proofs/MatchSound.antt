@@ -1,6 +1,7 @@
 -- What the places give: a fault that stands, or one that a lesser standing fault goes before.
-use Rattle.std.proofs.Common.{◌≡◌, ℕ, ◌<◌, ◌≤◌, ℤ, pos, List, [], ◌∷◌, length, Option, Some, None, refl, sym, subst, ap, ◌∙◌, inl, true, false, Bool, if◌then◌else◌, arith}
+use Rattle.std.proofs.Common.{◌≡◌, ℕ, ◌≤◌, ℤ, pos, List, [], ◌∷◌, length, Option, Some, None, refl, sym, subst, ap, ◌∙◌, inl, true, false, Bool, if◌then◌else◌, arith}
 use Rattle.std.specs.Int.{int_rem_euclid}
+use Rattle.std.specs.declared.cmp.Ordering.TheVariants.{Less}
 use Rattle.std.proofs.lemmas.Bool.Decides.{Decides-int_eq}
 use Rattle.eos_base.specs.declared.partition_name.PartitionName.{PartitionName}
 use Rattle.eos_base.specs.Members.{Has, is_found}
@@ -17,7 +18,7 @@ use Rattle.eos_table.specs.declared.match_fault.MatchFaultKind.{MatchFaultKind}
 use Rattle.eos_table.specs.declared.match_fault.MatchFaultKind.TheVariants.{TwiceDecided, Undecided, WrongKind, NotListed, StrayMarker, AbsentPartition, MissingMarker}
 use Rattle.eos_txnlog.specs.PartitionSets.{names_of}
 use Rattle.eos_table.specs.Atomic.{EndsAs, Ends}
-use Rattle.eos_table.specs.MatchFaults.{deciders, is_of, AtData, AtListed, Stands, rank, fault_cmp}
+use Rattle.eos_table.specs.MatchFaults.{deciders, is_of, AtData, AtListed, Stands, fault_cmp}
 use Rattle.eos_table.specs.Shards.{InShard}
 use Rattle.eos_table.specs.steps.Keys.{mine, decided, judged, listed, ended, marked, names, pair_cmp, listed_cmp, ended_cmp}
 use Rattle.eos_table.specs.steps.Candidates.{fault_of, faults_of, kind_at_close, kind_at_marker, faults_at_close, faults_at_marker, faults_at_name, name_faults, close_faults, marker_faults, at_closes, at_markers, at_names}
@@ -25,7 +26,7 @@ use Rattle.eos_base.proofs.Decides.{differs}
 use Rattle.eos_base.proofs.LeastOf.{upto_itself}
 use Rattle.eos_base.proofs.Membership.{Finds, flat_has, if_has, only, filter_has, no_members}
 use Rattle.eos_table.proofs.AtomicLaw.{true_is_of, none_among}
-use Rattle.eos_table.proofs.MatchOrder.{fault_total}
+use Rattle.eos_table.proofs.MatchOrder.{fault_total, kind_cmp}
 use Rattle.eos_table.proofs.LesserKind.{lesser_kind}
 use Rattle.eos_table.proofs.KeyMembers.{pair_of, close_of, listed_key, ended_key, marked_key, in_decided, to_decided, to_judged, to_listed, to_ended, to_marked, in_names, to_names}
 
@@ -76,7 +77,7 @@ module _ (n s : ℕ) (ds : List Decision) (ps : List PartLog) (D : List (ℤ × 
   passed f g h s = subst Sound (only f g h) s
 
   -- one decision: it stands; two: they go before
-  by_deciders : (p e : ℤ) (o : Option PartitionName) (k : MatchFaultKind) → mine n s p ≡ true → rank TwiceDecided < rank k → (xs : List Decision) → deciders ds p e ≡ xs → (deciders ds p e ≡ [] → ⊥)
+  by_deciders : (p e : ℤ) (o : Option PartitionName) (k : MatchFaultKind) → mine n s p ≡ true → kind_cmp TwiceDecided k ≡ Less → (xs : List Decision) → deciders ds p e ≡ xs → (deciders ds p e ≡ [] → ⊥)
       → ((d : Decision) → deciders ds p e ≡ d ∷ [] → Stands ds ps (fault_of p e o k)) → Sound (fault_of p e o k)
   by_deciders p e o k m lt [] q some one = absurd (some q)
   by_deciders p e o k m lt (d ∷ []) q some one = (fault_of p e o k, mine_is n s p m, one d q, upto_itself fault_total (fault_of p e o k))
@@ -111,7 +112,7 @@ module _ (n s : ℕ) (ds : List Decision) (ps : List PartLog) (D : List (ℤ × 
           pair_is : (d : Decision) → d.producer ≡ c.producer → d.epoch ≡ c.epoch → pair_of d ≡ (c.producer, c.epoch)
           pair_is d e f = ap (λ (z : ℤ). pair_made z d.epoch) e ∙ ap (λ (z : ℤ). pair_made c.producer z) f
       go m true false l qa qb ql h = passed (fault_of c.producer c.epoch (Some (part_name p)) WrongKind) g h
-          (by_deciders c.producer c.epoch (Some (part_name p)) WrongKind m (omega arith) (deciders ds c.producer c.epoch) refl (some qa)
+          (by_deciders c.producer c.epoch (Some (part_name p)) WrongKind m refl (deciders ds c.producer c.epoch) refl (some qa)
           (λ d q. (
             at WrongKind,
             d,
@@ -120,7 +121,7 @@ module _ (n s : ℕ) (ds : List Decision) (ps : List PartLog) (D : List (ℤ × 
                 differs _ qb (are.ends.found c (subst (λ z. Has (judged n s ds) z) (close_is d c r.1 r.2 ends) (to_judged n s ds d r.0 (subst (λ z. mine n s z ≡ true) (sym r.1) m)))),
           )))
       go m true true false qa qb ql h = passed (fault_of c.producer c.epoch (Some (part_name p)) NotListed) g h
-          (by_deciders c.producer c.epoch (Some (part_name p)) NotListed m (omega arith) (deciders ds c.producer c.epoch) refl (some qa)
+          (by_deciders c.producer c.epoch (Some (part_name p)) NotListed m refl (deciders ds c.producer c.epoch) refl (some qa)
           (λ d q. (
             at NotListed,
             d,

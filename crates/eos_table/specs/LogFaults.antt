@@ -1,19 +1,14 @@
 -- The faults of the transaction log, what each of them says, and their order.
-use Rattle.std.specs.Prelude.{◌≡◌, ◌≢◌, ◌⊎◌, ◌<◌, ◌<ℤ◌, ℕ, List, [], true, codes, Err, unsigned_abs}
-use Rattle.std.specs.Ordering.{nat_cmp, int_cmp, on, then_cmp}
+use Rattle.std.specs.Prelude.{◌≡◌, ◌≢◌, ◌⊎◌, ◌<◌, ◌<ℤ◌, ℕ, List, true, codes, Err, unsigned_abs}
 use Rattle.std.specs.declared.cmp.Ordering.{Ordering}
-use Rattle.std.specs.Cmp.Lexicographic.{slice_cmp}
-use Rattle.eos_base.specs.declared.record_fault.RecordFault.{RecordFault}
-use Rattle.eos_base.specs.FaultNames.{record_number}
 use Rattle.eos_base.specs.Members.{Has}
-use Rattle.eos_txnlog.specs.declared.step.TxnFault.{TxnFault}
-use Rattle.eos_txnlog.specs.declared.step.TxnFault.TheVariants as steps
 use Rattle.eos_txnlog.specs.Steps.{step_verdict}
 use Rattle.eos_items.specs.declared.item.Item.{Item}
 use Rattle.eos_fold.specs.Parts.{PartLog}
 use Rattle.eos_table.specs.declared.log_fault.LogFault.{LogFault}
 use Rattle.eos_table.specs.declared.log_fault.LogFaultKind.{LogFaultKind}
 use Rattle.eos_table.specs.declared.log_fault.LogFaultKind.TheVariants.{BadRecord, Step, SplitId, SharedProducer, Unfinished}
+use Rattle.eos_table.specs.contracts.log_fault.LogFaultOrd.TheImpl.{ghosts}
 use Rattle.eos_table.specs.declared.content.Content.TheVariants.{Unreadable}
 use Rattle.eos_table.specs.TransactionLog.{Id, content_of, Unskipped, all_steps, last_of, is_unfinished, ShareProducer}
 
@@ -56,43 +51,21 @@ StandsAs log f (Unfinished id) = (at : AtEnd log f) × (is_unfinished (last_of a
 abbrev pub Stands : List PartLog → LogFault → Type 0
 Stands log f = StandsAs log f f.kind
 
--- ---- their order
-
-abbrev pub rank : LogFaultKind → ℕ
-rank (BadRecord fault) = 1
-rank (Step id why) = 2
-rank (SplitId id) = 3
-rank (SharedProducer id) = 4
-rank (Unfinished id) = 5
-
-abbrev pub id_of : LogFaultKind → Id
-id_of (BadRecord fault) = []
-id_of (Step id why) = id
-id_of (SplitId id) = id
-id_of (SharedProducer id) = id
-id_of (Unfinished id) = id
-
-abbrev pub step_number : TxnFault → ℕ
-step_number steps.Order = 1
-step_number steps.Producer = 2
-step_number steps.Epoch = 3
-
--- the refusal that is printed
-abbrev pub detail_of : LogFaultKind → ℕ
-detail_of (BadRecord fault) = record_number fault
-detail_of (Step id why) = step_number why
-detail_of (SplitId id) = 0
-detail_of (SharedProducer id) = 0
-detail_of (Unfinished id) = 0
-
--- by partition, offset and kind; then by transactional id, and last by the refusal
+-- the derived order: by the fields as they stand, partition, offset and kind; kinds as they stand there, and those of one kind by
+-- transactional id and then by the refusal
 abbrev pub log_cmp : LogFault → LogFault → Ordering
-log_cmp = then_cmp (on (λ f. f.partition) int_cmp) (then_cmp (on (λ f. f.offset) nat_cmp) (then_cmp (on (λ f. rank f.kind) nat_cmp)
-    (then_cmp (on (λ f. id_of f.kind) (slice_cmp nat_cmp)) (on (λ f. detail_of f.kind) nat_cmp))))
+log_cmp = ghosts.cmp
+
+-- number and name, a line for each kind
+abbrev pub row_of : LogFaultKind → ℕ × List ℕ
+row_of (BadRecord fault) = (1, codes "BadRecord")
+row_of (Step id why) = (2, codes "Step")
+row_of (SplitId id) = (3, codes "SplitId")
+row_of (SharedProducer id) = (4, codes "SharedProducer")
+row_of (Unfinished id) = (5, codes "Unfinished")
+
+abbrev pub number_of : LogFaultKind → ℕ
+number_of kind = (row_of kind).0
 
 abbrev pub name_of : LogFaultKind → List ℕ
-name_of (BadRecord fault) = codes "BadRecord"
-name_of (Step id why) = codes "Step"
-name_of (SplitId id) = codes "SplitId"
-name_of (SharedProducer id) = codes "SharedProducer"
-name_of (Unfinished id) = codes "Unfinished"
+name_of kind = (row_of kind).1

@@ -1,12 +1,10 @@
 -- The faults between decisions and logs, what each of them says, and their order.
 use Rattle.std.specs.Prelude.{◌≡◌, ◌≢◌, ◌≤◌, ◌&&◌, ℕ, ℤ, List, [], ◌∷◌, Some, None, length, Bool, codes}
 use Rattle.std.specs.List.{filter}
-use Rattle.std.specs.Ordering.{nat_cmp, int_cmp, int_eq, on, then_cmp}
+use Rattle.std.specs.Ordering.{int_eq}
 use Rattle.std.specs.declared.cmp.Ordering.{Ordering}
-use Rattle.std.specs.Option.{option_cmp}
 use Rattle.eos_base.specs.declared.partition_name.PartitionName.{PartitionName}
 use Rattle.eos_base.specs.Members.{Has}
-use Rattle.eos_base.specs.PartitionNames.{name_cmp}
 use Rattle.eos_batch.specs.declared.marker.Marker.{Marker}
 use Rattle.eos_txnlog.specs.declared.decision.Decision.{Decision}
 use Rattle.eos_fold.specs.declared.close.Close.{Close}
@@ -14,6 +12,7 @@ use Rattle.eos_fold.specs.Parts.{part_name, PartLog}
 use Rattle.eos_table.specs.declared.match_fault.MatchFault.{MatchFault}
 use Rattle.eos_table.specs.declared.match_fault.MatchFaultKind.{MatchFaultKind}
 use Rattle.eos_table.specs.declared.match_fault.MatchFaultKind.TheVariants.{TwiceDecided, Undecided, WrongKind, NotListed, StrayMarker, AbsentPartition, MissingMarker}
+use Rattle.eos_table.specs.contracts.match_fault.MatchFaultOrd.TheImpl.{ghosts}
 use Rattle.eos_txnlog.specs.PartitionSets.{names_of}
 use Rattle.eos_table.specs.Atomic.{EndsAs, Ends}
 
@@ -68,24 +67,22 @@ StandsAs ds ps f MissingMarker = (at : AtListed ds f) × (p : PartLog) × Has ps
 abbrev pub Stands : List Decision → List PartLog → MatchFault → Type 0
 Stands ds ps f = StandsAs ds ps f f.kind
 
-abbrev pub rank : MatchFaultKind → ℕ
-rank TwiceDecided = 1
-rank Undecided = 2
-rank WrongKind = 3
-rank NotListed = 4
-rank StrayMarker = 5
-rank AbsentPartition = 6
-rank MissingMarker = 7
-
--- by producer id, epoch, kind, and partition
+-- the derived order: by the fields as they stand, producer id, epoch, kind and partition; kinds as they stand there too
 abbrev pub fault_cmp : MatchFault → MatchFault → Ordering
-fault_cmp = then_cmp (on (λ f. f.producer) int_cmp) (then_cmp (on (λ f. f.epoch) int_cmp) (then_cmp (on (λ f. rank f.kind) nat_cmp) (on (λ f. f.partition) (option_cmp name_cmp))))
+fault_cmp = ghosts.cmp
+
+-- number and name, a line for each kind
+abbrev pub row_of : MatchFaultKind → ℕ × List ℕ
+row_of TwiceDecided = (1, codes "TwiceDecided")
+row_of Undecided = (2, codes "Undecided")
+row_of WrongKind = (3, codes "WrongKind")
+row_of NotListed = (4, codes "NotListed")
+row_of StrayMarker = (5, codes "StrayMarker")
+row_of AbsentPartition = (6, codes "AbsentPartition")
+row_of MissingMarker = (7, codes "MissingMarker")
+
+abbrev pub number_of : MatchFaultKind → ℕ
+number_of kind = (row_of kind).0
 
 abbrev pub name_of : MatchFaultKind → List ℕ
-name_of TwiceDecided = codes "TwiceDecided"
-name_of Undecided = codes "Undecided"
-name_of WrongKind = codes "WrongKind"
-name_of NotListed = codes "NotListed"
-name_of StrayMarker = codes "StrayMarker"
-name_of AbsentPartition = codes "AbsentPartition"
-name_of MissingMarker = codes "MissingMarker"
+name_of kind = (row_of kind).1

@@ -2,3 +2,4 @@
 pub mod Candidates
 pub mod Keys
 pub mod LogCandidates
+pub mod OneShard

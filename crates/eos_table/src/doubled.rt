@@ -10,9 +10,9 @@ ghost use Rattle.eos_table.specs.LogFaults.{log_cmp};
 ghost use Rattle.eos_table.specs.steps.LogCandidates.{AreHomes, AreOwners, home_in, owner_of, split_at, shared_at, doubled_after};
 
 use crate::log_fault::{LogFault, LogFaultKind};
-use crate::log_least::{fault_at, offer};
 use crate::mark::{Mark, Place};
 use bytes::Bytes;
+use eos_base::offer;
 use std::alloc::{AllocError, Global};
 use std::collections::BTreeMap;
 
@@ -46,7 +46,7 @@ fn after_home(best: &mut Option<LogFault>, homes: &mut Homes, mark: &Mark) -> Re
         Some(home) => {
             if *home < mark.partition {
                 let kind = LogFaultKind::SplitId { id };
-                offer(best, fault_at(place_of(mark), kind));
+                offer(best, LogFault::at(place_of(mark), kind));
                 Ok(())
             } else {
                 Ok(())
@@ -78,7 +78,7 @@ fn after_owner(
                 Ok(())
             } else {
                 let kind = LogFaultKind::SharedProducer { id };
-                offer(best, fault_at(place_of(mark), kind));
+                offer(best, LogFault::at(place_of(mark), kind));
                 Ok(())
             }
         }

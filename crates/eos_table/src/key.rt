@@ -1,10 +1,11 @@
 //! Keys for look-ups, of the producer ids of one shard. Names are borrowed, so that a key costs no copy of a topic.
 
-ghost use Rattle.std.specs.Prelude.{◌≡◌, ◌++◌, ◌<◌, IfOk, OnOk, map};
+ghost use Rattle.std.specs.Prelude.{◌≡◌, ◌++◌, IfOk, OnOk, map};
 ghost use Rattle.eos_txnlog.specs.PartitionSets.{names_in_topic, names_of};
 ghost use Rattle.eos_fold.specs.Parts.{part_name};
-ghost use Rattle.eos_table.specs.steps.Keys.{mine, plain_name, decided, judged, listed, listed_of, plain_listed, ended, ended_of, plain_ended, marked, marked_of, names};
+ghost use Rattle.eos_table.specs.steps.Keys.{plain_name, decided, judged, listed, listed_of, plain_listed, ended, ended_of, plain_ended, marked, marked_of, names};
 
+use crate::one_shard::Shard;
 use bytes::Bytes;
 use eos_batch::Kind;
 use eos_fold::{Close, Part};
@@ -45,27 +46,17 @@ pub(crate) fn name_of_part(part: &Part) -> NameRef<'_>
     }
 }
 
-/// Is the producer id of the shard?
-pub(crate) fn in_shard(producer: i64, shard: u32, shards: u32) -> bool
-    requires { 0 < shards }
-    ensures { result ≡ mine shards shard producer }
-{
-    producer.rem_euclid(i64::from(shards)) == i64::from(shard)
-}
-
 /// The producer id and data epoch of each decision.
 pub(crate) fn decided_keys(
     alloc: Global,
     decisions: &[Decision],
-    shard: u32,
-    shards: u32,
+    shard: Shard,
 ) -> Result<Vec<(i64, i16)>, AllocError>
-    requires { 0 < shards }
-    ensures { IfOk result (λ v. v.items ≡ decided shards shard decisions.now) }
+    ensures { IfOk result (λ v. v.items ≡ decided shard.of shard.number decisions.now) }
 {
     let mut keys = Vec::new(alloc);
     for decision in decisions {
-        if in_shard(decision.producer, shard, shards) {
+        if shard.has(decision.producer) {
             keys.push((decision.producer, decision.epoch))?;
         }
     }
@@ -76,15 +67,13 @@ pub(crate) fn decided_keys(
 pub(crate) fn judged_keys(
     alloc: Global,
     decisions: &[Decision],
-    shard: u32,
-    shards: u32,
+    shard: Shard,
 ) -> Result<Vec<Close>, AllocError>
-    requires { 0 < shards }
-    ensures { IfOk result (λ v. v.items ≡ judged shards shard decisions.now) }
+    ensures { IfOk result (λ v. v.items ≡ judged shard.of shard.number decisions.now) }
 {
     let mut keys = Vec::new(alloc);
     for decision in decisions {
-        if in_shard(decision.producer, shard, shards) {
+        if shard.has(decision.producer) {
             keys.push(Close {
                 producer: decision.producer,
                 epoch: decision.epoch,
@@ -129,15 +118,13 @@ fn push_listed<'a>(keys: &mut Vec<Listed<'a>>, decision: &'a Decision) -> Result
 pub(crate) fn listed_keys<'a>(
     alloc: Global,
     decisions: &'a [Decision],
-    shard: u32,
-    shards: u32,
+    shard: Shard,
 ) -> Result<Vec<Listed<'a>>, AllocError>
-    requires { 0 < shards }
-    ensures { IfOk result (λ v. map plain_listed v.items ≡ listed shards shard decisions.now) }
+    ensures { IfOk result (λ v. map plain_listed v.items ≡ listed shard.of shard.number decisions.now) }
 {
     let mut keys = Vec::new(alloc);
     for decision in decisions {
-        if in_shard(decision.producer, shard, shards) {
+        if shard.has(decision.producer) {
             push_listed(&mut keys, decision)?;
         }
     }
@@ -178,15 +165,13 @@ fn push_ended<'a>(keys: &mut Vec<Ended<'a>>, decision: &'a Decision) -> Result<(
 pub(crate) fn ended_keys<'a>(
     alloc: Global,
     decisions: &'a [Decision],
-    shard: u32,
-    shards: u32,
+    shard: Shard,
 ) -> Result<Vec<Ended<'a>>, AllocError>
-    requires { 0 < shards }
-    ensures { IfOk result (λ v. map plain_ended v.items ≡ ended shards shard decisions.now) }
+    ensures { IfOk result (λ v. map plain_ended v.items ≡ ended shard.of shard.number decisions.now) }
 {
     let mut keys = Vec::new(alloc);
     for decision in decisions {
-        if in_shard(decision.producer, shard, shards) {
+        if shard.has(decision.producer) {
             push_ended(&mut keys, decision)?;
         }
     }
@@ -196,15 +181,13 @@ pub(crate) fn ended_keys<'a>(
 fn push_marked<'a>(
     keys: &mut Vec<Ended<'a>>,
     part: &'a Part,
-    shard: u32,
-    shards: u32,
+    shard: Shard,
 ) -> Result<(), AllocError>
-    requires { 0 < shards }
-    ensures { OnOk result (map plain_ended keys.new.items ≡ map plain_ended keys.old.items ++ marked_of shards shard (part_name part.now) part.now.markers) }
+    ensures { OnOk result (map plain_ended keys.new.items ≡ map plain_ended keys.old.items ++ marked_of shard.of shard.number (part_name part.now) part.now.markers) }
 {
     let name = name_of_part(part);
     for marker in part.markers() {
-        if in_shard(marker.producer, shard, shards) {
+        if shard.has(marker.producer) {
             keys.push(Ended {
                 producer: marker.producer,
                 epoch: marker.epoch,
@@ -220,15 +203,13 @@ fn push_marked<'a>(
 pub(crate) fn marked_keys<'a>(
     alloc: Global,
     parts: &'a [Part],
-    shard: u32,
-    shards: u32,
+    shard: Shard,
 ) -> Result<Vec<Ended<'a>>, AllocError>
-    requires { 0 < shards }
-    ensures { IfOk result (λ v. map plain_ended v.items ≡ marked shards shard parts.now) }
+    ensures { IfOk result (λ v. map plain_ended v.items ≡ marked shard.of shard.number parts.now) }
 {
     let mut keys = Vec::new(alloc);
     for part in parts {
-        push_marked(&mut keys, part, shard, shards)?;
+        push_marked(&mut keys, part, shard)?;
     }
     Ok(keys)
 }

@@ -1,15 +1,17 @@
 //! Where the transaction log breaks its own rule.
 
 ghost use Rattle.std.specs.Prelude.{◌≡◌};
-ghost use Rattle.eos_table.specs.LogFaults.{rank, id_of, detail_of, step_number, name_of};
+ghost use Rattle.eos_table.specs.LogFaults.{number_of, name_of};
+ghost use Rattle.eos_table.specs.steps.LogCandidates.{fault_at};
 
+use crate::mark::Place;
 use bytes::Bytes;
 use eos_base::RecordFault;
 use eos_txnlog::TxnFault;
 
-/// A fault of the log `__transaction_state`. Of those that stand, the least counts: by partition, offset, kind, and, of
-/// one kind at one place, by transactional id.
-#[derive(Debug, PartialEq, Eq, Drop)]
+/// A fault of the log `__transaction_state`. Of those that stand, the least counts: by partition, offset and kind, as the
+/// fields stand here.
+#[derive(Debug, PartialEq, Eq, PartialOrd, Ord, Drop)]
 pub struct LogFault {
     /// The number of the partition of `__transaction_state`.
     pub partition: i32,
@@ -17,8 +19,9 @@ pub struct LogFault {
     pub kind: LogFaultKind,
 }
 
-/// The kind of a fault of the transaction log, with what its text prints.
-#[derive(Debug, PartialEq, Eq, Drop)]
+/// The kind of a fault of the transaction log, with what its text prints; in the order of their numbers, and those of one kind
+/// by what they print.
+#[derive(Debug, PartialEq, Eq, PartialOrd, Ord, Drop)]
 pub enum LogFaultKind {
     /// A record without key, or one whose key or value doesn't read.
     BadRecord { record: RecordFault },
@@ -32,66 +35,45 @@ pub enum LogFaultKind {
     Unfinished { id: Bytes },
 }
 
-fn step_number(fault: TxnFault) -> u8
-    ensures { result ≡ step_number fault }
-{
-    match fault {
-        TxnFault::Order => 1,
-        TxnFault::Producer => 2,
-        TxnFault::Epoch => 3,
+impl LogFault {
+    /// A fault at a place.
+    pub(crate) fn at(place: Place, kind: LogFaultKind) -> LogFault
+        ensures { result ≡ fault_at place.partition place.offset kind }
+    {
+        LogFault {
+            partition: place.partition,
+            offset: place.offset,
+            kind,
+        }
     }
 }
 
 impl LogFaultKind {
     /// The kind's number, from 1 to 5, by which kinds are ordered.
     pub fn number(&self) -> u8
-        ensures { result ≡ rank self.now }
+        ensures { result ≡ number_of self.now }
     {
-        match self {
-            LogFaultKind::BadRecord { .. } => 1,
-            LogFaultKind::Step { .. } => 2,
-            LogFaultKind::SplitId { .. } => 3,
-            LogFaultKind::SharedProducer { .. } => 4,
-            LogFaultKind::Unfinished { .. } => 5,
-        }
-    }
-
-    /// The transactional id by which faults of one kind at one place are ordered; of a record that doesn't read none.
-    pub(crate) fn id(&self) -> &[u8]
-        ensures { result.now ≡ id_of self.now }
-    {
-        match self {
-            LogFaultKind::BadRecord { .. } => &[],
-            LogFaultKind::Step { id, .. }
-            | LogFaultKind::SplitId { id }
-            | LogFaultKind::SharedProducer { id }
-            | LogFaultKind::Unfinished { id } => id.as_slice(),
-        }
-    }
-
-    /// The number of the refusal that is printed, by which faults are ordered last; 0 where none is.
-    pub(crate) fn detail(&self) -> u8
-        ensures { result ≡ detail_of self.now }
-    {
-        match self {
-            LogFaultKind::BadRecord { record } => record.number(),
-            LogFaultKind::Step { why, .. } => step_number(*why),
-            LogFaultKind::SplitId { .. }
-            | LogFaultKind::SharedProducer { .. }
-            | LogFaultKind::Unfinished { .. } => 0,
-        }
+        self.row().0
     }
 
     /// The kind's name, as a verdict prints it.
     pub fn name(&self) -> &'static str
         ensures { result.now ≡ name_of self.now }
     {
+        self.row().1
+    }
+
+    // The number and the name, a line for each kind.
+    fn row(&self) -> (u8, &'static str)
+        ensures number { result.0 ≡ number_of self.now }
+        ensures name { result.1.now ≡ name_of self.now }
+    {
         match self {
-            LogFaultKind::BadRecord { .. } => "BadRecord",
-            LogFaultKind::Step { .. } => "Step",
-            LogFaultKind::SplitId { .. } => "SplitId",
-            LogFaultKind::SharedProducer { .. } => "SharedProducer",
-            LogFaultKind::Unfinished { .. } => "Unfinished",
+            LogFaultKind::BadRecord { .. } => (1, "BadRecord"),
+            LogFaultKind::Step { .. } => (2, "Step"),
+            LogFaultKind::SplitId { .. } => (3, "SplitId"),
+            LogFaultKind::SharedProducer { .. } => (4, "SharedProducer"),
+            LogFaultKind::Unfinished { .. } => (5, "Unfinished"),
         }
     }
 }

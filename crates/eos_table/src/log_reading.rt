@@ -11,9 +11,9 @@ ghost use Rattle.eos_table.specs.steps.LogCandidates.{after, unread, open_at, st
 
 use crate::content::{Content, read_content};
 use crate::log_fault::{LogFault, LogFaultKind};
-use crate::log_least::{fault_at, offer};
 use crate::mark::{Mark, Place, producer_of};
 use bytes::Bytes;
+use eos_base::offer;
 use eos_batch::Kind;
 use eos_fold::{ItemRef, Part};
 use eos_txnlog::{Decision, Status, TxnValue, is_skipped, step_ok};
@@ -100,7 +100,7 @@ fn take_step(
             id: id.clone()?,
             why,
         };
-        offer(&mut reading.best, fault_at(place, kind));
+        offer(&mut reading.best, LogFault::at(place, kind));
     }
     reading.marks.push(Mark {
         partition: place.partition,
@@ -159,7 +159,7 @@ fn take_record(
     match read_content(alloc, item)? {
         Content::Unreadable(record) => {
             let kind = LogFaultKind::BadRecord { record };
-            offer(&mut reading.best, fault_at(place, kind));
+            offer(&mut reading.best, LogFault::at(place, kind));
             Ok(())
         }
         Content::Other => Ok(()),
@@ -208,7 +208,7 @@ fn least_open(
             let kind = LogFaultKind::Unfinished {
                 id: mark.id.clone()?,
             };
-            offer(best, fault_at(end, kind));
+            offer(best, LogFault::at(end, kind));
         }
     }
     Ok(())

@@ -1,54 +1,49 @@
 //! Look-ups among the keys, which are in order.
 
-ghost use Rattle.std.specs.Prelude.{◌≡◌, ◌≢◌, ◌<◌, ◌+◌, ℕ, length, map, IsSorted, MatchOption};
+ghost use Rattle.std.specs.Prelude.{◌≡◌, ◌≢◌, ◌<◌, ◌+◌, ℕ, length, map, MatchOption};
 ghost use Rattle.eos_base.specs.Members.{is_found};
 ghost use Rattle.eos_base.specs.PartitionNames.{name_cmp};
 ghost use Rattle.eos_fold.specs.Closes.{close_cmp};
-ghost use Rattle.eos_table.specs.steps.Keys.{plain_name, plain_listed, plain_ended, pair_cmp, listed_cmp, ended_cmp, by_listed, by_ended, by_name};
+ghost use Rattle.eos_table.specs.steps.Keys.{plain_name, plain_listed, plain_ended, pair_cmp, listed_cmp, ended_cmp};
 ghost use Rattle.eos_table.specs.steps.Candidates.{pair_at, IsFirstTwice};
 
 use crate::key::{Ended, Listed, NameRef};
-use eos_base::holds;
+use eos_base::Sorted;
 use eos_fold::Close;
 
 /// Is there a decision of this producer id and data epoch?
-pub(crate) fn is_decided(keys: &[(i64, i16)], key: &(i64, i16)) -> bool
-    requires { IsSorted pair_cmp keys.now }
+pub(crate) fn is_decided(keys: &Sorted<(i64, i16)>, key: &(i64, i16)) -> bool
     ensures { result ≡ is_found pair_cmp keys.now key.now }
 {
-    holds(keys, key)
+    keys.holds(key)
 }
 
 /// Is there one that says how this data ended?
-pub(crate) fn is_judged(keys: &[Close], key: &Close) -> bool
-    requires { IsSorted close_cmp keys.now }
+pub(crate) fn is_judged(keys: &Sorted<Close>, key: &Close) -> bool
     ensures { result ≡ is_found close_cmp keys.now key.now }
 {
-    holds(keys, key)
+    keys.holds(key)
 }
 
 /// Does one list the partition?
-pub(crate) fn is_listed(keys: &[Listed<'_>], key: &Listed<'_>) -> bool
-    requires { IsSorted by_listed keys.now }
+pub(crate) fn is_listed(keys: &Sorted<Listed<'_>>, key: &Listed<'_>) -> bool
     ensures { result ≡ is_found listed_cmp (map plain_listed keys.now) (plain_listed key.now) }
 {
-    holds(keys, key)
+    keys.holds(key)
 }
 
 /// Is the marker there?
-pub(crate) fn is_ended(keys: &[Ended<'_>], key: &Ended<'_>) -> bool
-    requires { IsSorted by_ended keys.now }
+pub(crate) fn is_ended(keys: &Sorted<Ended<'_>>, key: &Ended<'_>) -> bool
     ensures { result ≡ is_found ended_cmp (map plain_ended keys.now) (plain_ended key.now) }
 {
-    holds(keys, key)
+    keys.holds(key)
 }
 
 /// Is the partition there?
-pub(crate) fn is_name(keys: &[NameRef<'_>], key: &NameRef<'_>) -> bool
-    requires { IsSorted by_name keys.now }
+pub(crate) fn is_name(keys: &Sorted<NameRef<'_>>, key: &NameRef<'_>) -> bool
     ensures { result ≡ is_found name_cmp (map plain_name keys.now) (plain_name key.now) }
 {
-    holds(keys, key)
+    keys.holds(key)
 }
 
 /// The first of the keys, in order, that stands there twice.

@@ -1,95 +1,107 @@
 //! The keys in order, for binary search.
 
-ghost use Rattle.std.specs.Prelude.{◌<◌, IfOk, IsPermutation, IsSorted, map};
-ghost use Rattle.eos_fold.specs.Closes.{close_cmp};
-ghost use Rattle.eos_table.specs.steps.Keys.{plain_name, decided, judged, listed, plain_listed, ended, plain_ended, marked, names, pair_cmp, by_listed, by_ended, by_name};
+ghost use Rattle.std.specs.Prelude.{IfOk, IsPermutation, map};
+ghost use Rattle.eos_table.specs.steps.Keys.{plain_name, decided, judged, listed, plain_listed, ended, plain_ended, marked, names};
 
 use crate::key::{
     Ended, Listed, NameRef, decided_keys, ended_keys, judged_keys, listed_keys, marked_keys,
     name_keys,
 };
-use eos_base::in_order;
+use crate::one_shard::Shard;
+use eos_base::Sorted;
 use eos_fold::{Close, Part};
 use eos_txnlog::Decision;
 use std::alloc::{AllocError, Global};
 
-pub(crate) fn decided_in_order(
-    alloc: Global,
-    decisions: &[Decision],
-    shard: u32,
-    shards: u32,
-) -> Result<Vec<(i64, i16)>, AllocError>
-    requires { 0 < shards }
-    ensures sorted { IfOk result (λ v. IsSorted pair_cmp v.items) }
-    ensures same { IfOk result (λ v. IsPermutation (decided shards shard decisions.now) v.items) }
-{
-    let keys = decided_keys(alloc, decisions, shard, shards)?;
-    Ok(in_order(keys))
+/// What the decisions of a shard say of data.
+#[derive(Drop)]
+pub(crate) struct DataKeys<'a> {
+    /// The producer id and data epoch of each.
+    pub decided: Sorted<(i64, i16)>,
+    /// The close that each wants.
+    pub judged: Sorted<Close>,
+    /// The partitions that they list.
+    pub listed: Sorted<Listed<'a>>,
 }
 
-pub(crate) fn judged_in_order(
-    alloc: Global,
-    decisions: &[Decision],
-    shard: u32,
-    shards: u32,
-) -> Result<Vec<Close>, AllocError>
-    requires { 0 < shards }
-    ensures sorted { IfOk result (λ v. IsSorted close_cmp v.items) }
-    ensures same { IfOk result (λ v. IsPermutation (judged shards shard decisions.now) v.items) }
-{
-    let keys = judged_keys(alloc, decisions, shard, shards)?;
-    Ok(in_order(keys))
+/// What is there, for the partitions that decisions list.
+#[derive(Drop)]
+pub(crate) struct PresentKeys<'a> {
+    /// The partitions' names.
+    pub names: Sorted<NameRef<'a>>,
+    /// The end markers of a shard.
+    pub marked: Sorted<Ended<'a>>,
 }
 
-pub(crate) fn listed_in_order<'a>(
+fn listed_in_order<'a>(
     alloc: Global,
     decisions: &'a [Decision],
-    shard: u32,
-    shards: u32,
-) -> Result<Vec<Listed<'a>>, AllocError>
-    requires { 0 < shards }
-    ensures sorted { IfOk result (λ v. IsSorted by_listed v.items) }
-    ensures same { IfOk result (λ v. IsPermutation (listed shards shard decisions.now) (map plain_listed v.items)) }
+    shard: Shard,
+) -> Result<Sorted<Listed<'a>>, AllocError>
+    ensures { IfOk result (λ keys. IsPermutation (listed shard.of shard.number decisions.now) (map plain_listed keys)) }
 {
-    let keys = listed_keys(alloc, decisions, shard, shards)?;
-    Ok(in_order(keys))
+    let keys = listed_keys(alloc, decisions, shard)?;
+    Ok(Sorted::of(keys))
 }
 
+pub(crate) fn data_keys<'a>(
+    alloc: Global,
+    decisions: &'a [Decision],
+    shard: Shard,
+) -> Result<DataKeys<'a>, AllocError>
+    ensures decided { IfOk result (λ keys. IsPermutation (decided shard.of shard.number decisions.now) keys.decided) }
+    ensures judged { IfOk result (λ keys. IsPermutation (judged shard.of shard.number decisions.now) keys.judged) }
+    ensures listed { IfOk result (λ keys. IsPermutation (listed shard.of shard.number decisions.now) (map plain_listed keys.listed)) }
+{
+    let decided = decided_keys(alloc, decisions, shard)?;
+    let judged = judged_keys(alloc, decisions, shard)?;
+    let listed = listed_in_order(alloc, decisions, shard)?;
+    Ok(DataKeys {
+        decided: Sorted::of(decided),
+        judged: Sorted::of(judged),
+        listed,
+    })
+}
+
+/// The end markers that decisions want.
 pub(crate) fn ended_in_order<'a>(
     alloc: Global,
     decisions: &'a [Decision],
-    shard: u32,
-    shards: u32,
-) -> Result<Vec<Ended<'a>>, AllocError>
-    requires { 0 < shards }
-    ensures sorted { IfOk result (λ v. IsSorted by_ended v.items) }
-    ensures same { IfOk result (λ v. IsPermutation (ended shards shard decisions.now) (map plain_ended v.items)) }
+    shard: Shard,
+) -> Result<Sorted<Ended<'a>>, AllocError>
+    ensures { IfOk result (λ keys. IsPermutation (ended shard.of shard.number decisions.now) (map plain_ended keys)) }
 {
-    let keys = ended_keys(alloc, decisions, shard, shards)?;
-    Ok(in_order(keys))
+    let keys = ended_keys(alloc, decisions, shard)?;
+    Ok(Sorted::of(keys))
 }
 
-pub(crate) fn marked_in_order<'a>(
+fn marked_in_order<'a>(
     alloc: Global,
     parts: &'a [Part],
-    shard: u32,
-    shards: u32,
-) -> Result<Vec<Ended<'a>>, AllocError>
-    requires { 0 < shards }
-    ensures sorted { IfOk result (λ v. IsSorted by_ended v.items) }
-    ensures same { IfOk result (λ v. IsPermutation (marked shards shard parts.now) (map plain_ended v.items)) }
+    shard: Shard,
+) -> Result<Sorted<Ended<'a>>, AllocError>
+    ensures { IfOk result (λ keys. IsPermutation (marked shard.of shard.number parts.now) (map plain_ended keys)) }
 {
-    let keys = marked_keys(alloc, parts, shard, shards)?;
-    Ok(in_order(keys))
+    let keys = marked_keys(alloc, parts, shard)?;
+    Ok(Sorted::of(keys))
 }
 
-pub(crate) fn names_in_order<'a>(
-    alloc: Global,
-    parts: &'a [Part],
-) -> Result<Vec<NameRef<'a>>, AllocError>
-    ensures sorted { IfOk result (λ v. IsSorted by_name v.items) }
-    ensures same { IfOk result (λ v. IsPermutation (names parts.now) (map plain_name v.items)) }
+fn names_in_order<'a>(alloc: Global, parts: &'a [Part]) -> Result<Sorted<NameRef<'a>>, AllocError>
+    ensures { IfOk result (λ keys. IsPermutation (names parts.now) (map plain_name keys)) }
 {
     let keys = name_keys(alloc, parts)?;
-    Ok(in_order(keys))
+    Ok(Sorted::of(keys))
+}
+
+pub(crate) fn present_keys<'a>(
+    alloc: Global,
+    parts: &'a [Part],
+    shard: Shard,
+) -> Result<PresentKeys<'a>, AllocError>
+    ensures names { IfOk result (λ keys. IsPermutation (names parts.now) (map plain_name keys.names)) }
+    ensures marked { IfOk result (λ keys. IsPermutation (marked shard.of shard.number parts.now) (map plain_ended keys.marked)) }
+{
+    let names = names_in_order(alloc, parts)?;
+    let marked = marked_in_order(alloc, parts, shard)?;
+    Ok(PresentKeys { names, marked })
 }

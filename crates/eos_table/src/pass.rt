@@ -1,18 +1,20 @@
 //! One look at each close, each marker and each listed partition, for the least fault of a shard.
 
-ghost use Rattle.std.specs.Prelude.{◌≡◌, ◌<◌, IsSorted, fold, map, option_map};
+ghost use Rattle.std.specs.Prelude.{◌≡◌, fold, map, option_map};
 ghost use Rattle.eos_base.specs.Least.{lesser_of};
-ghost use Rattle.eos_fold.specs.Closes.{close_cmp};
 ghost use Rattle.eos_txnlog.specs.PartitionSets.{names_in_topic, names_of as listed_names};
 ghost use Rattle.eos_fold.specs.Parts.{part_name};
 ghost use Rattle.eos_table.specs.MatchFaults.{fault_cmp};
-ghost use Rattle.eos_table.specs.steps.Keys.{plain_name, plain_listed, plain_ended, pair_cmp, by_listed, by_ended, by_name};
+ghost use Rattle.eos_table.specs.steps.Keys.{plain_name, plain_listed, plain_ended};
 ghost use Rattle.eos_table.specs.steps.Candidates.{plain, faults_of, kind_at_close as kind_of_close, kind_at_marker as kind_of_marker, kind_at_name as kind_of_name, faults_at_close, faults_at_marker, faults_at_name, close_faults, marker_faults, name_faults, at_closes, at_markers, at_names};
 
-use crate::best::{Found, lesser};
-use crate::key::{Ended, Listed, NameRef, in_shard, name_of_part};
+use crate::best::Found;
+use crate::key::{Ended, Listed, NameRef, name_of_part};
 use crate::look::{is_decided, is_ended, is_judged, is_listed, is_name};
 use crate::match_fault::MatchFaultKind;
+use crate::one_shard::Shard;
+use crate::ordered::{DataKeys, PresentKeys};
+use eos_base::{Sorted, lesser};
 use eos_batch::Marker;
 use eos_fold::{Close, Part};
 use eos_txnlog::{Decision, TopicPartitions};
@@ -29,49 +31,43 @@ fn with<'a>(
 {
     match kind {
         None => best,
-        Some(kind) => lesser(
-            best,
-            Found {
+        Some(kind) => {
+            let found = Found {
                 producer,
                 epoch,
                 kind,
                 partition: Some(name),
-            },
-        ),
+            };
+            lesser(best, found)
+        }
     }
 }
 
-fn kind_at_close(
-    decided: &[(i64, i16)],
-    judged: &[Close],
-    listed: &[Listed<'_>],
-    name: NameRef<'_>,
-    close: &Close,
-) -> Option<MatchFaultKind>
-    requires decided { IsSorted pair_cmp decided.now }
-    requires judged { IsSorted close_cmp judged.now }
-    requires listed { IsSorted by_listed listed.now }
-    ensures { result ≡ kind_of_close decided.now judged.now (map plain_listed listed.now) (plain_name name.entry) close.now }
+fn kind_at_close(keys: &DataKeys<'_>, name: NameRef<'_>, close: &Close) -> Option<MatchFaultKind>
+    ensures { result ≡ kind_of_close keys.now.decided keys.now.judged (map plain_listed keys.now.listed) (plain_name name.entry) close.now }
 {
-    if !is_decided(decided, &(close.producer, close.epoch)) {
+    if !is_decided(&keys.decided, &(close.producer, close.epoch)) {
         return Some(MatchFaultKind::Undecided);
     }
-    if !is_judged(judged, close) {
+    if !is_judged(&keys.judged, close) {
         return Some(MatchFaultKind::WrongKind);
     }
-    let key = Listed {
+    let listed = Listed {
         producer: close.producer,
         epoch: close.epoch,
         name,
     };
-    if !is_listed(listed, &key) {
+    if !is_listed(&keys.listed, &listed) {
         return Some(MatchFaultKind::NotListed);
     }
     None
 }
 
-fn kind_at_marker(ended: &[Ended<'_>], name: NameRef<'_>, marker: &Marker) -> Option<MatchFaultKind>
-    requires { IsSorted by_ended ended.now }
+fn kind_at_marker(
+    ended: &Sorted<Ended<'_>>,
+    name: NameRef<'_>,
+    marker: &Marker,
+) -> Option<MatchFaultKind>
     ensures { result ≡ kind_of_marker (map plain_ended ended.now) (plain_name name.entry) marker.now }
 {
     let key = Ended {
@@ -88,16 +84,13 @@ fn kind_at_marker(ended: &[Ended<'_>], name: NameRef<'_>, marker: &Marker) -> Op
 }
 
 fn kind_at_name(
-    names: &[NameRef<'_>],
-    marked: &[Ended<'_>],
+    present: &PresentKeys<'_>,
     decision: &Decision,
     name: NameRef<'_>,
 ) -> Option<MatchFaultKind>
-    requires names { IsSorted by_name names.now }
-    requires marked { IsSorted by_ended marked.now }
-    ensures { result ≡ kind_of_name (map plain_name names.now) (map plain_ended marked.now) decision.now (plain_name name.entry) }
+    ensures { result ≡ kind_of_name (map plain_name present.now.names) (map plain_ended present.now.marked) decision.now (plain_name name.entry) }
 {
-    if !is_name(names, &name) {
+    if !is_name(&present.names, &name) {
         return Some(MatchFaultKind::AbsentPartition);
     }
     let key = Ended {
@@ -106,7 +99,7 @@ fn kind_at_name(
         kind: decision.kind,
         name,
     };
-    if is_ended(marked, &key) {
+    if is_ended(&present.marked, &key) {
         None
     } else {
         Some(MatchFaultKind::MissingMarker)
@@ -115,42 +108,32 @@ fn kind_at_name(
 
 fn after_close<'a>(
     best: Option<Found<'a>>,
-    decided: &[(i64, i16)],
-    judged: &[Close],
-    listed: &[Listed<'_>],
+    keys: &DataKeys<'_>,
     name: NameRef<'a>,
     close: &Close,
-    shard: u32,
-    shards: u32,
+    shard: Shard,
 ) -> Option<Found<'a>>
-    requires some { 0 < shards }
-    requires decided { IsSorted pair_cmp decided.now }
-    requires judged { IsSorted close_cmp judged.now }
-    requires listed { IsSorted by_listed listed.now }
     ensures { option_map plain result ≡ fold (lesser_of fault_cmp) (option_map plain best.entry)
-        (faults_at_close shards shard decided.now judged.now (map plain_listed listed.now) (plain_name name.entry) close.now) }
+        (faults_at_close shard.of shard.number keys.now.decided keys.now.judged (map plain_listed keys.now.listed) (plain_name name.entry) close.now) }
 {
-    if !in_shard(close.producer, shard, shards) {
+    if !shard.has(close.producer) {
         return best;
     }
-    let kind = kind_at_close(decided, judged, listed, name, close);
+    let kind = kind_at_close(keys, name, close);
     with(best, close.producer, close.epoch, name, kind)
 }
 
 fn after_marker<'a>(
     best: Option<Found<'a>>,
-    ended: &[Ended<'_>],
+    ended: &Sorted<Ended<'_>>,
     name: NameRef<'a>,
     marker: &Marker,
-    shard: u32,
-    shards: u32,
+    shard: Shard,
 ) -> Option<Found<'a>>
-    requires some { 0 < shards }
-    requires ended { IsSorted by_ended ended.now }
     ensures { option_map plain result ≡ fold (lesser_of fault_cmp) (option_map plain best.entry)
-        (faults_at_marker shards shard (map plain_ended ended.now) (plain_name name.entry) marker.now) }
+        (faults_at_marker shard.of shard.number (map plain_ended ended.now) (plain_name name.entry) marker.now) }
 {
-    if !in_shard(marker.producer, shard, shards) {
+    if !shard.has(marker.producer) {
         return best;
     }
     let kind = kind_at_marker(ended, name, marker);
@@ -159,117 +142,95 @@ fn after_marker<'a>(
 
 fn after_name<'a>(
     best: Option<Found<'a>>,
-    names: &[NameRef<'_>],
-    marked: &[Ended<'_>],
+    present: &PresentKeys<'_>,
     decision: &Decision,
     name: NameRef<'a>,
 ) -> Option<Found<'a>>
-    requires names { IsSorted by_name names.now }
-    requires marked { IsSorted by_ended marked.now }
     ensures { option_map plain result ≡ fold (lesser_of fault_cmp) (option_map plain best.entry)
-        (faults_at_name (map plain_name names.now) (map plain_ended marked.now) decision.now (plain_name name.entry)) }
+        (faults_at_name (map plain_name present.now.names) (map plain_ended present.now.marked) decision.now (plain_name name.entry)) }
 {
-    let kind = kind_at_name(names, marked, decision, name);
+    let kind = kind_at_name(present, decision, name);
     with(best, decision.producer, decision.epoch, name, kind)
 }
 
 fn closes_of_part<'a>(
     first: Option<Found<'a>>,
-    decided: &[(i64, i16)],
-    judged: &[Close],
-    listed: &[Listed<'_>],
+    keys: &DataKeys<'_>,
     part: &'a Part,
-    shard: u32,
-    shards: u32,
+    shard: Shard,
 ) -> Option<Found<'a>>
-    requires some { 0 < shards }
-    requires decided { IsSorted pair_cmp decided.now }
-    requires judged { IsSorted close_cmp judged.now }
-    requires listed { IsSorted by_listed listed.now }
     ensures { option_map plain result ≡ fold (lesser_of fault_cmp) (option_map plain first.entry)
-        (close_faults shards shard decided.now judged.now (map plain_listed listed.now) (part_name part.now) part.now.closes) }
+        (close_faults shard.of shard.number keys.now.decided keys.now.judged (map plain_listed keys.now.listed) (part_name part.now) part.now.closes) }
 {
     let mut best = first;
     let name = name_of_part(part);
     for close in part.closes() {
-        best = after_close(best, decided, judged, listed, name, close, shard, shards);
+        best = after_close(best, keys, name, close, shard);
     }
     best
 }
 
 fn markers_of_part<'a>(
     first: Option<Found<'a>>,
-    ended: &[Ended<'_>],
+    ended: &Sorted<Ended<'_>>,
     part: &'a Part,
-    shard: u32,
-    shards: u32,
+    shard: Shard,
 ) -> Option<Found<'a>>
-    requires some { 0 < shards }
-    requires ended { IsSorted by_ended ended.now }
     ensures { option_map plain result ≡ fold (lesser_of fault_cmp) (option_map plain first.entry)
-        (marker_faults shards shard (map plain_ended ended.now) (part_name part.now) part.now.markers) }
+        (marker_faults shard.of shard.number (map plain_ended ended.now) (part_name part.now) part.now.markers) }
 {
     let mut best = first;
     let name = name_of_part(part);
     for marker in part.markers() {
-        best = after_marker(best, ended, name, marker, shard, shards);
+        best = after_marker(best, ended, name, marker, shard);
     }
     best
 }
 
 fn after_number<'a>(
     best: Option<Found<'a>>,
-    names: &[NameRef<'_>],
-    marked: &[Ended<'_>],
+    present: &PresentKeys<'_>,
     decision: &Decision,
     topic: &'a TopicPartitions,
     partition: &i32,
 ) -> Option<Found<'a>>
-    requires names { IsSorted by_name names.now }
-    requires marked { IsSorted by_ended marked.now }
     ensures { option_map plain result ≡ fold (lesser_of fault_cmp) (option_map plain best.entry)
-        (faults_at_name (map plain_name names.now) (map plain_ended marked.now) decision.now (record { topic = topic.now.topic; partition = partition.now })) }
+        (faults_at_name (map plain_name present.now.names) (map plain_ended present.now.marked) decision.now (record { topic = topic.now.topic; partition = partition.now })) }
 {
     let name = NameRef {
         topic: &topic.topic,
         partition: *partition,
     };
-    after_name(best, names, marked, decision, name)
+    after_name(best, present, decision, name)
 }
 
 fn names_of_topic<'a>(
     first: Option<Found<'a>>,
-    names: &[NameRef<'_>],
-    marked: &[Ended<'_>],
+    present: &PresentKeys<'_>,
     decision: &Decision,
     topic: &'a TopicPartitions,
 ) -> Option<Found<'a>>
-    requires names { IsSorted by_name names.now }
-    requires marked { IsSorted by_ended marked.now }
     ensures { option_map plain result ≡ fold (lesser_of fault_cmp) (option_map plain first.entry)
-        (name_faults (map plain_name names.now) (map plain_ended marked.now) decision.now (names_in_topic topic.now)) }
+        (name_faults (map plain_name present.now.names) (map plain_ended present.now.marked) decision.now (names_in_topic topic.now)) }
 {
     let mut best = first;
     for partition in topic.numbers.as_slice() {
-        best = after_number(best, names, marked, decision, topic, partition);
+        best = after_number(best, present, decision, topic, partition);
     }
     best
 }
 
 fn names_of_decision<'a>(
     first: Option<Found<'a>>,
-    names: &[NameRef<'_>],
-    marked: &[Ended<'_>],
+    present: &PresentKeys<'_>,
     decision: &'a Decision,
 ) -> Option<Found<'a>>
-    requires names { IsSorted by_name names.now }
-    requires marked { IsSorted by_ended marked.now }
     ensures { option_map plain result ≡ fold (lesser_of fault_cmp) (option_map plain first.entry)
-        (name_faults (map plain_name names.now) (map plain_ended marked.now) decision.now (listed_names decision.now.partitions)) }
+        (name_faults (map plain_name present.now.names) (map plain_ended present.now.marked) decision.now (listed_names decision.now.partitions)) }
 {
     let mut best = first;
     for topic in decision.partitions.as_slice() {
-        best = names_of_topic(best, names, marked, decision, topic);
+        best = names_of_topic(best, present, decision, topic);
     }
     best
 }
@@ -277,23 +238,16 @@ fn names_of_decision<'a>(
 /// The least at the data of the parts.
 pub(crate) fn closes_of<'a>(
     first: Option<Found<'a>>,
-    decided: &[(i64, i16)],
-    judged: &[Close],
-    listed: &[Listed<'_>],
+    keys: &DataKeys<'_>,
     parts: &'a [Part],
-    shard: u32,
-    shards: u32,
+    shard: Shard,
 ) -> Option<Found<'a>>
-    requires some { 0 < shards }
-    requires decided { IsSorted pair_cmp decided.now }
-    requires judged { IsSorted close_cmp judged.now }
-    requires listed { IsSorted by_listed listed.now }
     ensures { option_map plain result ≡ fold (lesser_of fault_cmp) (option_map plain first.entry)
-        (at_closes shards shard decided.now judged.now (map plain_listed listed.now) parts.now) }
+        (at_closes shard.of shard.number keys.now.decided keys.now.judged (map plain_listed keys.now.listed) parts.now) }
 {
     let mut best = first;
     for part in parts {
-        best = closes_of_part(best, decided, judged, listed, part, shard, shards);
+        best = closes_of_part(best, keys, part, shard);
     }
     best
 }
@@ -301,19 +255,16 @@ pub(crate) fn closes_of<'a>(
 /// The least at the markers of the parts.
 pub(crate) fn markers_of<'a>(
     first: Option<Found<'a>>,
-    ended: &[Ended<'_>],
+    ended: &Sorted<Ended<'_>>,
     parts: &'a [Part],
-    shard: u32,
-    shards: u32,
+    shard: Shard,
 ) -> Option<Found<'a>>
-    requires some { 0 < shards }
-    requires ended { IsSorted by_ended ended.now }
     ensures { option_map plain result ≡ fold (lesser_of fault_cmp) (option_map plain first.entry)
-        (at_markers shards shard (map plain_ended ended.now) parts.now) }
+        (at_markers shard.of shard.number (map plain_ended ended.now) parts.now) }
 {
     let mut best = first;
     for part in parts {
-        best = markers_of_part(best, ended, part, shard, shards);
+        best = markers_of_part(best, ended, part, shard);
     }
     best
 }
@@ -321,22 +272,17 @@ pub(crate) fn markers_of<'a>(
 /// The least at the partitions that decisions list.
 pub(crate) fn names_of<'a>(
     first: Option<Found<'a>>,
-    names: &[NameRef<'_>],
-    marked: &[Ended<'_>],
+    present: &PresentKeys<'_>,
     decisions: &'a [Decision],
-    shard: u32,
-    shards: u32,
+    shard: Shard,
 ) -> Option<Found<'a>>
-    requires some { 0 < shards }
-    requires names { IsSorted by_name names.now }
-    requires marked { IsSorted by_ended marked.now }
     ensures { option_map plain result ≡ fold (lesser_of fault_cmp) (option_map plain first.entry)
-        (at_names shards shard (map plain_name names.now) (map plain_ended marked.now) decisions.now) }
+        (at_names shard.of shard.number (map plain_name present.now.names) (map plain_ended present.now.marked) decisions.now) }
 {
     let mut best = first;
     for decision in decisions {
-        if in_shard(decision.producer, shard, shards) {
-            best = names_of_decision(best, names, marked, decision);
+        if shard.has(decision.producer) {
+            best = names_of_decision(best, present, decision);
         }
     }
     best

@@ -7,10 +7,8 @@ ghost use Rattle.eos_table.specs.Shards.{IsAnswer};
 use crate::best::Found;
 use crate::look::first_twice;
 use crate::match_fault::{MatchFault, MatchFaultKind};
-use crate::ordered::{
-    decided_in_order, ended_in_order, judged_in_order, listed_in_order, marked_in_order,
-    names_in_order,
-};
+use crate::one_shard::Shard;
+use crate::ordered::{data_keys, ended_in_order, present_keys};
 use crate::pass::{closes_of, markers_of, names_of};
 use crate::table::TxnTable;
 use eos_base::PartitionName;
@@ -37,28 +35,17 @@ fn least<'a>(
     alloc: Global,
     decisions: &'a [Decision],
     parts: &'a [Part],
-    shard: u32,
-    shards: u32,
+    shard: Shard,
 ) -> Result<Option<Found<'a>>, AllocError>
-    requires { 0 < shards }
-    ensures { IfOk result (λ o. IsAnswer decisions.now parts.now shards shard (option_map plain o)) }
+    ensures { IfOk result (λ o. IsAnswer decisions.now parts.now shard.of shard.number (option_map plain o)) }
 {
-    let decided = decided_in_order(alloc, decisions, shard, shards)?;
-    let judged = judged_in_order(alloc, decisions, shard, shards)?;
-    let listed = listed_in_order(alloc, decisions, shard, shards)?;
-    let ended = ended_in_order(alloc, decisions, shard, shards)?;
-    let names = names_in_order(alloc, parts)?;
-    let marked = marked_in_order(alloc, parts, shard, shards)?;
-    let pairs = decided.as_slice();
-    let ends = judged.as_slice();
-    let lists = listed.as_slice();
-    let wanted = ended.as_slice();
-    let there = names.as_slice();
-    let marks = marked.as_slice();
-    let at_keys = twice_found(pairs);
-    let at_closes = closes_of(at_keys, pairs, ends, lists, parts, shard, shards);
-    let at_markers = markers_of(at_closes, wanted, parts, shard, shards);
-    Ok(names_of(at_markers, there, marks, decisions, shard, shards))
+    let keys = data_keys(alloc, decisions, shard)?;
+    let ended = ended_in_order(alloc, decisions, shard)?;
+    let present = present_keys(alloc, parts, shard)?;
+    let at_keys = twice_found(keys.decided.as_slice());
+    let at_closes = closes_of(at_keys, &keys, parts, shard);
+    let at_markers = markers_of(at_closes, &ended, parts, shard);
+    Ok(names_of(at_markers, &present, decisions, shard))
 }
 
 // The fault with a name of its own.
@@ -80,6 +67,20 @@ fn published(found: &Found<'_>) -> Result<MatchFault, AllocError>
     })
 }
 
+fn answer(
+    alloc: Global,
+    table: &TxnTable,
+    parts: &[Part],
+    shard: Shard,
+) -> Result<Option<MatchFault>, AllocError>
+    ensures { IfOk result (λ o. IsAnswer table.now parts.now shard.of shard.number o) }
+{
+    match least(alloc, table.decisions(), parts, shard)? {
+        None => Ok(None),
+        Some(found) => Ok(Some(published(&found)?)),
+    }
+}
+
 /// The least fault between the decisions and the partitions' logs among the producer ids of one shard, those whose
 /// remainder by `shards` (never negative) is `shard`; `None` where none stands there.
 ///
@@ -97,8 +98,5 @@ pub fn match_shard(
     requires { shard < shards }
     ensures { IfOk result (λ o. IsAnswer table.now parts.now shards shard o) }
 {
-    match least(alloc, table.decisions(), parts, shard, shards)? {
-        None => Ok(None),
-        Some(found) => Ok(Some(published(&found)?)),
-    }
+    answer(alloc, table, parts, Shard::new(shard, shards))
 }

@@ -39,15 +39,6 @@ listed_cmp = then_cmp (on (λ x. x.0) int_cmp) (then_cmp (on (λ x. x.1) int_cmp
 abbrev pub ended_cmp : ℤ × ℤ × Kind × PartitionName → ℤ × ℤ × Kind × PartitionName → Ordering
 ended_cmp = then_cmp (on (λ x. x.0) int_cmp) (then_cmp (on (λ x. x.1) int_cmp) (then_cmp (on (λ x. rank_of x.2) nat_cmp) (on (λ x. x.3) name_cmp)))
 
-abbrev pub by_listed : Listed → Listed → Ordering
-by_listed x y = listed_cmp (plain_listed x) (plain_listed y)
-
-abbrev pub by_ended : Ended → Ended → Ordering
-by_ended x y = ended_cmp (plain_ended x) (plain_ended y)
-
-abbrev pub by_name : NameRef → NameRef → Ordering
-by_name x y = name_cmp (plain_name x) (plain_name y)
-
 abbrev pub decided : ℕ → ℕ → List Decision → List (ℤ × ℤ)
 decided n s ds = flat_map (λ (d : Decision). if mine n s d.producer then (d.producer, d.epoch) ∷ [] else []) ds
 

@@ -28,7 +28,7 @@ pub returns-else-eq-clause-best : goal.returns-else-eq-clause-best
 returns-else-eq-clause-best c = λ before are.
     let copied : c.in_ok-id.id ≡ c.args.mark.now.id = search rules in
     let other = is_eq-slice_cmp c.in-Some-get.owner.now c.args.mark.now.id ∙ (sym c.eq.ensures ∙ c.if-eq.false) in
-    c.offer.ensures ∙ (ap (lesser_of log_cmp c.args.best.now) (c.fault_at.ensures ∙ shared_fault c.args.mark.now c.place_of.result.partition c.place_of.result.offset c.in_ok-id.id c.place_of.ensures.partition c.place_of.ensures.offset copied)
+    c.offer.ensures ∙ (ap (lesser_of log_cmp c.args.best.now) (c.at.ensures ∙ shared_fault c.args.mark.now c.place_of.result.partition c.place_of.result.offset c.in_ok-id.id c.place_of.ensures.partition c.place_of.ensures.offset copied)
     ∙ ap (fold (lesser_of log_cmp) c.args.best.now) (sym (shared_one c.args.owners.now before c.args.mark.now c.in-Some.producer c.in-Some-get.owner.now are c.in-Some.is (sym c.in-Some-get.ensures.value) other)))
 
 pub returns-else-eq-clause-owners : goal.returns-else-eq-clause-owners

@@ -3,4 +3,4 @@ use Rattle.eos_table.specs.steps.Keys.{decided}
 use Rattle.eos_table.proofs.key.decided_keys.Given as goal
 
 abbrev pub invariant-loop-decision : goal.invariant-loop-decision
-invariant-loop-decision l = l.keys.items ≡ decided l.shards l.shard (take l.decision-index l.decisions)
+invariant-loop-decision l = l.keys.items ≡ decided l.shard.of l.shard.number (take l.decision-index l.decisions)

@@ -4,19 +4,19 @@ use Rattle.eos_txnlog.specs.declared.decision.Decision.{Decision}
 use Rattle.eos_txnlog.specs.PartitionSets.{names_of}
 use Rattle.eos_table.specs.steps.Keys.{mine, plain_listed, listed_of}
 use Rattle.eos_table.proofs.FoldMore.{pushed_more}
-use Rattle.eos_table.proofs.key.listed_keys.Goals.{then-in_shard+in_ok-push_listed, else-in_shard}
+use Rattle.eos_table.proofs.key.listed_keys.Goals.{then-has+in_ok-push_listed, else-has}
 use Rattle.eos_table.proofs.key.listed_keys.Goals as goal
 
 pub loop-decision-preserved : goal.loop-decision-preserved
 loop-decision-preserved c =
     let d = c.decision-item.result in
-    let own : mine c.args.shards c.args.shard (to_z w64 (of_z w64 d.producer)) ≡ mine c.args.shards c.args.shard d.producer = ap (mine c.args.shards c.args.shard) (search rules) in
+    let own : mine c.args.shard.of c.args.shard.number (to_z w64 (of_z w64 d.producer)) ≡ mine c.args.shard.of c.args.shard.number d.producer = ap (mine c.args.shard.of c.args.shard.number) (search rules) in
     let before = map plain_listed c.loop-decision.keys.items in
     let here = listed_of d (names_of d.partitions) in
-    pushed_more (λ (d : Decision). if mine c.args.shards c.args.shard d.producer then listed_of d (names_of d.partitions) else [])
-    before (map plain_listed c.if-in_shard.keys.items) c.args.decisions.now c.loop-decision.decision-index d
+    pushed_more (λ (d : Decision). if mine c.args.shard.of c.args.shard.number d.producer then listed_of d (names_of d.partitions) else [])
+    before (map plain_listed c.if-has.keys.items) c.args.decisions.now c.loop-decision.decision-index d
     c.loop-decision-test.true c.decision-item.is c.loop-decision.invariant
-    (elim c.if-in_shard.branch [
-      | then-in_shard+in_ok-push_listed w ↦ (λ i. map plain_listed (w.keys-is i).items) ∙ (w.in_ok-push_listed.ensures ∙ ap (λ b. before ++ (if b then here else [])) (w.if-in_shard.ensures ∙ own))
-      | else-in_shard w ↦ (λ i. map plain_listed (w.keys-is i).items) ∙ (sym (append-nil before) ∙ ap (λ b. before ++ (if b then here else [])) (w.if-in_shard.ensures ∙ own))
+    (elim c.if-has.branch [
+      | then-has+in_ok-push_listed w ↦ (λ i. map plain_listed (w.keys-is i).items) ∙ (w.in_ok-push_listed.ensures ∙ ap (λ b. before ++ (if b then here else [])) (w.if-has.ensures ∙ own))
+      | else-has w ↦ (λ i. map plain_listed (w.keys-is i).items) ∙ (sym (append-nil before) ∙ ap (λ b. before ++ (if b then here else [])) (w.if-has.ensures ∙ own))
     ])

@@ -6,5 +6,5 @@ use Rattle.eos_table.proofs.key.marked_keys.Goals as goal
 
 pub loop-part-preserved : goal.loop-part-preserved
 loop-part-preserved c =
-    pushed_more (λ (p : PartLog). marked_of c.args.shards c.args.shard (part_name p) p.markers) (map plain_ended c.loop-part.keys.items) (map plain_ended c.push_marked.new.keys.items)
+    pushed_more (λ (p : PartLog). marked_of c.args.shard.of c.args.shard.number (part_name p) p.markers) (map plain_ended c.loop-part.keys.items) (map plain_ended c.push_marked.new.keys.items)
     c.args.parts.now c.loop-part.part-index c.part-item.result c.loop-part-test.true c.part-item.is c.loop-part.invariant c.in_ok-push_marked.ensures

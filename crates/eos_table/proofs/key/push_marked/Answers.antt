@@ -1,7 +1,7 @@
 use Rattle.std.proofs.Common.{arith}
 use Rattle.std.proofs.lemmas.Grind.{common_steps}
 use Rattle.eos_table.proofs.key.push_marked.Goals as goal
-use Rattle.eos_table.proofs.key.push_marked.Goals.{then-in_shard+in_ok-push, else-in_shard}
+use Rattle.eos_table.proofs.key.push_marked.Goals.{then-has+in_ok-push, else-has}
 
 pub loop-marker-preserved : goal.loop-marker-preserved
-loop-marker-preserved c = elim c.if-in_shard.branch [ then-in_shard+in_ok-push w ↦ grind (arith, common_steps) | else-in_shard w ↦ grind (arith, common_steps) ]
+loop-marker-preserved c = elim c.if-has.branch [ then-has+in_ok-push w ↦ grind (arith, common_steps) | else-has w ↦ grind (arith, common_steps) ]

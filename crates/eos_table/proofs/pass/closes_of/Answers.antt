@@ -9,6 +9,6 @@ use Rattle.eos_table.proofs.pass.closes_of.Goals as goal
 
 pub loop-part-preserved : goal.loop-part-preserved
 loop-part-preserved c =
-    folded_more (lesser_of fault_cmp) (λ (p : PartLog). close_faults c.args.shards c.args.shard c.args.decided.now c.args.judged.now (map plain_listed c.args.listed.now) (part_name p) p.closes)
+    folded_more (lesser_of fault_cmp) (λ (p : PartLog). close_faults c.args.shard.of c.args.shard.number c.args.keys.now.decided c.args.keys.now.judged (map plain_listed c.args.keys.now.listed) (part_name p) p.closes)
     (option_map plain c.args.first) (option_map plain c.loop-part.best) (option_map plain c.closes_of_part-best.result) c.args.parts.now c.loop-part.part-index c.part-item.result
     c.loop-part-test.true c.part-item.is c.loop-part.invariant c.closes_of_part-best.ensures

@@ -7,4 +7,4 @@ use Rattle.eos_table.specs.steps.Candidates.{at_closes}
 use Rattle.eos_table.proofs.pass.closes_of.Given as goal
 
 abbrev pub invariant-loop-part : goal.invariant-loop-part
-invariant-loop-part l = option_map plain l.best ≡ fold (lesser_of fault_cmp) (option_map plain l.fn.first) (at_closes l.shards l.shard l.decided l.judged (map plain_listed l.listed) (take l.part-index l.parts))
+invariant-loop-part l = option_map plain l.best ≡ fold (lesser_of fault_cmp) (option_map plain l.fn.first) (at_closes l.shard.of l.shard.number l.keys.decided l.keys.judged (map plain_listed l.keys.listed) (take l.part-index l.parts))

@@ -15,7 +15,7 @@ loop-close-preserved c =
     let i = c.loop-close.close-index in
     let same = c.closes-close-items.ensures.closes in
     let none : Close = record { producer = pos 0; epoch = pos 0; marker_epoch = pos 0; kind = Commit } in
-    let faults = λ (name : PartitionName) (close : Close). faults_at_close c.args.shards c.args.shard c.args.decided.now c.args.judged.now (map plain_listed c.args.listed.now) name close in
+    let faults = λ (name : PartitionName) (close : Close). faults_at_close c.args.shard.of c.args.shard.number c.args.keys.now.decided c.args.keys.now.judged (map plain_listed c.args.keys.now.listed) name close in
     let lent = subst (λ name. option_map plain c.after_close-best.result ≡ fold (lesser_of fault_cmp) (option_map plain c.loop-close.best) (faults name (get_or c.closes-close-items.result.now i none))) c.name_of_part-name.ensures c.after_close-best.ensures in
     let here = subst (λ (closes : List Close). option_map plain c.after_close-best.result ≡ fold (lesser_of fault_cmp) (option_map plain c.loop-close.best) (faults (part_name c.args.part.now) (get_or closes i none))) same lent in
     let inside = subst (λ (closes : List Close). i < length closes) same c.loop-close-test.true in

@@ -8,4 +8,4 @@ use Rattle.eos_table.specs.steps.Candidates.{close_faults}
 use Rattle.eos_table.proofs.pass.closes_of_part.Given as goal
 
 abbrev pub invariant-loop-close : goal.invariant-loop-close
-invariant-loop-close l = option_map plain l.best ≡ fold (lesser_of fault_cmp) (option_map plain l.fn.first) (close_faults l.shards l.shard l.decided l.judged (map plain_listed l.listed) (part_name l.part) (take l.close-index l.part.closes))
+invariant-loop-close l = option_map plain l.best ≡ fold (lesser_of fault_cmp) (option_map plain l.fn.first) (close_faults l.shard.of l.shard.number l.keys.decided l.keys.judged (map plain_listed l.keys.listed) (part_name l.part) (take l.close-index l.part.closes))

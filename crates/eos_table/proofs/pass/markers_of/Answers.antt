@@ -9,6 +9,6 @@ use Rattle.eos_table.proofs.pass.markers_of.Goals as goal
 
 pub loop-part-preserved : goal.loop-part-preserved
 loop-part-preserved c =
-    folded_more (lesser_of fault_cmp) (λ (p : PartLog). marker_faults c.args.shards c.args.shard (map plain_ended c.args.ended.now) (part_name p) p.markers)
+    folded_more (lesser_of fault_cmp) (λ (p : PartLog). marker_faults c.args.shard.of c.args.shard.number (map plain_ended c.args.ended.now) (part_name p) p.markers)
     (option_map plain c.args.first) (option_map plain c.loop-part.best) (option_map plain c.markers_of_part-best.result) c.args.parts.now c.loop-part.part-index c.part-item.result
     c.loop-part-test.true c.part-item.is c.loop-part.invariant c.markers_of_part-best.ensures

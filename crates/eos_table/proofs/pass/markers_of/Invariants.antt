@@ -7,4 +7,4 @@ use Rattle.eos_table.specs.steps.Candidates.{at_markers}
 use Rattle.eos_table.proofs.pass.markers_of.Given as goal
 
 abbrev pub invariant-loop-part : goal.invariant-loop-part
-invariant-loop-part l = option_map plain l.best ≡ fold (lesser_of fault_cmp) (option_map plain l.fn.first) (at_markers l.shards l.shard (map plain_ended l.ended) (take l.part-index l.parts))
+invariant-loop-part l = option_map plain l.best ≡ fold (lesser_of fault_cmp) (option_map plain l.fn.first) (at_markers l.shard.of l.shard.number (map plain_ended l.ended) (take l.part-index l.parts))

@@ -15,7 +15,7 @@ loop-marker-preserved c =
     let i = c.loop-marker.marker-index in
     let same = c.markers-marker-items.ensures in
     let none : Marker = record { producer = pos 0; epoch = pos 0; kind = Commit; coordinator_epoch = pos 0 } in
-    let faults = λ (name : PartitionName) (marker : Marker). faults_at_marker c.args.shards c.args.shard (map plain_ended c.args.ended.now) name marker in
+    let faults = λ (name : PartitionName) (marker : Marker). faults_at_marker c.args.shard.of c.args.shard.number (map plain_ended c.args.ended.now) name marker in
     let lent = subst (λ name. option_map plain c.after_marker-best.result ≡ fold (lesser_of fault_cmp) (option_map plain c.loop-marker.best) (faults name (get_or c.markers-marker-items.result.now i none))) c.name_of_part-name.ensures c.after_marker-best.ensures in
     let here = subst (λ (markers : List Marker). option_map plain c.after_marker-best.result ≡ fold (lesser_of fault_cmp) (option_map plain c.loop-marker.best) (faults (part_name c.args.part.now) (get_or markers i none))) same lent in
     let inside = subst (λ (markers : List Marker). i < length markers) same c.loop-marker-test.true in

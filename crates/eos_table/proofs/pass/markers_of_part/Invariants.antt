@@ -8,4 +8,4 @@ use Rattle.eos_table.specs.steps.Candidates.{marker_faults}
 use Rattle.eos_table.proofs.pass.markers_of_part.Given as goal
 
 abbrev pub invariant-loop-marker : goal.invariant-loop-marker
-invariant-loop-marker l = option_map plain l.best ≡ fold (lesser_of fault_cmp) (option_map plain l.fn.first) (marker_faults l.shards l.shard (map plain_ended l.ended) (part_name l.part) (take l.marker-index l.part.markers))
+invariant-loop-marker l = option_map plain l.best ≡ fold (lesser_of fault_cmp) (option_map plain l.fn.first) (marker_faults l.shard.of l.shard.number (map plain_ended l.ended) (part_name l.part) (take l.marker-index l.part.markers))

@@ -7,4 +7,4 @@ use Rattle.eos_table.specs.steps.Candidates.{at_names}
 use Rattle.eos_table.proofs.pass.names_of.Given as goal
 
 abbrev pub invariant-loop-decision : goal.invariant-loop-decision
-invariant-loop-decision l = option_map plain l.best ≡ fold (lesser_of fault_cmp) (option_map plain l.fn.first) (at_names l.shards l.shard (map plain_name l.names) (map plain_ended l.marked) (take l.decision-index l.decisions))
+invariant-loop-decision l = option_map plain l.best ≡ fold (lesser_of fault_cmp) (option_map plain l.fn.first) (at_names l.shard.of l.shard.number (map plain_name l.present.names) (map plain_ended l.present.marked) (take l.decision-index l.decisions))

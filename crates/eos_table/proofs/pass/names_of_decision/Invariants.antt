@@ -7,4 +7,4 @@ use Rattle.eos_table.specs.steps.Candidates.{plain, name_faults}
 use Rattle.eos_table.proofs.pass.names_of_decision.Given as goal
 
 abbrev pub invariant-loop-topic : goal.invariant-loop-topic
-invariant-loop-topic l = option_map plain l.best ≡ fold (lesser_of fault_cmp) (option_map plain l.fn.first) (name_faults (map plain_name l.names) (map plain_ended l.marked) l.decision (names_of (take l.topic-index l.decision.partitions)))
+invariant-loop-topic l = option_map plain l.best ≡ fold (lesser_of fault_cmp) (option_map plain l.fn.first) (name_faults (map plain_name l.present.names) (map plain_ended l.present.marked) l.decision (names_of (take l.topic-index l.decision.partitions)))

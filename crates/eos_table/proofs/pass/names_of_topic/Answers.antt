@@ -15,13 +15,13 @@ name_in topic n = record { topic = topic; partition = n }
 pub returns : goal.returns
 returns c =
     let h = c.loop-partition.invariant in
-    let same = flat_map-map (faults_at_name (map plain_name c.args.names.now) (map plain_ended c.args.marked.now) c.args.decision.now) (name_in c.args.topic.now.topic) c.args.topic.now.numbers in
+    let same = flat_map-map (faults_at_name (map plain_name c.args.present.now.names) (map plain_ended c.args.present.now.marked) c.args.decision.now) (name_in c.args.topic.now.topic) c.args.topic.now.numbers in
     grind (arith, common_steps, h, same)
 
 pub loop-partition-preserved : goal.loop-partition-preserved
 loop-partition-preserved c =
-    let N = map plain_name c.args.names.now in
-    let M = map plain_ended c.args.marked.now in
+    let N = map plain_name c.args.present.now.names in
+    let M = map plain_ended c.args.present.now.marked in
     let g = λ (n : ℤ). faults_at_name N M c.args.decision.now (name_in c.args.topic.now.topic n) in
     let i = c.loop-partition.partition-index in
     let xs = c.args.topic.now.numbers in

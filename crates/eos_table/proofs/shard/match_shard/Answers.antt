@@ -1,11 +1,8 @@
-use Rattle.std.proofs.Common.{option_map, None, subst}
-use Rattle.eos_table.specs.steps.Candidates.{plain}
+use Rattle.std.proofs.Common.{subst}
+use Rattle.std.specs.Prelude.{IfOk}
 use Rattle.eos_table.specs.Shards.{IsAnswer}
+use Rattle.eos_table.specs.steps.OneShard.{OneShard}
 use Rattle.eos_table.proofs.shard.match_shard.Goals as goal
 
-pub returns-in-None : goal.returns-in-None
-returns-in-None c =
-    let n = c.args.shards in
-    let s = c.args.shard in
-    let none : IsAnswer c.decisions.result.now c.args.parts.now n s None = subst (λ o. IsAnswer c.decisions.result.now c.args.parts.now n s (option_map plain o)) c.in-None.is c.in_ok-least.ensures in
-    subst (λ ds. IsAnswer ds c.args.parts.now n s None) c.decisions.ensures none
+pub returns : goal.returns
+returns c = subst (λ (z : OneShard). IfOk c.answer.result (IsAnswer c.args.table.now c.args.parts.now z.of z.number)) c.new.ensures c.answer.ensures
