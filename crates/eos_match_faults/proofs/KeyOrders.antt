@@ -1,6 +1,6 @@
 -- The derived orders of the keys, in words of the definitions.
-use Rattle.std.proofs.Common.{◌≡◌, ◌+◌, List, map, refl, sym, ap, subst, false, IsSorted, get_or}
-use Rattle.std.specs.Ordering.{is_lt, ordering_then, int_cmp, nat_cmp}
+use Rattle.std.proofs.Common.{◌≡◌, List, map, refl, ap}
+use Rattle.std.specs.Ordering.{ordering_then, int_cmp, nat_cmp}
 use Rattle.std.specs.declared.cmp.Ordering.{Ordering}
 use Rattle.eos_base.specs.Members.{is_found}
 use Rattle.eos_base.specs.PartitionNames.{name_cmp}
@@ -16,7 +16,7 @@ use Rattle.eos_match_faults.specs.contracts.key.NameRefOrd.TheImpl.{ghosts as na
 use Rattle.eos_match_faults.specs.declared.key.NameRef.{NameRef}
 use Rattle.eos_match_faults.specs.declared.key.Listed.{Listed}
 use Rattle.eos_match_faults.specs.declared.key.Ended.{Ended}
-use Rattle.eos_match_faults.specs.steps.Keys.{plain_name, plain_listed, plain_ended, by_ended}
+use Rattle.eos_match_faults.specs.steps.Keys.{plain_name, plain_listed, plain_ended}
 
 kind_alike : (a b : Kind) → kind_ghosts.cmp a b ≡ nat_cmp (rank_of a) (rank_of b)
 kind_alike Commit Commit = refl
@@ -35,13 +35,3 @@ ended_has xs k = found_by plain_ended ended_cmp ended_ghosts.cmp ended_alike xs 
 
 pub names_has : (xs : List NameRef) (k : NameRef) → is_found name_ghosts.cmp xs k ≡ is_found name_cmp (map plain_name xs) (plain_name k)
 names_has xs k = found_by plain_name name_cmp name_ghosts.cmp (λ a b. refl) xs k
-
--- sorted in one order, and so in the other
-sorted_same : {X : Type 0} (R S : X → X → Ordering) → ((x y : X) → R x y ≡ S x y) → (xs : List X) → IsSorted R xs → IsSorted S xs
-sorted_same R S same xs up = λ k d lo hi. subst (λ o. is_lt o ≡ false) (same (get_or xs (k + 1) d) (get_or xs k d)) (up k d lo hi)
-
-pub ended_sorted : (xs : List Ended) → IsSorted ended_ghosts.cmp xs → IsSorted by_ended xs
-ended_sorted = sorted_same ended_ghosts.cmp by_ended ended_alike
-
-pub to_ended_sorted : (xs : List Ended) → IsSorted by_ended xs → IsSorted ended_ghosts.cmp xs
-to_ended_sorted = sorted_same by_ended ended_ghosts.cmp (λ x y. sym (ended_alike x y))

@@ -3,4 +3,3 @@ pub mod Deciders
 pub mod Keys
 pub mod Recorded
 pub mod Shown
-pub mod Plain

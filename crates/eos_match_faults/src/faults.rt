@@ -1,15 +1,13 @@
 //! All faults between decisions and logs, as one list.
 
-ghost use Rattle.std.specs.Prelude.{◌≡◌, ◌++◌, OnOk, IfOk, map};
+ghost use Rattle.std.specs.Prelude.{◌≡◌, ◌++◌, OnOk, IfOk};
 ghost use Rattle.std.specs.List.{flat_map};
 ghost use Rattle.eos_table.specs.TransactionLog.{transaction_parts, decisions_of};
 ghost use Rattle.eos_table.specs.MatchFaults.{fault_cmp, Stands};
 ghost use Rattle.eos_fault_list.specs.AllOf.{IsAllOf};
 ghost use Rattle.eos_match_faults.specs.MatchPlaces.{at_decision, at_closes, at_markers, at_names, gathered};
-ghost use Rattle.eos_match_faults.specs.steps.Plain.{plain};
 
 use crate::decided::deciders_of;
-use crate::ordered::Ordered;
 use crate::places::{push_closes, push_decisions, push_markers, push_names};
 use crate::reading::read_decisions;
 use crate::tables::{ended_in_order, listed_in_order, marked_in_order, names_in_order};
@@ -29,10 +27,9 @@ fn push_by_decision(
     ensures { OnOk result (faults.new.items ≡ faults.old.items ++ (flat_map (at_decision decisions.now) decisions.now ++ at_closes decisions.now parts.now)) }
 {
     let deciders = deciders_of(alloc, decisions)?;
-    let keys = listed_in_order(alloc, decisions)?;
-    let listed = keys.as_slice();
+    let listed = listed_in_order(alloc, decisions)?;
     push_decisions(faults, &deciders, decisions)?;
-    push_closes(faults, &deciders, listed, parts)?;
+    push_closes(faults, &deciders, &listed, parts)?;
     Ok(())
 }
 
@@ -45,8 +42,8 @@ fn push_by_marker(
 ) -> Result<(), AllocError>
     ensures { OnOk result (faults.new.items ≡ faults.old.items ++ at_markers decisions.now parts.now) }
 {
-    let keys = ended_in_order(alloc, decisions)?;
-    push_markers(faults, keys.as_slice(), parts)?;
+    let wanted = ended_in_order(alloc, decisions)?;
+    push_markers(faults, &wanted, parts)?;
     Ok(())
 }
 
@@ -59,11 +56,9 @@ fn push_by_name(
 ) -> Result<(), AllocError>
     ensures { OnOk result (faults.new.items ≡ faults.old.items ++ at_names decisions.now parts.now) }
 {
-    let keys = names_in_order(alloc, parts)?;
-    let ends = marked_in_order(alloc, parts)?;
-    let there = keys.as_slice();
-    let marked = ends.as_slice();
-    push_names(faults, there, marked, decisions)?;
+    let there = names_in_order(alloc, parts)?;
+    let marked = marked_in_order(alloc, parts)?;
+    push_names(faults, &there, &marked, decisions)?;
     Ok(())
 }
 
@@ -82,26 +77,6 @@ fn found(
     Ok(faults)
 }
 
-fn to_ordered(alloc: Global, faults: Vec<MatchFault>) -> Result<Vec<Ordered>, AllocError>
-    ensures { IfOk result (λ list. map plain list.items ≡ faults.items) }
-{
-    let mut list = Vec::new(alloc);
-    for fault in faults {
-        list.push(Ordered { fault })?;
-    }
-    Ok(list)
-}
-
-fn from_ordered(alloc: Global, faults: Vec<Ordered>) -> Result<Vec<MatchFault>, AllocError>
-    ensures { IfOk result (λ list. list.items ≡ map plain faults.items) }
-{
-    let mut list = Vec::new(alloc);
-    for ordered in faults {
-        list.push(ordered.fault)?;
-    }
-    Ok(list)
-}
-
 /// Every fault between the decisions of the transaction log and the partitions' logs that stands, in the order in which the
 /// least of them counts, each once. None where every transaction is committed in all its partitions or aborted in all.
 ///
@@ -115,7 +90,6 @@ pub fn all_match_faults(alloc: Global, parts: &[Part]) -> Result<Vec<MatchFault>
     ensures { let ds = decisions_of (transaction_parts parts.now) in IfOk result (λ faults. IsAllOf fault_cmp (Stands ds parts.now) faults.items) }
 {
     let decisions = read_decisions(alloc, parts)?;
-    let faults = to_ordered(alloc, found(alloc, decisions.as_slice(), parts)?)?;
-    let list = from_ordered(alloc, distinct_in_order(faults))?;
-    Ok(list)
+    let faults = found(alloc, decisions.as_slice(), parts)?;
+    Ok(distinct_in_order(faults))
 }

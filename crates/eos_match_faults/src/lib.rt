@@ -8,7 +8,6 @@ mod faults;
 mod key;
 pub mod laws;
 mod look;
-mod ordered;
 mod places;
 mod reading;
 mod tables;

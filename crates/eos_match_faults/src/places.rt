@@ -1,18 +1,18 @@
 //! What each decision, close, end marker and listed partition shows, put at the end of the list of faults.
 
-ghost use Rattle.std.specs.Prelude.{◌≡◌, ◌++◌, ◌∷◌, [], ◌&&◌, OnOk, Some, map, IsSorted};
+ghost use Rattle.std.specs.Prelude.{◌≡◌, ◌++◌, ◌∷◌, [], ◌&&◌, OnOk, Some, map};
 ghost use Rattle.std.specs.List.{flat_map};
 ghost use Rattle.std.specs.Ordering.{int_eq};
 ghost use Rattle.eos_touch.specs.Pair.{same_kind};
 ghost use Rattle.eos_txnlog.specs.PartitionSets.{names_in_topic};
 ghost use Rattle.eos_match_faults.specs.MatchPlaces.{fault_of};
-ghost use Rattle.eos_match_faults.specs.steps.Keys.{plain_name, plain_listed, plain_ended, by_listed, by_ended, by_name};
+ghost use Rattle.eos_match_faults.specs.steps.Keys.{plain_name, plain_listed, plain_ended};
 ghost use Rattle.eos_match_faults.specs.steps.Shown.{twice_by, decision_by, data_by, close_by, marker_by, name_by, closes_in, markers_in, names_in};
 
 use crate::decided::{Decided, Deciders, decided_of};
 use crate::key::{Ended, Listed, NameRef, name_in, name_of_part};
 use crate::look::{is_ended, is_listed, is_name};
-use eos_base::PartitionName;
+use eos_base::{PartitionName, Sorted};
 use eos_batch::{Kind, Marker};
 use eos_fold::{Close, Part};
 use eos_table::{MatchFault, MatchFaultKind};
@@ -151,11 +151,10 @@ fn push_data(
 fn push_close(
     faults: &mut Vec<MatchFault>,
     deciders: &Deciders,
-    listed: &[Listed<'_>],
+    listed: &Sorted<Listed<'_>>,
     name: NameRef<'_>,
     close: &Close,
 ) -> Result<(), AllocError>
-    requires { IsSorted by_listed listed.now }
     ensures { OnOk result (faults.new.items ≡ faults.old.items ++ close_by deciders.now (map plain_listed listed.now) (plain_name name.entry) close.now) }
 {
     let key = Listed {
@@ -170,10 +169,9 @@ fn push_close(
 fn push_closes_of(
     faults: &mut Vec<MatchFault>,
     deciders: &Deciders,
-    listed: &[Listed<'_>],
+    listed: &Sorted<Listed<'_>>,
     part: &Part,
 ) -> Result<(), AllocError>
-    requires { IsSorted by_listed listed.now }
     ensures { OnOk result (faults.new.items ≡ faults.old.items ++ closes_in deciders.now (map plain_listed listed.now) part.now) }
 {
     let name = name_of_part(part);
@@ -187,10 +185,9 @@ fn push_closes_of(
 pub(crate) fn push_closes(
     faults: &mut Vec<MatchFault>,
     deciders: &Deciders,
-    listed: &[Listed<'_>],
+    listed: &Sorted<Listed<'_>>,
     parts: &[Part],
 ) -> Result<(), AllocError>
-    requires { IsSorted by_listed listed.now }
     ensures { OnOk result (faults.new.items ≡ faults.old.items ++ flat_map (closes_in deciders.now (map plain_listed listed.now)) parts.now) }
 {
     for part in parts {
@@ -203,11 +200,10 @@ pub(crate) fn push_closes(
 
 fn push_marker(
     faults: &mut Vec<MatchFault>,
-    wanted: &[Ended<'_>],
+    wanted: &Sorted<Ended<'_>>,
     name: NameRef<'_>,
     marker: &Marker,
 ) -> Result<(), AllocError>
-    requires { IsSorted by_ended wanted.now }
     ensures { OnOk result (faults.new.items ≡ faults.old.items ++ marker_by (map plain_ended wanted.now) (plain_name name.entry) marker.now) }
 {
     let key = Ended {
@@ -230,10 +226,9 @@ fn push_marker(
 
 fn push_markers_of(
     faults: &mut Vec<MatchFault>,
-    wanted: &[Ended<'_>],
+    wanted: &Sorted<Ended<'_>>,
     part: &Part,
 ) -> Result<(), AllocError>
-    requires { IsSorted by_ended wanted.now }
     ensures { OnOk result (faults.new.items ≡ faults.old.items ++ markers_in (map plain_ended wanted.now) part.now) }
 {
     let name = name_of_part(part);
@@ -246,10 +241,9 @@ fn push_markers_of(
 /// What the end markers of the parts show.
 pub(crate) fn push_markers(
     faults: &mut Vec<MatchFault>,
-    wanted: &[Ended<'_>],
+    wanted: &Sorted<Ended<'_>>,
     parts: &[Part],
 ) -> Result<(), AllocError>
-    requires { IsSorted by_ended wanted.now }
     ensures { OnOk result (faults.new.items ≡ faults.old.items ++ flat_map (markers_in (map plain_ended wanted.now)) parts.now) }
 {
     for part in parts {
@@ -262,13 +256,11 @@ pub(crate) fn push_markers(
 
 fn push_name(
     faults: &mut Vec<MatchFault>,
-    there: &[NameRef<'_>],
-    marked: &[Ended<'_>],
+    there: &Sorted<NameRef<'_>>,
+    marked: &Sorted<Ended<'_>>,
     decision: &Decision,
     name: NameRef<'_>,
 ) -> Result<(), AllocError>
-    requires there { IsSorted by_name there.now }
-    requires marked { IsSorted by_ended marked.now }
     ensures { OnOk result (faults.new.items ≡ faults.old.items ++ name_by (map plain_name there.now) (map plain_ended marked.now) decision.now (plain_name name.entry)) }
 {
     let key = Ended {
@@ -300,13 +292,11 @@ fn push_name(
 
 fn push_topic(
     faults: &mut Vec<MatchFault>,
-    there: &[NameRef<'_>],
-    marked: &[Ended<'_>],
+    there: &Sorted<NameRef<'_>>,
+    marked: &Sorted<Ended<'_>>,
     decision: &Decision,
     topic: &TopicPartitions,
 ) -> Result<(), AllocError>
-    requires there { IsSorted by_name there.now }
-    requires marked { IsSorted by_ended marked.now }
     ensures { OnOk result (faults.new.items ≡ faults.old.items ++ flat_map (name_by (map plain_name there.now) (map plain_ended marked.now) decision.now) (names_in_topic topic.now)) }
 {
     for partition in topic.numbers.as_slice() {
@@ -317,12 +307,10 @@ fn push_topic(
 
 fn push_names_of(
     faults: &mut Vec<MatchFault>,
-    there: &[NameRef<'_>],
-    marked: &[Ended<'_>],
+    there: &Sorted<NameRef<'_>>,
+    marked: &Sorted<Ended<'_>>,
     decision: &Decision,
 ) -> Result<(), AllocError>
-    requires there { IsSorted by_name there.now }
-    requires marked { IsSorted by_ended marked.now }
     ensures { OnOk result (faults.new.items ≡ faults.old.items ++ names_in (map plain_name there.now) (map plain_ended marked.now) decision.now) }
 {
     for topic in decision.partitions.as_slice() {
@@ -334,12 +322,10 @@ fn push_names_of(
 /// What the partitions that decisions list show.
 pub(crate) fn push_names(
     faults: &mut Vec<MatchFault>,
-    there: &[NameRef<'_>],
-    marked: &[Ended<'_>],
+    there: &Sorted<NameRef<'_>>,
+    marked: &Sorted<Ended<'_>>,
     decisions: &[Decision],
 ) -> Result<(), AllocError>
-    requires there { IsSorted by_name there.now }
-    requires marked { IsSorted by_ended marked.now }
     ensures { OnOk result (faults.new.items ≡ faults.old.items ++ flat_map (names_in (map plain_name there.now) (map plain_ended marked.now)) decisions.now) }
 {
     for decision in decisions {

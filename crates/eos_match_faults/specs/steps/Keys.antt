@@ -2,15 +2,13 @@
 -- markers that are there, and the partitions' names.
 use Rattle.std.specs.Prelude.{ℤ, List, map}
 use Rattle.std.specs.List.{flat_map}
-use Rattle.std.specs.declared.cmp.Ordering.{Ordering}
 use Rattle.eos_base.specs.declared.partition_name.PartitionName.{PartitionName}
-use Rattle.eos_base.specs.PartitionNames.{name_cmp}
 use Rattle.eos_batch.specs.declared.marker.Kind.{Kind}
 use Rattle.eos_batch.specs.declared.marker.Marker.{Marker}
 use Rattle.eos_txnlog.specs.declared.decision.Decision.{Decision}
 use Rattle.eos_txnlog.specs.PartitionSets.{names_of}
 use Rattle.eos_fold.specs.Parts.{part_name, PartLog}
-use Rattle.eos_table.specs.steps.Keys.{listed_of, ended_of, listed_cmp, ended_cmp}
+use Rattle.eos_table.specs.steps.Keys.{listed_of, ended_of}
 use Rattle.eos_match_faults.specs.declared.key.NameRef.{NameRef}
 use Rattle.eos_match_faults.specs.declared.key.Listed.{Listed}
 use Rattle.eos_match_faults.specs.declared.key.Ended.{Ended}
@@ -23,15 +21,6 @@ plain_listed l = (l.producer, l.epoch, plain_name l.name)
 
 abbrev pub plain_ended : Ended → ℤ × ℤ × Kind × PartitionName
 plain_ended e = (e.producer, e.epoch, e.kind, plain_name e.name)
-
-abbrev pub by_name : NameRef → NameRef → Ordering
-by_name x y = name_cmp (plain_name x) (plain_name y)
-
-abbrev pub by_listed : Listed → Listed → Ordering
-by_listed x y = listed_cmp (plain_listed x) (plain_listed y)
-
-abbrev pub by_ended : Ended → Ended → Ordering
-by_ended x y = ended_cmp (plain_ended x) (plain_ended y)
 
 -- by producer id and data epoch
 abbrev pub listed : List Decision → List (ℤ × ℤ × PartitionName)

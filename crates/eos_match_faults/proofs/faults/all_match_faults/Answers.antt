@@ -3,10 +3,8 @@ use Rattle.eos_base.specs.Members.{Has}
 use Rattle.eos_table.specs.TransactionLog.{transaction_parts, decisions_of}
 use Rattle.eos_table.specs.MatchFaults.{Stands, fault_cmp}
 use Rattle.eos_table.proofs.MatchOrder.{fault_exact}
-use Rattle.eos_fault_list.specs.AllOf.{IsAllOf}
-use Rattle.eos_fault_list.proofs.WholeList.{all_by_keys}
+use Rattle.eos_fault_list.proofs.WholeList.{all_by_order}
 use Rattle.eos_match_faults.specs.MatchPlaces.{gathered}
-use Rattle.eos_match_faults.specs.steps.Plain.{plain}
 use Rattle.eos_match_faults.proofs.RecordedDecisions.{in_parts}
 use Rattle.eos_match_faults.proofs.PlacesSound.{sound}
 use Rattle.eos_match_faults.proofs.PlacesWhole.{all_whole}
@@ -17,8 +15,7 @@ returns c =
     let ps = c.args.parts.now in
     let ds = decisions_of (transaction_parts ps) in
     let lent = c.as_slice.ensures.value ∙ (c.in_ok-decisions.ensures ∙ sym (in_parts (transaction_parts ps))) in
-    let found = c.in_ok-faults.ensures ∙ (c.in_ok-found.ensures ∙ ap (λ z. gathered z ps) lent) in
+    let found = c.in_ok-faults.ensures ∙ ap (λ z. gathered z ps) lent in
     let kept = c.distinct_in_order.ensures in
-    let list = all_by_keys plain fault_cmp (Stands ds ps) (λ x y p q tied. fault_exact x y tied) c.in_ok-faults.faults.items c.distinct_in_order.result.items kept.rises kept.each kept.all
-    (λ x h. sound ds ps x (subst (λ z. Has z x) found h)) (λ x st. subst (λ z. Has z x) (sym found) (all_whole ds ps x st)) in
-    subst (IsAllOf fault_cmp (Stands ds ps)) (sym c.in_ok-list.ensures) list
+    all_by_order fault_cmp (Stands ds ps) (λ x y p q tied. fault_exact x y tied) c.in_ok-faults.faults.items c.distinct_in_order.result.items kept.rises kept.each kept.all
+    (λ x h. sound ds ps x (subst (λ z. Has z x) found h)) (λ x st. subst (λ z. Has z x) (sym found) (all_whole ds ps x st))

@@ -12,8 +12,8 @@ returns c =
     let old = c.args.faults.now.items in
     let kept = c.in_ok-deciders.deciders in
     let are = c.in_ok-deciders.ensures in
-    let lists = map plain_listed c.as_slice-listed.result.now in
-    let same = subst (λ z. IsPermutation (listed ds) (map plain_listed z)) (sym c.as_slice-listed.ensures.value) c.in_ok-keys.ensures.same in
+    let lists = map plain_listed c.in_ok-listed.listed in
+    let same = c.in_ok-listed.ensures in
     let first = c.in_ok-push_decisions.ensures ∙ ap (λ z. old ++ z) (all_decisions ds kept are) in
     let second = c.in_ok-push_closes.ensures ∙ ap (λ z. c.push_decisions.new.faults.items ++ z) (all_closes ds ps kept lists are same) in
     second ∙ (ap (λ z. z ++ at_closes ds ps) first ∙ append_assoc old (flat_map (at_decision ds) ds) (at_closes ds ps))

@@ -6,5 +6,4 @@ use Rattle.eos_match_faults.proofs.faults.push_by_marker.Goals as goal
 pub returns : goal.returns
 returns c =
     let ds = c.args.decisions.now in
-    let same = subst (λ z. IsPermutation (ended ds) (map plain_ended z)) (sym c.as_slice.ensures.value) c.in_ok-keys.ensures.same in
-    c.in_ok-push_markers.ensures ∙ ap (λ z. c.args.faults.now.items ++ z) (all_markers ds c.args.parts.now (map plain_ended c.as_slice.result.now) same)
+    c.in_ok-push_markers.ensures ∙ ap (λ z. c.args.faults.now.items ++ z) (all_markers ds c.args.parts.now (map plain_ended c.in_ok-wanted.wanted) c.in_ok-wanted.ensures)

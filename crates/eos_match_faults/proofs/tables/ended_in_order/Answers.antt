@@ -3,5 +3,5 @@ use Rattle.std.proofs.lemmas.List.Sorted.{IsPermutation-map}
 use Rattle.eos_match_faults.specs.steps.Keys.{plain_ended}
 use Rattle.eos_match_faults.proofs.tables.ended_in_order.Goals as goal
 
-pub returns-clause-same : goal.returns-clause-same
-returns-clause-same c = subst (λ z. IsPermutation z (map plain_ended c.in_order.result.items)) c.in_ok-keys.ensures (IsPermutation-map plain_ended _ _ c.in_order.ensures.same)
+pub returns : goal.returns
+returns c = subst (λ z. IsPermutation z (map plain_ended c.of.result)) c.in_ok-keys.ensures (IsPermutation-map plain_ended _ _ c.of.ensures)
