@@ -1,0 +1,2 @@
+pub mod MoreBytes
+pub mod MoreSplits

@@ -1,0 +1,70 @@
+//! How a reader's bytes come in, with one buffer for all chunks. Nothing says that an input ends, so reading stops at the
+//! limit of a segment and says so.
+
+ghost use Rattle.std.specs.Prelude.{◌≡◌, ◌<◌, ◌≤◌, ◌+◌, ℕ, List, [], Ok, Err, IfOk, OnOk, OnErr, take, length};
+ghost use Rattle.std.specs.Io.KnownBytes.{Consumes, IsAtEnd, Keeps};
+ghost use Rattle.eos_evidence.specs.Reading.{Takes, TakesAtMost};
+
+use crate::feed::Feed;
+use crate::fold::ByteFold;
+use eos_evidence::{MAX_SEGMENT_BYTES, ReadFault};
+use std::alloc::Global;
+use std::io::{ErrorKind, Read};
+
+/// How many bytes are asked for at once.
+const CHUNK: usize = 0x4_0000;
+
+/// How often in a row an interrupted read is tried.
+const TRIES: u32 = 1000;
+
+/// One read, tried again where it is interrupted.
+fn read_some<R: Read>(reader: &mut R, room: &mut [u8]) -> Result<usize, ReadFault>
+    requires { 0 < length room.old }
+    ensures within { IfOk result (λ count. count ≤ length room.new) }
+    ensures ok { IfOk result (λ count. Consumes (R.remaining reader.old) (R.remaining reader.new) (take count room.new)) }
+    ensures end { result ≡ Ok 0 → IsAtEnd (R.remaining reader.new) }
+    ensures err { OnErr result (Keeps (R.remaining reader.old) (R.remaining reader.new)) }
+    ensures only { OnErr result (result ≡ Err ReadFault.Read) }
+{
+    for _ in 0..TRIES {
+        match reader.read(room) {
+            Ok(count) => return Ok(count),
+            Err(e) => {
+                if e.kind() != ErrorKind::Interrupted {
+                    return Err(ReadFault::Read);
+                }
+            }
+        }
+    }
+    Err(ReadFault::Read)
+}
+
+/// Feeds a fold with all bytes that a reader has left, and gives it with the number of bytes that still wait for more. At
+/// `Limit` one byte more than a segment may have was read, and the rest is unread. An interrupted read is tried again, up to
+/// 1,000 times in a row.
+pub fn read_folded<F: ByteFold + Drop, R: Read>(
+    alloc: Global,
+    fold: F,
+    reader: &mut R,
+) -> Result<(F, usize), ReadFault>
+    ensures ok { IfOk result (λ end. (bytes : List ℕ) × Consumes (R.remaining reader.old) (R.remaining reader.new) bytes × (length bytes ≤ MAX_SEGMENT_BYTES)
+        × (F.holds fold [] [] → (rest : List ℕ) × (length rest ≡ end.1) × F.holds end.0 bytes rest)) }
+    ensures end { OnOk result (IsAtEnd (R.remaining reader.new)) }
+    ensures read { result ≡ Err ReadFault.Read → TakesAtMost MAX_SEGMENT_BYTES (R.remaining reader.old) (R.remaining reader.new) }
+    ensures limit { result ≡ Err ReadFault.Limit → Takes (MAX_SEGMENT_BYTES + 1) (R.remaining reader.old) (R.remaining reader.new) }
+    ensures refused { OnErr result (TakesAtMost (MAX_SEGMENT_BYTES + 1) (R.remaining reader.old) (R.remaining reader.new)) }
+{
+    let mut feed = Feed::new(alloc, fold);
+    let mut chunk = [0u8; CHUNK];
+    let mut fed = 0;
+    while fed <= MAX_SEGMENT_BYTES {
+        let room = (MAX_SEGMENT_BYTES + 1 - fed).min(CHUNK);
+        let count = read_some(reader, &mut chunk[..room])?;
+        if count == 0 {
+            return Ok(feed.finish());
+        }
+        feed = feed.feed(alloc, &chunk[..count])?;
+        fed += count;
+    }
+    Err(ReadFault::Limit)
+}
