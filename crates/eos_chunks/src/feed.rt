@@ -25,14 +25,15 @@ impl<F> Model for Feed<F> {
 /// Has bytes taken from the front of a buffer, and gives what is left.
 fn take_from<F: ByteFold>(
     alloc: Global,
+    told: &F::Told,
     fold: &mut F,
     buffer: BytesMut,
 ) -> Result<BytesMut, AllocError>
-    ensures { IfOk result (λ left. (fed waiting more : List ℕ) → F.holds fold.old fed waiting → buffer.items ≡ waiting ++ more
-        → F.holds fold.new (fed ++ more) left.items) }
+    ensures { IfOk result (λ left. (fed waiting more : List ℕ) → F.holds told.now fold.old fed waiting → buffer.items ≡ waiting ++ more
+        → F.holds told.now fold.new (fed ++ more) left.items) }
 {
     let bytes = buffer.freeze()?;
-    let taken = fold.take(alloc, &bytes)?;
+    let taken = fold.take(alloc, told, &bytes)?;
     match bytes.try_into_mut() {
         Ok(mut left) => {
             left.advance(taken);
@@ -59,15 +60,20 @@ impl<F: ByteFold + Drop> Feed<F> {
     ///
     /// # Errors
     /// Only want of memory; what was fed is lost.
-    pub fn feed(self, alloc: Global, chunk: &[u8]) -> Result<Feed<F>, AllocError>
-        ensures { IfOk result (λ after. (fed : List ℕ) → F.holds self.fold fed self.waiting → F.holds after.fold (fed ++ chunk.now) after.waiting) }
+    pub fn feed(
+        self,
+        alloc: Global,
+        told: &F::Told,
+        chunk: &[u8],
+    ) -> Result<Feed<F>, AllocError>
+        ensures { IfOk result (λ after. (fed : List ℕ) → F.holds told.now self.fold fed self.waiting → F.holds told.now after.fold (fed ++ chunk.now) after.waiting) }
     {
         let Feed {
             mut fold,
             mut buffer,
         } = self;
         buffer.extend_from_slice(chunk)?;
-        let left = take_from(alloc, &mut fold, buffer)?;
+        let left = take_from(alloc, told, &mut fold, buffer)?;
         Ok(Feed { fold, buffer: left })
     }
 

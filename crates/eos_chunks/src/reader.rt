@@ -44,11 +44,12 @@ fn read_some<R: Read>(reader: &mut R, room: &mut [u8]) -> Result<usize, ReadFaul
 /// 1,000 times in a row.
 pub fn read_folded<F: ByteFold + Drop, R: Read>(
     alloc: Global,
+    told: &F::Told,
     fold: F,
     reader: &mut R,
 ) -> Result<(F, usize), ReadFault>
     ensures ok { IfOk result (λ end. (bytes : List ℕ) × Consumes (R.remaining reader.old) (R.remaining reader.new) bytes × (length bytes ≤ MAX_SEGMENT_BYTES)
-        × (F.holds fold [] [] → (rest : List ℕ) × (length rest ≡ end.1) × F.holds end.0 bytes rest)) }
+        × (F.holds told.now fold [] [] → (rest : List ℕ) × (length rest ≡ end.1) × F.holds told.now end.0 bytes rest)) }
     ensures end { OnOk result (IsAtEnd (R.remaining reader.new)) }
     ensures read { result ≡ Err ReadFault.Read → TakesAtMost MAX_SEGMENT_BYTES (R.remaining reader.old) (R.remaining reader.new) }
     ensures limit { result ≡ Err ReadFault.Limit → Takes (MAX_SEGMENT_BYTES + 1) (R.remaining reader.old) (R.remaining reader.new) }
@@ -63,7 +64,7 @@ pub fn read_folded<F: ByteFold + Drop, R: Read>(
         if count == 0 {
             return Ok(feed.finish());
         }
-        feed = feed.feed(alloc, &chunk[..count])?;
+        feed = feed.feed(alloc, told, &chunk[..count])?;
         fed += count;
     }
     Err(ReadFault::Limit)

@@ -25,7 +25,7 @@ loop-fed-preserved g c =
         i.0 ++ brought,
         Consumes-trans _ _ _ _ _ i.1 c.in_ok-count.ensures.ok,
         omega (arith, length-append i.0 brought, len, i.2),
-        λ first. subst (λ (xs : List ℕ). g.F.ByteFold.holds c.in_ok-feed.feed.fold (i.0 ++ xs) c.in_ok-feed.feed.waiting)
+        λ first. subst (λ (xs : List ℕ). g.F.ByteFold.holds c.args.told.now c.in_ok-feed.feed.fold (i.0 ++ xs) c.in_ok-feed.feed.waiting)
             (take_more c.read_some.new.room _ c.in_ok-count.count c.in_ok-count.ensures.within) (c.in_ok-feed.ensures i.0 (i.3 first)),
       );
       within = search (rules, places);

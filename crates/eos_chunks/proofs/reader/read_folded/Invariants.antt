@@ -8,7 +8,7 @@ use Rattle.eos_chunks.proofs.reader.read_folded.Given as goal
 abbrev pub invariant-loop-fed : goal.invariant-loop-fed
 invariant-loop-fed g l = record {
   taken : (bytes : List ℕ) × Consumes (g.R.Read.remaining l.initial.reader) (g.R.Read.remaining l.reader) bytes × (length bytes ≡ l.fed)
-      × (g.F.ByteFold.holds l.fn.fold [] [] → g.F.ByteFold.holds l.feed.fold bytes l.feed.waiting);
+      × (g.F.ByteFold.holds l.told l.fn.fold [] [] → g.F.ByteFold.holds l.told l.feed.fold bytes l.feed.waiting);
   within : l.fed ≤ MAX_SEGMENT_BYTES + 1;
   room : length l.chunk ≡ CHUNK;
 }
