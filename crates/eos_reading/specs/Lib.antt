@@ -1,0 +1,9 @@
+pub mod Claims
+pub mod Commits
+pub mod Folds
+pub mod Heads
+pub mod Kept
+pub mod Places
+pub mod Records
+pub mod Runs
+pub mod steps

@@ -1,0 +1,135 @@
+//! One batch after the other, of whose data records is kept what is wanted.
+
+ghost use Rattle.std.specs.Prelude.{◌≡◌, ◌≢◌, ◌≤◌, ◌<◌, ◌+◌, ◌++◌, ◌^◌, List, length, drop, Ok, Err, None, IfOk, IfErr, OnOk};
+ghost use Rattle.eos_batch.specs.Answers.{Fails};
+ghost use Rattle.eos_batch.specs.Heads.{head_with};
+ghost use Rattle.eos_batch.specs.Reading.{batch_at};
+ghost use Rattle.eos_batch.specs.Places.{records_in};
+ghost use Rattle.eos_reading.specs.Runs.{IsRun};
+ghost use Rattle.eos_reading.specs.steps.Keeping.{Keeps, Grows, IsKept};
+
+use crate::placed::Placed;
+use crate::reading::Reading;
+use bytes::Bytes;
+use eos_batch::{Batch, BatchFault, BatchHead, open_batch, pass_record, test_data};
+use eos_items::read_head;
+use eos_wire::are_bytes;
+use std::alloc::{AllocError, Global};
+
+/// Where the records of a batch stand: from `begin` to `end`, so many, and the first has this offset.
+#[derive(Clone, Copy)]
+struct Span {
+    offset: u64,
+    begin: usize,
+    end: usize,
+    count: u32,
+}
+
+/// Keeps of each record what is wanted.
+fn keep_records<K: Reading>(
+    alloc: Global,
+    reading: &K,
+    bytes: &Bytes,
+    kept: &mut Vec<K::Kept>,
+    span: Span,
+) -> Result<(), BatchFault>
+    requires inside { (span.begin ≤ span.end) × (span.end ≤ length bytes.now) }
+    requires fits { span.offset + span.count ≤ 2 ^ 63 }
+    ensures ok { OnOk result (Keeps (K.kept reading.now) span.offset kept.old.items kept.new.items (records_in bytes.now span.begin span.end span.count)) }
+    ensures grown { Grows kept.old.items kept.new.items }
+    ensures err { IfErr result (λ e. Fails e (records_in bytes.now span.begin span.end span.count)) }
+{
+    let mut from = span.begin;
+    for place in 0..span.count {
+        let next = pass_record(bytes, from, span.end, place)?;
+        let record = Placed::new(bytes, from);
+        let one = reading.keep(alloc, span.offset + u64::from(place), record)?;
+        kept.push(one)?;
+        from = next;
+    }
+    if from != span.end {
+        return Err(BatchFault::Trailing);
+    }
+    Ok(())
+}
+
+/// The head of a data batch of so many records and bytes.
+fn data_head(batch: &Batch, count: u32, size: usize) -> BatchHead
+    ensures { result ≡ head_with batch.now count size None }
+{
+    BatchHead {
+        offset: batch.base_offset.unsigned_abs(),
+        count,
+        size,
+        producer: batch.producer,
+        epoch: batch.epoch,
+        sequence: batch.sequence,
+        is_control: batch.is_control(),
+        is_transactional: batch.is_transactional(),
+        marker: None,
+    }
+}
+
+/// Reads the batch at `at`. On an error nothing more is kept.
+fn keep_batch<K: Reading>(
+    alloc: Global,
+    reading: &K,
+    bytes: &Bytes,
+    kept: &mut Vec<K::Kept>,
+    at: usize,
+) -> Result<BatchHead, BatchFault>
+    requires { at ≤ length bytes.now }
+    ensures ok { IfOk result (IsKept (K.kept reading.now) bytes.now at kept.old.items kept.new.items) }
+    ensures err { IfErr result (λ e. Fails e (batch_at (drop at bytes.now)) × (kept.new.items ≡ kept.old.items)) }
+{
+    let opened = open_batch(alloc, bytes, at)?;
+    if opened.batch.is_control() {
+        return read_head(alloc, bytes, at);
+    }
+    let before = kept.len();
+    let span = Span {
+        offset: opened.batch.base_offset.unsigned_abs(),
+        begin: opened.begin,
+        end: opened.end,
+        count: opened.count,
+    };
+    if let Err(fault) = keep_records(alloc, reading, bytes, kept, span) {
+        kept.truncate(before);
+        return Err(fault);
+    }
+    if let Err(fault) = test_data(&opened.batch) {
+        kept.truncate(before);
+        return Err(fault);
+    }
+    Ok(data_head(&opened.batch, opened.count, opened.end - at))
+}
+
+/// Reads the batches of a buffer to the first byte where none stands: puts the head of each at the end of `heads`, and what
+/// is wanted of each data record at the end of `kept`. The answer is that byte, and why no batch stands there: `Truncated`
+/// where the bytes end.
+///
+/// # Errors
+/// Only want of memory.
+pub fn keep_batches<K: Reading>(
+    alloc: Global,
+    reading: &K,
+    bytes: &Bytes,
+    heads: &mut Vec<BatchHead>,
+    kept: &mut Vec<K::Kept>,
+) -> Result<(usize, BatchFault), AllocError>
+    ensures { IfOk result (λ end. IsRun (K.kept reading.now) bytes.now heads.old.items heads.new.items kept.old.items kept.new.items end.0 end.1) }
+{
+    are_bytes(bytes.as_slice());
+    let mut at = 0;
+    while at < bytes.len() {
+        match keep_batch(alloc, reading, bytes, kept, at) {
+            Ok(head) => {
+                heads.push(head)?;
+                at += head.size;
+            }
+            Err(BatchFault::OutOfMemory) => return Err(AllocError),
+            Err(fault) => return Ok((at, fault)),
+        }
+    }
+    Ok((at, BatchFault::Truncated))
+}

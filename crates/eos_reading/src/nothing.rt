@@ -1,0 +1,19 @@
+//! A reading of which counts are enough.
+
+use crate::placed::Placed;
+use crate::reading::Reading;
+use std::alloc::{AllocError, Global};
+
+/// Keeps nothing of a record, but that it is there.
+#[derive(Clone, Copy, Debug, PartialEq, Eq)]
+pub struct Nothing;
+
+impl Reading for Nothing {
+    type Kept = ();
+
+    ghost kept = { λ s offset r. tt };
+
+    fn keep(&self, _alloc: Global, _offset: u64, _record: Placed<'_>) -> Result<(), AllocError> {
+        Ok(())
+    }
+}
