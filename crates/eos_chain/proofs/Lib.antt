@@ -4,3 +4,4 @@ pub mod TouchTable
 pub mod LeastAtBatch
 pub mod LeastInSegment
 pub mod GoodSegment
+pub mod FedSteps

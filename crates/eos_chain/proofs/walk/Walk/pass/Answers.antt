@@ -7,15 +7,15 @@ use Rattle.eos_touch.proofs.Continuity.{expected_is, begin_of-push, goes_on, nex
 use Rattle.eos_chain.proofs.LeastAtBatch.{gap_at_batch, pair_at_batch, each-push}
 use Rattle.eos_chain.proofs.walk.Walk.pass.Goals as goal
 
-pub returns-then-offset-next-clause-passed : goal.returns-then-offset-next-clause-passed
-returns-then-offset-next-clause-passed c = λ before b size is counted h.
+pub returns-then-offset-next : goal.returns-then-offset-next
+returns-then-offset-next c = λ before b size is counted h.
     let offset : c.args.head.now.offset ≡ offset_of b = ap (λ (x : BatchHead). x.offset) is in
     let next = c.at_first-next.ensures ∙ expected_is before b _ _ _ h.number h.next offset in
     gap_at_batch before b _ _ next (λ q. c.if-offset-next.true (offset ∙ q))
     c.unnamed.ensures.topic c.unnamed.ensures.partition c.unnamed.ensures.offset (c.unnamed.ensures.kind ∙ ap Gap offset)
 
-pub returns-in-Err-clause-passed : goal.returns-in-Err-clause-passed
-returns-in-Err-clause-passed c = λ before b size is counted h.
+pub returns-in-Err : goal.returns-in-Err
+returns-in-Err c = λ before b size is counted h.
     let offset : c.args.head.now.offset ≡ offset_of b = ap (λ (x : BatchHead). x.offset) is in
     let next = c.at_first-next.ensures ∙ expected_is before b _ _ _ h.number h.next offset in
     let on = goes_on before b h.continuous counted.first (sym offset ∙ (c.if-offset-next.false ∙ next)) in
@@ -23,8 +23,8 @@ returns-in-Err-clause-passed c = λ before b size is counted h.
     pair_at_batch before b _ c.in-Err.kind on l
     c.unnamed-in-Err.ensures.topic c.unnamed-in-Err.ensures.partition (c.unnamed-in-Err.ensures.offset ∙ offset) c.unnamed-in-Err.ensures.kind
 
-pub returns-clause-passed : goal.returns-clause-passed
-returns-clause-passed c = λ before b size is counted h.
+pub returns : goal.returns
+returns c = λ before b size is counted h.
     let offset : c.args.head.now.offset ≡ offset_of b = ap (λ (x : BatchHead). x.offset) is in
     let count : c.args.head.now.count ≡ length b.records = ap (λ (x : BatchHead). x.count) is in
     let next = c.at_first-next.ensures ∙ expected_is before b _ _ _ h.number h.next offset in
