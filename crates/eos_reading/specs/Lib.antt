@@ -6,4 +6,5 @@ pub mod Kept
 pub mod Places
 pub mod Records
 pub mod Runs
+pub mod Transactions
 pub mod steps

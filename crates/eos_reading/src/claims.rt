@@ -39,9 +39,9 @@ impl<'a> Reading for Claims<'a> {
         &self,
         _alloc: Global,
         _offset: u64,
-        record: Placed<'_>,
+        placed: Placed<'_>,
     ) -> Result<Option<KeptClaim>, AllocError> {
-        match view_claim(record.view().into_headers()) {
+        match view_claim(placed.view().into_headers()) {
             None => Ok(None),
             Some(claim) => Ok(Some(KeptClaim {
                 topic: place_of(self.topics, claim.topic),

@@ -86,9 +86,9 @@ impl<'a> Reading for Commits<'a> {
         &self,
         _alloc: Global,
         _offset: u64,
-        record: Placed<'_>,
+        placed: Placed<'_>,
     ) -> Result<Result<Option<KeptCommit>, RecordFault>, AllocError> {
-        let record = record.view();
+        let record = placed.view();
         Ok(commit_of(self, record.key(), offset_of(record.value())))
     }
 }

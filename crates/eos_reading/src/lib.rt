@@ -15,6 +15,7 @@ mod nothing;
 mod placed;
 mod places;
 mod reading;
+mod transactions;
 
 pub use batch::keep_batches;
 pub use claims::{Claims, KeptClaim};
@@ -25,3 +26,4 @@ pub use log::fold_log;
 pub use nothing::Nothing;
 pub use placed::Placed;
 pub use reading::Reading;
+pub use transactions::{KeptState, Transactions};

@@ -13,7 +13,7 @@ impl Reading for Nothing {
 
     ghost kept = { λ s offset r. tt };
 
-    fn keep(&self, _alloc: Global, _offset: u64, _record: Placed<'_>) -> Result<(), AllocError> {
+    fn keep(&self, _alloc: Global, _offset: u64, _placed: Placed<'_>) -> Result<(), AllocError> {
         Ok(())
     }
 }

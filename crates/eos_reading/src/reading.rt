@@ -16,6 +16,6 @@ pub trait Reading {
 
     /// # Errors
     /// Only want of memory.
-    fn keep(&self, alloc: Global, offset: u64, record: Placed<'_>) -> Result<Self::Kept, AllocError>
-        ensures { IfOk result (λ one. one ≡ kept self.now offset record.entry) };
+    fn keep(&self, alloc: Global, offset: u64, placed: Placed<'_>) -> Result<Self::Kept, AllocError>
+        ensures { IfOk result (λ one. one ≡ kept self.now offset placed.entry) };
 }
