@@ -140,12 +140,7 @@ impl ByteFold for FedWalk {
     ghost holds = { λ _ w fed waiting. IsFed fed waiting w };
 
     /// After a fault all bytes are taken: none can change it.
-    fn take(
-        &mut self,
-        alloc: Global,
-        _told: &(),
-        buffer: &Bytes,
-    ) -> Result<usize, AllocError> {
+    fn take(&mut self, alloc: Global, _told: &(), buffer: &Bytes) -> Result<usize, AllocError> {
         if self.fault.is_some() {
             return Ok(buffer.len());
         }

@@ -60,12 +60,7 @@ impl<F: ByteFold + Drop> Feed<F> {
     ///
     /// # Errors
     /// Only want of memory; what was fed is lost.
-    pub fn feed(
-        self,
-        alloc: Global,
-        told: &F::Told,
-        chunk: &[u8],
-    ) -> Result<Feed<F>, AllocError>
+    pub fn feed(self, alloc: Global, told: &F::Told, chunk: &[u8]) -> Result<Feed<F>, AllocError>
         ensures { IfOk result (λ after. (fed : List ℕ) → F.holds told.now self.fold fed self.waiting → F.holds told.now after.fold (fed ++ chunk.now) after.waiting) }
     {
         let Feed {
