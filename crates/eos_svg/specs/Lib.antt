@@ -1,0 +1,4 @@
+pub mod Escaping
+pub mod CharacterData
+pub mod Looks
+pub mod Shapes
