@@ -60,9 +60,9 @@ impl Look {
             Look::Open => " class=\"open\" fill=\"#ffffff\" stroke=\"#003f63\"",
             Look::CommitMarker => " class=\"commit-marker\" fill=\"#0072b2\" stroke=\"#003f63\"",
             Look::AbortMarker => " class=\"abort-marker\" fill=\"#ffffff\" stroke=\"#6e6e6e\"",
-            Look::Passed => " class=\"passed\" fill=\"#ffffff\" stroke=\"#0072b2\"",
+            Look::Passed => " class=\"passed\" fill=\"#e3eff7\" stroke=\"#0072b2\"",
             Look::NotPassed => {
-                " class=\"not-passed\" fill=\"#ffffff\" stroke=\"#8c8c8c\" stroke-dasharray=\"3 3\""
+                " class=\"not-passed\" fill=\"#f4f4f4\" stroke=\"#8c8c8c\" stroke-dasharray=\"3 3\""
             }
             Look::Fault => " class=\"fault\" fill=\"none\" stroke=\"#d00000\" stroke-width=\"3\"",
             Look::FaultArc => {

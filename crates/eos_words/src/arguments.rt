@@ -1,8 +1,8 @@
 //! The subcommands and their arguments.
 
 use crate::help::{
-    CHAIN, CHAIN_ANSWERS, CHECK, CHECK_ANSWERS, DUMP, DUMP_COLUMNS, EXPLAIN, EXPLAIN_SAYS, INIT,
-    INIT_WRITES, SIMULATE, SIMULATE_WRITES,
+    CHAIN, CHAIN_ANSWERS, CHECK, CHECK_ANSWERS, DRAW, DRAW_SHOWS, DUMP, DUMP_COLUMNS, EXPLAIN,
+    EXPLAIN_SAYS, INIT, INIT_WRITES, SIMULATE, SIMULATE_WRITES,
 };
 use clap::builder::ValueParser;
 
@@ -13,6 +13,7 @@ pub(crate) enum Subcommand {
     Dump,
     Chain,
     Explain,
+    Draw,
     Init,
     Simulate,
 }
@@ -24,6 +25,7 @@ impl Subcommand {
             Subcommand::Dump => "dump",
             Subcommand::Chain => "chain",
             Subcommand::Explain => "explain",
+            Subcommand::Draw => "draw",
             Subcommand::Init => "init",
             Subcommand::Simulate => "simulate",
         }
@@ -36,6 +38,7 @@ impl Subcommand {
             Subcommand::Dump => DUMP,
             Subcommand::Chain => CHAIN,
             Subcommand::Explain => EXPLAIN,
+            Subcommand::Draw => DRAW,
             Subcommand::Init => INIT,
             Subcommand::Simulate => SIMULATE,
         }
@@ -48,6 +51,7 @@ impl Subcommand {
             Subcommand::Dump => DUMP_COLUMNS,
             Subcommand::Chain => CHAIN_ANSWERS,
             Subcommand::Explain => EXPLAIN_SAYS,
+            Subcommand::Draw => DRAW_SHOWS,
             Subcommand::Init => INIT_WRITES,
             Subcommand::Simulate => SIMULATE_WRITES,
         }
@@ -75,6 +79,12 @@ impl Subcommand {
             ],
             Subcommand::Chain => &[Argument::File],
             Subcommand::Explain => &[Argument::Code],
+            Subcommand::Draw => &[
+                Argument::Fault,
+                Argument::Around,
+                Argument::OneFolder,
+                Argument::NewFile,
+            ],
             Subcommand::Init => &[
                 Argument::Version1,
                 Argument::App,
@@ -125,6 +135,10 @@ pub(crate) enum Argument {
     To,
     File,
     Code,
+    Fault,
+    Around,
+    OneFolder,
+    NewFile,
     Seed,
     Events,
     Applications,
@@ -210,14 +224,19 @@ impl Argument {
             Argument::Quiet => "quiet",
             Argument::Progress => "progress",
             Argument::Report => "report",
-            Argument::Folders | Argument::NewFolder | Argument::CopiedFolder => "folder",
+            Argument::Folders
+            | Argument::OneFolder
+            | Argument::NewFolder
+            | Argument::CopiedFolder => "folder",
             Argument::Headers => "headers",
             Argument::Decode => "decode",
             Argument::As => "as",
             Argument::From => "from",
             Argument::To => "to",
-            Argument::File => "file",
+            Argument::File | Argument::NewFile => "file",
             Argument::Code => "code",
+            Argument::Fault => "fault",
+            Argument::Around => "around",
             Argument::Seed => "seed",
             Argument::Events => "events",
             Argument::Applications => "applications",
@@ -248,6 +267,7 @@ impl Argument {
     pub(crate) fn value_name<'a>(self) -> &'a str {
         match self {
             Argument::Workers
+            | Argument::Around
             | Argument::Events
             | Argument::Applications
             | Argument::Inputs
@@ -269,7 +289,12 @@ impl Argument {
             | Argument::Decode
             | Argument::Version1
             | Argument::EndsFromLogs => "",
-            Argument::Folders | Argument::NewFolder | Argument::CopiedFolder => "FOLDER",
+            Argument::Folders
+            | Argument::OneFolder
+            | Argument::NewFolder
+            | Argument::CopiedFolder => "FOLDER",
+            Argument::Fault => "K",
+            Argument::NewFile => "FILE.svg",
             Argument::As => "RECORDS",
             Argument::From | Argument::To => "OFFSET",
             Argument::File
@@ -302,6 +327,10 @@ impl Argument {
             Argument::From => "Lists only records from this offset on",
             Argument::To => "Lists only records below this offset",
             Argument::File => "The segment; - is the standard input",
+            Argument::Fault => "Which fault of those that check --all prints, from 1, or 1",
+            Argument::Around => "The transactions on each side of it, 1 to 100, or 6",
+            Argument::OneFolder => "The folder of the evidence",
+            Argument::NewFile => "The file that is made",
             Argument::Code => "The code of a kind of fault, such as 5.10",
             Argument::Seed => "What the script is drawn from, 0 to 2^64 - 1",
             Argument::Events => "How many words the script has, 0 to 10000",
@@ -340,6 +369,8 @@ impl Argument {
                 | Argument::Quiet
                 | Argument::Progress
                 | Argument::Report
+                | Argument::Fault
+                | Argument::Around
                 | Argument::Applications
                 | Argument::Inputs
                 | Argument::Outputs
@@ -388,7 +419,13 @@ impl Argument {
             | Argument::Version1
             | Argument::EndsFromLogs => Form::Flag,
             Argument::Folders => Form::Several,
-            Argument::NewFolder | Argument::CopiedFolder | Argument::File => Form::Alone,
+            Argument::Fault => Form::Valued(ValueParser::Unsigned(1, u64::MAX)),
+            Argument::Around => Form::Valued(ValueParser::Unsigned(1, 100)),
+            Argument::OneFolder
+            | Argument::NewFolder
+            | Argument::CopiedFolder
+            | Argument::File
+            | Argument::NewFile => Form::Alone,
             Argument::Ends | Argument::Report | Argument::History | Argument::Schedule => {
                 Form::Valued(ValueParser::NonEmptyString)
             }

@@ -3,7 +3,7 @@
 use crate::arguments::{Argument, Form, Subcommand};
 use crate::help::{ABOUT, STATUSES};
 use crate::request::{
-    Answer, Check, Init, Listing, NoRequest, Request, Simulation, Sizes, Thousandths,
+    Answer, Check, Draw, Init, Listing, NoRequest, Request, Simulation, Sizes, Thousandths,
 };
 use clap::builder::ValueParser;
 use clap::error::{Error, ErrorKind};
@@ -76,6 +76,7 @@ fn make_subcommands<'a>(alloc: Global) -> Result<Vec<Command<'a>>, AllocError> {
         Subcommand::Dump,
         Subcommand::Chain,
         Subcommand::Explain,
+        Subcommand::Draw,
         Subcommand::Init,
         Subcommand::Simulate,
     ] {
@@ -139,6 +140,7 @@ fn read_request<'a>(
         "dump" => Ok(read_dump(inner)),
         "chain" => Ok(read_segment_words(inner, Answer::Chain)),
         "explain" => Ok(read_explain(inner)),
+        "draw" => Ok(read_draw(inner)),
         "init" => read_init(alloc, inner),
         "simulate" => read_simulate(alloc, inner),
         _ => Ok(None),
@@ -182,6 +184,17 @@ fn read_check<'a>(
 fn read_explain<'a>(inner: &ArgMatches<'a>) -> Option<Request<'a>> {
     let code = inner.get_str("code")?;
     Some(Request::Explain { code })
+}
+
+fn read_draw<'a>(inner: &ArgMatches<'a>) -> Option<Request<'a>> {
+    let folder = inner.get_str("folder")?;
+    let file = inner.get_str("file")?;
+    Some(Request::Draw(Draw {
+        fault: inner.get_one::<u64>("fault"),
+        around: inner.get_one::<u64>("around"),
+        folder,
+        file,
+    }))
 }
 
 fn read_init<'a>(alloc: Global, inner: &ArgMatches<'a>) -> Result<Option<Request<'a>>, AllocError> {

@@ -197,6 +197,18 @@ pub(crate) const EXPLAIN_SAYS: &str =
     "CODE is what stands before the name in a `no` line: of `no 5.10 Repeated ..` it is
 5.10. `eoscheck check --help` lists all kinds, docs/FAULTS.md has all pages.";
 
+pub(crate) const DRAW: &str =
+    "Draws the transactions around a fault of an evidence, as an SVG file";
+
+pub(crate) const DRAW_SHOWS: &str =
+    "A column is a transaction, in the order of the Prepare records; a row is a
+partition; a cell has the transaction's records by offset and its end marker,
+and in the rows of its inputs the offsets that its commit passed. The places of
+the fault are in red. Without a fault the first transactions are drawn.
+
+FILE.svg must not be there; it is written whole or not at all. The program prints
+`drew columns=N rows=M`; the exit status is that of `check`: 0 yes, 1 a fault.";
+
 pub(crate) const INIT: &str =
     "Writes the manifest of a folder of copied logs, evidence.json, for `check`";
 

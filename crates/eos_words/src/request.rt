@@ -7,6 +7,8 @@ pub enum Request<'a> {
     Segment { answer: Answer<'a>, file: &'a str },
     /// Give the verdicts over folders of evidence.
     Check(Check<'a>),
+    /// Draw the picture of a fault of an evidence.
+    Draw(Draw<'a>),
     /// Print the catalogue's page of the kind of fault with this code.
     Explain { code: &'a str },
     /// Write what a simulated cluster leaves.
@@ -56,6 +58,19 @@ pub struct Check<'a> {
     pub report: Option<&'a str>,
     /// The folders in the order given, at least one, none of them the empty text.
     pub folders: Vec<&'a str>,
+}
+
+/// What is to be drawn.
+#[derive(Clone, Copy)]
+pub struct Draw<'a> {
+    /// The number of the fault in the list of all, from 1, if that is said.
+    pub fault: Option<u64>,
+    /// How many transactions are shown on each side of it, if that is said: from 1 to 100.
+    pub around: Option<u64>,
+    /// The folder of the evidence.
+    pub folder: &'a str,
+    /// The file that is made.
+    pub file: &'a str,
 }
 
 /// What a simulated cluster is to do.

@@ -2,6 +2,7 @@
 
 use eos_checking::check_words;
 use eos_commands::{answer_segment, explain_code, init_folder};
+use eos_drawing::draw_folder;
 use eos_ending::{Ending, STANDARD, end};
 use eos_simulate::simulate_folder;
 use eos_words::{NoRequest, Request, read_words};
@@ -50,6 +51,7 @@ fn act(rt: &HostRuntime, threads: &(impl Threads + Wait + Sync), request: Reques
     match request {
         Request::Segment { answer, file } => answer_segment(rt, answer, file),
         Request::Check(words) => check_words(rt, threads, &words),
+        Request::Draw(words) => draw_folder(rt, threads, &words),
         Request::Explain { code } => explain_code(rt, code),
         Request::Simulate(words) => simulate_folder(rt, &words),
         Request::Init(words) => init_folder(rt, &words),

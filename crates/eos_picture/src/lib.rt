@@ -1,0 +1,15 @@
+//! The picture of what a fault is about, as a value: the transactions around it, each as a column, the partitions that they wrote to and
+//! read from, each as a row, and in each cell what the transaction did there. How it is drawn, a crate above says.
+#![tactic(auto)]
+
+mod content;
+mod mark;
+mod passes;
+mod picture;
+mod rows;
+mod spots;
+mod transactions;
+mod window;
+
+pub use mark::{Column, Decided, Mark, Picture, Row, Sign};
+pub use picture::picture_of;

@@ -1,0 +1,93 @@
+//! What a picture holds.
+
+use bytes::Bytes;
+use eos_base::PartitionName;
+use eos_batch::Kind;
+use eos_fold::Fate;
+
+/// A transaction.
+#[derive(Debug, PartialEq, Eq, Drop)]
+pub struct Column {
+    /// The producer id of its data.
+    pub producer: i64,
+    /// The producer epoch of its data.
+    pub epoch: i16,
+    /// The Prepare record that decided it; none where there is none.
+    pub decided: Option<Decided>,
+}
+
+/// A Prepare record of the transaction log.
+#[derive(Debug, PartialEq, Eq, Drop)]
+pub struct Decided {
+    /// The transactional id.
+    pub id: Bytes,
+    /// The number of its partition of `__transaction_state`.
+    pub partition: i32,
+    pub offset: u64,
+    pub kind: Kind,
+    /// The epoch that the transaction's end markers have.
+    pub marker_epoch: i16,
+}
+
+/// What stands in a cell.
+#[derive(Debug, PartialEq, Eq, Drop)]
+pub enum Sign {
+    /// The Prepare record.
+    Decision {
+        offset: u64,
+        kind: Kind,
+    },
+    /// A data record.
+    Record {
+        offset: u64,
+        fate: Fate,
+    },
+    /// A data record of the offsets log, by which a group's committed offset of this partition is set.
+    Commit {
+        offset: u64,
+        fate: Fate,
+        source: PartitionName,
+        committed: i64,
+    },
+    /// A commit set a group's committed offset of the row's partition from one offset to another.
+    Passed {
+        fate: Fate,
+        from: i64,
+        to: i64,
+    },
+    /// An end marker.
+    Marker(Kind),
+    /// A place of the fault at which no such thing stands.
+    Spot(Option<u64>),
+}
+
+/// A sign, and where it stands.
+#[derive(Debug, PartialEq, Eq, Drop)]
+pub struct Mark {
+    /// The place of its column among those of the picture.
+    pub column: usize,
+    pub sign: Sign,
+    /// Whether it is a place of the fault.
+    pub is_of_fault: bool,
+}
+
+/// A partition.
+#[derive(Debug, PartialEq, Eq, Drop)]
+pub struct Row {
+    pub name: PartitionName,
+    /// What the transactions did there, by kind of sign and offset.
+    pub marks: Vec<Mark>,
+}
+
+/// A picture.
+#[derive(Debug, PartialEq, Eq, Drop)]
+pub struct Picture {
+    /// The transactions that are shown, in the order of their Prepare records; behind them those without one.
+    pub columns: Vec<Column>,
+    /// How many transactions stand before those that are shown.
+    pub before: usize,
+    /// How many transactions there are.
+    pub all: usize,
+    /// The partitions in which one of them did something.
+    pub rows: Vec<Row>,
+}

@@ -1,0 +1,264 @@
+//! The rows of a picture: what its transactions did in a partition.
+
+use crate::mark::{Column, Mark, Row, Sign};
+use crate::passes::{Pass, commit_of, is_of_offsets_log};
+use crate::spots::{At, Spot, is_of, name_of};
+use crate::transactions::is_of_transaction_log;
+use crate::window::{column_of, column_of_spot, is_named};
+use bytes::Bytes;
+use eos_base::PartitionName;
+use eos_commits::is_visible;
+use eos_fold::{Fate, ItemRef, Part};
+use std::alloc::{AllocError, Global};
+
+/// What a row is made of.
+#[derive(Clone, Copy)]
+pub(crate) struct Scene<'a> {
+    /// The transactions that are shown.
+    pub columns: &'a [Column],
+    pub passes: &'a [Pass<'a>],
+    pub spots: &'a [Spot],
+    pub logs: &'a [Part],
+}
+
+// ---- what is of the fault
+
+/// Whether this sign of the transaction is at this place.
+fn is_at(at: At, column: &Column, sign: &Sign) -> bool {
+    match (at, sign) {
+        (
+            At::Offset(place),
+            Sign::Decision { offset, .. }
+            | Sign::Record { offset, .. }
+            | Sign::Commit { offset, .. },
+        ) => place == *offset,
+        (
+            At::Transaction { producer, epoch },
+            Sign::Record { .. } | Sign::Commit { .. } | Sign::Marker(_),
+        ) => { is_of(column, producer, epoch) }
+        (At::Passing(place), Sign::Passed { fate, from, to }) => {
+            is_visible(*fate) && is_within(place, *from, *to)
+        }
+        _ => false,
+    }
+}
+
+fn is_within(offset: u64, from: i64, to: i64) -> bool {
+    (from < 0 || from as u64 <= offset) && 0 < to && offset < to as u64
+}
+
+fn is_of_fault(scene: Scene<'_>, part: &Part, column: &Column, sign: &Sign) -> bool {
+    for spot in scene.spots {
+        if is_named(part, &spot.name) && is_at(spot.at, column, sign) {
+            return true;
+        }
+    }
+    false
+}
+
+// Puts a sign at the end.
+fn push_mark(
+    marks: &mut Vec<Mark>,
+    scene: Scene<'_>,
+    part: &Part,
+    column: usize,
+    sign: Sign,
+) -> Result<(), AllocError> {
+    let Some(of) = scene.columns.get(column) else {
+        return Ok(());
+    };
+    let is_of_fault = is_of_fault(scene, part, of, &sign);
+    marks.push(Mark {
+        column,
+        sign,
+        is_of_fault,
+    })?;
+    Ok(())
+}
+
+// ---- the signs
+
+fn push_decisions(marks: &mut Vec<Mark>, scene: Scene<'_>, part: &Part) -> Result<(), AllocError> {
+    if !is_of_transaction_log(part) {
+        return Ok(());
+    }
+    for i in 0..scene.columns.len() {
+        if let Some(decided) = &scene.columns[i].decided {
+            if decided.partition == part.partition() {
+                let sign = Sign::Decision {
+                    offset: decided.offset,
+                    kind: decided.kind,
+                };
+                push_mark(marks, scene, part, i, sign)?;
+            }
+        }
+    }
+    Ok(())
+}
+
+/// What a data record is, in a partition of the offsets log or not.
+fn sign_of(alloc: Global, of_offsets_log: bool, item: &ItemRef<'_>) -> Result<Sign, AllocError> {
+    let offset = item.offset();
+    let fate = item.fate();
+    if !of_offsets_log {
+        return Ok(Sign::Record { offset, fate });
+    }
+    match commit_of(item) {
+        None => Ok(Sign::Record { offset, fate }),
+        Some((key, committed)) => Ok(Sign::Commit {
+            offset,
+            fate,
+            source: PartitionName {
+                topic: Bytes::copy_from_slice(alloc, key.topic)?,
+                partition: key.partition,
+            },
+            committed,
+        }),
+    }
+}
+
+fn push_records(
+    alloc: Global,
+    marks: &mut Vec<Mark>,
+    scene: Scene<'_>,
+    part: &Part,
+) -> Result<(), AllocError> {
+    let of_offsets_log = is_of_offsets_log(part);
+    let mut items = part.items().cursor();
+    while let Some(item) = items.next() {
+        if let Some(writer) = item.writer() {
+            if let Some(column) = column_of(scene.columns, writer) {
+                let sign = sign_of(alloc, of_offsets_log, &item)?;
+                push_mark(marks, scene, part, column, sign)?;
+            }
+        }
+    }
+    Ok(())
+}
+
+fn push_passes(marks: &mut Vec<Mark>, scene: Scene<'_>, part: &Part) -> Result<(), AllocError> {
+    for pass in scene.passes {
+        if part.topic().as_slice() == pass.topic && part.partition() == pass.partition {
+            let sign = Sign::Passed {
+                fate: pass.fate,
+                from: pass.from,
+                to: pass.to,
+            };
+            push_mark(marks, scene, part, pass.column, sign)?;
+        }
+    }
+    Ok(())
+}
+
+/// The end markers of the transactions that were decided.
+fn push_markers(marks: &mut Vec<Mark>, scene: Scene<'_>, part: &Part) -> Result<(), AllocError> {
+    for marker in part.markers() {
+        for i in 0..scene.columns.len() {
+            let column = &scene.columns[i];
+            if let Some(decided) = &column.decided {
+                if column.producer == marker.producer && decided.marker_epoch == marker.epoch {
+                    push_mark(marks, scene, part, i, Sign::Marker(marker.kind))?;
+                }
+            }
+        }
+    }
+    Ok(())
+}
+
+/// Those of the others: the next ones behind their data.
+fn push_closes(marks: &mut Vec<Mark>, scene: Scene<'_>, part: &Part) -> Result<(), AllocError> {
+    for close in part.closes() {
+        if let Some(i) = column_of(scene.columns, (close.producer, close.epoch)) {
+            if scene.columns[i].decided.is_none() {
+                push_mark(marks, scene, part, i, Sign::Marker(close.kind))?;
+            }
+        }
+    }
+    Ok(())
+}
+
+// ---- places where nothing stands
+
+fn has_spot(marks: &[Mark], scene: Scene<'_>, at: At) -> bool {
+    for mark in marks {
+        if let Some(column) = scene.columns.get(mark.column) {
+            if is_at(at, column, &mark.sign) {
+                return true;
+            }
+        }
+    }
+    false
+}
+
+fn push_spots(marks: &mut Vec<Mark>, scene: Scene<'_>, part: &Part) -> Result<(), AllocError> {
+    for spot in scene.spots {
+        if is_named(part, &spot.name) && !has_spot(marks.as_slice(), scene, spot.at) {
+            push_spot(marks, scene, spot)?;
+        }
+    }
+    Ok(())
+}
+
+fn push_spot(marks: &mut Vec<Mark>, scene: Scene<'_>, spot: &Spot) -> Result<(), AllocError> {
+    let place = match spot.at {
+        At::Offset(offset) => Some(offset),
+        At::Transaction { .. } => None,
+        At::Passing(_) => return Ok(()),
+    };
+    let column = column_of_spot(scene.columns, scene.logs, spot).unwrap_or(0);
+    marks.push(Mark {
+        column,
+        sign: Sign::Spot(place),
+        is_of_fault: true,
+    })?;
+    Ok(())
+}
+
+// ---- rows
+
+fn row_of(alloc: Global, scene: Scene<'_>, part: &Part) -> Result<Row, AllocError> {
+    let mut marks = Vec::new(alloc);
+    push_decisions(&mut marks, scene, part)?;
+    push_records(alloc, &mut marks, scene, part)?;
+    push_passes(&mut marks, scene, part)?;
+    push_markers(&mut marks, scene, part)?;
+    push_closes(&mut marks, scene, part)?;
+    push_spots(&mut marks, scene, part)?;
+    Ok(Row {
+        name: name_of(part)?,
+        marks,
+    })
+}
+
+fn is_internal(part: &Part) -> bool {
+    is_of_offsets_log(part) || is_of_transaction_log(part)
+}
+
+fn push_rows(
+    alloc: Global,
+    rows: &mut Vec<Row>,
+    scene: Scene<'_>,
+    internal: bool,
+) -> Result<(), AllocError> {
+    for part in scene.logs {
+        if is_internal(part) == internal {
+            let row = row_of(alloc, scene, part)?;
+            if !row.marks.is_empty() {
+                rows.push(row)?;
+            }
+        }
+    }
+    Ok(())
+}
+
+/// A row for each partition in which one of the transactions did something or the fault has a place: those of Kafka's internal
+/// topics last, and else by name.
+///
+/// # Errors
+/// Only want of memory.
+pub(crate) fn rows_of(alloc: Global, scene: Scene<'_>) -> Result<Vec<Row>, AllocError> {
+    let mut rows = Vec::new(alloc);
+    push_rows(alloc, &mut rows, scene, false)?;
+    push_rows(alloc, &mut rows, scene, true)?;
+    Ok(rows)
+}

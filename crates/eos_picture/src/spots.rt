@@ -1,0 +1,223 @@
+//! The places of a fault.
+
+use crate::mark::Column;
+use bytes::Bytes;
+use eos_base::PartitionName;
+use eos_check::Fault;
+use eos_claims::{OutputFault, OutputKind, view_claim};
+use eos_commits::{TopicSet, is_visible};
+use eos_evidence::{App, GroupId};
+use eos_fold::{ItemRef, Part};
+use eos_lineage::LineageFault;
+use eos_table::MatchFault;
+use std::alloc::{AllocError, Global};
+
+/// A place of a fault, in one partition.
+#[derive(Drop)]
+pub(crate) struct Spot {
+    pub name: PartitionName,
+    pub at: At,
+}
+
+/// What there is at a place of a fault.
+#[derive(Clone, Copy)]
+pub(crate) enum At {
+    /// A record at this offset, or whatever else stands there.
+    Offset(u64),
+    /// What the transaction of this producer id and epoch did in the partition.
+    Transaction { producer: i64, epoch: i16 },
+    /// The commits that passed this offset of the partition.
+    Passing(u64),
+}
+
+fn clone_name(name: &PartitionName) -> Result<PartitionName, AllocError> {
+    name.clone()
+}
+
+fn transaction_log(alloc: Global, partition: i32) -> Result<PartitionName, AllocError> {
+    Ok(PartitionName {
+        topic: Bytes::copy_from_slice(alloc, b"__transaction_state".as_slice())?,
+        partition,
+    })
+}
+
+fn push_offset(spots: &mut Vec<Spot>, name: PartitionName, offset: u64) -> Result<(), AllocError> {
+    spots.push(Spot {
+        name,
+        at: At::Offset(offset),
+    })?;
+    Ok(())
+}
+
+// ---- between decisions and logs
+
+/// The Prepare records of the transaction, and what it did in the fault's partition.
+fn push_match(
+    alloc: Global,
+    spots: &mut Vec<Spot>,
+    columns: &[Column],
+    fault: &MatchFault,
+) -> Result<(), AllocError> {
+    for column in columns {
+        if is_of(column, fault.producer, fault.epoch) {
+            if let Some(decided) = &column.decided {
+                let name = transaction_log(alloc, decided.partition)?;
+                push_offset(spots, name, decided.offset)?;
+            }
+        }
+    }
+    if let Some(name) = &fault.partition {
+        spots.push(Spot {
+            name: clone_name(name)?,
+            at: At::Transaction {
+                producer: fault.producer,
+                epoch: fault.epoch,
+            },
+        })?;
+    }
+    Ok(())
+}
+
+/// Whether the transaction's data or its end markers have this producer id and epoch.
+pub(crate) fn is_of(column: &Column, producer: i64, epoch: i16) -> bool {
+    if column.producer != producer {
+        return false;
+    }
+    match &column.decided {
+        Some(decided) => column.epoch == epoch || decided.marker_epoch == epoch,
+        None => column.epoch == epoch,
+    }
+}
+
+// ---- outputs
+
+/// The application that the fault is of.
+fn app_of<'a>(apps: &'a [App], group: &Option<GroupId>) -> Option<&'a App> {
+    let Some(group) = group else {
+        return apps.first();
+    };
+    for app in apps {
+        if app.group == *group {
+            return Some(app);
+        }
+    }
+    None
+}
+
+/// Whether the record claims the fault's input, as the output of the fault's number where only those of one number belong together.
+fn is_claim_of(fault: &OutputFault, item: ItemRef<'_>) -> bool {
+    if !is_visible(item.fate()) {
+        return false;
+    }
+    let source = &fault.source;
+    match view_claim(item.into_headers()) {
+        None => false,
+        Some(claim) => {
+            claim.topic == source.partition.topic.as_slice()
+                && claim.partition == source.partition.partition
+                && claim.offset == source.offset
+                && (claim.output == fault.output
+                    || matches!(fault.kind, OutputKind::CountDisagrees))
+        }
+    }
+}
+
+fn push_claims_in(
+    spots: &mut Vec<Spot>,
+    fault: &OutputFault,
+    part: &Part,
+) -> Result<(), AllocError> {
+    let mut items = part.items().cursor();
+    while let Some(item) = items.next() {
+        let offset = item.offset();
+        if is_claim_of(fault, item) {
+            push_offset(spots, name_of(part)?, offset)?;
+        }
+    }
+    Ok(())
+}
+
+/// The name of a partition.
+pub(crate) fn name_of(part: &Part) -> Result<PartitionName, AllocError> {
+    Ok(PartitionName {
+        topic: part.topic().clone()?,
+        partition: part.partition(),
+    })
+}
+
+fn push_claims(
+    alloc: Global,
+    spots: &mut Vec<Spot>,
+    app: &App,
+    logs: &[Part],
+    fault: &OutputFault,
+) -> Result<(), AllocError> {
+    let outputs = TopicSet::of(alloc, app.outputs.as_slice())?;
+    for part in logs {
+        if outputs.has(part.topic().as_slice()) {
+            push_claims_in(spots, fault, part)?;
+        }
+    }
+    Ok(())
+}
+
+fn push_output(
+    alloc: Global,
+    spots: &mut Vec<Spot>,
+    apps: &[App],
+    logs: &[Part],
+    group: &Option<GroupId>,
+    fault: &OutputFault,
+) -> Result<(), AllocError> {
+    if let Some(at) = &fault.at {
+        push_offset(spots, clone_name(&at.partition)?, at.offset)?;
+    }
+    if matches!(
+        fault.kind,
+        OutputKind::Missing | OutputKind::OtherTransaction
+    ) {
+        spots.push(Spot {
+            name: clone_name(&fault.source.partition)?,
+            at: At::Passing(fault.source.offset),
+        })?;
+    }
+    match app_of(apps, group) {
+        None => Ok(()),
+        Some(app) => push_claims(alloc, spots, app, logs, fault),
+    }
+}
+
+/// The places of a fault, that which its line names first. A record that belongs to it twice may stand there twice.
+///
+/// # Errors
+/// Only want of memory.
+pub(crate) fn spots_of(
+    alloc: Global,
+    apps: &[App],
+    logs: &[Part],
+    columns: &[Column],
+    fault: &Fault,
+) -> Result<Vec<Spot>, AllocError> {
+    let mut spots = Vec::new(alloc);
+    match fault {
+        Fault::Partition(fault) => {
+            let name = PartitionName {
+                topic: fault.topic.clone()?,
+                partition: fault.partition,
+            };
+            push_offset(&mut spots, name, fault.offset)?;
+        }
+        Fault::Log(fault) => {
+            let name = transaction_log(alloc, fault.partition)?;
+            push_offset(&mut spots, name, fault.offset)?;
+        }
+        Fault::Match(fault) => push_match(alloc, &mut spots, columns, fault)?,
+        Fault::Lineage(LineageFault::Record(fault)) => {
+            push_offset(&mut spots, clone_name(&fault.partition)?, fault.offset)?;
+        }
+        Fault::Lineage(LineageFault::Output { group, fault }) => {
+            push_output(alloc, &mut spots, apps, logs, group, fault)?;
+        }
+    }
+    Ok(spots)
+}

@@ -1,0 +1,195 @@
+//! The transactions: those that the transaction log decided, in its order, and those that it didn't.
+
+use crate::content::read_content;
+use crate::mark::{Column, Decided};
+use bytes::Bytes;
+use eos_base::{holds, in_order};
+use eos_batch::Kind;
+use eos_fold::{ItemRef, Part};
+use eos_txnlog::{Status, TxnValue, is_skipped};
+use std::alloc::{AllocError, Global};
+use std::collections::BTreeMap;
+
+/// The value of the last unskipped record of each transactional id of a partition; none is a tombstone.
+type LastValues = BTreeMap<Bytes, Option<TxnValue>>;
+
+fn kind_of_status(status: Status) -> Option<Kind> {
+    match status {
+        Status::PrepareCommit => Some(Kind::Commit),
+        Status::PrepareAbort => Some(Kind::Abort),
+        Status::Empty
+        | Status::Ongoing
+        | Status::CompleteCommit
+        | Status::CompleteAbort
+        | Status::Dead
+        | Status::PrepareEpochFence => None,
+    }
+}
+
+/// A place in the transaction log.
+#[derive(Clone, Copy)]
+struct Place {
+    partition: i32,
+    offset: u64,
+}
+
+// Puts the transaction at the end that a record decides, if it decides one.
+fn push_decided(
+    columns: &mut Vec<Column>,
+    place: Place,
+    id: &Bytes,
+    before: Option<&TxnValue>,
+    value: Option<&TxnValue>,
+) -> Result<(), AllocError> {
+    let (Some(before), Some(value)) = (before, value) else {
+        return Ok(());
+    };
+    let Some(kind) = kind_of_status(value.status) else {
+        return Ok(());
+    };
+    let decided = Decided {
+        id: id.clone()?,
+        partition: place.partition,
+        offset: place.offset,
+        kind,
+        marker_epoch: value.epoch,
+    };
+    columns.push(Column {
+        producer: value.producer,
+        epoch: before.epoch,
+        decided: Some(decided),
+    })?;
+    Ok(())
+}
+
+fn last_value<'a>(last: &'a LastValues, id: &Bytes) -> Option<Option<&'a TxnValue>> {
+    match last.get(id) {
+        None => None,
+        Some(value) => Some(value.as_ref()),
+    }
+}
+
+// Takes up a record of a transactional id, unless it is skipped.
+fn take_value(
+    alloc: Global,
+    columns: &mut Vec<Column>,
+    last: &mut LastValues,
+    place: Place,
+    id: Bytes,
+    value: Option<TxnValue>,
+) -> Result<(), AllocError> {
+    let before = last_value(last, &id);
+    let next = value.as_ref();
+    if is_skipped(alloc, before, next)? {
+        return Ok(());
+    }
+    push_decided(columns, place, &id, before.flatten(), next)?;
+    last.insert(id, value)?;
+    Ok(())
+}
+
+fn take_record(
+    alloc: Global,
+    columns: &mut Vec<Column>,
+    last: &mut LastValues,
+    part: &Part,
+    item: &ItemRef<'_>,
+) -> Result<(), AllocError> {
+    let place = Place {
+        partition: part.partition(),
+        offset: item.offset(),
+    };
+    match read_content(alloc, item)? {
+        Err(_) | Ok(None) => Ok(()),
+        Ok(Some((id, value))) => take_value(alloc, columns, last, place, id, value),
+    }
+}
+
+fn take_records(alloc: Global, columns: &mut Vec<Column>, part: &Part) -> Result<(), AllocError> {
+    let mut last = BTreeMap::new(alloc);
+    let mut items = part.items().cursor();
+    while let Some(item) = items.next() {
+        take_record(alloc, columns, &mut last, part, &item)?;
+    }
+    Ok(())
+}
+
+/// Whether it is a partition of the transaction log.
+pub(crate) fn is_of_transaction_log(part: &Part) -> bool {
+    part.topic().as_slice() == b"__transaction_state".as_slice()
+}
+
+/// The transactions that the transaction log decided, in its order, whether or not it keeps its own rule.
+fn decided(alloc: Global, logs: &[Part]) -> Result<Vec<Column>, AllocError> {
+    let mut columns = Vec::new(alloc);
+    for part in logs {
+        if is_of_transaction_log(part) {
+            take_records(alloc, &mut columns, part)?;
+        }
+    }
+    Ok(columns)
+}
+
+// ---- those without a decision
+
+fn keys_of(alloc: Global, columns: &[Column]) -> Result<Vec<(i64, i16)>, AllocError> {
+    let mut keys = Vec::new(alloc);
+    for column in columns {
+        keys.push((column.producer, column.epoch))?;
+    }
+    Ok(in_order(keys))
+}
+
+fn push_undecided(
+    found: &mut Vec<(i64, i16)>,
+    keys: &[(i64, i16)],
+    part: &Part,
+) -> Result<(), AllocError> {
+    let mut items = part.items().cursor();
+    let mut last = None;
+    while let Some(item) = items.next() {
+        if item.writer() == last {
+            continue;
+        }
+        last = item.writer();
+        if let Some(writer) = last {
+            if !holds(keys, &writer) {
+                found.push(writer)?;
+            }
+        }
+    }
+    Ok(())
+}
+
+/// The producer ids and epochs of transactional data of which there is no decision, in ascending order, each once.
+fn undecided(
+    alloc: Global,
+    logs: &[Part],
+    columns: &[Column],
+) -> Result<Vec<(i64, i16)>, AllocError> {
+    let keys = keys_of(alloc, columns)?;
+    let mut found = Vec::new(alloc);
+    for part in logs {
+        push_undecided(&mut found, keys.as_slice(), part)?;
+    }
+    found.sort_unstable();
+    found.dedup();
+    Ok(found)
+}
+
+/// All transactions: those that were decided, in the order of their Prepare records, and then those without one, by producer id and
+/// epoch. A partition whose log has a fault counts as far as its front goes.
+///
+/// # Errors
+/// Only want of memory.
+pub(crate) fn columns_of(alloc: Global, logs: &[Part]) -> Result<Vec<Column>, AllocError> {
+    let mut columns = decided(alloc, logs)?;
+    for (producer, epoch) in undecided(alloc, logs, columns.as_slice())? {
+        columns.push(Column {
+            producer,
+            epoch,
+            decided: None,
+        })?;
+    }
+    Ok(columns)
+}
