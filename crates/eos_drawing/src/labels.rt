@@ -7,10 +7,12 @@ use std::alloc::{AllocError, Global};
 /// How many digits a number has.
 pub(crate) fn digits(number: u64) -> u64 {
     let mut left = number;
-    let mut count = 1;
-    while left >= 10 {
-        left /= 10;
-        count += 1;
+    let mut count = 1u64;
+    for _ in 0..19 {
+        if left >= 10 {
+            left /= 10;
+            count = count.saturating_add(1);
+        }
     }
     count
 }

@@ -32,7 +32,7 @@ fn draw_title(
 ) -> Result<u64, AllocError> {
     let most = most.max(1);
     let mut line = String::new(alloc);
-    let mut count = 0;
+    let mut count = 0u64;
     let mut y = GAP.saturating_add(12);
     for byte in title.as_bytes() {
         if count == most {
@@ -42,7 +42,7 @@ fn draw_title(
             y = y.saturating_add(TITLE_LINE);
         }
         line.push(char::from(*byte))?;
-        count += 1;
+        count = count.saturating_add(1);
     }
     canvas.text(Point { x: GAP, y }, line, Look::Title)?;
     Ok(y.saturating_add(TITLE_LINE))

@@ -44,7 +44,7 @@ pub(crate) fn commit_of<'a>(item: &ItemRef<'a>) -> Option<(KeyRef<'a>, i64)> {
     }
 }
 
-fn last_of(last: &BTreeMap<Source<'_>, i64>, source: &Source<'_>) -> i64 {
+fn last_of<'a>(last: &BTreeMap<Source<'a>, i64>, source: &Source<'a>) -> i64 {
     match last.get(source) {
         Some(offset) => *offset,
         None => 0,

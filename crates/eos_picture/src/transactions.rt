@@ -1,5 +1,14 @@
 //! The transactions: those that the transaction log decided, in its order, and those that it didn't.
 
+ghost use Rattle.std.specs.Prelude.{◌≡◌, ◌++◌, map, Ok, Some, IfOk, OnOk, IsSorted};
+ghost use Rattle.std.specs.List.{flat_map};
+ghost use Rattle.std.specs.Option.{option_copied, option_map};
+ghost use Rattle.eos_table.specs.TransactionLog.{is_transaction_part, transaction_parts, kind_of_status};
+ghost use Rattle.eos_table.specs.steps.Keys.{pair_cmp};
+ghost use Rattle.eos_table.specs.steps.LogCandidates.{state_of};
+ghost use Rattle.eos_log_faults.specs.steps.Gathered.{said, step_at, steps_of, all_steps, next_state};
+ghost use Rattle.eos_picture.specs.Transactions.{column_between, column_at, undecided_column, AreColumns};
+
 use crate::content::read_content;
 use crate::mark::{Column, Decided};
 use bytes::Bytes;
@@ -13,7 +22,9 @@ use std::collections::BTreeMap;
 /// The value of the last unskipped record of each transactional id of a partition; none is a tombstone.
 type LastValues = BTreeMap<Bytes, Option<TxnValue>>;
 
-fn kind_of_status(status: Status) -> Option<Kind> {
+fn kind_of_status(status: Status) -> Option<Kind>
+    ensures { result ≡ kind_of_status status }
+{
     match status {
         Status::PrepareCommit => Some(Kind::Commit),
         Status::PrepareAbort => Some(Kind::Abort),
@@ -40,7 +51,9 @@ fn push_decided(
     id: &Bytes,
     before: Option<&TxnValue>,
     value: Option<&TxnValue>,
-) -> Result<(), AllocError> {
+) -> Result<(), AllocError>
+    ensures { OnOk result (columns.new.items ≡ columns.old.items ++ column_between place.partition place.offset id.now (option_copied before.entry) (option_copied value.entry)) }
+{
     let (Some(before), Some(value)) = (before, value) else {
         return Ok(());
     };
@@ -62,7 +75,9 @@ fn push_decided(
     Ok(())
 }
 
-fn last_value<'a>(last: &'a LastValues, id: &Bytes) -> Option<Option<&'a TxnValue>> {
+fn last_value<'a>(last: &'a LastValues, id: &Bytes) -> Option<Option<&'a TxnValue>>
+    ensures { option_map option_copied result ≡ state_of last.entry.now id.now }
+{
     match last.get(id) {
         None => None,
         Some(value) => Some(value.as_ref()),
@@ -77,7 +92,10 @@ fn take_value(
     place: Place,
     id: Bytes,
     value: Option<TxnValue>,
-) -> Result<(), AllocError> {
+) -> Result<(), AllocError>
+    ensures columns { OnOk result (columns.new.items ≡ columns.old.items ++ flat_map column_at (step_at (state_of last.old) place.partition place.offset (Ok (Some (id, value))))) }
+    ensures last { OnOk result (state_of last.new ≡ next_state (state_of last.old) (Ok (Some (id, value)))) }
+{
     let before = last_value(last, &id);
     let next = value.as_ref();
     if is_skipped(alloc, before, next)? {
@@ -94,7 +112,10 @@ fn take_record(
     last: &mut LastValues,
     part: &Part,
     item: &ItemRef<'_>,
-) -> Result<(), AllocError> {
+) -> Result<(), AllocError>
+    ensures columns { OnOk result (columns.new.items ≡ columns.old.items ++ flat_map column_at (step_at (state_of last.old) part.now.number item.now.offset (said item.now))) }
+    ensures last { OnOk result (state_of last.new ≡ next_state (state_of last.old) (said item.now)) }
+{
     let place = Place {
         partition: part.partition(),
         offset: item.offset(),
@@ -105,7 +126,9 @@ fn take_record(
     }
 }
 
-fn take_records(alloc: Global, columns: &mut Vec<Column>, part: &Part) -> Result<(), AllocError> {
+fn take_records(alloc: Global, columns: &mut Vec<Column>, part: &Part) -> Result<(), AllocError>
+    ensures { OnOk result (columns.new.items ≡ columns.old.items ++ flat_map column_at (steps_of part.now)) }
+{
     let mut last = BTreeMap::new(alloc);
     let mut items = part.items().cursor();
     while let Some(item) = items.next() {
@@ -115,12 +138,16 @@ fn take_records(alloc: Global, columns: &mut Vec<Column>, part: &Part) -> Result
 }
 
 /// Whether it is a partition of the transaction log.
-pub(crate) fn is_of_transaction_log(part: &Part) -> bool {
+pub(crate) fn is_of_transaction_log(part: &Part) -> bool
+    ensures { result ≡ is_transaction_part part.now }
+{
     part.topic().as_slice() == b"__transaction_state".as_slice()
 }
 
 /// The transactions that the transaction log decided, in its order, whether or not it keeps its own rule.
-fn decided(alloc: Global, logs: &[Part]) -> Result<Vec<Column>, AllocError> {
+fn decided(alloc: Global, logs: &[Part]) -> Result<Vec<Column>, AllocError>
+    ensures { IfOk result (λ columns. columns.items ≡ flat_map column_at (all_steps (transaction_parts logs.now))) }
+{
     let mut columns = Vec::new(alloc);
     for part in logs {
         if is_of_transaction_log(part) {
@@ -132,7 +159,9 @@ fn decided(alloc: Global, logs: &[Part]) -> Result<Vec<Column>, AllocError> {
 
 // ---- those without a decision
 
-fn keys_of(alloc: Global, columns: &[Column]) -> Result<Vec<(i64, i16)>, AllocError> {
+fn keys_of(alloc: Global, columns: &[Column]) -> Result<Vec<(i64, i16)>, AllocError>
+    ensures sorted { IfOk result (λ keys. IsSorted pair_cmp keys.items) }
+{
     let mut keys = Vec::new(alloc);
     for column in columns {
         keys.push((column.producer, column.epoch))?;
@@ -144,7 +173,9 @@ fn push_undecided(
     found: &mut Vec<(i64, i16)>,
     keys: &[(i64, i16)],
     part: &Part,
-) -> Result<(), AllocError> {
+) -> Result<(), AllocError>
+    requires { IsSorted pair_cmp keys.now }
+{
     let mut items = part.items().cursor();
     let mut last = None;
     while let Some(item) = items.next() {
@@ -182,14 +213,27 @@ fn undecided(
 ///
 /// # Errors
 /// Only want of memory.
-pub(crate) fn columns_of(alloc: Global, logs: &[Part]) -> Result<Vec<Column>, AllocError> {
+pub(crate) fn columns_of(alloc: Global, logs: &[Part]) -> Result<Vec<Column>, AllocError>
+    ensures { IfOk result (λ columns. AreColumns logs.now columns.items) }
+{
     let mut columns = decided(alloc, logs)?;
-    for (producer, epoch) in undecided(alloc, logs, columns.as_slice())? {
+    let others = undecided(alloc, logs, columns.as_slice())?;
+    push_undecided_columns(&mut columns, others.as_slice())?;
+    Ok(columns)
+}
+
+fn push_undecided_columns(
+    columns: &mut Vec<Column>,
+    others: &[(i64, i16)],
+) -> Result<(), AllocError>
+    ensures { OnOk result (columns.new.items ≡ columns.old.items ++ map undecided_column others.now) }
+{
+    for writer in others {
         columns.push(Column {
-            producer,
-            epoch,
+            producer: writer.0,
+            epoch: writer.1,
             decided: None,
         })?;
     }
-    Ok(columns)
+    Ok(())
 }

@@ -1,5 +1,7 @@
 //! Which transactions are shown: those around the fault.
 
+ghost use Rattle.std.specs.Prelude.{◌<◌, length, IfSome};
+
 use crate::mark::Column;
 use crate::spots::{At, Spot, is_of};
 use crate::transactions::is_of_transaction_log;
@@ -7,7 +9,9 @@ use eos_base::PartitionName;
 use eos_fold::Part;
 
 /// The place of the transaction whose data have this producer id and epoch.
-pub(crate) fn column_of(columns: &[Column], writer: (i64, i16)) -> Option<usize> {
+pub(crate) fn column_of(columns: &[Column], writer: (i64, i16)) -> Option<usize>
+    ensures inside { IfSome result (λ i. i < length columns.now) }
+{
     for i in 0..columns.len() {
         if columns[i].producer == writer.0 && columns[i].epoch == writer.1 {
             return Some(i);

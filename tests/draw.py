@@ -1,0 +1,510 @@
+#!/usr/bin/env -S python3 -B
+"""The pictures that `draw` makes, against a second reading of the logs.
+
+    python3 -B tests/draw.py PROGRAM [REFUSE.SO]
+
+Each picture is read by Python's XML parser; it may have no script and name nothing outside of itself. Its title has to be the line of `check`, its
+columns the transactions, and it has to have as many shapes of each kind as tests/plain_logs.py finds things to be drawn. Pictures of logs with
+hostile texts are among them. Where rsvg-convert or chromium is there, some are rendered and looked at. Run it in the repository's top folder.
+The last line is 'N passed, N failed'.
+"""
+import collections
+import os
+import random
+import resource
+import shutil
+import signal
+import struct
+import subprocess
+import sys
+import tempfile
+import xml.etree.ElementTree as xml
+
+import made_evidence
+import plain_logs
+import reference
+from made_evidence import text
+from plain_logs import ABORT, COMMIT, OFFSETS, STATES
+from random_evidence import Folder, Piece, sealed
+
+SPACE = "{http://www.w3.org/2000/svg}"
+TAGS = {SPACE + name for name in ("svg", "title", "rect", "line", "path", "text")}
+ATTRIBUTES = set(
+    "xmlns width height viewBox font-family font-size font-weight x y x1 y1 x2 y2 d class fill stroke stroke-width stroke-dasharray".split()
+)
+# one of each stands in the legend, but for the arc
+LEGEND = collections.Counter(["committed", "aborted", "open", "commit-marker", "abort-marker", "passed", "fault"])
+MOST = 12
+SWITCHES = "keep-duplicates no-fence no-bump lose-marker swap-marker hide-listing ignore-generation".split()
+MISHAPS = "lost-output repeated-output early-output wrong-count wrong-number foreign-source other-transaction".split()
+HOSTILE = [
+    b"<script>alert(1)</script>",
+    b"\" onload=\"x' <&>",
+    b"]]>&amp;&#0;&lt;!--",
+    bytes(range(32)) + b"\x7f",
+    b"\xff\xfe\x80\xc0\xed\xa0\x80\xef\xbf\xbf",
+    "zwei Bücher 漢字 \u2028".encode(),
+    b"",
+    b"a" * 300,
+]
+
+passed = failed = 0
+
+
+def same(what, found, want):
+    global passed, failed
+    if found == want:
+        passed += 1
+    else:
+        failed += 1
+        print(f"FAILED: {what}: {found}, not {want}")
+
+
+def run(*words, before=None, **settings):
+    done = subprocess.run(
+        [program, *words], stdin=subprocess.DEVNULL, capture_output=True, preexec_fn=before, env=dict(os.environ, **settings), timeout=100
+    )
+    return done.returncode, done.stdout.decode(), done.stderr.decode()
+
+
+# ---- what is to be drawn
+
+
+def kind_of(name):
+    return COMMIT if name == 2 else ABORT
+
+
+class Transaction:
+    def __init__(self, producer, epoch, name=None, home=None, offset=None, kind=None, marker_epoch=None):
+        self.writer, self.name, self.home, self.offset, self.kind, self.marker_epoch = (producer, epoch), name, home, offset, kind, marker_epoch
+
+
+def transactions(parts):
+    """In the order of the Prepare records, and behind them those without one."""
+    states, _ = reference.read_states([part for part in parts if part.name[0] == STATES])
+    found = []
+    for part, offset, name, state, before in states:
+        # a tombstone has no producer id
+        if state.status in reference.PREPARES and before is not None and before.producer is not None:
+            kind = reference.PREPARES[state.status]
+            found.append(Transaction(state.producer, before.epoch, name, part.name, offset, kind, state.epoch))
+    decided = {it.writer for it in found}
+    writers = {(b.producer, b.epoch) for part in parts for b in part.batches if b.word == "txn"}
+    return found + [Transaction(*writer) for writer in sorted(writers - decided)]
+
+
+def look_of(part, batch):
+    marker = plain_logs.next_marker(part, batch)
+    return "open" if marker is None else "committed" if marker.word == COMMIT else "aborted"
+
+
+def commit_in(part, record):
+    """The group's partition and the offset, where a record of the offsets log commits one."""
+    try:
+        key = plain_logs.offset_key(record.key)
+        return key and record.value is not None and (key, plain_logs.offset_value(record.value))
+    except (plain_logs.Refused, TypeError):
+        return None
+
+
+def shapes_of(parts, shown):
+    """How many shapes of each kind stand for the things of these transactions; the greatest number of one cell; and the rows."""
+    shapes, cells, rows = collections.Counter(), collections.Counter(), set()
+    place_of = {}
+    for place, it in enumerate(shown):
+        place_of.setdefault(it.writer, place)
+
+    def add(look, row, place, group):
+        shapes[look] += 1
+        rows.add(row)
+        cells[row, place, group] += 1
+
+    names = {part.name for part in parts}
+    for place, it in enumerate(shown):
+        if it.kind:
+            add("committed" if it.kind == COMMIT else "aborted", it.home, place, "box")
+    for part in parts:
+        last = {}
+        for batch in part.batches:
+            place = place_of.get((batch.producer, batch.epoch)) if batch.word == "txn" else None
+            if plain_logs.is_marker(batch):
+                for place, it in enumerate(shown):
+                    if it.kind and (batch.producer, batch.epoch) == (it.writer[0], it.marker_epoch):
+                        add(f"{batch.word}-marker", part.name, place, "marker")
+            elif batch.word in ("txn", "plain"):
+                look = look_of(part, batch) if batch.word == "txn" else "committed"
+                for record in batch.records:
+                    commit = part.name[0] == OFFSETS and commit_in(part, record)
+                    if place is not None:
+                        add(look, part.name, place, "line" if commit else "box")
+                    if commit:
+                        key, offset = commit
+                        if place is not None and key[1:] in names:
+                            add("passed" if look == "committed" else "not-passed", key[1:], place, "line")
+                        if look == "committed":
+                            last[key] = offset
+        closed = set()
+        for batch in part.batches:
+            place = place_of.get((batch.producer, batch.epoch)) if batch.word == "txn" else None
+            if place is not None and not shown[place].kind:
+                marker = plain_logs.next_marker(part, batch)
+                if marker and (place, marker.epoch, marker.word) not in closed:
+                    closed.add((place, marker.epoch, marker.word))
+                    add(f"{marker.word}-marker", part.name, place, "marker")
+    return shapes, max(cells.values(), default=0), rows
+
+
+# ---- a picture
+
+
+def headings(root):
+    """The first lines above the columns."""
+    return [it.text for it in root.iter(SPACE + "text") if it.get("class") == "heading"]
+
+
+def shortened(line, most=30):
+    return line if len(line) <= most else line[: most - 2] + ".."
+
+
+def first_line(place, it):
+    return shortened(f"T{place + 1} " + ("undecided" if it.name is None else reference.escaped(it.name)))
+
+
+def drawn(folder, *words):
+    """The status, what was printed, and the text of the picture, which is taken away."""
+    path = os.path.join(scratch, "picture.svg")
+    status, printed, told = run("draw", *words, folder, path)
+    data = None
+    if os.path.exists(path):
+        with open(path, "rb") as file:
+            data = file.read()
+        os.remove(path)
+    return status, printed, told, data
+
+
+def is_harmless(data):
+    data.decode("ascii")
+    lower = data.lower()
+    return not any(word in lower for word in (b"<script", b"href", b"url(", b"<style", b"<!", b"<?", b"<foreignobject", b"<image", b"<use"))
+
+
+def check_picture(folder, around=None, number=None):
+    what = f"draw {folder} {around} {number}"
+    words = [*(["--around", str(around)] if around else []), *(["--fault", str(number)] if number else [])]
+    lines = run("check", "--quiet", *(["--all"] if number else []), folder)
+    status, printed, told, data = drawn(folder, *words)
+    same(f"{what}: status", (status, told), (lines[0], ""))
+    if data is None:
+        same(f"{what}: picture", None, "one")
+        return None
+    same(f"{what}: harmless", is_harmless(data), True)
+    root = xml.fromstring(data)
+    same(f"{what}: tags", {it.tag for it in root.iter()} - TAGS, set())
+    same(f"{what}: attributes", {name for it in root.iter() for name in it.attrib} - ATTRIBUTES, set())
+    line = lines[1].splitlines()[number - 1 if number else 0]
+    same(f"{what}: name", root.find(SPACE + "title").text, line)
+    same(f"{what}: title", "".join(it.text for it in root.iter(SPACE + "text") if it.get("class") == "title"), line)
+    check_shapes(what, folder, root, printed, around or 6, line)
+    return root
+
+
+def check_shapes(what, folder, root, printed, around, line):
+    _, parts = plain_logs.read_folder(folder)
+    every = transactions(parts)
+    heads = headings(root)
+    before = int(heads[0].split()[0][1:]) - 1 if heads else 0
+    shown = every[before : before + len(heads)]
+    same(f"{what}: columns", heads, [first_line(before + i, it) for i, it in enumerate(shown)])
+    if line.startswith("yes"):
+        same(f"{what}: window", (before, len(heads)), (0, min(len(every), 2 * around)))
+    else:
+        same(f"{what}: window", len(heads) <= 2 * around + 1 or before == 0, True)
+    middle = middle_of(every, parts, line)
+    if middle is not None:
+        start = max(0, middle - around)
+        same(f"{what}: middle", (before, len(heads)), (start, min(len(every), middle + around + 1) - start))
+    shapes, most, rows = shapes_of(parts, shown)
+    found = collections.Counter(it.get("class") for it in root.iter() if it.tag in (SPACE + "rect", SPACE + "path"))
+    if most <= MOST:
+        wanted = shapes + LEGEND
+        kinds = ["committed", "aborted", "open", "commit-marker", "abort-marker", "passed", "not-passed"]
+        same(f"{what}: shapes", {it: found[it] for it in kinds}, {it: wanted[it] for it in kinds})
+    same(f"{what}: columns drawn", found["column"], len(heads))
+    drawn_rows = sum(1 for it in root.iter(SPACE + "line"))
+    same(f"{what}: printed", printed, f"drew columns={len(heads)} rows={drawn_rows}\n")
+    same(f"{what}: rows", drawn_rows == len(rows) or (drawn_rows > len(rows) and line.startswith("no")), True)
+    same(f"{what}: arcs", found["fault-arc"], max(0, found["fault"] - 2))
+    width, height = float(root.get("width")), float(root.get("height"))
+    same(f"{what}: inside", [it.attrib for it in root.iter(SPACE + "rect") if not is_inside(it, width, height)], [])
+
+
+def is_inside(it, width, height):
+    x, y, w, h = (float(it.get(name)) for name in ("x", "y", "width", "height"))
+    return 0 <= x and 0 <= y and x + w <= width and y + h <= height
+
+
+def middle_of(every, parts, line):
+    """Where the fault names the place of a record of a transaction: that transaction's place."""
+    at = [word[3:] for word in line.split() if word.startswith("at=")]
+    if not at:
+        return None
+    name, offset = at[0].rsplit(":", 1)
+    topic, number = name.rsplit("-", 1)
+    for part in parts:
+        if part.name == (topic.encode(), int(number)):
+            for batch, place, _ in plain_logs.records_of(part):
+                if place == int(offset) and batch.word == "txn":
+                    return next((i for i, it in enumerate(every) if it.writer == (batch.producer, batch.epoch)), None)
+    return None
+
+
+# ---- folders
+
+
+def kept_folders():
+    for part, every in ("stories", 1), ("real-evidence", 2), ("evidence", 4):
+        with open(os.path.join("tests", part, "expected.tsv"), encoding="utf-8") as file:
+            names = [name for name, status, _ in (line.split("\t", 2) for line in file) if status != "2"]
+        yield from (os.path.join("tests", part, name) for name in names[::every])
+    yield os.path.join("tests", "simulated", "seed-7")
+
+
+def simulated_folders():
+    for flag, names in ("--switch", SWITCHES), ("--mishap", MISHAPS):
+        for seed, name in enumerate(names):
+            path = os.path.join(scratch, name)
+            run("simulate", "--seed", str(seed), "--events", "300", flag, name, path)
+            if os.path.isdir(path):
+                yield path
+
+
+def hostile_folder(path):
+    """A folder whose ids, groups and committed topics are hostile texts, and whose transactions are committed, aborted and left open."""
+    maker = made_evidence.Maker(random.Random(3), sealed)
+    home, offsets, source = maker.parts[STATES][0], maker.parts[OFFSETS][0], maker.parts["in"][0]
+    for n, bad in enumerate(HOSTILE):
+        worker = {"id": bad, "producer": 1000 + n, "epoch": 0, "home": home}
+        listed = [source, offsets]
+        maker.say(worker, 0)
+        maker.say(worker, 1, listed)
+        maker.append(source, [(bad, bad, [(bad, bad)])], 1000 + n, 0, 16)
+        key = b"\0\1" + text(bad) + text(bad) + struct.pack(">i", n)
+        maker.append(offsets, [(key, struct.pack(">hq", 0, n) + text(bad) + bytes(8), [])], 1000 + n, 0, 16)
+        worker["epoch"] = 1
+        maker.say(worker, 2 + n % 2, listed)
+        for name in listed if n < len(HOSTILE) - 1 else []:
+            maker.marker(name, 1000 + n, 1, 1 - n % 2)
+        maker.say(worker, 4 + n % 2)
+    folder = Folder.__new__(Folder)
+    folder.manifest = {"version": 2, "apps": maker.apps, "ends": dict(maker.lengths)}
+    folder.logs = {name: [Piece(it) for it in log] for name, log in maker.logs.items()}
+    folder.write(path)
+    return path
+
+
+def made_folders():
+    for seed in range(12):
+        path = os.path.join(scratch, f"made-{seed}")
+        Folder(rng=random.Random(seed)).write(path)
+        yield path
+
+
+def damaged_folders(path):
+    """The folder with each partition cut in its middle, and with a byte of it changed."""
+    for name in sorted(os.listdir(path)):
+        segment = os.path.join(path, name, "0" * 20 + ".log")
+        if os.path.isfile(segment) and os.path.getsize(segment) > 100:
+            for way in "cut", "changed":
+                copy = os.path.join(scratch, f"{way}-{name}")
+                shutil.copytree(path, copy)
+                with open(os.path.join(copy, name, "0" * 20 + ".log"), "r+b") as file:
+                    size = os.path.getsize(file.name)
+                    if way == "cut":
+                        file.truncate(size // 2)
+                    else:
+                        file.seek(size // 2)
+                        byte = file.read(1)[0]
+                        file.seek(size // 2)
+                        file.write(bytes([byte ^ 1]))
+                yield copy
+
+
+# ---- what is refused
+
+
+def refused(what, words, message, before=None, status=2):
+    path = words[-1]
+    was = os.path.exists(path)
+    found, printed, told = run(*words, before=before)
+    same(what, (found, printed, told.splitlines()[:1], os.path.exists(path)), (status, "", [message], was))
+
+
+def no_bytes():
+    signal.signal(signal.SIGXFSZ, signal.SIG_IGN)
+    resource.setrlimit(resource.RLIMIT_FSIZE, (100, 100))
+
+
+def refusals():
+    good, bad = "tests/evidence/row-yes-2", "tests/stories/34-dup-across-transactions"
+    there, new = os.path.join(scratch, "there.svg"), os.path.join(scratch, "new.svg")
+    with open(there, "w", encoding="utf-8") as file:
+        file.write("mine")
+    refused("a file that is there", ["draw", good, there], f"eoscheck: cannot write {there}: it is there already")
+    with open(there, encoding="utf-8") as file:
+        same("its bytes", file.read(), "mine")
+    refused("a file in no folder", ["draw", good, "absent/new.svg"], "eoscheck: cannot write absent/new.svg: no such folder")
+    refused("a full disk", ["draw", good, new], f"eoscheck: cannot write {new}", before=no_bytes)
+    refused("a fault at yes", ["draw", "--fault", "1", good, new], "eoscheck: there are 0 faults")
+    refused("a fault past the list", ["draw", "--fault", "2", bad, new], "eoscheck: there are 1 faults")
+    refused("a fault far past it", ["draw", "--fault", str(2**64 - 1), bad, new], "eoscheck: there are 1 faults")
+    for name in "28-end-as-string", "29-json-comma":
+        folder = os.path.join("tests/stories", name)
+        if os.path.isdir(folder):
+            status, _, told = run("check", folder)
+            found = run("draw", folder, new)
+            same(f"{name}: as check", found, (status, "", told))
+    status, _, told = run("check", "absent")
+    same("no folder: as check", run("draw", "absent", new), (status, "", told))
+    for words in ["draw", good], ["draw"], ["draw", "--fault", "0", good, new], ["draw", "--around", "0", good, new], ["draw", "--around", "101", good, new]:
+        found = run(*words)
+        same(" ".join(words), (found[0], found[1], os.path.exists(new)), (2, "", False))
+    with open("/dev/full", "wb") as full:
+        done = subprocess.run([program, "draw", good, new], stdout=full, stderr=subprocess.PIPE, timeout=100)
+    same("standard output is full", (done.returncode, done.stderr.decode()), (2, "eoscheck: cannot write -\n"))
+    os.remove(new)
+
+
+def refuse_each(library):
+    """Each allocation of a run refused: the same picture, or none and no file."""
+    folder = "tests/stories/34-dup-across-transactions"
+    want = drawn(folder)
+    path = os.path.join(scratch, "picture.svg")
+    for at in list(range(1, 200, 7)) + list(range(200, 4000, 131)):
+        found = run("draw", folder, path, LD_PRELOAD=library, REFUSE_AT=str(at))
+        if found[0] == 3:
+            same(f"allocation {at}", (found[1:], os.path.exists(path)), (("", "eoscheck: out of memory\n"), False))
+        else:
+            with open(path, "rb") as file:
+                same(f"allocation {at}", (*found, file.read()), want)
+            os.remove(path)
+
+
+# ---- rendered
+
+
+def red_pixels(rows):
+    return sum(1 for row in rows for pixel in row if pixel[0] > 180 and pixel[1] < 60 and pixel[2] < 60)
+
+
+def pixels_of(path):
+    """The rows of a PNG, by rsvg-convert or chromium (eight bits, true colour, no interlacing)."""
+    import zlib
+
+    with open(path, "rb") as file:
+        data = file.read()
+    at, body = 8, b""
+    while at < len(data):
+        size, name = struct.unpack_from(">I4s", data, at)
+        if name == b"IHDR":
+            width, height, depth, colour = struct.unpack_from(">IIBB", data, at + 8)
+        if name == b"IDAT":
+            body += data[at + 8 : at + 8 + size]
+        at += 12 + size
+    step = {2: 3, 6: 4}[colour]
+    assert depth == 8
+    raw, rows, last = zlib.decompress(body), [], bytes(width * step)
+    for y in range(height):
+        line = raw[y * (width * step + 1) : (y + 1) * (width * step + 1)]
+        way, row = line[0], bytearray(line[1:])
+        for x in range(len(row)):
+            left = row[x - step] if x >= step else 0
+            up, corner = last[x], last[x - step] if x >= step else 0
+            if way == 4:
+                guess = left + up - corner
+                near = min((abs(guess - left), 0, left), (abs(guess - up), 1, up), (abs(guess - corner), 2, corner))[2]
+            else:
+                near = (0, left, up, (left + up) // 2)[way]
+            row[x] = (row[x] + near) & 255
+        rows.append([tuple(row[x : x + 3]) for x in range(0, len(row), step)])
+        last = bytes(row)
+    return rows
+
+
+def rendered(name, command):
+    folder = "tests/stories/34-dup-across-transactions"
+    path, image = os.path.join(scratch, "look.svg"), os.path.join(scratch, "look.png")
+    run("draw", folder, path)
+    root = xml.parse(path).getroot()
+    width, height = int(root.get("width")), int(root.get("height"))
+    done = subprocess.run(command(path, image, width, height), stdout=subprocess.DEVNULL, stderr=subprocess.DEVNULL, cwd=scratch, timeout=100)
+    if done.returncode != 0 or not os.path.exists(image):
+        print(f"{name} gave no image: skipped")
+        os.remove(path)
+        return
+    rows = pixels_of(image)
+    same(f"{name}: size", (len(rows[0]), len(rows)), (width, height))
+    same(f"{name}: red", red_pixels(rows) > 150, True)
+    for it in root.iter(SPACE + "rect"):
+        if it.get("class") in ("committed", "aborted", "open", "fault") and int(it.get("width")) < 40:
+            x, y = int(it.get("x")), int(it.get("y"))
+            look = {"committed": (0, 0x72, 0xB2), "aborted": (0xD4, 0xD4, 0xD4), "open": (255, 255, 255), "fault": None}[it.get("class")]
+            if look:
+                same(f"{name}: {it.get('class')} at {x},{y}", rows[y + 2][x + 2], look)
+            else:
+                same(f"{name}: ring at {x},{y}", red_pixels([[rows[y][x + 8]]]), 1)
+    os.remove(path)
+    os.remove(image)
+
+
+def render():
+    ways = [("rsvg-convert", lambda path, image, w, h: ["rsvg-convert", "-o", image, path])]
+    for browser in "chromium", "chromium-browser", "google-chrome":
+        if shutil.which(browser):
+            ways.append((browser, lambda path, image, w, h, browser=browser: [
+                browser, "--headless", "--no-sandbox", "--disable-gpu", "--hide-scrollbars", "--force-color-profile=srgb",
+                f"--screenshot={image}", f"--window-size={w},{h}", "file://" + path]))
+            break
+    else:
+        print("no chromium: not looked at there")
+    for name, command in ways:
+        if shutil.which(name):
+            rendered(name, command)
+        else:
+            print(f"no {name}: not looked at there")
+
+
+def main():
+    for folder in kept_folders():
+        check_picture(folder)
+    root = check_picture("tests/stories/34-dup-across-transactions")
+    rings = [it for it in root.iter(SPACE + "rect") if it.get("class") == "fault"]
+    same("34: rings, and that of the legend", len(rings), 3)
+    for around in 1, 2, 100:
+        check_picture("tests/stories/34-dup-across-transactions", around)
+        check_picture("tests/simulated/seed-7", around)
+    check_picture("tests/stories/09-misspelled-group", None, 3)
+    for folder in simulated_folders():
+        check_picture(folder)
+        check_picture(folder, 2)
+    for folder in made_folders():
+        check_picture(folder)
+    hostile = hostile_folder(os.path.join(scratch, "hostile"))
+    check_picture(hostile)
+    check_picture(hostile, 100)
+    for folder in damaged_folders(os.path.join("tests", "stories", "34-dup-across-transactions")):
+        check_picture(folder)
+    for folder in damaged_folders(hostile):
+        check_picture(folder)
+        shutil.rmtree(folder)
+    refusals()
+    if len(sys.argv) > 2:
+        refuse_each(os.path.abspath(sys.argv[2]))
+    render()
+    print(f"{passed} passed, {failed} failed")
+    sys.exit(1 if failed else 0)
+
+
+if __name__ == "__main__":
+    program = os.path.abspath(sys.argv[1])
+    with tempfile.TemporaryDirectory() as scratch:
+        main()
