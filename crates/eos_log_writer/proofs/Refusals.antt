@@ -8,6 +8,8 @@ use Rattle.std.proofs.lemmas.List.Elements.{All-take}
 use Rattle.std.specs.Int.{w64, cast_signed, cast_unsigned, to_be_bytes}
 use Rattle.std.proofs.lemmas.Int.{of_z-to_z, ints}
 use Rattle.eos_wire.specs.Numbers.{i16_text, i64_text}
+use Rattle.eos_fields.specs.declared.form.Form.TheVariants.{Plain}
+use Rattle.eos_fields.specs.Writing.{string_text}
 use Rattle.eos_offsets.specs.Writing as offsets
 use Rattle.eos_txnlog.specs.declared.status.Status.{Status as TxnStatus}
 use Rattle.eos_txnlog.specs.declared.value.TxnValue.{TxnValue}
@@ -107,7 +109,7 @@ next_taken f e all s i n l h is t = subst (λ x. IsOk (added e x)) (sym t) (at (
 
 pub same_bytes : (v : ℕ) → v < 2 ^ 64 → offsets.value_bytes (cast_signed w64 v) (pos 3) ≡ offsets.value_bytes (pos v) (pos 3)
 unfolding offsets.value_bytes i64_text
-same_bytes v l = ap (λ n. i16_text (pos 3) ++ (to_be_bytes w64 n ++ (offsets.leader_epoch_text (pos 3) ++ (offsets.string_text [] ++ (i64_text (pos 0) ++ offsets.expire_timestamp_text (pos 3)))))) (of_z-to_z w64 v l ∙ sym (mod-lt-same v l))
+same_bytes v l = ap (λ n. i16_text (pos 3) ++ (to_be_bytes w64 n ++ (offsets.leader_epoch_text (pos 3) ++ (string_text Plain [] ++ (i64_text (pos 0) ++ offsets.expire_timestamp_text (pos 3)))))) (of_z-to_z w64 v l ∙ sym (mod-lt-same v l))
   where
     mod-lt-same : (v : ℕ) → v < 2 ^ 64 → cast_unsigned w64 (pos v) ≡ v
     mod-lt-same v l = grind (arith, ints, l)

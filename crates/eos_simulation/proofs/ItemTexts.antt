@@ -11,6 +11,8 @@ use Rattle.eos_batch.specs.Encoding.{batch_text_of}
 use Rattle.eos_batch.specs.Text.{IsBatchText}
 use Rattle.eos_batch.specs.steps.Writing.{HasRecordWidths}
 use Rattle.eos_txnlog.specs.Writing.{write_key}
+use Rattle.eos_fields.specs.declared.form.Form.TheVariants.{Plain}
+use Rattle.eos_fields.specs.Writing.{string_text}
 use Rattle.eos_offsets.specs.Writing as offsets
 use Rattle.eos_machine.specs.declared.config.Config.{Config}
 use Rattle.eos_machine.specs.declared.item.Claim.{Claim}
@@ -65,23 +67,23 @@ headers_bytes : (x : Option Claim) → IsBytes (claimed_topic x) → AreHeaders 
 headers_bytes None h = tt
 headers_bytes (Some x) h = headers_of_claim x h
 
-named_bytes : (name : List ℕ) → IsBytes name → IsBytes (offsets.string_text name)
+named_bytes : (name : List ℕ) → IsBytes name → IsBytes (string_text Plain name)
 named_bytes name h = IsBytes-append (i16_text (pos (length name))) name (i16_bytes (pos (length name))) h
 
 offset_key : (q : ℕ) → IsBytes (bytes_of (offsets.write_key (record { group = group; topic = input_topic; partition = pos q })))
 unfolding offsets.key_bytes
 offset_key q =
-    IsBytes-append (i16_text (pos 1)) (offsets.string_text group ++ (offsets.string_text input_topic ++ i32_text (pos q))) (i16_bytes (pos 1))
-    (IsBytes-append (offsets.string_text group) (offsets.string_text input_topic ++ i32_text (pos q)) (named_bytes group (known_bytes group refl))
-    (IsBytes-append (offsets.string_text input_topic) (i32_text (pos q)) (named_bytes input_topic (known_bytes input_topic refl)) (i32_bytes (pos q))))
+    IsBytes-append (i16_text (pos 1)) (string_text Plain group ++ (string_text Plain input_topic ++ i32_text (pos q))) (i16_bytes (pos 1))
+    (IsBytes-append (string_text Plain group) (string_text Plain input_topic ++ i32_text (pos q)) (named_bytes group (known_bytes group refl))
+    (IsBytes-append (string_text Plain input_topic) (i32_text (pos q)) (named_bytes input_topic (known_bytes input_topic refl)) (i32_bytes (pos q))))
 
 offset_value : (q v : ℕ) → IsBytes (bytes_of (offsets.write_value (record { group = group; topic = input_topic; partition = pos q; offset = pos v }) (pos 3)))
 unfolding offsets.value_bytes
 offset_value q v =
-    IsBytes-append (i16_text (pos 3)) (i64_text (pos v) ++ (i32_text (negsuc 0) ++ (offsets.string_text [] ++ (i64_text (pos 0) ++ [])))) (i16_bytes (pos 3))
-    (IsBytes-append (i64_text (pos v)) (i32_text (negsuc 0) ++ (offsets.string_text [] ++ (i64_text (pos 0) ++ []))) (i64_bytes (pos v))
-    (IsBytes-append (i32_text (negsuc 0)) (offsets.string_text [] ++ (i64_text (pos 0) ++ [])) (i32_bytes (negsuc 0))
-    (IsBytes-append (offsets.string_text []) (i64_text (pos 0) ++ []) (named_bytes [] no_bytes) (IsBytes-append (i64_text (pos 0)) [] (i64_bytes (pos 0)) no_bytes))))
+    IsBytes-append (i16_text (pos 3)) (i64_text (pos v) ++ (i32_text (negsuc 0) ++ (string_text Plain [] ++ (i64_text (pos 0) ++ [])))) (i16_bytes (pos 3))
+    (IsBytes-append (i64_text (pos v)) (i32_text (negsuc 0) ++ (string_text Plain [] ++ (i64_text (pos 0) ++ []))) (i64_bytes (pos v))
+    (IsBytes-append (i32_text (negsuc 0)) (string_text Plain [] ++ (i64_text (pos 0) ++ [])) (i32_bytes (negsuc 0))
+    (IsBytes-append (string_text Plain []) (i64_text (pos 0) ++ []) (named_bytes [] no_bytes) (IsBytes-append (i64_text (pos 0)) [] (i64_bytes (pos 0)) no_bytes))))
 
 commit_bytes : (q : ℕ) (v : Option ℕ) → IsOfBytes (offset_record q v)
 commit_bytes q None = record { key = offset_key q; value = tt; headers = tt }
