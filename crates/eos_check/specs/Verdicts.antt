@@ -106,8 +106,8 @@ phase_of (Lineage f) = lineage.phase_of f
 
 abbrev pub number_of : Fault → ℕ
 number_of (InPartition f) = fold_names.number_of f.kind
-number_of (Log f) = logs.rank f.kind
-number_of (Match f) = matches.rank f.kind
+number_of (Log f) = logs.number_of f.kind
+number_of (Match f) = matches.number_of f.kind
 number_of (Lineage f) = lineage.number_of f
 
 abbrev pub name_of : Fault → List ℕ

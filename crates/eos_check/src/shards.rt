@@ -5,39 +5,20 @@ ghost use Rattle.eos_base.specs.Least.{IsLeastOrNone};
 ghost use Rattle.eos_table.specs.MatchFaults.{fault_cmp, Stands};
 ghost use Rattle.eos_check.specs.steps.Shards.{lesser_answer, AreSettled};
 
+use eos_base::lesser;
 use eos_fold::Part;
 use eos_table::{MatchFault, TxnTable, match_shard};
 use std::alloc::{AllocError, Global};
-use std::cmp::Ordering;
 use std::thread;
 use std::thread::Threads;
 
-// How a fault stands to another in the order of these faults.
-fn order(fault: &MatchFault, other: &MatchFault) -> Ordering
-    ensures { result ≡ fault_cmp fault.now other.now }
-{
-    fault
-        .producer
-        .cmp(&other.producer)
-        .then(fault.epoch.cmp(&other.epoch))
-        .then(fault.kind.number().cmp(&other.kind.number()))
-        .then(fault.partition.cmp(&other.partition))
-}
-
-// The lesser of the least fault so far and a shard's.
-fn lesser(best: Option<MatchFault>, answer: Option<MatchFault>) -> Option<MatchFault>
+// The least fault so far, with a shard's.
+fn with(best: Option<MatchFault>, answer: Option<MatchFault>) -> Option<MatchFault>
     ensures { result ≡ lesser_answer best answer }
 {
-    match (best, answer) {
-        (best, None) => best,
-        (None, Some(fault)) => Some(fault),
-        (Some(least), Some(fault)) => {
-            if order(&least, &fault).is_gt() {
-                Some(fault)
-            } else {
-                Some(least)
-            }
-        }
+    match answer {
+        None => best,
+        Some(fault) => lesser(best, fault),
     }
 }
 
@@ -49,7 +30,7 @@ fn least_of(
 {
     let mut best = None;
     for answer in answers {
-        best = lesser(best, answer?);
+        best = with(best, answer?);
     }
     Ok(best)
 }
