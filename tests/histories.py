@@ -23,7 +23,7 @@ import tempfile
 SWITCHES = ["keep-duplicates", "no-fence", "no-bump", "lose-marker", "swap-marker", "hide-listing", "ignore-generation"]
 MISHAPS = ["lost-output", "repeated-output", "wrong-count", "wrong-number", "foreign-source", "no-headers", "offset-deleted"]
 RATES = ["lose", "repeat", "abandon", "members", "restart-broker", "restart-coordinator"]
-SIZES = {"applications": (1, 8), "inputs": (1, 16), "outputs": (1, 16), "transaction-logs": (1, 4), "segment-records": (1, 40)}
+SIZES = {"applications": (1, 8), "inputs": (1, 16), "outputs": (1, 16), "transaction-logs": (1, 4), "segment-records": (1, 40), "batch-records": (1, 8)}
 ARGUMENTS = {
     "feed": {"source"},
     "start": {"application"},
@@ -40,6 +40,7 @@ ARGUMENTS = {
 REPLIES = {"done", "fenced", "out-of-order", "duplicate-kept", "wrong-state", "busy", "stale-generation", "epochs-spent", "unknown"}
 HEAD = {
     "schema": 1, "applications": 2, "inputs": 2, "outputs": 2, "transaction_logs": 1, "segment_records": 16,
+    "batch_records": 1,
     "switches": [], "seed": 0, "words": 0,
 }
 

@@ -10,7 +10,7 @@ import re
 import subprocess
 import sys
 
-SIZES = "3,2,2,2,5"
+SIZES = "3,2,2,2,5,1"
 MESSAGES = 400
 
 

@@ -17,13 +17,16 @@ import random
 import re
 import resource
 import shutil
+import struct
 import signal
 import subprocess
 import sys
 import tempfile
 
 import notes_reference
+import plain_logs
 import reference
+from mutants import Reader
 
 HERE = os.path.dirname(os.path.abspath(__file__))
 WROTE = "wrote partitions=6\n"
@@ -76,6 +79,7 @@ SIZES = {
     "outputs": (1, 16, 2),
     "transaction-logs": (1, 4, 1),
     "segment-records": (1, 1000, 16),
+    "batch-records": (1, 1000, 1),
 }
 
 passed = failed = 0
@@ -234,9 +238,9 @@ def erring(name, seed):
     return None
 
 
-def settings(choice):
+def settings(choice, without=()):
     """Random sizes and rates, as words and as the number of partitions that they give."""
-    sizes = {name: choice.randint(least, most) for name, (least, most, _) in SIZES.items()}
+    sizes = {name: choice.randint(least, most) for name, (least, most, _) in SIZES.items() if name not in without}
     chosen = [name for name in RATES if choice.random() < 0.6]
     rates = {name: choice.choice([0, choice.randint(1, 130)]) for name in chosen}
     words = [word for name, value in {**sizes, **rates}.items() for word in (f"--{name}", value)]
@@ -253,6 +257,76 @@ def other_settings(number):
         return f"{words}: {wrote}"
     said = told(folder)
     return None if YES.fullmatch(said + "\n") else f"{words}: {said}"
+
+
+def batches_of(path):
+    """The batches of a segment, with their greatest time and the times of their records."""
+    with open(path, "rb") as f:
+        data = f.read()
+    at, found = 0, []
+    while at < len(data):
+        batch, size = plain_logs.read_batch(data, at)
+        first, most = struct.unpack_from(">qq", data, at + 27)
+        body, times = Reader(data[at + 61 : at + size]), []
+        for _ in range(batch.count):
+            fields = Reader(body.take(body.varint()))
+            fields.take(1)
+            times.append(first + fields.varint(10, 64))
+        found.append((batch, most, times))
+        at += size
+    return found
+
+
+def goes_on(before, batch, name):
+    """Whether a record may stand in a batch behind another: one producer, one epoch, and its sequence is the next, if it has one."""
+    if {before.word, batch.word} & {"commit", "abort"} or name.startswith("__transaction_state"):
+        return False
+    if (before.producer, before.epoch) != (batch.producer, batch.epoch):
+        return False
+    return before.sequence == batch.sequence == -1 or before.sequence + 1 == batch.sequence > 0
+
+
+def grouped(singles, most, name):
+    """The batches of a segment that so many records may stand in, from those of one record each."""
+    groups = []
+    for batch, _, times in singles:
+        if groups and len(groups[-1]) < most and goes_on(groups[-1][-1][0], batch, name):
+            groups[-1].append((batch, times[0]))
+        else:
+            groups.append([(batch, times[0])])
+    return [
+        (group[0][0]._replace(count=len(group), records=[batch.records[0] for batch, _ in group]), group[-1][1], [time for _, time in group])
+        for group in groups
+    ]
+
+
+def batched(seed):
+    """What is wrong with a run whose batches have several records, beside the same run with one each, or None. And how many
+    records the largest batch has."""
+    choice = random.Random(seed)
+    most = [2, 3, 1000, choice.randint(2, 30)][seed % 4]
+    words = settings(choice, ["batch-records"])[0]
+    if seed % 3 == 0:
+        words += ["--switch", choice.choice(list(SWITCHES))]
+    one, other = (os.path.join(scratch, f"batches-{seed}-{name}") for name in ("one", "more"))
+    events = 100 + seed * 37 % 700
+    made = [simulate(seed, events, one, *words), simulate(seed, events, other, *words, "--batch-records", most)]
+    if made[0] != made[1] or made[0][0] != 0:
+        return f"{words}: {made}", 0
+    largest = 0
+    for name in sorted(os.listdir(one)):
+        if name == "evidence.json":
+            continue
+        files = sorted(os.listdir(os.path.join(one, name)))
+        if files != sorted(os.listdir(os.path.join(other, name))):
+            return f"{words}: the segments of {name}", 0
+        for file in files:
+            singles, found = (batches_of(os.path.join(folder, name, file)) for folder in (one, other))
+            if any(batch.count > 1 for batch, _, _ in singles) or found != grouped(singles, most, name):
+                return f"{words}: the batches of {name}/{file}", 0
+            largest = max([largest, *(batch.count for batch, _, _ in found)])
+    said = [told(folder) for folder in (one, other)]
+    return (None if said[0] == said[1] else f"{words}: {said}"), largest
 
 
 def rates():
@@ -419,6 +493,8 @@ def bad_words():
         ["--seed", "7", "--events", "7", "--outputs", "0", folder],
         ["--seed", "7", "--events", "7", "--transaction-logs", "5", folder],
         ["--seed", "7", "--events", "7", "--segment-records", "1001", folder],
+        ["--seed", "7", "--events", "7", "--batch-records", "0", folder],
+        ["--seed", "7", "--events", "7", "--batch-records", "1001", folder],
         ["--seed", "7", "--events", "7", "--lose", "1001", folder],
         ["--seed", "7", "--events", "7", "--abort", "x", folder],
         ["--seed", "7", "--events", "7", "--switch-at", "10001", folder],
@@ -491,6 +567,9 @@ def main():
             expect(not wrong, f"{name}: {wrong}")
         wrong = [it for it in pool.map(other_settings, seeds[: max(1, len(seeds) // 5)]) if it]
         expect(not wrong, f"other sizes and rates: {wrong}")
+        wrong, largest = zip(*pool.map(batched, seeds[: max(4, len(seeds) // 5)]))
+        expect(not any(wrong), f"batches of several records: {[it for it in wrong if it]}")
+        expect(max(largest) > 3, f"the largest batch has {max(largest)} records")
     worked()
     rates()
     several()

@@ -10,7 +10,7 @@ use Rattle.eos_machine.specs.declared.config.Config.{Config}
 use Rattle.eos_machine.specs.declared.item.Item.{Item}
 use Rattle.eos_machine.specs.Places.{place_count}
 use Rattle.eos_machine.specs.World.{World, log_at}
-use Rattle.eos_logs.specs.Evidences.{log_segments, cluster_segments, adding}
+use Rattle.eos_logs.specs.Evidences.{log_segments, cluster_segments, adding, HaveTexts}
 use Rattle.eos_log_writer.proofs.Adding.{range_step}
 use Rattle.std.specs.Prelude.{IsOk}
 use Rattle.std.proofs.Common.{map}
@@ -28,7 +28,6 @@ use Rattle.eos_log_writer.specs.declared.segments.LogFault.TheVariants as faults
 use Rattle.eos_logs.specs.Evidences.{parts_of}
 use Rattle.eos_logs.specs.steps.Writable.{IsWritable}
 use Rattle.eos_logs.proofs.AllAdded.{IsAdded, adding_both, segments_added}
-use Rattle.eos_logs.specs.Batches.{HaveTexts}
 
 -- what is left to add of the segments of all logs
 log_added : (f : ℕ → List Segment) (e g : EvidenceParts) (all : Result EvidenceParts AddFault) (i n : ℕ) → i < n → all ≡ adding e (flat_map f (range_with_len i (n - i))) → adding e (f i) ≡ Ok g
@@ -50,13 +49,13 @@ first_logs c w e = let k : place_count c ≡ place_count c - 0 = omega arith in 
 
 -- ---- what is written reads back
 
-pub logs_written : (c d : Config) (w : World) (p : ℕ) (log : List Item) → c ≡ d → log ≡ log_at w p → ((q : ℕ) → q < p → HaveTexts d 0 (log_at w q)) → HaveTexts c 0 log → (q : ℕ) → q < p + 1 → HaveTexts d 0 (log_at w q)
+pub logs_written : (c d : Config) (w : World) (p : ℕ) (log : List Item) → c ≡ d → log ≡ log_at w p → ((q : ℕ) → q < p → HaveTexts d (log_at w q)) → HaveTexts c log → (q : ℕ) → q < p + 1 → HaveTexts d (log_at w q)
 logs_written c d w p log m is h k q l = elim (cases_lt q p) [
   | inl b ↦ h q b
-  | inr b ↦ let e : q ≡ p = omega (arith, b, l) in subst (λ r. HaveTexts d 0 (log_at w r)) (sym e) (subst (HaveTexts d 0) is (subst (λ x. HaveTexts x 0 log) m k))
+  | inr b ↦ let e : q ≡ p = omega (arith, b, l) in subst (λ r. HaveTexts d (log_at w r)) (sym e) (subst (HaveTexts d) is (subst (λ x. HaveTexts x log) m k))
 ]
 
-pub all_logs : (c d : Config) (w : World) (p n : ℕ) → c ≡ d → n ≡ place_count c → n ≤ p → ((q : ℕ) → q < p → HaveTexts d 0 (log_at w q)) → (q : ℕ) → q < place_count d → HaveTexts d 0 (log_at w q)
+pub all_logs : (c d : Config) (w : World) (p n : ℕ) → c ≡ d → n ≡ place_count c → n ≤ p → ((q : ℕ) → q < p → HaveTexts d (log_at w q)) → (q : ℕ) → q < place_count d → HaveTexts d (log_at w q)
 all_logs c d w p n m e l h q k = let f = ap place_count m in h q (omega (arith, f, e, l, k))
 
 -- ---- nothing is refused

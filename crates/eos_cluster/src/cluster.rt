@@ -87,6 +87,7 @@ fn is_config(config: Config) -> bool
         && is_between(config.outputs, 1, 16)
         && is_between(config.transaction_logs, 1, 4)
         && is_between(config.segment_records, 1, 1000)
+        && is_between(config.batch_records, 1, 1000)
 }
 
 impl Cluster {

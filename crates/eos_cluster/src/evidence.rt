@@ -7,8 +7,7 @@ ghost use Rattle.eos_machine.specs.World.{log_at};
 ghost use Rattle.eos_cluster.specs.declared.evidence.EvidenceRefusal.{EvidenceRefusal};
 ghost use Rattle.eos_evidence.specs.Parts.{accepted};
 ghost use Rattle.eos_evidence.specs.Evidence.{IsEvidence, without_segments};
-ghost use Rattle.eos_logs.specs.Batches.{HaveTexts};
-ghost use Rattle.eos_logs.specs.Evidences.{end_of, parts_of, log_segments, cluster_segments, adding, IsEvidenceOf};
+ghost use Rattle.eos_logs.specs.Evidences.{end_of, parts_of, log_segments, cluster_segments, adding, HaveTexts, IsEvidenceOf};
 ghost use Rattle.eos_logs.specs.steps.Writable.{IsWritable};
 ghost use Rattle.eos_log_writer.specs.declared.segments.LogFault.{LogFault};
 ghost use Rattle.eos_cluster.specs.Names.{evidence_refusal_name};
@@ -77,7 +76,7 @@ fn add_at(store: &Store, builder: &mut EvidenceBuilder, place: usize) -> Result<
     requires place { place < place_count store.now.config }
     requires taken { IsOk (adding builder.old (log_segments store.now.config place (log_at store.now.world place))) }
     ensures added { OnOk result (adding builder.old (log_segments store.now.config place (log_at store.now.world place)) ≡ Ok builder.new) }
-    ensures written { OnOk result (HaveTexts store.now.config 0 (log_at store.now.world place)) }
+    ensures written { OnOk result (HaveTexts store.now.config (log_at store.now.world place)) }
 {
     match add_log(
         store.alloc(),
@@ -96,7 +95,7 @@ fn add_logs(store: &Store, builder: &mut EvidenceBuilder) -> Result<(), AllocErr
     requires writable { IsWritable store.now.config store.now.world }
     requires begun { builder.old ≡ without_segments (parts_of store.now.config store.now.world) }
     ensures added { OnOk result (adding builder.old (cluster_segments store.now.config store.now.world) ≡ Ok builder.new) }
-    ensures written { OnOk result ((p : ℕ) → p < place_count store.now.config → HaveTexts store.now.config 0 (log_at store.now.world p)) }
+    ensures written { OnOk result ((p : ℕ) → p < place_count store.now.config → HaveTexts store.now.config (log_at store.now.world p)) }
 {
     for place in 0..place_count(store.config()) {
         add_at(store, builder, place)?;

@@ -1,12 +1,14 @@
 -- The lines of a text, one after the other.
-use Rattle.std.proofs.Common.{◌≡◌, ◌<◌, ℕ, List, [], ◌∷◌, ◌++◌, Bool, true, false, ◌||◌, ◌==◌, Option, None, Some, length, length-append, append_assoc, append-nil, subst, refl, ap, sym, ◌∙◌, arith}
+use Rattle.std.proofs.Common.{◌≡◌, ◌<◌, ◌≤◌, ◌+◌, ℕ, List, [], ◌∷◌, ◌++◌, Bool, true, false, ◌||◌, ◌==◌, Option, None, Some, length, length-append, append_assoc, append-nil, subst, refl, ap, sym, ◌∙◌, arith}
 use Rattle.std.specs.List.{AllZip}
 use Rattle.serde_json.specs.Read.{read}
 use Rattle.eos_history_lines.specs.declared.line.Line.{Line}
 use Rattle.eos_history_lines.specs.declared.line.Tail.{Tail}
 use Rattle.eos_history_lines.specs.Divided.{lines_of}
 use Rattle.eos_history_lines.specs.Lines.{line_value, tail_value}
+use Rattle.eos_history_lines.specs.declared.schedule.ScheduleFault.{ScheduleFault}
 use Rattle.eos_history_lines.specs.Files.{SaysLine, SayRows}
+use Rattle.eos_history_lines.specs.Refusals.{IsRefusedAfter, IsRefusedAmong}
 use Rattle.eos_history_lines.specs.steps.Pieces.{has_feed, IsFirstLine, or_nothing}
 
 no_first : (a b : Bool) → (a || b) ≡ false → a ≡ false
@@ -71,19 +73,36 @@ one_tail texts lines text t h said = record {
   ends = (text, refl, said);
 }
 
--- what was read of a text, and what is left of it
-pub record Read (whole rest : List ℕ) (lines : List Line) (tail : Option Tail) : Type 0 where
+-- what was read of a text, and what is left of it, whose first line has this number
+pub record Read (whole rest : List ℕ) (lines : List Line) (tail : Option Tail) (number : ℕ) : Type 0 where
   pub texts : List (List ℕ)
   pub split : lines_of whole ≡ texts ++ lines_of rest
   pub rows : SayRows texts lines tail
+  pub number_is : number ≡ 2 + length texts
+  pub few : length texts + length rest ≤ length whole
 
-pub read_none : (whole : List ℕ) → Read whole whole [] None
-read_none whole = record { texts = []; split = refl; rows = no_rows }
+pub read_none : (whole : List ℕ) → Read whole whole [] None 2
+read_none whole = record { texts = []; split = refl; rows = no_rows; number_is = refl; few = omega arith }
 
-pub read_all : (whole rest : List ℕ) (lines : List Line) (tail : Option Tail) → Read whole rest lines tail → length rest ≡ 0 → SayRows (lines_of whole) lines tail
+pub read_all : (whole rest : List ℕ) (lines : List Line) (tail : Option Tail) (number : ℕ) → Read whole rest lines tail number → length rest ≡ 0 → SayRows (lines_of whole) lines tail
 unfolding lines_of
-read_all whole [] lines tail h none = subst (λ ts. SayRows ts lines tail) (sym (h.split ∙ append-nil h.texts)) h.rows
-read_all whole (b ∷ bs) lines tail h none = absurd (omega (arith, none))
+read_all whole [] lines tail number h none = subst (λ ts. SayRows ts lines tail) (sym (h.split ∙ append-nil h.texts)) h.rows
+read_all whole (b ∷ bs) lines tail number h none = absurd (omega (arith, none))
+
+-- the line that is left first is refused
+pub refused_here : (whole rest here : List ℕ) (others : List (List ℕ)) (lines : List Line) (tail : Option Tail) (number : ℕ) (f : ScheduleFault) → Read whole rest lines tail number → lines_of rest ≡ here ∷ others
+    → f.line ≡ number → IsRefusedAfter tail here f.fault → IsRefusedAmong (lines_of whole) f
+refused_here whole rest here others lines tail number f h first n r = record {
+  before = h.texts;
+  here = here;
+  others = others;
+  lines = lines;
+  tail = tail;
+  parts = h.split ∙ ap (λ ls. h.texts ++ ls) first;
+  rows = h.rows;
+  number = n ∙ h.number_is;
+  refused = r;
+}
 
 -- one line more was read
 pub split_more : (whole rest line : List ℕ) (lines : List (List ℕ)) (texts : List (List ℕ)) → lines_of whole ≡ texts ++ lines_of rest → lines_of rest ≡ line ∷ lines

@@ -1,5 +1,6 @@
 pub mod Words
 pub mod Lines
+pub mod Refusals
 pub mod Divided
 pub mod Files
 pub mod Fits

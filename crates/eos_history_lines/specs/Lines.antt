@@ -53,8 +53,8 @@ switches_value s = array (items_of (switch_names s))
 
 unfoldable pub with_sizes : Config → JsonMembers → JsonMembers
 with_sizes c ms =
-    put (codes "segment_records") (count c.segment_records) (put (codes "transaction_logs") (count c.transaction_logs)
-    (put (codes "outputs") (count c.outputs) (put (codes "inputs") (count c.inputs) (put (codes "applications") (count c.applications) ms))))
+    put (codes "batch_records") (count c.batch_records) (put (codes "segment_records") (count c.segment_records) (put (codes "transaction_logs") (count c.transaction_logs)
+    (put (codes "outputs") (count c.outputs) (put (codes "inputs") (count c.inputs) (put (codes "applications") (count c.applications) ms)))))
 
 unfoldable pub with_asked : Head → JsonMembers → JsonMembers
 with_asked h ms = put (codes "words") (count h.words) (put (codes "seed") (count h.seed) (put (codes "switches") (switches_value h.switches) ms))

@@ -37,12 +37,14 @@ fn read_sizes(value: &Value) -> Option<Config>
     let outputs = size_in(value, "outputs")?;
     let transaction_logs = size_in(value, "transaction_logs")?;
     let segment_records = size_in(value, "segment_records")?;
+    let batch_records = size_in(value, "batch_records")?;
     Some(Config {
         applications,
         inputs,
         outputs,
         transaction_logs,
         segment_records,
+        batch_records,
     })
 }
 

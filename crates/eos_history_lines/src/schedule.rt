@@ -1,9 +1,10 @@
 //! A file of lines.
 
-ghost use Rattle.std.specs.Prelude.{◌≡◌, ◌++◌, ◌∷◌, [], Some, IfOk, OnOk, ℕ, List};
+ghost use Rattle.std.specs.Prelude.{◌≡◌, ◌++◌, ◌∷◌, [], Some, IfOk, IfErr, OnOk, ℕ, List};
 ghost use Rattle.eos_history_lines.specs.Divided.{lines_of};
 ghost use Rattle.eos_history_lines.specs.Files.{IsSchedule};
 ghost use Rattle.eos_history_lines.specs.FaultTexts.{schedule_fault_text};
+ghost use Rattle.eos_history_lines.specs.Refusals.{IsRefusal, IsRefusedAmong};
 ghost use Rattle.eos_history_lines.specs.steps.Found.{HasFound};
 
 use crate::divided::{after_feed, first_line};
@@ -52,7 +53,8 @@ struct Found {
 /// # Errors
 /// The first line that is refused, counted from 1, and why.
 pub fn schedule_of(alloc: Global, text: &[u8]) -> Result<Schedule, ScheduleFault>
-    ensures { IfOk result (λ schedule. IsSchedule (lines_of text.now) schedule) }
+    ensures ok { IfOk result (λ schedule. IsSchedule (lines_of text.now) schedule) }
+    ensures err { IfErr result (λ fault. IsRefusal (lines_of text.now) fault) }
 {
     if text.is_empty() {
         return Err(at(1, LineFault::NotJson));
@@ -68,7 +70,8 @@ pub fn schedule_of(alloc: Global, text: &[u8]) -> Result<Schedule, ScheduleFault
 
 /// What the lines after the first say.
 fn found_in(alloc: Global, text: &[u8]) -> Result<Found, ScheduleFault>
-    ensures { IfOk result (λ found. HasFound (lines_of text.now) found) }
+    ensures ok { IfOk result (λ found. HasFound (lines_of text.now) found) }
+    ensures err { IfErr result (λ fault. IsRefusedAmong (lines_of text.now) fault) }
 {
     let mut found = Found {
         lines: Listed::new(Vec::new(alloc)),
@@ -87,16 +90,20 @@ fn found_in(alloc: Global, text: &[u8]) -> Result<Found, ScheduleFault>
     Ok(found)
 }
 
-fn at(line: u64, fault: LineFault) -> ScheduleFault {
+fn at(line: u64, fault: LineFault) -> ScheduleFault
+    ensures { result ≡ record { line = line; fault = fault } }
+{
     ScheduleFault { line, fault }
 }
 
 impl Found {
     ghost use Rattle.eos_history_lines.specs.steps.Found.{HasFound};
+    ghost use Rattle.eos_history_lines.specs.Refusals.{IsRefusedAfter};
 
     /// Adds what a line says.
     fn add(&mut self, alloc: Global, text: &[u8]) -> Result<(), LineFault>
-        ensures { (texts : List (List ℕ)) → HasFound texts self.old → OnOk result (HasFound (texts ++ text.now ∷ []) self.new) }
+        ensures ok { (texts : List (List ℕ)) → HasFound texts self.old → OnOk result (HasFound (texts ++ text.now ∷ []) self.new) }
+        ensures err { IfErr result (λ fault. IsRefusedAfter self.old.tail text.now fault) }
     {
         if self.tail.is_some() {
             return Err(LineFault::Mistaken(Mistake::AfterTail));

@@ -80,6 +80,7 @@ fn look_at_head(value: &Value) -> Result<(), Mistake> {
             "outputs",
             "transaction_logs",
             "segment_records",
+            "batch_records",
         ],
     )?;
     look_at_switches(value_at(value, "switches")?, "switches")?;

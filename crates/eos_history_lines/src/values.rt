@@ -35,7 +35,8 @@ fn put_sizes(out: &mut Object, config: Config) -> Result<(), AllocError>
     out.put_size("inputs", config.inputs)?;
     out.put_size("outputs", config.outputs)?;
     out.put_size("transaction_logs", config.transaction_logs)?;
-    out.put_size("segment_records", config.segment_records)
+    out.put_size("segment_records", config.segment_records)?;
+    out.put_size("batch_records", config.batch_records)
 }
 
 #[tactic(auto, unfolding(crate::specs::Lines::with_asked))]

@@ -35,7 +35,6 @@ use Rattle.eos_machine.specs.declared.item.Item.TheVariants.{Fed, State, Output,
 use Rattle.eos_machine.specs.Places.{IsConfig}
 use Rattle.eos_logs.specs.Evidences.{segment_count, segment_at, adding}
 use Rattle.eos_logs.specs.Fitting.{IsFit}
-use Rattle.eos_log_writer.specs.BatchParts.{event_of}
 use Rattle.eos_log_writer.specs.steps.Writers.{HasWriter}
 use Rattle.eos_logs.proofs.SegmentsFit.{all_drop}
 
@@ -67,13 +66,6 @@ fit_writer c (State a x n) i h = tt
 fit_writer c (Output a e s x v n) i h = (omega (arith, h.0, i.applications.1), h.1, h.2)
 fit_writer c (Offset a e q v n) i h = (omega (arith, h.0, i.applications.1), h.1)
 fit_writer c (Marker a e k n) i h = (omega (arith, h.0, i.applications.1), h.1)
-
-pub fit_event : (c : Config) (x : Item) → IsFit c x → event_of x < 2 ^ 63
-fit_event c (Fed n) h = h
-fit_event c (State a x n) h = h.3
-fit_event c (Output a e s x v n) h = h.5
-fit_event c (Offset a e q v n) h = h.3
-fit_event c (Marker a e k n) h = h.2
 
 -- ---- a segment begins inside its log
 

@@ -1,8 +1,10 @@
 -- The bytes of a batch that is written.
-use Rattle.std.proofs.Common.{◌≡◌, ℕ, ◌+◌, ◌-◌, ◌*◌, ◌/◌, zero, suc, List, [], ◌∷◌, ◌++◌, Result, Ok, Err, inl, inr, ap, sym, subst, refl, ◌∙◌, append_assoc, arith, take, drop, length, slice_index_or, ◌<◌, ◌≤◌}
-use Rattle.std.proofs.Math.Nat.{div-add-mod, mod-lt, mul_comm, mul-le-mul_right}
+use Rattle.std.proofs.Common.{◌≡◌, ℕ, ◌+◌, ◌-◌, zero, suc, true, false, ◌⊎◌, map, List, [], ◌∷◌, ◌++◌, Result, Ok, Err, inl, inr, ap, sym, subst, refl, ◌∙◌, append_assoc, arith, take, drop, length, slice_index_or, ◌<◌, ◌≤◌}
+use Rattle.std.specs.List.{All}
+use Rattle.std.proofs.lemmas.List.Elements.{All-head, All-tail}
 use Rattle.std.proofs.Math.ListN.{drop_of_length-le}
-use Rattle.std.proofs.lemmas.List.{drop_more, drop-drop}
+use Rattle.std.proofs.lemmas.List.{drop_more}
+use Rattle.std.proofs.lemmas.Bool.{cases_lt}
 use Rattle.eos_base.specs.Steps.{◌>>=◌}
 use Rattle.eos_batch.specs.declared.batch.Batch.{Batch}
 use Rattle.eos_batch.specs.declared.fault.BatchFault.{BatchFault}
@@ -12,18 +14,9 @@ use Rattle.eos_batch.specs.Encoding.{tested, encoding_of, batch_text_of}
 use Rattle.eos_wire.specs.Writing.{IsShortest}
 use Rattle.eos_machine.specs.declared.config.Config.{Config}
 use Rattle.eos_machine.specs.declared.item.Item.{Item}
-use Rattle.eos_machine.specs.Places.{IsConfig}
-use Rattle.eos_machine.specs.declared.item.Item.TheVariants.{Fed, State, Output, Offset, Marker}
-use Rattle.eos_log_writer.specs.BatchParts.{event_of, item_writer, item_record}
-use Rattle.eos_logs.specs.Batches.{batch, item_batch, texts_from, Reads, HasText, HaveTexts}
-use Rattle.eos_logs.specs.Evidences.{segment_count}
-
-pub batch_of_parts : (c : Config) (o : ℕ) (x : Item) → batch o (event_of x) (item_writer x) (item_record c x) ≡ item_batch c o x
-batch_of_parts c o (Fed n) = refl
-batch_of_parts c o (State a e n) = refl
-batch_of_parts c o (Output a e s x v n) = refl
-batch_of_parts c o (Offset a e q v n) = refl
-batch_of_parts c o (Marker a e k n) = refl
+use Rattle.eos_batch.specs.declared.record.Record.{Record}
+use Rattle.eos_logs.specs.Grouping.{goes_on, joining}
+use Rattle.eos_logs.specs.Batches.{batch_of, behind, batches_after, batches_from, texts_of, AreTexts}
 
 or_none : Result (List ℕ) BatchFault → List ℕ
 or_none (Ok t) = t
@@ -40,54 +33,75 @@ written_text b t h = at (tested b) h
 
 -- ---- what is written reads back
 
-pub is_written : (c : Config) (o : ℕ) (x : Item) (b : Batch) (t : List ℕ) → b ≡ item_batch c o x → t ≡ batch_text_of b → IsShortest IsBatchText t b → Reads c x → HasText c o x
-is_written c o x b t e f s r = record { text = subst (λ k. IsBatchText (batch_text_of k) k) e (subst (λ u. IsBatchText u b) f s.0); reads = r }
+pub is_written : (b d : Batch) (t : List ℕ) → b ≡ d → t ≡ batch_text_of b → IsShortest IsBatchText t b → IsBatchText (batch_text_of d) d
+is_written b d t e f s = subst (λ k. IsBatchText (batch_text_of k) k) e (subst (λ u. IsBatchText u b) f s.0)
 
--- ---- items one after the other
+-- ---- batch by batch
 
-from_place : (i : ℕ) (xs : List Item) (x : Item) → i < length xs → x ≡ slice_index_or xs i x → drop i xs ≡ x ∷ drop (i + 1) xs
-from_place i xs x l is = subst (λ z. drop i xs ≡ z ∷ drop (i + 1) xs) (sym is) (drop_more xs i x l)
+-- behind a batch the items that don't stand in it are left
+skipped : (c : Config) (n o : ℕ) (xs : List Item) → batches_after c n o xs ≡ batches_from c (o + n) (drop n xs)
+skipped c zero o xs = let e : o ≡ o + 0 = omega arith in ap (λ k. batches_from c k xs) e
+skipped c (suc n) o [] = refl
+skipped c (suc n) o (x ∷ xs) = let e : o + 1 + n ≡ o + suc n = omega arith in skipped c n (o + 1) xs ∙ ap (λ k. batches_from c k (drop n xs)) e
 
-next_place : (o i : ℕ) → o + i + 1 ≡ o + (i + 1)
-next_place o i = omega arith
+pub batch_first : (c : Config) (o p n : ℕ) (x : Item) (xs : List Item) → n ≡ behind c x xs → p ≡ o + 1 + n → batches_from c o (x ∷ xs) ≡ batch_of c o x (take n xs) ∷ batches_from c p (drop n xs)
+batch_first c o p n x xs e f =
+    let k : batches_after c n (o + 1) xs ≡ batches_from c p (drop n xs) = skipped c n (o + 1) xs ∙ ap (λ q. batches_from c q (drop n xs)) (sym f) in
+    subst (λ m. batch_of c o x (take m xs) ∷ batches_after c m (o + 1) xs ≡ batch_of c o x (take n xs) ∷ batches_from c p (drop n xs)) e (ap (λ bs. batch_of c o x (take n xs) ∷ bs) k)
 
-pub text_more : (c : Config) (o i : ℕ) (xs : List Item) (x : Item) (all out new t : List ℕ) → i < length xs → x ≡ slice_index_or xs i x → all ≡ out ++ texts_from c (o + i) (drop i xs) → t ≡ batch_text_of (item_batch c (o + i) x) → new ≡ out ++ t
-    → all ≡ new ++ texts_from c (o + (i + 1)) (drop (i + 1) xs)
-text_more c o i xs x all out new t l is h e n =
-    h
-    ∙ (ap (λ ys. out ++ texts_from c (o + i) ys) (from_place i xs x l is)
-    ∙ (ap (λ k. out ++ (batch_text_of (item_batch c (o + i) x) ++ texts_from c k (drop (i + 1) xs))) (next_place o i)
-    ∙ (ap (λ u. out ++ (u ++ texts_from c (o + (i + 1)) (drop (i + 1) xs))) (sym e)
-    ∙ (sym (append_assoc out t (texts_from c (o + (i + 1)) (drop (i + 1) xs))) ∙ ap (λ u. u ++ texts_from c (o + (i + 1)) (drop (i + 1) xs)) (sym n)))))
+pub text_more : (c : Config) (o p n : ℕ) (x : Item) (xs : List Item) (all out new t : List ℕ) → n ≡ behind c x xs → p ≡ o + 1 + n → all ≡ out ++ texts_of (batches_from c o (x ∷ xs)) → t ≡ batch_text_of (batch_of c o x (take n xs)) → new ≡ out ++ t
+    → all ≡ new ++ texts_of (batches_from c p (drop n xs))
+text_more c o p n x xs all out new t e f h is next =
+    let more : List ℕ = texts_of (batches_from c p (drop n xs)) in
+    h ∙ (ap (λ bs. out ++ texts_of bs) (batch_first c o p n x xs e f) ∙ (ap (λ u. out ++ (u ++ more)) (sym is) ∙ (sym (append_assoc out t more) ∙ ap (λ u. u ++ more) (sym next))))
 
-pub one_written : (c : Config) (o i : ℕ) (xs : List Item) (x : Item) → i < length xs → x ≡ slice_index_or xs i x → HasText c (o + i) x → HaveTexts c (o + (i + 1)) (drop (i + 1) xs) → HaveTexts c (o + i) (drop i xs)
-one_written c o i xs x l is h k = subst (HaveTexts c (o + i)) (sym (from_place i xs x l is)) (h, subst (λ j. HaveTexts c j (drop (i + 1) xs)) (sym (next_place o i)) k)
+pub one_written : (c : Config) (o p n : ℕ) (x : Item) (xs : List Item) → n ≡ behind c x xs → p ≡ o + 1 + n → IsBatchText (batch_text_of (batch_of c o x (take n xs))) (batch_of c o x (take n xs)) → AreTexts (batches_from c p (drop n xs)) → AreTexts (batches_from c o (x ∷ xs))
+one_written c o p n x xs e f h k = subst AreTexts (sym (batch_first c o p n x xs e f)) (h, k)
+
+-- ---- record by record
+
+pub record_more : (f : Item → Record) (xs : List Item) (x : Item) (i : ℕ) (all out : List Record) → i < length xs → x ≡ slice_index_or xs i x → all ≡ out ++ map f (drop i xs) → all ≡ (out ++ f x ∷ []) ++ map f (drop (i + 1) xs)
+record_more f xs x i all out l is h =
+    h ∙ (ap (λ ys. out ++ map f ys) (subst (λ z. drop i xs ≡ z ∷ drop (i + 1) xs) (sym is) (drop_more xs i x l)) ∙ sym (append_assoc out (f x ∷ []) (map f (drop (i + 1) xs))))
+
+-- ---- item by item
+
+pub within_all : {X : Type 0} (P : X → Type 0) (xs : List X) (n : ℕ) (d : X) → n < length xs → All P xs → P (slice_index_or xs n d)
+within_all P [] n d l h = absurd (omega (arith, l))
+within_all P (x ∷ xs) zero d l h = All-head P x xs h
+within_all P (x ∷ xs) (suc n) d l h = within_all P xs n d (omega (arith, l)) (All-tail P x xs h)
+
+pub one_joins : (k i : ℕ) (l y : Item) (xs : List Item) → i < length xs → y ≡ slice_index_or xs i y → i < k → goes_on l y ≡ true → i + joining (k - i) l (drop i xs) ≡ i + 1 + joining (k - (i + 1)) y (drop (i + 1) xs)
+one_joins k i l y xs m is b g =
+    let d : drop i xs ≡ y ∷ drop (i + 1) xs = subst (λ z. drop i xs ≡ z ∷ drop (i + 1) xs) (sym is) (drop_more xs i y m) in
+    let e : k - i ≡ suc (k - (i + 1)) = omega (arith, b) in
+    ap (λ ys. i + joining (k - i) l ys) d ∙ (ap (λ n. i + joining n l (y ∷ drop (i + 1) xs)) e ∙ (rw g (omega arith)))
+
+-- where there is no room, or it doesn't go on, none does
+pub no_room : (k i : ℕ) (l : Item) (xs : List Item) → i ≡ k → i + joining (k - i) l xs ≡ i
+no_room k i l xs e = let z : k - i ≡ 0 = omega (arith, e) in ap (λ n. i + joining n l xs) z ∙ (let y = none l xs in omega (arith, y))
+  where
+    none : (l : Item) (xs : List Item) → joining 0 l xs ≡ 0
+    none l [] = refl
+    none l (x ∷ xs) = refl
+
+pub none_joins : (k i : ℕ) (l y : Item) (xs : List Item) → i < length xs → y ≡ slice_index_or xs i y → goes_on l y ≡ false → i + joining (k - i) l (drop i xs) ≡ i
+none_joins k i l y xs m is e =
+    let d : drop i xs ≡ y ∷ drop (i + 1) xs = subst (λ z. drop i xs ≡ z ∷ drop (i + 1) xs) (sym is) (drop_more xs i y m) in
+    ap (λ ys. i + joining (k - i) l ys) d ∙ (let z = stops (k - i) l y (drop (i + 1) xs) e in omega (arith, z))
+  where
+    stops : (n : ℕ) (l y : Item) (ys : List Item) → goes_on l y ≡ false → joining n l (y ∷ ys) ≡ 0
+    stops zero l y ys e = refl
+    stops (suc n) l y ys e = rw e refl
+
+-- behind the last there is none
+pub all_join : (k : ℕ) (l : Item) (xs : List Item) (i : ℕ) → length xs ≤ i → joining (k - i) l (drop i xs) ≡ 0
+all_join k l xs i h = ap (joining (k - i) l) (drop_of_length-le xs h)
 
 -- ---- segment by segment
 
-part_written : (c : Config) (n o : ℕ) (xs : List Item) → HaveTexts c o (take n xs) → HaveTexts c (o + n) (drop n xs) → HaveTexts c o xs
-part_written c zero o xs a b = let e : o + 0 ≡ o = omega arith in subst (λ k. HaveTexts c k xs) e b
-part_written c (suc n) o [] a b = tt
-part_written c (suc n) o (x ∷ xs) a b = (a.0, part_written c n (o + 1) xs a.1 (let e : o + suc n ≡ o + 1 + n = omega arith in subst (λ k. HaveTexts c k (drop n xs)) e b))
-
-times_more : (i n : ℕ) → (i + 1) * n ≡ i * n + n
-times_more zero n = omega arith
-times_more (suc i) n = let e = times_more i n in omega (arith, e)
-
-pub segment_written : (c : Config) (n i : ℕ) (log : List Item) → HaveTexts c (i * n) (take n (drop (i * n) log)) → HaveTexts c ((i + 1) * n) (drop ((i + 1) * n) log) → HaveTexts c (i * n) (drop (i * n) log)
-segment_written c n i log a b =
-    part_written c n (i * n) (drop (i * n) log) a (subst (HaveTexts c (i * n + n)) (sym (drop-drop n (i * n) log)) (subst (λ k. HaveTexts c k (drop k log)) (times_more i n) b))
-
-pub from_first : (c : Config) (n : ℕ) (log : List Item) → HaveTexts c (0 * n) (drop (0 * n) log) → HaveTexts c 0 log
-from_first c n log h = let e : 0 * n ≡ 0 = omega arith in subst (λ k. HaveTexts c k (drop k log)) e h
-
-enough : (n m i : ℕ) → 1 ≤ n → (m + (n - 1)) / n ≤ i → m ≤ i * n
-enough n m i l h =
-    let a = div-add-mod (m + (n - 1)) n in
-    let b = mod-lt (m + (n - 1)) l in
-    let s = mul_comm ((m + (n - 1)) / n) n in
-    let g = mul-le-mul_right n h in
-    omega (arith, a, b, s, g, l)
-
-pub none_left : (c : Config) (i : ℕ) (log : List Item) → IsConfig c → segment_count c (length log) ≤ i → HaveTexts c (i * c.segment_records) (drop (i * c.segment_records) log)
-none_left c i log k h = subst (HaveTexts c (i * c.segment_records)) (sym (drop_of_length-le log (enough c.segment_records (length log) i k.segment_records.0 h))) tt
+pub one_further : (P : ℕ → Type 0) (i : ℕ) → ((k : ℕ) → k < i → P k) → P i → (k : ℕ) → k < i + 1 → P k
+one_further P i h p k l = elim (cases_lt k i) [
+  | inl b ↦ h k b
+  | inr b ↦ let e : k ≡ i = omega (arith, b, l) in subst P (sym e) p
+]

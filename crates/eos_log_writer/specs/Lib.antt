@@ -1,4 +1,3 @@
-pub mod BatchParts
 pub mod Grouping
 pub mod Names
 pub mod steps

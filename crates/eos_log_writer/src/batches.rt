@@ -1,16 +1,17 @@
-//! The batches of a cluster's logs, of one record each, and their bytes.
+//! The batches of a cluster's logs, and their bytes.
 
-ghost use Rattle.std.specs.Prelude.{◌≡◌, ◌<◌, ◌≤◌, ◌+◌, ◌^◌, None, Some, length, IfOk, OnOk};
-ghost use Rattle.eos_machine.specs.declared.item.Item.TheVariants.{State};
+ghost use Rattle.std.specs.Prelude.{◌≡◌, ◌<◌, ◌≤◌, ◌+◌, ◌-◌, ◌-ℤ◌, ◌^◌, ◌∷◌, pos, None, Some, length, map, slice_index_or, IfOk, OnOk};
 ghost use Rattle.eos_machine.specs.Places.{IsConfig};
 ghost use Rattle.eos_batch.specs.Encoding.{batch_text_of};
 ghost use Rattle.eos_batch.specs.declared.fault.BatchFault.{BatchFault};
 ghost use Rattle.std.specs.List.{All};
 ghost use Rattle.eos_logs.specs.Fitting.{AreAllThere, IsFit};
-ghost use Rattle.eos_log_writer.specs.BatchParts.{event_of, item_writer, item_record};
+ghost use Rattle.eos_logs.specs.Grouping.{AreJoined};
 ghost use Rattle.eos_log_writer.specs.steps.Writers.{HasWriter};
-ghost use Rattle.eos_logs.specs.Batches.{record_of, fed_record, state_record, output_record, offset_record, marker_record, batch, item_batch, texts_from, Reads, HasText, HaveTexts};
+ghost use Rattle.eos_logs.specs.Batches.{record_of, fed_record, state_record, output_record, offset_record, marker_record, event_of, item_writer, item_record, record_after, last_or, batch_of, batches_from, texts_of, AreTexts};
+ghost use Rattle.eos_batch.specs.Text.{IsBatchText};
 
+use crate::joining::joining;
 use crate::values;
 use crate::writer::{self, as_i64, sequence_as_i32};
 use bytes::Bytes;
@@ -52,8 +53,7 @@ fn state_record(
     requires epoch { entry.now.epoch < 2 ^ 15 }
     requires partitions { AreAllThere config entry.now.partitions }
     requires event { event < 2 ^ 63 }
-    ensures record { IfOk result (λ r. r ≡ state_record config application entry.now event) }
-    ensures reads { OnOk result (Reads config (State application entry.now event)) }
+    ensures { IfOk result (λ r. r ≡ state_record config application entry.now event) }
 {
     let key = values::transaction_key(alloc, application)?;
     let value = values::transaction_value(alloc, config, application, entry, event)?;
@@ -84,34 +84,6 @@ fn marker_record(alloc: Global, kind: Kind) -> Result<Record, AllocError>
     let key = values::marker_key(alloc, kind)?;
     let value = values::marker_value(alloc)?;
     Ok(record_of(Some(key), Some(value), Vec::new(alloc)))
-}
-
-/// A batch of one record.
-fn batch(
-    alloc: Global,
-    offset: usize,
-    event: u64,
-    writer: Writer,
-    only: Record,
-) -> Result<Batch, AllocError>
-    requires offset { offset < 2 ^ 63 }
-    requires event { event < 2 ^ 63 }
-    ensures { IfOk result (λ b. b ≡ batch offset event writer only) }
-{
-    let time = as_i64(event);
-    let mut records = Vec::new(alloc);
-    records.push(only)?;
-    Ok(Batch {
-        base_offset: as_i64(offset as u64),
-        leader_epoch: 0,
-        attributes: writer.attributes,
-        base_timestamp: time,
-        max_timestamp: time,
-        producer: writer.producer,
-        epoch: writer.epoch,
-        sequence: writer.sequence,
-        records: Listed::new(records),
-    })
 }
 
 /// The number of the event that appended an item.
@@ -154,12 +126,11 @@ fn item_writer(item: &Item) -> Writer
     }
 }
 
-/// The one record of an item's batch.
+/// The record of an item, as it is in a batch of its own.
 fn item_record(alloc: Global, config: Config, item: &Item) -> Result<Record, AllocError>
     requires config { IsConfig config }
     requires fits { IsFit config item.now }
-    ensures record { IfOk result (λ r. r ≡ item_record config item.now) }
-    ensures reads { OnOk result (Reads config item.now) }
+    ensures { IfOk result (λ r. r ≡ item_record config item.now) }
 {
     match item {
         Item::Fed { event } => fed_record(alloc, *event),
@@ -174,23 +145,91 @@ fn item_record(alloc: Global, config: Config, item: &Item) -> Result<Record, All
     }
 }
 
-/// The batch of an item at an offset.
-#[tactic(auto, using(crate::proofs::Texts::batch_of_parts, crate::proofs::Refusals::fit_writer, crate::proofs::Refusals::fit_event))]
-fn item_batch(
+/// The milliseconds from one event to another.
+fn delay(from: u64, to: u64) -> i64
+    requires from { from < 2 ^ 63 }
+    requires to { to < 2 ^ 63 }
+    ensures { result ≡ pos to -ℤ pos from }
+{
+    as_i64(to) - as_i64(from)
+}
+
+/// The record of an item in a batch that begins at the time of this event.
+#[tactic(auto, using(eos_logs::proofs::FittingTests::fit_event))]
+fn record_after(
+    alloc: Global,
+    config: Config,
+    start: u64,
+    item: &Item,
+) -> Result<Record, AllocError>
+    requires config { IsConfig config }
+    requires start { start < 2 ^ 63 }
+    requires fits { IsFit config item.now }
+    ensures { IfOk result (λ r. r ≡ record_after config start item.now) }
+{
+    let mut record = item_record(alloc, config, item)?;
+    record.timestamp_delta = delay(start, event_of(item));
+    Ok(record)
+}
+
+/// The records of a batch of an item and those that stand behind it.
+#[tactic(auto, using(eos_logs::proofs::FittingTests::fit_event))]
+fn records_of(
+    alloc: Global,
+    config: Config,
+    first: &Item,
+    behind: &[Item],
+) -> Result<Vec<Record>, AllocError>
+    requires config { IsConfig config }
+    requires fits { All (IsFit config) (first.now ∷ behind.now) }
+    ensures { IfOk result (λ r. r.items ≡ map (record_after config (event_of first.now)) (first.now ∷ behind.now)) }
+{
+    let start = event_of(first);
+    let mut records = Vec::new(alloc);
+    records.push(record_after(alloc, config, start, first)?)?;
+    for i in 0..behind.len() {
+        records.push(record_after(alloc, config, start, &behind[i])?)?;
+    }
+    Ok(records)
+}
+
+/// The last of these, or the one before them where there is none.
+fn last_or<'a>(first: &'a Item, behind: &'a [Item]) -> &'a Item
+    ensures { result.now ≡ last_or first.now behind.now }
+{
+    match behind.len() {
+        0 => first,
+        count => &behind[count - 1],
+    }
+}
+
+/// The batch at an offset of an item and those that stand behind it.
+#[tactic(auto, using(crate::proofs::Refusals::fit_writer, eos_logs::proofs::FittingTests::fit_event))]
+fn batch_of(
     alloc: Global,
     config: Config,
     offset: usize,
-    item: &Item,
+    first: &Item,
+    behind: &[Item],
 ) -> Result<Batch, AllocError>
     requires config { IsConfig config }
     requires offset { offset < 2 ^ 63 }
-    requires fits { IsFit config item.now }
-    ensures batch { IfOk result (λ b. b ≡ item_batch config offset item.now) }
-    ensures reads { OnOk result (Reads config item.now) }
+    requires fits { All (IsFit config) (first.now ∷ behind.now) }
+    ensures { IfOk result (λ b. b ≡ batch_of config offset first.now behind.now) }
 {
-    let record = item_record(alloc, config, item)?;
-    let writer = item_writer(item);
-    batch(alloc, offset, event_of(item), writer, record)
+    let records = records_of(alloc, config, first, behind)?;
+    let writer = item_writer(first);
+    Ok(Batch {
+        base_offset: as_i64(offset as u64),
+        leader_epoch: 0,
+        attributes: writer.attributes,
+        base_timestamp: as_i64(event_of(first)),
+        max_timestamp: as_i64(event_of(last_or(first, behind))),
+        producer: writer.producer,
+        epoch: writer.epoch,
+        sequence: writer.sequence,
+        records: Listed::new(records),
+    })
 }
 
 /// Want of memory, the one refusal that writing a batch has here.
@@ -200,16 +239,24 @@ fn of_memory(_fault: BatchFault) -> AllocError
     AllocError
 }
 
-/// The bytes of an item's batch.
+/// The bytes of a batch of an item and those that stand behind it.
 #[tactic(auto, using(crate::proofs::Texts::written_text, crate::proofs::Texts::is_written))]
-fn item_text(alloc: Global, config: Config, offset: usize, item: &Item) -> Result<Bytes, AllocError>
+fn batch_text(
+    alloc: Global,
+    config: Config,
+    offset: usize,
+    first: &Item,
+    behind: &[Item],
+) -> Result<Bytes, AllocError>
     requires config { IsConfig config }
-    requires offset { offset < 2 ^ 63 }
-    requires fits { IsFit config item.now }
-    ensures text { IfOk result (λ t. t ≡ batch_text_of (item_batch config offset item.now)) }
-    ensures written { OnOk result (HasText config offset item.now) }
+    requires offset { offset + length behind.now < 2 ^ 63 }
+    requires few { length behind.now < 1000 }
+    requires joined { AreJoined first.now behind.now }
+    requires fits { All (IsFit config) (first.now ∷ behind.now) }
+    ensures text { IfOk result (λ t. t ≡ batch_text_of (batch_of config offset first.now behind.now)) }
+    ensures written { OnOk result (IsBatchText (batch_text_of (batch_of config offset first.now behind.now)) (batch_of config offset first.now behind.now)) }
 {
-    let batch = item_batch(alloc, config, offset, item)?;
+    let batch = batch_of(alloc, config, offset, first, behind)?;
     match encode_batch(alloc, &batch) {
         Ok(text) => Ok(text),
         Err(fault) => Err(of_memory(fault)),
@@ -226,13 +273,19 @@ pub(crate) fn items_text(
     requires config { IsConfig config }
     requires offset { offset + length items.now < 2 ^ 63 }
     requires fits { All (IsFit config) items.now }
-    ensures text { IfOk result (λ t. t ≡ texts_from config offset items.now) }
-    ensures written { OnOk result (HaveTexts config offset items.now) }
+    ensures text { IfOk result (λ t. t ≡ texts_of (batches_from config offset items.now)) }
+    ensures written { OnOk result (AreTexts (batches_from config offset items.now)) }
 {
     let mut out = Vec::new(alloc);
-    for i in 0..items.len() {
-        let text = item_text(alloc, config, offset + i, &items[i])?;
+    let mut base = offset;
+    let mut rest = items;
+    while let Some((first, more)) = rest.split_first() {
+        let count = joining(config.batch_records - 1, first, more);
+        let (behind, others) = more.split_at(count);
+        let text = batch_text(alloc, config, base, first, behind)?;
         out.extend_from_slice(text.as_slice())?;
+        base += 1 + count;
+        rest = others;
     }
     Ok(Bytes::from_vec(out)?)
 }

@@ -3,6 +3,7 @@
 
 mod batches;
 mod fitting;
+mod joining;
 mod places;
 mod segments;
 mod values;

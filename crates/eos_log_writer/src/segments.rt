@@ -7,8 +7,8 @@ ghost use Rattle.eos_logs.specs.Fitting.{IsFit};
 ghost use Rattle.eos_log_writer.specs.declared.segments.LogFault.{LogFault};
 ghost use Rattle.eos_log_writer.specs.Names.{log_fault_name};
 ghost use Rattle.eos_evidence.specs.Evidence.{added};
-ghost use Rattle.eos_logs.specs.Batches.{HaveTexts};
-ghost use Rattle.eos_logs.specs.Evidences.{application, segment_count, segment_at, log_segments, adding};
+ghost use Rattle.eos_logs.specs.Batches.{AreTexts};
+ghost use Rattle.eos_logs.specs.Evidences.{application, segment_count, batches_at, segment_at, log_segments, adding, HaveTexts};
 
 use crate::batches::items_text;
 use crate::fitting::are_fit;
@@ -59,7 +59,7 @@ fn segment_at(
     requires begins { i * config.segment_records < length log.now }
     requires fits { All (IsFit config) log.now }
     ensures segment { IfOk result (λ s. s ≡ segment_at config place log.now i) }
-    ensures written { OnOk result (HaveTexts config (i * config.segment_records) (take config.segment_records (drop (i * config.segment_records) log.now))) }
+    ensures written { OnOk result (AreTexts (batches_at config log.now i)) }
 {
     let base = i * config.segment_records;
     let items = part(log, base, config.segment_records);
@@ -120,7 +120,7 @@ pub fn add_log(
 ) -> Result<(), LogFault>
     requires { IsConfig config }
     ensures added { OnOk result (adding builder.old (log_segments config place log.now) ≡ Ok builder.new) }
-    ensures written { OnOk result (HaveTexts config 0 log.now) }
+    ensures written { OnOk result (HaveTexts config log.now) }
     ensures only { place < place_count config → All (IsFit config) log.now → IsOk (adding builder.old (log_segments config place log.now)) → result ≢ Err LogFault.Refused }
 {
     if place >= place_count(config) {

@@ -1,9 +1,9 @@
--- How long the batches of a cluster's items are: at most 2^20 bytes, of which a segment has at most a thousand.
-use Rattle.std.proofs.Common.{◌≡◌, ℕ, zero, suc, ◌+◌, ◌*◌, ◌/◌, ◌%◌, ◌^◌, ◌<◌, ◌≤◌, ◌==◌, ◌&&◌, Bool, true, false, cond, ℤ, pos, negsuc, List, [], ◌∷◌, ◌++◌, length, map, flat_map, Option, Some, None, Ok, refl, sym, ap, subst, ◌∙◌, arith}
+-- How long the batches of a cluster's items are: at most 2^20 bytes a record, of which a segment has at most a thousand.
+use Rattle.std.proofs.Common.{◌≡◌, ℕ, zero, suc, ◌+◌, ◌-◌, ◌*◌, ◌/◌, ◌%◌, ◌^◌, ◌<◌, ◌≤◌, ◌==◌, ◌&&◌, Bool, true, false, cond, ℤ, pos, negsuc, ◌-ℤ◌, List, [], ◌∷◌, ◌++◌, length, take, map, flat_map, Option, Some, None, Ok, refl, sym, ap, subst, ◌∙◌, arith}
 use Rattle.std.specs.Prelude.{nat_lt, nat_le, if◌then◌else◌, codes}
 use Rattle.std.specs.List.{All, list_all}
-use Rattle.std.proofs.lemmas.List.{length-append}
-use Rattle.std.proofs.lemmas.List.Elements.{All-nil, All-cons, All-head, All-tail}
+use Rattle.std.proofs.lemmas.List.{length-append, length-take}
+use Rattle.std.proofs.lemmas.List.Elements.{All-nil, All-cons, All-head, All-tail, All-take}
 use Rattle.std.proofs.lemmas.Bool.{lt-ltb}
 use Rattle.eos_wire.specs.Numbers.{i8_text, i16_text, i32_text, i64_text}
 use Rattle.eos_wire.specs.Writing.{groups_of, varint_of, varlong_of, uvarint_of}
@@ -29,7 +29,8 @@ use Rattle.eos_machine.specs.declared.item.Item.{Item}
 use Rattle.eos_machine.specs.declared.item.Item.TheVariants.{Fed, State, Output, Offset, Marker}
 use Rattle.eos_machine.specs.Rest.{by_topic, with_number, value_of}
 use Rattle.eos_machine.specs.Sessions.{claimed_topic}
-use Rattle.eos_logs.specs.Batches.{group, transactional_id, bytes_of, record_of, fed_record, state_record, header, claim_headers, headers_of, output_record, commit_value, offset_record, control_type, marker_record, item_batch, texts_from}
+use Rattle.eos_logs.specs.Batches.{group, transactional_id, bytes_of, fed_record, state_record, header, claim_headers, headers_of, output_record, commit_value, offset_record, control_type, marker_record, event_of, delayed, record_after, batch_of, behind, batches_after, texts_of}
+use Rattle.eos_logs.proofs.Grouping.{joining_within}
 use Rattle.eos_logs.specs.Fitting.{IsFit, AreAllThere}
 
 -- ---- numbers and texts
@@ -75,24 +76,17 @@ no_headers : length (headers_text []) ≡ 0
 unfolding headers_text
 no_headers = refl
 
--- ---- a record, and its batch
+-- ---- a record
 
-one_record : (r : Record) → length (records_text 0 (r ∷ [])) ≡ length (record_text 0 r)
-unfolding records_text
-one_record r = length-append (record_text 0 r) [] ∙ omega arith
-
-batch_short : (b : Batch) (r : Record) (k v h : ℕ) → b.records ≡ r ∷ [] → length (optional_text r.key) ≤ k → length (optional_text r.value) ≤ v → length (headers_text r.headers) ≤ h → length (batch_text_of b) ≤ 100 + k + v + h
-batch_short b r k v h is kl vl hl =
-    let e = length-batch_text_of b in
-    let m = ap (λ rs. length (records_text 0 rs)) is in
-    let o = one_record r in
-    let t = length-record_text 0 r in
-    let y = length-body_text 0 r in
-    let a = varint_short (pos (length (body_text 0 r))) in
-    let d = varlong_short r.timestamp_delta in
-    let p = varint_short (pos 0) in
+record_short : (place : ℕ) (delta : ℤ) (r : Record) (k v h : ℕ) → length (optional_text r.key) ≤ k → length (optional_text r.value) ≤ v → length (headers_text r.headers) ≤ h → length (record_text place (delayed r delta)) ≤ 30 + k + v + h
+record_short place delta r k v h kl vl hl =
+    let t = length-record_text place (delayed r delta) in
+    let y = length-body_text place (delayed r delta) in
+    let a = varint_short (pos (length (body_text place (delayed r delta)))) in
+    let d = varlong_short delta in
+    let p = varint_short (pos place) in
     let n = varint_short (pos (length r.headers)) in
-    omega (arith, e, m, o, t, y, a, d, p, n, kl, vl, hl)
+    omega (arith, t, y, a, d, p, n, kl, vl, hl)
 
 -- ---- the partitions of a transaction, by topic
 
@@ -263,29 +257,51 @@ commit_value_length q (Some v) =
 i64_value : (z : ℤ) → length (optional_text (Some (i64_text z))) ≤ 13
 i64_value z = let o = optional_short (i64_text z) in let l = length-i64_text z in omega (arith, o, l)
 
-pub item_short : (c : Config) (o : ℕ) (x : Item) → IsConfig c → IsFit c x → length (batch_text_of (item_batch c o x)) ≤ 2 ^ 20
-item_short c o (Fed n) i h =
-    let b = batch_short (item_batch c o (Fed n)) (fed_record n) 5 13 0 refl null_short (i64_value (pos n)) (let z = no_headers in omega (arith, z)) in omega (arith, b)
-item_short c o (State a x n) i h =
+item_short : (c : Config) (place n : ℕ) (x : Item) → IsConfig c → IsFit c x → length (record_text place (record_after c n x)) ≤ 2 ^ 20 - 100
+item_short c place n (Fed m) i h =
+    let b = record_short place (pos m -ℤ pos n) (fed_record m) 5 13 0 null_short (i64_value (pos m)) (let z = no_headers in omega (arith, z)) in omega (arith, b)
+item_short c place n (State a x m) i h =
     let k = optional_short (bytes_of (write_key (transactional_id a))) in let kl = key_length a in
-    let v = optional_short (bytes_of (write_value (pos 1) (value_of c a x n))) in let vl = value_length c a x n i h.2 in
-    let b = batch_short (item_batch c o (State a x n)) (state_record c a x n) 30 8010 0 refl (omega (arith, k, kl)) (omega (arith, v, vl)) (let z = no_headers in omega (arith, z)) in omega (arith, b)
-item_short c o (Output a e s x v n) i h =
-    let b = batch_short (item_batch c o (Output a e s x v n)) (output_record x v) 5 13 500 refl null_short (i64_value (pos v)) (headers_length x h.3) in omega (arith, b)
-item_short c o (Offset a e q v n) i h =
+    let v = optional_short (bytes_of (write_value (pos 1) (value_of c a x m))) in let vl = value_length c a x m i h.2 in
+    let b = record_short place (pos m -ℤ pos n) (state_record c a x m) 30 8010 0 (omega (arith, k, kl)) (omega (arith, v, vl)) (let z = no_headers in omega (arith, z)) in omega (arith, b)
+item_short c place n (Output a e s x v m) i h =
+    let b = record_short place (pos m -ℤ pos n) (output_record x v) 5 13 500 null_short (i64_value (pos v)) (headers_length x h.3) in omega (arith, b)
+item_short c place n (Offset a e q v m) i h =
     let k = optional_short (bytes_of (offsets.write_key (record { group = group; topic = input_topic; partition = pos q }))) in let kl = offset_key_length q in
-    let b = batch_short (item_batch c o (Offset a e q v n)) (offset_record q v) 30 50 0 refl (omega (arith, k, kl)) (commit_value_length q v) (let z = no_headers in omega (arith, z)) in omega (arith, b)
-item_short c o (Marker a e k n) i h =
+    let b = record_short place (pos m -ℤ pos n) (offset_record q v) 30 50 0 (omega (arith, k, kl)) (commit_value_length q v) (let z = no_headers in omega (arith, z)) in omega (arith, b)
+item_short c place n (Marker a e k m) i h =
     let t = optional_short (i16_text (pos 0) ++ i16_text (control_type k)) in
     let tl : length (i16_text (pos 0) ++ i16_text (control_type k)) ≡ 4 = simp (length-append, length-i16_text) refl in
     let v = optional_short (i16_text (pos 0) ++ i32_text (pos 0)) in
     let vl : length (i16_text (pos 0) ++ i32_text (pos 0)) ≡ 6 = simp (length-append, length-i16_text, length-i32_text) refl in
-    let b = batch_short (item_batch c o (Marker a e k n)) (marker_record k) 30 50 0 refl (omega (arith, t, tl)) (omega (arith, v, vl)) (let z = no_headers in omega (arith, z)) in omega (arith, b)
+    let b = record_short place (pos m -ℤ pos n) (marker_record k) 30 50 0 (omega (arith, t, tl)) (omega (arith, v, vl)) (let z = no_headers in omega (arith, z)) in omega (arith, b)
 
-pub items_short : (c : Config) (o : ℕ) (xs : List Item) → IsConfig c → All (IsFit c) xs → length (texts_from c o xs) ≤ 2 ^ 20 * length xs
-items_short c o [] i h = omega arith
-items_short c o (x ∷ xs) i h =
-    let e = length-append (batch_text_of (item_batch c o x)) (texts_from c (o + 1) xs) in
-    let a = item_short c o x i (All-head (IsFit c) x xs h) in
-    let r = items_short c (o + 1) xs i (All-tail (IsFit c) x xs h) in
+records_short : (c : Config) (place n : ℕ) (xs : List Item) → IsConfig c → All (IsFit c) xs → length (records_text place (map (record_after c n) xs)) ≤ (2 ^ 20 - 100) * length xs
+unfolding records_text
+records_short c place n [] i h = omega arith
+records_short c place n (x ∷ xs) i h =
+    let e = length-append (record_text place (record_after c n x)) (records_text (suc place) (map (record_after c n) xs)) in
+    let a = item_short c place n x i (All-head (IsFit c) x xs h) in
+    let r = records_short c (suc place) n xs i (All-tail (IsFit c) x xs h) in
     omega (arith, e, a, r)
+
+-- ---- a batch, and several
+
+pub batch_short : (c : Config) (o : ℕ) (x : Item) (ys : List Item) → IsConfig c → All (IsFit c) (x ∷ ys) → length (batch_text_of (batch_of c o x ys)) ≤ 2 ^ 20 * (1 + length ys)
+batch_short c o x ys i h =
+    let e = length-batch_text_of (batch_of c o x ys) in
+    let r = records_short c 0 (event_of x) (x ∷ ys) i h in
+    omega (arith, e, r)
+
+pub texts_short : (c : Config) (n o : ℕ) (xs : List Item) → n ≤ length xs → IsConfig c → All (IsFit c) xs → length (texts_of (batches_after c n o xs)) + 2 ^ 20 * n ≤ 2 ^ 20 * length xs
+texts_short c n o [] l i h = omega (arith, l)
+texts_short c zero o (x ∷ xs) l i h =
+    let m : ℕ = behind c x xs in
+    let w = joining_within (c.batch_records - 1) x xs in
+    let e = length-append (batch_text_of (batch_of c o x (take m xs))) (texts_of (batches_after c m (o + 1) xs)) in
+    let t = length-take m xs in
+    let f = All-tail (IsFit c) x xs h in
+    let a = batch_short c o x (take m xs) i (All-cons (IsFit c) x (take m xs) (All-head (IsFit c) x xs h) (All-take (IsFit c) m xs f)) in
+    let r = texts_short c m (o + 1) xs w i f in
+    omega (arith, w, e, t, a, r)
+texts_short c (suc n) o (x ∷ xs) l i h = let r = texts_short c n (o + 1) xs (omega (arith, l)) i (All-tail (IsFit c) x xs h) in omega (arith, r)

@@ -1,7 +1,9 @@
 -- No batch of a cluster's items is refused.
-use Rattle.std.proofs.Common.{◌≡◌, ℕ, ◌+◌, ◌^◌, ◌<◌, ◌≤◌, ◌≤ℤ◌, ◌+ℤ◌, Bool, true, false, not, ℤ, pos, negsuc, length, Ok, refl, sym, ap, subst, ◌∙◌, arith}
+use Rattle.std.proofs.Common.{◌≡◌, ℕ, suc, ◌+◌, ◌^◌, ◌<◌, ◌≤◌, ◌≤ℤ◌, ◌+ℤ◌, Bool, true, false, not, ℤ, pos, negsuc, List, [], ◌∷◌, map, length, Ok, refl, sym, ap, subst, ◌∙◌, arith}
 use Rattle.std.specs.Prelude.{int_lt, int_le, if◌then◌else◌}
+use Rattle.std.specs.List.{All}
 use Rattle.std.proofs.lemmas.Int.{ints}
+use Rattle.std.proofs.lemmas.List.{length-map}
 use Rattle.eos_batch.specs.declared.batch.Batch.{Batch}
 use Rattle.eos_batch.specs.declared.marker.Kind.TheVariants.{Commit, Abort}
 use Rattle.eos_batch.specs.Attributes.{is_compressed}
@@ -15,46 +17,43 @@ use Rattle.eos_machine.specs.declared.item.Item.{Item}
 use Rattle.eos_machine.specs.declared.item.Item.TheVariants.{Fed, State, Output, Offset, Marker}
 use Rattle.eos_machine.specs.Places.{IsConfig}
 use Rattle.eos_machine.specs.Rest.{producer_id}
-use Rattle.eos_logs.specs.Batches.{item_batch}
+use Rattle.eos_logs.specs.Batches.{event_of, record_after, batch_of}
+use Rattle.eos_logs.specs.Grouping.{AreJoined}
 use Rattle.eos_logs.specs.Fitting.{IsFit}
-use Rattle.eos_logs.proofs.BatchSizes.{item_short}
+use Rattle.eos_logs.proofs.BatchSizes.{batch_short}
 
-plain : (c : Config) (o : ℕ) (x : Item) → is_compressed (item_batch c o x).attributes ≡ false
-plain c o (Fed n) = refl
-plain c o (State a x n) = refl
-plain c o (Output a e s x v n) = refl
-plain c o (Offset a e q v n) = refl
-plain c o (Marker a e k n) = refl
+plain : (c : Config) (o : ℕ) (x : Item) (ys : List Item) → is_compressed (batch_of c o x ys).attributes ≡ false
+plain c o (Fed n) ys = refl
+plain c o (State a x n) ys = refl
+plain c o (Output a e s x v n) ys = refl
+plain c o (Offset a e q v n) ys = refl
+plain c o (Marker a e k n) ys = refl
 
-counted_at : (o : ℕ) (b : Batch) → b.base_offset ≡ pos o → length b.records ≡ 1 → o < 2 ^ 63 → IsCounted b
-counted_at o b e n l = record {
-  some = omega (arith, n);
-  fits = omega (arith, n);
-  first = subst (λ z. pos 0 ≤ℤ z) (sym e) (from_zero o);
-  last = subst (λ z. (z +ℤ pos (length b.records)) ≤ℤ pos (2 ^ 63)) (sym e) (subst (λ m. (pos o +ℤ pos m) ≤ℤ pos (2 ^ 63)) (sym n) (below o l));
-}
+is_counted : (c : Config) (o : ℕ) (x : Item) (ys : List Item) → o + length ys < 2 ^ 63 → length ys < 2 ^ 30 → IsCounted (batch_of c o x ys)
+is_counted c o x ys l m =
+    let e = length-map ys (record_after c (event_of x)) in
+    record {
+      some = omega arith;
+      fits = omega (arith, e, m);
+      first = from_zero o;
+      last = below o (length (map (record_after c (event_of x)) ys)) (omega (arith, e, l));
+    }
   where
     from_zero : (o : ℕ) → pos 0 ≤ℤ pos o
     from_zero o = grind (arith, ints)
 
-    below : (o : ℕ) → o < 2 ^ 63 → (pos o +ℤ pos 1) ≤ℤ pos (2 ^ 63)
-    below o l = grind (arith, ints, l)
+    below : (o n : ℕ) → o + n < 2 ^ 63 → (pos o +ℤ pos (suc n)) ≤ℤ pos (2 ^ 63)
+    below o n l = grind (arith, ints, l)
 
-pub is_counted : (c : Config) (o : ℕ) (x : Item) → o < 2 ^ 63 → IsCounted (item_batch c o x)
-is_counted c o (Fed n) l = counted_at o _ refl refl l
-is_counted c o (State a x n) l = counted_at o _ refl refl l
-is_counted c o (Output a e s x v n) l = counted_at o _ refl refl l
-is_counted c o (Offset a e q v n) l = counted_at o _ refl refl l
-is_counted c o (Marker a e k n) l = counted_at o _ refl refl l
-
-right_control : (c : Config) (o : ℕ) (x : Item) → has_right_control (item_batch c o x) ≡ true
+right_control : (c : Config) (o : ℕ) (x : Item) (ys : List Item) → AreJoined x ys → has_right_control (batch_of c o x ys) ≡ true
 unfolding i16_text i32_text i16_at i32_at
-right_control c o (Fed n) = refl
-right_control c o (State a x n) = refl
-right_control c o (Output a e s x v n) = refl
-right_control c o (Offset a e q v n) = refl
-right_control c o (Marker a e Commit n) = refl
-right_control c o (Marker a e Abort n) = refl
+right_control c o (Fed n) ys j = refl
+right_control c o (State a x n) ys j = refl
+right_control c o (Output a e s x v n) ys j = refl
+right_control c o (Offset a e q v n) ys j = refl
+right_control c o (Marker a e Commit n) [] j = refl
+right_control c o (Marker a e Abort n) [] j = refl
+right_control c o (Marker a e k n) (y ∷ ys) j = absurd (let f = j.0 in cc)
 
 no_plain : (a : ℕ) → int_lt (producer_id a) (pos 0) ≡ false
 no_plain a = grind (arith, ints)
@@ -65,14 +64,14 @@ some_epoch e = grind (arith, ints)
 chosen : (b t n : Bool) → b ≡ false → t ≡ true → (if b then n else t) ≡ true
 chosen b t n e f = rw e f
 
-right_producer : (c : Config) (o : ℕ) (x : Item) → has_right_producer (item_batch c o x) ≡ true
-right_producer c o (Fed n) = refl
-right_producer c o (State a x n) = refl
-right_producer c o (Output a e s x v n) = chosen _ _ _ (no_plain a) (some_epoch e)
-right_producer c o (Offset a e q v n) = chosen _ _ _ (no_plain a) (some_epoch e)
-right_producer c o (Marker a e k n) = chosen _ _ _ (no_plain a) (some_epoch e)
+right_producer : (c : Config) (o : ℕ) (x : Item) (ys : List Item) → has_right_producer (batch_of c o x ys) ≡ true
+right_producer c o (Fed n) ys = refl
+right_producer c o (State a x n) ys = refl
+right_producer c o (Output a e s x v n) ys = chosen _ _ _ (no_plain a) (some_epoch e)
+right_producer c o (Offset a e q v n) ys = chosen _ _ _ (no_plain a) (some_epoch e)
+right_producer c o (Marker a e k n) ys = chosen _ _ _ (no_plain a) (some_epoch e)
 
-pub item_tested : (c : Config) (o : ℕ) (x : Item) → IsConfig c → o < 2 ^ 63 → IsFit c x → tested (item_batch c o x) ≡ Ok tt
-item_tested c o x i l h =
-    let s = item_short c o x i h in
-    passes_by (item_batch c o x) (plain c o x) (is_counted c o x l) (right_control c o x) (right_producer c o x) (omega (arith, s))
+pub batch_tested : (c : Config) (o : ℕ) (x : Item) (ys : List Item) → IsConfig c → o + length ys < 2 ^ 63 → length ys < 1000 → AreJoined x ys → All (IsFit c) (x ∷ ys) → tested (batch_of c o x ys) ≡ Ok tt
+batch_tested c o x ys i l m j h =
+    let s = batch_short c o x ys i h in
+    passes_by (batch_of c o x ys) (plain c o x ys) (is_counted c o x ys l (omega (arith, m))) (right_control c o x ys j) (right_producer c o x ys) (omega (arith, s, m))

@@ -1,5 +1,5 @@
 -- The tests of what fits say what they are meant to say.
-use Rattle.std.proofs.Common.{◌≡◌, ℕ, zero, suc, ◌^◌, ◌<◌, ◌≤◌, ◌&&◌, Bool, true, false, List, [], ◌∷◌, length, refl}
+use Rattle.std.proofs.Common.{◌≡◌, ℕ, zero, suc, ◌^◌, ◌<◌, ◌≤◌, ◌&&◌, Bool, true, false, ◌-◌, List, [], ◌∷◌, length, refl}
 use Rattle.std.specs.Prelude.{nat_lt, nat_le}
 use Rattle.std.specs.List.{All, list_all}
 use Rattle.std.proofs.lemmas.List.Elements.{All-nil, All-cons, All-head, All-tail}
@@ -10,6 +10,8 @@ use Rattle.eos_machine.specs.declared.item.Item.TheVariants.{Fed, State, Output,
 use Rattle.eos_machine.specs.Places.{place_count}
 use Rattle.eos_machine.specs.Sessions.{claimed_topic}
 use Rattle.eos_logs.specs.Fitting.{AreAllThere, IsFit}
+use Rattle.eos_logs.specs.Batches.{event_of, last_or}
+use Rattle.eos_logs.proofs.Grouping.{all_at}
 use Rattle.eos_logs.specs.steps.Fits.{are_all_there, is_fit}
 
 below_all : (n : ℕ) (ps : List ℕ) → list_all (λ p. nat_lt p n) ps ≡ true → All (λ p. p < n) ps
@@ -64,3 +66,14 @@ all_fit c (x ∷ xs) h = let b = and_parts (is_fit c x) (list_all (is_fit c) xs)
 pub fit_all : (c : Config) (xs : List Item) → All (IsFit c) xs → list_all (is_fit c) xs ≡ true
 fit_all c [] h = refl
 fit_all c (x ∷ xs) h = and_from (is_fit c x) (list_all (is_fit c) xs) (fit_is c x (All-head (IsFit c) x xs h)) (fit_all c xs (All-tail (IsFit c) x xs h))
+
+-- the event of what fits
+pub fit_event : (c : Config) (x : Item) → IsFit c x → event_of x < 2 ^ 63
+fit_event c (Fed n) h = h
+fit_event c (State a x n) h = h.3
+fit_event c (Output a e s x v n) h = h.5
+fit_event c (Offset a e q v n) h = h.3
+fit_event c (Marker a e k n) h = h.2
+
+pub fit_last : (c : Config) (x : Item) (ys : List Item) → All (IsFit c) (x ∷ ys) → IsFit c (last_or x ys)
+fit_last c x ys h = all_at (IsFit c) ys (length ys - 1) x (All-head (IsFit c) x ys h) (All-tail (IsFit c) x ys h)

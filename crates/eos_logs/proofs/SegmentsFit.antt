@@ -8,11 +8,10 @@ use Rattle.eos_machine.specs.declared.config.Config.{Config}
 use Rattle.eos_machine.specs.declared.item.Item.{Item}
 use Rattle.eos_machine.specs.Places.{IsConfig, place_count}
 use Rattle.eos_machine.specs.World.{World, log_at}
-use Rattle.eos_logs.specs.Batches.{texts_from}
-use Rattle.eos_logs.specs.Evidences.{segment_count, segment_at, HasRoomForAll}
+use Rattle.eos_logs.specs.Evidences.{segment_count, part_at, segment_at, HasRoomForAll}
 use Rattle.eos_logs.specs.Fitting.{IsFit}
 use Rattle.eos_logs.specs.steps.Writable.{total}
-use Rattle.eos_logs.proofs.BatchSizes.{items_short}
+use Rattle.eos_logs.proofs.BatchSizes.{texts_short}
 
 -- ---- none is too long
 
@@ -33,8 +32,8 @@ take_few (suc n) (x ∷ xs) = let r = take_few n xs in omega (arith, r)
 
 pub segment_short : (c : Config) (p : ℕ) (log : List Item) (i : ℕ) → IsConfig c → All (IsFit c) log → length (segment_at c p log i).bytes ≤ 2 ^ 30
 segment_short c p log i f h =
-    let xs : List Item = take c.segment_records (drop (i * c.segment_records) log) in
-    let s = items_short c (i * c.segment_records) xs f (all_take (IsFit c) c.segment_records (drop (i * c.segment_records) log) (all_drop (IsFit c) (i * c.segment_records) log h)) in
+    let xs : List Item = part_at c log i in
+    let s = texts_short c 0 (i * c.segment_records) xs (omega arith) f (all_take (IsFit c) c.segment_records (drop (i * c.segment_records) log) (all_drop (IsFit c) (i * c.segment_records) log h)) in
     let t = take_few c.segment_records (drop (i * c.segment_records) log) in
     omega (arith, s, t, f.segment_records.1)
 

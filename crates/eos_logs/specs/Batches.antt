@@ -1,7 +1,6 @@
--- The batches of a cluster's logs, of one record each (Kafka's Message Format, "Record Batch" and "Control Batches"; its
--- schemas TransactionLogKey and TransactionLogValue in version 1, OffsetCommitKey in version 1 and OffsetCommitValue in
--- version 3).
-use Rattle.std.specs.Prelude.{◌≡◌, ℕ, ◌+◌, ℤ, pos, negsuc, List, [], ◌∷◌, ◌++◌, codes, Option, Some, None, Result, Ok, Err, ⊤}
+-- The batches of a cluster's logs (Kafka's Message Format, "Record Batch" and "Control Batches"; its schemas TransactionLogKey
+-- and TransactionLogValue in version 1, OffsetCommitKey in version 1 and OffsetCommitValue in version 3).
+use Rattle.std.specs.Prelude.{◌≡◌, ℕ, zero, suc, ◌+◌, ◌-◌, ℤ, pos, negsuc, ◌-ℤ◌, List, [], ◌∷◌, ◌++◌, map, take, length, slice_index_or, codes, Option, Some, None, Result, Ok, Err, ⊤}
 use Rattle.eos_base.specs.declared.record_fault.RecordFault.{RecordFault}
 use Rattle.eos_wire.specs.Numbers.{i16_text, i32_text, i64_text}
 use Rattle.eos_batch.specs.declared.marker.Kind.{Kind}
@@ -22,6 +21,7 @@ use Rattle.eos_machine.specs.declared.item.Entry.{Entry}
 use Rattle.eos_machine.specs.Places.{input_topic}
 use Rattle.eos_machine.specs.Rest.{producer_id, value_of}
 use Rattle.eos_logs.specs.declared.writer.Writer.{Writer}
+use Rattle.eos_logs.specs.Grouping.{joining}
 
 -- the group of all applications
 abbrev pub group : List ℕ
@@ -92,38 +92,83 @@ transactional a e q = record { attributes = pos 16; producer = producer_id a; ep
 abbrev pub control : ℕ → ℕ → Writer
 control a e = record { attributes = pos 48; producer = producer_id a; epoch = pos e; sequence = negsuc 0 }
 
--- at this offset, of this event, by this writer
-abbrev pub batch : ℕ → ℕ → Writer → Record → Batch
-batch o n w r = record {
+-- ---- an item
+
+-- the event that appended it
+abbrev pub event_of : Item → ℕ
+event_of (Fed n) = n
+event_of (State a x n) = n
+event_of (Output a e s x v n) = n
+event_of (Offset a e q v n) = n
+event_of (Marker a e k n) = n
+
+abbrev pub item_writer : Item → Writer
+item_writer (Fed n) = plain
+item_writer (State a x n) = plain
+item_writer (Output a e s x v n) = transactional a e (pos s)
+item_writer (Offset a e q v n) = transactional a e (negsuc 0)
+item_writer (Marker a e k n) = control a e
+
+-- its record, as it is in a batch of its own
+abbrev pub item_record : Config → Item → Record
+item_record c (Fed n) = fed_record n
+item_record c (State a x n) = state_record c a x n
+item_record c (Output a e s x v n) = output_record x v
+item_record c (Offset a e q v n) = offset_record q v
+item_record c (Marker a e k n) = marker_record k
+
+abbrev pub delayed : Record → ℤ → Record
+delayed r delta = record { attributes = r.attributes; timestamp_delta = delta; key = r.key; value = r.value; headers = r.headers }
+
+-- its record in a batch that begins at the time of this event
+abbrev pub record_after : Config → ℕ → Item → Record
+record_after c n x = delayed (item_record c x) (pos (event_of x) -ℤ pos n)
+
+-- ---- the batches of a log
+
+-- the last of these, or the one before them where there is none
+abbrev pub last_or : Item → List Item → Item
+last_or x ys = slice_index_or ys (length ys - 1) x
+
+-- at this offset an item and those that stand behind it, by the writer of the first, from its time to that of the last
+abbrev pub batch_of : Config → ℕ → Item → List Item → Batch
+batch_of c o x ys = record {
   base_offset = pos o;
   leader_epoch = pos 0;
-  attributes = w.attributes;
-  base_timestamp = pos n;
-  max_timestamp = pos n;
-  producer = w.producer;
-  epoch = w.epoch;
-  sequence = w.sequence;
-  records = r ∷ [];
+  attributes = (item_writer x).attributes;
+  base_timestamp = pos (event_of x);
+  max_timestamp = pos (event_of (last_or x ys));
+  producer = (item_writer x).producer;
+  epoch = (item_writer x).epoch;
+  sequence = (item_writer x).sequence;
+  records = map (record_after c (event_of x)) (x ∷ ys);
 }
 
-abbrev pub item_batch : Config → ℕ → Item → Batch
-item_batch c o (Fed n) = batch o n plain (fed_record n)
-item_batch c o (State a x n) = batch o n plain (state_record c a x n)
-item_batch c o (Output a e s x v n) = batch o n (transactional a e (pos s)) (output_record x v)
-item_batch c o (Offset a e q v n) = batch o n (transactional a e (negsuc 0)) (offset_record q v)
-item_batch c o (Marker a e k n) = batch o n (control a e) (marker_record k)
+-- how many stand in the batch of an item
+abbrev pub behind : Config → Item → List Item → ℕ
+behind c x xs = joining (c.batch_records - 1) x xs
 
--- items one after the other, the first of them at this offset
-abbrev pub texts_from : Config → ℕ → List Item → List ℕ
-texts_from c o [] = []
-texts_from c o (x ∷ xs) = batch_text_of (item_batch c o x) ++ texts_from c (o + 1) xs
+-- the batches of items, the first of them at this offset, of which so many at the front stand in a batch already
+abbrev pub batches_after : Config → ℕ → ℕ → List Item → List Batch
+batches_after c n o [] = []
+batches_after c zero o (x ∷ xs) = batch_of c o x (take (behind c x xs) xs) ∷ batches_after c (behind c x xs) (o + 1) xs
+batches_after c (suc n) o (x ∷ xs) = batches_after c n (o + 1) xs
 
 -- items one after the other as batches, the first of them at this offset
 abbrev pub batches_from : Config → ℕ → List Item → List Batch
-batches_from c o [] = []
-batches_from c o (x ∷ xs) = item_batch c o x ∷ batches_from c (o + 1) xs
+batches_from c o xs = batches_after c 0 o xs
+
+-- the bytes of batches one after the other
+abbrev pub texts_of : List Batch → List ℕ
+texts_of [] = []
+texts_of (b ∷ bs) = batch_text_of b ++ texts_of bs
 
 -- ---- what is written reads back
+
+-- each batch's bytes are a text of it
+abbrev pub AreTexts : List Batch → Type 0
+AreTexts [] = ⊤
+AreTexts (b ∷ bs) = IsBatchText (batch_text_of b) b × AreTexts bs
 
 -- the value of a state's record
 abbrev pub Reads : Config → Item → Type 0
@@ -133,11 +178,6 @@ Reads c (Output a e s x v n) = ⊤
 Reads c (Offset a e q v n) = ⊤
 Reads c (Marker a e k n) = ⊤
 
--- at this offset the item's bytes are a text of its batch
-pub record HasText (c : Config) (o : ℕ) (x : Item) : Type 0 where
-  pub text : IsBatchText (batch_text_of (item_batch c o x)) (item_batch c o x)
-  pub reads : Reads c x
-
-abbrev pub HaveTexts : Config → ℕ → List Item → Type 0
-HaveTexts c o [] = ⊤
-HaveTexts c o (x ∷ xs) = HasText c o x × HaveTexts c (o + 1) xs
+abbrev pub AreRead : Config → List Item → Type 0
+AreRead c [] = ⊤
+AreRead c (x ∷ xs) = Reads c x × AreRead c xs

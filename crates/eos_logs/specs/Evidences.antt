@@ -12,7 +12,8 @@ use Rattle.eos_machine.specs.declared.config.Config.{Config}
 use Rattle.eos_machine.specs.declared.item.Item.{Item}
 use Rattle.eos_machine.specs.Places.{place_count, topic_of, number_of, input_topic, output_topic}
 use Rattle.eos_machine.specs.World.{World, log_at}
-use Rattle.eos_logs.specs.Batches.{group, texts_from, HaveTexts}
+use Rattle.eos_batch.specs.declared.batch.Batch.{Batch}
+use Rattle.eos_logs.specs.Batches.{group, batches_from, texts_of, AreTexts, AreRead}
 
 -- the one group, which reads `in` and writes `out`
 abbrev pub application : App
@@ -29,13 +30,21 @@ parts_of c w = record { apps = application ∷ []; ends = map (end_of c w) (rang
 abbrev pub segment_count : Config → ℕ → ℕ
 segment_count c n = (n + (c.segment_records - 1)) / c.segment_records
 
--- the i-th segment of a log: as many records as are configured, or those that are left
+-- the items of the i-th segment of a log: as many as are configured, or those that are left
+abbrev pub part_at : Config → List Item → ℕ → List Item
+part_at c log i = take c.segment_records (drop (i * c.segment_records) log)
+
+-- its batches: the last one ends where the segment ends
+abbrev pub batches_at : Config → List Item → ℕ → List Batch
+batches_at c log i = batches_from c (i * c.segment_records) (part_at c log i)
+
+-- the i-th segment of a log
 abbrev pub segment_at : Config → ℕ → List Item → ℕ → Segment
 segment_at c p log i = record {
   topic = topic_of c p;
   partition = pos (number_of c p);
   base = pos (i * c.segment_records);
-  bytes = texts_from c (i * c.segment_records) (take c.segment_records (drop (i * c.segment_records) log));
+  bytes = texts_of (batches_at c log i);
 }
 
 abbrev pub log_segments : Config → ℕ → List Item → List Segment
@@ -49,12 +58,17 @@ abbrev pub adding : EvidenceParts → List Segment → Result EvidenceParts AddF
 adding e [] = Ok e
 adding e (s ∷ ss) = added e s >>= λ f. adding f ss
 
--- the evidence that is made of the cluster's parts and of exactly its segments, in which each item's bytes are a text of its batch
+-- a log that is written down: the bytes of each batch are a text of it, and the states read back
+pub record HaveTexts (c : Config) (log : List Item) : Type 0 where
+  pub texts : (i : ℕ) → i < segment_count c (length log) → AreTexts (batches_at c log i)
+  pub reads : AreRead c log
+
+-- the evidence that is made of the cluster's parts and of exactly its segments, in which each batch's bytes are a text of it
 pub record IsEvidenceOf (c : Config) (w : World) (e : EvidenceParts) : Type 0 where
   pub spec : Parts
   pub accepted : accepted (parts_of c w) ≡ Ok spec
   pub added : adding (without_segments spec) (cluster_segments c w) ≡ Ok e
-  pub written : (p : ℕ) → p < place_count c → HaveTexts c 0 (log_at w p)
+  pub written : (p : ℕ) → p < place_count c → HaveTexts c (log_at w p)
 
 -- two segments an event at the most, cut short only at the end of a partition: as many as evidence may have
 abbrev pub HasRoomForAll : Config → World → Type 0

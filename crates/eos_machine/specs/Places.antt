@@ -12,6 +12,7 @@ pub record IsConfig (c : Config) : Type 0 where
   pub outputs : (1 ≤ c.outputs) × (c.outputs ≤ 16)
   pub transaction_logs : (1 ≤ c.transaction_logs) × (c.transaction_logs ≤ 4)
   pub segment_records : (1 ≤ c.segment_records) × (c.segment_records ≤ 1000)
+  pub batch_records : (1 ≤ c.batch_records) × (c.batch_records ≤ 1000)
 
 -- the one partition of the offsets
 abbrev pub offsets_place : ℕ

@@ -10,10 +10,10 @@ use Rattle.eos_machine.specs.Machine.{run, replies}
 
 -- two applications, two partitions of each topic of theirs; and one of everything
 abbrev pub pair : Config
-pair = record { applications = 2; inputs = 2; outputs = 2; transaction_logs = 1; segment_records = 16 }
+pair = record { applications = 2; inputs = 2; outputs = 2; transaction_logs = 1; segment_records = 16; batch_records = 1 }
 
 abbrev pub single : Config
-single = record { applications = 1; inputs = 1; outputs = 1; transaction_logs = 1; segment_records = 1 }
+single = record { applications = 1; inputs = 1; outputs = 1; transaction_logs = 1; segment_records = 1; batch_records = 1 }
 
 -- the only output of the input at in-0:0
 abbrev pub claim : Option Claim

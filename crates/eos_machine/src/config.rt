@@ -14,4 +14,6 @@ pub struct Config {
     pub transaction_logs: usize,
     /// The records of a segment, from 1 to 1,000; the last segment of a partition may have fewer.
     pub segment_records: usize,
+    /// The records of a batch at the most, from 1 to 1,000: so many one after the other that one client wrote.
+    pub batch_records: usize,
 }

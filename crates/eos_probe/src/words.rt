@@ -33,10 +33,10 @@ pub(crate) fn or_bad<T: Copy>(notes: &mut Notes, found: Option<T>, instead: T) -
 }
 
 /// The numbers of a text, so many, separated by commas; then zeros.
-pub(crate) fn numbers_of(notes: &mut Notes, text: &str, count: usize) -> [i64; 5] {
-    let mut numbers = [0; 5];
+pub(crate) fn numbers_of(notes: &mut Notes, text: &str, count: usize) -> [i64; 6] {
+    let mut numbers = [0; 6];
     let mut rest = text;
-    for i in 0..count.min(5) {
+    for i in 0..count.min(6) {
         let (first, more) = rest.split_once(',').unwrap_or((rest, ""));
         numbers[i] = or_bad(notes, first.parse::<i64>().ok(), 0);
         rest = more;

@@ -37,7 +37,7 @@ use Rattle.eos_machine.specs.Application as app
 use Rattle.eos_machine.specs.Application.{Mark, IsOrdered, IsClosed, Fate, Matched, Never, first_end, Decision as Decided}
 use Rattle.eos_machine.specs.Logs.{marks_of}
 use Rattle.eos_machine.specs.Rest.{producer_id, decisions_of, marks_at, by_topic}
-use Rattle.eos_logs.specs.Batches.{item_batch, batches_from}
+use Rattle.eos_schedules.proofs.Singles.{item_batch, singles_from}
 use Rattle.eos_schedules.proofs.LogTouches.{end_marker, item_touch, item_marker, marker_is, touch_is, same_producer}
 use Rattle.eos_schedules.proofs.ListedNames.{has_contained, contains_had, name_at, listed_at, at_listed}
 use Rattle.eos_schedules.proofs.Settled.{IsSettled, IsLog, AreAt, in_logs, at_logs, log_batches}
@@ -84,8 +84,8 @@ AreEnd (Some m) (Some k) = (m.epoch ≡ pos k.0) × (m.kind ≡ k.1)
 touch_step : (c : Config) (o : ℕ) (x : Item) → touch_of (item_batch c o x) ≡ item_touch x
 touch_step c o x = touch_is c o x
 
-first_step : (c : Config) (a o : ℕ) (x : Item) (xs : List Item) → first_marker (producer_id a) (batches_from c o (x ∷ xs)) ≡ option_or (mark_for (producer_id a) (mark_in (offset_of (item_batch c o x)) (item_touch x))) (first_marker (producer_id a) (batches_from c (o + 1) xs))
-first_step c a o x xs = ap (λ t. option_or (mark_for (producer_id a) (mark_in (offset_of (item_batch c o x)) t)) (first_marker (producer_id a) (batches_from c (o + 1) xs))) (touch_step c o x)
+first_step : (c : Config) (a o : ℕ) (x : Item) (xs : List Item) → first_marker (producer_id a) (singles_from c o (x ∷ xs)) ≡ option_or (mark_for (producer_id a) (mark_in (offset_of (item_batch c o x)) (item_touch x))) (first_marker (producer_id a) (singles_from c (o + 1) xs))
+first_step c a o x xs = ap (λ t. option_or (mark_for (producer_id a) (mark_in (offset_of (item_batch c o x)) t)) (first_marker (producer_id a) (singles_from c (o + 1) xs))) (touch_step c o x)
 
 skips : (a b : ℕ) (e : ℕ) (q : Option ℕ) (o : Option EndMark) (ts : List Mark) → AreEnd o (first_end ts) → AreEnd o (first_end (cons_option (own_mark b a (app.Batch e q)) ts))
 skips a b e q o ts h = elim (b == a) as (λ t. AreEnd o (first_end (cons_option (if t then Some (app.Batch e q) else None) ts))) [ true ↦ h | false ↦ h ]
@@ -99,12 +99,12 @@ ends_here a b e at k o ts h =
     by true = (refl, refl)
     by false = h
 
-first_is : (c : Config) (a o : ℕ) (xs : List Item) → AreEnd (first_marker (producer_id a) (batches_from c o xs)) (first_end (marks_of a xs))
+first_is : (c : Config) (a o : ℕ) (xs : List Item) → AreEnd (first_marker (producer_id a) (singles_from c o xs)) (first_end (marks_of a xs))
 first_is c a o [] = tt
 first_is c a o (x ∷ xs) = subst (λ m. AreEnd m (first_end (marks_of a (x ∷ xs)))) (sym (first_step c a o x xs)) (by x (first_is c a (o + 1) xs))
   where
     others : Option EndMark
-    others = first_marker (producer_id a) (batches_from c (o + 1) xs)
+    others = first_marker (producer_id a) (singles_from c (o + 1) xs)
 
     by : (x : Item) → AreEnd others (first_end (marks_of a xs)) → AreEnd (option_or (mark_for (producer_id a) (mark_in (offset_of (item_batch c o x)) (item_touch x))) others) (first_end (marks_of a (x ∷ xs)))
     by (Fed n) h = h
@@ -142,21 +142,21 @@ closed_by ds p a e (Some m) (Some k) co r f (inl h) = record {
   closed = f;
 }
 
-each_close : (c : Config) (ds : ℕ → List Decided) (p o : ℕ) (xs : List Item) → AllMatched ds p xs → (co : Close) → Has (closes_of (batches_from c o xs)) co → IsCloseAt ds p co
+each_close : (c : Config) (ds : ℕ → List Decided) (p o : ℕ) (xs : List Item) → AllMatched ds p xs → (co : Close) → Has (closes_of (singles_from c o xs)) co → IsCloseAt ds p co
 each_close c ds p o [] h co m = absurd m
 each_close c ds p o (x ∷ xs) h co m = by x h m (each_close c ds p (o + 1) xs (all_rest ds p x xs h) co)
   where
     by : (x : Item) → AllMatched ds p (x ∷ xs)
-        → Has ((if is_data (item_batch c o x) then close_of (item_batch c o x) (batches_from c (o + 1) xs) else []) ++ closes_of (batches_from c (o + 1) xs)) co
-        → (Has (closes_of (batches_from c (o + 1) xs)) co → IsCloseAt ds p co) → IsCloseAt ds p co
+        → Has ((if is_data (item_batch c o x) then close_of (item_batch c o x) (singles_from c (o + 1) xs) else []) ++ closes_of (singles_from c (o + 1) xs)) co
+        → (Has (closes_of (singles_from c (o + 1) xs)) co → IsCloseAt ds p co) → IsCloseAt ds p co
     by (Fed n) h m later = later m
     by (State b y n) h m later = later m
     by (Marker b e k n) h m later = later m
-    by (Output b e s y v n) h m later = elim (append_cases (close_by (producer_id b) (pos e) (first_marker (producer_id b) (batches_from c (o + 1) xs))) (closes_of (batches_from c (o + 1) xs)) co m) [
+    by (Output b e s y v n) h m later = elim (append_cases (close_by (producer_id b) (pos e) (first_marker (producer_id b) (singles_from c (o + 1) xs))) (closes_of (singles_from c (o + 1) xs)) co m) [
       | inl z ↦ closed_by ds p b e _ (first_end (marks_of b xs)) co (first_is c b (o + 1) xs) (own_head Never (ds b) p b (app.Batch e (Some s)) (marks_of b xs) (h b)).0 z
       | inr z ↦ later z
     ]
-    by (Offset b e q v n) h m later = elim (append_cases (close_by (producer_id b) (pos e) (first_marker (producer_id b) (batches_from c (o + 1) xs))) (closes_of (batches_from c (o + 1) xs)) co m) [
+    by (Offset b e q v n) h m later = elim (append_cases (close_by (producer_id b) (pos e) (first_marker (producer_id b) (singles_from c (o + 1) xs))) (closes_of (singles_from c (o + 1) xs)) co m) [
       | inl z ↦ closed_by ds p b e _ (first_end (marks_of b xs)) co (first_is c b (o + 1) xs) (own_head Never (ds b) p b (app.Batch e None) (marks_of b xs) (h b)).0 z
       | inr z ↦ later z
     ]
@@ -168,8 +168,8 @@ listed_is None m h = absurd h
 listed_is (Some n) m (inl e) = ap Some e
 listed_is (Some n) m (inr h) = absurd h
 
-marker_step : (c : Config) (o : ℕ) (x : Item) (xs : List Item) → markers_of (batches_from c o (x ∷ xs)) ≡ option_to_list (item_marker x) ++ markers_of (batches_from c (o + 1) xs)
-marker_step c o x xs = ap (λ t. option_to_list t ++ markers_of (batches_from c (o + 1) xs)) (marker_is c o x)
+marker_step : (c : Config) (o : ℕ) (x : Item) (xs : List Item) → markers_of (singles_from c o (x ∷ xs)) ≡ option_to_list (item_marker x) ++ markers_of (singles_from c (o + 1) xs)
+marker_step c o x xs = ap (λ t. option_to_list t ++ markers_of (singles_from c (o + 1) xs)) (marker_is c o x)
 
 pub record IsMarkerAt (ds : ℕ → List Decided) (p : ℕ) (m : EndMarker) : Type 0 where
   pub app : ℕ
@@ -178,11 +178,11 @@ pub record IsMarkerAt (ds : ℕ → List Decided) (p : ℕ) (m : EndMarker) : Ty
   pub is : m ≡ end_marker app to kind
   pub ordered : IsOrdered (ds app) p to kind
 
-each_marker : (c : Config) (ds : ℕ → List Decided) (p o : ℕ) (xs : List Item) → AllMatched ds p xs → (m : EndMarker) → Has (markers_of (batches_from c o xs)) m → IsMarkerAt ds p m
+each_marker : (c : Config) (ds : ℕ → List Decided) (p o : ℕ) (xs : List Item) → AllMatched ds p xs → (m : EndMarker) → Has (markers_of (singles_from c o xs)) m → IsMarkerAt ds p m
 each_marker c ds p o [] h m i = absurd i
 each_marker c ds p o (x ∷ xs) h m i = by x h (subst (λ l. Has l m) (marker_step c o x xs) i) (each_marker c ds p (o + 1) xs (all_rest ds p x xs h) m)
   where
-    by : (x : Item) → AllMatched ds p (x ∷ xs) → Has (option_to_list (item_marker x) ++ markers_of (batches_from c (o + 1) xs)) m → (Has (markers_of (batches_from c (o + 1) xs)) m → IsMarkerAt ds p m) → IsMarkerAt ds p m
+    by : (x : Item) → AllMatched ds p (x ∷ xs) → Has (option_to_list (item_marker x) ++ markers_of (singles_from c (o + 1) xs)) m → (Has (markers_of (singles_from c (o + 1) xs)) m → IsMarkerAt ds p m) → IsMarkerAt ds p m
     by (Fed n) h i later = later i
     by (State b y n) h i later = later i
     by (Output b e s y v n) h i later = later i
@@ -191,7 +191,7 @@ each_marker c ds p o (x ∷ xs) h m i = by x h (subst (λ l. Has l m) (marker_st
     by (Marker b e k n) h (inr q) later = later q
 
 -- an application's marker is there
-has_marker : (c : Config) (a o m : ℕ) (k : Kind) (xs : List Item) → Has (marks_of a xs) (app.End m k) → Has (markers_of (batches_from c o xs)) (end_marker a m k)
+has_marker : (c : Config) (a o m : ℕ) (k : Kind) (xs : List Item) → Has (marks_of a xs) (app.End m k) → Has (markers_of (singles_from c o xs)) (end_marker a m k)
 has_marker c a o m k [] h = absurd h
 has_marker c a o m k (x ∷ xs) h = subst (λ l. Has l (end_marker a m k)) (sym (marker_step c o x xs)) (by x h (has_marker c a (o + 1) m k xs))
   where
@@ -207,13 +207,13 @@ has_marker c a o m k (x ∷ xs) h = subst (λ l. Has l (end_marker a m k)) (sym 
       | false ↦ λ j. j
     ] i
 
-    by : (x : Item) → Has (marks_of a (x ∷ xs)) (app.End m k) → (Has (marks_of a xs) (app.End m k) → Has (markers_of (batches_from c (o + 1) xs)) (end_marker a m k))
-        → Has (option_to_list (item_marker x) ++ markers_of (batches_from c (o + 1) xs)) (end_marker a m k)
+    by : (x : Item) → Has (marks_of a (x ∷ xs)) (app.End m k) → (Has (marks_of a xs) (app.End m k) → Has (markers_of (singles_from c (o + 1) xs)) (end_marker a m k))
+        → Has (option_to_list (item_marker x) ++ markers_of (singles_from c (o + 1) xs)) (end_marker a m k)
     by (Fed n) i later = later i
     by (State b y n) i later = later i
     by (Output b e s y v n) i later = later (passed b e (Some s) i)
     by (Offset b e q v n) i later = later (passed b e None i)
-    by (Marker b e j n) i later = elim (b == a) as (λ t. (b == a) ≡ t → Has (cons_option (if t then Some (app.End e j) else None) (marks_of a xs)) (app.End m k) → Has (end_marker b e j ∷ markers_of (batches_from c (o + 1) xs)) (end_marker a m k)) [
+    by (Marker b e j n) i later = elim (b == a) as (λ t. (b == a) ≡ t → Has (cons_option (if t then Some (app.End e j) else None) (marks_of a xs)) (app.End m k) → Has (end_marker b e j ∷ markers_of (singles_from c (o + 1) xs)) (end_marker a m k)) [
       | true ↦ λ q z. elim z [
         | inl r ↦ let f = end_is e j r in let d = eqb-true b a q in inl (λ t. end_marker (d t) (f.0 t) (f.1 t))
         | inr r ↦ inr (later r)

@@ -65,7 +65,7 @@ all_decisions c w ls a d s at h =
     let m : Has (flat_map decision_of (own_steps c a None (num c q) 0 (log_at w q))) (as_decision c a d) = subst (λ ds. Has ds (as_decision c a d)) (sym (own_decisions c w a q s refl)) (has_map (as_decision c a) (decisions_of c w a) d h) in
     let f = flat_has decision_of (own_steps c a None (num c q) 0 (log_at w q)) (as_decision c a d) m in
     let k = filter_has (of_app a) (steps_after nothing (num c q) (records_from c 0 (log_at w q))) f.0
-    (subst (λ us. Has us f.0) (sym (own_among c q a nothing (num c q) 0 (log_at w q) (states_at c w q t.0 s t.2) (s.written q t.2.here))) f.1) in
+    (subst (λ us. Has us f.0) (sym (own_among c q a nothing (num c q) 0 (log_at w q) (states_at c w q t.0 s t.2) (s.written q t.2.here).reads)) f.1) in
     has_flat decision_of (all_steps (transaction_parts ls)) f.0 (as_decision c a d)
     (has_flat steps_of (transaction_parts ls) t.0 f.0 t.1 (subst (λ us. Has us f.0) (sym (steps_are c w q t.0 t.2.log)) k.0)) f.2
 
@@ -173,7 +173,7 @@ once_in c w q l s t = no_two_keys AreOfOne of_id (flat_map decision_of (steps_of
     own : (a : ℕ) → filter (of_id a) (flat_map decision_of (steps_of l)) ≡ flat_map decision_of (own_steps c a None (num c q) 0 (log_at w q))
     own a =
         filtered a (steps_of l)
-        ∙ ap (flat_map decision_of) (ap (filter (of_app a)) (steps_are c w q l t.log) ∙ own_among c q a nothing (num c q) 0 (log_at w q) (states_at c w q l s t) (s.written q t.here))
+        ∙ ap (flat_map decision_of) (ap (filter (of_app a)) (steps_are c w q l t.log) ∙ own_among c q a nothing (num c q) 0 (log_at w q) (states_at c w q l s t) (s.written q t.here).reads)
 
     -- an application of another partition has none here
     each : (a : ℕ) → NoTwo AreOfOne (filter (of_id a) (flat_map decision_of (steps_of l)))

@@ -1,6 +1,7 @@
 -- Each partition's log of a cluster at rest is whole, sequenced and fenced.
-use Rattle.std.proofs.Common.{◌≡◌, ◌≢◌, ℕ, zero, suc, ◌+◌, ◌<◌, ◌≤◌, ℤ, pos, Bool, true, false, not, List, [], ◌∷◌, map, length, None, refl, sym, ap, subst, ◌∙◌, arith, inl, inr}
+use Rattle.std.proofs.Common.{◌≡◌, ◌≢◌, ◌↔◌, ℕ, zero, suc, ◌+◌, ◌<◌, ◌≤◌, ℤ, pos, Bool, true, false, not, List, [], ◌∷◌, map, length, Option, Some, None, refl, sym, ap, subst, ◌∙◌, arith, inl, inr}
 use Rattle.std.specs.Prelude.{⊤}
+use Rattle.std.specs.Option.{option_map}
 use Rattle.std.specs.List.{range_with_len}
 use Rattle.std.proofs.lemmas.Bool.{cases_lt}
 use Rattle.eos_base.specs.Members.{Has}
@@ -8,6 +9,8 @@ use Rattle.eos_batch.specs.declared.batch.Batch.{Batch}
 use Rattle.eos_evidence.specs.declared.partition.Partition.{Partition}
 use Rattle.eos_evidence.specs.declared.segment.Segment.{Segment}
 use Rattle.eos_evidence.specs.Topics.{is_internal}
+use Rattle.eos_touch.specs.declared.touch.Touch.{Touch}
+use Rattle.eos_touch.specs.Pair.{is_open}
 use Rattle.eos_touch.specs.Rules.{Fenced}
 use Rattle.eos_touch.specs.Neighbours.{EachAfter, Accepts, IsSequencedIf}
 use Rattle.eos_touch.proofs.NeighboursLaw.{law as neighbours}
@@ -20,7 +23,8 @@ use Rattle.eos_fold.specs.Fronts.{IsFront}
 use Rattle.eos_batch.specs.Marker.{markers_of}
 use Rattle.eos_touch.specs.Touches.{touches_of}
 use Rattle.eos_fold.specs.Parts.{PartLog}
-use Rattle.eos_fold.specs.Standing.{StandsIn}
+use Rattle.eos_fold.specs.declared.close.Close.{Close}
+use Rattle.eos_fold.specs.Standing.{StandsIn, IsOpen}
 use Rattle.eos_fold.specs.Closes.{closes_of}
 use Rattle.eos_summary.specs.Settling.{data_in}
 use Rattle.eos_fold.specs.steps.Whole.{AreCloses}
@@ -36,23 +40,42 @@ use Rattle.eos_check.specs.Good.{IsKeptLog, AreKeptLogs}
 use Rattle.eos_check.proofs.FrontsUnique.{one_front}
 use Rattle.eos_check.proofs.PairFaults.{EachHasRecords, touches_have_records, no_pair}
 use Rattle.eos_check.proofs.RulesLaw.{right_front, have_records, NoFault, law as rules_law}
-use Rattle.eos_logs.specs.Batches.{batches_from, HaveTexts}
 use Rattle.eos_logs.specs.Evidences.{log_segments}
 use Rattle.eos_schedules.proofs.PlaceNames.{sequenced_is}
 use Rattle.eos_schedules.proofs.Placing.{Placed}
 use Rattle.eos_schedules.proofs.Partitions.{partition_at}
 use Rattle.eos_schedules.proofs.Settled.{IsSettled, IsLog, AreAt, log_batches}
-use Rattle.eos_schedules.proofs.WholeFronts.{records_are, whole_front}
+use Rattle.eos_schedules.proofs.WholeFronts.{all_batches, records_are, whole_front, all_agree}
+use Rattle.eos_schedules.proofs.Agreeing.{Agrees}
 use Rattle.eos_schedules.proofs.LogTouches.{each_fits, none_open}
 
-front : (c : Config) (w : World) (p : ℕ) → IsSettled c w → p < place_count c → IsFront 0 (log_segments c p (log_at w p)) (log_batches c w p) AtEnd
+-- the batches of the log at a place, as they are written
+abbrev written : Config → World → ℕ → List Batch
+written c w p = all_batches c (log_at w p)
+
+front : (c : Config) (w : World) (p : ℕ) → IsSettled c w → p < place_count c → IsFront 0 (log_segments c p (log_at w p)) (written c w p) AtEnd
 front c w p s l = whole_front c p (log_at w p) s.config (s.written p l)
 
-no_fault : (c : Config) (w : World) (p : ℕ) → IsSettled c w → p < place_count c → NoFault (topic_of c p) (pos (number_of c p)) (pos (length (log_at w p))) (log_batches c w p) AtEnd
+-- whether the last touch is open is the same of a batch and of its records one by one
+is_open_too : (o p : Option Touch) → option_map is_open o ≡ option_map is_open p → IsOpen o → IsOpen p
+is_open_too None p e h = absurd h
+is_open_too (Some x) None e h = absurd cc
+is_open_too (Some x) (Some y) e h = some_is (is_open x) (is_open y) e h
+  where
+    some_is : (a b : Bool) → Some a ≡ Some b → a ≡ true → b ≡ true
+    some_is a b e h = cc
+
+same_closes : (bs cs closes : List Close) → ((x : Close) → Has bs x ↔ Has cs x) → AreCloses bs closes → AreCloses cs closes
+same_closes bs cs closes h a = record { members = λ x. (λ k. (h x).0 ((a.members x).0 k), λ k. (a.members x).1 ((h x).1 k)); ascend = a.ascend }
+
+no_fault : (c : Config) (w : World) (p : ℕ) → IsSettled c w → p < place_count c → NoFault (topic_of c p) (pos (number_of c p)) (pos (length (log_at w p))) (written c w p) AtEnd
 no_fault c w p s l fault h = none_of fault.offset fault.kind h.stands
   where
     bs : List Batch
-    bs = log_batches c w p
+    bs = written c w p
+
+    agrees : Agrees (written c w p) (log_batches c w p)
+    agrees = all_agree c (log_at w p) s.config
 
     checked : Bool
     checked = not (is_internal (topic_of c p))
@@ -61,25 +84,25 @@ no_fault c w p s l fault h = none_of fault.offset fault.kind h.stands
     some = have_records bs (right_front 0 (log_segments c p (log_at w p)) bs AtEnd (front c w p s l))
 
     rules : (id : ℤ) → IsSequencedIf checked (touches_of id bs) × Fenced (touches_of id bs)
-    rules id = (neighbours checked (touches_of id bs) (touches_have_records id bs some)).0 (subst (λ b. EachAfter (Accepts b) None (touches_of id bs)) (sym (sequenced_is c p)) (each_fits c w p id s.fit))
+    rules id = (neighbours checked (touches_of id bs) (touches_have_records id bs some)).0 (subst (λ b. EachAfter (Accepts b) None (touches_of id bs)) (sym (sequenced_is c p)) (agrees.follows (is_sequenced c p) id None (each_fits c w p id s.fit)))
 
     none_of : (offset : ℕ) (kind : PartitionFaultKind) → StandsIn checked (pos (length (log_at w p))) bs AtEnd offset kind → ⊥
     none_of offset (BadBatch segment byte f) k = absurd (let e = k.0 in cc)
     none_of offset (Gap found) k = absurd (let e = k.0 in cc)
     none_of offset (Pair f producer) k = no_pair checked bs some rules k.before k.here k.after producer k.next f k.parts k.touch k.wrong
-    none_of offset (End declared) k = k.1 (ap pos (records_are c 0 (log_at w p)))
-    none_of offset (OpenAtEnd producer) k = none_open c (log_at w p) producer p (decisions_of c w) (λ a. (s.atomic a).matched p) k.1
+    none_of offset (End declared) k = k.1 (ap pos (records_are c (log_at w p) s.config))
+    none_of offset (OpenAtEnd producer) k = none_open c (log_at w p) producer p (decisions_of c w) (λ a. (s.atomic a).matched p) (is_open_too _ _ (agrees.opens producer) k.1)
 
-place_keeps : (c : Config) (w : World) (p : ℕ) → IsSettled c w → p < place_count c → KeepsRules (topic_of c p) (pos (length (log_at w p))) (log_segments c p (log_at w p)) (log_batches c w p)
-place_keeps c w p s l = (rules_law (topic_of c p) (pos (number_of c p)) (pos (length (log_at w p))) (log_segments c p (log_at w p)) (log_batches c w p) AtEnd (front c w p s l)).0 (no_fault c w p s l)
+place_keeps : (c : Config) (w : World) (p : ℕ) → IsSettled c w → p < place_count c → KeepsRules (topic_of c p) (pos (length (log_at w p))) (log_segments c p (log_at w p)) (written c w p)
+place_keeps c w p s l = (rules_law (topic_of c p) (pos (number_of c p)) (pos (length (log_at w p))) (log_segments c p (log_at w p)) (written c w p) AtEnd (front c w p s l)).0 (no_fault c w p s l)
 
 -- ---- the logs of the evidence are these
 
 abbrev Same : Config → World → ℕ → List Batch → Stop → Type 0
-Same c w p bs stop = (bs ≡ log_batches c w p) × (stop ≡ AtEnd)
+Same c w p bs stop = (bs ≡ written c w p) × (stop ≡ AtEnd)
 
 same_front : (c : Config) (w : World) (p : ℕ) (bs : List Batch) (stop : Stop) → IsSettled c w → p < place_count c → IsFront 0 (log_segments c p (log_at w p)) bs stop → Same c w p bs stop
-same_front c w p bs stop s l f = one_front 0 (log_segments c p (log_at w p)) bs (log_batches c w p) stop AtEnd f (front c w p s l)
+same_front c w p bs stop s l f = one_front 0 (log_segments c p (log_at w p)) bs (written c w p) stop AtEnd f (front c w p s l)
 
 abbrev IsPlaceOf : Config → World → Partition → Type 0
 IsPlaceOf c w p = (q : ℕ) × (q < place_count c) × (p ≡ partition_at c w q)
@@ -115,12 +138,13 @@ all_keep c w ps ls of s e = each_keeps c w ps ls of s (λ p h. each_is c w 0 (pl
 is_log : (c : Config) (w : World) (p : ℕ) (l : PartLog) → IsSettled c w → p < place_count c → IsLogOf (partition_at c w p) l → IsLog c w p l
 is_log c w p l s m of =
     let same = same_front c w p of.batches of.stop s m of.front in
+    let a = all_agree c (log_at w p) s.config in
     record {
       topic = of.log.of_topic;
       number = of.log.of_number;
-      items = of.log.items ∙ ap (λ bs. items_of (data_in bs)) same.0;
-      markers = of.log.markers ∙ ap markers_of same.0;
-      closes = subst (λ bs. AreCloses (closes_of bs) l.closes) same.0 (record { members = of.log.closes; ascend = of.ascends });
+      items = of.log.items ∙ (ap (λ bs. items_of (data_in bs)) same.0 ∙ a.items);
+      markers = of.log.markers ∙ (ap markers_of same.0 ∙ a.markers);
+      closes = same_closes (closes_of (written c w p)) (closes_of (log_batches c w p)) l.closes a.closes (subst (λ bs. AreCloses (closes_of bs) l.closes) same.0 (record { members = of.log.closes; ascend = of.ascends }));
     }
 
 are_at : (c : Config) (w : World) (a n : ℕ) (ls : List PartLog) → IsSettled c w → a + n ≤ place_count c → AreLogsOf (map (partition_at c w) (range_with_len a n)) ls → AreAt c w a n ls

@@ -1,6 +1,9 @@
 pub mod PlaceNames
 pub mod Partitions
 pub mod Placing
+pub mod Singles
+pub mod Joining
+pub mod Agreeing
 pub mod WholeFronts
 pub mod LogTouches
 pub mod TxnRecords

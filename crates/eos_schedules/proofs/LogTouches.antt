@@ -29,7 +29,7 @@ use Rattle.eos_machine.specs.Logs.{marks_of}
 use Rattle.eos_machine.specs.Rest as rest
 use Rattle.eos_machine.specs.Rest.{producer_id, NeighboursFit}
 use Rattle.eos_machine.proofs.TouchRules as marks
-use Rattle.eos_logs.specs.Batches.{item_batch, batches_from}
+use Rattle.eos_schedules.proofs.Singles.{item_batch, singles_from}
 
 -- ---- one batch
 
@@ -92,12 +92,12 @@ in_touches a b t xs ys e = ap (λ (q : Bool). (if q then t ∷ [] else []) ++ xs
     by true = ap (λ l. t ∷ l) e
     by false = e
 
-pub touches_at : (c : Config) (a o : ℕ) (xs : List Item) → touches_of (producer_id a) (batches_from c o xs) ≡ rest.touches_of a xs
+pub touches_at : (c : Config) (a o : ℕ) (xs : List Item) → touches_of (producer_id a) (singles_from c o xs) ≡ rest.touches_of a xs
 touches_at c a o [] = refl
-touches_at c a o (x ∷ xs) = ap (λ t. touch_in (producer_id a) t ++ touches_of (producer_id a) (batches_from c (o + 1) xs)) (touch_is c o x) ∙ by x (touches_at c a (o + 1) xs)
+touches_at c a o (x ∷ xs) = ap (λ t. touch_in (producer_id a) t ++ touches_of (producer_id a) (singles_from c (o + 1) xs)) (touch_is c o x) ∙ by x (touches_at c a (o + 1) xs)
   where
-    by : (x : Item) → touches_of (producer_id a) (batches_from c (o + 1) xs) ≡ rest.touches_of a xs
-        → touch_in (producer_id a) (item_touch x) ++ touches_of (producer_id a) (batches_from c (o + 1) xs) ≡ rest.touches_of a (x ∷ xs)
+    by : (x : Item) → touches_of (producer_id a) (singles_from c (o + 1) xs) ≡ rest.touches_of a xs
+        → touch_in (producer_id a) (item_touch x) ++ touches_of (producer_id a) (singles_from c (o + 1) xs) ≡ rest.touches_of a (x ∷ xs)
     by (Fed n) h = h
     by (State b y n) h = h
     by (Output b e s y v n) h = in_touches a b _ _ _ h
@@ -109,11 +109,11 @@ touches_at c a o (x ∷ xs) = ap (λ t. touch_in (producer_id a) t ++ touches_of
 no_touch : (id : ℤ) (b : ℕ) (t : Touch) (xs : List Touch) → int_eq (producer_id b) id ≡ false → xs ≡ [] → touch_in id (Some (producer_id b, t)) ++ xs ≡ []
 no_touch id b t xs h e = rw h e
 
-none_at : (c : Config) (id : ℤ) (o : ℕ) (xs : List Item) → ((a : ℕ) → int_eq (producer_id a) id ≡ false) → touches_of id (batches_from c o xs) ≡ []
+none_at : (c : Config) (id : ℤ) (o : ℕ) (xs : List Item) → ((a : ℕ) → int_eq (producer_id a) id ≡ false) → touches_of id (singles_from c o xs) ≡ []
 none_at c id o [] h = refl
-none_at c id o (x ∷ xs) h = ap (λ t. touch_in id t ++ touches_of id (batches_from c (o + 1) xs)) (touch_is c o x) ∙ by x (none_at c id (o + 1) xs h)
+none_at c id o (x ∷ xs) h = ap (λ t. touch_in id t ++ touches_of id (singles_from c (o + 1) xs)) (touch_is c o x) ∙ by x (none_at c id (o + 1) xs h)
   where
-    by : (x : Item) → touches_of id (batches_from c (o + 1) xs) ≡ [] → touch_in id (item_touch x) ++ touches_of id (batches_from c (o + 1) xs) ≡ []
+    by : (x : Item) → touches_of id (singles_from c (o + 1) xs) ≡ [] → touch_in id (item_touch x) ++ touches_of id (singles_from c (o + 1) xs) ≡ []
     by (Fed n) e = e
     by (State b y n) e = e
     by (Output b f s y v n) e = no_touch id b _ _ (h b) e
@@ -132,9 +132,9 @@ app_or (pos n) = elim (cases_lt n 1000) [
 
 -- ---- what the machine promises of each application holds of each producer id
 
-pub each_fits : (c : Config) (w : World) (p : ℕ) (id : ℤ) → NeighboursFit c w → EachAfter (Accepts (is_sequenced c p)) None (touches_of id (batches_from c 0 (log_at w p)))
+pub each_fits : (c : Config) (w : World) (p : ℕ) (id : ℤ) → NeighboursFit c w → EachAfter (Accepts (is_sequenced c p)) None (touches_of id (singles_from c 0 (log_at w p)))
 each_fits c w p id h = elim (app_or id) [
-  | inl a ↦ subst (EachAfter (Accepts (is_sequenced c p)) None) (sym (ap (λ i. touches_of i (batches_from c 0 (log_at w p))) a.1 ∙ touches_at c a.0 0 (log_at w p))) (h a.0 p)
+  | inl a ↦ subst (EachAfter (Accepts (is_sequenced c p)) None) (sym (ap (λ i. touches_of i (singles_from c 0 (log_at w p))) a.1 ∙ touches_at c a.0 0 (log_at w p))) (h a.0 p)
   | inr n ↦ subst (EachAfter (Accepts (is_sequenced c p)) None) (sym (none_at c id 0 (log_at w p) n)) tt
 ]
 
@@ -151,9 +151,9 @@ ends_closed ds p (app.End e k ∷ []) m h = absurd cc
 ends_closed ds p (app.Batch e q ∷ t ∷ ts) m h = ends_closed ds p (t ∷ ts) m.1 (or_or (last_of (map marks.touch_of ts)) (marks.touch_of t) _ h)
 ends_closed ds p (app.End e k ∷ t ∷ ts) m h = ends_closed ds p (t ∷ ts) m.1 (or_or (last_of (map marks.touch_of ts)) (marks.touch_of t) _ h)
 
-pub none_open : (c : Config) (xs : List Item) (id : ℤ) (p : ℕ) (ds : ℕ → List Decision) → ((a : ℕ) → Matched Never (ds a) p (marks_of a xs)) → IsOpen (last_touch id (batches_from c 0 xs)) → ⊥
+pub none_open : (c : Config) (xs : List Item) (id : ℤ) (p : ℕ) (ds : ℕ → List Decision) → ((a : ℕ) → Matched Never (ds a) p (marks_of a xs)) → IsOpen (last_touch id (singles_from c 0 xs)) → ⊥
 none_open c xs id p ds m h = elim (app_or id) [
   | inl a ↦ ends_closed (ds a.0) p (marks_of a.0 xs) (m a.0)
-      (subst (λ ts. IsOpen (last_of ts)) (ap (λ i. touches_of i (batches_from c 0 xs)) a.1 ∙ (touches_at c a.0 0 xs ∙ marks.touches_are a.0 xs)) h)
+      (subst (λ ts. IsOpen (last_of ts)) (ap (λ i. touches_of i (singles_from c 0 xs)) a.1 ∙ (touches_at c a.0 0 xs ∙ marks.touches_are a.0 xs)) h)
   | inr n ↦ subst (λ ts. IsOpen (last_of ts)) (none_at c id 0 xs n) h
 ]

@@ -15,19 +15,20 @@ use Rattle.eos_machine.specs.Places.{IsConfig, place_count, topic_of, number_of}
 use Rattle.eos_machine.specs.World.{World, log_at}
 use Rattle.eos_machine.specs.Rest.{NeighboursFit, AllAtomic, StepsFit, IsAtRest}
 use Rattle.eos_machine.proofs.Good.{Good}
-use Rattle.eos_logs.specs.Batches.{batches_from, HaveTexts}
+use Rattle.eos_logs.specs.Evidences.{HaveTexts}
+use Rattle.eos_schedules.proofs.Singles.{singles_from}
 use Rattle.eos_schedules.proofs.Placing.{Placed}
 
--- the batches of the log at a place
+-- the log at a place, each item as a batch of its own
 abbrev pub log_batches : Config → World → ℕ → List Batch
-log_batches c w p = batches_from c 0 (log_at w p)
+log_batches c w p = singles_from c 0 (log_at w p)
 
 -- what is known of a cluster at rest and of the bytes of its logs
 pub record IsSettled (c : Config) (w : World) : Type 0 where
   pub config : IsConfig c
   pub fit : NeighboursFit c w
   pub atomic : AllAtomic c w
-  pub written : (p : ℕ) → p < place_count c → HaveTexts c 0 (log_at w p)
+  pub written : (p : ℕ) → p < place_count c → HaveTexts c (log_at w p)
   pub steps : StepsFit c w
   pub rest : IsAtRest w
   pub good : Good c w

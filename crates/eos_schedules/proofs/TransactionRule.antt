@@ -101,11 +101,11 @@ pub record IsStepAt (c : Config) (w : World) (q a : ℕ) (s : Unskipped) : Type 
 pub step_in : (c : Config) (w : World) (q : ℕ) (l : PartLog) (s : Unskipped) → IsSettled c w → IsTxnLog c w q l → Has (steps_of l) s → (a : ℕ) × IsStepAt c w q a s
 step_in c w q l s e t h =
     let m : Has (steps_after nothing (num c q) (records_from c 0 (log_at w q))) s = subst (λ us. Has us s) (steps_are c w q l t.log) h in
-    let r = each_step c q nothing (num c q) 0 (log_at w q) (states_at c w q l e t) (e.written q t.here) s m in (
+    let r = each_step c q nothing (num c q) 0 (log_at w q) (states_at c w q l e t) (e.written q t.here).reads s m in (
       r.0,
       record {
         of = r.1;
-        own = subst (λ us. Has us s) (own_among c q r.0 nothing (num c q) 0 (log_at w q) (states_at c w q l e t) (e.written q t.here))
+        own = subst (λ us. Has us s) (own_among c q r.0 nothing (num c q) 0 (log_at w q) (states_at c w q l e t) (e.written q t.here).reads)
             (has_filter (of_app r.0) (steps_after nothing (num c q) (records_from c 0 (log_at w q))) s m (is_same_id (transactional_id r.0) s.id (sym r.1.id)));
       },
     )
@@ -156,8 +156,8 @@ settled_at c w q l id s t = ap (λ xs. is_unfinished (last_of xs id)) t.log.item
     states : AreStates c q (log_at w q)
     states = states_at c w q l s t
 
-    written : Rattle.eos_logs.specs.Batches.HaveTexts c 0 (log_at w q)
-    written = s.written q t.here
+    written : Rattle.eos_logs.specs.Batches.AreRead c (log_at w q)
+    written = (s.written q t.here).reads
 
 shared : (s t : Unskipped) (u v : TxnValue) → s.value ≡ Some u → t.value ≡ Some v → ShareProducer s.value t.value → u.producer ≡ v.producer
 shared s t u v e f h = (subst (λ y. ShareProducer (Some u) y) f (subst (λ x. ShareProducer x t.value) e h)).0
@@ -174,7 +174,7 @@ keeps_rule c w ls s at = record {
     reads : (p : PartLog) (x : DataRecord) (fault : RecordFault) → Has (transaction_parts ls) p → Has p.items x → content_of x ≡ content_with [] (Err fault) → ⊥
     reads p x fault h m e =
         let t = in_txn c w ls at p h in
-        all_read c t.0 0 (log_at w t.0) (states_at c w t.0 p s t.1) (s.written t.0 t.1.here) x fault (subst (λ xs. Has xs x) t.1.log.items m) e
+        all_read c t.0 0 (log_at w t.0) (states_at c w t.0 p s t.1) (s.written t.0 t.1.here).reads x fault (subst (λ xs. Has xs x) t.1.log.items m) e
 
     follows : (u : Unskipped) → Has (all_steps (transaction_parts ls)) u → step_verdict u.before u.value ≡ Ok tt
     follows u h =

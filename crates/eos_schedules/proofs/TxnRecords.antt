@@ -30,7 +30,8 @@ use Rattle.eos_machine.specs.declared.item.Entry.{Entry}
 use Rattle.eos_machine.specs.declared.item.Item.{Item}
 use Rattle.eos_machine.specs.declared.item.Item.TheVariants.{Fed, State, Output, Offset, Marker}
 use Rattle.eos_machine.specs.Rest.{producer_id, value_of}
-use Rattle.eos_logs.specs.Batches.{transactional_id, bytes_of, item_batch, batches_from, HasText, HaveTexts}
+use Rattle.eos_logs.specs.Batches.{transactional_id, bytes_of, AreRead}
+use Rattle.eos_schedules.proofs.Singles.{singles_from}
 use Rattle.eos_schedules.proofs.Placing.{IsHere}
 
 -- ---- ids
@@ -63,7 +64,7 @@ content_is c a x n h = rw (key_reads a, h) refl
 -- ---- the records of a log that has states and markers
 
 abbrev pub records_from : Config → ℕ → List Item → List DataRecord
-records_from c o xs = items_of (data_in (batches_from c o xs))
+records_from c o xs = items_of (data_in (singles_from c o xs))
 
 abbrev pub AreStates : Config → ℕ → List Item → Type 0
 AreStates c p [] = ⊤
@@ -82,13 +83,13 @@ are_states c p (Offset a e q v n ∷ xs) l m h = absurd (let k = All-head (IsHer
 are_states c p (Marker a e k n ∷ xs) l m h = are_states c p xs l m (All-tail (IsHere c p) (Marker a e k n) xs h)
 
 -- every record reads
-pub all_read : (c : Config) (p o : ℕ) (xs : List Item) → AreStates c p xs → HaveTexts c o xs → (r : DataRecord) (f : RecordFault) → Has (records_from c o xs) r → content_of r ≡ content_with [] (Err f) → ⊥
+pub all_read : (c : Config) (p o : ℕ) (xs : List Item) → AreStates c p xs → AreRead c xs → (r : DataRecord) (f : RecordFault) → Has (records_from c o xs) r → content_of r ≡ content_with [] (Err f) → ⊥
 all_read c p o [] s w r f h e = h
 all_read c p o (Fed n ∷ xs) s w r f h e = s
 all_read c p o (Output a d q x v n ∷ xs) s w r f h e = s
 all_read c p o (Offset a d q v n ∷ xs) s w r f h e = s
 all_read c p o (Marker a d k n ∷ xs) s w r f h e = all_read c p (o + 1) xs s w.1 r f h e
-all_read c p o (State a x n ∷ xs) s w r f (inl q) e = never (transactional_id a) (value_of c a x n) f (sym (content_is c a x n w.0.reads) ∙ (ap content_of q ∙ e))
+all_read c p o (State a x n ∷ xs) s w r f (inl q) e = never (transactional_id a) (value_of c a x n) f (sym (content_is c a x n w.0) ∙ (ap content_of q ∙ e))
   where
     never : (id : List ℕ) (v : TxnValue) (f : RecordFault) → content_with id (Ok v) ≡ content_with [] (Err f) → ⊥
     never id v f k = cc
@@ -170,7 +171,7 @@ other_filter c last num o a b x n d = by (is_skipped (last (transactional_id b))
 
 -- ---- those of an application among all
 
-pub own_among : (c : Config) (p : ℕ) (a : ℕ) (last : LastOf) (num : ℤ) (o : ℕ) (xs : List Item) → AreStates c p xs → HaveTexts c o xs
+pub own_among : (c : Config) (p : ℕ) (a : ℕ) (last : LastOf) (num : ℤ) (o : ℕ) (xs : List Item) → AreStates c p xs → AreRead c xs
     → filter (of_app a) (steps_after last num (records_from c o xs)) ≡ own_steps c a (last (transactional_id a)) num o xs
 own_among c p a last num o [] s w = refl
 own_among c p a last num o (Fed n ∷ xs) s w = absurd s
@@ -178,7 +179,7 @@ own_among c p a last num o (Output b e q x v n ∷ xs) s w = absurd s
 own_among c p a last num o (Offset b e q v n ∷ xs) s w = absurd s
 own_among c p a last num o (Marker b e k n ∷ xs) s w = own_among c p a last num (o + 1) xs s w.1
 own_among c p a last num o (State b x n ∷ xs) s w =
-    ap (λ k. filter (of_app a) (step_at last num (o + 0) k ++ steps_after (next_state last k) num (records_from c (o + 1) xs))) (content_is c b x n w.0.reads)
+    ap (λ k. filter (of_app a) (step_at last num (o + 0) k ++ steps_after (next_state last k) num (records_from c (o + 1) xs))) (content_is c b x n w.0)
     ∙ (filter_append (of_app a) (steps_at c last num (o + 0) b x n) (steps_after (next_of c last b x n) num (records_from c (o + 1) xs))
     ∙ (ap (λ l. filter (of_app a) (steps_at c last num (o + 0) b x n) ++ l) (own_among c p a (next_of c last b x n) num (o + 1) xs s.1 w.1)
     ∙ elim (cases_eq b a) [
@@ -191,7 +192,7 @@ own_among c p a last num o (State b x n ∷ xs) s w =
     mine = rw (eq-eqb a a refl) (ap (λ l. l ++ own_steps c a (next_of c last a x n (transactional_id a)) num (o + 1) xs) (own_filter c last num (o + 0) a x n)
         ∙ ap (λ u. own_step c a (last (transactional_id a)) num (o + 0) x n ++ own_steps c a u num (o + 1) xs) (own_next c last a x n))
 
-pub last_among : (c : Config) (p : ℕ) (a : ℕ) (last : LastOf) (o : ℕ) (xs : List Item) → AreStates c p xs → HaveTexts c o xs
+pub last_among : (c : Config) (p : ℕ) (a : ℕ) (last : LastOf) (o : ℕ) (xs : List Item) → AreStates c p xs → AreRead c xs
     → state_after last (records_from c o xs) (transactional_id a) ≡ own_last c a (last (transactional_id a)) xs
 last_among c p a last o [] s w = refl
 last_among c p a last o (Fed n ∷ xs) s w = absurd s
@@ -199,7 +200,7 @@ last_among c p a last o (Output b e q x v n ∷ xs) s w = absurd s
 last_among c p a last o (Offset b e q v n ∷ xs) s w = absurd s
 last_among c p a last o (Marker b e k n ∷ xs) s w = last_among c p a last (o + 1) xs s w.1
 last_among c p a last o (State b x n ∷ xs) s w =
-    ap (λ k. state_after (next_state last k) (records_from c (o + 1) xs) (transactional_id a)) (content_is c b x n w.0.reads)
+    ap (λ k. state_after (next_state last k) (records_from c (o + 1) xs) (transactional_id a)) (content_is c b x n w.0)
     ∙ (last_among c p a (next_of c last b x n) (o + 1) xs s.1 w.1
     ∙ ap (λ u. own_last c a u xs) (elim (cases_eq b a) [
       | inl e ↦ subst (λ (d : ℕ). next_of c last d x n (transactional_id a) ≡ (if d == a then last_after c a (last (transactional_id a)) x n else last (transactional_id a))) (sym e)
@@ -208,7 +209,7 @@ last_among c p a last o (State b x n ∷ xs) s w =
     ]))
 
 -- ids that no application has are never written
-pub some_app : (c : Config) (p : ℕ) (id : List ℕ) (last : LastOf) (o : ℕ) (xs : List Item) → AreStates c p xs → HaveTexts c o xs
+pub some_app : (c : Config) (p : ℕ) (id : List ℕ) (last : LastOf) (o : ℕ) (xs : List Item) → AreStates c p xs → AreRead c xs
     → (state_after last (records_from c o xs) id ≡ last id) ⊎ ((a : ℕ) × (id ≡ transactional_id a))
 some_app c p id last o [] s w = inl refl
 some_app c p id last o (Fed n ∷ xs) s w = absurd s
@@ -226,7 +227,7 @@ some_app c p id last o (State b x n ∷ xs) s w = by (same_id (transactional_id 
     by true e h = inr (b, sym (same_id_is (transactional_id b) id e))
     by false e (inr h) = inr h
     by false e (inl h) =
-        inl (ap (λ k. state_after (next_state last k) (records_from c (o + 1) xs) id) (content_is c b x n w.0.reads)
+        inl (ap (λ k. state_after (next_state last k) (records_from c (o + 1) xs) id) (content_is c b x n w.0)
         ∙ (h ∙ kept (is_skipped (last (transactional_id b)) (Some (value_of c b x n))) e))
 
 -- ---- each unskipped record is of an application whose place this is
@@ -239,7 +240,7 @@ pub record IsStepOf (c : Config) (p : ℕ) (num : ℤ) (a : ℕ) (s : Unskipped)
   pub says : s.value ≡ Some value
   pub producer : value.producer ≡ producer_id a
 
-pub each_step : (c : Config) (p : ℕ) (last : LastOf) (num : ℤ) (o : ℕ) (xs : List Item) → AreStates c p xs → HaveTexts c o xs → (s : Unskipped) → Has (steps_after last num (records_from c o xs)) s → (a : ℕ) × IsStepOf c p num a s
+pub each_step : (c : Config) (p : ℕ) (last : LastOf) (num : ℤ) (o : ℕ) (xs : List Item) → AreStates c p xs → AreRead c xs → (s : Unskipped) → Has (steps_after last num (records_from c o xs)) s → (a : ℕ) × IsStepOf c p num a s
 each_step c p last num o [] h w s m = absurd m
 each_step c p last num o (Fed n ∷ xs) h w s m = absurd h
 each_step c p last num o (Output b e q x v n ∷ xs) h w s m = absurd h
@@ -247,7 +248,7 @@ each_step c p last num o (Offset b e q v n ∷ xs) h w s m = absurd h
 each_step c p last num o (Marker b e k n ∷ xs) h w s m = each_step c p last num (o + 1) xs h w.1 s m
 each_step c p last num o (State b x n ∷ xs) h w s m =
     elim (append_cases (steps_at c last num (o + 0) b x n) (steps_after (next_of c last b x n) num (records_from c (o + 1) xs)) s
-    (subst (λ k. Has (step_at last num (o + 0) k ++ steps_after (next_state last k) num (records_from c (o + 1) xs)) s) (content_is c b x n w.0.reads) m)) [
+    (subst (λ k. Has (step_at last num (o + 0) k ++ steps_after (next_state last k) num (records_from c (o + 1) xs)) s) (content_is c b x n w.0) m)) [
       | inl l ↦ (b, here (is_skipped (last (transactional_id b)) (Some (value_of c b x n))) l)
       | inr r ↦ each_step c p (next_of c last b x n) num (o + 1) xs h.1 w.1 s r
     ]

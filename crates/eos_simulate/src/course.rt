@@ -18,6 +18,7 @@ const SIZES: Config = Config {
     outputs: 2,
     transaction_logs: 1,
     segment_records: 16,
+    batch_records: 1,
 };
 
 /// The switches, in the order in which their tails come.
@@ -108,6 +109,7 @@ fn config_of(sizes: &Sizes) -> Config {
         outputs: size_of(sizes.outputs, SIZES.outputs),
         transaction_logs: size_of(sizes.transaction_logs, SIZES.transaction_logs),
         segment_records: size_of(sizes.segment_records, SIZES.segment_records),
+        batch_records: size_of(sizes.batch_records, SIZES.batch_records),
     }
 }
 

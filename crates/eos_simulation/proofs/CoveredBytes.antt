@@ -1,7 +1,8 @@
--- A batch of one record of bytes is written as bytes, so its checksum fits and what is written is its text.
-use Rattle.std.proofs.Common.{◌≡◌, ℕ, ◌^◌, ◌<◌, pos, negsuc, List, [], ◌∷◌, length, Option, Some, None, Ok, refl, sym, subst, arith, FitsSigned, w16, w32, w64}
+-- A batch of records of bytes is written as bytes, so its checksum fits and what is written is its text.
+use Rattle.std.proofs.Common.{◌≡◌, ℕ, suc, pos, negsuc, List, [], ◌∷◌, length, Option, Some, None, Ok, sym, subst, FitsSigned, w32, w64}
 use Rattle.std.specs.Prelude.{⊤}
-use Rattle.std.proofs.lemmas.List.Elements.{All-nil, All-cons}
+use Rattle.std.specs.List.{All}
+use Rattle.std.proofs.lemmas.List.Elements.{All-head, All-tail}
 use Rattle.eos_wire.specs.Numbers.{IsBytes, i8_text, i16_text, i32_text, i64_text}
 use Rattle.eos_wire.proofs.NumberTexts.{IsBytes-append}
 use Rattle.eos_wire.proofs.Spellings.{IsVarint-bytes, IsVarlong-bytes}
@@ -10,12 +11,10 @@ use Rattle.eos_batch.specs.declared.record.Record.{Record}
 use Rattle.eos_batch.specs.declared.batch.Batch.{Batch}
 use Rattle.eos_batch.specs.Encoding.{covered_text, batch_text_of, tested}
 use Rattle.eos_batch.specs.Text.{IsBytesText, IsOptionalText, AreHeaderTexts, IsBodyText, AreRecordTexts, last_offset_delta, IsCoveredText, IsBatchText}
-use Rattle.eos_batch.specs.steps.Writing.{HasRecordWidths, HasCoveredWidths}
+use Rattle.eos_batch.specs.steps.Writing.{HasCoveredWidths}
 use Rattle.eos_batch.proofs.EncodingTests.{passes-counted, passes-fits, batch_is}
 use Rattle.eos_batch.proofs.EncodingTexts.{covered_is}
-use Rattle.eos_logs.specs.declared.writer.Writer.{Writer}
-use Rattle.eos_logs.specs.Batches.{batch}
-use Rattle.eos_simulation.proofs.ByteTexts.{no_bytes, i8_bytes, i16_bytes, i32_bytes, i64_bytes, checksum_small}
+use Rattle.eos_logs.proofs.ByteTexts.{no_bytes, i8_bytes, i16_bytes, i32_bytes, i64_bytes, checksum_small}
 
 -- ---- a record of bytes
 
@@ -46,46 +45,30 @@ headers_bytes text (x ∷ xs) h t =
     let one : IsBytes t.0 = subst IsBytes (sym first.parts) (IsBytes-append first.key first.value (sized_bytes first.key x.key h.0 first.key_text) (optional_bytes first.value x.value h.1 first.value_text)) in
     subst IsBytes (sym t.4) (IsBytes-append t.0 t.1 one (headers_bytes t.1 xs h.2 t.3))
 
-body_bytes : (text : List ℕ) (r : Record) → IsOfBytes r → IsBodyText 0 text r → IsBytes text
-body_bytes text r h t =
+body_bytes : (place : ℕ) (text : List ℕ) (r : Record) → IsOfBytes r → IsBodyText place text r → IsBytes text
+body_bytes place text r h t =
     subst IsBytes (sym t.parts) (IsBytes-append (i8_text r.attributes) _ (i8_bytes r.attributes) (IsBytes-append t.timestamp _ (IsVarlong-bytes t.timestamp r.timestamp_delta t.timestamp_text)
-    (IsBytes-append t.delta _ (IsVarint-bytes t.delta (pos 0) t.delta_text) (IsBytes-append t.key _ (optional_bytes t.key r.key h.key t.key_text) (IsBytes-append t.value _ (optional_bytes t.value r.value h.value t.value_text)
+    (IsBytes-append t.delta _ (IsVarint-bytes t.delta (pos place) t.delta_text) (IsBytes-append t.key _ (optional_bytes t.key r.key h.key t.key_text) (IsBytes-append t.value _ (optional_bytes t.value r.value h.value t.value_text)
     (IsBytes-append t.count t.headers (IsVarint-bytes t.count (pos (length r.headers)) t.count_text) (headers_bytes t.headers r.headers h.headers t.headers_text)))))))
 
-record_bytes : (text : List ℕ) (r : Record) → IsOfBytes r → AreRecordTexts 0 text (r ∷ []) → IsBytes text
-record_bytes text r h t =
+records_bytes : (place : ℕ) (text : List ℕ) (rs : List Record) → All IsOfBytes rs → AreRecordTexts place text rs → IsBytes text
+records_bytes place text [] h t = subst IsBytes (sym t) no_bytes
+records_bytes place text (r ∷ rs) h t =
     let first = t.2 in
-    let one : IsBytes t.0 = subst IsBytes (sym first.parts) (IsBytes-append first.len first.body (IsVarint-bytes first.len (pos (length first.body)) first.len_text) (body_bytes first.body r h first.body_text)) in
-    subst IsBytes (sym t.4) (IsBytes-append t.0 t.1 one (subst IsBytes (sym t.3) no_bytes))
+    let one : IsBytes t.0 = subst IsBytes (sym first.parts) (IsBytes-append first.len first.body (IsVarint-bytes first.len (pos (length first.body)) first.len_text) (body_bytes place first.body r (All-head IsOfBytes r rs h) first.body_text)) in
+    subst IsBytes (sym t.4) (IsBytes-append t.0 t.1 one (records_bytes (suc place) t.1 rs (All-tail IsOfBytes r rs h) t.3))
 
-covered_bytes : (text : List ℕ) (b : Batch) (r : Record) → b.records ≡ r ∷ [] → IsOfBytes r → IsCoveredText text b → IsBytes text
-covered_bytes text b r e h t =
+covered_bytes : (text : List ℕ) (b : Batch) → All IsOfBytes b.records → IsCoveredText text b → IsBytes text
+covered_bytes text b h t =
     subst IsBytes (sym t.parts) (IsBytes-append (i16_text b.attributes) _ (i16_bytes b.attributes) (IsBytes-append (i32_text (pos (last_offset_delta b))) _ (i32_bytes (pos (last_offset_delta b)))
     (IsBytes-append (i64_text b.base_timestamp) _ (i64_bytes b.base_timestamp) (IsBytes-append (i64_text b.max_timestamp) _ (i64_bytes b.max_timestamp) (IsBytes-append (i64_text b.producer) _ (i64_bytes b.producer)
     (IsBytes-append (i16_text b.epoch) _ (i16_bytes b.epoch) (IsBytes-append (i32_text b.sequence) _ (i32_bytes b.sequence)
-    (IsBytes-append (i32_text (pos (length b.records))) t.records (i32_bytes (pos (length b.records))) (record_bytes t.records r h (subst (AreRecordTexts 0 t.records) e t.records_text))))))))))
+    (IsBytes-append (i32_text (pos (length b.records))) t.records (i32_bytes (pos (length b.records))) (records_bytes 0 t.records b.records h t.records_text))))))))
 
--- ---- a batch of one
+-- ---- a batch
 
--- each number fits its field
-pub record FitsWriter (w : Writer) : Type 0 where
-  pub attributes : FitsSigned w16 w.attributes
-  pub producer : FitsSigned w64 w.producer
-  pub epoch : FitsSigned w16 w.epoch
-  pub sequence : FitsSigned w32 w.sequence
-
-pub one_text : (o n : ℕ) (w : Writer) (r : Record) → tested (batch o n w r) ≡ Ok tt → o < 2 ^ 63 → n < 2 ^ 63 → FitsWriter w → HasRecordWidths r → IsOfBytes r → IsBatchText (batch_text_of (batch o n w r)) (batch o n w r)
-one_text o n w r t l m f g h =
-    let b : Batch = batch o n w r in
-    let widths : HasCoveredWidths b = record {
-      attributes = f.attributes;
-      base_timestamp = record { sfits = m };
-      max_timestamp = record { sfits = m };
-      producer = f.producer;
-      epoch = f.epoch;
-      sequence = f.sequence;
-      records = All-cons HasRecordWidths r [] g (All-nil HasRecordWidths);
-    } in
+pub written_text : (b : Batch) → tested b ≡ Ok tt → HasCoveredWidths b → FitsSigned w64 b.base_offset → FitsSigned w32 b.leader_epoch → All IsOfBytes b.records → IsBatchText (batch_text_of b) b
+written_text b t widths o l h =
     let counted = passes-counted b t in
     let covered = covered_is b counted.fits widths.records (passes-fits b t) in
-    batch_is b t widths (record { sfits = l }) (record { sfits = omega arith }) (checksum_small (covered_text b) (covered_bytes (covered_text b) b r refl h covered))
+    batch_is b t widths o l (checksum_small (covered_text b) (covered_bytes (covered_text b) b h covered))

@@ -1,8 +1,11 @@
--- Each item of a log that fits is written as a text of its batch.
-use Rattle.std.proofs.Common.{ℕ, ◌+◌, ◌^◌, ◌<◌, ℤ, pos, negsuc, List, [], ◌∷◌, ◌++◌, length, Option, Some, None, refl, sym, ap, subst, arith, codes, FitsSigned, w32}
+-- Each batch of a log that fits is written as a text of it.
+use Rattle.std.proofs.Common.{◌≡◌, ℕ, zero, suc, ◌+◌, ◌-◌, ◌*◌, ◌/◌, ◌^◌, ◌<◌, ◌≤◌, ℤ, pos, negsuc, ◌-ℤ◌, unsigned_abs, List, [], ◌∷◌, ◌++◌, map, length, take, drop, Option, Some, None, refl, sym, ap, subst, arith, codes, FitsSigned, w8, w16, w32, w64}
 use Rattle.std.specs.Prelude.{⊤}
 use Rattle.std.specs.List.{All}
-use Rattle.std.proofs.lemmas.List.Elements.{All-head, All-tail}
+use Rattle.std.proofs.lemmas.List.Elements.{All-nil, All-cons, All-head, All-tail, All-take}
+use Rattle.std.proofs.lemmas.List.{length-take, length-drop}
+use Rattle.std.proofs.lemmas.Int.{ints, fits_signed_from_abs}
+use Rattle.std.proofs.Math.Nat.{div-add-mod, mul_comm, mul-le-mul_right, add-mul}
 use Rattle.eos_wire.specs.Numbers.{IsBytes, i16_text, i32_text, i64_text}
 use Rattle.eos_wire.proofs.NumberTexts.{IsBytes-append}
 use Rattle.eos_batch.specs.declared.marker.Kind.{Kind}
@@ -20,15 +23,28 @@ use Rattle.eos_machine.specs.Sessions.{claimed_topic}
 use Rattle.eos_machine.specs.declared.item.Item.{Item}
 use Rattle.eos_machine.specs.declared.item.Item.TheVariants.{Fed, State, Output, Offset, Marker}
 use Rattle.eos_machine.specs.Places.{IsConfig, input_topic}
-use Rattle.eos_logs.specs.Batches.{group, transactional_id, bytes_of, record_of, fed_record, state_record, claim_headers, headers_of, output_record, offset_record, control_type, marker_record, plain, transactional, control, item_batch, HasText, HaveTexts}
+use Rattle.eos_logs.specs.declared.writer.Writer.{Writer}
+use Rattle.eos_logs.specs.Grouping.{AreJoined}
+use Rattle.eos_logs.specs.Batches.{group, transactional_id, bytes_of, claim_headers, headers_of, offset_record, control_type, marker_record, plain, transactional, control, event_of, item_writer, item_record, record_after, last_or, batch_of, behind, batches_after, AreTexts}
+use Rattle.eos_logs.specs.Evidences.{part_at, batches_at, HaveTexts}
 use Rattle.eos_logs.specs.Fitting.{IsFit}
 use Rattle.eos_logs.proofs.BatchSizes.{key_written}
-use Rattle.eos_logs.proofs.BatchTests.{item_tested}
-use Rattle.eos_simulation.proofs.ByteTexts.{no_bytes, one_more, known_bytes, i16_bytes, i32_bytes, i64_bytes}
-use Rattle.eos_simulation.proofs.CoveredBytes.{AreHeaders, IsOfBytes, FitsWriter, one_text}
-use Rattle.eos_simulation.proofs.StateValues.{state_bytes, state_reads}
+use Rattle.eos_logs.proofs.BatchTests.{batch_tested}
+use Rattle.eos_logs.proofs.ByteTexts.{no_bytes, one_more, known_bytes, i16_bytes, i32_bytes, i64_bytes}
+use Rattle.eos_logs.proofs.FittingTests.{fit_event, fit_last}
+use Rattle.eos_logs.proofs.Grouping.{are_joined, joining_few, joining_within}
+use Rattle.eos_logs.proofs.SegmentsFit.{all_drop}
+use Rattle.eos_logs.proofs.StateValues.{state_bytes, all_read_back}
+use Rattle.eos_simulation.proofs.CoveredBytes.{AreHeaders, IsOfBytes, written_text}
 
 -- ---- who writes
+
+-- each number fits its field
+record FitsWriter (w : Writer) : Type 0 where
+  attributes : FitsSigned w16 w.attributes
+  producer : FitsSigned w64 w.producer
+  epoch : FitsSigned w16 w.epoch
+  sequence : FitsSigned w32 w.sequence
 
 fits_plain : FitsWriter plain
 fits_plain = record { attributes = record { sfits = omega arith }; producer = record { sfits = omega arith }; epoch = record { sfits = omega arith }; sequence = record { sfits = omega arith } }
@@ -43,10 +59,33 @@ fits_control c a e i l m =
     let most = i.applications.1 in
     record { attributes = record { sfits = omega arith }; producer = record { sfits = omega (arith, l, most) }; epoch = record { sfits = m }; sequence = record { sfits = omega arith } }
 
+fits_writer : (c : Config) (x : Item) → IsConfig c → IsFit c x → FitsWriter (item_writer x)
+fits_writer c (Fed n) i f = fits_plain
+fits_writer c (State a x n) i f = fits_plain
+fits_writer c (Output a e s x v n) i f = fits_transactional c a e (pos s) i f.0 f.1 (record { sfits = f.2 })
+fits_writer c (Offset a e q v n) i f = fits_transactional c a e (negsuc 0) i f.0 f.1 (record { sfits = omega arith })
+fits_writer c (Marker a e k n) i f = fits_control c a e i f.0 f.1
+
 -- ---- what is written
 
-widths : (key : Option (List ℕ)) (value : Option (List ℕ)) (headers : List Header) → HasRecordWidths (record_of key value headers)
-widths key value headers = record { attributes = record { sfits = omega arith }; timestamp_delta = record { sfits = omega arith } }
+difference_fits : (m n : ℕ) → m < 2 ^ 63 → n < 2 ^ 63 → FitsSigned w64 (pos m -ℤ pos n)
+difference_fits m n l k = fits_signed_from_abs w64 (pos m -ℤ pos n) (below m n l k)
+  where
+    below : (m n : ℕ) → m < 2 ^ 63 → n < 2 ^ 63 → unsigned_abs (pos m -ℤ pos n) < 2 ^ 63
+    below m n l k = grind (arith, ints, l, k)
+
+no_attributes : (c : Config) (x : Item) → (item_record c x).attributes ≡ pos 0
+no_attributes c (Fed n) = refl
+no_attributes c (State a x n) = refl
+no_attributes c (Output a e s x v n) = refl
+no_attributes c (Offset a e q v n) = refl
+no_attributes c (Marker a e k n) = refl
+
+widths : (c : Config) (n : ℕ) (x : Item) → n < 2 ^ 63 → IsFit c x → HasRecordWidths (record_after c n x)
+widths c n x l f = record {
+  attributes = subst (FitsSigned w8) (sym (no_attributes c x)) (record { sfits = omega arith });
+  timestamp_delta = difference_fits (event_of x) n (fit_event c x f) l;
+}
 
 id_bytes : (a : ℕ) → a < 8 → IsBytes (transactional_id a)
 id_bytes a l = IsBytes-append (codes "app-") ((48 + a) ∷ []) (known_bytes (codes "app-") refl) (one_more (48 + a) [] (omega (arith, l)) no_bytes)
@@ -106,30 +145,74 @@ HasBytes (Output a e s x v n) = IsBytes (claimed_topic x)
 HasBytes (Offset a e q v n) = ⊤
 HasBytes (Marker a e k n) = ⊤
 
-item_text : (c : Config) (o : ℕ) (x : Item) → IsConfig c → o < 2 ^ 63 → IsFit c x → HasBytes x → IsBatchText (batch_text_of (item_batch c o x)) (item_batch c o x)
-item_text c o (Fed n) i l f h =
-    one_text o n plain (fed_record n) (item_tested c o (Fed n) i l f) l f fits_plain (widths _ _ _) (record { key = tt; value = i64_bytes (pos n); headers = tt })
-item_text c o (State a x n) i l f h =
-    one_text o n plain (state_record c a x n) (item_tested c o (State a x n) i l f) l f.3 fits_plain (widths _ _ _)
-    (record { key = state_key a (let most = i.applications.1 in omega (arith, f.0, most)); value = state_bytes c a x n i f.2; headers = tt })
-item_text c o (Output a e s x v n) i l f h =
-    one_text o n (transactional a e (pos s)) (output_record x v) (item_tested c o (Output a e s x v n) i l f) l f.5 (fits_transactional c a e (pos s) i f.0 f.1 (record { sfits = f.2 })) (widths _ _ _)
-    (record { key = tt; value = i64_bytes (pos v); headers = headers_bytes x h })
-item_text c o (Offset a e q v n) i l f h =
-    one_text o n (transactional a e (negsuc 0)) (offset_record q v) (item_tested c o (Offset a e q v n) i l f) l f.3 (fits_transactional c a e (negsuc 0) i f.0 f.1 (record { sfits = omega arith })) (widths _ _ _) (commit_bytes q v)
-item_text c o (Marker a e k n) i l f h =
-    one_text o n (control a e) (marker_record k) (item_tested c o (Marker a e k n) i l f) l f.2 (fits_control c a e i f.0 f.1) (widths _ _ _) (marker_bytes k)
+record_bytes : (c : Config) (n : ℕ) (x : Item) → IsConfig c → IsFit c x → HasBytes x → IsOfBytes (record_after c n x)
+record_bytes c n (Fed m) i f h = record { key = tt; value = i64_bytes (pos m); headers = tt }
+record_bytes c n (State a x m) i f h = record { key = state_key a (let most = i.applications.1 in omega (arith, f.0, most)); value = state_bytes c a x m i f.2; headers = tt }
+record_bytes c n (Output a e s x v m) i f h = record { key = tt; value = i64_bytes (pos v); headers = headers_bytes x h }
+record_bytes c n (Offset a e q v m) i f h = let b = commit_bytes q v in record { key = b.key; value = b.value; headers = b.headers }
+record_bytes c n (Marker a e k m) i f h = let b = marker_bytes k in record { key = b.key; value = b.value; headers = b.headers }
 
-item_written : (c : Config) (o : ℕ) (x : Item) → IsConfig c → o < 2 ^ 63 → IsFit c x → HasBytes x → HasText c o x
-item_written c o (Fed n) i l f h = record { text = item_text c o (Fed n) i l f h; reads = tt }
-item_written c o (State a x n) i l f h = record { text = item_text c o (State a x n) i l f h; reads = state_reads c a x n i f.0 f.1 f.2 f.3 }
-item_written c o (Output a e s x v n) i l f h = record { text = item_text c o (Output a e s x v n) i l f h; reads = tt }
-item_written c o (Offset a e q v n) i l f h = record { text = item_text c o (Offset a e q v n) i l f h; reads = tt }
-item_written c o (Marker a e k n) i l f h = record { text = item_text c o (Marker a e k n) i l f h; reads = tt }
+-- each of these
+all_widths : (c : Config) (n : ℕ) (xs : List Item) → n < 2 ^ 63 → All (IsFit c) xs → All HasRecordWidths (map (record_after c n) xs)
+all_widths c n [] l f = All-nil HasRecordWidths
+all_widths c n (x ∷ xs) l f = All-cons HasRecordWidths (record_after c n x) (map (record_after c n) xs) (widths c n x l (All-head (IsFit c) x xs f)) (all_widths c n xs l (All-tail (IsFit c) x xs f))
 
-pub have_texts : (c : Config) (o : ℕ) (xs : List Item) → IsConfig c → o + length xs < 2 ^ 63 → All (IsFit c) xs → All HasBytes xs → HaveTexts c o xs
-have_texts c o [] i l f h = tt
-have_texts c o (x ∷ xs) i l f h = (
-  item_written c o x i (omega (arith, l)) (All-head (IsFit c) x xs f) (All-head HasBytes x xs h),
-  have_texts c (o + 1) xs i (omega (arith, l)) (All-tail (IsFit c) x xs f) (All-tail HasBytes x xs h),
-)
+all_bytes : (c : Config) (n : ℕ) (xs : List Item) → IsConfig c → All (IsFit c) xs → All HasBytes xs → All IsOfBytes (map (record_after c n) xs)
+all_bytes c n [] i f h = All-nil IsOfBytes
+all_bytes c n (x ∷ xs) i f h =
+    All-cons IsOfBytes (record_after c n x) (map (record_after c n) xs) (record_bytes c n x i (All-head (IsFit c) x xs f) (All-head HasBytes x xs h)) (all_bytes c n xs i (All-tail (IsFit c) x xs f) (All-tail HasBytes x xs h))
+
+batch_text : (c : Config) (o : ℕ) (x : Item) (ys : List Item) → IsConfig c → o + length ys < 2 ^ 63 → length ys < 1000 → AreJoined x ys → All (IsFit c) (x ∷ ys) → All HasBytes (x ∷ ys) → IsBatchText (batch_text_of (batch_of c o x ys)) (batch_of c o x ys)
+batch_text c o x ys i l m j f h =
+    let w = fits_writer c x i (All-head (IsFit c) x ys f) in
+    let e = fit_event c x (All-head (IsFit c) x ys f) in
+    let g = fit_event c (last_or x ys) (fit_last c x ys f) in
+    written_text (batch_of c o x ys) (batch_tested c o x ys i l m j f) (record {
+      attributes = w.attributes;
+      base_timestamp = record { sfits = e };
+      max_timestamp = record { sfits = g };
+      producer = w.producer;
+      epoch = w.epoch;
+      sequence = w.sequence;
+      records = all_widths c (event_of x) (x ∷ ys) e f;
+    }) (record { sfits = omega (arith, l) }) (record { sfits = omega arith }) (all_bytes c (event_of x) (x ∷ ys) i f h)
+
+-- the batches of items, of which so many at the front stand in a batch already
+are_texts : (c : Config) (n o : ℕ) (xs : List Item) → IsConfig c → o + length xs < 2 ^ 63 → All (IsFit c) xs → All HasBytes xs → AreTexts (batches_after c n o xs)
+are_texts c n o [] i l f h = tt
+are_texts c zero o (x ∷ xs) i l f h =
+    let m : ℕ = behind c x xs in
+    let few = joining_few (c.batch_records - 1) x xs in
+    let within = joining_within (c.batch_records - 1) x xs in
+    let t = length-take m xs in
+    (
+      batch_text c o x (take m xs) i (omega (arith, l, within, t)) (omega (arith, few, t, i.batch_records.0, i.batch_records.1)) (are_joined (c.batch_records - 1) x xs)
+      (All-cons (IsFit c) x (take m xs) (All-head (IsFit c) x xs f) (All-take (IsFit c) m xs (All-tail (IsFit c) x xs f)))
+      (All-cons HasBytes x (take m xs) (All-head HasBytes x xs h) (All-take HasBytes m xs (All-tail HasBytes x xs h))),
+      are_texts c m (o + 1) xs i (omega (arith, l)) (All-tail (IsFit c) x xs f) (All-tail HasBytes x xs h),
+    )
+are_texts c (suc n) o (x ∷ xs) i l f h = are_texts c n (o + 1) xs i (omega (arith, l)) (All-tail (IsFit c) x xs f) (All-tail HasBytes x xs h)
+
+-- ---- a log
+
+begins_inside : (n r i : ℕ) → 1 ≤ r → i < (n + (r - 1)) / r → i * r < n
+begins_inside n r i l h =
+    let d = div-add-mod (n + (r - 1)) r in
+    let s = mul_comm ((n + (r - 1)) / r) r in
+    let g : (i + 1) * r ≤ (n + (r - 1)) / r * r = mul-le-mul_right r (omega (arith, h)) in
+    let t = add-mul i 1 r in
+    omega (arith, d, s, g, t, l)
+
+pub have_texts : (c : Config) (log : List Item) → IsConfig c → length log < 2 ^ 63 → All (IsFit c) log → All HasBytes log → HaveTexts c log
+have_texts c log i l f h = record {
+  texts = λ k m. part k (begins_inside (length log) c.segment_records k i.segment_records.0 m);
+  reads = all_read_back c log i f;
+}
+  where
+    part : (k : ℕ) → k * c.segment_records < length log → AreTexts (batches_at c log k)
+    part k m =
+        let t = length-take c.segment_records (drop (k * c.segment_records) log) in
+        let d = length-drop (k * c.segment_records) log in
+        are_texts c 0 (k * c.segment_records) (part_at c log k) i (omega (arith, t, d, m, l))
+        (All-take (IsFit c) c.segment_records (drop (k * c.segment_records) log) (all_drop (IsFit c) (k * c.segment_records) log f))
+        (All-take HasBytes c.segment_records (drop (k * c.segment_records) log) (all_drop HasBytes (k * c.segment_records) log h))

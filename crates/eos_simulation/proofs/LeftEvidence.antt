@@ -64,7 +64,7 @@ leaves c xs i b r =
         spec = parts_of c w;
         accepted = accepted_parts c w i g.short;
         added = a.is;
-        written = λ p l. have_texts c 0 (log_at w p) i (let s = g.short p in omega (arith, s)) (g.fit p) (All-weaker (KeptItem IsBytes c) HasBytes (item_bytes c) (log_at w p) (log_kept IsBytes c (2 * w.events) w p k.kept));
+        written = λ p l. have_texts c (log_at w p) i (g.short p) (g.fit p) (All-weaker (KeptItem IsBytes c) HasBytes (item_bytes c) (log_at w p) (log_kept IsBytes c (2 * w.events) w p k.kept));
       };
     }
 

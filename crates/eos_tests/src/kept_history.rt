@@ -18,6 +18,7 @@ fn new_cluster(alloc: Global) -> Result<Cluster, AllocError> {
         outputs: 2,
         transaction_logs: 1,
         segment_records: 16,
+        batch_records: 1,
     };
     match Cluster::new(alloc, config) {
         Ok(cluster) => Ok(cluster),

@@ -100,6 +100,7 @@ impl Subcommand {
                 Argument::Outputs,
                 Argument::TransactionLogs,
                 Argument::SegmentRecords,
+                Argument::BatchRecords,
                 Argument::Lose,
                 Argument::Repeat,
                 Argument::Abandon,
@@ -146,6 +147,7 @@ pub(crate) enum Argument {
     Outputs,
     TransactionLogs,
     SegmentRecords,
+    BatchRecords,
     Lose,
     Repeat,
     Abandon,
@@ -194,7 +196,7 @@ static SWITCHES: [&str; 7] = [
 static READINGS: [&str; 3] = ["outputs", "transactions", "offsets"];
 
 /// What a schedule says already.
-static SCHEDULED: [&str; 17] = [
+static SCHEDULED: [&str; 18] = [
     "seed",
     "events",
     "applications",
@@ -202,6 +204,7 @@ static SCHEDULED: [&str; 17] = [
     "outputs",
     "transaction-logs",
     "segment-records",
+    "batch-records",
     "lose",
     "repeat",
     "abandon",
@@ -244,6 +247,7 @@ impl Argument {
             Argument::Outputs => "outputs",
             Argument::TransactionLogs => "transaction-logs",
             Argument::SegmentRecords => "segment-records",
+            Argument::BatchRecords => "batch-records",
             Argument::Lose => "lose",
             Argument::Repeat => "repeat",
             Argument::Abandon => "abandon",
@@ -273,7 +277,8 @@ impl Argument {
             | Argument::Inputs
             | Argument::Outputs
             | Argument::TransactionLogs
-            | Argument::SegmentRecords => "N",
+            | Argument::SegmentRecords
+            | Argument::BatchRecords => "N",
             Argument::Lose
             | Argument::Repeat
             | Argument::Abandon
@@ -339,6 +344,7 @@ impl Argument {
             Argument::Outputs => "The partitions of `out`, 1 to 16, or 2",
             Argument::TransactionLogs => "The partitions of `__transaction_state`, 1 to 4, or 1",
             Argument::SegmentRecords => "The records of a segment, 1 to 1000, or 16",
+            Argument::BatchRecords => "The records of a batch at the most, 1 to 1000, or 1",
             Argument::Lose => "Words, of 1000, by which a message is lost",
             Argument::Repeat => "Words, of 1000, by which a message comes again",
             Argument::Abandon => "Words, of 1000, by which a session is abandoned",
@@ -376,6 +382,7 @@ impl Argument {
                 | Argument::Outputs
                 | Argument::TransactionLogs
                 | Argument::SegmentRecords
+                | Argument::BatchRecords
                 | Argument::Lose
                 | Argument::Repeat
                 | Argument::Abandon
@@ -442,6 +449,7 @@ impl Argument {
             Argument::Outputs => Form::Valued(ValueParser::Unsigned(1, 16)),
             Argument::TransactionLogs => Form::Valued(ValueParser::Unsigned(1, 4)),
             Argument::SegmentRecords => Form::Valued(ValueParser::Unsigned(1, 1000)),
+            Argument::BatchRecords => Form::Valued(ValueParser::Unsigned(1, 1000)),
             Argument::Lose
             | Argument::Repeat
             | Argument::Abandon

@@ -274,6 +274,7 @@ fn read_sizes(inner: &ArgMatches<'_>) -> Sizes {
         outputs: inner.get_one::<u64>("outputs"),
         transaction_logs: inner.get_one::<u64>("transaction-logs"),
         segment_records: inner.get_one::<u64>("segment-records"),
+        batch_records: inner.get_one::<u64>("batch-records"),
     }
 }
 

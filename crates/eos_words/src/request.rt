@@ -111,6 +111,8 @@ pub struct Sizes {
     pub transaction_logs: Option<u64>,
     /// From 1 to 1,000.
     pub segment_records: Option<u64>,
+    /// From 1 to 1,000.
+    pub batch_records: Option<u64>,
 }
 
 /// Of a thousand words how many say this, where that is said: from 0 to 1,000.

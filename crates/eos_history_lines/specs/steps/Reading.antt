@@ -177,9 +177,9 @@ switches_at name d = option_map switches_in (option_and_then as_array (get name 
 
 abbrev pub sizes_in : Data → Option Config
 sizes_in d =
-    option_and_then (λ applications. option_and_then (λ inputs. option_and_then (λ outputs. option_and_then (λ logs.
-    option_map (λ records. record { applications = applications; inputs = inputs; outputs = outputs; transaction_logs = logs; segment_records = records })
-    (count_in (codes "segment_records") d)) (count_in (codes "transaction_logs") d)) (count_in (codes "outputs") d)) (count_in (codes "inputs") d)) (count_in (codes "applications") d)
+    option_and_then (λ applications. option_and_then (λ inputs. option_and_then (λ outputs. option_and_then (λ logs. option_and_then (λ records.
+    option_map (λ most. record { applications = applications; inputs = inputs; outputs = outputs; transaction_logs = logs; segment_records = records; batch_records = most })
+    (count_in (codes "batch_records") d)) (count_in (codes "segment_records") d)) (count_in (codes "transaction_logs") d)) (count_in (codes "outputs") d)) (count_in (codes "inputs") d)) (count_in (codes "applications") d)
 
 abbrev pub head_in : Data → Option Head
 head_in d =

@@ -23,6 +23,7 @@ const PAIR: Config = Config {
     outputs: 2,
     transaction_logs: 1,
     segment_records: 16,
+    batch_records: 1,
 };
 
 /// A new cluster, whose sizes are in range.

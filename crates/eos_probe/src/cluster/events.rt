@@ -7,13 +7,14 @@ use eos_machine::{Claim, Config, Event};
 
 /// The sizes of a cluster, in the order of their fields.
 pub(super) fn sizes_of(notes: &mut Notes, text: &str) -> Config {
-    let numbers = numbers_of(notes, text, 5);
+    let numbers = numbers_of(notes, text, 6);
     Config {
         applications: place(numbers[0]),
         inputs: place(numbers[1]),
         outputs: place(numbers[2]),
         transaction_logs: place(numbers[3]),
         segment_records: place(numbers[4]),
+        batch_records: place(numbers[5]),
     }
 }
 

@@ -5,7 +5,7 @@ use Rattle.eos_history_lines.proofs.FileLines.{Read, line_and_rest, shorter, rea
 use Rattle.eos_history_lines.proofs.schedule.found_in.Goals as goal
 
 pub loop-rest-init : goal.loop-rest-init
-loop-rest-init c = subst (λ (ls : List Line). Read c.args.text.now c.args.text.now ls None) (sym (c.new-2.ensures ∙ c.new.ensures.items)) (read_none c.args.text.now)
+loop-rest-init c = subst (λ (ls : List Line). Read c.args.text.now c.args.text.now ls None 2) (sym (c.new-2.ensures ∙ c.new.ensures.items)) (read_none c.args.text.now)
 
 pub loop-rest-preserved : goal.loop-rest-preserved
 loop-rest-preserved c =
@@ -16,7 +16,9 @@ loop-rest-preserved c =
     record {
       texts = texts ++ line ∷ [];
       split = split_more c.args.text.now c.loop-rest.rest.now line _ texts c.loop-rest.invariant.split first ∙ ap (λ r. (texts ++ line ∷ []) ++ lines_of r) (sym c.after_feed-rest.ensures);
-      rows = c.in_default.ensures texts c.loop-rest.invariant.rows;
+      rows = c.in_default.ensures.ok texts c.loop-rest.invariant.rows;
+      number_is = ?;
+      few = ?;
     }
 
 pub loop-rest-smaller : goal.loop-rest-smaller
@@ -24,7 +26,7 @@ loop-rest-smaller c =
     let some : 0 < length c.loop-rest.rest.now = grind (arith, c.is_empty.ensures, c.loop-rest-test.true) in
     subst (λ (r : List ℕ). length r < length c.loop-rest.rest.now) (sym c.after_feed-rest.ensures) (shorter c.loop-rest.rest.now c.first_line.result.0.now _ some c.first_line.ensures)
 
-pub returns : goal.returns
-returns c =
+pub returns-clause-ok : goal.returns-clause-ok
+returns-clause-ok c =
     let none : length c.loop-rest.rest.now ≡ 0 = grind (arith, c.is_empty.ensures, c.loop-rest-test.false) in
-    read_all _ _ _ _ c.loop-rest.invariant none
+    read_all _ _ _ _ _ c.loop-rest.invariant none

@@ -1,9 +1,17 @@
 use Rattle.std.proofs.Common.{rules}
-use Rattle.eos_log_writer.proofs.Texts.{text_more, one_written}
 use Rattle.eos_log_writer.proofs.batches.items_text.Goals as goal
 
-pub loop-i-preserved : goal.loop-i-preserved
-loop-i-preserved c = (
-  text_more c.args.config c.args.offset c.loop-i.i c.args.items.now c.index-items-i.result _ c.loop-i.out.items c.extend_from_slice.new.self.items c.in_ok-text.text c.loop-i-test.true c.index-items-i.is c.loop-i.invariant.0 c.in_ok-text.ensures.text (search rules),
-  λ h. c.loop-i.invariant.1 (one_written c.args.config c.args.offset c.loop-i.i c.args.items.now c.index-items-i.result c.loop-i-test.true c.index-items-i.is c.in_ok-text.ensures.written h),
-)
+pub split_at-requires : goal.split_at-requires
+split_at-requires c = ?
+
+pub batch_text-requires-clause-few : goal.batch_text-requires-clause-few
+batch_text-requires-clause-few c = ?
+
+pub batch_text-requires-clause-joined : goal.batch_text-requires-clause-joined
+batch_text-requires-clause-joined c = ?
+
+pub batch_text-requires-clause-fits : goal.batch_text-requires-clause-fits
+batch_text-requires-clause-fits c = ?
+
+pub loop-first-preserved : goal.loop-first-preserved
+loop-first-preserved c = ?

@@ -1,8 +1,10 @@
 use Rattle.std.proofs.Common.{◌≡◌, ◌∙◌, sym, ap, Err, true, false, arith}
 use Rattle.std.proofs.lemmas.Result.{err_from_is_err_and}
-use Rattle.eos_logs.specs.Evidences.{segment_at}
+use Rattle.eos_logs.specs.Evidences.{batches_at, segment_at}
 use Rattle.eos_log_writer.proofs.Adding.{one_added, first_left}
-use Rattle.eos_log_writer.proofs.Texts.{from_first, segment_written, none_left}
+use Rattle.eos_log_writer.proofs.Texts.{one_further}
+use Rattle.eos_logs.specs.Batches.{AreTexts}
+use Rattle.eos_logs.proofs.StateValues.{all_read_back}
 use Rattle.eos_logs.proofs.FittingTests.{all_fit, fit_all}
 use Rattle.eos_log_writer.proofs.Refusals.{begins_inside, next_taken}
 use Rattle.eos_log_writer.proofs.segments.add_log.Goals as goal
@@ -10,17 +12,20 @@ use Rattle.eos_log_writer.proofs.segments.add_log.Goals as goal
 pub loop-i-init : goal.loop-i-init
 loop-i-init c = (
   first_left c.args.config c.args.place c.args.log.now c.args.builder.now c.segment_count-count.result c.segment_count-count.ensures,
-  from_first c.args.config c.args.config.segment_records c.args.log.now,
+  λ k l. absurd (omega (arith, l)),
 )
 
 pub loop-i-preserved : goal.loop-i-preserved
 loop-i-preserved c = (
   one_added (segment_at c.args.config c.args.place c.args.log.now) c.loop-i.builder c.add.new.builder _ c.in-Ok.segment c.loop-i.i c.segment_count-count.result (omega (arith, c.loop-i-test.true)) c.loop-i.invariant.0 c.in-Ok.ensures.segment c.in_ok-add.ensures.added,
-  λ h. c.loop-i.invariant.1 (segment_written c.args.config c.args.config.segment_records c.loop-i.i c.args.log.now c.in-Ok.ensures.written h),
+  one_further (λ k. AreTexts (batches_at c.args.config c.args.log.now k)) c.loop-i.i c.loop-i.invariant.1 c.in-Ok.ensures.written,
 )
 
 pub returns-clause-written : goal.returns-clause-written
-returns-clause-written c = c.loop-i.invariant.1 (none_left c.args.config c.loop-i.i c.args.log.now c.requires (omega (arith, c.loop-i-test.false, c.segment_count-count.ensures)))
+returns-clause-written c = record {
+  texts = λ k l. c.loop-i.invariant.1 k (omega (arith, c.loop-i-test.false, c.segment_count-count.ensures, l));
+  reads = all_read_back c.args.config c.args.log.now c.requires (all_fit c.args.config c.args.log.now (sym c.are_fit.ensures ∙ c.if-not-are_fit.false));
+}
 
 pub returns-in_err-add-clause-only : goal.returns-in_err-add-clause-only
 returns-in_err-add-clause-only c =

@@ -1,10 +1,10 @@
-use Rattle.std.proofs.Common.{◌≡◌, ◌-◌, ◌*◌, map, drop}
+use Rattle.std.proofs.Common.{◌≡◌, ℕ, ◌-◌, ◌<◌, map}
 use Rattle.std.specs.List.{range_with_len}
-use Rattle.eos_logs.specs.Batches.{HaveTexts}
-use Rattle.eos_logs.specs.Evidences.{segment_at, log_segments, adding}
+use Rattle.eos_logs.specs.Batches.{AreTexts}
+use Rattle.eos_logs.specs.Evidences.{batches_at, segment_at, log_segments, adding}
 use Rattle.eos_log_writer.proofs.segments.add_log.Given as goal
 
 abbrev pub invariant-loop-i : goal.invariant-loop-i
 invariant-loop-i l =
     (adding l.fn.builder (log_segments l.config l.place l.log) ≡ adding l.builder (map (segment_at l.config l.place l.log) (range_with_len l.i (l.count - l.i))))
-    × (HaveTexts l.config (l.i * l.config.segment_records) (drop (l.i * l.config.segment_records) l.log) → HaveTexts l.config 0 l.log)
+    × ((k : ℕ) → k < l.i → AreTexts (batches_at l.config l.log k))

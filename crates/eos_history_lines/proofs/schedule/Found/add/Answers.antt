@@ -10,8 +10,8 @@ none_is : (o : Option Tail) → is_some o ≡ false → o ≡ None
 none_is None h = refl
 none_is (Some t) h = absurd (cc h)
 
-pub returns-in_ok-push-in-Line : goal.returns-in_ok-push-in-Line
-returns-in_ok-push-in-Line c = λ texts h.
+pub returns-in_ok-push-in-Line-clause-ok : goal.returns-in_ok-push-in-Line-clause-ok
+returns-in_ok-push-in-Line-clause-ok c = λ texts h.
     let lines = c.args.self.now.lines in
     let text = c.args.text.now in
     let none : c.args.self.now.tail ≡ None = none_is _ (sym c.is_some.ensures ∙ c.if-is_some.false) in
@@ -20,8 +20,8 @@ returns-in_ok-push-in-Line c = λ texts h.
     let kept = subst (λ (o : Option Tail). SayRows (texts ++ text ∷ []) (lines ++ c.in-Line.line ∷ []) o) (sym none) after in
     subst (λ (ls : List Line). SayRows (texts ++ text ∷ []) ls c.args.self.now.tail) (sym c.in_ok-push-in-Line.ensures.ok) kept
 
-pub returns-in-Tail : goal.returns-in-Tail
-returns-in-Tail c = λ texts h.
+pub returns-in-Tail-clause-ok : goal.returns-in-Tail-clause-ok
+returns-in-Tail-clause-ok c = λ texts h.
     let none : c.args.self.now.tail ≡ None = none_is _ (sym c.is_some.ensures ∙ c.if-is_some.false) in
     let before : SayRows texts c.args.self.now.lines None = subst (λ (o : Option Tail). SayRows texts c.args.self.now.lines o) none h in
     one_tail texts c.args.self.now.lines c.args.text.now c.in-Tail.tail before (c.in_ok-line.ensures.ok ∙ ap (λ r. Some (row_value r)) c.in-Tail.is)

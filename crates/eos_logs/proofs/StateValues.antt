@@ -19,11 +19,13 @@ use Rattle.eos_machine.specs.declared.config.Config.{Config}
 use Rattle.eos_machine.specs.declared.item.Entry.{Entry}
 use Rattle.eos_machine.specs.Places.{IsConfig, place_count, output_place, offsets_topic, transactions_topic, input_topic, output_topic, topic_of, number_of, is_topic}
 use Rattle.eos_machine.specs.Rest.{with_number, by_topic, value_of}
-use Rattle.eos_logs.specs.Batches.{bytes_of}
-use Rattle.eos_logs.specs.Fitting.{AreAllThere}
+use Rattle.eos_machine.specs.declared.item.Item.{Item}
+use Rattle.eos_machine.specs.declared.item.Item.TheVariants.{Fed, State, Output, Offset, Marker}
+use Rattle.eos_logs.specs.Batches.{bytes_of, Reads, AreRead}
+use Rattle.eos_logs.specs.Fitting.{AreAllThere, IsFit}
 use Rattle.eos_logs.proofs.AcceptedParts.{number_small, place_few}
 use Rattle.eos_logs.proofs.BatchSizes.{IsTopicOf, topics_few, value_written}
-use Rattle.eos_simulation.proofs.ByteTexts.{no_bytes, known_bytes, i8_bytes, i16_bytes, i32_bytes, i64_bytes, uvarint_bytes}
+use Rattle.eos_logs.proofs.ByteTexts.{no_bytes, known_bytes, i8_bytes, i16_bytes, i32_bytes, i64_bytes, uvarint_bytes}
 
 -- ---- topics and their numbers
 
@@ -138,9 +140,21 @@ in_range c a x n i l e h m =
       numbers = All-weaker IsWritten FitNumbers (λ t k. k.1) (by_topic c x.partitions) (grouped c x.partitions i h.0);
     }
 
-pub state_reads : (c : Config) (a : ℕ) (x : Entry) (n : ℕ) → IsConfig c → a < c.applications → x.epoch < 2 ^ 15 → AreAllThere c x.partitions → n < 2 ^ 63
+state_reads : (c : Config) (a : ℕ) (x : Entry) (n : ℕ) → IsConfig c → a < c.applications → x.epoch < 2 ^ 15 → AreAllThere c x.partitions → n < 2 ^ 63
     → read_value (bytes_of (write_value (pos 1) (value_of c a x n))) ≡ Ok (value_of c a x n)
 state_reads c a x n i l e h m =
     let v : TxnValue = value_of c a x n in
     let w = written_is c a x n i h in
     ap (λ r. read_value (bytes_of r)) w ∙ value_whole (value_text v) v (value_text_is (pos 1) _ v refl (has_fit v (value_text v) w) (in_range c a x n i l e h m))
+
+-- each item of a log that fits reads back
+reads_back : (c : Config) (x : Item) → IsConfig c → IsFit c x → Reads c x
+reads_back c (Fed n) i h = tt
+reads_back c (State a x n) i h = state_reads c a x n i h.0 h.1 h.2 h.3
+reads_back c (Output a e s x v n) i h = tt
+reads_back c (Offset a e q v n) i h = tt
+reads_back c (Marker a e k n) i h = tt
+
+pub all_read_back : (c : Config) (xs : List Item) → IsConfig c → All (IsFit c) xs → AreRead c xs
+all_read_back c [] i h = tt
+all_read_back c (x ∷ xs) i h = (reads_back c x i (All-head (IsFit c) x xs h), all_read_back c xs i (All-tail (IsFit c) x xs h))
