@@ -1,14 +1,16 @@
 -- The lines of a text, one after the other.
-use Rattle.std.proofs.Common.{◌≡◌, ◌<◌, ◌≤◌, ◌+◌, ℕ, List, [], ◌∷◌, ◌++◌, Bool, true, false, ◌||◌, ◌==◌, Option, None, Some, length, length-append, append_assoc, append-nil, subst, refl, ap, sym, ◌∙◌, arith}
+use Rattle.std.proofs.Common.{◌≡◌, ◌<◌, ◌+◌, ◌-◌, ◌^◌, min, ℕ, List, [], ◌∷◌, ◌++◌, Bool, true, false, ◌||◌, ◌==◌, Option, None, Some, length, length-append, append_assoc, append-nil, subst, refl, ap, sym, ◌∙◌, arith, inl, inr}
 use Rattle.std.specs.List.{AllZip}
 use Rattle.serde_json.specs.Read.{read}
 use Rattle.eos_history_lines.specs.declared.line.Line.{Line}
 use Rattle.eos_history_lines.specs.declared.line.Tail.{Tail}
 use Rattle.eos_history_lines.specs.Divided.{lines_of}
-use Rattle.eos_history_lines.specs.Lines.{line_value, tail_value}
+use Rattle.eos_history_lines.specs.Lines.{head_value, line_value, tail_value}
 use Rattle.eos_history_lines.specs.declared.schedule.ScheduleFault.{ScheduleFault}
 use Rattle.eos_history_lines.specs.Files.{SaysLine, SayRows}
-use Rattle.eos_history_lines.specs.Refusals.{IsRefusedAfter, IsRefusedAmong}
+use Rattle.eos_history_lines.specs.Refusals.{IsNoHead, IsRefusedAfter, IsRefusedAmong, IsRefusedFirst, IsRefusal}
+use Rattle.eos_history_lines.specs.declared.fault.LineFault.TheVariants.{NotJson}
+use Rattle.eos_history_lines.specs.declared.line.Head.{Head}
 use Rattle.eos_history_lines.specs.steps.Pieces.{has_feed, IsFirstLine, or_nothing}
 
 no_first : (a b : Bool) → (a || b) ≡ false → a ≡ false
@@ -78,11 +80,10 @@ pub record Read (whole rest : List ℕ) (lines : List Line) (tail : Option Tail)
   pub texts : List (List ℕ)
   pub split : lines_of whole ≡ texts ++ lines_of rest
   pub rows : SayRows texts lines tail
-  pub number_is : number ≡ 2 + length texts
-  pub few : length texts + length rest ≤ length whole
+  pub number_is : number ≡ min (2 + length texts) (2 ^ 64 - 1)
 
 pub read_none : (whole : List ℕ) → Read whole whole [] None 2
-read_none whole = record { texts = []; split = refl; rows = no_rows; number_is = refl; few = omega arith }
+read_none whole = record { texts = []; split = refl; rows = no_rows; number_is = omega arith }
 
 pub read_all : (whole rest : List ℕ) (lines : List Line) (tail : Option Tail) (number : ℕ) → Read whole rest lines tail number → length rest ≡ 0 → SayRows (lines_of whole) lines tail
 unfolding lines_of
@@ -108,3 +109,16 @@ refused_here whole rest here others lines tail number f h first n r = record {
 pub split_more : (whole rest line : List ℕ) (lines : List (List ℕ)) (texts : List (List ℕ)) → lines_of whole ≡ texts ++ lines_of rest → lines_of rest ≡ line ∷ lines
     → lines_of whole ≡ (texts ++ line ∷ []) ++ lines
 split_more whole rest line lines texts split first = split ∙ ap (λ ls. texts ++ ls) first ∙ sym (append_assoc texts (line ∷ []) lines)
+
+-- ---- what is refused
+
+pub no_line : (text : List ℕ) (f : ScheduleFault) → length text ≡ 0 → f.line ≡ 1 → f.fault ≡ NotJson → IsRefusal (lines_of text) f
+unfolding lines_of
+no_line [] f e n k = inl (n, k)
+no_line (b ∷ bs) f e n k = absurd (omega (arith, e))
+
+pub no_head : (text line : List ℕ) (others : List (List ℕ)) (f : ScheduleFault) → lines_of text ≡ line ∷ others → f.line ≡ 1 → IsNoHead line f.fault → IsRefusal (lines_of text) f
+no_head text line others f parts n h = inl (n, subst (λ ts. IsRefusedFirst ts f) (sym parts) h)
+
+pub no_row : (text line : List ℕ) (others : List (List ℕ)) (head : Head) (f : ScheduleFault) → lines_of text ≡ line ∷ others → read line ≡ Some (head_value head) → IsRefusedAmong others f → IsRefusal (lines_of text) f
+no_row text line others head f parts begins among = inr (record { first = line; others = others; head = head; parts = parts; begins = begins; among = among })

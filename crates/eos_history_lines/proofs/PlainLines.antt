@@ -130,7 +130,7 @@ switches_flat n s = let h = names_flat s in record { plain = h.plain; shallow = 
 sizes_flat : (c : Config) (ms : JsonMembers) → FlatMembers 1 ms → FlatMembers 1 (with_sizes c ms)
 unfolding with_sizes
 sizes_flat c ms h =
-    put_flat 1 _ _ _ (count_flat 1 _) (put_flat 1 _ _ _ (count_flat 1 _) (put_flat 1 _ _ _ (count_flat 1 _) (put_flat 1 _ _ _ (count_flat 1 _) (put_flat 1 _ _ ms (count_flat 1 _) h))))
+    put_flat 1 _ _ _ (count_flat 1 _) (put_flat 1 _ _ _ (count_flat 1 _) (put_flat 1 _ _ _ (count_flat 1 _) (put_flat 1 _ _ _ (count_flat 1 _) (put_flat 1 _ _ _ (count_flat 1 _) (put_flat 1 _ _ ms (count_flat 1 _) h)))))
 
 asked_flat : (a : Head) (ms : JsonMembers) → FlatMembers 1 ms → FlatMembers 1 (with_asked a ms)
 unfolding with_asked

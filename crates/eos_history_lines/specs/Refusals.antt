@@ -1,5 +1,5 @@
 -- Why a file of lines is refused: the first line that is, counted from 1. Those before it are lines of a history.
-use Rattle.std.specs.Prelude.{◌≡◌, ◌≢◌, ◌⊎◌, ℕ, ◌+◌, List, [], ◌∷◌, ◌++◌, length, Option, None, Some, IsUtf8}
+use Rattle.std.specs.Prelude.{◌≡◌, ◌≢◌, ◌⊎◌, ℕ, ◌+◌, ◌-◌, ◌^◌, min, List, [], ◌∷◌, ◌++◌, length, Option, None, Some, IsUtf8}
 use Rattle.serde_json.specs.Read.{read}
 use Rattle.eos_history_lines.specs.declared.fault.LineFault.{LineFault}
 use Rattle.eos_history_lines.specs.declared.fault.LineFault.TheVariants.{NotJson, Mistaken, OutOfMemory}
@@ -37,7 +37,8 @@ pub record IsRefusedAmong (texts : List (List ℕ)) (f : ScheduleFault) : Type 0
   pub tail : Option Tail
   pub parts : texts ≡ before ++ here ∷ others
   pub rows : SayRows before lines tail
-  pub number : f.line ≡ 2 + length before
+  -- its number, as far as it fits 64 bits
+  pub number : f.line ≡ min (2 + length before) (2 ^ 64 - 1)
   pub refused : IsRefusedAfter tail here f.fault
 
 -- the first line is refused, or there is none

@@ -57,12 +57,15 @@ pub fn schedule_of(alloc: Global, text: &[u8]) -> Result<Schedule, ScheduleFault
     ensures err { IfErr result (λ fault. IsRefusal (lines_of text.now) fault) }
 {
     if text.is_empty() {
-        return Err(at(1, LineFault::NotJson));
+        return Err(ScheduleFault {
+            line: 1,
+            fault: LineFault::NotJson,
+        });
     }
     let (first, after) = first_line(text);
     let head = match head_of(alloc, first) {
         Ok(head) => head,
-        Err(fault) => return Err(at(1, fault)),
+        Err(fault) => return Err(ScheduleFault { line: 1, fault }),
     };
     let Found { lines, tail } = found_in(alloc, after_feed(after))?;
     Ok(Schedule { head, lines, tail })
@@ -82,18 +85,15 @@ fn found_in(alloc: Global, text: &[u8]) -> Result<Found, ScheduleFault>
     while !rest.is_empty() {
         let (line, after) = first_line(rest);
         if let Err(fault) = found.add(alloc, line) {
-            return Err(at(number, fault));
+            return Err(ScheduleFault {
+                line: number,
+                fault,
+            });
         }
         number = number.saturating_add(1);
         rest = after_feed(after);
     }
     Ok(found)
-}
-
-fn at(line: u64, fault: LineFault) -> ScheduleFault
-    ensures { result ≡ record { line = line; fault = fault } }
-{
-    ScheduleFault { line, fault }
 }
 
 impl Found {

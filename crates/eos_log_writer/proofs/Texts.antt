@@ -1,9 +1,9 @@
 -- The bytes of a batch that is written.
 use Rattle.std.proofs.Common.{◌≡◌, ℕ, ◌+◌, ◌-◌, zero, suc, true, false, ◌⊎◌, map, List, [], ◌∷◌, ◌++◌, Result, Ok, Err, inl, inr, ap, sym, subst, refl, ◌∙◌, append_assoc, arith, take, drop, length, slice_index_or, ◌<◌, ◌≤◌}
 use Rattle.std.specs.List.{All}
-use Rattle.std.proofs.lemmas.List.Elements.{All-head, All-tail}
+use Rattle.std.proofs.lemmas.List.Elements.{All-cons, All-head, All-tail, All-take}
 use Rattle.std.proofs.Math.ListN.{drop_of_length-le}
-use Rattle.std.proofs.lemmas.List.{drop_more}
+use Rattle.std.proofs.lemmas.List.{drop_more, length-drop}
 use Rattle.std.proofs.lemmas.Bool.{cases_lt}
 use Rattle.eos_base.specs.Steps.{◌>>=◌}
 use Rattle.eos_batch.specs.declared.batch.Batch.{Batch}
@@ -15,7 +15,11 @@ use Rattle.eos_wire.specs.Writing.{IsShortest}
 use Rattle.eos_machine.specs.declared.config.Config.{Config}
 use Rattle.eos_machine.specs.declared.item.Item.{Item}
 use Rattle.eos_batch.specs.declared.record.Record.{Record}
-use Rattle.eos_logs.specs.Grouping.{goes_on, joining}
+use Rattle.eos_machine.specs.Places.{IsConfig}
+use Rattle.eos_logs.specs.Fitting.{IsFit}
+use Rattle.eos_logs.specs.Grouping.{goes_on, joining, AreJoined}
+use Rattle.eos_logs.proofs.Grouping.{are_joined, joining_few, joining_within}
+use Rattle.eos_logs.proofs.SegmentsFit.{all_drop, take_few}
 use Rattle.eos_logs.specs.Batches.{batch_of, behind, batches_after, batches_from, texts_of, AreTexts}
 
 or_none : Result (List ℕ) BatchFault → List ℕ
@@ -57,6 +61,50 @@ text_more c o p n x xs all out new t e f h is next =
 
 pub one_written : (c : Config) (o p n : ℕ) (x : Item) (xs : List Item) → n ≡ behind c x xs → p ≡ o + 1 + n → IsBatchText (batch_text_of (batch_of c o x (take n xs))) (batch_of c o x (take n xs)) → AreTexts (batches_from c p (drop n xs)) → AreTexts (batches_from c o (x ∷ xs))
 one_written c o p n x xs e f h k = subst AreTexts (sym (batch_first c o p n x xs e f)) (h, k)
+
+-- what is written of items, and what is left of them
+abbrev pub IsLeft : Config → ℕ → List Item → List ℕ → ℕ → List Item → Type 0
+IsLeft c o items out base rest =
+    (texts_of (batches_from c o items) ≡ out ++ texts_of (batches_from c base rest)) × (AreTexts (batches_from c base rest) → AreTexts (batches_from c o items))
+    × (base + length rest ≡ o + length items) × All (IsFit c) rest
+
+-- an item, those that stand behind it, and the others
+pub record IsCut (c : Config) (rest : List Item) (x : Item) (n : ℕ) (standing others : List Item) : Type 0 where
+  pub more : List Item
+  pub is : rest ≡ x ∷ more
+  pub count : n ≡ behind c x more
+  pub front : standing ≡ take n more
+  pub back : others ≡ drop n more
+
+pub cut_few : (c : Config) (rest : List Item) (x : Item) (n : ℕ) (standing others : List Item) → IsConfig c → IsCut c rest x n standing others → length standing < 1000
+cut_few c rest x n standing others i h =
+    let t = take_few n h.more in let j = joining_few (c.batch_records - 1) x h.more in let e = ap length h.front in
+    omega (arith, t, j, e, h.count, i.batch_records.0, i.batch_records.1)
+
+pub cut_joined : (c : Config) (rest : List Item) (x : Item) (n : ℕ) (standing others : List Item) → IsCut c rest x n standing others → AreJoined x standing
+cut_joined c rest x n standing others h =
+    subst (AreJoined x) (sym h.front) (subst (λ k. AreJoined x (take k h.more)) (sym h.count) (are_joined (c.batch_records - 1) x h.more))
+
+pub cut_fits : (c : Config) (rest : List Item) (x : Item) (n : ℕ) (standing others : List Item) → IsCut c rest x n standing others → All (IsFit c) rest → All (IsFit c) (x ∷ standing)
+cut_fits c rest x n standing others h a =
+    let b = subst (All (IsFit c)) h.is a in
+    All-cons (IsFit c) x standing (All-head (IsFit c) x h.more b) (subst (All (IsFit c)) (sym h.front) (All-take (IsFit c) n h.more (All-tail (IsFit c) x h.more b)))
+
+pub one_left : (c : Config) (o base n : ℕ) (x : Item) (rest standing others items : List Item) (out new t : List ℕ) → IsCut c rest x n standing others → IsLeft c o items out base rest
+    → t ≡ batch_text_of (batch_of c base x standing) → IsBatchText (batch_text_of (batch_of c base x standing)) (batch_of c base x standing) → new ≡ out ++ t → IsLeft c o items new (base + (1 + n)) others
+one_left c o base n x rest standing others items out new t h left is written next =
+    let more : List Item = h.more in
+    let p : base + (1 + n) ≡ base + 1 + n = omega arith in
+    let f = subst (All (IsFit c)) h.is left.3 in
+    let w = joining_within (c.batch_records - 1) x more in
+    let d = length-drop n more in
+    let l = ap length h.is in
+    subst (IsLeft c o items new (base + (1 + n))) (sym h.back) (
+      text_more c base (base + (1 + n)) n x more (texts_of (batches_from c o items)) out new t h.count p (left.0 ∙ ap (λ xs. out ++ texts_of (batches_from c base xs)) h.is) (is ∙ ap (λ ys. batch_text_of (batch_of c base x ys)) h.front) next,
+      λ k. left.1 (subst (λ xs. AreTexts (batches_from c base xs)) (sym h.is) (one_written c base (base + (1 + n)) n x more h.count p (subst (λ ys. IsBatchText (batch_text_of (batch_of c base x ys)) (batch_of c base x ys)) h.front written) k)),
+      omega (arith, left.2, h.count, w, d, l),
+      all_drop (IsFit c) n more (All-tail (IsFit c) x more f),
+    )
 
 -- ---- record by record
 

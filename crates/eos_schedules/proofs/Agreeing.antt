@@ -76,10 +76,10 @@ items_after false d e ds es h k = k
 same_close : (b : Batch) (bs cs : List Batch) → first_marker b.producer bs ≡ first_marker b.producer cs → close_of b bs ≡ close_of b cs
 same_close b bs cs h = ap (λ m. if is_transactional b.attributes then close_by b.producer b.epoch m else []) h
 
-has_both : {X : Type 0} (as bs xs ys : List X) (x : X) → as ≡ bs → (Has xs x → Has ys x) → Has (as ++ xs) x → Has (bs ++ ys) x
-has_both as bs xs ys x e f h = elim (append_cases as xs x h) [
-  | inl l ↦ append_left bs ys x (subst (λ l. Has l x) e l)
-  | inr r ↦ append_right bs ys x (f r)
+has_both : {X : Type 0} (ps qs xs ys : List X) (x : X) → ps ≡ qs → (Has xs x → Has ys x) → Has (ps ++ xs) x → Has (qs ++ ys) x
+has_both ps qs xs ys x e f h = elim (append_cases ps xs x h) [
+  | inl l ↦ append_left qs ys x (subst (λ k. Has k x) e l)
+  | inr r ↦ append_right qs ys x (f r)
 ]
 
 each_behind : (R : Option Touch → Touch → Type 0) (ts us vs : List Touch) (before : Option Touch) → ((b : Option Touch) → EachAfter R b us → EachAfter R b vs) → EachAfter R before (ts ++ us) → EachAfter R before (ts ++ vs)
@@ -123,7 +123,7 @@ same_items c d e m n p q [] h k w = refl
 same_items c d e m n p q (x ∷ xs) h k w =
     let one : item_of d p (record_after c m x) ≡ item_of e q (record_after c n x) = λ i. record { offset = h i; fate = fate_of (k i); writer = w i; key = (item_record c x).key; value = (item_record c x).value; headers = (item_record c x).headers } in
     let more = same_items c d e m n (suc p) (suc q) xs (omega (arith, h)) k w in
-    ap (λ i. i ∷ items_from d (suc p) (map (record_after c m) xs)) one ∙ ap (λ is. item_of e q (record_after c n x) ∷ is) more
+    ap (λ l. l ∷ items_from d (suc p) (map (record_after c m) xs)) one ∙ ap (λ l. item_of e q (record_after c n x) ∷ l) more
 
 no_mark : (w : Option (ℤ × Touch)) (t : Bool) (p e s : ℤ) (u : Bool) (n o : ℕ) → w ≡ (if t then None else Some (p, Data e u s n)) → mark_in o w ≡ None
 no_mark w true p e s u n o h = ap (mark_in o) h
@@ -144,9 +144,9 @@ closes_first c o x ys bs h = rw h refl
 markers_first : (c : Config) (o : ℕ) (x : Item) (ys : List Item) (bs : List Batch) → is_control (item_writer x).attributes ≡ false → markers_of (batch_of c o x ys ∷ bs) ≡ markers_of bs
 markers_first c o x ys bs h = rw h refl
 
-twice : {X : Type 0} (as xs : List X) (x : X) → Has (as ++ xs) x ↔ Has (as ++ (as ++ xs)) x
-twice as xs x = (λ h. append_right as (as ++ xs) x h, λ h. elim (append_cases as (as ++ xs) x h) [
-  | inl l ↦ append_left as xs x l
+twice : {X : Type 0} (ps xs : List X) (x : X) → Has (ps ++ xs) x ↔ Has (ps ++ (ps ++ xs)) x
+twice ps xs x = (λ h. append_right ps (ps ++ xs) x h, λ h. elim (append_cases ps (ps ++ xs) x h) [
+  | inl l ↦ append_left ps xs x l
   | inr r ↦ r
 ])
 

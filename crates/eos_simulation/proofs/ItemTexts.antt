@@ -184,11 +184,10 @@ are_texts c zero o (x ∷ xs) i l f h =
     let m : ℕ = behind c x xs in
     let few = joining_few (c.batch_records - 1) x xs in
     let within = joining_within (c.batch_records - 1) x xs in
-    let t = length-take m xs in
-    (
+    let t = length-take m xs in (
       batch_text c o x (take m xs) i (omega (arith, l, within, t)) (omega (arith, few, t, i.batch_records.0, i.batch_records.1)) (are_joined (c.batch_records - 1) x xs)
-      (All-cons (IsFit c) x (take m xs) (All-head (IsFit c) x xs f) (All-take (IsFit c) m xs (All-tail (IsFit c) x xs f)))
-      (All-cons HasBytes x (take m xs) (All-head HasBytes x xs h) (All-take HasBytes m xs (All-tail HasBytes x xs h))),
+          (All-cons (IsFit c) x (take m xs) (All-head (IsFit c) x xs f) (All-take (IsFit c) m xs (All-tail (IsFit c) x xs f)))
+          (All-cons HasBytes x (take m xs) (All-head HasBytes x xs h) (All-take HasBytes m xs (All-tail HasBytes x xs h))),
       are_texts c m (o + 1) xs i (omega (arith, l)) (All-tail (IsFit c) x xs f) (All-tail HasBytes x xs h),
     )
 are_texts c (suc n) o (x ∷ xs) i l f h = are_texts c n (o + 1) xs i (omega (arith, l)) (All-tail (IsFit c) x xs f) (All-tail HasBytes x xs h)

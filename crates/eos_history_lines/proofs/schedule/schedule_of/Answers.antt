@@ -1,9 +1,9 @@
-use Rattle.std.proofs.Common.{◌<◌, ◌∷◌, length, sym, ap, ◌∙◌, arith}
+use Rattle.std.proofs.Common.{◌≡◌, ◌<◌, ◌∷◌, Err, length, refl, sym, ap, ◌∙◌, arith}
 use Rattle.eos_history_lines.specs.Divided.{lines_of}
-use Rattle.eos_history_lines.proofs.FileLines.{line_and_rest}
+use Rattle.eos_history_lines.proofs.FileLines.{line_and_rest, no_line, no_head, no_row}
 use Rattle.eos_history_lines.proofs.schedule.schedule_of.Goals as goal
 
-pub returns-clause-ok : goal.returns
+pub returns-clause-ok : goal.returns-clause-ok
 returns-clause-ok c =
     let some : 0 < length c.args.text.now = grind (arith, c.is_empty.ensures, c.if-is_empty.false) in
     let first = c.first_line.result.0.now in
@@ -14,3 +14,15 @@ returns-clause-ok c =
       begins = c.in-Ok.ensures.ok;
       rows = c.in_ok-lines.ensures.ok;
     }
+
+pub returns-then-is_empty-clause-err : goal.returns-then-is_empty-clause-err
+returns-then-is_empty-clause-err c = no_line c.args.text.now _ (grind (arith, c.is_empty.ensures, c.if-is_empty.true)) refl refl
+
+pub returns-in-Err-clause-err : goal.returns-in-Err-clause-err
+returns-in-Err-clause-err c =
+    let some : 0 < length c.args.text.now = grind (arith, c.is_empty.ensures, c.if-is_empty.false) in
+    no_head c.args.text.now c.first_line.result.0.now _ _ (line_and_rest c.args.text.now c.first_line.result.0.now _ some c.first_line.ensures) refl
+    (record { json = λ e u. c.in-Err.ensures.json (c.in-Err.is ∙ ap Err e) u; none = c.in-Err.ensures.err })
+
+pub returns-in_err-lines-clause-err : goal.returns-in_err-lines-clause-err
+returns-in_err-lines-clause-err c = ?
