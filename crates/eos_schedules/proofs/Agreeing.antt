@@ -145,10 +145,13 @@ markers_first : (c : Config) (o : ℕ) (x : Item) (ys : List Item) (bs : List Ba
 markers_first c o x ys bs h = rw h refl
 
 twice : {X : Type 0} (ps xs : List X) (x : X) → Has (ps ++ xs) x ↔ Has (ps ++ (ps ++ xs)) x
-twice ps xs x = (λ h. append_right ps (ps ++ xs) x h, λ h. elim (append_cases ps (ps ++ xs) x h) [
-  | inl l ↦ append_left ps xs x l
-  | inr r ↦ r
-])
+twice ps xs x = (
+  λ h. append_right ps (ps ++ xs) x h,
+  λ h. elim (append_cases ps (ps ++ xs) x h) [
+    | inl l ↦ append_left ps xs x l
+    | inr r ↦ r
+  ],
+)
 
 two_follow : (t : Bool) (id p e r s : ℤ) (u q : Bool) (m : ℕ) (ts : List Touch) (before : Option Touch) → IsNext r s
     → EachAfter (Accepts q) before (touch_in id (if t then None else Some (p, Data e u r 1)) ++ (touch_in id (if t then None else Some (p, Data e u s m)) ++ ts))
