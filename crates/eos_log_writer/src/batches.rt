@@ -6,7 +6,7 @@ ghost use Rattle.eos_batch.specs.Encoding.{batch_text_of};
 ghost use Rattle.eos_batch.specs.declared.fault.BatchFault.{BatchFault};
 ghost use Rattle.std.specs.List.{All};
 ghost use Rattle.eos_logs.specs.Fitting.{AreAllThere, IsFit};
-ghost use Rattle.eos_logs.specs.Grouping.{AreJoined};
+ghost use Rattle.eos_logs.specs.steps.Joined.{AreJoined};
 ghost use Rattle.eos_log_writer.specs.steps.Writers.{HasWriter};
 ghost use Rattle.eos_logs.specs.Batches.{record_of, fed_record, state_record, output_record, offset_record, marker_record, event_of, item_writer, item_record, record_after, last_or, batch_of, batches_from, texts_of, AreTexts};
 ghost use Rattle.eos_batch.specs.Text.{IsBatchText};

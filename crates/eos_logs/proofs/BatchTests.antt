@@ -18,7 +18,7 @@ use Rattle.eos_machine.specs.declared.item.Item.TheVariants.{Fed, State, Output,
 use Rattle.eos_machine.specs.Places.{IsConfig}
 use Rattle.eos_machine.specs.Rest.{producer_id}
 use Rattle.eos_logs.specs.Batches.{event_of, record_after, batch_of}
-use Rattle.eos_logs.specs.Grouping.{AreJoined}
+use Rattle.eos_logs.specs.steps.Joined.{AreJoined}
 use Rattle.eos_logs.specs.Fitting.{IsFit}
 use Rattle.eos_logs.proofs.BatchSizes.{batch_short}
 

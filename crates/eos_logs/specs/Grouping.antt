@@ -1,6 +1,6 @@
 -- Which records stand in one batch: those that one client wrote one after the other, so many at the most (Kafka's Message Format,
 -- "Record Batch": a batch has one producer id and one epoch, and its sequences count from the base sequence on).
-use Rattle.std.specs.Prelude.{◌≡◌, ℕ, zero, suc, ◌+◌, ◌==◌, ◌&&◌, Bool, true, false, List, [], ◌∷◌, if◌then◌else◌, ⊤}
+use Rattle.std.specs.Prelude.{ℕ, zero, suc, ◌+◌, ◌==◌, ◌&&◌, Bool, true, false, List, [], ◌∷◌, if◌then◌else◌}
 use Rattle.eos_machine.specs.declared.item.Item.{Item}
 use Rattle.eos_machine.specs.declared.item.Item.TheVariants.{Fed, State, Output, Offset, Marker}
 
@@ -41,8 +41,3 @@ abbrev pub joining : ℕ → Item → List Item → ℕ
 joining k x [] = 0
 joining zero x (y ∷ ys) = 0
 joining (suc k) x (y ∷ ys) = if goes_on x y then suc (joining k y ys) else 0
-
--- each goes on with the one before it
-abbrev pub AreJoined : Item → List Item → Type 0
-AreJoined x [] = ⊤
-AreJoined x (y ∷ ys) = (goes_on x y ≡ true) × AreJoined y ys

@@ -24,7 +24,7 @@ use Rattle.eos_machine.specs.declared.item.Item.{Item}
 use Rattle.eos_machine.specs.declared.item.Item.TheVariants.{Fed, State, Output, Offset, Marker}
 use Rattle.eos_machine.specs.Places.{IsConfig, input_topic}
 use Rattle.eos_logs.specs.declared.writer.Writer.{Writer}
-use Rattle.eos_logs.specs.Grouping.{AreJoined}
+use Rattle.eos_logs.specs.steps.Joined.{AreJoined}
 use Rattle.eos_logs.specs.Batches.{group, transactional_id, bytes_of, claim_headers, headers_of, offset_record, control_type, marker_record, plain, transactional, control, event_of, item_writer, item_record, record_after, last_or, batch_of, behind, batches_after, AreTexts}
 use Rattle.eos_logs.specs.Evidences.{part_at, batches_at, HaveTexts}
 use Rattle.eos_logs.specs.Fitting.{IsFit}
