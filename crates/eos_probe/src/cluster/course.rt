@@ -108,7 +108,7 @@ fn ask<R: Threads + Wait + Sync>(
 }
 
 /// The reply to the event of this name with these numbers, if there is one.
-fn reply_to(cluster: &mut Cluster, name: &str, numbers: [i64; 5]) -> Option<Reply> {
+fn reply_to(cluster: &mut Cluster, name: &str, numbers: [i64; 6]) -> Option<Reply> {
     let event = event_of(name, numbers)?;
     Some(cluster.step(event))
 }

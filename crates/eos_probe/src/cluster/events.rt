@@ -41,7 +41,7 @@ fn claim() -> Claim {
 
 /// The event of this name with these numbers: of a session, the partition of `out` or `in`, and the offset; `bare` is a record
 /// without headers, `delete` an offset's deletion.
-pub(super) fn event_of(name: &str, numbers: [i64; 5]) -> Option<Event> {
+pub(super) fn event_of(name: &str, numbers: [i64; 6]) -> Option<Event> {
     let first = place(numbers[0]);
     let second = place(numbers[1]);
     match name {
