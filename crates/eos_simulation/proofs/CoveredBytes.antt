@@ -63,7 +63,7 @@ covered_bytes text b h t =
     subst IsBytes (sym t.parts) (IsBytes-append (i16_text b.attributes) _ (i16_bytes b.attributes) (IsBytes-append (i32_text (pos (last_offset_delta b))) _ (i32_bytes (pos (last_offset_delta b)))
     (IsBytes-append (i64_text b.base_timestamp) _ (i64_bytes b.base_timestamp) (IsBytes-append (i64_text b.max_timestamp) _ (i64_bytes b.max_timestamp) (IsBytes-append (i64_text b.producer) _ (i64_bytes b.producer)
     (IsBytes-append (i16_text b.epoch) _ (i16_bytes b.epoch) (IsBytes-append (i32_text b.sequence) _ (i32_bytes b.sequence)
-    (IsBytes-append (i32_text (pos (length b.records))) t.records (i32_bytes (pos (length b.records))) (records_bytes 0 t.records b.records h t.records_text))))))))
+    (IsBytes-append (i32_text (pos (length b.records))) t.records (i32_bytes (pos (length b.records))) (records_bytes 0 t.records b.records h t.records_text)))))))))
 
 -- ---- a batch
 
