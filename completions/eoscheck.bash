@@ -89,6 +89,9 @@ _eoscheck() {
     --segment-records)
       mapfile -t COMPREPLY < <(compgen -W '' -- "$word")
       return ;;
+    --batch-records)
+      mapfile -t COMPREPLY < <(compgen -W '' -- "$word")
+      return ;;
     --lose)
       mapfile -t COMPREPLY < <(compgen -W '' -- "$word")
       return ;;
@@ -127,7 +130,7 @@ _eoscheck() {
       return ;;
     esac
     case $word in
-    -*) mapfile -t COMPREPLY < <(compgen -W '--seed --events --applications --inputs --outputs --transaction-logs --segment-records --lose --repeat --abandon --members --restart-broker --restart-coordinator --abort --switch --switch-at --mishap --history --schedule -h --help' -- "$word") ;;
+    -*) mapfile -t COMPREPLY < <(compgen -W '--seed --events --applications --inputs --outputs --transaction-logs --segment-records --batch-records --lose --repeat --abandon --members --restart-broker --restart-coordinator --abort --switch --switch-at --mishap --history --schedule -h --help' -- "$word") ;;
     *) mapfile -t COMPREPLY < <(compgen -d -- "$word") ;;
     esac ;;
   esac
