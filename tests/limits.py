@@ -160,7 +160,7 @@ def answers_many_batches(cases):
 
 
 def answers_the_largest(cases):
-    """A segment of exactly 2^30 bytes, one byte more, and the largest where there is no room for it."""
+    """A segment of exactly 2^30 bytes and one byte more. `chain` holds little of it, and `dump` all of its bytes."""
     one = batch([record(0, value=text(b"x" * (MIB - 100)))])
     path = os.path.join(cases.folder, "largest")
     count, rest = divmod(LIMIT, len(one))
@@ -172,8 +172,8 @@ def answers_the_largest(cases):
         file.write(at_offset(last, count))
     assert os.path.getsize(path) == LIMIT
     cases.compare("2^30 bytes", "chain", path, (0, b"ok batches=%d producers=0\n" % (count + 1), ""))
-    for command in "dump", "chain":
-        cases.compare("2^30 bytes in little room", command, path, (3, b"", "eoscheck: out of memory\n"), 256 * MIB)
+    cases.compare("2^30 bytes in little room", "chain", path, (0, b"ok batches=%d producers=0\n" % (count + 1), ""), SMALL)
+    cases.compare("2^30 bytes in little room", "dump", path, (3, b"", "eoscheck: out of memory\n"), 256 * MIB)
     with open(path, "ab") as file:
         file.write(b"\0")
     for command in "dump", "chain":

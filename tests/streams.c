@@ -8,6 +8,7 @@
  * STREAM_READS=N           N reads of standard input are interrupted before each one that isn't
  * STREAM_WRITES=N          N writes to standard output are interrupted before each one that isn't
  * STREAM_BROKEN=1          standard input can't be read
+ * STREAM_BREAKS=N          standard input can't be read behind its first N bytes
  */
 #define _GNU_SOURCE
 #include <dlfcn.h>
@@ -37,15 +38,19 @@ static size_t least(size_t a, long b) {
 
 ssize_t read(int file, void *bytes, size_t size) {
     static ssize_t (*real)(int, void *, size_t);
-    static long row;
+    static long row, given;
+    long breaks = number("STREAM_BREAKS", -1);
     if (!real) real = dlsym(RTLD_NEXT, "read");
     if (file != STDIN_FILENO) return real(file, bytes, size);
-    if (number("STREAM_BROKEN", 0)) {
+    if (number("STREAM_BROKEN", 0) || (breaks >= 0 && given >= breaks)) {
         errno = EIO;
         return -1;
     }
     if (interrupted("STREAM_READS", &row)) return -1;
-    return real(file, bytes, least(size, number("STREAM_STEP", -1)));
+    size = least(size, number("STREAM_STEP", -1));
+    ssize_t count = real(file, bytes, breaks < 0 ? size : least(size, breaks - given));
+    if (count > 0) given += count;
+    return count;
 }
 
 ssize_t write(int file, const void *bytes, size_t size) {

@@ -101,6 +101,19 @@ def failing():
     same("a chain in 10 bytes", run(KEPT, "chain", "-", room=10), 2, "ok batches", CANNOT_WRITE)
 
 
+def in_steps():
+    """A chain is read chunk by chunk: a stream that gives few bytes at a time, or breaks after some."""
+    for data, status, line in [(KEPT, 0, "ok batches=2 producers=1\n"), (RISES_WHILE_OPEN, 1, "no 1.6 EpochWhileOpen offset=1 producer=1000\n")]:
+        for step in (1, 7, 61, 4096):
+            same(f"{line.strip()} in steps of {step}", run(data, "chain", "-", step=step), status, line)
+            same(f"{line.strip()} in steps of {step}, interrupted", run(data, "chain", "-", step=step, reads=2), status, line)
+        # also behind the least fault: the answer is about all bytes
+        for breaks in (0, 1, 69, 70, len(data) - 1, len(data)):
+            for step in (1, 61):
+                same(f"{line.strip()}, broken at byte {breaks}", run(data, "chain", "-", breaks=breaks, step=step), 2, "", CANNOT_READ + BROKEN)
+    same("a chain that is interrupted too often", run(KEPT, "chain", "-", reads=1000), 2, "", CANNOT_READ)
+
+
 def interrupted():
     """What is interrupted is tried again, up to a thousand times in a row."""
     for times in (1, 999):
@@ -125,6 +138,7 @@ if __name__ == "__main__":
     program, library = map(os.path.abspath, sys.argv[1:])
     worked()
     failing()
+    in_steps()
     interrupted()
     told()
     print(f"{passed} passed, {failed} failed")

@@ -1,6 +1,7 @@
 //! Calls of the formats, of the claims and of the rule of touches.
 
 mod batch;
+mod chunks;
 mod claims;
 mod evidence;
 mod history;

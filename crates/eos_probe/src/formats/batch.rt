@@ -1,6 +1,7 @@
 //! Record batches, segments and chains of batches.
 
-use crate::words::{Notes, bad, first_of, or_bad, show, show_digits};
+use crate::formats::chunks;
+use crate::words::{Notes, first_of, or_bad, show, show_digits};
 use bytes::Bytes;
 use eos_batch::{
     Batch, BatchFault, Headers, Marker, Record, Records, decode_batch, decode_segment, encode_batch,
@@ -29,7 +30,7 @@ pub(super) fn answer(
         "encode_records" => show_digits(alloc, line, of_records(alloc, notes, bytes, more)),
         "chain" => show(line, chain(alloc, bytes)),
         "chain_fault" => show(line, chain_fault(alloc, bytes)),
-        _ => bad(notes),
+        _ => chunks::answer(alloc, notes, line, call, bytes, more),
     }
 }
 

@@ -1,0 +1,94 @@
+#!/usr/bin/env -S python3 -B
+"""Segments that are fed chunk by chunk: wherever the bytes are cut, the answer is that of a plain reading of all of them.
+
+    tests/chunks.py PROBE SEGMENTS [NUMBER [SEED]]
+
+Each segment of the folder SEGMENTS, cuts of it, and NUMBER (60) damaged and made-up ones (see tests/mutants.py) are fed to the
+probe in chunks of 1, 7, 61 and 4,096 bytes and whole: to `chain_in` (the chain), `count_in` (the batches, their data records and
+where they stop) and `count_from` (the same from a reader). Prints what differs, and as its last line 'N passed, N failed'.
+"""
+import glob
+import os
+import random
+import re
+import subprocess
+import sys
+
+import mutants
+from chain_of_listing import answer
+
+# Bytes in a chunk; 0 for all at once.
+SIZES = 1, 7, 61, 4096, 0
+KEPT = re.compile(r"ok batches=(\d+) producers=(\d+)")
+BROKEN = re.compile(r"no 1\.\d (\w+) offset=(\d+)(?: segment=(\d+) byte=(\d+) batch=(\w+)| found=(\d+)| producer=(-?\d+))")
+
+
+def of_chain(text):
+    """The line of `chain` as the probe shows such an answer."""
+    kept = KEPT.fullmatch(text)
+    if kept:
+        return "Ok(Ok(Chain {{ batches: {}, producers: {} }}))".format(*kept.groups())
+    name, offset, segment, byte, batch, found, producer = BROKEN.fullmatch(text).groups()
+    if batch:
+        kind = f"BadBatch {{ segment: {segment}, byte: {byte}, batch: {batch} }}"
+    elif found:
+        kind = f"Gap {{ found: {found} }}"
+    else:
+        kind = f"Pair {{ fault: {name}, producer: {producer} }}"
+    return f'Ok(Err(PartitionFault {{ topic: b"", partition: 0, offset: {offset}, kind: {kind} }}))'
+
+
+def of_listing(lines):
+    """The number of batches, that of data records, and where the batches stop."""
+    batches, records, is_data = 0, 0, False
+    for line in lines[:-1]:
+        if line.startswith("batch "):
+            batches, is_data = batches + 1, line.split()[-1] in ("plain", "txn")
+        else:
+            records += is_data
+    bad = re.fullmatch(r"bad byte=(\d+) (\w+)", lines[-1])
+    return f"({batches}, {records}, " + (f"Some(({bad[1]}, {bad[2]})))" if bad else "None)")
+
+
+def segments(folder, number, seed):
+    rng = random.Random(seed)
+    real = []
+    for path in sorted(glob.glob(os.path.join(folder, "*.log"))):
+        with open(path, "rb") as file:
+            data = file.read()
+        real.append(data)
+        yield os.path.basename(path), data
+        for cut in {rng.randrange(len(data)) for _ in range(4)} if data else ():
+            yield f"{os.path.basename(path)} to byte {cut}", data[:cut]
+            flipped = bytearray(data)
+            flipped[cut] ^= 1 << rng.randrange(8)
+            yield f"{os.path.basename(path)} with a bit of byte {cut} turned", bytes(flipped)
+    batches = [batch for path in sorted(glob.glob(os.path.join(folder, "*.log"))) for batch in mutants.batches_of(path)]
+    for place in range(number):
+        yield f"number {place} of seed {seed}", mutants.made(rng, batches)
+
+
+def main():
+    probe, folder = sys.argv[1:3]
+    number, seed = (int(word) for word in (sys.argv[3:] + ["60", "7"][len(sys.argv) - 3 :]))
+    rows = []
+    for name, data in segments(folder, number, seed):
+        lines = mutants.read(data)
+        chain, counts = of_chain(answer(lines)), of_listing(lines)
+        for size in SIZES:
+            for call, want in ("chain_in", chain), ("count_in", counts), ("count_from", counts):
+                rows.append((f"{name}, {call} {size}", f"{call} {data.hex() or '-'} {size}", want))
+    done = subprocess.run([probe], input="".join(f"{row}\n" for _, row, _ in rows).encode(), capture_output=True, timeout=600)
+    answers = done.stdout.decode(errors="replace").splitlines()
+    failed = [f"{name}: {found}, not {want}" for (name, _, want), found in zip(rows, answers) if found.strip() != want]
+    passed = min(len(rows), len(answers)) - len(failed)
+    if done.returncode or done.stderr or len(answers) != len(rows):
+        failed.append(f"status {done.returncode}, {len(answers)} answers to {len(rows)} rows, {done.stderr[-200:]}")
+    for line in failed[:20]:
+        print(line)
+    print(f"{passed} passed, {len(failed)} failed")
+    sys.exit(1 if failed else 0)
+
+
+if __name__ == "__main__":
+    main()
