@@ -281,7 +281,7 @@ def simulated_folders():
 def hostile_folder(path):
     """A folder whose ids, groups and committed topics are hostile texts, and whose transactions are committed, aborted and left open."""
     maker = made_evidence.Maker(random.Random(3), sealed)
-    home, offsets, source = maker.parts[STATES][0], maker.parts[OFFSETS][0], maker.parts["in"][0]
+    home, offsets, source = (maker.parts[topic][0] for topic in (made_evidence.STATES, made_evidence.OFFSETS, "in"))
     for n, bad in enumerate(HOSTILE):
         worker = {"id": bad, "producer": 1000 + n, "epoch": 0, "home": home}
         listed = [source, offsets]
