@@ -1,1 +1,3 @@
 pub mod Transactions
+pub mod Marks
+pub mod steps

@@ -13,3 +13,4 @@ mod window;
 
 pub use mark::{Column, Decided, Mark, Picture, Row, Sign};
 pub use picture::picture_of;
+pub use transactions::columns_of;

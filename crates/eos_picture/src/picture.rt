@@ -1,5 +1,8 @@
 //! The picture of an evidence.
 
+ghost use Rattle.std.specs.Prelude.{IfOk};
+ghost use Rattle.eos_picture.specs.Marks.{HasTrueRows};
+
 use crate::mark::{Column, Picture};
 use crate::passes::passes_of;
 use crate::rows::{Scene, rows_of};
@@ -55,7 +58,9 @@ pub fn picture_of(
     logs: &[Part],
     fault: Option<&Fault>,
     around: usize,
-) -> Result<Picture, AllocError> {
+) -> Result<Picture, AllocError>
+    ensures { IfOk result (λ picture. HasTrueRows logs.now picture.columns.items picture.rows.items) }
+{
     let columns = columns_of(alloc, logs)?;
     let spots = spots_in(alloc, apps, logs, columns.as_slice(), fault)?;
     let all = columns.len();

@@ -1,5 +1,12 @@
 //! The rows of a picture: what its transactions did in a partition.
 
+ghost use Rattle.std.specs.Prelude.{◌<◌, length, slice_get, IfOk, OnOk};
+ghost use Rattle.eos_base.specs.Members.{Has};
+ghost use Rattle.eos_items.specs.declared.item.Item.{Item};
+ghost use Rattle.eos_fold.specs.Parts.{part_name};
+ghost use Rattle.eos_picture.specs.Marks.{IsTrueAt, AreTrue, IsTrueRow, HasTrueRows};
+ghost use Rattle.eos_picture.specs.steps.Signs.{IsOf};
+
 use crate::mark::{Column, Mark, Row, Sign};
 use crate::passes::{Pass, commit_of, is_of_offsets_log};
 use crate::spots::{At, Spot, is_of, name_of};
@@ -7,8 +14,9 @@ use crate::transactions::is_of_transaction_log;
 use crate::window::{column_of, column_of_spot, is_named};
 use bytes::Bytes;
 use eos_base::PartitionName;
+use eos_batch::Marker;
 use eos_commits::is_visible;
-use eos_fold::{Fate, ItemRef, Part};
+use eos_fold::{Close, Fate, ItemRef, Part};
 use std::alloc::{AllocError, Global};
 
 /// What a row is made of.
@@ -63,7 +71,10 @@ fn push_mark(
     part: &Part,
     column: usize,
     sign: Sign,
-) -> Result<(), AllocError> {
+) -> Result<(), AllocError>
+    requires { IsTrueAt part.now (slice_get scene.columns.now column) sign }
+    ensures { AreTrue part.now scene.entry.columns.now marks.old.items → OnOk result (AreTrue part.now scene.entry.columns.now marks.new.items) }
+{
     let Some(of) = scene.columns.get(column) else {
         return Ok(());
     };
@@ -78,26 +89,45 @@ fn push_mark(
 
 // ---- the signs
 
-fn push_decisions(marks: &mut Vec<Mark>, scene: Scene<'_>, part: &Part) -> Result<(), AllocError> {
+/// The Prepare record of the transaction at this place, if it is in the partition.
+fn push_decision(
+    marks: &mut Vec<Mark>,
+    scene: Scene<'_>,
+    part: &Part,
+    i: usize,
+) -> Result<(), AllocError>
+    requires { i < length scene.columns.now }
+    ensures { AreTrue part.now scene.entry.columns.now marks.old.items → OnOk result (AreTrue part.now scene.entry.columns.now marks.new.items) }
+{
+    let Some(decided) = &scene.columns[i].decided else {
+        return Ok(());
+    };
+    if decided.partition != part.partition() {
+        return Ok(());
+    }
+    let sign = Sign::Decision {
+        offset: decided.offset,
+        kind: decided.kind,
+    };
+    push_mark(marks, scene, part, i, sign)
+}
+
+fn push_decisions(marks: &mut Vec<Mark>, scene: Scene<'_>, part: &Part) -> Result<(), AllocError>
+    ensures { AreTrue part.now scene.entry.columns.now marks.old.items → OnOk result (AreTrue part.now scene.entry.columns.now marks.new.items) }
+{
     if !is_of_transaction_log(part) {
         return Ok(());
     }
     for i in 0..scene.columns.len() {
-        if let Some(decided) = &scene.columns[i].decided {
-            if decided.partition == part.partition() {
-                let sign = Sign::Decision {
-                    offset: decided.offset,
-                    kind: decided.kind,
-                };
-                push_mark(marks, scene, part, i, sign)?;
-            }
-        }
+        push_decision(marks, scene, part, i)?;
     }
     Ok(())
 }
 
 /// What a data record is, in a partition of the offsets log or not.
-fn sign_of(alloc: Global, of_offsets_log: bool, item: &ItemRef<'_>) -> Result<Sign, AllocError> {
+fn sign_of(alloc: Global, of_offsets_log: bool, item: &ItemRef<'_>) -> Result<Sign, AllocError>
+    ensures { IfOk result (IsOf item.now) }
+{
     let offset = item.offset();
     let fate = item.fate();
     if !of_offsets_log {
@@ -117,26 +147,44 @@ fn sign_of(alloc: Global, of_offsets_log: bool, item: &ItemRef<'_>) -> Result<Si
     }
 }
 
+fn push_record(
+    alloc: Global,
+    marks: &mut Vec<Mark>,
+    scene: Scene<'_>,
+    part: &Part,
+    item: &ItemRef<'_>,
+) -> Result<(), AllocError>
+    requires { Has part.now.items item.now }
+    ensures { AreTrue part.now scene.entry.columns.now marks.old.items → OnOk result (AreTrue part.now scene.entry.columns.now marks.new.items) }
+{
+    let Some(writer) = item.writer() else {
+        return Ok(());
+    };
+    let Some(column) = column_of(scene.columns, writer) else {
+        return Ok(());
+    };
+    let sign = sign_of(alloc, is_of_offsets_log(part), item)?;
+    push_mark(marks, scene, part, column, sign)
+}
+
 fn push_records(
     alloc: Global,
     marks: &mut Vec<Mark>,
     scene: Scene<'_>,
     part: &Part,
-) -> Result<(), AllocError> {
-    let of_offsets_log = is_of_offsets_log(part);
+) -> Result<(), AllocError>
+    ensures { AreTrue part.now scene.entry.columns.now marks.old.items → OnOk result (AreTrue part.now scene.entry.columns.now marks.new.items) }
+{
     let mut items = part.items().cursor();
     while let Some(item) = items.next() {
-        if let Some(writer) = item.writer() {
-            if let Some(column) = column_of(scene.columns, writer) {
-                let sign = sign_of(alloc, of_offsets_log, &item)?;
-                push_mark(marks, scene, part, column, sign)?;
-            }
-        }
+        push_record(alloc, marks, scene, part, &item)?;
     }
     Ok(())
 }
 
-fn push_passes(marks: &mut Vec<Mark>, scene: Scene<'_>, part: &Part) -> Result<(), AllocError> {
+fn push_passes(marks: &mut Vec<Mark>, scene: Scene<'_>, part: &Part) -> Result<(), AllocError>
+    ensures { AreTrue part.now scene.entry.columns.now marks.old.items → OnOk result (AreTrue part.now scene.entry.columns.now marks.new.items) }
+{
     for pass in scene.passes {
         if part.topic().as_slice() == pass.topic && part.partition() == pass.partition {
             let sign = Sign::Passed {
@@ -150,29 +198,78 @@ fn push_passes(marks: &mut Vec<Mark>, scene: Scene<'_>, part: &Part) -> Result<(
     Ok(())
 }
 
-/// The end markers of the transactions that were decided.
-fn push_markers(marks: &mut Vec<Mark>, scene: Scene<'_>, part: &Part) -> Result<(), AllocError> {
-    for marker in part.markers() {
-        for i in 0..scene.columns.len() {
-            let column = &scene.columns[i];
-            if let Some(decided) = &column.decided {
-                if column.producer == marker.producer && decided.marker_epoch == marker.epoch {
-                    push_mark(marks, scene, part, i, Sign::Marker(marker.kind))?;
-                }
-            }
-        }
+/// The end marker, if it is of the transaction at this place, and that was decided.
+fn push_marker_of(
+    marks: &mut Vec<Mark>,
+    scene: Scene<'_>,
+    part: &Part,
+    marker: &Marker,
+    i: usize,
+) -> Result<(), AllocError>
+    requires inside { i < length scene.columns.now }
+    requires has { Has part.now.markers marker.now }
+    ensures { AreTrue part.now scene.entry.columns.now marks.old.items → OnOk result (AreTrue part.now scene.entry.columns.now marks.new.items) }
+{
+    let column = &scene.columns[i];
+    let Some(decided) = &column.decided else {
+        return Ok(());
+    };
+    if column.producer != marker.producer || decided.marker_epoch != marker.epoch {
+        return Ok(());
+    }
+    push_mark(marks, scene, part, i, Sign::Marker(marker.kind))
+}
+
+fn push_marker(
+    marks: &mut Vec<Mark>,
+    scene: Scene<'_>,
+    part: &Part,
+    marker: &Marker,
+) -> Result<(), AllocError>
+    requires { Has part.now.markers marker.now }
+    ensures { AreTrue part.now scene.entry.columns.now marks.old.items → OnOk result (AreTrue part.now scene.entry.columns.now marks.new.items) }
+{
+    for i in 0..scene.columns.len() {
+        push_marker_of(marks, scene, part, marker, i)?;
     }
     Ok(())
 }
 
+/// The end markers of the transactions that were decided.
+fn push_markers(marks: &mut Vec<Mark>, scene: Scene<'_>, part: &Part) -> Result<(), AllocError>
+    ensures { AreTrue part.now scene.entry.columns.now marks.old.items → OnOk result (AreTrue part.now scene.entry.columns.now marks.new.items) }
+{
+    for marker in part.markers() {
+        push_marker(marks, scene, part, marker)?;
+    }
+    Ok(())
+}
+
+#[tactic(auto, using(crate::proofs::TrueMarks::closed_true))]
+fn push_close(
+    marks: &mut Vec<Mark>,
+    scene: Scene<'_>,
+    part: &Part,
+    close: &Close,
+) -> Result<(), AllocError>
+    requires { Has part.now.closes close.now }
+    ensures { AreTrue part.now scene.entry.columns.now marks.old.items → OnOk result (AreTrue part.now scene.entry.columns.now marks.new.items) }
+{
+    let Some(i) = column_of(scene.columns, (close.producer, close.epoch)) else {
+        return Ok(());
+    };
+    if scene.columns[i].decided.is_some() {
+        return Ok(());
+    }
+    push_mark(marks, scene, part, i, Sign::Marker(close.kind))
+}
+
 /// Those of the others: the next ones behind their data.
-fn push_closes(marks: &mut Vec<Mark>, scene: Scene<'_>, part: &Part) -> Result<(), AllocError> {
+fn push_closes(marks: &mut Vec<Mark>, scene: Scene<'_>, part: &Part) -> Result<(), AllocError>
+    ensures { AreTrue part.now scene.entry.columns.now marks.old.items → OnOk result (AreTrue part.now scene.entry.columns.now marks.new.items) }
+{
     for close in part.closes() {
-        if let Some(i) = column_of(scene.columns, (close.producer, close.epoch)) {
-            if scene.columns[i].decided.is_none() {
-                push_mark(marks, scene, part, i, Sign::Marker(close.kind))?;
-            }
-        }
+        push_close(marks, scene, part, close)?;
     }
     Ok(())
 }
@@ -190,16 +287,38 @@ fn has_spot(marks: &[Mark], scene: Scene<'_>, at: At) -> bool {
     false
 }
 
-fn push_spots(marks: &mut Vec<Mark>, scene: Scene<'_>, part: &Part) -> Result<(), AllocError> {
+fn push_spots(marks: &mut Vec<Mark>, scene: Scene<'_>, part: &Part) -> Result<(), AllocError>
+    ensures { AreTrue part.now scene.entry.columns.now marks.old.items → OnOk result (AreTrue part.now scene.entry.columns.now marks.new.items) }
+{
     for spot in scene.spots {
-        if is_named(part, &spot.name) && !has_spot(marks.as_slice(), scene, spot.at) {
-            push_spot(marks, scene, spot)?;
-        }
+        push_absent(marks, scene, part, spot)?;
     }
     Ok(())
 }
 
-fn push_spot(marks: &mut Vec<Mark>, scene: Scene<'_>, spot: &Spot) -> Result<(), AllocError> {
+/// The place, if it is in the partition and nothing stands there.
+fn push_absent(
+    marks: &mut Vec<Mark>,
+    scene: Scene<'_>,
+    part: &Part,
+    spot: &Spot,
+) -> Result<(), AllocError>
+    ensures { AreTrue part.now scene.entry.columns.now marks.old.items → OnOk result (AreTrue part.now scene.entry.columns.now marks.new.items) }
+{
+    if !is_named(part, &spot.name) || has_spot(marks.as_slice(), scene, spot.at) {
+        return Ok(());
+    }
+    push_spot(marks, scene, part, spot)
+}
+
+fn push_spot(
+    marks: &mut Vec<Mark>,
+    scene: Scene<'_>,
+    part: &Part,
+    spot: &Spot,
+) -> Result<(), AllocError>
+    ensures { AreTrue part.now scene.entry.columns.now marks.old.items → OnOk result (AreTrue part.now scene.entry.columns.now marks.new.items) }
+{
     let place = match spot.at {
         At::Offset(offset) => Some(offset),
         At::Transaction { .. } => None,
@@ -216,7 +335,9 @@ fn push_spot(marks: &mut Vec<Mark>, scene: Scene<'_>, spot: &Spot) -> Result<(),
 
 // ---- rows
 
-fn row_of(alloc: Global, scene: Scene<'_>, part: &Part) -> Result<Row, AllocError> {
+fn row_of(alloc: Global, scene: Scene<'_>, part: &Part) -> Result<Row, AllocError>
+    ensures { IfOk result (IsTrueRow part.now scene.entry.columns.now) }
+{
     let mut marks = Vec::new(alloc);
     push_decisions(&mut marks, scene, part)?;
     push_records(alloc, &mut marks, scene, part)?;
@@ -234,19 +355,38 @@ fn is_internal(part: &Part) -> bool {
     is_of_offsets_log(part) || is_of_transaction_log(part)
 }
 
+/// Puts the row of a partition at the end, if it has a mark.
+fn push_row(
+    alloc: Global,
+    rows: &mut Vec<Row>,
+    scene: Scene<'_>,
+    part: &Part,
+) -> Result<(), AllocError>
+    requires { Has scene.logs.now part.now }
+    ensures { HasTrueRows scene.entry.logs.now scene.entry.columns.now rows.old.items → OnOk result (HasTrueRows scene.entry.logs.now scene.entry.columns.now rows.new.items) }
+{
+    let row = row_of(alloc, scene, part)?;
+    if row.marks.is_empty() {
+        return Ok(());
+    }
+    rows.push(row)?;
+    Ok(())
+}
+
+/// Puts the rows of Kafka's internal topics at the end, or those of the others.
 fn push_rows(
     alloc: Global,
     rows: &mut Vec<Row>,
     scene: Scene<'_>,
     internal: bool,
-) -> Result<(), AllocError> {
+) -> Result<(), AllocError>
+    ensures { HasTrueRows scene.entry.logs.now scene.entry.columns.now rows.old.items → OnOk result (HasTrueRows scene.entry.logs.now scene.entry.columns.now rows.new.items) }
+{
     for part in scene.logs {
-        if is_internal(part) == internal {
-            let row = row_of(alloc, scene, part)?;
-            if !row.marks.is_empty() {
-                rows.push(row)?;
-            }
+        if is_internal(part) != internal {
+            continue;
         }
+        push_row(alloc, rows, scene, part)?;
     }
     Ok(())
 }
@@ -256,7 +396,9 @@ fn push_rows(
 ///
 /// # Errors
 /// Only want of memory.
-pub(crate) fn rows_of(alloc: Global, scene: Scene<'_>) -> Result<Vec<Row>, AllocError> {
+pub(crate) fn rows_of(alloc: Global, scene: Scene<'_>) -> Result<Vec<Row>, AllocError>
+    ensures { IfOk result (λ rows. HasTrueRows scene.entry.logs.now scene.entry.columns.now rows.items) }
+{
     let mut rows = Vec::new(alloc);
     push_rows(alloc, &mut rows, scene, false)?;
     push_rows(alloc, &mut rows, scene, true)?;

@@ -1,5 +1,8 @@
 //! The places of a fault.
 
+ghost use Rattle.std.specs.Prelude.{◌≡◌, IfOk};
+ghost use Rattle.eos_fold.specs.Parts.{part_name};
+
 use crate::mark::Column;
 use bytes::Bytes;
 use eos_base::PartitionName;
@@ -138,7 +141,9 @@ fn push_claims_in(
 }
 
 /// The name of a partition.
-pub(crate) fn name_of(part: &Part) -> Result<PartitionName, AllocError> {
+pub(crate) fn name_of(part: &Part) -> Result<PartitionName, AllocError>
+    ensures { IfOk result (λ name. name ≡ part_name part.now) }
+{
     Ok(PartitionName {
         topic: part.topic().clone()?,
         partition: part.partition(),

@@ -213,7 +213,7 @@ fn undecided(
 ///
 /// # Errors
 /// Only want of memory.
-pub(crate) fn columns_of(alloc: Global, logs: &[Part]) -> Result<Vec<Column>, AllocError>
+pub fn columns_of(alloc: Global, logs: &[Part]) -> Result<Vec<Column>, AllocError>
     ensures { IfOk result (λ columns. AreColumns logs.now columns.items) }
 {
     let mut columns = decided(alloc, logs)?;

@@ -1,6 +1,7 @@
 //! Which transactions are shown: those around the fault.
 
-ghost use Rattle.std.specs.Prelude.{◌<◌, length, IfSome};
+ghost use Rattle.std.specs.Prelude.{◌<◌, length, slice_get, IfSome};
+ghost use Rattle.eos_picture.specs.steps.Signs.{IsOfWriter};
 
 use crate::mark::Column;
 use crate::spots::{At, Spot, is_of};
@@ -11,6 +12,7 @@ use eos_fold::Part;
 /// The place of the transaction whose data have this producer id and epoch.
 pub(crate) fn column_of(columns: &[Column], writer: (i64, i16)) -> Option<usize>
     ensures inside { IfSome result (λ i. i < length columns.now) }
+    ensures writer { IfSome result (λ i. IsOfWriter (slice_get columns.now i) writer) }
 {
     for i in 0..columns.len() {
         if columns[i].producer == writer.0 && columns[i].epoch == writer.1 {
