@@ -315,7 +315,7 @@ def damaged_folders(path):
         segment = os.path.join(path, name, "0" * 20 + ".log")
         if os.path.isfile(segment) and os.path.getsize(segment) > 100:
             for way in "cut", "changed":
-                copy = os.path.join(scratch, f"{way}-{name}")
+                copy = os.path.join(scratch, f"{way}-{os.path.basename(path)}-{name}")
                 shutil.copytree(path, copy)
                 with open(os.path.join(copy, name, "0" * 20 + ".log"), "r+b") as file:
                     size = os.path.getsize(file.name)
@@ -381,8 +381,8 @@ def refuse_each(library):
     path = os.path.join(scratch, "picture.svg")
     for at in list(range(1, 200, 7)) + list(range(200, 4000, 131)):
         found = run("draw", folder, path, LD_PRELOAD=library, REFUSE_AT=str(at))
-        if found[0] == 3:
-            same(f"allocation {at}", (found[1:], os.path.exists(path)), (("", "eoscheck: out of memory\n"), False))
+        if found[0] != 1:
+            same(f"allocation {at}", (*found, os.path.exists(path)), (3, "", "eoscheck: out of memory\n", False))
         else:
             with open(path, "rb") as file:
                 same(f"allocation {at}", (*found, file.read()), want)
@@ -495,7 +495,6 @@ def main():
         check_picture(folder)
     for folder in damaged_folders(hostile):
         check_picture(folder)
-        shutil.rmtree(folder)
     refusals()
     if len(sys.argv) > 2:
         refuse_each(os.path.abspath(sys.argv[2]))
