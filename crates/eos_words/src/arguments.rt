@@ -78,7 +78,12 @@ impl Subcommand {
                 Argument::File,
             ],
             Subcommand::Chain => &[Argument::File],
-            Subcommand::Explain => &[Argument::Code],
+            Subcommand::Explain => &[
+                Argument::Code,
+                Argument::Fault,
+                Argument::Workers,
+                Argument::OneFolder,
+            ],
             Subcommand::Draw => &[
                 Argument::Fault,
                 Argument::Around,
@@ -217,6 +222,9 @@ static SCHEDULED: [&str; 18] = [
     "mishap",
 ];
 
+/// What goes with a folder, and not with a code.
+static EXPLAINED: [&str; 3] = ["fault", "workers", "folder"];
+
 impl Argument {
     /// The name by which it is asked for, and written where it isn't written alone.
     pub(crate) fn name<'a>(self) -> &'a str {
@@ -309,6 +317,7 @@ impl Argument {
             | Argument::Schedule => "FILE",
             Argument::App => "GROUP:SOURCE,..:OUTPUT,..",
             Argument::Code => "CODE",
+            Argument::Fault => "K",
             Argument::Seed => "S",
             Argument::Switch => "X",
             Argument::SwitchAt => "WORD",
@@ -336,7 +345,7 @@ impl Argument {
             Argument::Around => "The transactions on each side of it, 1 to 100, or 6",
             Argument::OneFolder => "The folder of the evidence",
             Argument::NewFile => "The file that is made",
-            Argument::Code => "The code of a kind of fault, such as 5.10",
+            Argument::Code => "The code of a kind of fault, such as 5.10; no FOLDER",
             Argument::Seed => "What the script is drawn from, 0 to 2^64 - 1",
             Argument::Events => "How many words the script has, 0 to 10000",
             Argument::Applications => "How many applications the group has, 1 to 8, or 2",
@@ -395,6 +404,7 @@ impl Argument {
                 | Argument::Mishap
                 | Argument::History
                 | Argument::Schedule
+                | Argument::Code
                 | Argument::Headers
                 | Argument::Decode
                 | Argument::As
@@ -410,6 +420,7 @@ impl Argument {
     pub(crate) fn excluded(self) -> &'static [&'static str] {
         match self {
             Argument::Schedule => &SCHEDULED,
+            Argument::Code => &EXPLAINED,
             _ => &[],
         }
     }
@@ -459,6 +470,7 @@ impl Argument {
             | Argument::Abort => Form::Valued(ValueParser::Unsigned(0, 1000)),
             Argument::Switch => Form::Repeated(ValueParser::Names(&SWITCHES)),
             Argument::Code => Form::Valued(ValueParser::String),
+            Argument::Fault => Form::Valued(ValueParser::Unsigned(1, u64::MAX)),
         }
     }
 }

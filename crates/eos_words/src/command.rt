@@ -3,7 +3,7 @@
 use crate::arguments::{Argument, Form, Subcommand};
 use crate::help::{ABOUT, STATUSES};
 use crate::request::{
-    Answer, Check, Draw, Init, Listing, NoRequest, Request, Simulation, Sizes, Thousandths,
+    Answer, Check, Draw, Explain, Init, Listing, NoRequest, Request, Simulation, Sizes, Thousandths,
 };
 use clap::builder::ValueParser;
 use clap::error::{Error, ErrorKind};
@@ -182,8 +182,15 @@ fn read_check<'a>(
 }
 
 fn read_explain<'a>(inner: &ArgMatches<'a>) -> Option<Request<'a>> {
-    let code = inner.get_str("code")?;
-    Some(Request::Explain { code })
+    if let Some(code) = inner.get_str("code") {
+        return Some(Request::Explain { code });
+    }
+    let folder = inner.get_str("folder")?;
+    Some(Request::Story(Explain {
+        workers: inner.get_one::<u64>("workers").unwrap_or(WORKERS),
+        fault: inner.get_one::<u64>("fault").unwrap_or(1),
+        folder,
+    }))
 }
 
 fn read_draw<'a>(inner: &ArgMatches<'a>) -> Option<Request<'a>> {

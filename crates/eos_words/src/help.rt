@@ -30,7 +30,8 @@ read and summarised, and at the end how many seconds each stage took.
 
 `no PHASE.KIND NAME ..` (status 1) names the first fault; a phase counts only
 where those before it have none. With --json the same stands in an object.
-`eoscheck explain --code PHASE.KIND` says what makes it happen.
+`eoscheck explain FOLDER` tells where it comes from in the logs, and
+`eoscheck explain --code PHASE.KIND` what makes it happen.
 
 With --all each fault of that phase has its line, in the order that makes the
 first one first, and the last line is `faults=N`; with --json each line is an
@@ -191,10 +192,30 @@ the offset at which it stands, and there follow
   1.9 MarkerKind      one transaction has both a commit and an abort";
 
 pub(crate) const EXPLAIN: &str =
-    "Says what a kind of fault is, what makes it happen, and what to look at";
+    "Tells the story of a fault in a folder, or what a kind of fault is";
 
 pub(crate) const EXPLAIN_SAYS: &str =
-    "CODE is what stands before the name in a `no` line: of `no 5.10 Repeated ..` it is
+    "With FOLDER, as of `check`, the first fault is told, or with --fault K the K-th
+of those that `check --all` lists: its `no` line; the places in the logs that it
+is about, each with its role; what it means and what to look at next; how many
+faults of each kind there are; and the notes. These are 40 lines at most, and the
+status is that of `check`. A place is TOPIC-N:OFFSET, and the byte at which its
+batch begins in which segment, named by its first offset:
+
+  fault     the place of the fault itself
+  record    the input, or another record that the fault names
+  claim     a visible record that names the input, who wrote it, and what it says
+  unseen    the same, but aborted or still open
+  touch     a batch of the producer; before, between: the batches beside it
+  marker    the end marker of a transaction, or that a partition lacks it
+  data      the data of a transaction
+  decided   the record of __transaction_state that decided it
+  state     another record of the transactional id or producer
+  commit    a committed offset of the group, or that none goes past the input
+  header    one of the five headers of a claim
+  segment, end  a segment of the partition; where it is declared to end
+
+CODE is what stands before the name in a `no` line: of `no 5.10 Repeated ..` it is
 5.10. `eoscheck check --help` lists all kinds, docs/FAULTS.md has all pages.";
 
 pub(crate) const DRAW: &str =

@@ -8,5 +8,5 @@ mod request;
 
 pub use command::{VERSION, read_words};
 pub use request::{
-    Answer, Check, Draw, Init, Listing, NoRequest, Request, Simulation, Sizes, Thousandths,
+    Answer, Check, Draw, Explain, Init, Listing, NoRequest, Request, Simulation, Sizes, Thousandths,
 };

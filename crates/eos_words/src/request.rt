@@ -11,6 +11,8 @@ pub enum Request<'a> {
     Draw(Draw<'a>),
     /// Print the catalogue's page of the kind of fault with this code.
     Explain { code: &'a str },
+    /// Tell the story of a fault of a folder of evidence.
+    Story(Explain<'a>),
     /// Write what a simulated cluster leaves.
     Simulate(Simulation<'a>),
     /// Write the manifest of a folder of copied logs.
@@ -39,6 +41,16 @@ pub struct Listing<'a> {
     pub from: u64,
     /// The first offset after those that are listed.
     pub to: u64,
+}
+
+/// Which fault of a folder of evidence is explained.
+#[derive(Clone, Copy)]
+pub struct Explain<'a> {
+    /// The number of workers, from 1 to 64.
+    pub workers: u64,
+    /// The number of the fault in the list of all, from 1 on.
+    pub fault: u64,
+    pub folder: &'a str,
 }
 
 /// What is asked about folders of evidence.

@@ -4,6 +4,7 @@ use eos_checking::check_words;
 use eos_commands::{answer_segment, explain_code, init_folder};
 use eos_drawing::draw_folder;
 use eos_ending::{Ending, STANDARD, end};
+use eos_explaining::explain_folder;
 use eos_simulate::simulate_folder;
 use eos_words::{NoRequest, Request, read_words};
 use std::alloc::Global;
@@ -53,6 +54,7 @@ fn act(rt: &HostRuntime, threads: &(impl Threads + Wait + Sync), request: Reques
         Request::Check(words) => check_words(rt, threads, &words),
         Request::Draw(words) => draw_folder(rt, threads, &words),
         Request::Explain { code } => explain_code(rt, code),
+        Request::Story(words) => explain_folder(rt, threads, &words),
         Request::Simulate(words) => simulate_folder(rt, &words),
         Request::Init(words) => init_folder(rt, &words),
     }

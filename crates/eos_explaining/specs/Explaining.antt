@@ -1,0 +1,71 @@
+-- What `explain` answers for an evidence: the line of a yes and the notes, the story of one of all faults, or how many there are.
+use Rattle.std.specs.Prelude.{◌≡◌, ◌≤◌, ◌<◌, ◌⊎◌, ℕ, suc, List, map, length, Option, Some, option_map, slice_get, string_bytes, false}
+use Rattle.std.specs.Option.{option_copied}
+use Rattle.eos_check.specs.declared.verdict.Fault.{Fault}
+use Rattle.eos_check.specs.declared.verdict.Verdict.{Verdict}
+use Rattle.eos_check.specs.declared.verdict.Verdict.TheVariants.{Yes, No}
+use Rattle.eos_check.specs.Verdicts.{IsVerdict}
+use Rattle.eos_check.specs.declared.verdict.Counts.{Counts}
+use Rattle.eos_checking.specs.Checking.{IsNotesText}
+use Rattle.eos_evidence.specs.Evidence.{EvidenceParts}
+use Rattle.eos_fold.specs.Parts.{PartLog}
+use Rattle.eos_lineage.specs.EvidenceLogs.{AreLogsOf}
+use Rattle.eos_all_faults.specs.AllFaults.{AreAllFaults}
+use Rattle.eos_notes.specs.declared.note.Note.{Note}
+use Rattle.eos_notes.specs.Notes.{AreNotes}
+use Rattle.eos_report.specs.VerdictTexts.{verdict_line}
+use Rattle.eos_story.specs.PlaceOfFault.{place_in}
+use Rattle.eos_story.specs.Rows.{IsTrue}
+use Rattle.std.specs.Prelude.{All}
+use Rattle.eos_story_text.specs.declared.story.Story.{Story}
+use Rattle.eos_story_text.specs.Stories.{story_text}
+use Rattle.eos_explaining.specs.declared.answer.Answer.{Answer}
+use Rattle.eos_explaining.specs.declared.answer.Answer.TheVariants as answers
+
+-- the text is the story of the fault that this verdict names: of true rows, with the notes of the evidence
+pub record IsStoryOf (e : EvidenceParts) (logs : List PartLog) (told : List Verdict) (verdict : Verdict) (text : List ℕ) : Type 0 where
+  pub story : Story
+  pub of_verdict : story.verdict.now ≡ verdict
+  pub at : option_copied story.place ≡ place_in verdict
+  pub rows : All (IsTrue e.partitions logs) story.rows.now
+  pub list : story.told.now ≡ told
+  pub notes : AreNotes e story.notes.now
+  pub says : text ≡ story_text story
+
+-- all faults of the evidence, each as a verdict names it
+pub record AreTold (e : EvidenceParts) (logs : List PartLog) (told : List Verdict) : Type 0 where
+  pub faults : List Fault
+  pub of : AreLogsOf e.partitions logs
+  pub are : AreAllFaults e logs of faults
+  pub named : told ≡ map No faults
+
+-- the story of the fault of this number, counted from 1
+pub record IsTheStory (e : EvidenceParts) (number : ℕ) (text : List ℕ) : Type 0 where
+  pub logs : List PartLog
+  pub told : List Verdict
+  pub are : AreTold e logs told
+  pub before : ℕ
+  pub numbered : number ≡ suc before
+  pub verdict : Verdict
+  pub at : slice_get told before ≡ Some verdict
+  pub story : IsStoryOf e logs told verdict text
+
+-- there are so many, and this number is none of theirs
+pub record AreFewer (e : EvidenceParts) (number count : ℕ) : Type 0 where
+  pub logs : List PartLog
+  pub told : List Verdict
+  pub are : AreTold e logs told
+  pub counted : count ≡ length told
+  pub fewer : (number ≡ 0) ⊎ (count < number)
+
+-- the line of a yes
+pub record IsYes (e : EvidenceParts) (line notes : List ℕ) : Type 0 where
+  pub counts : Counts
+  pub is : IsVerdict e (Yes counts)
+  pub says : line ≡ verdict_line (Yes counts)
+  pub noted : IsNotesText e false notes
+
+abbrev pub IsAnswer : EvidenceParts → ℕ → Answer → Type 0
+IsAnswer e number (answers.Yes line notes) = IsYes e (string_bytes line) (string_bytes notes)
+IsAnswer e number (answers.Story text) = IsTheStory e number (string_bytes text)
+IsAnswer e number (answers.Fewer count) = AreFewer e number count

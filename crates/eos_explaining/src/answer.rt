@@ -1,0 +1,109 @@
+//! The answer of `explain` for an evidence.
+
+ghost use Rattle.std.specs.Prelude.{◌≡◌, ◌≤◌, ◌<◌, IfOk, OnErr, Err, map, string_bytes};
+ghost use Rattle.eos_check.specs.declared.verdict.Verdict.TheVariants.{No};
+ghost use Rattle.eos_check.specs.Verdicts.{IsVerdict};
+ghost use Rattle.eos_lineage.specs.EvidenceLogs.{AreLogsOf};
+ghost use Rattle.eos_explaining.specs.Explaining.{IsAnswer};
+
+use crate::story::story_at;
+use eos_all_faults::all_faults;
+use eos_board_core::Gate;
+use eos_check::{Fault, Verdict, logs_of, verdict_of};
+use eos_checking::lines_of;
+use eos_evidence::Evidence;
+use eos_fold::Part;
+use eos_report::verdict_line;
+use eos_story::Scene;
+use std::alloc::{AllocError, Global};
+use std::sync::Wait;
+use std::thread::Threads;
+
+/// What `explain` answers.
+#[derive(Drop)]
+pub enum Answer {
+    /// The verdict is yes: its line, and the lines of the notes.
+    Yes { line: String, notes: String },
+    /// The story of the fault that was asked for.
+    Story(String),
+    /// There are fewer faults, so many.
+    Fewer(u64),
+}
+
+// Each fault as the verdict that names it.
+fn verdicts_of(alloc: Global, faults: Vec<Fault>) -> Result<Vec<Verdict>, AllocError>
+    ensures { IfOk result (λ told. told.items ≡ map No faults.items) }
+{
+    let mut told = Vec::new(alloc);
+    for fault in faults {
+        told.push(Verdict::No(fault))?;
+    }
+    Ok(told)
+}
+
+fn of_faults(
+    alloc: Global,
+    evidence: &Evidence,
+    logs: &[Part],
+    number: u64,
+) -> Result<Answer, AllocError>
+    requires { AreLogsOf evidence.now.partitions logs.now }
+    ensures { IfOk result (IsAnswer evidence.now number) }
+{
+    let faults = all_faults(alloc, evidence, logs)?;
+    let told = verdicts_of(alloc, faults)?;
+    let count = told.len() as u64;
+    if number == 0 || number > count {
+        return Ok(Answer::Fewer(count));
+    }
+    let scene = Scene {
+        alloc,
+        evidence,
+        logs,
+    };
+    let story = story_at(&scene, told.as_slice(), (number - 1) as usize)?;
+    Ok(Answer::Story(story))
+}
+
+fn of_verdict(
+    alloc: Global,
+    evidence: &Evidence,
+    logs: &[Part],
+    verdict: &Verdict,
+    number: u64,
+) -> Result<Answer, AllocError>
+    requires logs { AreLogsOf evidence.now.partitions logs.now }
+    requires verdict { IsVerdict evidence.now verdict.now }
+    ensures { IfOk result (IsAnswer evidence.now number) }
+{
+    match verdict {
+        Verdict::Yes(_) => {
+            let line = verdict_line(alloc, verdict)?;
+            let notes = lines_of(alloc, evidence, logs, false)?;
+            Ok(Answer::Yes { line, notes })
+        }
+        Verdict::No(_) => of_faults(alloc, evidence, logs, number),
+    }
+}
+
+/// The story of a fault of the evidence, of this number in the list of all, from 1 on; or the line of a yes, or how many faults
+/// there are. The workers, 1 to 64, pass the gate.
+///
+/// # Errors
+/// Only want of memory.
+pub fn explain<G: Gate>(
+    alloc: Global,
+    rt: &(impl Threads + Wait + Sync),
+    evidence: &Evidence,
+    workers: u64,
+    number: u64,
+    gate: &G,
+) -> Result<Answer, AllocError>
+    requires some { 1 ≤ workers }
+    requires most { workers ≤ 64 }
+    ensures { IfOk result (IsAnswer evidence.now number) }
+{
+    let logs = logs_of(alloc, rt, evidence, workers, gate)?;
+    let verdict = verdict_of(alloc, rt, evidence, logs.as_slice(), workers as u32)?;
+    of_verdict(alloc, evidence, logs.as_slice(), &verdict, number)
+}

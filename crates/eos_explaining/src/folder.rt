@@ -1,0 +1,82 @@
+//! `explain` of a folder.
+
+use crate::answer::{Answer, explain};
+use eos_checking::{Meter, Progress, end_unread, say_notes};
+use eos_ending::{Ending, STANDARD, Subject, end};
+use eos_evidence::Evidence;
+use eos_folder::{Cause, read_folder};
+use eos_segment::RunFault;
+use eos_text::finish;
+use eos_words::Explain;
+use std::io;
+use std::sync::Wait;
+use std::thread::Threads;
+
+/// Prints the story of a fault of the evidence in a folder, and gives the exit status, that of `check`.
+pub fn explain_folder(
+    rt: &HostRuntime,
+    threads: &(impl Threads + Wait + Sync),
+    words: &Explain<'_>,
+) -> u8 {
+    let meter = Meter::start(rt, false, false);
+    let progress = Progress::begin(&meter, Subject::Only);
+    match read_folder(
+        rt,
+        threads,
+        words.folder,
+        words.workers.clamp(1, 64),
+        &progress,
+    ) {
+        Ok(evidence) => tell(rt, threads, words, &evidence, &progress),
+        Err(fault) => end_unread(rt, Subject::Only, &fault),
+    }
+}
+
+fn tell(
+    rt: &HostRuntime,
+    threads: &(impl Threads + Wait + Sync),
+    words: &Explain<'_>,
+    evidence: &Evidence,
+    progress: &Progress<'_>,
+) -> u8 {
+    let workers = words.workers.clamp(1, 64);
+    match explain(
+        rt.alloc(),
+        threads,
+        evidence,
+        workers,
+        words.fault,
+        progress,
+    ) {
+        Ok(Answer::Yes { line, notes }) => {
+            let status = write_answer(rt, line.as_str(), 0);
+            if status == 0 {
+                say_notes(rt, Subject::Only, notes.as_str());
+            }
+            status
+        }
+        Ok(Answer::Story(text)) => write_answer(rt, text.as_str(), 1),
+        Ok(Answer::Fewer(count)) => say_fewer(rt, count),
+        Err(_) => end(rt, Ending::OutOfMemory),
+    }
+}
+
+fn write_answer(rt: &HostRuntime, text: &str, status: u8) -> u8 {
+    let answered = match finish(&mut io::writer(rt), text.as_bytes()) {
+        Ok(()) => Ok(status),
+        Err(_) => Err(RunFault::Write),
+    };
+    end(
+        rt,
+        Ending::of_answer(answered, STANDARD, STANDARD, &Cause::Unknown),
+    )
+}
+
+fn say_fewer(rt: &HostRuntime, count: u64) -> u8 {
+    if count == 1 {
+        let _ = eprint!(rt; "eoscheck: there is 1 fault\n");
+    } else {
+        let _ = eprint!(rt; "eoscheck: there are {count} faults\n");
+    }
+    2
+}

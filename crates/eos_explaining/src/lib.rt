@@ -1,0 +1,9 @@
+//! `explain` of a folder: the story of a fault of an evidence.
+#![tactic(auto)]
+
+mod answer;
+mod folder;
+mod story;
+
+pub use answer::{Answer, explain};
+pub use folder::explain_folder;

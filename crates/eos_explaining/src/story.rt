@@ -1,0 +1,66 @@
+//! The story of one of all faults.
+
+ghost use Rattle.std.specs.Prelude.{◌≡◌, ◌<◌, length, map, List, IfOk, Some, slice_get, string_bytes};
+ghost use Rattle.eos_check.specs.declared.verdict.Fault.{Fault as AFault};
+ghost use Rattle.eos_check.specs.declared.verdict.Verdict.{Verdict as Named};
+ghost use Rattle.eos_check.specs.declared.verdict.Verdict.TheVariants.{No};
+ghost use Rattle.eos_lineage.specs.EvidenceLogs.{AreLogsOf};
+ghost use Rattle.eos_explaining.specs.Explaining.{IsStoryOf};
+
+use eos_catalogue::{Page, page_of};
+use eos_check::{Fault, Verdict};
+use eos_notes::notes;
+use eos_story::{Scene, place_of, rows_of};
+use eos_story_text::{Story, story_text};
+use std::alloc::{AllocError, Global};
+
+// The catalogue's page of a kind of fault.
+fn page_for(alloc: Global, fault: &Fault) -> Result<Option<&'static Page>, AllocError> {
+    let phase = fault.phase();
+    let number = fault.number();
+    let code = format!(in alloc; "{phase}.{number}")?;
+    Ok(page_of(code.as_str()))
+}
+
+// The story of the fault that this verdict names, which is one of these.
+fn told_of(
+    scene: &Scene<'_>,
+    told: &[Verdict],
+    verdict: &Verdict,
+    fault: &Fault,
+) -> Result<String, AllocError>
+    requires logs { AreLogsOf scene.now.evidence.now.partitions scene.now.logs.now }
+    requires names { verdict.now ≡ No fault.now }
+    ensures { IfOk result (λ text. IsStoryOf scene.now.evidence.now scene.now.logs.now told.now verdict.now (string_bytes text)) }
+{
+    let rows = rows_of(scene, fault)?;
+    let notes = notes(scene.alloc, scene.evidence, scene.logs)?;
+    let place = place_of(scene.alloc, fault)?;
+    let page = page_for(scene.alloc, fault)?;
+    let story = Story {
+        verdict,
+        place: place.as_ref(),
+        rows: rows.as_slice(),
+        page,
+        told,
+        notes: notes.as_slice(),
+    };
+    story_text(scene.alloc, &story)
+}
+
+/// The story of the fault at this place of the list of all.
+///
+/// # Errors
+/// Only want of memory.
+pub(crate) fn story_at(scene: &Scene<'_>, told: &[Verdict], i: usize) -> Result<String, AllocError>
+    requires logs { AreLogsOf scene.now.evidence.now.partitions scene.now.logs.now }
+    requires inside { i < length told.now }
+    requires faults { (faults : List AFault) × (told.now ≡ map No faults) }
+    ensures { IfOk result (λ text. (verdict : Named) × (slice_get told.now i ≡ Some verdict) × IsStoryOf scene.now.evidence.now scene.now.logs.now told.now verdict (string_bytes text)) }
+{
+    let verdict = &told[i];
+    match verdict {
+        Verdict::Yes(_) => unreachable!(),
+        Verdict::No(fault) => told_of(scene, told, verdict, fault),
+    }
+}

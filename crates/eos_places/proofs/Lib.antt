@@ -1,0 +1,2 @@
+pub mod BatchWalks
+pub mod PartitionWalks

@@ -1,0 +1,4 @@
+pub mod Wanted
+pub mod Places
+pub mod Partitions
+pub mod steps

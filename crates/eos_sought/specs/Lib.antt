@@ -1,0 +1,4 @@
+pub mod States
+pub mod Passing
+pub mod Sought
+pub mod Finds

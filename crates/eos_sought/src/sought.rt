@@ -1,0 +1,189 @@
+//! Which data records are sought.
+
+ghost use Rattle.std.specs.Prelude.{◌≡◌, ◌&&◌, ◌==◌, not, IfOk};
+ghost use Rattle.std.specs.Option.{option_map, option_copied};
+ghost use Rattle.eos_claims.specs.Slots.{plain_claim};
+ghost use Rattle.eos_claims.specs.Headers.{claim_of};
+ghost use Rattle.eos_commits.specs.Visible.{is_visible as is_visible_fate};
+ghost use Rattle.eos_sought.specs.States.{id_in, state_in};
+ghost use Rattle.eos_sought.specs.Sought.{is_at, is_state, is_id, is_by, is_marked, decides, claims, meets as is_met};
+ghost use Rattle.eos_sought.specs.Passing.{is_of_group, passes, is_passed};
+
+use crate::commits::{is_of_group, is_passed, passes};
+use crate::reading::{id_of, is_named, is_of, is_same, state_of};
+use bytes::Bytes;
+use eos_claims::{ClaimRef, Place, view_claim};
+use eos_commits::is_visible;
+use eos_fold::{ItemRef, Part};
+use eos_txnlog::TxnValue;
+use std::alloc::{AllocError, Global};
+
+/// Which data records of the logs are sought.
+#[derive(Clone, Debug, Drop)]
+pub enum Sought {
+    /// The one of this place.
+    At(Place),
+    /// The visible ones whose headers claim this input.
+    Claiming(Place),
+    /// Those whose headers claim this input, and that no reader of committed records is given.
+    Hidden(Place),
+    /// The states of this transactional id.
+    OfId(Bytes),
+    /// The states of this producer id.
+    OfProducer(i64),
+    /// The decisions whose markers have this producer id and epoch.
+    Deciding { producer: i64, epoch: i16 },
+    /// The commits of this group.
+    OfGroup(Bytes),
+    /// The commits of this group that go past this input.
+    Passing { group: Bytes, place: Place },
+    /// The commits of any group that go past this input.
+    Passed(Place),
+}
+
+fn is_at(place: &Place, part: &Part, item: &ItemRef<'_>) -> bool
+    ensures { result ≡ is_at place.now part.now item.now }
+{
+    is_named(part, &place.partition) && item.offset() == place.offset
+}
+
+fn claims(place: &Place, claim: Option<ClaimRef<'_>>) -> bool
+    ensures { result ≡ claims place.now (option_map plain_claim claim.entry) }
+{
+    match claim {
+        None => false,
+        Some(claim) => {
+            is_same(claim.topic, place.partition.topic.as_slice())
+                && claim.partition == place.partition.partition
+                && claim.offset == place.offset
+        }
+    }
+}
+
+fn is_claiming(place: &Place, item: ItemRef<'_>) -> bool
+    ensures { result ≡ (is_visible_fate item.entry.fate && claims place.now (claim_of item.entry.headers)) }
+{
+    is_visible(item.fate()) && claims(place, view_claim(item.into_headers()))
+}
+
+fn is_hidden(place: &Place, item: ItemRef<'_>) -> bool
+    ensures { result ≡ (not (is_visible_fate item.entry.fate) && claims place.now (claim_of item.entry.headers)) }
+{
+    !is_visible(item.fate()) && claims(place, view_claim(item.into_headers()))
+}
+
+fn is_id(id: &[u8], found: Option<Bytes>) -> bool
+    ensures { result ≡ is_id id.now found }
+{
+    match found {
+        None => false,
+        Some(found) => is_same(found.as_slice(), id),
+    }
+}
+
+fn is_by(producer: i64, state: Option<TxnValue>) -> bool
+    ensures { result ≡ is_by producer state }
+{
+    match state {
+        None => false,
+        Some(state) => state.producer == producer,
+    }
+}
+
+fn is_marked(producer: i64, epoch: i16, state: &TxnValue) -> bool
+    ensures { result ≡ is_marked producer epoch state.now }
+{
+    state.producer == producer && state.epoch == epoch
+}
+
+fn both(a: bool, b: bool) -> bool
+    ensures { result ≡ (a && b) }
+{
+    a && b
+}
+
+fn decides(producer: i64, epoch: i16, state: Option<TxnValue>) -> bool
+    ensures { result ≡ decides producer epoch state }
+{
+    match state {
+        None => false,
+        Some(state) => {
+            let prepares = state.status.is_prepare();
+            both(prepares, is_marked(producer, epoch, &state))
+        }
+    }
+}
+
+fn is_state(part: &Part) -> bool
+    ensures { result ≡ is_state part.now }
+{
+    is_of(part, b"__transaction_state".as_slice())
+}
+
+fn is_of_id(alloc: Global, id: &[u8], part: &Part, item: &ItemRef<'_>) -> Result<bool, AllocError>
+    ensures { IfOk result (λ met. met ≡ (is_state part.now && is_id id.now (id_in item.now.key))) }
+{
+    if !is_state(part) {
+        return Ok(false);
+    }
+    let found = id_of(alloc, item.key())?;
+    Ok(is_id(id, found))
+}
+
+fn is_of_producer(
+    alloc: Global,
+    producer: i64,
+    part: &Part,
+    item: &ItemRef<'_>,
+) -> Result<bool, AllocError>
+    ensures { IfOk result (λ met. met ≡ (is_state part.now && is_by producer (state_in item.now.value))) }
+{
+    if !is_state(part) {
+        return Ok(false);
+    }
+    let state = state_of(alloc, item.value())?;
+    Ok(is_by(producer, state))
+}
+
+fn is_decision(
+    alloc: Global,
+    producer: i64,
+    epoch: i16,
+    part: &Part,
+    item: &ItemRef<'_>,
+) -> Result<bool, AllocError>
+    ensures { IfOk result (λ met. met ≡ (is_state part.now && decides producer epoch (state_in item.now.value))) }
+{
+    if !is_state(part) {
+        return Ok(false);
+    }
+    let state = state_of(alloc, item.value())?;
+    Ok(decides(producer, epoch, state))
+}
+
+/// Whether a record of a partition's log is one of those that are sought.
+///
+/// # Errors
+/// Only want of memory.
+pub(crate) fn meets(
+    alloc: Global,
+    sought: &Sought,
+    part: &Part,
+    item: ItemRef<'_>,
+) -> Result<bool, AllocError>
+    ensures { IfOk result (λ met. met ≡ is_met sought.now part.now item.entry) }
+{
+    match sought {
+        Sought::At(place) => Ok(is_at(place, part, &item)),
+        Sought::Claiming(place) => Ok(is_claiming(place, item)),
+        Sought::Hidden(place) => Ok(is_hidden(place, item)),
+        Sought::OfId(id) => is_of_id(alloc, id.as_slice(), part, &item),
+        Sought::OfProducer(producer) => is_of_producer(alloc, *producer, part, &item),
+        Sought::Deciding { producer, epoch } => {
+            is_decision(alloc, *producer, *epoch, part, &item)
+        }
+        Sought::OfGroup(group) => Ok(is_of_group(group.as_slice(), part, &item)),
+        Sought::Passing { group, place } => Ok(passes(group.as_slice(), place, part, &item)),
+        Sought::Passed(place) => Ok(is_passed(place, part, &item)),
+    }
+}

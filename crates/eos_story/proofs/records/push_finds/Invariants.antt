@@ -1,0 +1,5 @@
+use Rattle.eos_story.specs.Rows.{AreTrue}
+use Rattle.eos_story.proofs.records.push_finds.Given as goal
+
+abbrev pub invariant-loop-find : goal.invariant-loop-find
+invariant-loop-find l = AreTrue l.scene l.fn.rows.items → AreTrue l.scene l.rows.items

@@ -1,0 +1,4 @@
+pub mod HeaderNames
+pub mod PlaceOfFault
+pub mod Rows
+pub mod steps

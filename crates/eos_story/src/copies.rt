@@ -1,0 +1,71 @@
+//! Equal values, which share the bytes.
+
+ghost use Rattle.std.specs.Prelude.{◌≡◌, IfOk};
+
+use eos_base::PartitionName;
+use eos_claims::Place;
+use eos_fold::Item;
+use eos_sought::{Find, Sought};
+use std::alloc::AllocError;
+
+pub(crate) fn copy_name(name: &PartitionName) -> Result<PartitionName, AllocError>
+    ensures { IfOk result (λ copy. copy ≡ name.now) }
+{
+    Ok(PartitionName {
+        topic: name.topic.clone()?,
+        partition: name.partition,
+    })
+}
+
+pub(crate) fn copy_place(place: &Place) -> Result<Place, AllocError>
+    ensures { IfOk result (λ copy. copy ≡ place.now) }
+{
+    Ok(Place {
+        partition: copy_name(&place.partition)?,
+        offset: place.offset,
+    })
+}
+
+fn copy_item(item: &Item) -> Result<Item, AllocError>
+    ensures { IfOk result (λ copy. copy ≡ item.now) }
+{
+    Ok(Item {
+        offset: item.offset,
+        fate: item.fate,
+        writer: item.writer,
+        key: item.key.clone()?,
+        value: item.value.clone()?,
+        headers: item.headers.clone()?,
+    })
+}
+
+pub(crate) fn copy_find(find: &Find) -> Result<Find, AllocError>
+    ensures { IfOk result (λ copy. copy ≡ find.now) }
+{
+    Ok(Find {
+        partition: copy_name(&find.partition)?,
+        item: copy_item(&find.item)?,
+    })
+}
+
+pub(crate) fn copy_sought(sought: &Sought) -> Result<Sought, AllocError>
+    ensures { IfOk result (λ copy. copy ≡ sought.now) }
+{
+    match sought {
+        Sought::At(place) => Ok(Sought::At(copy_place(place)?)),
+        Sought::Claiming(place) => Ok(Sought::Claiming(copy_place(place)?)),
+        Sought::Hidden(place) => Ok(Sought::Hidden(copy_place(place)?)),
+        Sought::OfId(id) => Ok(Sought::OfId(id.clone()?)),
+        Sought::OfProducer(producer) => Ok(Sought::OfProducer(*producer)),
+        Sought::Deciding { producer, epoch } => Ok(Sought::Deciding {
+            producer: *producer,
+            epoch: *epoch,
+        }),
+        Sought::OfGroup(group) => Ok(Sought::OfGroup(group.clone()?)),
+        Sought::Passing { group, place } => Ok(Sought::Passing {
+            group: group.clone()?,
+            place: copy_place(place)?,
+        }),
+        Sought::Passed(place) => Ok(Sought::Passed(copy_place(place)?)),
+    }
+}

@@ -1,0 +1,128 @@
+//! The five headers of a claim, as they stand in a record.
+
+ghost use Rattle.std.specs.Prelude.{◌≡◌, ◌++◌, IfOk, OnOk, ◌∷◌, []};
+ghost use Rattle.eos_claims.specs.Headers.{values_of};
+ghost use Rattle.eos_sought.specs.Finds.{all_of};
+ghost use Rattle.eos_base.specs.Members.{Has};
+ghost use Rattle.eos_sought.specs.declared.sought.Sought.TheVariants.{At};
+ghost use Rattle.eos_story.specs.HeaderNames.{key_of};
+ghost use Rattle.eos_story.specs.Rows.{AreTrue};
+
+use crate::copies::copy_place;
+use crate::row::{Row, add_row};
+use crate::scene::Scene;
+use bytes::Bytes;
+use eos_base::Listed;
+use eos_batch::Header;
+use eos_claims::Place;
+use eos_sought::{Find, Sought, find_records};
+use std::alloc::{AllocError, Global};
+
+/// The name of a header of a claim.
+#[derive(Clone, Copy, Debug, PartialEq, Eq)]
+pub enum HeaderName {
+    Topic,
+    Partition,
+    Offset,
+    Output,
+    Of,
+}
+
+impl HeaderName {
+    /// The header's key.
+    pub fn key(self) -> &'static str
+        ensures { result.now ≡ key_of self }
+    {
+        match self {
+            HeaderName::Topic => "eo.topic",
+            HeaderName::Partition => "eo.partition",
+            HeaderName::Offset => "eo.offset",
+            HeaderName::Output => "eo.output",
+            HeaderName::Of => "eo.of",
+        }
+    }
+}
+
+// With the value of one header more, if it has this key.
+fn keep_value(
+    values: &mut Listed<Option<Bytes>>,
+    key: &str,
+    header: &Header,
+) -> Result<(), AllocError>
+    ensures { OnOk result (values.new ≡ values.old ++ values_of key.now (header.now ∷ [])) }
+{
+    if header.key.as_slice() == key.as_bytes() {
+        values.push(header.value.clone()?)?;
+    }
+    Ok(())
+}
+
+fn values_under(
+    alloc: Global,
+    key: &str,
+    headers: &[Header],
+) -> Result<Listed<Option<Bytes>>, AllocError>
+    ensures { IfOk result (λ values. values ≡ values_of key.now headers.now) }
+{
+    let mut values = Listed::new(Vec::new(alloc));
+    for header in headers {
+        keep_value(&mut values, key, header)?;
+    }
+    Ok(values)
+}
+
+fn push_header(
+    scene: &Scene<'_>,
+    rows: &mut Vec<Row>,
+    place: &Place,
+    find: &Find,
+    name: HeaderName,
+) -> Result<(), AllocError>
+    requires { Has (all_of (At place.now) scene.now.logs.now) find.now }
+    ensures { AreTrue scene.now rows.old.items → OnOk result (AreTrue scene.now rows.new.items) }
+{
+    let values = values_under(scene.alloc, name.key(), find.item.headers.as_slice())?;
+    let place = copy_place(place)?;
+    add_row(
+        scene,
+        rows,
+        Row::Header {
+            place,
+            name,
+            values,
+        },
+    )
+}
+
+fn push_names(
+    scene: &Scene<'_>,
+    rows: &mut Vec<Row>,
+    place: &Place,
+    find: &Find,
+) -> Result<(), AllocError>
+    requires { Has (all_of (At place.now) scene.now.logs.now) find.now }
+    ensures { AreTrue scene.now rows.old.items → OnOk result (AreTrue scene.now rows.new.items) }
+{
+    push_header(scene, rows, place, find, HeaderName::Topic)?;
+    push_header(scene, rows, place, find, HeaderName::Partition)?;
+    push_header(scene, rows, place, find, HeaderName::Offset)?;
+    push_header(scene, rows, place, find, HeaderName::Output)?;
+    push_header(scene, rows, place, find, HeaderName::Of)?;
+    Ok(())
+}
+
+/// Adds what stands under each of the five names in the headers of a record.
+pub(crate) fn push_headers(
+    scene: &Scene<'_>,
+    rows: &mut Vec<Row>,
+    place: &Place,
+) -> Result<(), AllocError>
+    ensures { AreTrue scene.now rows.old.items → OnOk result (AreTrue scene.now rows.new.items) }
+{
+    let sought = Sought::At(copy_place(place)?);
+    let finds = find_records(scene.alloc, scene.logs, &sought, 1)?;
+    if finds.first.is_empty() {
+        return Ok(());
+    }
+    push_names(scene, rows, place, &finds.first[0])
+}

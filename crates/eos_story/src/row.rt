@@ -1,0 +1,79 @@
+//! A row of a story.
+
+ghost use Rattle.std.specs.Prelude.{OnOk};
+ghost use Rattle.eos_story.specs.Rows.{IsTrue, AreTrue};
+
+use crate::headers::HeaderName;
+use crate::scene::Scene;
+use bytes::Bytes;
+use eos_base::{Listed, PartitionName};
+use eos_claims::Place;
+use eos_places::{Placed, Wanted};
+use eos_sought::{Find, Sought};
+use std::alloc::AllocError;
+
+/// A place in the logs and its role, or that nothing has it.
+#[derive(Debug, Drop)]
+pub enum Row {
+    /// A data record that is sought, and the batch that holds it.
+    Record {
+        sought: Sought,
+        find: Find,
+        spot: Option<Placed>,
+    },
+    /// No data record is sought so.
+    NoRecord {
+        sought: Sought,
+    },
+    /// There are so many data records that are sought so, of which these are shown.
+    MoreRecords {
+        shown: u64,
+        all: u64,
+        sought: Sought,
+    },
+    /// A batch of this partition that is wanted.
+    Batch {
+        partition: PartitionName,
+        wanted: Wanted,
+        placed: Placed,
+    },
+    /// The first batch of this partition that is wanted, or that there is none.
+    First {
+        partition: PartitionName,
+        wanted: Wanted,
+        placed: Option<Placed>,
+    },
+    /// There are so many batches of this partition that are wanted, of which these are shown.
+    MoreBatches {
+        partition: PartitionName,
+        wanted: Wanted,
+        shown: u64,
+        all: u64,
+    },
+    /// A segment of this partition: its name and its size.
+    Segment {
+        partition: PartitionName,
+        base: u64,
+        size: u64,
+    },
+    /// Where this partition is declared to end.
+    End {
+        partition: PartitionName,
+        end: i64,
+    },
+    /// The values under a name in the headers of the record of this place.
+    Header {
+        place: Place,
+        name: HeaderName,
+        values: Listed<Option<Bytes>>,
+    },
+}
+
+/// Puts a row at the end that says what is so.
+pub(crate) fn add_row(scene: &Scene<'_>, rows: &mut Vec<Row>, row: Row) -> Result<(), AllocError>
+    requires { IsTrue scene.now.evidence.now.partitions scene.now.logs.now row }
+    ensures { AreTrue scene.now rows.old.items → OnOk result (AreTrue scene.now rows.new.items) }
+{
+    rows.push(row)?;
+    Ok(())
+}

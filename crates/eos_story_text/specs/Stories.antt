@@ -1,0 +1,31 @@
+-- The text of a story.
+use Rattle.std.specs.Prelude.{ℕ, List, [], ◌++◌, Option, Some, None, codes, length, take, flat_map, nat_le, if◌then◌else◌}
+use Rattle.std.specs.Option.{option_copied}
+use Rattle.eos_catalogue.specs.declared.page.Page.{Page}
+use Rattle.eos_claims.specs.declared.place.Place.{Place}
+use Rattle.eos_notes.specs.declared.note.Note.{Note}
+use Rattle.eos_notes.specs.Texts.{note_lines}
+use Rattle.eos_report.specs.VerdictTexts.{verdict_line}
+use Rattle.eos_story.specs.declared.row.Row.{Row}
+use Rattle.eos_story_text.specs.declared.story.Story.{Story}
+use Rattle.eos_story_text.specs.Counts.{counts_line}
+use Rattle.eos_story_text.specs.RowLines.{more_line, row_line}
+
+-- that there are more than are shown, if so
+abbrev pub rest_text : ℕ → ℕ → List ℕ
+rest_text shown all = if nat_le all shown then [] else more_line shown all
+
+unfoldable pub rows_text : Option Place → List Row → List ℕ
+rows_text place rows = flat_map (row_line place) (take 25 rows) ++ rest_text 25 (length rows)
+
+abbrev pub page_text : Option Page → List ℕ
+page_text None = []
+page_text (Some p) = codes "Means: " ++ (p.means.now ++ (codes "\nNext: " ++ (p.next.now ++ codes "\n")))
+
+unfoldable pub notes_text : List Note → List ℕ
+notes_text notes = note_lines (take 6 notes) ++ rest_text 6 (length notes)
+
+unfoldable pub story_text : Story → List ℕ
+story_text s =
+    verdict_line s.verdict.now
+    ++ (rows_text (option_copied s.place) s.rows.now ++ (page_text (option_copied s.page) ++ (counts_line s.told.now ++ notes_text s.notes.now)))
