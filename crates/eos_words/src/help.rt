@@ -195,16 +195,16 @@ pub(crate) const EXPLAIN: &str =
     "Tells the story of a fault in a folder, or what a kind of fault is";
 
 pub(crate) const EXPLAIN_SAYS: &str =
-    "With FOLDER, as of `check`, the first fault is told, or with --fault K the K-th
-of those that `check --all` lists: its `no` line; the places in the logs that it
-is about, each with its role; what it means and what to look at next; how many
-faults of each kind there are; and the notes. These are 40 lines at most, and the
-status is that of `check`. A place is TOPIC-N:OFFSET, and the byte at which its
-batch begins in which segment, named by its first offset:
+    "With FOLDER, as of `check`, the first fault is told, or with --fault K the
+K-th of those that `check --all` lists: its `no` line; the places in the logs
+that it is about, each with its role; what it means and what to look at next;
+how many faults of each kind there are; and the notes. These are 40 lines at
+most, and the status is that of `check`. A place is TOPIC-N:OFFSET, and the byte
+at which its batch begins in which segment, named by its first offset:
 
   fault     the place of the fault itself
   record    the input, or another record that the fault names
-  claim     a visible record that names the input, who wrote it, and what it says
+  claim     a visible record that names the input, who wrote it, what it says
   unseen    the same, but aborted or still open
   touch     a batch of the producer; before, between: the batches beside it
   marker    the end marker of a transaction, or that a partition lacks it
@@ -213,10 +213,11 @@ batch begins in which segment, named by its first offset:
   state     another record of the transactional id or producer
   commit    a committed offset of the group, or that none goes past the input
   header    one of the five headers of a claim
-  segment, end  a segment of the partition; where it is declared to end
+  segment   a segment of the partition
+  end       where the partition is declared to end
 
-CODE is what stands before the name in a `no` line: of `no 5.10 Repeated ..` it is
-5.10. `eoscheck check --help` lists all kinds, docs/FAULTS.md has all pages.";
+CODE is what stands before the name in a `no` line: of `no 5.10 Repeated ..` it
+is 5.10. `eoscheck check --help` lists all kinds, docs/FAULTS.md has all pages.";
 
 pub(crate) const DRAW: &str =
     "Draws the transactions around a fault of an evidence, as an SVG file";
