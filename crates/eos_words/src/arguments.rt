@@ -317,7 +317,6 @@ impl Argument {
             | Argument::Schedule => "FILE",
             Argument::App => "GROUP:SOURCE,..:OUTPUT,..",
             Argument::Code => "CODE",
-            Argument::Fault => "K",
             Argument::Seed => "S",
             Argument::Switch => "X",
             Argument::SwitchAt => "WORD",
@@ -470,7 +469,6 @@ impl Argument {
             | Argument::Abort => Form::Valued(ValueParser::Unsigned(0, 1000)),
             Argument::Switch => Form::Repeated(ValueParser::Names(&SWITCHES)),
             Argument::Code => Form::Valued(ValueParser::String),
-            Argument::Fault => Form::Valued(ValueParser::Unsigned(1, u64::MAX)),
         }
     }
 }
