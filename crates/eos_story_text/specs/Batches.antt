@@ -1,5 +1,5 @@
 -- The lines of batches.
-use Rattle.std.specs.Prelude.{ℕ, ℤ, List, [], ◌++◌, Option, Some, None, Bool, codes, if◌then◌else◌}
+use Rattle.std.specs.Prelude.{ℕ, List, [], ◌++◌, Option, Some, None, codes, if◌then◌else◌}
 use Rattle.std.specs.Fmt.{decimal, signed_decimal}
 use Rattle.eos_base.specs.declared.partition_name.PartitionName.{PartitionName}
 use Rattle.eos_batch.specs.declared.head.BatchHead.{BatchHead}

@@ -1,5 +1,5 @@
 -- How places are told: TOPIC-N:O byte B of segment S.
-use Rattle.std.specs.Prelude.{ℕ, ℤ, List, [], ◌++◌, Option, Some, None, Bool, true, false, ◌&&◌, ◌==◌, codes}
+use Rattle.std.specs.Prelude.{ℕ, List, [], ◌++◌, Option, Some, None, Bool, true, false, ◌&&◌, ◌==◌, codes}
 use Rattle.std.specs.Fmt.{decimal, signed_decimal}
 use Rattle.std.specs.Ordering.{int_eq}
 use Rattle.eos_base.specs.declared.partition_name.PartitionName.{PartitionName}

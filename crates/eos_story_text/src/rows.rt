@@ -45,12 +45,12 @@ fn push_end(
     alloc: Global,
     out: &mut String,
     name: &PartitionName,
-    end: i64,
+    end: &i64,
 ) -> Result<(), AllocError>
-    ensures { OnOk result (Adds (string_bytes out.old) (string_bytes out.new) (end_line name.now end)) }
+    ensures { OnOk result (Adds (string_bytes out.old) (string_bytes out.new) (end_line name.now end.now)) }
 {
     push_name(alloc, out, " end      ", name)?;
-    push_value(out, " is declared to end at ", &end)?;
+    push_value(out, " is declared to end at ", end)?;
     push_text(out, "\n")?;
     Ok(())
 }
@@ -173,7 +173,7 @@ pub(crate) fn push_row(
             base,
             size,
         } => push_segment(alloc, out, partition, *base, *size),
-        Row::End { partition, end } => push_end(alloc, out, partition, *end),
+        Row::End { partition, end } => push_end(alloc, out, partition, end),
         Row::Header { name, values, .. } => push_header(out, *name, values.as_slice()),
     }
 }

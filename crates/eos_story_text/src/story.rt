@@ -108,7 +108,6 @@ fn push_notes(alloc: Global, out: &mut String, notes: &[Note]) -> Result<(), All
 ///
 /// # Errors
 /// Only want of memory.
-#[tactic(auto, unfolding(crate::specs::Stories::story_text))]
 pub fn story_text(alloc: Global, story: &Story<'_>) -> Result<String, AllocError>
     ensures { IfOk result (λ text. string_bytes text ≡ story_text story.now) }
 {
