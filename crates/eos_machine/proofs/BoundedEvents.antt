@@ -6,7 +6,7 @@ use Rattle.std.proofs.lemmas.List.Elements.{All-nil, All-cons, All-head, All-tai
 use Rattle.std.proofs.lemmas.Bool.{and_parts, or_parts, eqb-true}
 use Rattle.eos_batch.specs.declared.marker.Kind.{Kind}
 use Rattle.eos_batch.specs.declared.marker.Kind.TheVariants.{Abort}
-use Rattle.eos_machine.specs.Places.{Config, txn_place, input_place, output_place, place_count, listed}
+use Rattle.eos_machine.specs.Places.{Config, application_count, txn_place, input_place, written_place, place_count, listed}
 use Rattle.eos_machine.specs.declared.switches.Switches.{Switches}
 use Rattle.eos_machine.specs.Switching.{none}
 use Rattle.eos_machine.specs.World.{Claim, Status, Empty, Ongoing, Prepare, Complete, Entry, Item, Fed, State, Output, Offset, Marker, Coordinator, Session, Message, World, Event, fresh, opening, log_at, coord_at, with_item, with_coord, said_entry, written, due_markers, prepared, finished, state_of}
@@ -187,7 +187,7 @@ message_at n (x ∷ ms) (suc i) h = message_at n ms i (All-tail (IsSent n) x ms 
 bounded_deliver : (n : ℕ) (u : Switches) (c : Config) (w : World) (m : ℕ) (r : Option Message) → Bounded n w → SentIf n r → Bounded n (deliver u c w m r).0
 bounded_deliver n u c w m None b h = b
 bounded_deliver n u c w m (Some (messages.Output a e p s x v)) b h =
-    let o = bounded_fenced n u w m (output_place c p) (Output a e s x v w.events) b h in
+    let o = bounded_fenced n u w m (written_place c a p) (Output a e s x v w.events) b h in
     bounded_if n _ _ _ (λ t. o) (λ f1. bounded_if n _ _ _ (λ t. b) (λ f2. bounded_if n _ _ _ (λ t. b) (λ f3. bounded_if n _ _ _ (λ t. o) (λ f4. bounded_if n _ _ _ (λ t. b) (λ f5.
     bounded_accept n u c w m a _ (Output a e s x v w.events) b (current_low (coord_at w a) e (not_false _ f4) h.0) h)))))
 bounded_deliver n u c w m (Some (messages.Offset a e g q v)) b h =
@@ -333,7 +333,7 @@ bounded_event n u c w (events.Deliver m) b = let d = bounded_more n w b in bound
 
 pub bounded_opening : (c : Config) → Bounded 0 (opening c)
 bounded_opening c = record {
-  coordinators = all_replicated (λ s. Limit s.status s.epoch) c.applications fresh (omega arith);
+  coordinators = all_replicated (λ s. Limit s.status s.epoch) (application_count c) fresh (omega arith);
   logs = all_replicated (All (IsWithin 0)) (place_count c) [] (All-nil (IsWithin 0));
   messages = All-nil (IsSent 0);
   sessions = All-nil (IsSafe 0);

@@ -7,7 +7,7 @@ use Rattle.eos_machine.specs.World.{World}
 use Rattle.eos_machine.specs.Switching.{none}
 use Rattle.eos_machine.specs.Machine.{step, run, run_under}
 use Rattle.eos_machine.specs.SwitchedRuns.{Breaks, all_under}
-use Rattle.eos_machine.specs.Runs.{Commits, Restarts, Fences, Fetches, Omits, Lists}
+use Rattle.eos_machine.specs.Runs.{Commits, Restarts, Fences, Fetches, Omits, Lists, Chains}
 
 pub commits : Commits
 unfolding when
@@ -32,6 +32,10 @@ omits = record { replies = refl; output = refl; offsets = refl }
 pub lists : Lists
 unfolding when
 lists = record { replies = refl; markers = refl }
+
+pub chains : Chains
+unfolding when
+chains = record { replies = refl; output = refl; final = refl; offsets = refl }
 
 pub breaks : Breaks
 unfolding when

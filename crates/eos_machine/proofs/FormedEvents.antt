@@ -9,7 +9,7 @@ use Rattle.std.proofs.lemmas.Bool.{or_parts}
 use Rattle.eos_batch.specs.declared.marker.Kind.{Kind}
 use Rattle.eos_batch.specs.declared.marker.Kind.TheVariants.{Abort}
 use Rattle.eos_machine.specs.declared.switches.Switches.{Switches}
-use Rattle.eos_machine.specs.Places.{Config, txn_place, input_place, output_place, listed}
+use Rattle.eos_machine.specs.Places.{Config, application_count, txn_place, input_place, written_place, listed}
 use Rattle.eos_machine.specs.World.{Claim, Status, Empty, Ongoing, Prepare, Complete, Entry, Item, Fed, State, Output, Offset, Coordinator, Session, Message, World, Event, fresh, opening, log_at, coord_at, with_item, with_coord, said_entry, state_of, written, due_markers, prepared, finished}
 use Rattle.eos_machine.specs.declared.state.Message.TheVariants as messages
 use Rattle.eos_machine.specs.declared.event.Event.TheVariants as events
@@ -42,11 +42,11 @@ formed_coord c w a s f = record { coordinators = length-set w.coordinators a s �
 formed_written : (u : Switches) (c : Config) (w : World) (a : ℕ) (x : Entry) → IsFormed c w → IsFormed c (written u c w a x)
 formed_written u c w a x f = formed_coord c (with_item w (txn_place c a) (State a (said_entry u c x) w.events)) a (state_of x) (formed_item c w (txn_place c a) (State a (said_entry u c x) w.events) f)
 
-markers_named : (c : Config) (a e : ℕ) (k : Kind) (ps : List ℕ) → a < c.applications → All (Names c) (due_markers a e k ps)
+markers_named : (c : Config) (a e : ℕ) (k : Kind) (ps : List ℕ) → a < application_count c → All (Names c) (due_markers a e k ps)
 markers_named c a e k [] l = All-nil (Names c)
 markers_named c a e k (p ∷ ps) l = All-cons (Names c) (messages.Marker a e k p) (due_markers a e k ps) l (markers_named c a e k ps l)
 
-formed_prepared : (u : Switches) (c : Config) (w : World) (a : ℕ) (k : Kind) (ps : List ℕ) → a < c.applications → IsFormed c w → IsFormed c (prepared u c w a k ps)
+formed_prepared : (u : Switches) (c : Config) (w : World) (a : ℕ) (k : Kind) (ps : List ℕ) → a < application_count c → IsFormed c w → IsFormed c (prepared u c w a k ps)
 formed_prepared u c w a k ps l f =
     let e : ℕ = (coord_at w a).epoch + 1 in
     let v = formed_written u c w a (record { status = Prepare k; epoch = e; partitions = ps }) f in
@@ -98,9 +98,9 @@ message_at c (x ∷ ms) (suc n) h = message_at c ms n (All-tail (Names c) x ms h
 formed_deliver : (u : Switches) (c : Config) (w : World) (n : ℕ) (r : Option Message) → IsFormed c w → NamesIf c r → IsFormed c (deliver u c w n r).0
 formed_deliver u c w n None f h = f
 formed_deliver u c w n (Some (messages.Output a e p s x v)) f h =
-    let o = formed_fenced u c w n (output_place c p) (Output a e s x v w.events) f in
+    let o = formed_fenced u c w n (written_place c a p) (Output a e s x v w.events) f in
     formed_if c _ _ _ o (λ f1. formed_if c _ _ _ f (λ f2. formed_if c _ _ _ f (λ f3. formed_if c _ _ _ o (λ f4. formed_if c _ _ _ f (λ f5.
-    formed_accept u c w n a (output_place c p) (Output a e s x v w.events) f)))))
+    formed_accept u c w n a (written_place c a p) (Output a e s x v w.events) f)))))
 formed_deliver u c w n (Some (messages.Offset a e g q v)) f h =
     let o = formed_fenced u c w n 0 (Offset a e q v w.events) f in
     formed_if c _ _ _ f (λ f1. formed_if c _ _ _ f (λ f2. formed_if c _ _ _ o (λ f3. formed_if c _ _ _ o (λ f4. formed_if c _ _ _ f (λ f5.
@@ -164,20 +164,20 @@ formed_fetch : (c : Config) (w : World) (q : ℕ) (r : Option Session) → IsFor
 formed_fetch c w q None f = f
 formed_fetch c w q (Some s) f = formed_if c _ _ _ f (λ f1. formed_if c _ _ _ f (λ f2. formed_if c _ _ _ f (λ f3. f)))
 
-formed_session : (u : Switches) (c : Config) (w : World) (a e : ℕ) → a < c.applications → IsFormed c w → IsFormed c (start_session u c w a e).0
+formed_session : (u : Switches) (c : Config) (w : World) (a e : ℕ) → a < application_count c → IsFormed c w → IsFormed c (start_session u c w a e).0
 formed_session u c w a e l f = formed_if c _ _ _ f (λ f1.
     let v = formed_written u c w a (record { status = Empty; epoch = e; partitions = [] }) f in
     record { coordinators = v.coordinators; messages = f.messages; sessions = All-push (IsOfOne c) w.sessions (new_session c a e w.generation) f.sessions l })
 
 formed_start : (u : Switches) (c : Config) (w : World) (a : ℕ) → IsFormed c w → IsFormed c (start u c w a).0
 formed_start u c w a f = formed_if c _ _ _ f (λ f1.
-    let l : a < c.applications = is_lt a c.applications (not_false _ f1) in
+    let l : a < application_count c = is_lt a (application_count c) (not_false _ f1) in
     formed_if c _ _ _ f (λ f2. formed_if c _ _ _ (formed_prepared u c w a Abort (coord_at w a).partitions l f) (λ f3.
     formed_session u c w a (if (coord_at w a).started then (coord_at w a).epoch + 1 else 0) l f)))
 
 -- ---- the coordinator restarts
 
-due_named : (c : Config) (a : ℕ) (t : Status) (e : ℕ) (ps : List ℕ) → a < c.applications → All (Names c) (due_again t a e ps)
+due_named : (c : Config) (a : ℕ) (t : Status) (e : ℕ) (ps : List ℕ) → a < application_count c → All (Names c) (due_again t a e ps)
 due_named c a Empty e ps l = All-nil (Names c)
 due_named c a Ongoing e ps l = All-nil (Names c)
 due_named c a (Complete k) e ps l = All-nil (Names c)
@@ -214,7 +214,7 @@ formed_step : (u : Switches) (c : Config) (w : World) (e : Event) → IsFormed c
 formed_step u c w e f = formed_if c _ _ _ f (λ h. formed_counted c w.events (happens_under u c w e) (formed_event u c w e f))
 
 pub formed_opening : (c : Config) → IsFormed c (opening c)
-formed_opening c = record { coordinators = length-replicate c.applications fresh; messages = All-nil (Names c); sessions = All-nil (IsOfOne c) }
+formed_opening c = record { coordinators = length-replicate (application_count c) fresh; messages = All-nil (Names c); sessions = All-nil (IsOfOne c) }
 
 pub formed_run : (c : Config) (w : World) (xs : List (Switches × Event)) → IsFormed c w → IsFormed c (run_under c w xs)
 formed_run c w [] f = f

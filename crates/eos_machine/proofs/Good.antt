@@ -2,7 +2,7 @@
 use Rattle.std.specs.Prelude.{◌≡◌, ℕ, ◌<◌, Bool, true, false, List, [], ◌∷◌, length, ⊤}
 use Rattle.std.specs.List.{All}
 use Rattle.eos_batch.specs.declared.marker.Kind.TheVariants.{Abort}
-use Rattle.eos_machine.specs.Places.{Config, txn_place, place_count, is_sequenced}
+use Rattle.eos_machine.specs.Places.{Config, application_count, txn_place, place_count, is_sequenced}
 use Rattle.eos_machine.specs.World.{World, Status, Empty, Ongoing, Prepare, Complete, Entry, Coordinator, Message, fresh, coord_at, log_at, state_of}
 use Rattle.eos_machine.specs.declared.state.Message.TheVariants as messages
 use Rattle.eos_machine.specs.Application.{Mark, IsOrdered}
@@ -55,10 +55,10 @@ IsPlace c p = p < place_count c
 
 -- a message names what there is, and an end marker that is due was decided
 abbrev pub IsDue : Config → World → Message → Type 0
-IsDue c w (messages.Output a e p s x v) = (a < c.applications) × (p < c.outputs)
-IsDue c w (messages.Offset a e g q v) = a < c.applications
-IsDue c w (messages.End a e k) = a < c.applications
-IsDue c w (messages.Marker a m k p) = (a < c.applications) × IsPlace c p × IsOrdered (decisions_of c w a) p m k
+IsDue c w (messages.Output a e p s x v) = (a < application_count c) × (p < c.outputs)
+IsDue c w (messages.Offset a e g q v) = a < application_count c
+IsDue c w (messages.End a e k) = a < application_count c
+IsDue c w (messages.Marker a m k p) = (a < application_count c) × IsPlace c p × IsOrdered (decisions_of c w a) p m k
 
 -- the state in memory is the one that the log says
 pub record IsRead (s t : Coordinator) : Type 0 where
@@ -78,5 +78,5 @@ pub record Good (c : Config) (w : World) : Type 0 where
   pub steps : (a : ℕ) → Steps fresh (entries_of a (log_at w (txn_place c a)))
   pub places : (a : ℕ) → All (IsPlace c) (coord_at w a).partitions
   pub sessions : All (IsOfOne c) w.sessions
-  pub coordinators : length w.coordinators ≡ c.applications
+  pub coordinators : length w.coordinators ≡ application_count c
   pub logs : length w.logs ≡ place_count c

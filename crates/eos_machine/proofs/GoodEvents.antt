@@ -11,7 +11,7 @@ use Rattle.eos_batch.specs.declared.marker.Kind.{Kind}
 use Rattle.eos_batch.specs.declared.marker.Kind.TheVariants.{Commit, Abort}
 use Rattle.eos_touch.specs.Pair.{same_kind}
 use Rattle.std.proofs.lemmas.List.{length-set}
-use Rattle.eos_machine.specs.Places.{Config, IsConfig, offsets_place, txn_place, input_place, output_place, is_sequenced, same_topic, listed}
+use Rattle.eos_machine.specs.Places.{Config, application_count, IsConfig, offsets_place, txn_place, input_place, written_place, is_sequenced, same_topic, listed}
 use Rattle.eos_machine.specs.Switching.{none}
 use Rattle.eos_machine.specs.World.{Claim, Status, Empty, Ongoing, Prepare, Complete, Entry, Item, State, Output, Offset, Marker, Coordinator, Session, Message, World, Event, log_at, fresh, coord_at, state_of, with_item, with_coord, written, due_markers, prepared, finished}
 use Rattle.eos_machine.specs.declared.state.Message.TheVariants as messages
@@ -28,6 +28,7 @@ use Rattle.eos_machine.proofs.Apps.{App, waited, MayBeOpen, Orders, Invariant}
 use Rattle.eos_machine.proofs.AppSteps.{IsUnder, IsSettled, Grows, IsCurrent, begun_keeps, joined_keeps, appended_keeps, decided_keeps, marked_keeps, ticked_keeps, completed_keeps, waited_keeps}
 use Rattle.eos_machine.proofs.Good.{app_of, Moves, IsPlace, IsDue, IsRead, IsKept, IsOfOne, Good}
 use Rattle.eos_machine.proofs.Worlds.{IsOf, of_output, of_offset, of_marker, good_item, good_fed, good_coord, good_written, coord_itself, app_written, after_entry, with_state, view_none, app_pushed, app_is}
+use Rattle.eos_machine.proofs.Written.{written_there}
 use Rattle.eos_machine.proofs.Members.{contains_none, contains_cases, contains_head, contains_tail}
 use Rattle.eos_machine.proofs.Brokers.{IsNumbered, Broker, not_lt, is_lt, above, producer_push, under, broker_batch, broker_end}
 
@@ -128,7 +129,7 @@ pub record InRange (c : Config) (w : World) (a p : ℕ) : Type 0 where
   pub txn : txn_place c a < length w.logs
   pub part : p < length w.logs
 
-ranges : (c : Config) (w : World) (a p : ℕ) → IsConfig c → Good c w → a < c.applications → IsPlace c p → InRange c w a p
+ranges : (c : Config) (w : World) (a p : ℕ) → IsConfig c → Good c w → a < application_count c → IsPlace c p → InRange c w a p
 ranges c w a p i g la lp =
     let m = mod-lt a {m = c.transaction_logs} (omega (arith, i.transaction_logs.0)) in
     record { app = omega (arith, la, g.coordinators); txn = omega (arith, m, g.logs); part = omega (arith, lp, g.logs) }
@@ -235,7 +236,7 @@ good_prepared c w a p k ps g r here grows mv =
     let inv : Invariant (after_entry c w a x) = decided_keeps (app_of c w a) k ps (g.apps a) grows in
     let h : Good c (written none c w a x) = good_written c w a x g r.app r.txn here inv mv in
     let e = app_written c w a x r.app r.txn (g.read a) in
-    let la : a < c.applications = omega (arith, r.app, g.coordinators) in
+    let la : a < application_count c = omega (arith, r.app, g.coordinators) in
     let one : (q : ℕ) → Contains ps q → IsDue c (written none c w a x) (messages.Marker a ((coord_at w a).epoch + 1) k q) = λ q i. (la, all_here (IsPlace c) ps here q i, subst (λ (s : App). IsOrdered s.decisions q ((coord_at w a).epoch + 1) k) (sym e) (inv.orders q i)) in
     good_like c (written none c w a x) (w.messages ++ due_markers a ((coord_at w a).epoch + 1) k ps) _ w.sessions w.generation w.events h
     (All-append (IsDue c (written none c w a x)) w.messages (due_markers a ((coord_at w a).epoch + 1) k ps) h.due
@@ -391,8 +392,8 @@ due_at c w (x ∷ ms) (suc n) h = due_at c w ms n (All-tail (IsDue c w) x ms h)
 good_deliver : (c : Config) (w : World) (n : ℕ) (r : Option Message) → IsConfig c → Good c w → DueIf c w r → Good c (deliver none c w n r).0
 good_deliver c w n None i g d = g
 good_deliver c w n (Some (messages.Output a e p s x v)) i g d =
-    let l : IsPlace c (output_place c p) = omega (arith, d.1) in
-    good_output c w n a e (output_place c p) s x v g (ranges c w a (output_place c p) i g d.0 l) l
+    let l : IsPlace c (written_place c a p) = written_there c a p d.1 in
+    good_output c w n a e (written_place c a p) s x v g (ranges c w a (written_place c a p) i g d.0 l) l
 good_deliver c w n (Some (messages.Offset a e y q v)) i g d = good_offset c w n a e y q v g (ranges c w a 0 i g d (omega arith))
 good_deliver c w n (Some (messages.End a e k)) i g d = good_end c w a e k g (ranges c w a 0 i g d (omega arith))
 good_deliver c w n (Some (messages.Marker a m k p)) i g d = good_marker c w a m k p g (ranges c w a p i g d.0 d.1) d.2
@@ -409,7 +410,7 @@ good_session c w a e g r i le =
 good_start : (c : Config) (w : World) (a : ℕ) → IsConfig c → Good c w → Good c (start none c w a).0
 good_start c w a i g =
     good_if c _ _ _ (λ h. g) (λ f.
-    let r : InRange c w a 0 = ranges c w a 0 i g (is_lt a c.applications (not_false _ f)) (omega arith) in
+    let r : InRange c w a 0 = ranges c w a 0 i g (is_lt a (application_count c) (not_false _ f)) (omega arith) in
     good_if c _ _ _ (λ h. g) (λ np.
     good_if c _ _ _
     (λ h. good_prepared c w a 0 Abort (coord_at w a).partitions g r (g.places a) (grows_same (coord_at w a).status (coord_at w a).partitions np) (moves_prepare (coord_at w a).started (coord_at w a).status (coord_at w a).epoch Abort (began_ongoing c w a g h) np refl))
@@ -508,7 +509,7 @@ due_restarted c w (messages.Offset a f g q v) h = h
 due_restarted c w (messages.End a f k) h = h
 due_restarted c w (messages.Marker a m k p) h = h
 
-due_of : (c : Config) (w : World) (a : ℕ) (t : Status) (now : ℕ) (ps : List ℕ) → a < c.applications → All (IsPlace c) ps → Orders t now ps (decisions_of c w a) → All (IsDue c w) (due_again t a now ps)
+due_of : (c : Config) (w : World) (a : ℕ) (t : Status) (now : ℕ) (ps : List ℕ) → a < application_count c → All (IsPlace c) ps → Orders t now ps (decisions_of c w a) → All (IsDue c w) (due_again t a now ps)
 due_of c w a Empty now ps l h o = All-nil (IsDue c w)
 due_of c w a Ongoing now ps l h o = All-nil (IsDue c w)
 due_of c w a (Complete k) now ps l h o = All-nil (IsDue c w)

@@ -2,6 +2,7 @@ pub mod Members
 pub mod Apps
 pub mod AppSteps
 pub mod Brokers
+pub mod Written
 pub mod Good
 pub mod Worlds
 pub mod GoodEvents

@@ -6,7 +6,7 @@ use Rattle.std.proofs.lemmas.List.Kept.{AllPairs-cons}
 use Rattle.std.proofs.lemmas.Bool.{cases_lt}
 use Rattle.std.proofs.lemmas.List.{length-replicate}
 use Rattle.eos_batch.specs.declared.marker.Kind.{Kind}
-use Rattle.eos_machine.specs.Places.{Config, txn_place, place_count, is_sequenced}
+use Rattle.eos_machine.specs.Places.{Config, application_count, txn_place, place_count, is_sequenced}
 use Rattle.eos_machine.specs.World.{World, Empty, fresh, opening, coord_at, log_at}
 use Rattle.eos_machine.specs.Application.{Mark, Batch, End, Decision, HasOneKind, NoneWhileOpen, first_end, IsOrdered, IsClosed, Fate, Matched, Never}
 use Rattle.eos_machine.specs.Logs.{marks_of, entries_of, decisions_from}
@@ -28,7 +28,7 @@ pub no_log : (c : Config) (p : ℕ) → log_at (opening c) p ≡ []
 no_log c p = same_everywhere (place_count c) [] p
 
 no_coord : (c : Config) (a : ℕ) → coord_at (opening c) a ≡ fresh
-no_coord c a = same_everywhere c.applications fresh a
+no_coord c a = same_everywhere (application_count c) fresh a
 
 pub good_opening : (c : Config) → Good c (opening c)
 good_opening c = record {
@@ -39,7 +39,7 @@ good_opening c = record {
   steps = λ a. rw (no_log c (txn_place c a)) tt;
   places = λ a. rw (no_coord c a) (All-nil (IsPlace c));
   sessions = All-nil (IsOfOne c);
-  coordinators = length-replicate c.applications fresh;
+  coordinators = length-replicate (application_count c) fresh;
   logs = length-replicate (place_count c) [];
 }
   where

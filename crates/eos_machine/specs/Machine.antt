@@ -4,7 +4,7 @@ use Rattle.std.specs.List.{flat_map, range_with_len}
 use Rattle.eos_batch.specs.declared.marker.Kind.TheVariants.{Abort}
 use Rattle.eos_machine.specs.declared.switches.Switches.{Switches}
 use Rattle.eos_machine.specs.Switching.{none}
-use Rattle.eos_machine.specs.Places.{Config, txn_place, input_place, is_partition}
+use Rattle.eos_machine.specs.Places.{Config, application_count, txn_place, input_place, is_partition}
 use Rattle.eos_machine.specs.World.{World, Status, Empty, Ongoing, Prepare, Complete, Fed, Coordinator, Message, Event, Reply, fresh, coord_at, log_at, with_item, with_messages, with_sessions, with_generation, written, due_markers, prepared}
 use Rattle.eos_machine.specs.declared.event.Event.TheVariants as events
 use Rattle.eos_machine.specs.Logs.{entries_of, last_state}
@@ -28,7 +28,7 @@ start_session u c w a e =
 -- an open transaction is aborted first
 abbrev pub start : Switches → Config → World → ℕ → Answer
 start u c w a =
-    when (not (nat_lt a c.applications)) (w, Unknown) (
+    when (not (nat_lt a (application_count c))) (w, Unknown) (
     when (is_prepare (coord_at w a).status) (w, Busy) (
     when (is_ongoing (coord_at w a).status) (prepared u c w a Abort (coord_at w a).partitions, Busy) (
     start_session u c w a (if (coord_at w a).started then (coord_at w a).epoch + 1 else 0))))

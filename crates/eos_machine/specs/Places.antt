@@ -14,6 +14,25 @@ pub record IsConfig (c : Config) : Type 0 where
   pub segment_records : (1 ≤ c.segment_records) × (c.segment_records ≤ 1000)
   pub batch_records : (1 ≤ c.batch_records) × (c.batch_records ≤ 1000)
 
+-- ---- the groups: the first reads `in` and writes `out`; the second, where there is one, reads `out` and writes `fin`
+
+-- the second has one application
+abbrev pub application_count : Config → ℕ
+application_count c = if c.chain then c.applications + 1 else c.applications
+
+abbrev pub is_chained : Config → ℕ → Bool
+is_chained c a = c.chain && a == c.applications
+
+-- `fin` has as many partitions as `out`
+abbrev pub final_count : Config → ℕ
+final_count c = if c.chain then c.outputs else 0
+
+-- the sources are the partitions of `in`, and after them those of `out`: this one is of the application's group
+abbrev pub is_source : Config → ℕ → ℕ → Bool
+is_source c a q = if is_chained c a then nat_le c.inputs q && nat_lt q (c.inputs + c.outputs) else nat_lt q c.inputs
+
+-- ---- places
+
 -- the one partition of the offsets
 abbrev pub offsets_place : ℕ
 offsets_place = 0
@@ -22,14 +41,21 @@ offsets_place = 0
 abbrev pub txn_place : Config → ℕ → ℕ
 txn_place c a = 1 + a % c.transaction_logs
 
+abbrev pub final_place : Config → ℕ → ℕ
+final_place c p = 1 + c.transaction_logs + p
+
 abbrev pub input_place : Config → ℕ → ℕ
-input_place c p = 1 + c.transaction_logs + p
+input_place c p = 1 + c.transaction_logs + final_count c + p
 
 abbrev pub output_place : Config → ℕ → ℕ
-output_place c p = 1 + c.transaction_logs + c.inputs + p
+output_place c p = 1 + c.transaction_logs + final_count c + c.inputs + p
 
 abbrev pub place_count : Config → ℕ
-place_count c = 1 + c.transaction_logs + c.inputs + c.outputs
+place_count c = 1 + c.transaction_logs + final_count c + c.inputs + c.outputs
+
+-- the partition of this number of the topic that an application writes
+abbrev pub written_place : Config → ℕ → ℕ → ℕ
+written_place c a p = if is_chained c a then final_place c p else output_place c p
 
 -- an odd partition of `out`
 abbrev pub is_odd_output : Config → ℕ → Bool
@@ -45,6 +71,9 @@ offsets_topic = codes "__consumer_offsets"
 abbrev pub transactions_topic : List ℕ
 transactions_topic = codes "__transaction_state"
 
+abbrev pub final_topic : List ℕ
+final_topic = codes "fin"
+
 abbrev pub input_topic : List ℕ
 input_topic = codes "in"
 
@@ -53,12 +82,20 @@ output_topic = codes "out"
 
 abbrev pub topic_of : Config → ℕ → List ℕ
 topic_of c p =
-    if p == 0 then offsets_topic else if nat_le p c.transaction_logs then transactions_topic else if nat_lt p (output_place c 0) then input_topic else output_topic
+    if p == 0 then offsets_topic
+    else if nat_le p c.transaction_logs then transactions_topic
+    else if nat_lt p (input_place c 0) then final_topic
+    else if nat_lt p (output_place c 0) then input_topic
+    else output_topic
 
 -- the number of a partition in its topic
 abbrev pub number_of : Config → ℕ → ℕ
 number_of c p =
-    if p == 0 then 0 else if nat_le p c.transaction_logs then p - 1 else if nat_lt p (output_place c 0) then p - input_place c 0 else p - output_place c 0
+    if p == 0 then 0
+    else if nat_le p c.transaction_logs then p - 1
+    else if nat_lt p (input_place c 0) then p - final_place c 0
+    else if nat_lt p (output_place c 0) then p - input_place c 0
+    else p - output_place c 0
 
 abbrev pub is_topic : List ℕ → List ℕ → Bool
 is_topic name topic = pointwise nat_eq name topic
@@ -68,9 +105,11 @@ abbrev pub is_partition : Config → List ℕ → ℕ → Bool
 is_partition c name number =
     is_topic name offsets_topic && number == 0
     || (is_topic name transactions_topic && nat_lt number c.transaction_logs
-    || (is_topic name input_topic && nat_lt number c.inputs || is_topic name output_topic && nat_lt number c.outputs))
+    || (is_topic name final_topic && nat_lt number (final_count c)
+    || (is_topic name input_topic && nat_lt number c.inputs || is_topic name output_topic && nat_lt number c.outputs)))
 
--- of two partitions that a transaction may write to, both are outputs, or both are the partition of the offsets
+-- of two partitions that a transaction may write to, both are of the topic that its group writes, or both are the partition
+-- of the offsets
 abbrev pub same_topic : ℕ → ℕ → Bool
 same_topic p q = same_bool (p == offsets_place) (q == offsets_place)
 

@@ -1,7 +1,7 @@
 -- Short schedules, with what is answered and what stands in the logs after them.
-use Rattle.std.specs.Prelude.{◌≡◌, pos, negsuc, List, [], ◌∷◌, Option, Some, None, drop}
+use Rattle.std.specs.Prelude.{◌≡◌, pos, negsuc, true, false, List, [], ◌∷◌, Option, Some, None, drop}
 use Rattle.eos_batch.specs.declared.marker.Kind.TheVariants.{Commit, Abort}
-use Rattle.eos_machine.specs.Places.{Config, input_topic, output_topic}
+use Rattle.eos_machine.specs.Places.{Config, final_topic, input_topic, output_topic}
 use Rattle.eos_machine.specs.World.{World, Claim, Event, Reply, Empty, Ongoing, Prepare, Complete, Fed, State, Output, Offset, Marker, opening, log_at}
 use Rattle.eos_machine.specs.declared.state.Message.TheVariants as messages
 use Rattle.eos_machine.specs.declared.event.Event.TheVariants as events
@@ -10,10 +10,14 @@ use Rattle.eos_machine.specs.Machine.{run, replies}
 
 -- two applications, two partitions of each topic of theirs; and one of everything
 abbrev pub pair : Config
-pair = record { applications = 2; inputs = 2; outputs = 2; transaction_logs = 1; segment_records = 16; batch_records = 1 }
+pair = record { applications = 2; inputs = 2; outputs = 2; transaction_logs = 1; segment_records = 16; batch_records = 1; chain = false }
 
 abbrev pub single : Config
-single = record { applications = 1; inputs = 1; outputs = 1; transaction_logs = 1; segment_records = 1; batch_records = 1 }
+single = record { applications = 1; inputs = 1; outputs = 1; transaction_logs = 1; segment_records = 1; batch_records = 1; chain = false }
+
+-- the first with a second group, whose application is number 2
+abbrev pub chained : Config
+chained = record { applications = 2; inputs = 2; outputs = 2; transaction_logs = 1; segment_records = 16; batch_records = 1; chain = true }
 
 -- the only output of the input at in-0:0
 abbrev pub claim : Option Claim
@@ -92,3 +96,24 @@ listing =
 pub record Lists : Type 0 where
   pub replies : Answers pair listing (Done 0 ∷ Done 0 ∷ Done 1 ∷ OutOfOrder ∷ Done 0 ∷ Done 2 ∷ Done 0 ∷ Done 3 ∷ Done 0 ∷ Done 1 ∷ Done 4 ∷ Done 5 ∷ [])
   pub markers : drop 5 (after pair listing).messages ≡ messages.Marker 0 1 Abort 4 ∷ messages.Marker 0 1 Abort 5 ∷ messages.Marker 0 1 Abort 0 ∷ []
+
+-- the second group reads a committed record of `out` and writes one of `fin`: each group has its own sources
+abbrev pub next_claim : Option Claim
+next_claim = Some (record { topic = output_topic; partition = pos 0; offset = pos 0; output = pos 1; of = pos 1 })
+
+abbrev pub chaining : List Event
+chaining =
+    events.Start 0 ∷ events.Produce 0 0 claim ∷ events.Deliver 0 ∷ events.End 0 Commit ∷ events.Deliver 1 ∷ events.Deliver 2
+    ∷ events.Start 2 ∷ events.Fetch 1 0 ∷ events.Fetch 1 2 ∷ events.Fetch 0 2 ∷ events.Fetch 1 4 ∷ events.Commit 0 2 (Some (pos 1)) ∷ events.Commit 1 1 (Some (pos 1))
+    ∷ events.Produce 1 0 next_claim ∷ events.Commit 1 2 (Some (pos 1)) ∷ events.Deliver 3 ∷ events.Deliver 4 ∷ events.End 1 Commit ∷ events.Deliver 5 ∷ events.Deliver 6 ∷ events.Deliver 7
+    ∷ events.Fetch 1 2 ∷ events.Start 3 ∷ events.BrokerRestart final_topic 1 ∷ events.BrokerRestart final_topic 2 ∷ []
+
+pub record Chains : Type 0 where
+  pub replies : Answers chained chaining
+      (Done 0 ∷ Done 0 ∷ Done 0 ∷ Done 1 ∷ Done 2 ∷ Done 1
+      ∷ Done 1 ∷ Unknown ∷ Done 0 ∷ Unknown ∷ Unknown ∷ Unknown ∷ Unknown
+      ∷ Done 3 ∷ Done 4 ∷ Done 0 ∷ Done 0 ∷ Done 5 ∷ Done 6 ∷ Done 1 ∷ Done 1
+      ∷ Done 1 ∷ Unknown ∷ Done 0 ∷ Unknown ∷ [])
+  pub output : log_at (after chained chaining) 6 ≡ Output 0 0 0 claim 1 2 ∷ Marker 0 1 Commit 5 ∷ []
+  pub final : log_at (after chained chaining) 2 ≡ Output 2 0 0 next_claim 13 15 ∷ Marker 2 1 Commit 19 ∷ []
+  pub offsets : log_at (after chained chaining) 0 ≡ Offset 2 0 2 (Some 1) 16 ∷ Marker 2 1 Commit 20 ∷ []

@@ -1,8 +1,8 @@
--- What a session asks: its requests become messages (KIP-98, "Data flow"; KIP-447, the group's generation).
+-- What a session asks: its requests become messages (KIP-98, "Data flow"; KIP-447, the group's generation, which is one for both groups).
 use Rattle.std.specs.Prelude.{ℕ, ◌+◌, ◌==◌, nat_lt, ℤ, pos, negsuc, Bool, false, not, ◌&&◌, ◌||◌, List, [], ◌∷◌, ◌++◌, length, replicate, slice_get, slice_index_or, slice_set, Option, Some, None}
 use Rattle.std.specs.List.{list_any}
 use Rattle.eos_batch.specs.declared.marker.Kind.{Kind}
-use Rattle.eos_machine.specs.Places.{Config, offsets_place}
+use Rattle.eos_machine.specs.Places.{Config, offsets_place, is_source}
 use Rattle.eos_machine.specs.World.{World, Claim, Session, Message, coord_at, log_at, with_messages, with_sessions}
 use Rattle.eos_machine.specs.declared.state.Message.TheVariants as messages
 use Rattle.eos_machine.specs.Logs.{has_open_commit, committed_offset}
@@ -52,7 +52,7 @@ produce c w n p x (Some s) =
 abbrev pub commit_offset : Config → World → ℕ → ℕ → Option ℕ → Option Session → Answer
 commit_offset c w n q v None = (w, Unknown)
 commit_offset c w n q v (Some s) =
-    when (not (nat_lt q c.inputs)) (w, Unknown) (
+    when (not (is_source c s.application q)) (w, Unknown) (
     when (not (is_active s.ending)) (w, WrongState) (
     (sent w n (after_offset s (length w.messages)) (messages.Offset s.application s.epoch s.generation q v), Done (length w.messages))))
 
@@ -87,7 +87,7 @@ resume c w n (Some s) = resume_ended c w n s s.ending
 abbrev pub fetch : Config → World → ℕ → Option Session → Answer
 fetch c w q None = (w, Unknown)
 fetch c w q (Some s) =
-    when (not (nat_lt q c.inputs)) (w, Unknown) (
+    when (not (is_source c s.application q)) (w, Unknown) (
     when (not (s.generation == w.generation)) (w, StaleGeneration) (
     when (has_open_commit q (log_at w offsets_place)) (w, Busy) (
     (w, Done (committed_offset q (log_at w offsets_place))))))

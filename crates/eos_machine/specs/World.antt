@@ -3,7 +3,7 @@ use Rattle.std.specs.Prelude.{ℕ, ◌+◌, Bool, true, false, not, List, [], �
 use Rattle.std.specs.List.{filter}
 use Rattle.eos_batch.specs.declared.marker.Kind.{Kind}
 use Rattle.eos_machine.specs.declared.switches.Switches.{Switches}
-use Rattle.eos_machine.specs.Places.{Config, txn_place, place_count, is_odd_output}
+use Rattle.eos_machine.specs.Places.{Config, application_count, txn_place, place_count, is_odd_output}
 pub use Rattle.eos_machine.specs.declared.item.Claim.{Claim}
 pub use Rattle.eos_machine.specs.declared.item.Status.{Status}
 pub use Rattle.eos_machine.specs.declared.item.Status.TheVariants.{Empty, Ongoing, Prepare, Complete}
@@ -27,7 +27,7 @@ pub record World : Type 0 where
   -- for each message, whether a broker has accepted it
   pub accepted : List Bool
   pub sessions : List Session
-  -- how often the members of the group have changed
+  -- how often the members of both groups have changed
   pub generation : ℕ
   -- how many events were taken
   pub events : ℕ
@@ -39,7 +39,7 @@ fresh = record { started = false; status = Empty; epoch = 0; partitions = []; aw
 abbrev pub opening : Config → World
 opening c = record {
   logs = replicate (place_count c) [];
-  coordinators = replicate c.applications fresh;
+  coordinators = replicate (application_count c) fresh;
   messages = [];
   accepted = [];
   sessions = [];

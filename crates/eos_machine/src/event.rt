@@ -16,14 +16,15 @@ pub enum Event {
     Start {
         application: usize,
     },
-    /// A session sends a record to a partition of `out`, without headers where it has no claim.
+    /// A session sends a record to a partition of the topic that its group writes, without headers where it has no claim.
     Produce {
         session: usize,
         partition: usize,
         claim: Option<Claim>,
     },
-    /// A session sends an offset of a partition of `in`, to be committed with its transaction; without one the offset that
-    /// the group has there is to be deleted.
+    /// A session sends an offset of a source of its group, to be committed with its transaction; without one the offset
+    /// that the group has there is to be deleted. The sources are the partitions of `in`, which the first group reads, and
+    /// after them those of `out`, which the second reads.
     Commit {
         session: usize,
         source: usize,
@@ -38,12 +39,12 @@ pub enum Event {
     Resume {
         session: usize,
     },
-    /// A session asks for the committed offset of a partition of `in`.
+    /// A session asks for the committed offset of a source of its group.
     Fetch {
         session: usize,
         source: usize,
     },
-    /// The members of the group change.
+    /// The members of both groups change.
     Members,
     /// The broker of a partition restarts.
     BrokerRestart {
@@ -73,7 +74,7 @@ pub enum Reply {
     WrongState,
     /// A transaction is still ending.
     Busy,
-    /// The session began under another generation of the group.
+    /// The session began under another generation of its group.
     StaleGeneration,
     /// There is no higher producer epoch.
     EpochsSpent,

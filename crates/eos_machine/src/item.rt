@@ -50,7 +50,7 @@ pub enum Item {
         entry: Entry,
         event: u64,
     },
-    /// A transactional record of `out`. Its value is the number of the event that produced it; without a claim it has no
+    /// A transactional record of `out` or `fin`. Its value is the number of the event that produced it; without a claim it has no
     /// headers.
     Output {
         application: usize,
@@ -60,7 +60,7 @@ pub enum Item {
         value: u64,
         event: u64,
     },
-    /// A transactional commit of the group's offset in a partition of `in`; without an offset it has no value, and deletes
+    /// A transactional commit of a group's offset in its source; without an offset it has no value, and deletes
     /// the group's.
     Offset {
         application: usize,

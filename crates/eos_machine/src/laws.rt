@@ -11,7 +11,7 @@ ghost use Rattle.eos_machine.specs.Switching.{none};
 ghost use Rattle.eos_machine.specs.Formed.{IsFormed};
 ghost use Rattle.eos_machine.specs.Machine.{run, run_under};
 ghost use Rattle.eos_machine.specs.Rest.{KeepsSequences, NeighboursFit, StepsFit, IsAtRest, AllAtomic};
-ghost use Rattle.eos_machine.specs.Runs.{Commits, Restarts, Fences, Fetches, Omits, Lists};
+ghost use Rattle.eos_machine.specs.Runs.{Commits, Restarts, Fences, Fetches, Omits, Lists, Chains};
 ghost use Rattle.eos_machine.specs.SwitchedRuns.{Breaks, all_under};
 
 /// At any time no fault of a sequence or of an epoch stands at any batch: none of the kinds FirstSequence, Sequence,
@@ -62,6 +62,7 @@ pub fn schedules()
     ensures fetches { Fetches }
     ensures omits { Omits }
     ensures lists { Lists }
+    ensures chains { Chains }
 {}
 
 /// Each switch breaks its rule: a short schedule for each, with its replies and logs, computed from the definitions.

@@ -1,6 +1,6 @@
 //! A simulated cluster as a machine: what its members hold, what may happen to it, and what it answers, by definitions
-//! that the cluster's code is proved against; and the theorem on every schedule, over these definitions alone. No code of
-//! the cluster stands here.
+//! that the cluster's code is proved against; and the theorem on every schedule, over these definitions alone. Of code
+//! only what sizes and switches say stands here.
 #![tactic(auto)]
 
 mod config;

@@ -32,11 +32,11 @@ pub struct Producer {
 pub struct Session {
     pub application: usize,
     pub epoch: u16,
-    /// The generation of the group when the session began.
+    /// The generation of the groups when the session began.
     pub generation: u64,
     /// How the session asked its transaction to end, where it did: it isn't active then.
     pub ending: Option<Kind>,
-    /// The next sequence of each partition of `out`.
+    /// The next sequence of each partition of the topic that the group writes.
     pub sequences: Listed<u32>,
     /// The data and offset messages of the transaction.
     pub messages: Listed<u64>,
@@ -45,7 +45,7 @@ pub struct Session {
 /// A request on its way.
 #[derive(Debug, Drop)]
 pub enum Message {
-    /// A record for a partition of `out`; without a claim it has no headers.
+    /// A record for a partition of the topic that the application's group writes; without a claim it has no headers.
     Output {
         application: usize,
         epoch: u16,
@@ -54,7 +54,7 @@ pub enum Message {
         claim: Option<Claim>,
         value: u64,
     },
-    /// An offset of a partition of `in`, to be committed, or none, which is to delete it.
+    /// An offset of a source of the group, to be committed, or none, which is to delete it.
     Offset {
         application: usize,
         epoch: u16,

@@ -1,4 +1,4 @@
-use Rattle.eos_machine.proofs.Computed.{commits, restarts, fences, fetches, omits, lists}
+use Rattle.eos_machine.proofs.Computed.{commits, restarts, fences, fetches, omits, lists, chains}
 use Rattle.eos_machine.proofs.laws.schedules.Goals as goal
 
 pub returns-clause-commits : goal.returns-clause-commits
@@ -18,3 +18,6 @@ returns-clause-omits c = omits
 
 pub returns-clause-lists : goal.returns-clause-lists
 returns-clause-lists c = lists
+
+pub returns-clause-chains : goal.returns-clause-chains
+returns-clause-chains c = chains
