@@ -8,6 +8,7 @@ use Rattle.eos_machine.specs.declared.state.Session.{Session}
 use Rattle.eos_machine.specs.declared.state.Message.{Message}
 use Rattle.eos_machine.specs.declared.event.Event.{Event}
 use Rattle.eos_machine.specs.declared.event.Event.TheVariants as events
+use Rattle.eos_machine.specs.Places.{application_count}
 pub use Rattle.eos_machine.specs.Formed.{Names}
 use Rattle.eos_machine.specs.World.{World, coord_at}
 
@@ -40,4 +41,4 @@ Needs c w (events.Fetch n q) = ⊤
 Needs c w events.Members = w.generation < 2 ^ 31
 Needs c w (events.BrokerRestart t p) = ⊤
 Needs c w events.CoordinatorRestart = ⊤
-Needs c w (events.Deliver n) = IsNamed c (slice_get w.messages n) × (length w.coordinators ≡ c.applications) × ((a : ℕ) → (coord_at w a).epoch ≤ 32767)
+Needs c w (events.Deliver n) = IsNamed c (slice_get w.messages n) × (length w.coordinators ≡ application_count c) × ((a : ℕ) → (coord_at w a).epoch ≤ 32767)

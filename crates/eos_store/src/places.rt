@@ -1,7 +1,7 @@
 //! The places of partitions in a cluster's list of logs.
 
-ghost use Rattle.std.specs.Prelude.{◌≡◌, ◌==◌, ◌↔◌, ◌&&◌, ◌||◌, ◌<◌, ◌+◌, ◌%◌, ℕ, true, nat_lt};
-ghost use Rattle.eos_machine.specs.Places.{IsConfig, txn_place, input_place, output_place, place_count, topic_of, number_of, is_odd_output, is_partition, is_topic, offsets_topic, transactions_topic, input_topic, output_topic};
+ghost use Rattle.std.specs.Prelude.{◌≡◌, ◌==◌, ◌↔◌, ◌&&◌, ◌||◌, ◌<◌, ◌+◌, ◌%◌, ℕ, true, nat_le, nat_lt};
+ghost use Rattle.eos_machine.specs.Places.{IsConfig, final_count, is_source, txn_place, final_place, input_place, output_place, written_place, place_count, topic_of, number_of, is_odd_output, is_partition, is_topic, offsets_topic, transactions_topic, final_topic, input_topic, output_topic};
 
 use bytes::Bytes;
 use eos_machine::Config;
@@ -17,13 +17,22 @@ pub fn txn_place(config: Config, application: usize) -> usize
     1 + application % config.transaction_logs
 }
 
+/// The place of a partition of `fin`.
+fn final_place(config: Config, partition: usize) -> usize
+    requires config { IsConfig config }
+    requires partition { partition < config.outputs }
+    ensures { result ≡ final_place config partition }
+{
+    1 + config.transaction_logs + partition
+}
+
 /// The place of a partition of `in`.
 pub fn input_place(config: Config, partition: usize) -> usize
     requires config { IsConfig config }
     requires partition { partition < config.inputs }
     ensures { result ≡ input_place config partition }
 {
-    1 + config.transaction_logs + partition
+    1 + config.transaction_logs + config.final_count() + partition
 }
 
 /// The place of a partition of `out`.
@@ -32,7 +41,32 @@ pub fn output_place(config: Config, partition: usize) -> usize
     requires partition { partition < config.outputs }
     ensures { result ≡ output_place config partition }
 {
-    1 + config.transaction_logs + config.inputs + partition
+    1 + config.transaction_logs + config.final_count() + config.inputs + partition
+}
+
+/// The place of a partition of the topic that an application writes.
+pub fn written_place(config: Config, application: usize, partition: usize) -> usize
+    requires config { IsConfig config }
+    requires partition { partition < config.outputs }
+    ensures { result ≡ written_place config application partition }
+{
+    if config.is_chained(application) {
+        final_place(config, partition)
+    } else {
+        output_place(config, partition)
+    }
+}
+
+/// Whether a source is one of an application's group: a partition of `in`, or after them one of `out`.
+pub fn is_source(config: Config, application: usize, source: usize) -> bool
+    requires { IsConfig config }
+    ensures { result ≡ is_source config application source }
+{
+    if config.is_chained(application) {
+        config.inputs <= source && source < config.inputs + config.outputs
+    } else {
+        source < config.inputs
+    }
 }
 
 fn is_offsets_partition(topic: &Bytes, number: usize) -> bool
@@ -45,6 +79,13 @@ fn is_transactions_partition(config: Config, topic: &Bytes, number: usize) -> bo
     ensures { result ≡ (is_topic topic.now transactions_topic && nat_lt number config.transaction_logs) }
 {
     topic.as_slice() == b"__transaction_state".as_slice() && number < config.transaction_logs
+}
+
+fn is_final_partition(config: Config, topic: &Bytes, number: usize) -> bool
+    requires { IsConfig config }
+    ensures { result ≡ (is_topic topic.now final_topic && nat_lt number (final_count config)) }
+{
+    topic.as_slice() == b"fin".as_slice() && number < config.final_count()
 }
 
 fn is_input_partition(config: Config, topic: &Bytes, number: usize) -> bool
@@ -61,12 +102,14 @@ fn is_output_partition(config: Config, topic: &Bytes, number: usize) -> bool
 
 /// Whether there is such a partition.
 pub fn is_partition(config: Config, topic: &Bytes, number: usize) -> bool
+    requires { IsConfig config }
     ensures { result ≡ is_partition config topic.now number }
 {
     is_offsets_partition(topic, number)
         || (is_transactions_partition(config, topic, number)
-            || (is_input_partition(config, topic, number)
-                || is_output_partition(config, topic, number)))
+            || (is_final_partition(config, topic, number)
+                || (is_input_partition(config, topic, number)
+                    || is_output_partition(config, topic, number))))
 }
 
 /// The place of the first partition of a topic that there is: those of its other partitions come after it, by number.
@@ -78,8 +121,10 @@ pub fn start_of(config: Config, topic: &Bytes) -> usize
         OFFSETS_PLACE
     } else if topic.as_slice() == b"__transaction_state".as_slice() {
         1
+    } else if topic.as_slice() == b"fin".as_slice() {
+        final_place(config, 0)
     } else if topic.as_slice() == b"in".as_slice() {
-        1 + config.transaction_logs
+        input_place(config, 0)
     } else {
         output_place(config, 0)
     }

@@ -3,7 +3,7 @@
 
 ghost use Rattle.std.specs.Prelude.{◌≡◌, ◌∷◌, ◌++◌, ◌-◌, ◌+◌, ◌≤◌, ◌<◌, ◌^◌, [], OnOk, OnErr, IfOk, replicate};
 ghost use Rattle.std.specs.List.{All};
-ghost use Rattle.eos_machine.specs.Places.{IsConfig};
+ghost use Rattle.eos_machine.specs.Places.{IsConfig, application_count};
 ghost use Rattle.eos_machine.specs.World.{opening, fresh, log_at, with_item, with_generation};
 ghost use Rattle.eos_machine.specs.Logs.{producer_at, unseen};
 ghost use Rattle.eos_store.specs.Named.{IsFrom};
@@ -37,7 +37,7 @@ pub struct Store {
 
 impl Model for Store {
     ghost use Rattle.std.specs.List.{All};
-    ghost use Rattle.eos_machine.specs.Places.{IsConfig};
+    ghost use Rattle.eos_machine.specs.Places.{IsConfig, application_count};
     ghost use Rattle.eos_store.specs.Held.{Held, HasRoom, IsKeptFor, items_of};
 
     ghost Value = { Held };
@@ -57,7 +57,7 @@ impl Model for Store {
     } };
 
     ghost invariant = { λ s. IsConfig s.config
-        × All (IsKeptFor s.config.applications s.spare) s.logs.items
+        × All (IsKeptFor (application_count s.config) s.spare) s.logs.items
         × HasRoom s.spare s.messages
         × HasRoom s.spare s.accepted
         × HasRoom s.spare s.sessions };
@@ -129,10 +129,15 @@ impl Store {
         requires { IsConfig config }
         ensures { IfOk result (λ s. s ≡ record { config = config; world = opening config; spare = 0 }) }
     {
-        let places = 1 + config.transaction_logs + config.inputs + config.outputs;
-        let logs = empty_logs(alloc, places, config.applications)?;
+        let applications = config.application_count();
+        let places = 1
+            + config.transaction_logs
+            + config.final_count()
+            + config.inputs
+            + config.outputs;
+        let logs = empty_logs(alloc, places, applications)?;
         let mut coordinators = Vec::new(alloc);
-        for _ in 0..config.applications {
+        for _ in 0..applications {
             coordinators.push(fresh(alloc))?;
         }
         Ok(Store {
@@ -156,7 +161,7 @@ impl Store {
         ensures config { self.new.config ≡ self.old.config }
     {
         self.spare = 0;
-        reserve_each(&mut self.logs, self.config.applications, wanted)?;
+        reserve_each(&mut self.logs, self.config.application_count(), wanted)?;
         self.messages.reserve(wanted)?;
         self.accepted.reserve(wanted)?;
         self.sessions.reserve(wanted)?;
@@ -199,7 +204,7 @@ impl Store {
         self.events = events;
     }
 
-    /// How often the members of the group have changed.
+    /// How often the members of both groups have changed.
     pub fn generation(&self) -> u64
         ensures { result ≡ self.now.world.generation }
     {
@@ -215,7 +220,7 @@ impl Store {
     /// The items of the log at a place.
     pub fn log(&self, place: usize) -> &[Item]
         ensures items { result.now ≡ log_at self.now.world place }
-        ensures from { All (IsFrom self.now.config.applications) result.now }
+        ensures from { All (IsFrom (application_count self.now.config)) result.now }
     {
         match self.logs.get(place) {
             Some(log) => log.as_slice(),
@@ -225,7 +230,7 @@ impl Store {
 
     /// What a broker holds of an application's producer id.
     pub fn producer(&self, application: usize, place: usize) -> Producer
-        requires { application < self.now.config.applications }
+        requires { application < application_count self.now.config }
         ensures { result ≡ producer_at self.now.world application place }
     {
         match self.logs.get(place) {
@@ -237,7 +242,7 @@ impl Store {
     /// Appends to the log at a place.
     pub fn put(&mut self, place: usize, item: Item)
         requires room { 1 ≤ self.old.spare }
-        requires from { IsFrom self.old.config.applications item }
+        requires from { IsFrom (application_count self.old.config) item }
         ensures { self.new ≡ becomes self.old (with_item self.old.world place item) 1 }
     {
         self.spare -= 1;

@@ -17,7 +17,7 @@ use eos_machine::Session;
 use std::alloc::{AllocError, Global};
 use std::mem;
 
-/// The next sequence of a session in a partition of `out`.
+/// The next sequence of a session in a partition that it writes.
 pub fn sequence_of(session: &Session, partition: usize) -> u32
     ensures { result ≡ sequence_of session.now partition }
 {
