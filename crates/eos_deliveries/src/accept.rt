@@ -1,6 +1,7 @@
 //! Data that a broker appends: to its transaction, or alone.
 
 ghost use Rattle.std.specs.Prelude.{◌≡◌, ◌+◌, ◌≤◌, OnOk, OnErr, IfOk};
+ghost use Rattle.eos_machine.specs.Places.{application_count};
 ghost use Rattle.eos_machine.specs.Deliveries.{with_partition};
 ghost use Rattle.eos_deliveries.specs.steps.Taken.{fence, taken, IsFromIf};
 
@@ -66,7 +67,7 @@ pub(crate) fn take_in(
     request: Request,
     arrival: Result<Arrival, Reply>,
 ) -> Result<Reply, AllocError>
-    requires { IfOk arrival (IsFromIf store.old.config.applications) }
+    requires { IfOk arrival (IsFromIf (application_count store.old.config)) }
     ensures ok { IfOk result (λ r. (store.new.world, r) ≡ taken switches store.old.config store.old.world request arrival) }
     ensures err { OnErr result (store.new.world ≡ store.old.world) }
     ensures config { store.new.config ≡ store.old.config }

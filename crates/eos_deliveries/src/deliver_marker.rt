@@ -1,7 +1,7 @@
 //! An end marker arrives at a broker.
 
 ghost use Rattle.std.specs.Prelude.{◌≡◌, ◌==◌, ◌&&◌, ◌||◌, ◌+◌, ◌-◌, ◌≤◌, ◌<◌, [], length, OnOk, OnErr, IfOk};
-ghost use Rattle.eos_machine.specs.Places.{IsConfig};
+ghost use Rattle.eos_machine.specs.Places.{application_count, IsConfig};
 ghost use Rattle.eos_machine.specs.World.{coord_at};
 ghost use Rattle.eos_machine.specs.Logs.{producer_at};
 ghost use Rattle.eos_machine.specs.Rules.{is_marker_fenced, marker_epoch, marker_kind, marker_of, other_kind};
@@ -25,7 +25,7 @@ fn is_marker_fenced(
     epoch: u16,
     place: usize,
 ) -> bool
-    requires { application < store.now.config.applications }
+    requires { application < application_count store.now.config }
     ensures { result ≡ is_marker_fenced switches (producer_at store.now.world application place) epoch }
 {
     if switches.no_bump {
@@ -154,7 +154,7 @@ pub(crate) fn deliver_marker(
     kind: Kind,
     place: usize,
 ) -> Result<Reply, AllocError>
-    requires named { application < store.old.config.applications }
+    requires named { application < application_count store.old.config }
     requires there { application < length store.old.world.coordinators }
     ensures ok { IfOk result (λ r. (store.new.world, r) ≡ deliver_marker switches store.old.config store.old.world application epoch kind place) }
     ensures err { OnErr result (store.new.world ≡ store.old.world) }

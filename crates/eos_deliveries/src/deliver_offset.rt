@@ -1,7 +1,7 @@
 //! An offset arrives at the broker of the offsets, and its transaction at the coordinator.
 
 ghost use Rattle.std.specs.Prelude.{◌≡◌, ℕ, ◌<◌, Option, IfOk};
-ghost use Rattle.eos_machine.specs.Places.{offsets_place};
+ghost use Rattle.eos_machine.specs.Places.{application_count, offsets_place};
 ghost use Rattle.eos_machine.specs.declared.item.Item.TheVariants.{Offset};
 ghost use Rattle.eos_machine.specs.Rules.{is_stale};
 ghost use Rattle.eos_machine.specs.Deliveries.{deliver_offset};
@@ -28,7 +28,7 @@ fn judge_offset(
     request: Request,
     generation: u64,
 ) -> Result<bool, Reply>
-    requires application { request.application < store.now.config.applications }
+    requires application { request.application < application_count store.now.config }
     requires place { request.place ≡ offsets_place }
     ensures { (q : ℕ) (v : Option ℕ) → deliver_offset switches store.now.config store.now.world request.number request.application request.epoch generation q v
         ≡ judged switches store.now.config store.now.world request (Offset request.application request.epoch q v store.now.world.events) result }
@@ -66,9 +66,9 @@ pub(crate) fn offset_arrival(
     source: usize,
     offset: Option<u64>,
 ) -> Result<Arrival, Reply>
-    requires application { request.application < store.now.config.applications }
+    requires application { request.application < application_count store.now.config }
     requires place { request.place ≡ offsets_place }
-    ensures from { IfOk result (IsFromIf store.now.config.applications) }
+    ensures from { IfOk result (IsFromIf (application_count store.now.config)) }
     ensures answer { deliver_offset switches store.now.config store.now.world request.number request.application request.epoch generation source offset
         ≡ taken switches store.now.config store.now.world request result }
 {

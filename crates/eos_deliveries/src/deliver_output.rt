@@ -1,6 +1,7 @@
 //! A record arrives at a broker, and its transaction at the coordinator.
 
 ghost use Rattle.std.specs.Prelude.{◌≡◌, ℕ, ◌<◌, Option, IfOk};
+ghost use Rattle.eos_machine.specs.Places.{application_count};
 ghost use Rattle.eos_machine.specs.declared.item.Item.TheVariants.{Output};
 ghost use Rattle.eos_machine.specs.declared.item.Claim.{Claim};
 ghost use Rattle.eos_machine.specs.declared.state.Producer.{Producer};
@@ -45,7 +46,7 @@ fn judge_output(
     request: Request,
     sequence: u32,
 ) -> Result<bool, Reply>
-    requires { request.application < store.now.config.applications }
+    requires { request.application < application_count store.now.config }
     ensures { (x : Option Claim) (v : ℕ) → deliver_output switches store.now.config store.now.world request.number request.application request.epoch request.place sequence x v
         ≡ judged switches store.now.config store.now.world request (Output request.application request.epoch sequence x v store.now.world.events) result }
 {
@@ -83,8 +84,8 @@ pub(crate) fn output_arrival(
     claim: &Option<Claim>,
     value: u64,
 ) -> Result<Result<Arrival, Reply>, AllocError>
-    requires { request.application < store.now.config.applications }
-    ensures from { IfOk result (λ r. IfOk r (IsFromIf store.now.config.applications)) }
+    requires { request.application < application_count store.now.config }
+    ensures from { IfOk result (λ r. IfOk r (IsFromIf (application_count store.now.config))) }
     ensures answer { IfOk result (λ r. deliver_output switches store.now.config store.now.world request.number request.application request.epoch request.place sequence claim.now value
         ≡ taken switches store.now.config store.now.world request r) }
 {

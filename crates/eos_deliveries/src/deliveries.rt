@@ -1,6 +1,7 @@
 //! A message arrives.
 
 ghost use Rattle.std.specs.Prelude.{◌≡◌, ℕ, ◌≤◌, ◌<◌, length, slice_get, OnErr, IfOk};
+ghost use Rattle.eos_machine.specs.Places.{application_count};
 ghost use Rattle.eos_machine.specs.World.{coord_at};
 ghost use Rattle.eos_machine.specs.Deliveries.{deliver};
 ghost use Rattle.eos_store.specs.Named.{IsNamed};
@@ -12,13 +13,13 @@ use crate::deliver_offset::offset_arrival;
 use crate::deliver_output::output_arrival;
 use eos_machine::{Message, Reply, Switches};
 use eos_store::Store;
-use eos_store::places::{OFFSETS_PLACE, output_place};
+use eos_store::places::{OFFSETS_PLACE, written_place};
 use std::alloc::AllocError;
 
 /// A message arrives.
 pub fn deliver(store: &mut Store, switches: Switches, number: u64) -> Result<Reply, AllocError>
     requires named { IsNamed store.old.config (slice_get store.old.world.messages number) }
-    requires coordinators { length store.old.world.coordinators ≡ store.old.config.applications }
+    requires coordinators { length store.old.world.coordinators ≡ application_count store.old.config }
     requires epochs { (a : ℕ) → (coord_at store.old.world a).epoch ≤ 32767 }
     ensures ok { IfOk result (λ r. (store.new.world, r) ≡ deliver switches store.old.config store.old.world number (slice_get store.old.world.messages number)) }
     ensures err { OnErr result (store.new.world ≡ store.old.world) }
@@ -40,7 +41,7 @@ pub fn deliver(store: &mut Store, switches: Switches, number: u64) -> Result<Rep
                 number,
                 application: *application,
                 epoch: *epoch,
-                place: output_place(store.config(), *partition),
+                place: written_place(store.config(), *application, *partition),
             };
             let arrival = output_arrival(store, switches, request, *sequence, claim, *value)?;
             take_in(store, switches, request, arrival)

@@ -1,8 +1,8 @@
-//! What a session fetches: the offset that its group has committed for a partition of `in`.
+//! What a session fetches: the offset that its group has committed for a source.
 
 ghost use Rattle.std.specs.Prelude.{◌≡◌, ◌∷◌, ◌<◌, true, List, None, length, replicate, slice_get, slice_index_or, vec_len, IfOk};
 ghost use Rattle.eos_machine.specs.declared.item.Item.{Item};
-ghost use Rattle.eos_machine.specs.Places.{offsets_place};
+ghost use Rattle.eos_machine.specs.Places.{application_count, offsets_place};
 ghost use Rattle.eos_machine.specs.World.{log_at};
 ghost use Rattle.eos_machine.specs.Logs.{begins_at};
 ghost use Rattle.eos_machine.specs.Sessions.{fetch};
@@ -12,10 +12,10 @@ ghost use Rattle.eos_store.specs.Named.{IsFrom};
 use eos_batch::Kind;
 use eos_machine::{Item, Reply};
 use eos_store::Store;
-use eos_store::places::OFFSETS_PLACE;
+use eos_store::places::{OFFSETS_PLACE, is_source};
 use std::alloc::{AllocError, Global};
 
-/// What the log of the offsets says of a partition of `in`.
+/// What the log of the offsets says of a source.
 #[derive(Clone, Copy, Debug, PartialEq, Eq)]
 struct Fetched {
     /// Whether an open transaction holds a commit for it.
@@ -105,12 +105,12 @@ fn note_commit(fetched: Fetched, item: &Item, source: usize, ends: &[Option<Kind
 /// Whether nothing further back can change what was found: a commit was, and the next marker of each application that has
 /// any data there.
 fn is_settled(store: &Store, fetched: Fetched, ends: &[Option<Kind>]) -> bool
-    ensures { result ≡ true → IsSettled store.now.config.applications store.now.world fetched ends.now }
+    ensures { result ≡ true → IsSettled (application_count store.now.config) store.now.world fetched ends.now }
 {
     if fetched.committed.is_none() {
         return false;
     }
-    for application in 0..store.config().applications {
+    for application in 0..store.config().application_count() {
         if next_end(ends, application).is_none()
             && store.producer(application, OFFSETS_PLACE).last.is_some()
         {
@@ -125,7 +125,7 @@ fn read_back(store: &Store, source: usize) -> Result<Fetched, AllocError>
     ensures { IfOk result (λ f. IsFetched source f (log_at store.now.world offsets_place)) }
 {
     let log = store.log(OFFSETS_PLACE);
-    let mut ends = no_ends(store.alloc(), store.config().applications)?;
+    let mut ends = no_ends(store.alloc(), store.config().application_count())?;
     let mut fetched = Fetched {
         is_open: false,
         committed: None,
@@ -141,7 +141,7 @@ fn read_back(store: &Store, source: usize) -> Result<Fetched, AllocError>
     Ok(fetched)
 }
 
-/// A session asks for the committed offset of a partition of `in`.
+/// A session asks for the committed offset of a source of its group.
 #[tactic(auto, unfolding(eos_machine::specs::Answers::when))]
 pub fn fetch(store: &Store, number: usize, source: usize) -> Result<Reply, AllocError>
     ensures { IfOk result (λ r. (store.now.world, r) ≡ fetch store.now.config store.now.world source (slice_get store.now.world.sessions number)) }
@@ -150,7 +150,7 @@ pub fn fetch(store: &Store, number: usize, source: usize) -> Result<Reply, Alloc
     let Some(session) = store.session(number) else {
         return Ok(Reply::Unknown);
     };
-    if source >= config.inputs {
+    if !is_source(config, session.application, source) {
         return Ok(Reply::Unknown);
     }
     if session.generation != store.generation() {

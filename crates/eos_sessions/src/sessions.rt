@@ -11,6 +11,7 @@ use crate::starts::LAST_EPOCH;
 use eos_batch::Kind;
 use eos_machine::{Claim, Config, Message, Reply, Session};
 use eos_store::answers::{is_commit, is_complete, is_next, is_prepare};
+use eos_store::places::is_source;
 use eos_store::{Store, copies, sequence_of};
 use std::alloc::AllocError;
 
@@ -62,7 +63,7 @@ fn is_end_refused(store: &Store, session: &Session, kind: Kind) -> bool
     is_commit(kind) && misses_one(store, session.messages.as_slice())
 }
 
-/// A session sends a record to a partition of `out`.
+/// A session sends a record to a partition of the topic that its group writes.
 #[tactic(auto, unfolding(eos_machine::specs::Answers::when))]
 pub fn produce(
     store: &mut Store,
@@ -114,7 +115,7 @@ fn commit_offset(
     let Some(session) = store.session(number) else {
         return Ok(Reply::Unknown);
     };
-    if source >= config.inputs {
+    if !is_source(config, session.application, source) {
         return Ok(Reply::Unknown);
     }
     if !is_active(session) {
@@ -134,7 +135,7 @@ fn commit_offset(
     Ok(Reply::Done(place))
 }
 
-/// A session sends an offset of a partition of `in`, or that it is to be deleted.
+/// A session sends an offset of a source of its group, or that it is to be deleted.
 pub fn commit(
     store: &mut Store,
     number: usize,

@@ -99,7 +99,7 @@ pub fn start(store: &mut Store, switches: Switches, application: usize) -> Resul
     ensures config { store.new.config ≡ store.old.config }
 {
     let config = store.config();
-    if application >= config.applications {
+    if application >= config.application_count() {
         return Ok(Reply::Unknown);
     }
     let status = store.status(application);

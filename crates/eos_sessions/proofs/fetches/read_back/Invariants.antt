@@ -1,4 +1,5 @@
 use Rattle.std.proofs.Common.{◌≡◌, drop, vec_len}
+use Rattle.eos_machine.specs.Places.{application_count}
 use Rattle.eos_sessions.specs.Fetching.{AreEnds, IsFetched}
 use Rattle.eos_sessions.proofs.fetches.read_back.Given as goal
 
@@ -6,4 +7,4 @@ abbrev pub invariant-loop-i : goal.invariant-loop-i
 invariant-loop-i l =
     IsFetched l.source l.fetched (drop l.i l.log)
     × AreEnds l.ends.items (drop l.i l.log)
-    × (vec_len l.ends ≡ l.store.config.applications)
+    × (vec_len l.ends ≡ application_count l.store.config)
