@@ -9,32 +9,35 @@ use Rattle.std.proofs.lemmas.Bool.{and_from}
 use Rattle.eos_evidence.specs.declared.ends.End.{End}
 use Rattle.eos_evidence.specs.Topics.{is_topic}
 use Rattle.eos_evidence.specs.Ends.{end_cmp, is_within, is_legal_end, are_apart, insert_end, ordered}
-use Rattle.eos_evidence.specs.Parts.{Parts, accepted}
+use Rattle.eos_evidence.specs.Parts.{Parts, are_legal_apps, accepted}
 use Rattle.eos_machine.specs.declared.config.Config.{Config}
-use Rattle.eos_machine.specs.Places.{IsConfig, place_count, offsets_topic, transactions_topic, input_topic, output_topic, input_place, output_place, topic_of, number_of}
+use Rattle.eos_machine.specs.Places.{IsConfig, place_count, offsets_topic, transactions_topic, final_topic, input_topic, output_topic, final_place, input_place, output_place, topic_of, number_of}
 use Rattle.eos_machine.specs.World.{World, log_at}
-use Rattle.eos_logs.specs.Evidences.{end_of, parts_of}
+use Rattle.eos_machine.proofs.Written.{few_finals}
+use Rattle.eos_logs.specs.Evidences.{application, second_application, groups_of, end_of, parts_of}
 use Rattle.eos_logs.proofs.PlaceNames.{ends_rise}
 
 -- ---- each end is legal
 
 legal_topic : (c : Config) (p : ℕ) → is_topic (topic_of c p) ≡ true
-legal_topic c p = by (p == 0) (nat_le p c.transaction_logs) (nat_lt p (output_place c 0))
+legal_topic c p = by (p == 0) (nat_le p c.transaction_logs) (nat_lt p (input_place c 0)) (nat_lt p (output_place c 0))
   where
-    by : (x y z : Bool) → is_topic (if x then offsets_topic else if y then transactions_topic else if z then input_topic else output_topic) ≡ true
-    by true y z = refl
-    by false true z = refl
-    by false false true = refl
-    by false false false = refl
+    by : (x y f z : Bool) → is_topic (if x then offsets_topic else if y then transactions_topic else if f then final_topic else if z then input_topic else output_topic) ≡ true
+    by true y f z = refl
+    by false true f z = refl
+    by false false true z = refl
+    by false false false true = refl
+    by false false false false = refl
 
 pub number_small : (c : Config) (p : ℕ) → number_of c p ≤ p
-number_small c p = by (p == 0) (nat_le p c.transaction_logs) (nat_lt p (output_place c 0))
+number_small c p = by (p == 0) (nat_le p c.transaction_logs) (nat_lt p (input_place c 0)) (nat_lt p (output_place c 0))
   where
-    by : (x y z : Bool) → (if x then 0 else if y then p - 1 else if z then p - input_place c 0 else p - output_place c 0) ≤ p
-    by true y z = omega arith
-    by false true z = omega arith
-    by false false true = omega arith
-    by false false false = omega arith
+    by : (x y f z : Bool) → (if x then 0 else if y then p - 1 else if f then p - final_place c 0 else if z then p - input_place c 0 else p - output_place c 0) ≤ p
+    by true y f z = omega arith
+    by false true f z = omega arith
+    by false false true z = omega arith
+    by false false false true = omega arith
+    by false false false false = omega arith
 
 within : (limit n : ℕ) → n < limit → is_within limit (pos n) ≡ true
 within limit n l = and_from (int_le (pos 0) (pos n)) (int_lt (pos n) (pos limit)) (from_zero n) (below n limit l)
@@ -45,15 +48,15 @@ within limit n l = and_from (int_le (pos 0) (pos n)) (int_lt (pos n) (pos limit)
     below : (n limit : ℕ) → n < limit → int_lt (pos n) (pos limit) ≡ true
     below n limit l = grind (arith, ints, l)
 
-pub place_few : (c : Config) → IsConfig c → place_count c ≤ 37
-place_few c i = omega (arith, i.inputs.1, i.outputs.1, i.transaction_logs.1)
+pub place_few : (c : Config) → IsConfig c → place_count c ≤ 53
+place_few c i = let f = few_finals c i in omega (arith, f, i.inputs.1, i.outputs.1, i.transaction_logs.1)
 
-legal : (c : Config) (w : World) (p : ℕ) → p ≤ 37 → length (log_at w p) < 2 ^ 63 → is_legal_end (end_of c w p) ≡ true
+legal : (c : Config) (w : World) (p : ℕ) → p ≤ 53 → length (log_at w p) < 2 ^ 63 → is_legal_end (end_of c w p) ≡ true
 legal c w p f l =
     let n = number_small c p in
     rw (legal_topic c p, within (2 ^ 31) (number_of c p) (omega (arith, n, f)), within (2 ^ 63) (length (log_at w p)) l) refl
 
-all_legal : (c : Config) (w : World) (a n : ℕ) → a + n ≤ 37 → ((p : ℕ) → length (log_at w p) < 2 ^ 63) → list_all is_legal_end (map (end_of c w) (range_with_len a n)) ≡ true
+all_legal : (c : Config) (w : World) (a n : ℕ) → a + n ≤ 53 → ((p : ℕ) → length (log_at w p) < 2 ^ 63) → list_all is_legal_end (map (end_of c w) (range_with_len a n)) ≡ true
 all_legal c w a zero f l = refl
 all_legal c w a (suc n) f l = rw (legal c w a (omega (arith, f)) (l a)) (all_legal c w (a + 1) n (omega (arith, f)) l)
 
@@ -83,11 +86,25 @@ few_ends c w i =
     let e : length (map (end_of c w) (range_with_len 0 (place_count c))) ≡ place_count c = length-map-range_with_len (end_of c w) 0 (place_count c) in
     rw e (small (place_count c) (place_few c i))
   where
-    small : (n : ℕ) → n ≤ 37 → nat_le n 4096 ≡ true
+    small : (n : ℕ) → n ≤ 53 → nat_le n 4096 ≡ true
     small n l = grind (arith, l)
+
+legal_groups : (c : Config) → are_legal_apps (groups_of c) ≡ true
+legal_groups c = by c.chain
+  where
+    by : (t : Bool) → are_legal_apps (if t then application ∷ second_application ∷ [] else application ∷ []) ≡ true
+    by true = refl
+    by false = refl
+
+few_groups : (c : Config) → nat_le (length (groups_of c)) 256 ≡ true
+few_groups c = by c.chain
+  where
+    by : (t : Bool) → nat_le (length (if t then application ∷ second_application ∷ [] else application ∷ [])) 256 ≡ true
+    by true = refl
+    by false = refl
 
 pub accepted_parts : (c : Config) (w : World) → IsConfig c → ((p : ℕ) → length (log_at w p) < 2 ^ 63) → accepted (parts_of c w) ≡ Ok (parts_of c w)
 unfolding accepted
 accepted_parts c w i l =
     let f = place_few c i in
-    rw (all_legal c w 0 (place_count c) (omega (arith, f)) l, apart c w 0 (place_count c), few_ends c w i, ordered_ends c w 0 (place_count c)) refl
+    rw (legal_groups c, few_groups c, all_legal c w 0 (place_count c) (omega (arith, f)) l, apart c w 0 (place_count c), few_ends c w i, ordered_ends c w 0 (place_count c)) refl

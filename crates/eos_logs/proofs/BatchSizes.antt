@@ -20,17 +20,19 @@ use Rattle.eos_txnlog.specs.declared.partitions.TopicPartitions.{TopicPartitions
 use Rattle.eos_txnlog.specs.declared.value.TxnValue.{TxnValue}
 use Rattle.eos_txnlog.specs.Status.{status_number}
 use Rattle.eos_txnlog.specs.Writing.{write_value, write_key}
+use Rattle.eos_offsets.specs.declared.key.OffsetKey.{OffsetKey}
 use Rattle.eos_offsets.specs.Writing as offsets
 use Rattle.eos_machine.specs.declared.config.Config.{Config}
-use Rattle.eos_machine.specs.Places.{IsConfig, place_count, output_place, offsets_topic, transactions_topic, output_topic, topic_of, number_of, is_topic, input_topic}
+use Rattle.eos_machine.specs.Places.{IsConfig, place_count, input_place, output_place, offsets_topic, transactions_topic, final_topic, input_topic, output_topic, topic_of, number_of, is_topic}
 use Rattle.eos_machine.specs.declared.item.Claim.{Claim}
 use Rattle.eos_machine.specs.declared.item.Entry.{Entry}
 use Rattle.eos_machine.specs.declared.item.Item.{Item}
 use Rattle.eos_machine.specs.declared.item.Item.TheVariants.{Fed, State, Output, Offset, Marker}
 use Rattle.eos_machine.specs.Rest.{by_topic, with_number, value_of}
 use Rattle.eos_machine.specs.Sessions.{claimed_topic}
-use Rattle.eos_logs.specs.Batches.{group, transactional_id, bytes_of, fed_record, state_record, header, claim_headers, headers_of, output_record, commit_value, offset_record, control_type, marker_record, event_of, delayed, record_after, batch_of, behind, batches_after, texts_of}
+use Rattle.eos_logs.specs.Batches.{group, transactional_id, bytes_of, fed_record, state_record, header, claim_headers, headers_of, output_record, commit_value, offset_record, control_type, marker_record, event_of, delayed, record_after, batch_of, behind, batches_after, texts_of, second_group, source_key, commit_of}
 use Rattle.eos_logs.proofs.Grouping.{joining_within}
+use Rattle.eos_machine.proofs.Written.{few_finals}
 use Rattle.eos_logs.specs.Fitting.{IsFit, AreAllThere}
 
 -- ---- numbers and texts
@@ -91,13 +93,14 @@ record_short place delta r k v h kl vl hl =
 -- ---- the partitions of a transaction, by topic
 
 topic_short : (c : Config) (p : ℕ) → length (topic_of c p) ≤ 19
-topic_short c p = by (p == 0) (nat_le p c.transaction_logs) (nat_lt p (output_place c 0))
+topic_short c p = by (p == 0) (nat_le p c.transaction_logs) (nat_lt p (input_place c 0)) (nat_lt p (output_place c 0))
   where
-    by : (x y z : Bool) → length (if x then offsets_topic else if y then transactions_topic else if z then input_topic else output_topic) ≤ 19
-    by true y z = omega arith
-    by false true z = omega arith
-    by false false true = omega arith
-    by false false false = omega arith
+    by : (x y f z : Bool) → length (if x then offsets_topic else if y then transactions_topic else if f then final_topic else if z then input_topic else output_topic) ≤ 19
+    by true y f z = omega arith
+    by false true f z = omega arith
+    by false false true z = omega arith
+    by false false false true = omega arith
+    by false false false false = omega arith
 
 -- a topic of at most so many numbers
 abbrev pub IsTopicOf : ℕ → TopicPartitions → Type 0
@@ -160,8 +163,8 @@ topics_fit n (t ∷ ts) l h =
 they_fit : (n : ℕ) (ts : List TopicPartitions) → n ≤ 100 → AreTopicsOf n ts → fits ts ≡ true
 they_fit n ts l h = rw (lt-ltb (length ts + 1) (2 ^ 32) (omega (arith, h.0, l))) (topics_fit n ts l h.1)
 
-place_few : (c : Config) → IsConfig c → place_count c ≤ 37
-place_few c i = omega (arith, i.inputs.1, i.outputs.1, i.transaction_logs.1)
+place_few : (c : Config) → IsConfig c → place_count c ≤ 53
+place_few c i = let f = few_finals c i in omega (arith, f, i.inputs.1, i.outputs.1, i.transaction_logs.1)
 
 pub value_written : (c : Config) (a : ℕ) (x : Entry) (n : ℕ) → IsConfig c → AreAllThere c x.partitions → write_value (pos 1) (value_of c a x n) ≡ Ok (value_bytes (value_of c a x n))
 value_written c a x n i h =
@@ -172,13 +175,13 @@ numbers_length : (zs : List ℤ) → length (flat_map i32_text zs) ≡ 4 * lengt
 numbers_length [] = omega arith
 numbers_length (z ∷ zs) = let r = numbers_length zs in let l = length-i32_text z in length-append (i32_text z) (flat_map i32_text zs) ∙ omega (arith, r, l)
 
-topic_length : (n : ℕ) (t : TopicPartitions) → n ≤ 37 → IsTopicOf n t → length (topic_bytes t) ≤ 200
+topic_length : (n : ℕ) (t : TopicPartitions) → n ≤ 53 → IsTopicOf n t → length (topic_bytes t) ≤ 300
 topic_length n t l h =
     let e : length (topic_bytes t) ≡ length (uvarint_of (length t.topic + 1)) + length t.topic + length (uvarint_of (length t.numbers + 1)) + length (flat_map i32_text t.numbers) + length (uvarint_of 0) = simp length-append (omega arith) in
     let a = uvarint_short (length t.topic + 1) in let b = uvarint_short (length t.numbers + 1) in let d = uvarint_short 0 in let m = numbers_length t.numbers in
     omega (arith, e, a, b, d, m, h.0, h.1, l)
 
-topics_length : (n : ℕ) (ts : List TopicPartitions) → n ≤ 37 → All (IsTopicOf n) ts → length (flat_map topic_bytes ts) ≤ 200 * length ts
+topics_length : (n : ℕ) (ts : List TopicPartitions) → n ≤ 53 → All (IsTopicOf n) ts → length (flat_map topic_bytes ts) ≤ 300 * length ts
 topics_length n [] l h = omega arith
 topics_length n (t ∷ ts) l h =
     let e = length-append (topic_bytes t) (flat_map topic_bytes ts) in
@@ -186,7 +189,7 @@ topics_length n (t ∷ ts) l h =
     let r = topics_length n ts l (All-tail (IsTopicOf n) t ts h) in
     omega (arith, e, a, r)
 
-value_length : (c : Config) (a : ℕ) (x : Entry) (n : ℕ) → IsConfig c → AreAllThere c x.partitions → length (bytes_of (write_value (pos 1) (value_of c a x n))) ≤ 8000
+value_length : (c : Config) (a : ℕ) (x : Entry) (n : ℕ) → IsConfig c → AreAllThere c x.partitions → length (bytes_of (write_value (pos 1) (value_of c a x n))) ≤ 16000
 value_length c a x n i h =
     let v : TxnValue = value_of c a x n in
     let f = place_few c i in
@@ -210,16 +213,22 @@ key_length a =
     let e : length (i16_text (pos 0) ++ (i16_text (pos 5) ++ transactional_id a)) ≡ 9 = simp (length-append, length-i16_text) refl in
     omega (arith, q, e)
 
-offset_key_length : (q : ℕ) → length (bytes_of (offsets.write_key (record { group = group; topic = input_topic; partition = pos q }))) ≤ 20
+offset_key_length : (c : Config) (q : ℕ) → length (bytes_of (offsets.write_key (source_key c q))) ≤ 20
 unfolding offsets.key_bytes
-offset_key_length q =
-    let e : length (bytes_of (offsets.write_key (record { group = group; topic = input_topic; partition = pos q }))) ≡ 13 = simp (length-append, length-i16_text, length-i32_text) refl in
-    omega (arith, e)
+offset_key_length c q = by (nat_lt q c.inputs)
+  where
+    by : (t : Bool) → length (bytes_of (offsets.write_key (if t then record { group = group; topic = input_topic; partition = pos q } else record { group = second_group; topic = output_topic; partition = pos (q - c.inputs) }))) ≤ 20
+    by true =
+        let e : length (bytes_of (offsets.write_key (record { group = group; topic = input_topic; partition = pos q }))) ≡ 13 = simp (length-append, length-i16_text, length-i32_text) refl in
+        omega (arith, e)
+    by false =
+        let e : length (bytes_of (offsets.write_key (record { group = second_group; topic = output_topic; partition = pos (q - c.inputs) }))) ≡ 14 = simp (length-append, length-i16_text, length-i32_text) refl in
+        omega (arith, e)
 
-offset_value_length : (q v : ℕ) → length (bytes_of (offsets.write_value (record { group = group; topic = input_topic; partition = pos q; offset = pos v }) (pos 3))) ≤ 40
+offset_value_length : (k : OffsetKey) (v : ℕ) → length (bytes_of (offsets.write_value (commit_of k (pos v)) (pos 3))) ≤ 40
 unfolding offsets.value_bytes
-offset_value_length q v =
-    let e : length (bytes_of (offsets.write_value (record { group = group; topic = input_topic; partition = pos q; offset = pos v }) (pos 3))) ≡ 24 = simp (length-append, length-i16_text, length-i32_text, length-i64_text) refl in
+offset_value_length k v =
+    let e : length (bytes_of (offsets.write_value (commit_of k (pos v)) (pos 3))) ≡ 24 = simp (length-append, length-i16_text, length-i32_text, length-i64_text) refl in
     omega (arith, e)
 
 claim_length : (x : Claim) → length x.topic ≤ 249 → length (headers_text (claim_headers x)) ≤ 500
@@ -247,10 +256,10 @@ headers_length : (x : Option Claim) → length (claimed_topic x) ≤ 249 → len
 headers_length None l = let z = no_headers in omega (arith, z)
 headers_length (Some x) l = claim_length x l
 
-commit_value_length : (q : ℕ) (v : Option ℕ) → length (optional_text (commit_value q v)) ≤ 50
-commit_value_length q None = let z = null_short in omega (arith, z)
-commit_value_length q (Some v) =
-    let w = optional_short (bytes_of (offsets.write_value (record { group = group; topic = input_topic; partition = pos q; offset = pos v }) (pos 3))) in let l = offset_value_length q v in omega (arith, w, l)
+commit_value_length : (k : OffsetKey) (v : Option ℕ) → length (optional_text (commit_value k v)) ≤ 50
+commit_value_length k None = let z = null_short in omega (arith, z)
+commit_value_length k (Some v) =
+    let w = optional_short (bytes_of (offsets.write_value (commit_of k (pos v)) (pos 3))) in let l = offset_value_length k v in omega (arith, w, l)
 
 -- ---- an item, and several
 
@@ -263,12 +272,12 @@ item_short c place n (Fed m) i h =
 item_short c place n (State a x m) i h =
     let k = optional_short (bytes_of (write_key (transactional_id a))) in let kl = key_length a in
     let v = optional_short (bytes_of (write_value (pos 1) (value_of c a x m))) in let vl = value_length c a x m i h.2 in
-    let b = record_short place (pos m -ℤ pos n) (state_record c a x m) 30 8010 0 (omega (arith, k, kl)) (omega (arith, v, vl)) (let z = no_headers in omega (arith, z)) in omega (arith, b)
+    let b = record_short place (pos m -ℤ pos n) (state_record c a x m) 30 16010 0 (omega (arith, k, kl)) (omega (arith, v, vl)) (let z = no_headers in omega (arith, z)) in omega (arith, b)
 item_short c place n (Output a e s x v m) i h =
     let b = record_short place (pos m -ℤ pos n) (output_record x v) 5 13 500 null_short (i64_value (pos v)) (headers_length x h.3) in omega (arith, b)
 item_short c place n (Offset a e q v m) i h =
-    let k = optional_short (bytes_of (offsets.write_key (record { group = group; topic = input_topic; partition = pos q }))) in let kl = offset_key_length q in
-    let b = record_short place (pos m -ℤ pos n) (offset_record q v) 30 50 0 (omega (arith, k, kl)) (commit_value_length q v) (let z = no_headers in omega (arith, z)) in omega (arith, b)
+    let k = optional_short (bytes_of (offsets.write_key (source_key c q))) in let kl = offset_key_length c q in
+    let b = record_short place (pos m -ℤ pos n) (offset_record c q v) 30 50 0 (omega (arith, k, kl)) (commit_value_length (source_key c q) v) (let z = no_headers in omega (arith, z)) in omega (arith, b)
 item_short c place n (Marker a e k m) i h =
     let t = optional_short (i16_text (pos 0) ++ i16_text (control_type k)) in
     let tl : length (i16_text (pos 0) ++ i16_text (control_type k)) ≡ 4 = simp (length-append, length-i16_text) refl in

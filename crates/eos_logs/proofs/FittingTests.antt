@@ -1,5 +1,5 @@
 -- The tests of what fits say what they are meant to say.
-use Rattle.std.proofs.Common.{◌≡◌, ℕ, zero, suc, ◌^◌, ◌<◌, ◌≤◌, ◌&&◌, Bool, true, false, ◌-◌, List, [], ◌∷◌, length, refl}
+use Rattle.std.proofs.Common.{◌≡◌, ℕ, zero, suc, ◌^◌, ◌<◌, ◌≤◌, ◌&&◌, Bool, true, false, ◌-◌, List, [], ◌∷◌, length, refl, ◌+◌}
 use Rattle.std.specs.Prelude.{nat_lt, nat_le}
 use Rattle.std.specs.List.{All, list_all}
 use Rattle.std.proofs.lemmas.List.Elements.{All-nil, All-cons, All-head, All-tail}
@@ -7,7 +7,7 @@ use Rattle.std.proofs.lemmas.Bool.{and_parts, and_from, ltb-true, lt-ltb, leb-tr
 use Rattle.eos_machine.specs.declared.config.Config.{Config}
 use Rattle.eos_machine.specs.declared.item.Item.{Item}
 use Rattle.eos_machine.specs.declared.item.Item.TheVariants.{Fed, State, Output, Offset, Marker}
-use Rattle.eos_machine.specs.Places.{place_count}
+use Rattle.eos_machine.specs.Places.{application_count, place_count}
 use Rattle.eos_machine.specs.Sessions.{claimed_topic}
 use Rattle.eos_logs.specs.Fitting.{AreAllThere, IsFit}
 use Rattle.eos_logs.specs.Batches.{event_of, last_or}
@@ -31,33 +31,33 @@ are_there c ps h = and_from _ _ (all_below (place_count c) ps h.0) (le-leb (leng
 pub fits : (c : Config) (x : Item) → is_fit c x ≡ true → IsFit c x
 fits c (Fed n) h = ltb-true n (2 ^ 63) h
 fits c (State a x n) h =
-    let d = and_parts (nat_lt a c.applications && nat_lt x.epoch (2 ^ 15) && are_all_there c x.partitions) (nat_lt n (2 ^ 63)) h in
-    let e = and_parts (nat_lt a c.applications && nat_lt x.epoch (2 ^ 15)) (are_all_there c x.partitions) d.0 in
-    let f = and_parts (nat_lt a c.applications) (nat_lt x.epoch (2 ^ 15)) e.0 in
-    (ltb-true a c.applications f.0, ltb-true x.epoch (2 ^ 15) f.1, there c x.partitions e.1, ltb-true n (2 ^ 63) d.1)
+    let d = and_parts (nat_lt a (application_count c) && nat_lt x.epoch (2 ^ 15) && are_all_there c x.partitions) (nat_lt n (2 ^ 63)) h in
+    let e = and_parts (nat_lt a (application_count c) && nat_lt x.epoch (2 ^ 15)) (are_all_there c x.partitions) d.0 in
+    let f = and_parts (nat_lt a (application_count c)) (nat_lt x.epoch (2 ^ 15)) e.0 in
+    (ltb-true a (application_count c) f.0, ltb-true x.epoch (2 ^ 15) f.1, there c x.partitions e.1, ltb-true n (2 ^ 63) d.1)
 fits c (Output a e s x v n) h =
-    let b = and_parts (nat_lt a c.applications && nat_lt e (2 ^ 15) && nat_lt s (2 ^ 31) && nat_le (length (claimed_topic x)) 249 && nat_lt v (2 ^ 63)) (nat_lt n (2 ^ 63)) h in
-    let d = and_parts (nat_lt a c.applications && nat_lt e (2 ^ 15) && nat_lt s (2 ^ 31) && nat_le (length (claimed_topic x)) 249) (nat_lt v (2 ^ 63)) b.0 in
-    let f = and_parts (nat_lt a c.applications && nat_lt e (2 ^ 15) && nat_lt s (2 ^ 31)) (nat_le (length (claimed_topic x)) 249) d.0 in
-    let g = and_parts (nat_lt a c.applications && nat_lt e (2 ^ 15)) (nat_lt s (2 ^ 31)) f.0 in
-    let i = and_parts (nat_lt a c.applications) (nat_lt e (2 ^ 15)) g.0 in
-    (ltb-true a c.applications i.0, ltb-true e (2 ^ 15) i.1, ltb-true s (2 ^ 31) g.1, leb-true (length (claimed_topic x)) 249 f.1, ltb-true v (2 ^ 63) d.1, ltb-true n (2 ^ 63) b.1)
+    let b = and_parts (nat_lt a (application_count c) && nat_lt e (2 ^ 15) && nat_lt s (2 ^ 31) && nat_le (length (claimed_topic x)) 249 && nat_lt v (2 ^ 63)) (nat_lt n (2 ^ 63)) h in
+    let d = and_parts (nat_lt a (application_count c) && nat_lt e (2 ^ 15) && nat_lt s (2 ^ 31) && nat_le (length (claimed_topic x)) 249) (nat_lt v (2 ^ 63)) b.0 in
+    let f = and_parts (nat_lt a (application_count c) && nat_lt e (2 ^ 15) && nat_lt s (2 ^ 31)) (nat_le (length (claimed_topic x)) 249) d.0 in
+    let g = and_parts (nat_lt a (application_count c) && nat_lt e (2 ^ 15)) (nat_lt s (2 ^ 31)) f.0 in
+    let i = and_parts (nat_lt a (application_count c)) (nat_lt e (2 ^ 15)) g.0 in
+    (ltb-true a (application_count c) i.0, ltb-true e (2 ^ 15) i.1, ltb-true s (2 ^ 31) g.1, leb-true (length (claimed_topic x)) 249 f.1, ltb-true v (2 ^ 63) d.1, ltb-true n (2 ^ 63) b.1)
 fits c (Offset a e q v n) h =
-    let d = and_parts (nat_lt a c.applications && nat_lt e (2 ^ 15) && nat_lt q c.inputs) (nat_lt n (2 ^ 63)) h in
-    let f = and_parts (nat_lt a c.applications && nat_lt e (2 ^ 15)) (nat_lt q c.inputs) d.0 in
-    let g = and_parts (nat_lt a c.applications) (nat_lt e (2 ^ 15)) f.0 in
-    (ltb-true a c.applications g.0, ltb-true e (2 ^ 15) g.1, ltb-true q c.inputs f.1, ltb-true n (2 ^ 63) d.1)
+    let d = and_parts (nat_lt a (application_count c) && nat_lt e (2 ^ 15) && nat_lt q (c.inputs + c.outputs)) (nat_lt n (2 ^ 63)) h in
+    let f = and_parts (nat_lt a (application_count c) && nat_lt e (2 ^ 15)) (nat_lt q (c.inputs + c.outputs)) d.0 in
+    let g = and_parts (nat_lt a (application_count c)) (nat_lt e (2 ^ 15)) f.0 in
+    (ltb-true a (application_count c) g.0, ltb-true e (2 ^ 15) g.1, ltb-true q (c.inputs + c.outputs) f.1, ltb-true n (2 ^ 63) d.1)
 fits c (Marker a e k n) h =
-    let d = and_parts (nat_lt a c.applications && nat_lt e (2 ^ 15)) (nat_lt n (2 ^ 63)) h in
-    let f = and_parts (nat_lt a c.applications) (nat_lt e (2 ^ 15)) d.0 in
-    (ltb-true a c.applications f.0, ltb-true e (2 ^ 15) f.1, ltb-true n (2 ^ 63) d.1)
+    let d = and_parts (nat_lt a (application_count c) && nat_lt e (2 ^ 15)) (nat_lt n (2 ^ 63)) h in
+    let f = and_parts (nat_lt a (application_count c)) (nat_lt e (2 ^ 15)) d.0 in
+    (ltb-true a (application_count c) f.0, ltb-true e (2 ^ 15) f.1, ltb-true n (2 ^ 63) d.1)
 
 fit_is : (c : Config) (x : Item) → IsFit c x → is_fit c x ≡ true
 fit_is c (Fed n) h = lt-ltb n (2 ^ 63) h
-fit_is c (State a x n) h = rw (lt-ltb a c.applications h.0, lt-ltb x.epoch (2 ^ 15) h.1, are_there c x.partitions h.2, lt-ltb n (2 ^ 63) h.3) refl
-fit_is c (Output a e s x v n) h = rw (lt-ltb a c.applications h.0, lt-ltb e (2 ^ 15) h.1, lt-ltb s (2 ^ 31) h.2, le-leb (length (claimed_topic x)) 249 h.3, lt-ltb v (2 ^ 63) h.4, lt-ltb n (2 ^ 63) h.5) refl
-fit_is c (Offset a e q v n) h = rw (lt-ltb a c.applications h.0, lt-ltb e (2 ^ 15) h.1, lt-ltb q c.inputs h.2, lt-ltb n (2 ^ 63) h.3) refl
-fit_is c (Marker a e k n) h = rw (lt-ltb a c.applications h.0, lt-ltb e (2 ^ 15) h.1, lt-ltb n (2 ^ 63) h.2) refl
+fit_is c (State a x n) h = rw (lt-ltb a (application_count c) h.0, lt-ltb x.epoch (2 ^ 15) h.1, are_there c x.partitions h.2, lt-ltb n (2 ^ 63) h.3) refl
+fit_is c (Output a e s x v n) h = rw (lt-ltb a (application_count c) h.0, lt-ltb e (2 ^ 15) h.1, lt-ltb s (2 ^ 31) h.2, le-leb (length (claimed_topic x)) 249 h.3, lt-ltb v (2 ^ 63) h.4, lt-ltb n (2 ^ 63) h.5) refl
+fit_is c (Offset a e q v n) h = rw (lt-ltb a (application_count c) h.0, lt-ltb e (2 ^ 15) h.1, lt-ltb q (c.inputs + c.outputs) h.2, lt-ltb n (2 ^ 63) h.3) refl
+fit_is c (Marker a e k n) h = rw (lt-ltb a (application_count c) h.0, lt-ltb e (2 ^ 15) h.1, lt-ltb n (2 ^ 63) h.2) refl
 
 pub all_fit : (c : Config) (xs : List Item) → list_all (is_fit c) xs ≡ true → All (IsFit c) xs
 all_fit c [] h = All-nil (IsFit c)

@@ -8,7 +8,7 @@ use Rattle.eos_batch.specs.declared.marker.Kind.{Kind}
 use Rattle.eos_batch.specs.declared.marker.Kind.TheVariants.{Abort}
 use Rattle.eos_machine.specs.declared.switches.Switches.{Switches}
 use Rattle.eos_machine.specs.declared.config.Config.{Config}
-use Rattle.eos_machine.specs.Places.{txn_place, input_place, output_place, offsets_place, place_count, listed}
+use Rattle.eos_machine.specs.Places.{application_count, txn_place, input_place, written_place, offsets_place, place_count, listed}
 use Rattle.eos_machine.specs.declared.item.Claim.{Claim}
 use Rattle.eos_machine.specs.declared.item.Status.{Status}
 use Rattle.eos_machine.specs.declared.item.Status.TheVariants.{Empty, Ongoing, Prepare, Complete}
@@ -32,6 +32,7 @@ use Rattle.eos_machine.specs.Deliveries.{with_partition, appended, accept, fence
 use Rattle.eos_machine.specs.Machine.{start_session, start, reread, due_again, queued_again, happens_under, counted, step_under, run_under}
 use Rattle.eos_machine.specs.Formed.{Names, IsOfOne, IsFormed}
 use Rattle.eos_machine.proofs.Brokers.{is_lt, not_lt}
+use Rattle.eos_machine.proofs.Written.{written_there, source_there}
 use Rattle.eos_machine.proofs.FormedEvents.{NamesIf, message_at}
 use Rattle.eos_logs.specs.steps.Writable.{total}
 use Rattle.eos_logs.proofs.ListedPlaces.{AreListed, listed_filter, listed_more, none_listed}
@@ -39,14 +40,14 @@ use Rattle.eos_logs.proofs.ListedPlaces.{AreListed, listed_filter, listed_more, 
 -- P is what holds of the claims' topics
 abbrev pub KeptItem : (List ℕ → Type 0) → Config → Item → Type 0
 KeptItem P c (Fed n) = n < 2 ^ 31
-KeptItem P c (State a x n) = (a < c.applications) × AreListed c x.partitions × (n < 2 ^ 31)
-KeptItem P c (Output a e s x v n) = (a < c.applications) × P (claimed_topic x) × (v < 2 ^ 31) × (n < 2 ^ 31)
-KeptItem P c (Offset a e q v n) = (a < c.applications) × (q < c.inputs) × (n < 2 ^ 31)
-KeptItem P c (Marker a e k n) = (a < c.applications) × (n < 2 ^ 31)
+KeptItem P c (State a x n) = (a < application_count c) × AreListed c x.partitions × (n < 2 ^ 31)
+KeptItem P c (Output a e s x v n) = (a < application_count c) × P (claimed_topic x) × (v < 2 ^ 31) × (n < 2 ^ 31)
+KeptItem P c (Offset a e q v n) = (a < application_count c) × (q < c.inputs + c.outputs) × (n < 2 ^ 31)
+KeptItem P c (Marker a e k n) = (a < application_count c) × (n < 2 ^ 31)
 
 abbrev pub KeptMessage : (List ℕ → Type 0) → Config → Message → Type 0
 KeptMessage P c (messages.Output a e p s x v) = P (claimed_topic x) × (v < 2 ^ 31)
-KeptMessage P c (messages.Offset a e g q v) = q < c.inputs
+KeptMessage P c (messages.Offset a e g q v) = q < c.inputs + c.outputs
 KeptMessage P c (messages.End a e k) = ⊤
 KeptMessage P c (messages.Marker a e k p) = ⊤
 
@@ -120,7 +121,7 @@ said_listed u c ps h = by u.hide_listing
     by true = listed_filter c _ ps h
     by false = h
 
-kept_written : (P : List ℕ → Type 0) (c : Config) (k : ℕ) (u : Switches) (w : World) (a : ℕ) (x : Entry) → a < c.applications → w.events < 2 ^ 31 → AreListed c x.partitions → Kept P c k w → Kept P c (k + 1) (written u c w a x)
+kept_written : (P : List ℕ → Type 0) (c : Config) (k : ℕ) (u : Switches) (w : World) (a : ℕ) (x : Entry) → a < application_count c → w.events < 2 ^ 31 → AreListed c x.partitions → Kept P c k w → Kept P c (k + 1) (written u c w a x)
 kept_written P c k u w a x l n m h =
     kept_coord P c (k + 1) (with_item w (txn_place c a) (State a (said_entry u c x) w.events)) a (state_of x)
     (kept_item P c k w (txn_place c a) (State a (said_entry u c x) w.events) h (l, said_listed u c x.partitions m, n)) m
@@ -129,12 +130,12 @@ markers_kept : (P : List ℕ → Type 0) (c : Config) (a e : ℕ) (k : Kind) (ps
 markers_kept P c a e k [] = All-nil (KeptMessage P c)
 markers_kept P c a e k (p ∷ ps) = All-cons (KeptMessage P c) (messages.Marker a e k p) (due_markers a e k ps) tt (markers_kept P c a e k ps)
 
-kept_prepared : (P : List ℕ → Type 0) (c : Config) (n : ℕ) (u : Switches) (w : World) (a : ℕ) (k : Kind) (ps : List ℕ) → a < c.applications → w.events < 2 ^ 31 → AreListed c ps → Kept P c n w → Kept P c (n + 1) (prepared u c w a k ps)
+kept_prepared : (P : List ℕ → Type 0) (c : Config) (n : ℕ) (u : Switches) (w : World) (a : ℕ) (k : Kind) (ps : List ℕ) → a < application_count c → w.events < 2 ^ 31 → AreListed c ps → Kept P c n w → Kept P c (n + 1) (prepared u c w a k ps)
 kept_prepared P c n u w a k ps l m g h =
     let v = kept_written P c n u w a (record { status = Prepare k; epoch = (coord_at w a).epoch + 1; partitions = ps }) l m g h in
     record { coordinators = v.coordinators; logs = v.logs; messages = All-append (KeptMessage P c) w.messages (due_markers a ((coord_at w a).epoch + 1) k ps) h.messages (markers_kept P c a ((coord_at w a).epoch + 1) k ps); count = v.count }
 
-kept_finished : (P : List ℕ → Type 0) (c : Config) (n : ℕ) (u : Switches) (w : World) (a : ℕ) (k : Kind) → a < c.applications → w.events < 2 ^ 31 → Kept P c n w → Kept P c (n + 1) (finished u c w a k)
+kept_finished : (P : List ℕ → Type 0) (c : Config) (n : ℕ) (u : Switches) (w : World) (a : ℕ) (k : Kind) → a < application_count c → w.events < 2 ^ 31 → Kept P c n w → Kept P c (n + 1) (finished u c w a k)
 kept_finished P c n u w a k l m h = kept_written P c n u w a (record { status = Complete k; epoch = (coord_at w a).epoch; partitions = [] }) l m (none_listed c) h
 
 open_listed : (c : Config) (t : Status) (ps : List ℕ) → AreListed c ps → AreListed c (ongoing_partitions t ps)
@@ -149,7 +150,7 @@ is_new Ongoing p ps h = h
 is_new (Prepare k) p ps h = refl
 is_new (Complete k) p ps h = refl
 
-kept_partition : (P : List ℕ → Type 0) (c : Config) (n : ℕ) (u : Switches) (w : World) (a p : ℕ) → a < c.applications → w.events < 2 ^ 31 → p < place_count c → Kept P c n w → Kept P c (n + 1) (with_partition u c w a p)
+kept_partition : (P : List ℕ → Type 0) (c : Config) (n : ℕ) (u : Switches) (w : World) (a p : ℕ) → a < application_count c → w.events < 2 ^ 31 → p < place_count c → Kept P c n w → Kept P c (n + 1) (with_partition u c w a p)
 kept_partition P c n u w a p l m g h =
     let x : Entry = record { status = Ongoing; epoch = (coord_at w a).epoch; partitions = listed p (ongoing_partitions (coord_at w a).status (coord_at w a).partitions) } in
     elim (is_ongoing (coord_at w a).status && has p (coord_at w a).partitions) as (λ t. (is_ongoing (coord_at w a).status && has p (coord_at w a).partitions) ≡ t → Kept P c (n + 1) (if t then w else written u c w a x)) [
@@ -160,7 +161,7 @@ kept_partition P c n u w a p l m g h =
 kept_appended : (P : List ℕ → Type 0) (c : Config) (k : ℕ) (w : World) (n p : ℕ) (x : Item) → Kept P c k w → KeptItem P c x → Kept P c (k + 1) (appended w n p x)
 kept_appended P c k w n p x h i = let v = kept_item P c k w p x h i in record { coordinators = v.coordinators; logs = v.logs; messages = v.messages; count = v.count }
 
-kept_accept : (P : List ℕ → Type 0) (c : Config) (k : ℕ) (u : Switches) (w : World) (n a p : ℕ) (x : Item) → a < c.applications → w.events < 2 ^ 31 → p < place_count c → Kept P c k w → KeptItem P c x → Kept P c (k + 2) (accept u c w n a p x)
+kept_accept : (P : List ℕ → Type 0) (c : Config) (k : ℕ) (u : Switches) (w : World) (n a p : ℕ) (x : Item) → a < application_count c → w.events < 2 ^ 31 → p < place_count c → Kept P c k w → KeptItem P c x → Kept P c (k + 2) (accept u c w n a p x)
 kept_accept P c k u w n a p x l m g h i =
     let s : k + 1 + 1 ≤ k + 2 = omega arith in
     kept_more P c (k + 1 + 1) (k + 2) _ s (kept_appended P c (k + 1) (with_partition u c w a p) n p x (kept_partition P c k u w a p l m g h) i)
@@ -171,13 +172,13 @@ kept_fenced P c k u w n p x h i = elim u.no_fence as (λ t. Kept P c (k + 2) (if
   | false ↦ kept_more P c k (k + 2) _ (omega arith) h
 ]
 
-kept_marked : (P : List ℕ → Type 0) (c : Config) (n : ℕ) (u : Switches) (w : World) (a m : ℕ) (k : Kind) (p : ℕ) → a < c.applications → w.events < 2 ^ 31 → Kept P c n w → Kept P c (n + 1) (marked u c w a m k p)
+kept_marked : (P : List ℕ → Type 0) (c : Config) (n : ℕ) (u : Switches) (w : World) (a m : ℕ) (k : Kind) (p : ℕ) → a < application_count c → w.events < 2 ^ 31 → Kept P c n w → Kept P c (n + 1) (marked u c w a m k p)
 kept_marked P c n u w a m k p l e h = elim u.lose_marker as (λ t. Kept P c (n + 1) (if t then w else with_item w p (marker_of u c a m k p w.events))) [
   | true ↦ kept_more P c n (n + 1) w (omega arith) h
   | false ↦ kept_item P c n w p (marker_of u c a m k p w.events) h (l, e)
 ]
 
-kept_ticked : (P : List ℕ → Type 0) (c : Config) (n : ℕ) (u : Switches) (w : World) (a m : ℕ) (k : Kind) (p : ℕ) → a < c.applications → w.events < 2 ^ 31 → Kept P c n w → Kept P c (n + 1) (ticked u c w a m k p)
+kept_ticked : (P : List ℕ → Type 0) (c : Config) (n : ℕ) (u : Switches) (w : World) (a m : ℕ) (k : Kind) (p : ℕ) → a < application_count c → w.events < 2 ^ 31 → Kept P c n w → Kept P c (n + 1) (ticked u c w a m k p)
 kept_ticked P c n u w a m k p l e h = kept_coord P c (n + 1) (marked u c w a m k p) a (ticked_off (coord_at w a) p) (kept_marked P c n u w a m k p l e h) (coord_kept P c n w a h)
 
 -- ---- messages
@@ -192,7 +193,7 @@ kept_at P c (x ∷ ms) zero h = All-head (KeptMessage P c) x ms h
 kept_at P c (x ∷ ms) (suc i) h = kept_at P c ms i (All-tail (KeptMessage P c) x ms h)
 
 -- with an item more
-finishes : (P : List ℕ → Type 0) (c : Config) (n : ℕ) (u : Switches) (w : World) (a : ℕ) (k : Kind) → a < c.applications → w.events < 2 ^ 31 → Kept P c (n + 1) w → Kept P c (n + 2) (finished u c w a k)
+finishes : (P : List ℕ → Type 0) (c : Config) (n : ℕ) (u : Switches) (w : World) (a : ℕ) (k : Kind) → a < application_count c → w.events < 2 ^ 31 → Kept P c (n + 1) w → Kept P c (n + 2) (finished u c w a k)
 finishes P c n u w a k l m h = kept_more P c (n + 1 + 1) (n + 2) _ (omega arith) (kept_finished P c (n + 1) u w a k l m h)
 
 same_events : (u : Switches) (w : World) (p : ℕ) (x : Item) → (if u.lose_marker then w else with_item w p x).events ≡ w.events
@@ -202,10 +203,10 @@ kept_deliver : (P : List ℕ → Type 0) (c : Config) (n : ℕ) (u : Switches) (
 kept_deliver P c n u w m None e h f i = kept_more P c n (n + 2) w (omega arith) h
 kept_deliver P c n u w m (Some (messages.Output a t p s x v)) e h f i =
     let d : Kept P c (n + 2) w = kept_more P c n (n + 2) w (omega arith) h in
-    let l : output_place c p < place_count c = omega (arith, f.1) in
-    let o = kept_fenced P c n u w m (output_place c p) (Output a t s x v w.events) h (f.0, i.0, i.1, e) in
+    let l : written_place c a p < place_count c = written_there c a p f.1 in
+    let o = kept_fenced P c n u w m (written_place c a p) (Output a t s x v w.events) h (f.0, i.0, i.1, e) in
     kept_if P c (n + 2) _ _ _ o (λ f1. kept_if P c (n + 2) _ _ _ d (λ f2. kept_if P c (n + 2) _ _ _ d (λ f3. kept_if P c (n + 2) _ _ _ o (λ f4. kept_if P c (n + 2) _ _ _ d (λ f5.
-    kept_accept P c n u w m a (output_place c p) (Output a t s x v w.events) f.0 e l h (f.0, i.0, i.1, e))))))
+    kept_accept P c n u w m a (written_place c a p) (Output a t s x v w.events) f.0 e l h (f.0, i.0, i.1, e))))))
 kept_deliver P c n u w m (Some (messages.Offset a t g q v)) e h f i =
     let d : Kept P c (n + 2) w = kept_more P c n (n + 2) w (omega arith) h in
     let l : 0 < place_count c = omega arith in
@@ -244,7 +245,7 @@ kept_produce P c k w n p x (Some s) e t h =
 kept_offset : (P : List ℕ → Type 0) (c : Config) (k : ℕ) (w : World) (n q : ℕ) (v : Option ℕ) (r : Option Session) → Kept P c k w → Kept P c k (commit_offset c w n q v r).0
 kept_offset P c k w n q v None h = h
 kept_offset P c k w n q v (Some s) h = kept_if P c k _ _ _ h (λ f1. kept_if P c k _ _ _ h (λ f2.
-    kept_sent P c k w n (after_offset s (length w.messages)) (messages.Offset s.application s.epoch s.generation q v) h (is_lt q c.inputs (not_false _ f1))))
+    kept_sent P c k w n (after_offset s (length w.messages)) (messages.Offset s.application s.epoch s.generation q v) h (source_there c s.application q (not_false _ f1))))
 
 kept_commit : (P : List ℕ → Type 0) (c : Config) (k : ℕ) (w : World) (n q : ℕ) (v : Option ℤ) → Kept P c k w → Kept P c k (commit c w n q v).0
 kept_commit P c k w n q None h = kept_offset P c k w n q None (slice_get w.sessions n) h
@@ -267,7 +268,7 @@ kept_fetch : (P : List ℕ → Type 0) (c : Config) (m : ℕ) (w : World) (q : �
 kept_fetch P c m w q None h = h
 kept_fetch P c m w q (Some s) h = kept_if P c m _ _ _ h (λ f1. kept_if P c m _ _ _ h (λ f2. kept_if P c m _ _ _ h (λ f3. h)))
 
-kept_session : (P : List ℕ → Type 0) (c : Config) (n : ℕ) (u : Switches) (w : World) (a e : ℕ) → a < c.applications → w.events < 2 ^ 31 → Kept P c n w → Kept P c (n + 1) (start_session u c w a e).0
+kept_session : (P : List ℕ → Type 0) (c : Config) (n : ℕ) (u : Switches) (w : World) (a e : ℕ) → a < application_count c → w.events < 2 ^ 31 → Kept P c n w → Kept P c (n + 1) (start_session u c w a e).0
 kept_session P c n u w a e l m h =
     kept_if P c (n + 1) _ _ _ (kept_more P c n (n + 1) w (omega arith) h) (λ f.
     kept_like P c (n + 1) (written u c w a (record { status = Empty; epoch = e; partitions = [] })) _ _ _ _ (kept_written P c n u w a (record { status = Empty; epoch = e; partitions = [] }) l m (none_listed c) h))
@@ -276,7 +277,7 @@ kept_start : (P : List ℕ → Type 0) (c : Config) (n : ℕ) (u : Switches) (w 
 kept_start P c n u w a m h =
     let d = kept_more P c n (n + 1) w (omega arith) h in
     kept_if P c (n + 1) _ _ _ d (λ f1.
-    let l : a < c.applications = is_lt a c.applications (not_false _ f1) in
+    let l : a < application_count c = is_lt a (application_count c) (not_false _ f1) in
     kept_if P c (n + 1) _ _ _ d (λ f2. kept_if P c (n + 1) _ _ _ (kept_prepared P c n u w a Abort (coord_at w a).partitions l m (coord_kept P c n w a h) h) (λ f3.
     kept_session P c n u w a _ l m h)))
 

@@ -14,28 +14,31 @@ use Rattle.eos_evidence.specs.declared.ends.End.{End}
 use Rattle.eos_evidence.specs.Ends.{end_cmp}
 use Rattle.eos_evidence.specs.Topics.{is_internal}
 use Rattle.eos_machine.specs.declared.config.Config.{Config}
-use Rattle.eos_machine.specs.Places.{IsConfig, place_count, offsets_topic, transactions_topic, input_topic, output_topic, input_place, output_place, topic_of, number_of, is_sequenced}
+use Rattle.eos_machine.specs.Places.{IsConfig, place_count, offsets_topic, transactions_topic, final_topic, input_topic, output_topic, final_place, input_place, output_place, topic_of, number_of, is_sequenced}
 
--- ---- the four topics
+-- ---- the five topics
 
 abbrev pub name : ℕ → List ℕ
 name zero = offsets_topic
 name (suc zero) = transactions_topic
-name (suc (suc zero)) = input_topic
-name (suc (suc (suc n))) = output_topic
+name (suc (suc zero)) = final_topic
+name (suc (suc (suc zero))) = input_topic
+name (suc (suc (suc (suc n)))) = output_topic
 
 -- the place of a topic's first partition
 abbrev pub first : Config → ℕ → ℕ
 first c zero = 0
 first c (suc zero) = 1
-first c (suc (suc zero)) = input_place c 0
-first c (suc (suc (suc n))) = output_place c 0
+first c (suc (suc zero)) = final_place c 0
+first c (suc (suc (suc zero))) = input_place c 0
+first c (suc (suc (suc (suc n)))) = output_place c 0
 
 abbrev pub IsWithin : Config → ℕ → ℕ → Type 0
 IsWithin c p zero = p ≡ 0
 IsWithin c p (suc zero) = (1 ≤ p) × (p ≤ c.transaction_logs)
-IsWithin c p (suc (suc zero)) = (c.transaction_logs < p) × (p < output_place c 0)
-IsWithin c p (suc (suc (suc n))) = output_place c 0 ≤ p
+IsWithin c p (suc (suc zero)) = (c.transaction_logs < p) × (p < input_place c 0)
+IsWithin c p (suc (suc (suc zero))) = (input_place c 0 ≤ p) × (p < output_place c 0)
+IsWithin c p (suc (suc (suc (suc n)))) = output_place c 0 ≤ p
 
 pub record IsNamed (c : Config) (p k : ℕ) : Type 0 where
   pub within : IsWithin c p k
@@ -43,22 +46,26 @@ pub record IsNamed (c : Config) (p k : ℕ) : Type 0 where
   pub place : p ≡ first c k + number_of c p
 
 pub topic_at : (c : Config) (p : ℕ) → (k : ℕ) × IsNamed c p k
-topic_at c p = by (p == 0) refl (nat_le p c.transaction_logs) refl (nat_lt p (output_place c 0)) refl
+topic_at c p = by (p == 0) refl (nat_le p c.transaction_logs) refl (nat_lt p (input_place c 0)) refl (nat_lt p (output_place c 0)) refl
   where
-    by : (a : Bool) → (p == 0) ≡ a → (b : Bool) → nat_le p c.transaction_logs ≡ b → (d : Bool) → nat_lt p (output_place c 0) ≡ d → (k : ℕ) × IsNamed c p k
-    by true e b f d g = let z : p ≡ 0 = eqb-true p 0 e in (0, record { within = z; topic = rw e refl; place = rw e z })
-    by false e true f d g =
+    by : (a : Bool) → (p == 0) ≡ a → (b : Bool) → nat_le p c.transaction_logs ≡ b → (h : Bool) → nat_lt p (input_place c 0) ≡ h → (d : Bool) → nat_lt p (output_place c 0) ≡ d → (k : ℕ) × IsNamed c p k
+    by true e b f h i d g = let z : p ≡ 0 = eqb-true p 0 e in (0, record { within = z; topic = rw e refl; place = rw e z })
+    by false e true f h i d g =
         let z = eqb-false p 0 e in let l = leb-true p c.transaction_logs f in
         let n : number_of c p ≡ p - 1 = rw (e, f) refl in
         (1, record { within = (omega (arith, z), l); topic = rw (e, f) refl; place = omega (arith, z, n) })
-    by false e false f true g =
-        let l = leb-false p c.transaction_logs f in let m = ltb-true p (output_place c 0) g in
-        let n : number_of c p ≡ p - input_place c 0 = rw (e, f, g) refl in
-        (2, record { within = (l, m); topic = rw (e, f, g) refl; place = omega (arith, l, n) })
-    by false e false f false g =
+    by false e false f true i d g =
+        let l = leb-false p c.transaction_logs f in let m = ltb-true p (input_place c 0) i in
+        let n : number_of c p ≡ p - final_place c 0 = rw (e, f, i) refl in
+        (2, record { within = (l, m); topic = rw (e, f, i) refl; place = omega (arith, l, n) })
+    by false e false f false i true g =
+        let l = ltb-false p (input_place c 0) i in let m = ltb-true p (output_place c 0) g in
+        let n : number_of c p ≡ p - input_place c 0 = rw (e, f, i, g) refl in
+        (3, record { within = (l, m); topic = rw (e, f, i, g) refl; place = omega (arith, l, n) })
+    by false e false f false i false g =
         let m = ltb-false p (output_place c 0) g in
-        let n : number_of c p ≡ p - output_place c 0 = rw (e, f, g) refl in
-        (3, record { within = m; topic = rw (e, f, g) refl; place = omega (arith, m, n) })
+        let n : number_of c p ≡ p - output_place c 0 = rw (e, f, i, g) refl in
+        (4, record { within = m; topic = rw (e, f, i, g) refl; place = omega (arith, m, n) })
 
 -- ---- sequences are checked outside the internal topics
 
@@ -75,7 +82,11 @@ sequenced_by c p (suc (suc zero)) w = sym (lt_true c p w.0)
   where
     lt_true : (c : Config) (p : ℕ) → c.transaction_logs < p → nat_lt c.transaction_logs p ≡ true
     lt_true c p l = grind (arith, l)
-sequenced_by c p (suc (suc (suc n))) w = sym (lt_true c p (omega (arith, w)))
+sequenced_by c p (suc (suc (suc zero))) w = sym (lt_true c p (omega (arith, w.0)))
+  where
+    lt_true : (c : Config) (p : ℕ) → c.transaction_logs < p → nat_lt c.transaction_logs p ≡ true
+    lt_true c p l = grind (arith, l)
+sequenced_by c p (suc (suc (suc (suc n)))) w = sym (lt_true c p (omega (arith, w)))
   where
     lt_true : (c : Config) (p : ℕ) → c.transaction_logs < p → nat_lt c.transaction_logs p ≡ true
     lt_true c p l = grind (arith, l)
@@ -89,19 +100,28 @@ apart : (c : Config) (j k : ℕ) → bytes_eq (name j) (name k) ≡ true → fir
 apart c zero zero e = refl
 apart c zero (suc zero) e = absurd cc
 apart c zero (suc (suc zero)) e = absurd cc
-apart c zero (suc (suc (suc n))) e = absurd cc
+apart c zero (suc (suc (suc zero))) e = absurd cc
+apart c zero (suc (suc (suc (suc n)))) e = absurd cc
 apart c (suc zero) zero e = absurd cc
 apart c (suc zero) (suc zero) e = refl
 apart c (suc zero) (suc (suc zero)) e = absurd cc
-apart c (suc zero) (suc (suc (suc n))) e = absurd cc
+apart c (suc zero) (suc (suc (suc zero))) e = absurd cc
+apart c (suc zero) (suc (suc (suc (suc n)))) e = absurd cc
 apart c (suc (suc zero)) zero e = absurd cc
 apart c (suc (suc zero)) (suc zero) e = absurd cc
 apart c (suc (suc zero)) (suc (suc zero)) e = refl
-apart c (suc (suc zero)) (suc (suc (suc n))) e = absurd cc
-apart c (suc (suc (suc m))) zero e = absurd cc
-apart c (suc (suc (suc m))) (suc zero) e = absurd cc
-apart c (suc (suc (suc m))) (suc (suc zero)) e = absurd cc
-apart c (suc (suc (suc m))) (suc (suc (suc n))) e = refl
+apart c (suc (suc zero)) (suc (suc (suc zero))) e = absurd cc
+apart c (suc (suc zero)) (suc (suc (suc (suc n)))) e = absurd cc
+apart c (suc (suc (suc zero))) zero e = absurd cc
+apart c (suc (suc (suc zero))) (suc zero) e = absurd cc
+apart c (suc (suc (suc zero))) (suc (suc zero)) e = absurd cc
+apart c (suc (suc (suc zero))) (suc (suc (suc zero))) e = refl
+apart c (suc (suc (suc zero))) (suc (suc (suc (suc n)))) e = absurd cc
+apart c (suc (suc (suc (suc m)))) zero e = absurd cc
+apart c (suc (suc (suc (suc m)))) (suc zero) e = absurd cc
+apart c (suc (suc (suc (suc m)))) (suc (suc zero)) e = absurd cc
+apart c (suc (suc (suc (suc m)))) (suc (suc (suc zero))) e = absurd cc
+apart c (suc (suc (suc (suc m)))) (suc (suc (suc (suc n)))) e = refl
 
 pub one_place : (c : Config) (p q : ℕ) → topic_of c p ≡ topic_of c q → number_of c p ≡ number_of c q → p ≡ q
 one_place c p q t n =
@@ -121,19 +141,28 @@ later_less : (c : Config) (p q j m k n : ℕ) → p < q → IsWithin c p j → I
 later_less c p q zero m zero n l v w a b = absurd (omega (arith, v, w, l))
 later_less c p q zero m (suc zero) n l v w a b = refl
 later_less c p q zero m (suc (suc zero)) n l v w a b = refl
-later_less c p q zero m (suc (suc (suc k))) n l v w a b = refl
-later_less c p q (suc zero) m zero n l v w a b = absurd (omega (arith, w, l))
+later_less c p q zero m (suc (suc (suc zero))) n l v w a b = refl
+later_less c p q zero m (suc (suc (suc (suc k)))) n l v w a b = refl
+later_less c p q (suc zero) m zero n l v w a b = absurd (omega (arith, v.0, w, l))
 later_less c p q (suc zero) m (suc zero) n l v w a b = less_number m n (omega (arith, a, b, l))
 later_less c p q (suc zero) m (suc (suc zero)) n l v w a b = refl
-later_less c p q (suc zero) m (suc (suc (suc k))) n l v w a b = refl
-later_less c p q (suc (suc zero)) m zero n l v w a b = absurd (omega (arith, w, l))
+later_less c p q (suc zero) m (suc (suc (suc zero))) n l v w a b = refl
+later_less c p q (suc zero) m (suc (suc (suc (suc k)))) n l v w a b = refl
+later_less c p q (suc (suc zero)) m zero n l v w a b = absurd (omega (arith, v.0, w, l))
 later_less c p q (suc (suc zero)) m (suc zero) n l v w a b = absurd (omega (arith, v.0, w.1, l))
 later_less c p q (suc (suc zero)) m (suc (suc zero)) n l v w a b = less_number m n (omega (arith, a, b, l))
-later_less c p q (suc (suc zero)) m (suc (suc (suc k))) n l v w a b = refl
-later_less c p q (suc (suc (suc j))) m zero n l v w a b = absurd (omega (arith, w, l))
-later_less c p q (suc (suc (suc j))) m (suc zero) n l v w a b = absurd (omega (arith, v, w.1, l))
-later_less c p q (suc (suc (suc j))) m (suc (suc zero)) n l v w a b = absurd (omega (arith, v, w.1, l))
-later_less c p q (suc (suc (suc j))) m (suc (suc (suc k))) n l v w a b = less_number m n (omega (arith, a, b, l))
+later_less c p q (suc (suc zero)) m (suc (suc (suc zero))) n l v w a b = refl
+later_less c p q (suc (suc zero)) m (suc (suc (suc (suc k)))) n l v w a b = refl
+later_less c p q (suc (suc (suc zero))) m zero n l v w a b = absurd (omega (arith, v.0, w, l))
+later_less c p q (suc (suc (suc zero))) m (suc zero) n l v w a b = absurd (omega (arith, v.0, w.1, l))
+later_less c p q (suc (suc (suc zero))) m (suc (suc zero)) n l v w a b = absurd (omega (arith, v.0, w.1, l))
+later_less c p q (suc (suc (suc zero))) m (suc (suc (suc zero))) n l v w a b = less_number m n (omega (arith, a, b, l))
+later_less c p q (suc (suc (suc zero))) m (suc (suc (suc (suc k)))) n l v w a b = refl
+later_less c p q (suc (suc (suc (suc j)))) m zero n l v w a b = absurd (omega (arith, v, w, l))
+later_less c p q (suc (suc (suc (suc j)))) m (suc zero) n l v w a b = absurd (omega (arith, v, w.1, l))
+later_less c p q (suc (suc (suc (suc j)))) m (suc (suc zero)) n l v w a b = absurd (omega (arith, v, w.1, l))
+later_less c p q (suc (suc (suc (suc j)))) m (suc (suc (suc zero))) n l v w a b = absurd (omega (arith, v, w.1, l))
+later_less c p q (suc (suc (suc (suc j)))) m (suc (suc (suc (suc k)))) n l v w a b = less_number m n (omega (arith, a, b, l))
 
 -- an end of one place is before one of a later place
 pub ends_rise : (c : Config) (p q : ℕ) (e f : End) → p < q → e.topic ≡ topic_of c p → e.partition ≡ pos (number_of c p) → f.topic ≡ topic_of c q → f.partition ≡ pos (number_of c q) → end_cmp e f ≡ Less

@@ -11,7 +11,7 @@ use Rattle.eos_machine.specs.declared.item.Item.{Item}
 use Rattle.eos_machine.specs.declared.item.Item.TheVariants.{Fed, State, Output, Offset, Marker}
 use Rattle.eos_machine.specs.declared.event.Event.{Event}
 use Rattle.eos_machine.specs.declared.event.Event.TheVariants as events
-use Rattle.eos_machine.specs.Places.{IsConfig, place_count}
+use Rattle.eos_machine.specs.Places.{IsConfig, application_count, place_count}
 use Rattle.eos_machine.specs.World.{World, opening, fresh, log_at}
 use Rattle.eos_machine.specs.Answers.{Answer, when}
 use Rattle.eos_machine.specs.Bounds.{Limit, IsWithin, Bounded}
@@ -68,7 +68,7 @@ none_there (suc n) = let r = none_there n in omega (arith, r)
 pub kept_opening : (P : List ℕ → Type 0) (c : Config) → IsKept P c (opening c)
 kept_opening P c = record {
   kept = record {
-    coordinators = all_replicated (λ s. AreListed c s.partitions) c.applications fresh (none_listed c);
+    coordinators = all_replicated (λ s. AreListed c s.partitions) (application_count c) fresh (none_listed c);
     logs = all_replicated (All (KeptItem P c)) (place_count c) [] (All-nil (KeptItem P c));
     messages = All-nil (KeptMessage P c);
     count = let z = none_there (place_count c) in omega (arith, z);

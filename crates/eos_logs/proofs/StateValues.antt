@@ -17,10 +17,11 @@ use Rattle.eos_txnlog.proofs.ValueTexts.{value_whole}
 use Rattle.eos_txnlog.proofs.WrittenTexts.{value_written as value_text_is}
 use Rattle.eos_machine.specs.declared.config.Config.{Config}
 use Rattle.eos_machine.specs.declared.item.Entry.{Entry}
-use Rattle.eos_machine.specs.Places.{IsConfig, place_count, output_place, offsets_topic, transactions_topic, input_topic, output_topic, topic_of, number_of, is_topic}
+use Rattle.eos_machine.specs.Places.{IsConfig, application_count, place_count, input_place, output_place, offsets_topic, transactions_topic, final_topic, input_topic, output_topic, topic_of, number_of, is_topic}
 use Rattle.eos_machine.specs.Rest.{with_number, by_topic, value_of}
 use Rattle.eos_machine.specs.declared.item.Item.{Item}
 use Rattle.eos_machine.specs.declared.item.Item.TheVariants.{Fed, State, Output, Offset, Marker}
+use Rattle.eos_machine.proofs.Written.{few_applications}
 use Rattle.eos_logs.specs.Batches.{bytes_of, Reads, AreRead}
 use Rattle.eos_logs.specs.Fitting.{AreAllThere, IsFit}
 use Rattle.eos_logs.proofs.AcceptedParts.{number_small, place_few}
@@ -30,13 +31,14 @@ use Rattle.eos_logs.proofs.ByteTexts.{no_bytes, known_bytes, i8_bytes, i16_bytes
 -- ---- topics and their numbers
 
 topic_bytes : (c : Config) (p : ℕ) → IsBytes (topic_of c p)
-topic_bytes c p = by (p == 0) (nat_le p c.transaction_logs) (nat_lt p (output_place c 0))
+topic_bytes c p = by (p == 0) (nat_le p c.transaction_logs) (nat_lt p (input_place c 0)) (nat_lt p (output_place c 0))
   where
-    by : (x y z : Bool) → IsBytes (if x then offsets_topic else if y then transactions_topic else if z then input_topic else output_topic)
-    by true y z = known_bytes offsets_topic refl
-    by false true z = known_bytes transactions_topic refl
-    by false false true = known_bytes input_topic refl
-    by false false false = known_bytes output_topic refl
+    by : (x y f z : Bool) → IsBytes (if x then offsets_topic else if y then transactions_topic else if f then final_topic else if z then input_topic else output_topic)
+    by true y f z = known_bytes offsets_topic refl
+    by false true f z = known_bytes transactions_topic refl
+    by false false true z = known_bytes final_topic refl
+    by false false false true = known_bytes input_topic refl
+    by false false false false = known_bytes output_topic refl
 
 abbrev IsWritten : TopicPartitions → Type 0
 IsWritten t = IsBytes t.topic × FitNumbers t
@@ -80,14 +82,14 @@ tail_text v = i64_text v.last_update ++ (i64_text v.start ++ uvarint_of 0)
 abbrev value_text : TxnValue → List ℕ
 value_text v = i16_text (pos 1) ++ (head_text v ++ (partitions_text v.partitions ++ tail_text v))
 
-one_topic : (k : ℕ) (t : TopicPartitions) → k ≤ 37 → IsTopicOf k t → IsWritten t → IsBytes (topic_text t)
+one_topic : (k : ℕ) (t : TopicPartitions) → k ≤ 53 → IsTopicOf k t → IsWritten t → IsBytes (topic_text t)
 one_topic k t l s h =
     let name = IsBytes-append (uvarint_of (length t.topic + 1)) t.topic (uvarint_bytes (length t.topic + 1) (omega (arith, s.0))) h.0 in
     let numbers = IsBytes-append (uvarint_of (length t.numbers + 1)) (flat_map i32_text t.numbers) (uvarint_bytes (length t.numbers + 1) (omega (arith, s.1, l))) (numbers_bytes t.numbers) in
     IsBytes-append (uvarint_of (length t.topic + 1) ++ t.topic) ((uvarint_of (length t.numbers + 1) ++ flat_map i32_text t.numbers) ++ uvarint_of 0) name
     (IsBytes-append (uvarint_of (length t.numbers + 1) ++ flat_map i32_text t.numbers) (uvarint_of 0) numbers (uvarint_bytes 0 (omega arith)))
 
-topics_bytes : (k : ℕ) (ts : List TopicPartitions) → k ≤ 37 → All (IsTopicOf k) ts → All IsWritten ts → IsBytes (flat_map topic_text ts)
+topics_bytes : (k : ℕ) (ts : List TopicPartitions) → k ≤ 53 → All (IsTopicOf k) ts → All IsWritten ts → IsBytes (flat_map topic_text ts)
 topics_bytes k [] l s h = no_bytes
 topics_bytes k (t ∷ ts) l s h =
     IsBytes-append (topic_text t) (flat_map topic_text ts) (one_topic k t l (All-head (IsTopicOf k) t ts s) (All-head IsWritten t ts h))
@@ -131,16 +133,16 @@ has_fit v t h = at (fits v.partitions) h
     at true k = refl
     at false k = absurd cc
 
-in_range : (c : Config) (a : ℕ) (x : Entry) (n : ℕ) → IsConfig c → a < c.applications → x.epoch < 2 ^ 15 → AreAllThere c x.partitions → n < 2 ^ 63 → IsInRange (value_of c a x n)
+in_range : (c : Config) (a : ℕ) (x : Entry) (n : ℕ) → IsConfig c → a < application_count c → x.epoch < 2 ^ 15 → AreAllThere c x.partitions → n < 2 ^ 63 → IsInRange (value_of c a x n)
 in_range c a x n i l e h m =
-    let most = i.applications.1 in
+    let most = few_applications c i in
     record {
       head = record { producer = record { sfits = omega (arith, l, most) }; epoch = record { sfits = e }; timeout = record { sfits = omega arith } };
       tail = record { last_update = record { sfits = m }; start = record { sfits = m } };
       numbers = All-weaker IsWritten FitNumbers (λ t k. k.1) (by_topic c x.partitions) (grouped c x.partitions i h.0);
     }
 
-state_reads : (c : Config) (a : ℕ) (x : Entry) (n : ℕ) → IsConfig c → a < c.applications → x.epoch < 2 ^ 15 → AreAllThere c x.partitions → n < 2 ^ 63
+state_reads : (c : Config) (a : ℕ) (x : Entry) (n : ℕ) → IsConfig c → a < application_count c → x.epoch < 2 ^ 15 → AreAllThere c x.partitions → n < 2 ^ 63
     → read_value (bytes_of (write_value (pos 1) (value_of c a x n))) ≡ Ok (value_of c a x n)
 state_reads c a x n i l e h m =
     let v : TxnValue = value_of c a x n in

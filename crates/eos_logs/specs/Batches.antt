@@ -1,6 +1,6 @@
 -- The batches of a cluster's logs (Kafka's Message Format, "Record Batch" and "Control Batches"; its schemas TransactionLogKey
 -- and TransactionLogValue in version 1, OffsetCommitKey in version 1 and OffsetCommitValue in version 3).
-use Rattle.std.specs.Prelude.{◌≡◌, ℕ, zero, suc, ◌+◌, ◌-◌, ℤ, pos, negsuc, ◌-ℤ◌, List, [], ◌∷◌, ◌++◌, map, take, length, slice_index_or, codes, Option, Some, None, Result, Ok, Err, ⊤}
+use Rattle.std.specs.Prelude.{◌≡◌, ℕ, zero, suc, ◌+◌, ◌-◌, ℤ, pos, negsuc, ◌-ℤ◌, List, [], ◌∷◌, ◌++◌, map, take, length, slice_index_or, codes, Option, Some, None, Result, Ok, Err, ⊤, nat_lt, if◌then◌else◌}
 use Rattle.eos_base.specs.declared.record_fault.RecordFault.{RecordFault}
 use Rattle.eos_wire.specs.Numbers.{i16_text, i32_text, i64_text}
 use Rattle.eos_batch.specs.declared.marker.Kind.{Kind}
@@ -12,20 +12,25 @@ use Rattle.eos_batch.specs.Text.{IsBatchText}
 use Rattle.eos_batch.specs.Encoding.{batch_text_of}
 use Rattle.eos_txnlog.specs.Reading.{read_value}
 use Rattle.eos_txnlog.specs.Writing as txnlog
+use Rattle.eos_offsets.specs.declared.key.OffsetKey.{OffsetKey}
+use Rattle.eos_offsets.specs.declared.value.Commit.{Commit as OffsetCommit}
 use Rattle.eos_offsets.specs.Writing as offsets
 use Rattle.eos_machine.specs.declared.config.Config.{Config}
 use Rattle.eos_machine.specs.declared.item.Claim.{Claim}
 use Rattle.eos_machine.specs.declared.item.Item.{Item}
 use Rattle.eos_machine.specs.declared.item.Item.TheVariants.{Fed, State, Output, Offset, Marker}
 use Rattle.eos_machine.specs.declared.item.Entry.{Entry}
-use Rattle.eos_machine.specs.Places.{input_topic}
+use Rattle.eos_machine.specs.Places.{input_topic, output_topic}
 use Rattle.eos_machine.specs.Rest.{producer_id, value_of}
 use Rattle.eos_logs.specs.declared.writer.Writer.{Writer}
 use Rattle.eos_logs.specs.Grouping.{joining}
 
--- the group of all applications
+-- the group that reads `in`, and the one that reads `out`
 abbrev pub group : List ℕ
 group = codes "g"
+
+abbrev pub second_group : List ℕ
+second_group = codes "h"
 
 -- app- and the number of the application, which has one digit
 abbrev pub transactional_id : ℕ → List ℕ
@@ -64,14 +69,23 @@ headers_of (Some x) = claim_headers x
 abbrev pub output_record : Option Claim → ℕ → Record
 output_record x v = record_of None (Some (i64_text (pos v))) (headers_of x)
 
--- a commit that deletes the offset has no value: it is a tombstone
-abbrev pub commit_value : ℕ → Option ℕ → Option (List ℕ)
-commit_value q None = None
-commit_value q (Some v) = Some (bytes_of (offsets.write_value (record { group = group; topic = input_topic; partition = pos q; offset = pos v }) (pos 3)))
+-- the sources are the partitions of `in`, and after them those of `out`, each of its group
+abbrev pub source_key : Config → ℕ → OffsetKey
+source_key c q =
+    if nat_lt q c.inputs
+    then record { group = group; topic = input_topic; partition = pos q }
+    else record { group = second_group; topic = output_topic; partition = pos (q - c.inputs) }
 
-abbrev pub offset_record : ℕ → Option ℕ → Record
-offset_record q v =
-    record_of (Some (bytes_of (offsets.write_key (record { group = group; topic = input_topic; partition = pos q })))) (commit_value q v) []
+abbrev pub commit_of : OffsetKey → ℤ → OffsetCommit
+commit_of k v = record { group = k.group; topic = k.topic; partition = k.partition; offset = v }
+
+-- a commit that deletes the offset has no value: it is a tombstone
+abbrev pub commit_value : OffsetKey → Option ℕ → Option (List ℕ)
+commit_value k None = None
+commit_value k (Some v) = Some (bytes_of (offsets.write_value (commit_of k (pos v)) (pos 3)))
+
+abbrev pub offset_record : Config → ℕ → Option ℕ → Record
+offset_record c q v = record_of (Some (bytes_of (offsets.write_key (source_key c q)))) (commit_value (source_key c q) v) []
 
 abbrev pub control_type : Kind → ℤ
 control_type Abort = pos 0
@@ -114,7 +128,7 @@ abbrev pub item_record : Config → Item → Record
 item_record c (Fed n) = fed_record n
 item_record c (State a x n) = state_record c a x n
 item_record c (Output a e s x v n) = output_record x v
-item_record c (Offset a e q v n) = offset_record q v
+item_record c (Offset a e q v n) = offset_record c q v
 item_record c (Marker a e k n) = marker_record k
 
 abbrev pub delayed : Record → ℤ → Record

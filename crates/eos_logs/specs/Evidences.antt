@@ -1,5 +1,5 @@
 -- The evidence of a cluster: all its logs, cut into segments of the configured number of records, with true ends.
-use Rattle.std.specs.Prelude.{◌≡◌, ℕ, ◌+◌, ◌-◌, ◌*◌, ◌/◌, ◌≤◌, ◌<◌, pos, List, [], ◌∷◌, map, length, take, drop, Result, Ok}
+use Rattle.std.specs.Prelude.{◌≡◌, ℕ, ◌+◌, ◌-◌, ◌*◌, ◌/◌, ◌≤◌, ◌<◌, pos, List, [], ◌∷◌, map, length, take, drop, Result, Ok, if◌then◌else◌}
 use Rattle.std.specs.List.{flat_map, range_with_len}
 use Rattle.eos_base.specs.Steps.{◌>>=◌}
 use Rattle.eos_evidence.specs.declared.application.App.{App}
@@ -10,21 +10,28 @@ use Rattle.eos_evidence.specs.Parts.{Parts, accepted}
 use Rattle.eos_evidence.specs.Evidence.{EvidenceParts, without_segments, added}
 use Rattle.eos_machine.specs.declared.config.Config.{Config}
 use Rattle.eos_machine.specs.declared.item.Item.{Item}
-use Rattle.eos_machine.specs.Places.{place_count, topic_of, number_of, input_topic, output_topic}
+use Rattle.eos_machine.specs.Places.{place_count, topic_of, number_of, final_topic, input_topic, output_topic}
 use Rattle.eos_machine.specs.World.{World, log_at}
 use Rattle.eos_batch.specs.declared.batch.Batch.{Batch}
-use Rattle.eos_logs.specs.Batches.{group, batches_from, texts_of, AreTexts, AreRead}
+use Rattle.eos_logs.specs.Batches.{group, batches_from, texts_of, AreTexts, AreRead, second_group}
 
--- the one group, which reads `in` and writes `out`
+-- the group that reads `in` and writes `out`
 abbrev pub application : App
 application = record { group = group; sources = input_topic ∷ []; outputs = output_topic ∷ [] }
+
+-- the one that reads `out` and writes `fin`
+abbrev pub second_application : App
+second_application = record { group = second_group; sources = output_topic ∷ []; outputs = final_topic ∷ [] }
+
+abbrev pub groups_of : Config → List App
+groups_of c = if c.chain then application ∷ second_application ∷ [] else application ∷ []
 
 -- the end of a partition is the number of its records
 abbrev pub end_of : Config → World → ℕ → End
 end_of c w p = record { topic = topic_of c p; partition = pos (number_of c p); end = pos (length (log_at w p)) }
 
 abbrev pub parts_of : Config → World → Parts
-parts_of c w = record { apps = application ∷ []; ends = map (end_of c w) (range_with_len 0 (place_count c)) }
+parts_of c w = record { apps = groups_of c; ends = map (end_of c w) (range_with_len 0 (place_count c)) }
 
 -- how many segments so many records take
 abbrev pub segment_count : Config → ℕ → ℕ
