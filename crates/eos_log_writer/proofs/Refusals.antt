@@ -1,6 +1,6 @@
 -- What is written of a cluster is refused for want of memory alone.
-use Rattle.std.proofs.Common.{◌≡◌, ◌≢◌, ℕ, zero, suc, ◌+◌, ◌-◌, ◌*◌, ◌/◌, ◌%◌, ◌^◌, ◌<◌, ◌≤◌, min, ℤ, List, [], ◌∷◌, ◌++◌, Result, Ok, Err, inl, inr, refl, sym, ap, subst, ◌∙◌, arith, take, drop, length, map, pos}
-use Rattle.std.specs.Prelude.{IsOk}
+use Rattle.std.proofs.Common.{◌≡◌, ◌≢◌, Bool, true, false, pos, ℕ, zero, suc, ◌+◌, ◌-◌, ◌*◌, ◌/◌, ◌%◌, ◌^◌, ◌<◌, ◌≤◌, min, ℤ, List, [], ◌∷◌, ◌++◌, Result, Ok, Err, inl, inr, refl, sym, ap, subst, ◌∙◌, arith, take, drop, length, map, pos}
+use Rattle.std.specs.Prelude.{IsOk, nat_lt, if◌then◌else◌}
 use Rattle.std.specs.List.{All, range_with_len}
 use Rattle.std.proofs.Math.Nat.{div-add-mod, mul_comm, mul-le-mul_right}
 use Rattle.std.proofs.lemmas.List.{length-take, length-drop}
@@ -10,6 +10,7 @@ use Rattle.std.proofs.lemmas.Int.{of_z-to_z, ints}
 use Rattle.eos_wire.specs.Numbers.{i16_text, i64_text}
 use Rattle.eos_fields.specs.declared.form.Form.TheVariants.{Plain}
 use Rattle.eos_fields.specs.Writing.{string_text}
+use Rattle.eos_offsets.specs.declared.key.OffsetKey.{OffsetKey}
 use Rattle.eos_offsets.specs.Writing as offsets
 use Rattle.eos_txnlog.specs.declared.status.Status.{Status as TxnStatus}
 use Rattle.eos_txnlog.specs.declared.value.TxnValue.{TxnValue}
@@ -32,7 +33,9 @@ use Rattle.eos_evidence.specs.Evidence.{EvidenceParts, added}
 use Rattle.eos_machine.specs.declared.config.Config.{Config}
 use Rattle.eos_machine.specs.declared.item.Item.{Item}
 use Rattle.eos_machine.specs.declared.item.Item.TheVariants.{Fed, State, Output, Offset, Marker}
-use Rattle.eos_machine.specs.Places.{IsConfig}
+use Rattle.eos_machine.specs.Places.{IsConfig, application_count, input_topic, output_topic}
+use Rattle.eos_machine.proofs.Written.{few_applications}
+use Rattle.eos_logs.specs.Batches.{group, second_group, source_key}
 use Rattle.eos_logs.specs.Evidences.{segment_count, segment_at, adding}
 use Rattle.eos_logs.specs.Fitting.{IsFit}
 use Rattle.eos_log_writer.specs.steps.Writers.{HasWriter}
@@ -60,12 +63,15 @@ batch_memory b f t h = at (tested b) t h
 
 -- ---- the parts of a batch
 
+pub few_of : (c : Config) (a : ℕ) → IsConfig c → a < application_count c → a ≤ 8
+few_of c a i h = let f = few_applications c i in omega (arith, h, f)
+
 pub fit_writer : (c : Config) (x : Item) → IsConfig c → IsFit c x → HasWriter x
 fit_writer c (Fed n) i h = tt
 fit_writer c (State a x n) i h = tt
-fit_writer c (Output a e s x v n) i h = (omega (arith, h.0, i.applications.1), h.1, h.2)
-fit_writer c (Offset a e q v n) i h = (omega (arith, h.0, i.applications.1), h.1)
-fit_writer c (Marker a e k n) i h = (omega (arith, h.0, i.applications.1), h.1)
+fit_writer c (Output a e s x v n) i h = (few_of c a i h.0, h.1, h.2)
+fit_writer c (Offset a e q v n) i h = (few_of c a i h.0, h.1)
+fit_writer c (Marker a e k n) i h = (few_of c a i h.0, h.1)
 
 -- ---- a segment begins inside its log
 
@@ -111,3 +117,11 @@ written_bytes v bytes l h = sym (inner _ bytes h) ∙ same_bytes v l
   where
     inner : (a b : List ℕ) → (let r : Result (List ℕ) RecordFault = Ok a in r ≡ Ok b) → a ≡ b
     inner a b h = cc h
+
+-- the keys of sources are short
+pub source_written : (c : Config) (q : ℕ) → offsets.write_key (source_key c q) ≡ Ok (offsets.key_bytes (source_key c q))
+source_written c q = by (nat_lt q c.inputs)
+  where
+    by : (t : Bool) → (let k : OffsetKey = if t then record { group = group; topic = input_topic; partition = pos q } else record { group = second_group; topic = output_topic; partition = pos (q - c.inputs) } in offsets.write_key k ≡ Ok (offsets.key_bytes k))
+    by true = refl
+    by false = refl

@@ -69,12 +69,18 @@ fn output_record(alloc: Global, claim: &Option<Claim>, value: u64) -> Result<Rec
     Ok(record_of(None, Some(value), headers))
 }
 
-fn offset_record(alloc: Global, source: usize, offset: Option<u64>) -> Result<Record, AllocError>
-    requires { source < 2 ^ 31 }
-    ensures { IfOk result (λ r. r ≡ offset_record source offset) }
+fn offset_record(
+    alloc: Global,
+    config: Config,
+    source: usize,
+    offset: Option<u64>,
+) -> Result<Record, AllocError>
+    requires config { IsConfig config }
+    requires source { source < config.inputs + config.outputs }
+    ensures { IfOk result (λ r. r ≡ offset_record config source offset) }
 {
-    let key = values::commit_key(alloc, source)?;
-    let value = values::commit_value(alloc, source, offset)?;
+    let key = values::commit_key(alloc, config, source)?;
+    let value = values::commit_value(alloc, config, source, offset)?;
     Ok(record_of(Some(key), value, Vec::new(alloc)))
 }
 
@@ -127,6 +133,7 @@ fn item_writer(item: &Item) -> Writer
 }
 
 /// The record of an item, as it is in a batch of its own.
+#[tactic(auto, using(crate::proofs::Refusals::few_of))]
 fn item_record(alloc: Global, config: Config, item: &Item) -> Result<Record, AllocError>
     requires config { IsConfig config }
     requires fits { IsFit config item.now }
@@ -140,7 +147,7 @@ fn item_record(alloc: Global, config: Config, item: &Item) -> Result<Record, All
             event,
         } => state_record(alloc, config, *application, entry, *event),
         Item::Output { claim, value, .. } => output_record(alloc, claim, *value),
-        Item::Offset { source, offset, .. } => offset_record(alloc, *source, *offset),
+        Item::Offset { source, offset, .. } => offset_record(alloc, config, *source, *offset),
         Item::Marker { kind, .. } => marker_record(alloc, *kind),
     }
 }

@@ -2,7 +2,7 @@
 
 ghost use Rattle.std.specs.Prelude.{◌≡◌, ◌^◌, ◌&&◌, length, nat_lt, nat_le};
 ghost use Rattle.std.specs.List.{list_all};
-ghost use Rattle.eos_machine.specs.Places.{IsConfig};
+ghost use Rattle.eos_machine.specs.Places.{IsConfig, application_count};
 ghost use Rattle.eos_machine.specs.Sessions.{claimed_topic};
 ghost use Rattle.eos_logs.specs.steps.Fits.{are_all_there, is_fit};
 
@@ -49,9 +49,9 @@ fn is_topic_fit(claim: &Option<Claim>) -> bool
 /// Whether a state fits, without its event.
 fn is_entry_fit(config: Config, application: usize, entry: &Entry) -> bool
     requires { IsConfig config }
-    ensures { result ≡ (nat_lt application config.applications && nat_lt entry.now.epoch (2 ^ 15) && are_all_there config entry.now.partitions) }
+    ensures { result ≡ (nat_lt application (application_count config) && nat_lt entry.now.epoch (2 ^ 15) && are_all_there config entry.now.partitions) }
 {
-    application < config.applications
+    application < config.application_count()
         && entry.epoch < EPOCHS
         && are_all_there(config, entry.partitions.as_slice())
 }
@@ -76,7 +76,7 @@ fn is_fit(config: Config, item: &Item) -> bool
             value,
             event,
         } => {
-            *application < config.applications
+            *application < config.application_count()
                 && *epoch < EPOCHS
                 && *sequence < SEQUENCES
                 && is_topic_fit(claim)
@@ -90,9 +90,9 @@ fn is_fit(config: Config, item: &Item) -> bool
             event,
             ..
         } => {
-            *application < config.applications
+            *application < config.application_count()
                 && *epoch < EPOCHS
-                && *source < config.inputs
+                && *source < config.inputs + config.outputs
                 && *event < NUMBERS
         }
         Item::Marker {
@@ -100,7 +100,7 @@ fn is_fit(config: Config, item: &Item) -> bool
             epoch,
             event,
             ..
-        } => *application < config.applications && *epoch < EPOCHS && *event < NUMBERS,
+        } => *application < config.application_count() && *epoch < EPOCHS && *event < NUMBERS,
     }
 }
 

@@ -10,4 +10,4 @@ mod values;
 mod writer;
 
 pub use places::place_count;
-pub use segments::{LogFault, add_log, application, end_of};
+pub use segments::{LogFault, add_log, end_of, groups_of};

@@ -1,7 +1,7 @@
 //! The partitions' names by their places in a cluster's list of logs.
 
 ghost use Rattle.std.specs.Prelude.{◌≡◌};
-ghost use Rattle.eos_machine.specs.Places.{IsConfig, output_place, topic_of, number_of, place_count};
+ghost use Rattle.eos_machine.specs.Places.{IsConfig, input_place, output_place, topic_of, number_of, place_count};
 
 use bytes::Bytes;
 use eos_machine::Config;
@@ -15,6 +15,8 @@ pub fn topic_of(config: Config, place: usize) -> Bytes
         Bytes::from_static(b"__consumer_offsets".as_slice())
     } else if place <= config.transaction_logs {
         Bytes::from_static(b"__transaction_state".as_slice())
+    } else if place < input_start(config) {
+        Bytes::from_static(b"fin".as_slice())
     } else if place < output_start(config) {
         Bytes::from_static(b"in".as_slice())
     } else {
@@ -22,12 +24,20 @@ pub fn topic_of(config: Config, place: usize) -> Bytes
     }
 }
 
+/// The place of the first partition of `in`.
+fn input_start(config: Config) -> usize
+    requires { IsConfig config }
+    ensures { result ≡ input_place config 0 }
+{
+    1 + config.transaction_logs + config.final_count()
+}
+
 /// The place of the first partition of `out`.
 fn output_start(config: Config) -> usize
     requires { IsConfig config }
     ensures { result ≡ output_place config 0 }
 {
-    1 + config.transaction_logs + config.inputs
+    input_start(config) + config.inputs
 }
 
 /// The number of the partition at a place in its topic.
@@ -39,8 +49,10 @@ pub fn number_of(config: Config, place: usize) -> usize
         0
     } else if place <= config.transaction_logs {
         place - 1
-    } else if place < output_start(config) {
+    } else if place < input_start(config) {
         place - 1 - config.transaction_logs
+    } else if place < output_start(config) {
+        place - input_start(config)
     } else {
         place - output_start(config)
     }

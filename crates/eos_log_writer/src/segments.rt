@@ -1,6 +1,6 @@
 //! The logs of a cluster, cut into segments.
 
-ghost use Rattle.std.specs.Prelude.{◌≡◌, ◌≢◌, ◌*◌, ◌<◌, ◌^◌, pos, Ok, Err, take, drop, length, IfOk, OnOk, IsOk, IfSome, IsNone};
+ghost use Rattle.std.specs.Prelude.{◌≡◌, ◌≢◌, [], ◌∷◌, ◌*◌, ◌<◌, ◌^◌, pos, Ok, Err, take, drop, length, IfOk, OnOk, IsOk, IfSome, IsNone};
 ghost use Rattle.std.specs.List.{All};
 ghost use Rattle.eos_machine.specs.Places.{IsConfig, place_count, topic_of, number_of};
 ghost use Rattle.eos_logs.specs.Fitting.{IsFit};
@@ -8,7 +8,7 @@ ghost use Rattle.eos_log_writer.specs.declared.segments.LogFault.{LogFault};
 ghost use Rattle.eos_log_writer.specs.Names.{log_fault_name};
 ghost use Rattle.eos_evidence.specs.Evidence.{added};
 ghost use Rattle.eos_logs.specs.Batches.{AreTexts};
-ghost use Rattle.eos_logs.specs.Evidences.{application, segment_count, batches_at, segment_at, log_segments, adding, HaveTexts};
+ghost use Rattle.eos_logs.specs.Evidences.{application, second_application, groups_of, segment_count, batches_at, segment_at, log_segments, adding, HaveTexts};
 
 use crate::batches::items_text;
 use crate::fitting::are_fit;
@@ -139,19 +139,47 @@ pub fn add_log(
     Ok(())
 }
 
-/// The one group, which reads `in` and writes `out`.
-pub fn application(alloc: Global) -> Result<App, AllocError>
+/// The list of one topic.
+fn only(alloc: Global, topic: Bytes) -> Result<Listed<Bytes>, AllocError>
+    ensures { IfOk result (λ ts. ts ≡ topic ∷ []) }
+{
+    let mut topics = Vec::new(alloc);
+    topics.push(topic)?;
+    Ok(Listed::new(topics))
+}
+
+/// The group that reads `in` and writes `out`.
+fn application(alloc: Global) -> Result<App, AllocError>
     ensures { IfOk result (λ a. a ≡ application) }
 {
-    let mut sources = Vec::new(alloc);
-    sources.push(values::input_topic())?;
-    let mut outputs = Vec::new(alloc);
-    outputs.push(Bytes::from_static(b"out".as_slice()))?;
     Ok(App {
         group: GroupId::new(String::from_str(alloc, "g")?),
-        sources: Listed::new(sources),
-        outputs: Listed::new(outputs),
+        sources: only(alloc, values::input_topic())?,
+        outputs: only(alloc, values::output_topic())?,
     })
+}
+
+/// The group that reads `out` and writes `fin`.
+fn second_application(alloc: Global) -> Result<App, AllocError>
+    ensures { IfOk result (λ a. a ≡ second_application) }
+{
+    Ok(App {
+        group: GroupId::new(String::from_str(alloc, "h")?),
+        sources: only(alloc, values::output_topic())?,
+        outputs: only(alloc, values::final_topic())?,
+    })
+}
+
+/// The groups of a cluster.
+pub fn groups_of(alloc: Global, config: Config) -> Result<Listed<App>, AllocError>
+    ensures { IfOk result (λ apps. apps ≡ groups_of config) }
+{
+    let mut groups = Vec::new(alloc);
+    groups.push(application(alloc)?)?;
+    if config.chain {
+        groups.push(second_application(alloc)?)?;
+    }
+    Ok(Listed::new(groups))
 }
 
 /// The end of the partition at a place, whose log has so many records. None where a number of them doesn't fit its field, as

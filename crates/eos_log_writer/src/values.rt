@@ -5,7 +5,7 @@ ghost use Rattle.eos_wire.specs.Numbers.{i32_text, i64_text, i16_text};
 ghost use Rattle.eos_txnlog.specs.Reading.{read_value};
 ghost use Rattle.eos_txnlog.specs.Writing as txnlog;
 ghost use Rattle.eos_offsets.specs.Writing as offsets;
-ghost use Rattle.eos_machine.specs.Places.{IsConfig, input_topic};
+ghost use Rattle.eos_machine.specs.Places.{IsConfig, final_topic, input_topic, output_topic};
 ghost use Rattle.eos_machine.specs.Rest.{status_of, by_topic, value_of, with_number};
 ghost use Rattle.eos_txnlog.specs.declared.partitions.TopicPartitions.{TopicPartitions};
 ghost use Rattle.eos_log_writer.specs.Grouping.{starts_with};
@@ -14,7 +14,7 @@ ghost use Rattle.std.specs.List.{All};
 ghost use Rattle.eos_base.specs.declared.record_fault.RecordFault.{RecordFault};
 ghost use Rattle.eos_machine.specs.Places.{place_count};
 ghost use Rattle.eos_logs.specs.Fitting.{AreAllThere};
-ghost use Rattle.eos_logs.specs.Batches.{group, transactional_id, bytes_of, header, claim_headers, headers_of, commit_value, control_type};
+ghost use Rattle.eos_logs.specs.Batches.{group, second_group, transactional_id, bytes_of, header, claim_headers, headers_of, source_key, commit_of, commit_value, control_type};
 
 use crate::places::{number_of, topic_of};
 use crate::writer::{as_i16, as_i32, as_i64, producer_id};
@@ -36,18 +36,36 @@ const TXN_VALUE_VERSION: i16 = 1;
 /// The version of a commit's value.
 const COMMIT_VALUE_VERSION: i16 = 3;
 
-/// The group of all applications.
-pub(crate) fn group() -> Bytes
+/// The group that reads `in`.
+fn group() -> Bytes
     ensures { result ≡ group }
 {
     Bytes::from_static(b"g".as_slice())
 }
 
-/// The topic that applications read.
+/// The group that reads `out`.
+fn second_group() -> Bytes
+    ensures { result ≡ second_group }
+{
+    Bytes::from_static(b"h".as_slice())
+}
+
+pub(crate) fn final_topic() -> Bytes
+    ensures { result ≡ final_topic }
+{
+    Bytes::from_static(b"fin".as_slice())
+}
+
 pub(crate) fn input_topic() -> Bytes
     ensures { result ≡ input_topic }
 {
     Bytes::from_static(b"in".as_slice())
+}
+
+pub(crate) fn output_topic() -> Bytes
+    ensures { result ≡ output_topic }
+{
+    Bytes::from_static(b"out".as_slice())
 }
 
 pub(crate) fn i32_bytes(alloc: Global, number: i32) -> Result<Bytes, AllocError>
@@ -229,16 +247,34 @@ pub(crate) fn transaction_value(
     }
 }
 
-/// The key of a commit of the group's offset in a partition of `in`.
-pub(crate) fn commit_key(alloc: Global, source: usize) -> Result<Bytes, AllocError>
-    requires { source < 2 ^ 31 }
-    ensures { IfOk result (λ b. b ≡ bytes_of (offsets.write_key (record { group = group; topic = input_topic; partition = pos source }))) }
+/// The key of a source: of a partition of `in`, or after them one of `out`, each of the group that reads it.
+fn source_key(config: Config, source: usize) -> OffsetKey
+    requires config { IsConfig config }
+    requires source { source < config.inputs + config.outputs }
+    ensures { result ≡ source_key config source }
 {
-    let key = OffsetKey {
-        group: group(),
-        topic: input_topic(),
-        partition: as_i32(source),
-    };
+    if source < config.inputs {
+        OffsetKey {
+            group: group(),
+            topic: input_topic(),
+            partition: as_i32(source),
+        }
+    } else {
+        OffsetKey {
+            group: second_group(),
+            topic: output_topic(),
+            partition: as_i32(source - config.inputs),
+        }
+    }
+}
+
+/// The key of a commit of a group's offset in its source.
+pub(crate) fn commit_key(alloc: Global, config: Config, source: usize) -> Result<Bytes, AllocError>
+    requires config { IsConfig config }
+    requires source { source < config.inputs + config.outputs }
+    ensures { IfOk result (λ b. b ≡ bytes_of (offsets.write_key (source_key config source))) }
+{
+    let key = source_key(config, source);
     match eos_offsets::encode_key(alloc, &key) {
         Ok(bytes) => Ok(bytes),
         Err(fault) => Err(of_memory(fault)),
@@ -246,24 +282,36 @@ pub(crate) fn commit_key(alloc: Global, source: usize) -> Result<Bytes, AllocErr
 }
 
 /// A commit of an offset, with the eight bytes that it has.
-fn commit_of(source: usize, offset: u64) -> Commit
-    requires { source < 2 ^ 31 }
-    ensures { result ≡ record { group = group; topic = input_topic; partition = pos source; offset = cast_signed w64 offset } }
+fn commit_of(config: Config, source: usize, offset: u64) -> Commit
+    requires config { IsConfig config }
+    requires source { source < config.inputs + config.outputs }
+    ensures { result ≡ commit_of (source_key config source) (cast_signed w64 offset) }
 {
+    let OffsetKey {
+        group,
+        topic,
+        partition,
+    } = source_key(config, source);
     Commit {
-        group: group(),
-        topic: input_topic(),
-        partition: as_i32(source),
+        group,
+        topic,
+        partition,
         offset: offset.cast_signed(),
     }
 }
 
 /// The value of a commit of an offset. It has the offset's eight bytes, whichever sign they have as an i64.
-fn offset_value(alloc: Global, source: usize, offset: u64) -> Result<Bytes, AllocError>
-    requires { source < 2 ^ 31 }
-    ensures { IfOk result (λ b. b ≡ bytes_of (offsets.write_value (record { group = group; topic = input_topic; partition = pos source; offset = pos offset }) (pos 3))) }
+fn offset_value(
+    alloc: Global,
+    config: Config,
+    source: usize,
+    offset: u64,
+) -> Result<Bytes, AllocError>
+    requires config { IsConfig config }
+    requires source { source < config.inputs + config.outputs }
+    ensures { IfOk result (λ b. b ≡ bytes_of (offsets.write_value (commit_of (source_key config source) (pos offset)) (pos 3))) }
 {
-    let commit = commit_of(source, offset);
+    let commit = commit_of(config, source, offset);
     match eos_offsets::encode_value(alloc, &commit, COMMIT_VALUE_VERSION) {
         Ok(bytes) => Ok(bytes),
         Err(fault) => Err(of_memory(fault)),
@@ -273,14 +321,16 @@ fn offset_value(alloc: Global, source: usize, offset: u64) -> Result<Bytes, Allo
 /// The value of a commit, where it has one: a commit that deletes the offset is a tombstone.
 pub(crate) fn commit_value(
     alloc: Global,
+    config: Config,
     source: usize,
     offset: Option<u64>,
 ) -> Result<Option<Bytes>, AllocError>
-    requires { source < 2 ^ 31 }
-    ensures { IfOk result (λ b. b ≡ commit_value source offset) }
+    requires config { IsConfig config }
+    requires source { source < config.inputs + config.outputs }
+    ensures { IfOk result (λ b. b ≡ commit_value (source_key config source) offset) }
 {
     match offset {
-        Some(offset) => Ok(Some(offset_value(alloc, source, offset)?)),
+        Some(offset) => Ok(Some(offset_value(alloc, config, source, offset)?)),
         None => Ok(None),
     }
 }
