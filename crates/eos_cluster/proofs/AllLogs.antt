@@ -19,7 +19,7 @@ use Rattle.eos_evidence.specs.declared.application.App.{App}
 use Rattle.eos_evidence.specs.declared.ends.End.{End}
 use Rattle.eos_evidence.specs.declared.fault.SpecFault.{SpecFault}
 use Rattle.eos_evidence.specs.Parts.{Parts, accepted}
-use Rattle.eos_logs.specs.Evidences.{application, end_of}
+use Rattle.eos_logs.specs.Evidences.{groups_of, end_of}
 use Rattle.eos_logs.specs.Fitting.{IsFit}
 use Rattle.eos_logs.proofs.AcceptedParts.{accepted_parts}
 use Rattle.eos_evidence.specs.Evidence.{without_segments}
@@ -86,7 +86,7 @@ log_only c d w p log b R e i g l o h =
     (subst (λ k. All (IsFit k) log) (sym e) (subst (All (IsFit d)) (sym i) (g.fit p)))
     (subst (λ k. IsOk (adding b (log_segments k p log))) (sym e) (subst (λ xs. IsOk (adding b (log_segments d p xs))) (sym i) o))
 
-pub spec_taken : (c : Config) (w : World) → IsWritable c w → (apps : List App) (ends : List End) (f : SpecFault) → apps ≡ application ∷ [] → ends ≡ map (end_of c w) (range_with_len 0 (place_count c))
+pub spec_taken : (c : Config) (w : World) → IsWritable c w → (apps : List App) (ends : List End) (f : SpecFault) → apps ≡ groups_of c → ends ≡ map (end_of c w) (range_with_len 0 (place_count c))
     → (let r : Result Parts SpecFault = Err f in r ≡ accepted (record { apps = apps; ends = ends })) → ⊥
 spec_taken c w g apps ends f a e h =
     let s : accepted (record { apps = apps; ends = ends }) ≡ accepted (parts_of c w) = λ i. accepted (record { apps = a i; ends = e i }) in

@@ -1,9 +1,9 @@
 //! A cluster that takes events one by one.
 
-ghost use Rattle.std.specs.Prelude.{◌≡◌, ◌↔◌, ◌≤◌, ◌<◌, ◌^◌, ◌&&◌, not, true, Err, IfOk};
+ghost use Rattle.std.specs.Prelude.{◌≡◌, ◌↔◌, ◌≤◌, ◌<◌, ◌^◌, ◌&&◌, not, true, [], Err, IfOk};
 ghost use Rattle.eos_evidence.specs.Evidence.{IsEvidence};
-ghost use Rattle.eos_machine.specs.Places.{IsConfig};
-ghost use Rattle.eos_machine.specs.World.{opening};
+ghost use Rattle.eos_machine.specs.Places.{IsConfig, output_place};
+ghost use Rattle.eos_machine.specs.World.{opening, log_at};
 ghost use Rattle.eos_machine.specs.Rest.{IsAtRest, KeepsSequences, StepsFit, AllAtomic, NeighboursFit};
 ghost use Rattle.eos_cluster.specs.declared.cluster.NewFault.{NewFault};
 ghost use Rattle.eos_cluster.specs.Names.{new_fault_name};
@@ -16,8 +16,10 @@ ghost use Rattle.eos_cluster.specs.Courses.{IsStep, IsStepUnder, IsCounted};
 use crate::evidence::{EvidenceRefusal, evidence_of};
 use crate::happens::happen;
 use eos_evidence::{Evidence, MAX_SEGMENTS};
-use eos_machine::{Config, Event, Reply, Switches};
+use eos_log_writer::place_count;
+use eos_machine::{Config, Event, Item, Reply, Switches};
 use eos_store::Store;
+use eos_store::places::output_place;
 use std::alloc::Global;
 use std::marker::Model;
 use thiserror::Error;
@@ -177,6 +179,18 @@ impl Cluster {
         self.store.config_ref()
     }
 
+    /// What stands in a partition of `out`, by offset: nothing where there is no such partition.
+    pub fn output_log(&self, partition: usize) -> &[Item]
+        ensures there { partition < self.now.config.outputs → result.now ≡ log_at self.now.world (output_place self.now.config partition) }
+        ensures none { self.now.config.outputs ≤ partition → result.now ≡ [] }
+    {
+        let config = self.store.config();
+        if partition >= config.outputs {
+            return &[];
+        }
+        self.store.log(output_place(config, partition))
+    }
+
     /// Whether no transaction is open or still ending. Whatever events an honest cluster has taken: no fault of a sequence or
     /// of an epoch stands at any batch of its logs, and each record of its transaction log may follow the one before it. At
     /// rest, the batches, the markers and the decisions of each application fit together.
@@ -195,13 +209,14 @@ impl Cluster {
         ensures { result ≡ true ↔ HasRoomForAll self.now.config self.now.world }
     {
         let config = self.config();
-        let partitions = 1 + config.transaction_logs + config.inputs + config.outputs;
+        let partitions = place_count(*config);
         let segments = 2 * self.events() / config.segment_records as u64;
         segments + partitions as u64 <= MAX_SEGMENTS
     }
 
     /// The logs of a cluster at rest as evidence, honest or not: in segments of the configured number of records, the last of
-    /// a partition with as many as are left, with true ends; the group is `g`, which reads `in` and writes `out`. Of an honest
+    /// a partition with as many as are left, with true ends; the groups are `g`, which reads `in` and writes `out`,
+    /// and, where there is a second one, `h`, which reads `out` and writes `fin`. Of an honest
     /// cluster it is the evidence of a schedule, of which `eos_schedules` says that no fault of the logs stands in it.
     ///
     /// # Errors

@@ -14,7 +14,7 @@ ghost use Rattle.eos_cluster.specs.Names.{evidence_refusal_name};
 
 use eos_base::Listed;
 use eos_evidence::{End, Evidence, EvidenceBuilder, Spec};
-use eos_log_writer::{LogFault, add_log, application, end_of, place_count};
+use eos_log_writer::{LogFault, add_log, end_of, groups_of, place_count};
 use eos_store::Store;
 use std::alloc::AllocError;
 use thiserror::Error;
@@ -108,10 +108,9 @@ fn spec_of(store: &Store) -> Result<Spec, AllocError>
     requires { IsWritable store.now.config store.now.world }
     ensures { IfOk result (λ s. accepted (parts_of store.now.config store.now.world) ≡ Ok s) }
 {
-    let mut apps = Vec::new(store.alloc());
-    apps.push(application(store.alloc())?)?;
+    let groups = groups_of(store.alloc(), store.config())?;
     let ends = Listed::new(ends(store)?);
-    match Spec::new(store.alloc(), Listed::new(apps), ends) {
+    match Spec::new(store.alloc(), groups, ends) {
         Ok(spec) => Ok(spec),
         Err(_) => unreachable!(),
     }
