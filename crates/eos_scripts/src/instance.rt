@@ -1,6 +1,7 @@
 //! An instance of an application: what it does next, and what it makes of a reply.
 
-use crate::plan::{Plan, Request};
+use crate::plan::Plan;
+use crate::request::Request;
 use eos_batch::Kind;
 use eos_machine::{Event, Reply};
 use std::alloc::{AllocError, Global};
@@ -10,7 +11,7 @@ use std::alloc::{AllocError, Global};
 enum Stage {
     /// It has no session.
     Away,
-    /// It looks for inputs in its partitions of `in`, from this one on.
+    /// It looks for inputs in its sources, from this one on.
     Reading(usize),
     /// It sends the request of this number.
     Sending(usize),
@@ -54,7 +55,7 @@ pub(crate) struct Choice {
 pub(crate) struct Instance {
     application: usize,
     session: usize,
-    /// The generation of the group when the session began.
+    /// The generation of the groups when the session began.
     generation: u64,
     stage: Stage,
     /// What its transaction asks.

@@ -1,5 +1,5 @@
-//! What drives a simulated cluster: scripts of words from a seed, and the applications of a group that read, process and
-//! write in transactions, whose requests are lost and repeated, whose sessions are abandoned and whose brokers and
+//! What drives a simulated cluster: scripts of words from a seed, and the applications of one or two groups that read, process
+//! and write in transactions, whose requests are lost and repeated, whose sessions are abandoned and whose brokers and
 //! coordinators restart, as the words say.
 //!
 //! Proved: the words of a script are those of its seed; each call returns, and does nothing to the cluster but ask it for events
@@ -17,6 +17,8 @@ mod mishaps;
 mod network;
 mod plan;
 mod rates;
+mod reader;
+mod request;
 mod run;
 mod script;
 mod scripted;

@@ -21,10 +21,12 @@ pub enum Mishap {
     NoHeaders,
     /// The offset of its partition is deleted before the one after it is committed.
     OffsetDeleted,
+    /// It is a record of `out` that was aborted, and the second group processes it all the same.
+    AbortedInput,
 }
 
 /// All of them.
-const MISHAPS: [Mishap; 9] = [
+const MISHAPS: [Mishap; 10] = [
     Mishap::LostOutput,
     Mishap::RepeatedOutput,
     Mishap::EarlyOutput,
@@ -34,6 +36,7 @@ const MISHAPS: [Mishap; 9] = [
     Mishap::OtherTransaction,
     Mishap::NoHeaders,
     Mishap::OffsetDeleted,
+    Mishap::AbortedInput,
 ];
 
 impl Mishap {
@@ -49,6 +52,7 @@ impl Mishap {
             Mishap::OtherTransaction => "other-transaction",
             Mishap::NoHeaders => "no-headers",
             Mishap::OffsetDeleted => "offset-deleted",
+            Mishap::AbortedInput => "aborted-input",
         }
     }
 
@@ -67,6 +71,11 @@ impl Mishap {
         self == Mishap::EarlyOutput || self == Mishap::OtherTransaction
     }
 
+    /// Whether it is a mistake of the second group.
+    pub(crate) fn is_chained(self) -> bool {
+        self == Mishap::AbortedInput
+    }
+
     /// Whether it can happen at an input with so many outputs.
     pub(crate) fn suits(self, outputs: u64) -> bool {
         let least = match self {
@@ -78,7 +87,7 @@ impl Mishap {
     }
 }
 
-/// An input, by its partition of `in` and its offset.
+/// An input, by its partition of the topic that its group reads and its offset.
 #[derive(Clone, Copy, Debug, PartialEq, Eq)]
 pub struct Input {
     pub source: usize,
@@ -91,9 +100,10 @@ impl Input {
         self.offset % 3
     }
 
-    /// The input that a text `in-N:O` names, if it names one.
-    fn from_text(text: &str) -> Option<Input> {
-        let (source, offset) = text.strip_prefix("in-")?.split_once(':')?;
+    /// The input that a text `in-N:O` names, or one `out-N:O` of the second group, if it names one.
+    fn from_text(text: &str, is_chained: bool) -> Option<Input> {
+        let topic = if is_chained { "out-" } else { "in-" };
+        let (source, offset) = text.strip_prefix(topic)?.split_once(':')?;
         Some(Input {
             source: number_in(source)? as usize,
             offset: number_in(offset)?,
@@ -117,13 +127,16 @@ pub struct ChosenMishap {
 }
 
 impl ChosenMishap {
-    /// What a word says: `NAME`, or `NAME@in-N:O`. `None` where it is neither.
+    /// What a word says: `NAME`, or `NAME@in-N:O`, or `NAME@out-N:O` of the second group. `None` where it is neither.
     pub fn from_word(word: &str) -> Option<ChosenMishap> {
         match word.split_once('@') {
-            Some((name, place)) => Some(ChosenMishap {
-                mishap: Mishap::named(name)?,
-                at: Some(Input::from_text(place)?),
-            }),
+            Some((name, place)) => {
+                let mishap = Mishap::named(name)?;
+                Some(ChosenMishap {
+                    mishap,
+                    at: Some(Input::from_text(place, mishap.is_chained())?),
+                })
+            }
             None => Some(ChosenMishap {
                 mishap: Mishap::named(word)?,
                 at: None,
@@ -131,9 +144,9 @@ impl ChosenMishap {
         }
     }
 
-    /// Whether it happens at this input.
+    /// Whether it happens at this input of the first group.
     pub(crate) fn is_at(self, input: Input) -> bool {
-        self.at == Some(input) && self.mishap.suits(input.outputs())
+        self.at == Some(input) && !self.mishap.is_chained() && self.mishap.suits(input.outputs())
     }
 
     /// Whether it happens at this input, or after it in its partition.

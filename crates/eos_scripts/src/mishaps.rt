@@ -28,6 +28,37 @@ impl Mishaps {
         Ok(Mishaps { due })
     }
 
+    /// Whether a transaction of the second group processes this input, which was aborted: one of its mishaps happens there, or
+    /// now does.
+    pub(crate) fn meet_aborted(&mut self, input: Input) -> bool {
+        let Some(place) = self.first_aborted(input) else {
+            return false;
+        };
+        if place < self.due.len() {
+            self.due[place].chosen.at = Some(input);
+            self.due[place].is_met = true;
+        }
+        true
+    }
+
+    /// The place of the second group's mishap at an input, or of the first that has none.
+    fn first_aborted(&self, input: Input) -> Option<usize> {
+        let mut first = None;
+        for place in 0..self.due.len() {
+            let chosen = self.due[place].chosen;
+            if !chosen.mishap.is_chained() || !chosen.mishap.suits(input.outputs()) {
+                continue;
+            }
+            if chosen.at == Some(input) {
+                return Some(place);
+            }
+            if chosen.at.is_none() && first.is_none() {
+                first = Some(place);
+            }
+        }
+        first
+    }
+
     /// The first that no transaction has made.
     pub(crate) fn unmet(&self) -> Option<Mishap> {
         for it in self.due.as_slice() {
@@ -66,6 +97,7 @@ impl Mishaps {
                 may_be_beside
             };
             if at.is_none()
+                && !mishap.is_chained()
                 && may_be
                 && mishap.suits(input.outputs())
                 && (mishap != Mishap::EarlyOutput || self.leaves_none(input))
@@ -79,6 +111,9 @@ impl Mishaps {
     /// Whether a partition may be read no further than to this input: all other mishaps have their inputs, none of them there.
     fn leaves_none(&self, input: Input) -> bool {
         for it in self.due.as_slice() {
+            if it.chosen.mishap.is_chained() {
+                continue;
+            }
             let waits = it.chosen.at.is_none() && it.chosen.mishap != Mishap::EarlyOutput;
             if waits || it.chosen.is_from(input) {
                 return false;

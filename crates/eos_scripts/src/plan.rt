@@ -2,104 +2,23 @@
 
 use crate::mishap::{ChosenMishap, Input, Mishap};
 use crate::mishaps::Mishaps;
-use bytes::Bytes;
-use eos_machine::{Claim, Config, Event};
+use crate::reader::{Fate, Reader};
+use crate::request::Request;
+use eos_batch::Kind;
+use eos_cluster::Cluster;
+use eos_machine::Config;
 use std::alloc::{AllocError, Global};
 
-/// The inputs of a run as far as it knows them, and how often it changed the members of the group.
+/// The inputs of a run as far as it knows them, and how often it changed the members of both groups.
 #[derive(Drop)]
 pub(crate) struct Plan {
     config: Config,
     generation: u64,
     /// The number of inputs of each partition of `in`.
     ends: Vec<u64>,
+    /// What the second group has read of each partition of `out`: none where there is no second group.
+    readers: Vec<Reader>,
     mishaps: Mishaps,
-}
-
-/// What a transaction asks of the cluster.
-#[derive(Clone, Copy)]
-pub(crate) enum Request {
-    /// An output of an input, or the note that it has none.
-    Output {
-        partition: usize,
-        source: usize,
-        offset: u64,
-        output: u64,
-        of: u64,
-    },
-    /// An output of an input with this offset of a topic that isn't read.
-    Foreign {
-        partition: usize,
-        source: usize,
-        offset: u64,
-    },
-    /// An output that has no headers.
-    Bare {
-        partition: usize,
-    },
-    /// That the group's offset is deleted.
-    Delete {
-        source: usize,
-    },
-    /// The offset after the inputs that were read.
-    Commit {
-        source: usize,
-        offset: u64,
-    },
-}
-
-impl Request {
-    /// The event by which a session asks.
-    pub(crate) fn event(self, session: usize) -> Event {
-        match self {
-            Request::Output {
-                partition,
-                source,
-                offset,
-                output,
-                of,
-            } => Event::Produce {
-                session,
-                partition,
-                claim: Some(claim(b"in".as_slice(), source, offset, output, of)),
-            },
-            Request::Foreign {
-                partition,
-                source,
-                offset,
-            } => Event::Produce {
-                session,
-                partition,
-                claim: Some(claim(b"foreign".as_slice(), source, offset, 1, 1)),
-            },
-            Request::Bare { partition } => Event::Produce {
-                session,
-                partition,
-                claim: None,
-            },
-            Request::Delete { source } => Event::Commit {
-                session,
-                source,
-                offset: None,
-            },
-            Request::Commit { source, offset } => Event::Commit {
-                session,
-                source,
-                offset: Some(as_i64(offset)),
-            },
-        }
-    }
-}
-
-/// What an output says of its input.
-fn claim(topic: &'static [u8], source: usize, offset: u64, output: u64, of: u64) -> Claim {
-    Claim {
-        topic: Bytes::from_static(topic),
-        partition: as_i32(source as u64),
-        offset: as_i64(offset),
-        output: as_i32(output),
-        of: as_i32(of),
-    }
 }
 
 /// The remainder, and 0 where there is nothing to choose from.
@@ -109,21 +28,6 @@ pub(crate) fn remainder(choice: u64, count: usize) -> usize {
     } else {
         (choice % count as u64) as usize
     }
-}
-
-/// The number, or the greatest that there is.
-pub(crate) fn as_i64(number: u64) -> i64 {
-    if number > i64::MAX as u64 {
-        return i64::MAX;
-    }
-    number as i64
-}
-
-fn as_i32(number: u64) -> i32 {
-    if number > i32::MAX as u64 {
-        return i32::MAX;
-    }
-    number as i32
 }
 
 impl Plan {
@@ -136,10 +40,17 @@ impl Plan {
         for _ in 0..config.inputs {
             ends.push(0)?;
         }
+        let mut readers = Vec::new(alloc);
+        if config.chain {
+            for _ in 0..config.outputs {
+                readers.push(Reader::new(alloc))?;
+            }
+        }
         Ok(Plan {
             config,
             generation: 0,
             ends,
+            readers,
             mishaps: Mishaps::new(alloc, mishaps)?,
         })
     }
@@ -173,14 +84,28 @@ impl Plan {
         sum
     }
 
-    /// The first partition of `in` from this one on that belongs to an application in a generation: the partition p is the
-    /// application's of number p + generation, modulo the number of applications.
+    /// The second group reads what was appended to `out` since it read last.
+    ///
+    /// # Errors
+    /// Where a growth was refused.
+    pub(crate) fn read_outputs(&mut self, cluster: &Cluster) -> Result<(), AllocError> {
+        for partition in 0..self.readers.len() {
+            self.readers[partition].read(cluster.output_log(partition))?;
+        }
+        Ok(())
+    }
+
+    /// The first source from this one on that belongs to an application in a generation: the partition p of `in` is the
+    /// application's of number p + generation, modulo the number of applications; all of `out` are that of the second group.
     pub(crate) fn next_source(
         &self,
         application: usize,
         generation: u64,
         from: usize,
     ) -> Option<usize> {
+        if self.config.is_chained(application) {
+            return self.next_chained(from);
+        }
         for source in from..self.config.inputs {
             let place = generation.saturating_add(source as u64);
             if remainder(place, self.config.applications) == application {
@@ -190,13 +115,20 @@ impl Plan {
         None
     }
 
+    /// The first source of the second group from this one on.
+    fn next_chained(&self, from: usize) -> Option<usize> {
+        let source = from.max(self.config.inputs);
+        let end = self.config.inputs.saturating_add(self.config.outputs);
+        if source < end { Some(source) } else { None }
+    }
+
     /// The first mishap for which there was no input.
     pub(crate) fn unmet(&self) -> Option<Mishap> {
         self.mishaps.unmet()
     }
 
-    /// Adds what a transaction asks for the inputs of a partition from an offset on, at most so many of them: the outputs of
-    /// each, and the offset after them.
+    /// Adds what a transaction asks for the inputs of a source from an offset on, at most so many of them: the outputs of each,
+    /// and the offset after them.
     ///
     /// # Errors
     /// Where a growth was refused; some of it was added.
@@ -207,6 +139,9 @@ impl Plan {
         from: u64,
         most: u64,
     ) -> Result<(), AllocError> {
+        if source >= self.config.inputs {
+            return self.add_chained(requests, source, from, most);
+        }
         let end = match self.ends.get(source) {
             Some(end) => *end,
             None => 0,
@@ -220,6 +155,76 @@ impl Plan {
         if from < to {
             self.add_ahead(requests, Input { source, offset: to })?;
             requests.push(Request::Commit { source, offset: to })?;
+        }
+        Ok(())
+    }
+
+    /// The same for a source of the second group, which is given the records of ended transactions before any open one. It
+    /// passes over those that were aborted, but for one where a mishap happens.
+    fn add_chained(
+        &mut self,
+        requests: &mut Vec<Request>,
+        source: usize,
+        from: u64,
+        most: u64,
+    ) -> Result<(), AllocError> {
+        let partition = source.saturating_sub(self.config.inputs);
+        let mut left = most;
+        let mut to = from;
+        for offset in from..self.end_of(partition) {
+            let input = Input {
+                source: partition,
+                offset,
+            };
+            let is_taken = match self.fate_of(input) {
+                Fate::Open(_) => break,
+                Fate::Passed => false,
+                Fate::Ended(Kind::Commit) => true,
+                Fate::Ended(Kind::Abort) => self.mishaps.meet_aborted(input),
+            };
+            if is_taken {
+                self.add_all(requests, input)?;
+                to = offset.saturating_add(1);
+                left = left.saturating_sub(1);
+            }
+            if left == 0 {
+                break;
+            }
+        }
+        if from < to {
+            requests.push(Request::Commit { source, offset: to })?;
+        }
+        Ok(())
+    }
+
+    /// How far a partition of `out` was read.
+    fn end_of(&self, partition: usize) -> u64 {
+        match self.readers.get(partition) {
+            Some(reader) => reader.end_offset(),
+            None => 0,
+        }
+    }
+
+    /// What became of a record of `out`.
+    fn fate_of(&self, input: Input) -> Fate {
+        match self.readers.get(input.source) {
+            Some(reader) => reader.fate(input.offset),
+            None => Fate::Passed,
+        }
+    }
+
+    /// All outputs of an input of the second group.
+    fn add_all(&self, requests: &mut Vec<Request>, input: Input) -> Result<(), AllocError> {
+        let of = input.outputs();
+        for output in of.min(1)..of.saturating_add(1) {
+            requests.push(Request::Output {
+                is_chained: true,
+                partition: self.partition_of(input, output),
+                source: input.source,
+                offset: input.offset,
+                output,
+                of,
+            })?;
         }
         Ok(())
     }
@@ -257,7 +262,7 @@ impl Plan {
                 })?;
                 Ok(())
             }
-            Some(Mishap::EarlyOutput | Mishap::OtherTransaction) => Ok(()),
+            Some(Mishap::EarlyOutput | Mishap::OtherTransaction | Mishap::AbortedInput) => Ok(()),
         }
     }
 
@@ -294,6 +299,7 @@ impl Plan {
         of: u64,
     ) -> Result<(), AllocError> {
         requests.push(Request::Output {
+            is_chained: false,
             partition: self.partition_of(input, output),
             source: input.source,
             offset: input.offset,

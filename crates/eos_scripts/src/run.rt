@@ -15,11 +15,13 @@ use eos_machine::{Event, Reply};
 use std::alloc::{AllocError, Global};
 use std::mem;
 
-/// The applications of a group and the network, as far as the replies tell.
+/// The applications of the groups and the network, as far as the replies tell.
 #[derive(Drop)]
 pub(crate) struct Run {
     alloc: Global,
     rates: Rates,
+    /// How many applications there are.
+    pub(crate) applications: usize,
     pub(crate) plan: Plan,
     pub(crate) network: Network,
     /// The present instance of each application, and after them abandoned ones that don't know it yet.
@@ -36,13 +38,15 @@ impl Run {
         settings: &Settings<'_>,
     ) -> Result<Run, AllocError> {
         let config = cluster.config();
+        let applications = config.application_count();
         let mut instances = Vec::new(alloc);
-        for application in 0..config.applications {
+        for application in 0..applications {
             instances.push(Instance::new(alloc, application))?;
         }
         Ok(Run {
             alloc,
             rates: settings.rates,
+            applications,
             plan: Plan::new(alloc, *config, settings.mishaps)?,
             network: Network::new(),
             instances,
@@ -105,7 +109,7 @@ impl Run {
         requires { driver.old.course ≡ cluster.old }
         ensures { HasAsked cluster.old driver.old cluster.new driver.new }
     {
-        let application = remainder(choice, self.plan.config().applications);
+        let application = remainder(choice, self.applications);
         let choice = choice / 16;
         let chosen = Choice {
             inputs: 1 + choice % 3,
@@ -124,7 +128,7 @@ impl Run {
         requires { driver.old.course ≡ cluster.old }
         ensures { HasAsked cluster.old driver.old cluster.new driver.new }
     {
-        let applications = self.plan.config().applications;
+        let applications = self.applications;
         if self.instances.len() <= applications {
             return Ok(());
         }
@@ -158,6 +162,7 @@ impl Run {
         match self.instances[number].turn(&self.plan, choice) {
             Turn::Ask(event) => {
                 let reply = driver.ask(cluster, event)?;
+                self.plan.read_outputs(cluster)?;
                 self.hear(number, choice, reply)
             }
             Turn::Again(message) => self.deliver(cluster, driver, message),
@@ -254,7 +259,7 @@ impl Run {
 
     /// A new instance of an application takes the place of the present one, which goes on until it learns of it.
     fn abandon(&mut self, choice: u64) -> Result<(), AllocError> {
-        let applications = self.plan.config().applications;
+        let applications = self.applications;
         let application = remainder(choice, applications);
         if application >= self.instances.len() || self.instances[application].is_gone() {
             return Ok(());
@@ -300,15 +305,17 @@ impl Run {
         ensures { HasAsked cluster.old driver.old cluster.new driver.new }
     {
         let config = self.plan.config();
-        let rest = choice / 4;
-        let (topic, partition) = match choice % 4 {
+        let topics = if config.chain { 5 } else { 4 };
+        let rest = choice / topics;
+        let (topic, partition) = match choice % topics {
             0 => (b"__consumer_offsets".as_slice(), 0),
             1 => (
                 b"__transaction_state".as_slice(),
                 remainder(rest, config.transaction_logs),
             ),
             2 => (b"in".as_slice(), remainder(rest, config.inputs)),
-            _ => (b"out".as_slice(), remainder(rest, config.outputs)),
+            3 => (b"out".as_slice(), remainder(rest, config.outputs)),
+            _ => (b"fin".as_slice(), remainder(rest, config.outputs)),
         };
         driver.ask(
             cluster,

@@ -19,6 +19,7 @@ use std::mem;
 /// from their committed offsets, in transactions, and write for the input at offset o of a partition of `in` its o modulo 3
 /// outputs, or one note where that is 0; each transaction commits the offsets after all inputs whose outputs it writes.
 /// The partition p of `in` belongs to the application of number p plus the group's generation, modulo their number.
+/// Where there is a second group, its one application reads the committed records of `out` in the same way, and writes `fin`.
 /// Meanwhile messages are lost and repeated, sessions are abandoned and go on as zombies, transactions are aborted, the members
 /// of the group change, brokers and the coordinator restart. After the last word all inputs that are left are processed
 /// without loss, and the cluster comes to rest, unless it takes no more events or an application's producer epochs are

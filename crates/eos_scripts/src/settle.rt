@@ -15,8 +15,8 @@ const STEADY: Choice = Choice {
     aborts: false,
 };
 
-/// Processes all inputs that are left without loss, and brings the cluster to rest. Where the cluster breaks its rules, so that
-/// an application can't go on, its transaction is aborted in the end.
+/// Processes all inputs that are left without loss, those of the first group before those of the second, and brings the cluster
+/// to rest. Where the cluster breaks its rules, so that an application can't go on, its transaction is aborted in the end.
 pub(crate) fn settle(
     run: &mut Run,
     cluster: &mut Cluster,
@@ -25,7 +25,7 @@ pub(crate) fn settle(
     requires { driver.old.course ≡ cluster.old }
     ensures { HasAsked cluster.old driver.old cluster.new driver.new }
 {
-    let applications = run.plan.config().applications;
+    let applications = run.applications;
     run.instances.truncate(applications);
     run.restart_coordinator(cluster, driver)?;
     carry_all(run, cluster, driver)?;

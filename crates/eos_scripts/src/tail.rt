@@ -6,7 +6,7 @@ ghost use Rattle.eos_scripts.specs.steps.Drives.{HasAsked};
 
 use crate::driver::Driver;
 use crate::history::History;
-use crate::plan::as_i64;
+use crate::request::as_i64;
 use bytes::Bytes;
 use eos_batch::Kind;
 use eos_cluster::{Cluster, Switch};
