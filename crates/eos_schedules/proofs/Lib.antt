@@ -1,4 +1,3 @@
-pub mod PlaceNames
 pub mod Partitions
 pub mod Placing
 pub mod Singles

@@ -25,7 +25,7 @@ use Rattle.eos_machine.specs.Places.{IsConfig, place_count, topic_of, number_of}
 use Rattle.eos_machine.specs.declared.item.Item.{Item}
 use Rattle.eos_machine.specs.World.{World, log_at}
 use Rattle.eos_logs.specs.Evidences.{end_of, parts_of, segment_count, segment_at, log_segments, cluster_segments, adding, IsEvidenceOf}
-use Rattle.eos_schedules.proofs.PlaceNames.{one_place, ends_rise}
+use Rattle.eos_logs.proofs.PlaceNames.{one_place, ends_rise}
 
 abbrev pub partition_at : Config → World → ℕ → Partition
 partition_at c w p = record { end = end_of c w p; segments = log_segments c p (log_at w p) }
@@ -95,7 +95,7 @@ ordered_is c w a zero i = refl
 ordered_is c w a (suc zero) i = refl
 ordered_is c w a (suc (suc n)) i =
     ap (insert_end (end_of c w a)) (ordered_is c w (a + 1) (suc n) i)
-    ∙ rw (ends_rise c a (end_of c w a) (end_of c w (a + 1)) i refl refl refl refl) refl
+    ∙ rw (ends_rise c a (a + 1) (end_of c w a) (end_of c w (a + 1)) (omega arith) refl refl refl refl) refl
 
 -- ---- the segments of a place go to its partition, and to no other
 

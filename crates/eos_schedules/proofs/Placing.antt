@@ -6,7 +6,7 @@ use Rattle.std.proofs.lemmas.List.Elements.{All-nil, All-push}
 use Rattle.eos_batch.specs.declared.marker.Kind.{Kind}
 use Rattle.eos_batch.specs.declared.marker.Kind.TheVariants.{Abort}
 use Rattle.eos_machine.specs.declared.config.Config.{Config}
-use Rattle.eos_machine.specs.Places.{txn_place, input_place, output_place, offsets_place, place_count, listed}
+use Rattle.eos_machine.specs.Places.{txn_place, input_place, written_place, offsets_place, place_count, listed}
 use Rattle.eos_machine.specs.declared.item.Claim.{Claim}
 use Rattle.eos_machine.specs.declared.item.Status.{Status}
 use Rattle.eos_machine.specs.declared.item.Entry.{Entry}
@@ -24,6 +24,7 @@ use Rattle.eos_machine.specs.Tests.{is_ongoing, has, ongoing_partitions}
 use Rattle.eos_machine.specs.Answers.{Answer, when}
 use Rattle.eos_machine.specs.Sessions.{produce, commit_offset, commit, end_session, resume_ended, resume, fetch}
 use Rattle.eos_machine.specs.Deliveries.{with_partition, accept, ticked_off, deliver}
+use Rattle.eos_machine.proofs.Written.{written_after}
 use Rattle.eos_machine.specs.Machine.{start_session, start, happens, counted, step, run}
 
 -- a state stands in the transaction log of its application, data elsewhere
@@ -81,7 +82,7 @@ placed_if c false x y f g = g
 placed_deliver : (c : Config) (w : World) (m : ℕ) (r : Option Message) → Placed c w → Placed c (deliver none c w m r).0
 placed_deliver c w m None h = h
 placed_deliver c w m (Some (messages.Output a e p s x v)) h =
-    placed_if c _ _ _ h (placed_if c _ _ _ h (placed_if c _ _ _ h (placed_if c _ _ _ h (placed_if c _ _ _ h (placed_accept c w m a (output_place c p) (Output a e s x v w.events) h (omega arith))))))
+    placed_if c _ _ _ h (placed_if c _ _ _ h (placed_if c _ _ _ h (placed_if c _ _ _ h (placed_if c _ _ _ h (placed_accept c w m a (written_place c a p) (Output a e s x v w.events) h (written_after c a p))))))
 placed_deliver c w m (Some (messages.Offset a e g q v)) h =
     placed_if c _ _ _ h (placed_if c _ _ _ h (placed_if c _ _ _ h (placed_if c _ _ _ h (placed_if c _ _ _ h (placed_accept c w m a offsets_place (Offset a e q v w.events) h refl)))))
 placed_deliver c w m (Some (messages.End a e k)) h =

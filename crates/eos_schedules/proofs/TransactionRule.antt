@@ -24,7 +24,7 @@ use Rattle.eos_machine.specs.Logs.{entries_of, last_state}
 use Rattle.eos_machine.specs.Tests.{is_ongoing, is_prepare}
 use Rattle.eos_machine.specs.Rest.{producer_id, values_of, EachStep}
 use Rattle.eos_logs.specs.Batches.{transactional_id}
-use Rattle.eos_schedules.proofs.PlaceNames.{name, topic_at, IsNamed}
+use Rattle.eos_logs.proofs.PlaceNames.{name, topic_at, IsNamed}
 use Rattle.eos_schedules.proofs.Settled.{IsSettled, IsLog, AreAt, in_logs, at_logs}
 use Rattle.eos_schedules.proofs.TxnRecords.{one_app, own_id, is_same_id, records_from, AreStates, are_states, all_read, of_app, own_steps, own_last, own_among, last_among, some_app, IsStepOf, each_step}
 use Rattle.eos_schedules.proofs.TxnRules.{own_follow, last_tracks, track_settled}
@@ -41,7 +41,8 @@ txn_name : (k : ℕ) → is_eq (slice_cmp nat_cmp (name k) transactions_topic) �
 txn_name zero e = absurd cc
 txn_name (suc zero) e = refl
 txn_name (suc (suc zero)) e = absurd cc
-txn_name (suc (suc (suc k))) e = absurd cc
+txn_name (suc (suc (suc zero))) e = absurd cc
+txn_name (suc (suc (suc (suc k)))) e = absurd cc
 
 pub txn_within : (c : Config) (q : ℕ) → is_eq (slice_cmp nat_cmp (topic_of c q) transactions_topic) ≡ true → (1 ≤ q) × (q ≤ c.transaction_logs)
 txn_within c q h =
@@ -60,7 +61,8 @@ within_txn c q l m = let n = topic_at c q in by n.0 n.1
     by zero n = absurd (let e = n.within in omega (arith, e, l))
     by (suc zero) n = rw (n.topic) refl
     by (suc (suc zero)) n = absurd (let e = n.within.0 in omega (arith, e, m))
-    by (suc (suc (suc k))) n = absurd (let e = n.within in omega (arith, e, m))
+    by (suc (suc (suc zero))) n = absurd (let e = n.within.0 in omega (arith, e, m))
+    by (suc (suc (suc (suc k)))) n = absurd (let e = n.within in omega (arith, e, m))
 
 pub in_txn : (c : Config) (w : World) (ls : List PartLog) → AreAt c w 0 (place_count c) ls → (l : PartLog) → Has (transaction_parts ls) l → (q : ℕ) × IsTxnLog c w q l
 in_txn c w ls at l h =

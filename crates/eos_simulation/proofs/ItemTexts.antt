@@ -1,6 +1,6 @@
 -- Each batch of a log that fits is written as a text of it.
-use Rattle.std.proofs.Common.{◌≡◌, ℕ, zero, suc, ◌+◌, ◌-◌, ◌*◌, ◌/◌, ◌^◌, ◌<◌, ◌≤◌, ℤ, pos, negsuc, ◌-ℤ◌, unsigned_abs, List, [], ◌∷◌, ◌++◌, map, length, take, drop, Option, Some, None, refl, sym, ap, subst, arith, codes, FitsSigned, w8, w16, w32, w64}
-use Rattle.std.specs.Prelude.{⊤}
+use Rattle.std.proofs.Common.{◌≡◌, ℕ, zero, suc, ◌+◌, ◌-◌, ◌*◌, ◌/◌, ◌^◌, ◌<◌, ◌≤◌, ℤ, pos, negsuc, ◌-ℤ◌, unsigned_abs, List, [], ◌∷◌, ◌++◌, map, length, take, drop, Option, Some, None, refl, sym, ap, subst, arith, codes, FitsSigned, w8, w16, w32, w64, Bool, true, false}
+use Rattle.std.specs.Prelude.{⊤, nat_lt, if◌then◌else◌}
 use Rattle.std.specs.List.{All}
 use Rattle.std.proofs.lemmas.List.Elements.{All-nil, All-cons, All-head, All-tail, All-take}
 use Rattle.std.proofs.lemmas.List.{length-take, length-drop}
@@ -16,16 +16,18 @@ use Rattle.eos_batch.specs.steps.Writing.{HasRecordWidths}
 use Rattle.eos_txnlog.specs.Writing.{write_key}
 use Rattle.eos_fields.specs.declared.form.Form.TheVariants.{Plain}
 use Rattle.eos_fields.specs.Writing.{string_text}
+use Rattle.eos_offsets.specs.declared.key.OffsetKey.{OffsetKey}
 use Rattle.eos_offsets.specs.Writing as offsets
 use Rattle.eos_machine.specs.declared.config.Config.{Config}
 use Rattle.eos_machine.specs.declared.item.Claim.{Claim}
 use Rattle.eos_machine.specs.Sessions.{claimed_topic}
 use Rattle.eos_machine.specs.declared.item.Item.{Item}
 use Rattle.eos_machine.specs.declared.item.Item.TheVariants.{Fed, State, Output, Offset, Marker}
-use Rattle.eos_machine.specs.Places.{IsConfig, input_topic}
+use Rattle.eos_machine.specs.Places.{IsConfig, application_count, input_topic, output_topic}
+use Rattle.eos_machine.proofs.Written.{few_applications}
 use Rattle.eos_logs.specs.declared.writer.Writer.{Writer}
 use Rattle.eos_logs.specs.steps.Joined.{AreJoined}
-use Rattle.eos_logs.specs.Batches.{group, transactional_id, bytes_of, claim_headers, headers_of, offset_record, control_type, marker_record, plain, transactional, control, event_of, item_writer, item_record, record_after, last_or, batch_of, behind, batches_after, AreTexts}
+use Rattle.eos_logs.specs.Batches.{group, transactional_id, bytes_of, claim_headers, headers_of, offset_record, control_type, marker_record, plain, transactional, control, event_of, item_writer, item_record, record_after, last_or, batch_of, behind, batches_after, AreTexts, second_group, source_key, commit_of}
 use Rattle.eos_logs.specs.Evidences.{part_at, batches_at, HaveTexts}
 use Rattle.eos_logs.specs.Fitting.{IsFit}
 use Rattle.eos_logs.proofs.BatchSizes.{key_written}
@@ -49,14 +51,14 @@ record FitsWriter (w : Writer) : Type 0 where
 fits_plain : FitsWriter plain
 fits_plain = record { attributes = record { sfits = omega arith }; producer = record { sfits = omega arith }; epoch = record { sfits = omega arith }; sequence = record { sfits = omega arith } }
 
-fits_transactional : (c : Config) (a e : ℕ) (q : ℤ) → IsConfig c → a < c.applications → e < 2 ^ 15 → FitsSigned w32 q → FitsWriter (transactional a e q)
+fits_transactional : (c : Config) (a e : ℕ) (q : ℤ) → IsConfig c → a < application_count c → e < 2 ^ 15 → FitsSigned w32 q → FitsWriter (transactional a e q)
 fits_transactional c a e q i l m f =
-    let most = i.applications.1 in
+    let most = few_applications c i in
     record { attributes = record { sfits = omega arith }; producer = record { sfits = omega (arith, l, most) }; epoch = record { sfits = m }; sequence = f }
 
-fits_control : (c : Config) (a e : ℕ) → IsConfig c → a < c.applications → e < 2 ^ 15 → FitsWriter (control a e)
+fits_control : (c : Config) (a e : ℕ) → IsConfig c → a < application_count c → e < 2 ^ 15 → FitsWriter (control a e)
 fits_control c a e i l m =
-    let most = i.applications.1 in
+    let most = few_applications c i in
     record { attributes = record { sfits = omega arith }; producer = record { sfits = omega (arith, l, most) }; epoch = record { sfits = m }; sequence = record { sfits = omega arith } }
 
 fits_writer : (c : Config) (x : Item) → IsConfig c → IsFit c x → FitsWriter (item_writer x)
@@ -87,10 +89,10 @@ widths c n x l f = record {
   timestamp_delta = difference_fits (event_of x) n (fit_event c x f) l;
 }
 
-id_bytes : (a : ℕ) → a < 8 → IsBytes (transactional_id a)
+id_bytes : (a : ℕ) → a < 9 → IsBytes (transactional_id a)
 id_bytes a l = IsBytes-append (codes "app-") ((48 + a) ∷ []) (known_bytes (codes "app-") refl) (one_more (48 + a) [] (omega (arith, l)) no_bytes)
 
-state_key : (a : ℕ) → a < 8 → IsBytes (bytes_of (write_key (transactional_id a)))
+state_key : (a : ℕ) → a < 9 → IsBytes (bytes_of (write_key (transactional_id a)))
 state_key a l =
     subst IsBytes (sym (ap bytes_of (key_written a)))
     (IsBytes-append (i16_text (pos 0)) (i16_text (pos 5) ++ transactional_id a) (i16_bytes (pos 0)) (IsBytes-append (i16_text (pos 5)) (transactional_id a) (i16_bytes (pos 5)) (id_bytes a l)))
@@ -109,24 +111,31 @@ headers_bytes (Some x) h = headers_of_claim x h
 named_bytes : (name : List ℕ) → IsBytes name → IsBytes (string_text Plain name)
 named_bytes name h = IsBytes-append (i16_text (pos (length name))) name (i16_bytes (pos (length name))) h
 
-offset_key : (q : ℕ) → IsBytes (bytes_of (offsets.write_key (record { group = group; topic = input_topic; partition = pos q })))
+key_bytes : (group topic : List ℕ) (n : ℕ) → IsBytes group → IsBytes topic → IsBytes (offsets.key_bytes (record { group = group; topic = topic; partition = pos n }))
 unfolding offsets.key_bytes
-offset_key q =
-    IsBytes-append (i16_text (pos 1)) (string_text Plain group ++ (string_text Plain input_topic ++ i32_text (pos q))) (i16_bytes (pos 1))
-    (IsBytes-append (string_text Plain group) (string_text Plain input_topic ++ i32_text (pos q)) (named_bytes group (known_bytes group refl))
-    (IsBytes-append (string_text Plain input_topic) (i32_text (pos q)) (named_bytes input_topic (known_bytes input_topic refl)) (i32_bytes (pos q))))
+key_bytes group topic n g t =
+    IsBytes-append (i16_text (pos 1)) (string_text Plain group ++ (string_text Plain topic ++ i32_text (pos n))) (i16_bytes (pos 1))
+    (IsBytes-append (string_text Plain group) (string_text Plain topic ++ i32_text (pos n)) (named_bytes group g)
+    (IsBytes-append (string_text Plain topic) (i32_text (pos n)) (named_bytes topic t) (i32_bytes (pos n))))
 
-offset_value : (q v : ℕ) → IsBytes (bytes_of (offsets.write_value (record { group = group; topic = input_topic; partition = pos q; offset = pos v }) (pos 3)))
+offset_key : (c : Config) (q : ℕ) → IsBytes (bytes_of (offsets.write_key (source_key c q)))
+offset_key c q = by (nat_lt q c.inputs)
+  where
+    by : (t : Bool) → IsBytes (bytes_of (offsets.write_key (if t then record { group = group; topic = input_topic; partition = pos q } else record { group = second_group; topic = output_topic; partition = pos (q - c.inputs) })))
+    by true = key_bytes group input_topic q (known_bytes group refl) (known_bytes input_topic refl)
+    by false = key_bytes second_group output_topic (q - c.inputs) (known_bytes second_group refl) (known_bytes output_topic refl)
+
+offset_value : (k : OffsetKey) (v : ℕ) → IsBytes (bytes_of (offsets.write_value (commit_of k (pos v)) (pos 3)))
 unfolding offsets.value_bytes
-offset_value q v =
+offset_value k v =
     IsBytes-append (i16_text (pos 3)) (i64_text (pos v) ++ (i32_text (negsuc 0) ++ (string_text Plain [] ++ (i64_text (pos 0) ++ [])))) (i16_bytes (pos 3))
     (IsBytes-append (i64_text (pos v)) (i32_text (negsuc 0) ++ (string_text Plain [] ++ (i64_text (pos 0) ++ []))) (i64_bytes (pos v))
     (IsBytes-append (i32_text (negsuc 0)) (string_text Plain [] ++ (i64_text (pos 0) ++ [])) (i32_bytes (negsuc 0))
     (IsBytes-append (string_text Plain []) (i64_text (pos 0) ++ []) (named_bytes [] no_bytes) (IsBytes-append (i64_text (pos 0)) [] (i64_bytes (pos 0)) no_bytes))))
 
-commit_bytes : (q : ℕ) (v : Option ℕ) → IsOfBytes (offset_record q v)
-commit_bytes q None = record { key = offset_key q; value = tt; headers = tt }
-commit_bytes q (Some v) = record { key = offset_key q; value = offset_value q v; headers = tt }
+commit_bytes : (c : Config) (q : ℕ) (v : Option ℕ) → IsOfBytes (offset_record c q v)
+commit_bytes c q None = record { key = offset_key c q; value = tt; headers = tt }
+commit_bytes c q (Some v) = record { key = offset_key c q; value = offset_value (source_key c q) v; headers = tt }
 
 marker_bytes : (k : Kind) → IsOfBytes (marker_record k)
 marker_bytes k = record {
@@ -147,9 +156,9 @@ HasBytes (Marker a e k n) = ⊤
 
 record_bytes : (c : Config) (n : ℕ) (x : Item) → IsConfig c → IsFit c x → HasBytes x → IsOfBytes (record_after c n x)
 record_bytes c n (Fed m) i f h = record { key = tt; value = i64_bytes (pos m); headers = tt }
-record_bytes c n (State a x m) i f h = record { key = state_key a (let most = i.applications.1 in omega (arith, f.0, most)); value = state_bytes c a x m i f.2; headers = tt }
+record_bytes c n (State a x m) i f h = record { key = state_key a (let most = few_applications c i in omega (arith, f.0, most)); value = state_bytes c a x m i f.2; headers = tt }
 record_bytes c n (Output a e s x v m) i f h = record { key = tt; value = i64_bytes (pos v); headers = headers_bytes x h }
-record_bytes c n (Offset a e q v m) i f h = let b = commit_bytes q v in record { key = b.key; value = b.value; headers = b.headers }
+record_bytes c n (Offset a e q v m) i f h = let b = commit_bytes c q v in record { key = b.key; value = b.value; headers = b.headers }
 record_bytes c n (Marker a e k m) i f h = let b = marker_bytes k in record { key = b.key; value = b.value; headers = b.headers }
 
 -- each of these
