@@ -80,6 +80,9 @@ object_flat n ms h = record { plain = h.plain; shallow = omega (arith, h.shallow
 count_flat : (n m : ℕ) → Flat n (count m)
 count_flat n m = record { plain = refl; shallow = omega arith }
 
+boolean_flat : (n : ℕ) (b : Bool) → Flat n (boolean b)
+boolean_flat n b = record { plain = refl; shallow = omega arith }
+
 integer_flat : (n : ℕ) (z : ℤ) → Flat n (integer z)
 integer_flat n (pos m) = record { plain = refl; shallow = omega arith }
 integer_flat n (negsuc m) = record { plain = refl; shallow = omega arith }
@@ -130,7 +133,8 @@ switches_flat n s = let h = names_flat s in record { plain = h.plain; shallow = 
 sizes_flat : (c : Config) (ms : JsonMembers) → FlatMembers 1 ms → FlatMembers 1 (with_sizes c ms)
 unfolding with_sizes
 sizes_flat c ms h =
-    put_flat 1 _ _ _ (count_flat 1 _) (put_flat 1 _ _ _ (count_flat 1 _) (put_flat 1 _ _ _ (count_flat 1 _) (put_flat 1 _ _ _ (count_flat 1 _) (put_flat 1 _ _ _ (count_flat 1 _) (put_flat 1 _ _ ms (count_flat 1 _) h)))))
+    put_flat 1 _ _ _ (boolean_flat 1 _) (put_flat 1 _ _ _ (count_flat 1 _) (put_flat 1 _ _ _ (count_flat 1 _) (put_flat 1 _ _ _ (count_flat 1 _)
+    (put_flat 1 _ _ _ (count_flat 1 _) (put_flat 1 _ _ _ (count_flat 1 _) (put_flat 1 _ _ ms (count_flat 1 _) h))))))
 
 asked_flat : (a : Head) (ms : JsonMembers) → FlatMembers 1 ms → FlatMembers 1 (with_asked a ms)
 unfolding with_asked

@@ -2,7 +2,7 @@
 use Rattle.std.specs.Prelude.{ℕ, ℤ, Bool, List, [], ◌∷◌, ◌++◌, codes, Option, None, Some, if◌then◌else◌}
 use Rattle.std.specs.Str.{is_utf8}
 use Rattle.hex.specs.Hex.{encode_lower}
-use Rattle.serde_json.specs.Data.{Data, Members as JsonMembers, no_members, null, object, array, string, number, unsigned, put}
+use Rattle.serde_json.specs.Data.{Data, Members as JsonMembers, no_members, null, boolean, object, array, string, number, unsigned, put}
 use Rattle.serde_json.specs.Find.{of_integer}
 use Rattle.serde_json.specs.View.{items_of}
 use Rattle.eos_machine.specs.declared.config.Config.{Config}
@@ -53,8 +53,8 @@ switches_value s = array (items_of (switch_names s))
 
 unfoldable pub with_sizes : Config → JsonMembers → JsonMembers
 with_sizes c ms =
-    put (codes "batch_records") (count c.batch_records) (put (codes "segment_records") (count c.segment_records) (put (codes "transaction_logs") (count c.transaction_logs)
-    (put (codes "outputs") (count c.outputs) (put (codes "inputs") (count c.inputs) (put (codes "applications") (count c.applications) ms)))))
+    put (codes "chain") (boolean c.chain) (put (codes "batch_records") (count c.batch_records) (put (codes "segment_records") (count c.segment_records) (put (codes "transaction_logs") (count c.transaction_logs)
+    (put (codes "outputs") (count c.outputs) (put (codes "inputs") (count c.inputs) (put (codes "applications") (count c.applications) ms))))))
 
 unfoldable pub with_asked : Head → JsonMembers → JsonMembers
 with_asked h ms = put (codes "words") (count h.words) (put (codes "seed") (count h.seed) (put (codes "switches") (switches_value h.switches) ms))

@@ -3,7 +3,7 @@
 //!
 //! | Line | Members |
 //! |---|---|
-//! | the first | `schema` (1), `applications`, `inputs`, `outputs`, `transaction_logs`, `segment_records`, `batch_records`, `switches` (names), `seed`, `words` |
+//! | the first | `schema` (1), `applications`, `inputs`, `outputs`, `transaction_logs`, `segment_records`, `batch_records`, `chain` (whether there is a second group), `switches` (names), `seed`, `words` |
 //! | an event | `number`, `event` (its name), its arguments, and, where it is known, `reply`, with `value` where that is `done` |
 //! | a change of the rules | `number`, `set` (the names of the switches that are on from there) |
 //! | the last, which may be absent | `events`, `transactions`, `lost`, `repeated` |

@@ -2,7 +2,7 @@
 
 ghost use Rattle.std.specs.Prelude.{◌≡◌, option_map};
 ghost use Rattle.serde_json.specs.View.{view};
-ghost use Rattle.eos_history_lines.specs.steps.Reading.{count_in, integer_in, as_small, small_in, text_in, kind_called, kind_in};
+ghost use Rattle.eos_history_lines.specs.steps.Reading.{count_in, integer_in, as_small, small_in, truth_in, text_in, kind_called, kind_in};
 
 use eos_batch::Kind;
 use serde_json::Value;
@@ -52,6 +52,16 @@ pub(crate) fn as_small(number: i64) -> Option<i32>
         Some(number as i32)
     } else {
         None
+    }
+}
+
+/// `true` or `false`.
+pub(crate) fn truth_in(value: &Value, name: &str) -> Option<bool>
+    ensures { result ≡ truth_in name.now (view value.now) }
+{
+    match value.get(name) {
+        Some(found) => found.as_bool(),
+        None => None,
     }
 }
 

@@ -7,7 +7,7 @@ ghost use Rattle.eos_history_lines.specs.steps.Reading.{switches_at, sizes_in, h
 
 use crate::events::read_event;
 use crate::line::{Deed, Head, Line, Tail};
-use crate::members::{count_in, size_in};
+use crate::members::{count_in, size_in, truth_in};
 use crate::replies::read_reply;
 use crate::switch_names::switches_in;
 use eos_machine::{Config, Switches};
@@ -38,6 +38,7 @@ fn read_sizes(value: &Value) -> Option<Config>
     let transaction_logs = size_in(value, "transaction_logs")?;
     let segment_records = size_in(value, "segment_records")?;
     let batch_records = size_in(value, "batch_records")?;
+    let chain = truth_in(value, "chain")?;
     Some(Config {
         applications,
         inputs,
@@ -45,6 +46,7 @@ fn read_sizes(value: &Value) -> Option<Config>
         transaction_logs,
         segment_records,
         batch_records,
+        chain,
     })
 }
 

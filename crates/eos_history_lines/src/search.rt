@@ -12,6 +12,7 @@ enum Wanted {
     Count,
     Integer,
     Small,
+    Truth,
     Kind,
     Text,
 }
@@ -83,6 +84,7 @@ fn look_at_head(value: &Value) -> Result<(), Mistake> {
             "batch_records",
         ],
     )?;
+    look_at(value, "chain", Wanted::Truth)?;
     look_at_switches(value_at(value, "switches")?, "switches")?;
     look_at_counts(value, &["seed", "words"])
 }
@@ -236,6 +238,7 @@ impl Wanted {
             Wanted::Count => value.is_u64(),
             Wanted::Integer => value.is_i64(),
             Wanted::Small => value.as_i64().and_then(as_small).is_some(),
+            Wanted::Truth => value.as_bool().is_some(),
             Wanted::Kind => value.as_str().and_then(kind_called).is_some(),
             Wanted::Text => value.is_string(),
         }
@@ -246,6 +249,7 @@ impl Wanted {
             Wanted::Count => "a whole number from 0 to 2^64 - 1",
             Wanted::Integer => "a whole number of 64 bits",
             Wanted::Small => "a whole number of 32 bits",
+            Wanted::Truth => "true or false",
             Wanted::Kind => "commit or abort",
             Wanted::Text => "a text",
         }

@@ -36,7 +36,8 @@ fn put_sizes(out: &mut Object, config: Config) -> Result<(), AllocError>
     out.put_size("outputs", config.outputs)?;
     out.put_size("transaction_logs", config.transaction_logs)?;
     out.put_size("segment_records", config.segment_records)?;
-    out.put_size("batch_records", config.batch_records)
+    out.put_size("batch_records", config.batch_records)?;
+    out.put("chain", Value::Bool(config.chain))
 }
 
 #[tactic(auto, unfolding(crate::specs::Lines::with_asked))]

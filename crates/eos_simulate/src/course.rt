@@ -19,6 +19,7 @@ const SIZES: Config = Config {
     transaction_logs: 1,
     segment_records: 16,
     batch_records: 1,
+    chain: false,
 };
 
 /// The switches, in the order in which their tails come.
@@ -110,6 +111,7 @@ fn config_of(sizes: &Sizes) -> Config {
         transaction_logs: size_of(sizes.transaction_logs, SIZES.transaction_logs),
         segment_records: size_of(sizes.segment_records, SIZES.segment_records),
         batch_records: size_of(sizes.batch_records, SIZES.batch_records),
+        chain: sizes.chain,
     }
 }
 
@@ -147,7 +149,7 @@ fn mishaps_of(alloc: Global, words: &[&str]) -> Result<Vec<ChosenMishap>, Simula
         match ChosenMishap::from_word(word) {
             Some(chosen) => mishaps.push(chosen)?,
             None => {
-                return Err(SimulationFault::Unfit("--mishap", "no mishap, or not NAME@in-N:O"));
+                return Err(SimulationFault::Unfit("--mishap", "no mishap, or not NAME@TOPIC-N:O"));
             }
         }
     }

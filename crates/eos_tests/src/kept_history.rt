@@ -19,6 +19,7 @@ fn new_cluster(alloc: Global) -> Result<Cluster, AllocError> {
         transaction_logs: 1,
         segment_records: 16,
         batch_records: 1,
+        chain: false,
     };
     match Cluster::new(alloc, config) {
         Ok(cluster) => Ok(cluster),

@@ -106,6 +106,7 @@ impl Subcommand {
                 Argument::TransactionLogs,
                 Argument::SegmentRecords,
                 Argument::BatchRecords,
+                Argument::Chain,
                 Argument::Lose,
                 Argument::Repeat,
                 Argument::Abandon,
@@ -153,6 +154,7 @@ pub(crate) enum Argument {
     TransactionLogs,
     SegmentRecords,
     BatchRecords,
+    Chain,
     Lose,
     Repeat,
     Abandon,
@@ -201,7 +203,7 @@ static SWITCHES: [&str; 7] = [
 static READINGS: [&str; 3] = ["outputs", "transactions", "offsets"];
 
 /// What a schedule says already.
-static SCHEDULED: [&str; 18] = [
+static SCHEDULED: [&str; 19] = [
     "seed",
     "events",
     "applications",
@@ -210,6 +212,7 @@ static SCHEDULED: [&str; 18] = [
     "transaction-logs",
     "segment-records",
     "batch-records",
+    "chain",
     "lose",
     "repeat",
     "abandon",
@@ -256,6 +259,7 @@ impl Argument {
             Argument::TransactionLogs => "transaction-logs",
             Argument::SegmentRecords => "segment-records",
             Argument::BatchRecords => "batch-records",
+            Argument::Chain => "chain",
             Argument::Lose => "lose",
             Argument::Repeat => "repeat",
             Argument::Abandon => "abandon",
@@ -301,7 +305,8 @@ impl Argument {
             | Argument::Headers
             | Argument::Decode
             | Argument::Version1
-            | Argument::EndsFromLogs => "",
+            | Argument::EndsFromLogs
+            | Argument::Chain => "",
             Argument::Folders
             | Argument::OneFolder
             | Argument::NewFolder
@@ -320,7 +325,7 @@ impl Argument {
             Argument::Seed => "S",
             Argument::Switch => "X",
             Argument::SwitchAt => "WORD",
-            Argument::Mishap => "NAME[@in-N:O]",
+            Argument::Mishap => "NAME[@TOPIC-N:O]",
         }
     }
 
@@ -347,12 +352,13 @@ impl Argument {
             Argument::Code => "The code of a kind of fault, such as 5.10; no FOLDER",
             Argument::Seed => "What the script is drawn from, 0 to 2^64 - 1",
             Argument::Events => "How many words the script has, 0 to 10000",
-            Argument::Applications => "How many applications the group has, 1 to 8, or 2",
+            Argument::Applications => "How many applications the first group has, 1 to 8, or 2",
             Argument::Inputs => "The partitions of `in`, 1 to 16, or 2",
             Argument::Outputs => "The partitions of `out`, 1 to 16, or 2",
             Argument::TransactionLogs => "The partitions of `__transaction_state`, 1 to 4, or 1",
             Argument::SegmentRecords => "The records of a segment, 1 to 1000, or 16",
             Argument::BatchRecords => "The records of a batch at the most, 1 to 1000, or 1",
+            Argument::Chain => "A second group reads `out` and writes `fin`",
             Argument::Lose => "Words, of 1000, by which a message is lost",
             Argument::Repeat => "Words, of 1000, by which a message comes again",
             Argument::Abandon => "Words, of 1000, by which a session is abandoned",
@@ -391,6 +397,7 @@ impl Argument {
                 | Argument::TransactionLogs
                 | Argument::SegmentRecords
                 | Argument::BatchRecords
+                | Argument::Chain
                 | Argument::Lose
                 | Argument::Repeat
                 | Argument::Abandon
@@ -434,7 +441,8 @@ impl Argument {
             | Argument::Headers
             | Argument::Decode
             | Argument::Version1
-            | Argument::EndsFromLogs => Form::Flag,
+            | Argument::EndsFromLogs
+            | Argument::Chain => Form::Flag,
             Argument::Folders => Form::Several,
             Argument::Fault => Form::Valued(ValueParser::Unsigned(1, u64::MAX)),
             Argument::Around => Form::Valued(ValueParser::Unsigned(1, 100)),

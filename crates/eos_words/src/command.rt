@@ -282,6 +282,7 @@ fn read_sizes(inner: &ArgMatches<'_>) -> Sizes {
         transaction_logs: inner.get_one::<u64>("transaction-logs"),
         segment_records: inner.get_one::<u64>("segment-records"),
         batch_records: inner.get_one::<u64>("batch-records"),
+        chain: inner.get_flag("chain"),
     }
 }
 

@@ -274,6 +274,10 @@ A RATE is how many of 1000 words say it. One that is not given is as ever: lose
 15.625, repeat 62.5, abandon 7.8125, members 3.90625, restart-broker 7.8125,
 restart-coordinator 11.71875, abort 31.25. All seven come to 1000 at most.
 
+With --chain there is a second group, of one application: it reads what stands
+committed in `out`, and writes `fin`, which has as many partitions. The manifest
+is then one of version 2, of two groups.
+
 With --switch the cluster breaks a rule, as a bad broker or coordinator would:
 in a few events after the script, or from a word on that --switch-at gives.
 `check` then says no, by this fault; inside a script another may come before
@@ -290,7 +294,7 @@ it (docs/SIMULATOR.md):
 With --mishap an application errs, once: at the input O of in-N, or at the first
 that suits. An input at offset O has O modulo 3 outputs, or a note where that is
 0; a mishap needs one with outputs, wrong-count one with two, and offset-deleted
-any.
+any. aborted-input is one of the second group, at the record O of out-N.
 
   lost-output        5.11 Missing           its last output is not written
   repeated-output    5.10 Repeated          its first output is written twice
@@ -301,6 +305,7 @@ any.
   other-transaction  5.12 OtherTransaction  its outputs one transaction early
   no-headers         4.1 BadLineage         one output more, without headers
   offset-deleted     4.4 OffsetDeleted      its group's offset is deleted
+  aborted-input      5.6 NoSuchInput        it was aborted, and is processed
 
 With --history all that happens is written to FILE, which must not be there, as
 JSON lines (docs/SIMULATOR.md): what the cluster is, each event with its reply,

@@ -125,6 +125,8 @@ pub struct Sizes {
     pub segment_records: Option<u64>,
     /// From 1 to 1,000.
     pub batch_records: Option<u64>,
+    /// Whether a second group reads `out` and writes `fin`.
+    pub chain: bool,
 }
 
 /// Of a thousand words how many say this, where that is said: from 0 to 1,000.

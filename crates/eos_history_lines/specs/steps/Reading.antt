@@ -1,7 +1,7 @@
 -- What a JSON value says, looked up member by member; other members and the order of switches aren't looked at.
 use Rattle.std.specs.Prelude.{ℕ, ℤ, pos, negsuc, List, Bool, false, ◌&&◌, ◌||◌, int_le, codes, bytes_eq, Option, None, Some, is_some, option_map, option_and_then, if◌then◌else◌}
 use Rattle.serde_json.specs.Data.{Data, Items, no_items, item}
-use Rattle.serde_json.specs.Find.{get, as_null, as_number, as_u64, as_i64, as_str, as_array}
+use Rattle.serde_json.specs.Find.{get, as_null, as_bool, as_number, as_u64, as_i64, as_str, as_array}
 use Rattle.eos_batch.specs.declared.marker.Kind.{Kind}
 use Rattle.eos_batch.specs.declared.marker.Kind.TheVariants as kinds
 use Rattle.eos_machine.specs.declared.item.Claim.{Claim}
@@ -35,6 +35,9 @@ as_small z = if int_le (negsuc 2147483647) z && int_le z (pos 2147483647) then S
 
 abbrev pub small_in : List ℕ → Data → Option ℤ
 small_in name d = option_and_then as_small (integer_in name d)
+
+abbrev pub truth_in : List ℕ → Data → Option Bool
+truth_in name d = option_and_then as_bool (get name d)
 
 abbrev pub text_in : List ℕ → Data → Option (List ℕ)
 text_in name d = option_and_then as_str (get name d)
@@ -177,9 +180,9 @@ switches_at name d = option_map switches_in (option_and_then as_array (get name 
 
 abbrev pub sizes_in : Data → Option Config
 sizes_in d =
-    option_and_then (λ applications. option_and_then (λ inputs. option_and_then (λ outputs. option_and_then (λ logs. option_and_then (λ records.
-    option_map (λ most. record { applications = applications; inputs = inputs; outputs = outputs; transaction_logs = logs; segment_records = records; batch_records = most })
-    (count_in (codes "batch_records") d)) (count_in (codes "segment_records") d)) (count_in (codes "transaction_logs") d)) (count_in (codes "outputs") d)) (count_in (codes "inputs") d)) (count_in (codes "applications") d)
+    option_and_then (λ applications. option_and_then (λ inputs. option_and_then (λ outputs. option_and_then (λ logs. option_and_then (λ records. option_and_then (λ most.
+    option_map (λ chain. record { applications = applications; inputs = inputs; outputs = outputs; transaction_logs = logs; segment_records = records; batch_records = most; chain = chain })
+    (truth_in (codes "chain") d)) (count_in (codes "batch_records") d)) (count_in (codes "segment_records") d)) (count_in (codes "transaction_logs") d)) (count_in (codes "outputs") d)) (count_in (codes "inputs") d)) (count_in (codes "applications") d)
 
 abbrev pub head_in : Data → Option Head
 head_in d =

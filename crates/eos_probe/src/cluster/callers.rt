@@ -24,6 +24,7 @@ const PAIR: Config = Config {
     transaction_logs: 1,
     segment_records: 16,
     batch_records: 1,
+    chain: false,
 };
 
 /// A new cluster, whose sizes are in range.

@@ -5,9 +5,10 @@ use bytes::Bytes;
 use eos_batch::Kind;
 use eos_machine::{Claim, Config, Event};
 
-/// The sizes of a cluster, in the order of their fields.
+/// The sizes of a cluster, in the order of their fields; `,chain` after them where it has a second group.
 pub(super) fn sizes_of(notes: &mut Notes, text: &str) -> Config {
-    let numbers = numbers_of(notes, text, 6);
+    let sizes = text.strip_suffix(",chain");
+    let numbers = numbers_of(notes, sizes.unwrap_or(text), 6);
     Config {
         applications: place(numbers[0]),
         inputs: place(numbers[1]),
@@ -15,6 +16,7 @@ pub(super) fn sizes_of(notes: &mut Notes, text: &str) -> Config {
         transaction_logs: place(numbers[3]),
         segment_records: place(numbers[4]),
         batch_records: place(numbers[5]),
+        chain: sizes.is_some(),
     }
 }
 
