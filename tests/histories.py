@@ -40,8 +40,7 @@ ARGUMENTS = {
 REPLIES = {"done", "fenced", "out-of-order", "duplicate-kept", "wrong-state", "busy", "stale-generation", "epochs-spent", "unknown"}
 HEAD = {
     "schema": 1, "applications": 2, "inputs": 2, "outputs": 2, "transaction_logs": 1, "segment_records": 16,
-    "batch_records": 1,
-    "switches": [], "seed": 0, "words": 0,
+    "batch_records": 1, "chain": False, "switches": [], "seed": 0, "words": 0,
 }
 
 # How many scripts have random settings, and how many have none.
@@ -98,6 +97,10 @@ def settings_of(seed):
         words += ["--switch-at", chance.randrange(0, events + 1)]
     if chance.random() < 0.2:
         words += ["--mishap", chance.choice(MISHAPS)]
+    if chance.random() < 0.4:
+        words += ["--chain"]
+        if chance.random() < 0.3:
+            words += ["--mishap", "aborted-input"]
     return words, events
 
 
@@ -209,6 +212,30 @@ def worked():
         edited[place] = deeds[place] | {name: None}
         answer = replayed(HEAD, *edited)
         expect(answer[0] == 0 and f"\nno {fault} " in answer[1], f"{name} is null: {answer}")
+    # a second group processes what the first has written: the record of out-0 has one output, that of out-1 a note
+    chain = {**HEAD, "chain": True}
+    second = [
+        event(16, "start", application=2, reply="done", value=1),
+        event(17, "fetch", session=1, source=0, reply="unknown"),
+        event(18, "fetch", session=0, source=2, reply="unknown"),
+        event(19, "fetch", session=1, source=2, reply="done", value=0),
+        event(20, "produce", session=1, partition=0, claim={**claim, "topic": "out", "offset": 0}, reply="done", value=7),
+        event(21, "produce", session=1, partition=1, claim={**first, "topic": "out", "partition": 1}, reply="done", value=8),
+        event(22, "commit", session=1, source=2, offset=1, reply="done", value=9),
+        event(23, "commit", session=1, source=3, offset=1, reply="done", value=10),
+        event(24, "commit", session=1, source=1, offset=1, reply="unknown"),
+        *(event(25, "deliver", message=message, reply="done", value=place) for message, place in ((7, 0), (8, 0), (9, 2), (10, 3))),
+        event(26, "end", session=1, kind="commit", reply="done", value=11),
+        event(27, "deliver", message=11, reply="done", value=12),
+        *(event(28, "deliver", message=message) for message in (12, 13, 14)),
+        event(29, "deliver", message=15, reply="unknown"),
+    ]
+    answer = (0, "wrote partitions=8\nyes transactions=2 inputs=4 outputs=2\n", "")
+    expect(replayed(chain, *deeds[:14], *second) == answer, f"a second group: {replayed(chain, *deeds[:14], *second)}")
+    # where it names a marker for a record
+    none_there = [it if it["number"] != 21 else it | {"claim": {**first, "topic": "out", "partition": 1, "offset": 1}} for it in second]
+    answer = replayed(chain, *deeds[:14], *none_there)
+    expect(answer[0] == 0 and "\nno 5." in answer[1], f"an input that is no record: {answer}")
     # cut before the end: a transaction is open
     expect(replayed(HEAD, *deeds[:9]) == (2, "", "eoscheck: the cluster is not at rest\n"), "a schedule that is cut")
     # nothing happens
@@ -236,6 +263,8 @@ def refused():
         (1, [{k: v for k, v in HEAD.items() if k != "inputs"}]),
         (1, [{**HEAD, "switches": ["no-such-rule"]}]),
         (1, [{**HEAD, "colour": "red"}]),
+        (1, [{**HEAD, "chain": 1}]),
+        (1, [{k: v for k, v in HEAD.items() if k != "chain"}]),
         (2, [HEAD, ""]),
         (2, [HEAD, "feed"]),
         (2, [HEAD, HEAD]),
@@ -267,7 +296,7 @@ def refused():
     for what in (f"{scratch}/no-such-file", scratch):
         status, out, told = run("simulate", "--schedule", what, folder)
         expect((status, out) == (2, "") and told.startswith(f"eoscheck: cannot read {what}\n"), f"{what}: {told}")
-    for words in (["--seed", 1], ["--events", 1], ["--switch", "no-fence"], ["--inputs", 3], ["--lose", 1], ["--mishap", "lost-output"]):
+    for words in (["--seed", 1], ["--events", 1], ["--switch", "no-fence"], ["--inputs", 3], ["--chain"], ["--lose", 1], ["--mishap", "lost-output"]):
         status, out, told = run("simulate", "--schedule", schedule(HEAD), *words, folder)
         expect((status, out) == (2, "") and told.startswith("error: "), f"--schedule with {words}: {told}")
     expect(not os.path.exists(folder), "a refused schedule leaves a folder")

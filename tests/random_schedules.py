@@ -11,6 +11,8 @@ import subprocess
 import sys
 
 SIZES = "3,2,2,2,5,1"
+# Every other list is of a cluster with a second group, whose application is number 2.
+CHAIN = "2,2,2,2,5,1,chain"
 MESSAGES = 400
 
 
@@ -81,7 +83,7 @@ def line(seed):
     events = [event(words) for _ in range(40)]
     events += ["start:0", "start:1", "start:2", "coordinator"]
     events += [f"deliver:{message}" for message in range(MESSAGES)]
-    return f"cluster {SIZES} " + " ".join("-" + word for word in events) + f" deliver:{MESSAGES} at-rest ends verdict:1\n"
+    return f"cluster {CHAIN if seed % 2 else SIZES} " + " ".join("-" + word for word in events) + f" deliver:{MESSAGES} at-rest ends verdict:1\n"
 
 
 def main():

@@ -5,8 +5,9 @@
 
 SEEDS (200) scripts of 50 to 2,000 events each, and each switch with 20 of them, after the script and, with 5, inside it. Every
 fifth folder is read back by `dump`, and every tenth's verdict compared with that of tests/reference.py too. Then random sizes
-and rates, each rate's least and most, each mishap with 8 seeds, several switches and mishaps at once; and the tables of
-docs/SIMULATOR.md, the help and these lists say the same. With REFUSE.SO (tests/refuse.c, built) the allocations of a run are
+and rates, half of them with a second group, each rate's least and most, each mishap with 8 seeds, several switches and mishaps
+at once; with a second group each switch with 5 seeds, and its mishap with 8, at the first record that suits and at a chosen one;
+and the tables of docs/SIMULATOR.md, the help and these lists say the same. With REFUSE.SO (tests/refuse.c, built) the allocations of a run are
 refused, each in turn. Prints what is wrong, and as its last line 'N passed, N failed'.
 """
 import concurrent.futures
@@ -30,6 +31,7 @@ from mutants import Reader
 
 HERE = os.path.dirname(os.path.abspath(__file__))
 WROTE = "wrote partitions=6\n"
+CHAIN_WROTE = "wrote partitions=8\n"
 YES = re.compile(r"yes transactions=(\d+) inputs=(\d+) outputs=(\d+)\n")
 SWITCHES = {
     "keep-duplicates": "1.4 Sequence",
@@ -71,6 +73,8 @@ MISHAPS = {
     "no-headers": "4.1 BadLineage",
     "offset-deleted": "4.4 OffsetDeleted",
 }
+# A mistake of the second group.
+CHAINED = {"aborted-input": "5.6 NoSuchInput"}
 RATES = ["lose", "repeat", "abandon", "members", "restart-broker", "restart-coordinator", "abort"]
 # The ranges of the sizes, and what they are where nothing is said.
 SIZES = {
@@ -244,7 +248,10 @@ def settings(choice, without=()):
     chosen = [name for name in RATES if choice.random() < 0.6]
     rates = {name: choice.choice([0, choice.randint(1, 130)]) for name in chosen}
     words = [word for name, value in {**sizes, **rates}.items() for word in (f"--{name}", value)]
-    return words, 1 + sizes["transaction-logs"] + sizes["inputs"] + sizes["outputs"]
+    partitions = 1 + sizes["transaction-logs"] + sizes["inputs"] + sizes["outputs"]
+    if choice.random() < 0.5:
+        return [*words, "--chain"], partitions + sizes["outputs"]
+    return words, partitions
 
 
 def other_settings(number):
@@ -329,6 +336,58 @@ def batched(seed):
     return (None if said[0] == said[1] else f"{words}: {said}"), largest
 
 
+def groups_in(folder):
+    with open(os.path.join(folder, "evidence.json")) as f:
+        manifest = json.load(f)
+    return manifest["version"], [(app["group"], app["sources"], app["outputs"]) for app in manifest.get("apps", [])]
+
+
+def chained_switch(name, seed):
+    """What is wrong with a run of two groups in which a rule is broken after the script, or None."""
+    folder = os.path.join(scratch, f"chained-{name}-{seed}")
+    wrote = simulate(seed, 100 + seed * 37 % 300, folder, "--chain", "--switch", name)
+    if wrote != (0, CHAIN_WROTE, ""):
+        return f"{name}: {wrote}"
+    said = told(folder)
+    return None if said.startswith(f"no {SWITCHES[name]} ") else f"{name}: {said}"
+
+
+def aborted_records(folder):
+    """The places `out-N:O` of the records of `out` whose transaction was aborted, as the second program reads them, of those that
+    have outputs: O isn't 0 modulo 3."""
+    found = []
+    for part in reference.read_folder(folder)[1]:
+        if part.name[0] == "out":
+            all_data = {offset for _, offset, _ in plain_logs.records_of(part)}
+            visible = {offset for _, offset, _ in plain_logs.records_of(part, only_visible=True)}
+            found += [f"out-{part.name[1]}:{offset}" for offset in sorted(all_data - visible) if offset % 3]
+    return found
+
+
+def chained_mishap(seed):
+    """What is wrong with a run in which the second group processes an aborted record, or None."""
+    folder = os.path.join(scratch, f"chained-mishap-{seed}")
+    events = 400 + seed * 37 % 400
+    if simulate(seed, events, folder, "--chain") != (0, CHAIN_WROTE, ""):
+        return "an honest run of two groups"
+    places = aborted_records(folder)
+    if groups_in(folder) != (2, [("g", ["in"], ["out"]), ("h", ["out"], ["fin"])]):
+        return f"{groups_in(folder)}"
+    shutil.rmtree(folder)
+    if not places:
+        return "no record was aborted"
+    at = places[seed % len(places)]
+    for words, wanted in (["aborted-input"], [f" source={it} " for it in places]), ([f"aborted-input@{at}"], [f" source={at} "]):
+        wrote = simulate(seed, events, folder, "--chain", "--mishap", *words)
+        if wrote != (0, CHAIN_WROTE, ""):
+            return f"{words}: {wrote}"
+        kinds = kinds_in(folder)
+        said = told(folder)
+        if kinds != {"5.6"} or not said.startswith("no 5.6 NoSuchInput ") or not any(it in f"{said} " for it in wanted):
+            return f"{words}: {kinds} {said}"
+    return None
+
+
 def rates():
     """Each rate is heard: with the same seed its least and its most make other logs. And where nothing is lost, given up, moved,
     restarted or aborted, no transaction is.
@@ -395,7 +454,7 @@ def documented():
     wanted = [(name, fault, ", ".join(BEHIND[name]), ", ".join(INSIDE[name])) for name, fault in SWITCHES.items()]
     expect(switches == wanted, f"the switches of docs/SIMULATOR.md: {switches}")
     mishaps = {row[0].strip("`"): row[2] for row in rows_below(text, "Mishaps")}
-    expect(mishaps == MISHAPS, f"the mishaps of docs/SIMULATOR.md: {mishaps}")
+    expect(mishaps == {**MISHAPS, **CHAINED}, f"the mishaps of docs/SIMULATOR.md: {mishaps}")
     sizes = {row[0].split("`")[1][2:]: tuple(map(int, row[1:])) for row in rows_below(text, "Sizes")}
     expect(sizes == SIZES, f"the sizes of docs/SIMULATOR.md: {sizes}")
     rates = [row for row in rows_below(text, "A script's words")]
@@ -507,20 +566,24 @@ def bad_words():
         (["--repeat", "500", "--abort", "460"], "rates: more than 1000 in all"),
         (["--switch-at", "3"], "--switch-at: no --switch"),
         (["--switch", "no-bump", "--switch-at", "8"], "--switch-at: more than --events"),
-        (["--mishap", "no-such"], "--mishap: no mishap, or not NAME@in-N:O"),
-        (["--mishap", "lost-output@out-0:1"], "--mishap: no mishap, or not NAME@in-N:O"),
-        (["--mishap", "lost-output@in-00:1"], "--mishap: no mishap, or not NAME@in-N:O"),
-        (["--mishap", "lost-output@in-0:+1"], "--mishap: no mishap, or not NAME@in-N:O"),
+        (["--mishap", "no-such"], "--mishap: no mishap, or not NAME@TOPIC-N:O"),
+        (["--mishap", "lost-output@out-0:1"], "--mishap: no mishap, or not NAME@TOPIC-N:O"),
+        (["--mishap", "lost-output@in-00:1"], "--mishap: no mishap, or not NAME@TOPIC-N:O"),
+        (["--mishap", "lost-output@in-0:+1"], "--mishap: no mishap, or not NAME@TOPIC-N:O"),
         (["--mishap", "lost-output@in-0:0"], "lost-output: no input suits this mishap"),
         (["--mishap", "wrong-count@in-0:1"], "wrong-count: no input suits this mishap"),
         (["--mishap", "other-transaction@in-2:1"], "other-transaction: no input suits this mishap"),
         (["--mishap", "early-output@in-0:5000"], "early-output: no input suits this mishap"),
+        (["--mishap", "aborted-input"], "aborted-input: no input suits this mishap"),
+        (["--chain", "--mishap", "aborted-input@out-0:1"], "aborted-input: no input suits this mishap"),
+        (["--chain", "--mishap", "aborted-input@in-0:1"], "--mishap: no mishap, or not NAME@TOPIC-N:O"),
+        (["--chain", "--mishap", "lost-output@out-0:1"], "--mishap: no mishap, or not NAME@TOPIC-N:O"),
     ]:
         found = simulate(7, 7, folder, *words)
         wanted = (2, "", f"eoscheck: {message}\n")
         expect(found == wanted and not os.path.exists(folder), f"bad words {words}: {found}")
     status, out, said = run("simulate", "--help")
-    named = all(re.search(rf"{name} +{fault}", out) for name, fault in {**SWITCHES, **MISHAPS}.items())
+    named = all(re.search(rf"{name} +{fault}", out) for name, fault in {**SWITCHES, **MISHAPS, **CHAINED}.items())
     expect((status, said) == (0, "") and named, "the help of simulate")
 
 
@@ -570,6 +633,11 @@ def main():
         wrong, largest = zip(*pool.map(batched, seeds[: max(4, len(seeds) // 5)]))
         expect(not any(wrong), f"batches of several records: {[it for it in wrong if it]}")
         expect(max(largest) > 3, f"the largest batch has {max(largest)} records")
+        chained = [(name, seed) for name in SWITCHES for seed in seeds[:5]]
+        wrong = [it for it in pool.map(lambda it: chained_switch(*it), chained) if it]
+        expect(not wrong, f"switches with two groups: {wrong}")
+        wrong = [it for it in pool.map(chained_mishap, seeds[:8]) if it]
+        expect(not wrong, f"the mishap of the second group: {wrong}")
     worked()
     rates()
     several()
