@@ -357,7 +357,7 @@ def aborted_records(folder):
     have outputs: O isn't 0 modulo 3."""
     found = []
     for part in reference.read_folder(folder)[1]:
-        if part.name[0] == "out":
+        if part.name[0] == b"out":
             all_data = {offset for _, offset, _ in plain_logs.records_of(part)}
             visible = {offset for _, offset, _ in plain_logs.records_of(part, only_visible=True)}
             found += [f"out-{part.name[1]}:{offset}" for offset in sorted(all_data - visible) if offset % 3]
