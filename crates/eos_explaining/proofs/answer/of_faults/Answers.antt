@@ -1,0 +1,32 @@
+use Rattle.std.proofs.Common.{◌≡◌, ◌<◌, ◌-◌, length, inl, inr, ◌∙◌, arith}
+use Rattle.eos_explaining.proofs.answer.of_faults.Goals.{then-number-eq0-via-then-number-eq0, then-number-eq0-via-else-number-eq0+then-number-count}
+use Rattle.eos_explaining.proofs.answer.of_faults.Goals as goal
+
+pub returns-then-number-eq0 : goal.returns-then-number-eq0
+returns-then-number-eq0 c =
+    let told = c.in_ok-told.told in
+    let counted : c.len-count.result ≡ length told.items = omega (arith, told.ok.0, c.len-count.ensures) in
+    record {
+      logs = c.args.logs.now;
+      told = told.items;
+      are = record { faults = c.in_ok-faults.faults.items; of = c.requires; are = c.in_ok-faults.ensures c.requires; named = c.in_ok-told.ensures };
+      counted = counted;
+      fewer = elim c.then-number-eq0.branch [
+        | then-number-eq0-via-then-number-eq0 w ↦ inl (omega (arith, w.if-number-eq0.true))
+        | then-number-eq0-via-else-number-eq0+then-number-count w ↦ inr (omega (arith, w.if-number-count.true))
+      ];
+    }
+
+pub returns : goal.returns
+returns c =
+    let story = c.in_ok-story.ensures in
+    record {
+      logs = c.args.logs.now;
+      told = c.as_slice.result.now;
+      are = record { faults = c.in_ok-faults.faults.items; of = c.requires; are = c.in_ok-faults.ensures c.requires; named = c.as_slice.ensures.value ∙ c.in_ok-told.ensures };
+      before = c.args.number - 1;
+      numbered = omega (arith, c.if-number-eq0.false);
+      verdict = story.0;
+      at = story.1;
+      story = story.2;
+    }
