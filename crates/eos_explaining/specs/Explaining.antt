@@ -1,5 +1,5 @@
 -- What `explain` answers for an evidence: the line of a yes and the notes, the story of one of all faults, or how many there are.
-use Rattle.std.specs.Prelude.{◌≡◌, ◌≤◌, ◌<◌, ◌⊎◌, ℕ, suc, List, map, length, Option, Some, option_map, slice_get, string_bytes, false}
+use Rattle.std.specs.Prelude.{◌≡◌, ◌<◌, ◌⊎◌, ℕ, suc, List, map, length, Some, slice_get, string_bytes, false}
 use Rattle.std.specs.Option.{option_copied}
 use Rattle.eos_check.specs.declared.verdict.Fault.{Fault}
 use Rattle.eos_check.specs.declared.verdict.Verdict.{Verdict}
@@ -11,7 +11,6 @@ use Rattle.eos_evidence.specs.Evidence.{EvidenceParts}
 use Rattle.eos_fold.specs.Parts.{PartLog}
 use Rattle.eos_lineage.specs.EvidenceLogs.{AreLogsOf}
 use Rattle.eos_all_faults.specs.AllFaults.{AreAllFaults}
-use Rattle.eos_notes.specs.declared.note.Note.{Note}
 use Rattle.eos_notes.specs.Notes.{AreNotes}
 use Rattle.eos_report.specs.VerdictTexts.{verdict_line}
 use Rattle.eos_story.specs.PlaceOfFault.{place_in}

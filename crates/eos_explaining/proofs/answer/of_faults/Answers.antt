@@ -1,4 +1,4 @@
-use Rattle.std.proofs.Common.{◌≡◌, ◌<◌, ◌-◌, length, inl, inr, ◌∙◌, arith}
+use Rattle.std.proofs.Common.{◌≡◌, ◌-◌, length, inl, inr, ◌∙◌, arith}
 use Rattle.eos_explaining.proofs.answer.of_faults.Goals.{then-number-eq0-via-then-number-eq0, then-number-eq0-via-else-number-eq0+then-number-count}
 use Rattle.eos_explaining.proofs.answer.of_faults.Goals as goal
 
