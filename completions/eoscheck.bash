@@ -3,7 +3,7 @@ _eoscheck() {
   local word=${COMP_WORDS[COMP_CWORD]} before=${COMP_WORDS[COMP_CWORD - 1]}
   COMPREPLY=()
   if [ "$COMP_CWORD" -eq 1 ]; then
-    mapfile -t COMPREPLY < <(compgen -W 'check dump chain explain init simulate help -h --help -V --version' -- "$word")
+    mapfile -t COMPREPLY < <(compgen -W 'check dump chain explain draw init simulate help -h --help -V --version' -- "$word")
     return
   fi
   case ${COMP_WORDS[1]} in
@@ -48,10 +48,29 @@ _eoscheck() {
     --code)
       mapfile -t COMPREPLY < <(compgen -W '' -- "$word")
       return ;;
+    --fault)
+      mapfile -t COMPREPLY < <(compgen -W '' -- "$word")
+      return ;;
+    --workers)
+      mapfile -t COMPREPLY < <(compgen -W '' -- "$word")
+      return ;;
     esac
     case $word in
-    -*) mapfile -t COMPREPLY < <(compgen -W '--code -h --help' -- "$word") ;;
-    *) mapfile -t COMPREPLY < <(compgen -f -- "$word") ;;
+    -*) mapfile -t COMPREPLY < <(compgen -W '--code --fault --workers -h --help' -- "$word") ;;
+    *) mapfile -t COMPREPLY < <(compgen -d -- "$word") ;;
+    esac ;;
+  draw)
+    case $before in
+    --fault)
+      mapfile -t COMPREPLY < <(compgen -W '' -- "$word")
+      return ;;
+    --around)
+      mapfile -t COMPREPLY < <(compgen -W '' -- "$word")
+      return ;;
+    esac
+    case $word in
+    -*) mapfile -t COMPREPLY < <(compgen -W '--fault --around -h --help' -- "$word") ;;
+    *) mapfile -t COMPREPLY < <(compgen -d -- "$word") ;;
     esac ;;
   init)
     case $before in

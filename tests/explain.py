@@ -82,7 +82,7 @@ def is_said(role, said, topic, record):
         head, _, listed = said.partition(" partitions=")
         return head == (
             f"transaction id={reference.escaped(name)} producer={state.producer} epoch={state.epoch} status={STATUS_NAMES[state.status]}"
-        ) and sorted(filter(None, listed.split(","))) == names_text(state.partitions or [])
+        ) and sorted(set(filter(None, listed.split(",")))) == names_text(state.partitions or [])
     if said.startswith("commit "):
         group, source, number = offset_key(record.key)
         head = f"commit group={reference.escaped(group)} {reference.escaped(source)}-{number}"
@@ -234,7 +234,7 @@ def main():
     folder = os.path.join(HERE, "stories", "34-dup-across-transactions")
     with open("/dev/full", "w", encoding="utf-8") as full:
         status, _, said = run(program, "explain", folder, stdout=full, stderr=subprocess.PIPE)
-    expect((status, said) == (2, "eoscheck: cannot write standard output\n"), f"output that can't be written: {status} {said}")
+    expect((status, said) == (2, "eoscheck: cannot write -\n"), f"output that can't be written: {status} {said}")
     for words in ([folder, "--code", "5.10"], ["--fault", "0", folder], ["--fault", "x", folder], ["--workers", "65", folder], [folder, folder], [""]):
         status, text, said = run(program, "explain", *words)
         expect(status == 2 and not text and said, f"{words}: {status}")
