@@ -51,11 +51,11 @@ def main():
         ("1", "crates/eos_touch/specs/Pair.antt", "number_of"),
         ("2", "crates/eos_table/specs/LogFaults.antt", "row_of"),
         ("3", "crates/eos_table/specs/MatchFaults.antt", "row_of"),
-        ("4", "crates/eos_commits/specs/Faults.antt", "rank"),
-        ("5", "crates/eos_claims/specs/Faults.antt", "rank"),
+        ("4", "crates/eos_commits/specs/Faults.antt", "row_of"),
+        ("5", "crates/eos_claims/specs/Faults.antt", "row_of"),
     ):
         with open(path, encoding="utf-8") as file:
-            for name, number, printed in re.findall(rf'^{first} \(?(\w+)[^=\n]* = \(?(\d+)(?:, codes "(\w+)"\))?$', file.read(), re.M):
+            for name, number, printed in re.findall(rf'^{first} \(?(\w+)[^=\n]* = \(?(\d+)(?:, codes "(\w+)".*\))?$', file.read(), re.M):
                 kinds[f"{phase}.{number}"] = name
                 expect(printed in ("", name), f"{phase}.{number} {name} is printed {printed}")
     for code in sorted(kinds.keys() | said.keys()):

@@ -2,7 +2,6 @@
 use Rattle.std.proofs.Common.{◌≡◌, ◌≢◌, ℕ, ◌+◌, ◌≤◌, ◌<◌, pos, ◌≤ℤ◌, List, [], ◌∷◌, ◌++◌, flat_map, fold, Option, Some, None, refl, sym, subst, ap, ◌∙◌, inl, inr, ◌⊎◌, true, false, Bool, not, ◌&&◌, if◌then◌else◌, arith}
 use Rattle.std.specs.Prelude.{nat_lt, ◌==◌}
 use Rattle.std.specs.List.{list_any}
-use Rattle.std.specs.Option.{option_cmp}
 use Rattle.std.specs.Ordering.{is_eq, is_lt, is_gt}
 use Rattle.std.specs.declared.cmp.Ordering.{Ordering}
 use Rattle.std.specs.declared.cmp.Ordering.TheVariants.{Less, Equal, Greater}
@@ -19,12 +18,12 @@ use Rattle.eos_claims.specs.declared.fault.OutputFault.{OutputFault}
 use Rattle.eos_claims.specs.declared.fault.OutputKind.{OutputKind}
 use Rattle.eos_claims.specs.declared.fault.OutputKind.TheVariants.{ForeignSource, NoSuchInput, Early, CountDisagrees, NumberRange, Repeated, Missing, OtherTransaction}
 use Rattle.eos_claims.specs.Outputs.{PlacedClaim, Application, ReadsSources, committed_offset, IsBelow, Names, IsPassed}
-use Rattle.eos_claims.specs.Faults.{rank, place_cmp, fault_cmp, IsLeastClaim, AtClaim, IsOutOfRange, IsTop, StandsAs, Stands}
+use Rattle.eos_claims.specs.Faults.{place_cmp, fault_cmp, IsLeastClaim, AtClaim, IsOutOfRange, IsTop, StandsAs, Stands}
 use Rattle.eos_claims.specs.Candidates.{Counted, counted, claim_cmp, fault_at, missing, when, at_start, at_end, in_run as run_of, runs, shown, shown_by, is_source, is_input, is_committed, is_out_of_range, is_passed, names, unclaimed, candidates, AreBelow, AreApart}
 use Rattle.eos_claims.proofs.CandidatesSound.{sound}
 use Rattle.eos_claims.proofs.ClaimOrder.{LaterKind, in_run, nat_tied, outputs_rise, sandwich, same_number, fault_upto, same_place_true, true_same_place, place_tied}
 use Rattle.eos_claims.proofs.ClaimTests.{source_is, is_source_has, input_is, is_input_has, not_less_int, is_less_int, below_is, is_out, passed_is, claimed_is}
-use Rattle.eos_claims.proofs.FaultOrder.{fault_total, fault_exact, claim_total, claim_tied, place_exact, place_total}
+use Rattle.eos_claims.proofs.FaultOrder.{kind_cmp, kind_total, kind_exact, fault_total, fault_exact, claim_total, claim_tied, place_exact, place_total}
 use Rattle.eos_claims.proofs.NeighbourLists.{Adjacent, IsHead, IsLast, adjacent_has, adjacent_up, head_has, change, first_of, last_of}
 use Rattle.eos_claims.proofs.OutputsLaw.{place_decided, nat_less_or}
 use Rattle.eos_claims.proofs.RunMembers.{has_start, has_between, has_end}
@@ -52,25 +51,26 @@ module _ (a : Application) (cs : List Counted) where
   is_when b f e = has_if b (f ∷ []) f e (inl refl)
 
   -- a fault at a claim of a source and number goes after what the claim shows of a lesser kind
-  at_kind : (c : PlacedClaim) (k l : OutputKind) → rank k ≤ rank l → UpTo fault_cmp (fault_at k (counted c)) (fault_at l (counted c))
-  at_kind c k l le = fault_upto (fault_at k (counted c)) (fault_at l (counted c)) refl (inr (refl, kinds (nat_less_or (rank k) (rank l))))
+  at_kind : (c : PlacedClaim) (k l : OutputKind) → UpTo kind_cmp k l → UpTo fault_cmp (fault_at k (counted c)) (fault_at l (counted c))
+  at_kind c k l up = fault_upto (fault_at k (counted c)) (fault_at l (counted c)) refl (inr (refl, kinds (kind_cmp k l) refl up))
     where
-      kinds : (rank k < rank l) ⊎ (rank l ≤ rank k) → (rank k < rank l) ⊎ ((rank k ≡ rank l) × UpTo (option_cmp place_cmp) (Some c.at) (Some c.at))
-      kinds (inl l) = inl l
-      kinds (inr g) = inr (omega arith, upto_itself place_total c.at)
+      kinds : (r : Ordering) → kind_cmp k l ≡ r → is_gt r ≡ false → LaterKind k l (Some c.at) (Some c.at)
+      kinds Less e u = inl e
+      kinds Equal e u = inr (kind_exact k l e, upto_itself place_total c.at)
+      kinds Greater e u = absurd cc
 
   -- a claim whose input isn't below shows one of the first three kinds
-  not_below : (c : PlacedClaim) → Has a.claims c → (IsBelow a c.source → ⊥) → (l : OutputKind) → 7 ≤ rank l → Candidate a cs (fault_at l (counted c))
-  not_below c h n l le = go (is_source a c.source) refl (is_input a c.source) refl (is_committed a c.source) refl
+  not_below : (c : PlacedClaim) → Has a.claims c → (IsBelow a c.source → ⊥) → (l : OutputKind) → UpTo kind_cmp Early l → Candidate a cs (fault_at l (counted c))
+  not_below c h n l up = go (is_source a c.source) refl (is_input a c.source) refl (is_committed a c.source) refl
     where
       shows : (s i m : Bool) → is_source a c.source ≡ s → is_input a c.source ≡ i → is_committed a c.source ≡ m → (x : OutputFault)
           → Has (shown s i m (is_out_of_range c.of c.output) (is_passed a c) (counted c)) x → Has (shown_by a c) x
       shows s i m es ei em x k = rw (es, ei, em) k
 
       go : (s : Bool) → is_source a c.source ≡ s → (i : Bool) → is_input a c.source ≡ i → (m : Bool) → is_committed a c.source ≡ m → Candidate a cs (fault_at l (counted c))
-      go false es i ei m em = by_claim c h (fault_at ForeignSource (counted c)) (fault_at l (counted c)) (shows false i m es ei em _ (inl refl)) (at_kind c ForeignSource l (omega (arith, le)))
-      go true es false ei m em = by_claim c h (fault_at NoSuchInput (counted c)) (fault_at l (counted c)) (shows true false m es ei em _ (inl refl)) (at_kind c NoSuchInput l (omega (arith, le)))
-      go true es true ei false em = by_claim c h (fault_at Early (counted c)) (fault_at l (counted c)) (shows true true false es ei em _ (inl refl)) (at_kind c Early l (omega (arith, le)))
+      go false es i ei m em = by_claim c h (fault_at ForeignSource (counted c)) (fault_at l (counted c)) (shows false i m es ei em _ (inl refl)) (at_kind c ForeignSource l (upto_trans kind_total ForeignSource Early l refl up))
+      go true es false ei m em = by_claim c h (fault_at NoSuchInput (counted c)) (fault_at l (counted c)) (shows true false m es ei em _ (inl refl)) (at_kind c NoSuchInput l (upto_trans kind_total NoSuchInput Early l refl up))
+      go true es true ei false em = by_claim c h (fault_at Early (counted c)) (fault_at l (counted c)) (shows true true false es ei em _ (inl refl)) (at_kind c Early l up)
       go true es true ei true em = absurd (n (below_is a c.source ei em))
 
   below_or : (i : Place) → Decided (IsBelow a i)
@@ -103,11 +103,11 @@ module _ (a : Application) (cs : List Counted) where
       go false e = by_claim c h (fault_at NoSuchInput (counted c)) (fault_at NoSuchInput (counted c)) (rw (is_source_has a c.source s, e) (inl refl)) (upto_itself fault_total (fault_at NoSuchInput (counted c)))
 
   whole_early : (c : PlacedClaim) → Has a.claims c → (committed_offset a.commits c.source.partition ≤ℤ pos c.source.offset) → Candidate a cs (fault_at Early (counted c))
-  whole_early c h le = not_below c h (λ b. let l = b.below in absurd (omega (arith, ints, l, le))) Early (omega arith)
+  whole_early c h le = not_below c h (λ b. let l = b.below in absurd (omega (arith, ints, l, le))) Early refl
 
   whole_range : (c : PlacedClaim) → Has a.claims c → IsOutOfRange c.of c.output → ReadsSources a → Candidate a cs (fault_at NumberRange (counted c))
   whole_range c h out reads = elim (below_or c.source) [
-    | inr n ↦ not_below c h n NumberRange (omega arith)
+    | inr n ↦ not_below c h n NumberRange refl
     | inl b ↦ by_claim c h (fault_at NumberRange (counted c)) (fault_at NumberRange (counted c))
         (shown_below c b reads (fault_at NumberRange (counted c)) (append_left (when (is_out_of_range c.of c.output) (fault_at NumberRange (counted c))) _ _ (is_when _ _ (is_out c.of c.output out))))
         (upto_itself fault_total (fault_at NumberRange (counted c)))
@@ -158,7 +158,7 @@ module _ (a : Application) (cs : List Counted) where
 
     whole_disagrees : (c t : PlacedClaim) → Has a.claims c → IsLeastClaim a c.source t → c.of ≢ t.of → Candidate a cs (fault_at CountDisagrees (counted c))
     whole_disagrees c t h l n = elim (below_or c.source) [
-      | inr m ↦ not_below c h m CountDisagrees (omega arith)
+      | inr m ↦ not_below c h m CountDisagrees refl
       | inl k ↦ disagree (counted c) (counted t) (counted c) (b.whole c h k) (b.whole t l.names.has (subst (IsBelow a) (sym l.names.source) k))
           refl l.names.source (upto_itself claim_total (counted c)) (least_up c.source t c l h refl) n
     ]
@@ -166,7 +166,7 @@ module _ (a : Application) (cs : List Counted) where
     whole_repeated : (c d : PlacedClaim) → Has a.claims c → Has a.claims d → d.source ≡ c.source → d.output ≡ c.output → place_cmp d.at c.at ≡ Less
         → Candidate a cs (fault_at Repeated (counted c))
     whole_repeated c d h k s o l = elim (below_or c.source) [
-      | inr m ↦ not_below c h m Repeated (omega arith)
+      | inr m ↦ not_below c h m Repeated refl
       | inl w ↦ here w
     ]
       where
@@ -262,7 +262,7 @@ module _ (a : Application) (cs : List Counted) where
         let is : r.y ≡ counted t = same r.y r.yes r.low (begun r.y r.begins) in
         by_run (missing i 1) (missing i n) (begins r.y r.yes is r.begins) (fault_upto (missing i 1) (missing i n) refl (first n one))
       where
-        first : (n : ℕ) → 1 ≤ n → (1 < n) ⊎ ((1 ≡ n) × LaterKind 11 11 None None)
+        first : (n : ℕ) → 1 ≤ n → (1 < n) ⊎ ((1 ≡ n) × LaterKind Missing Missing None None)
         first n one = elim (nat_less_or 1 n) [ inl l ↦ inl l | inr g ↦ inr (omega arith, inr (refl, refl)) ]
 
         begun : (y : Counted) → IsHead cs y ⊎ ((x : Counted) × Adjacent cs x y × (x.source ≡ i → ⊥)) → Has cs y
@@ -327,7 +327,7 @@ module _ (a : Application) (cs : List Counted) where
             open_end : nat_lt y.output y.of ≡ true
             open_end = lt-ltb y.output y.of (omega (arith, lt, q, top))
 
-            upto : (k : ℕ) → k < n → (k + 1 < n) ⊎ ((k + 1 ≡ n) × LaterKind 11 11 None None)
+            upto : (k : ℕ) → k < n → (k + 1 < n) ⊎ ((k + 1 ≡ n) × LaterKind Missing Missing None None)
             upto k l = elim (nat_less_or (k + 1) n) [ inl m ↦ inl m | inr g ↦ inr (omega arith, inr (refl, refl)) ]
 
             shows : IsLast cs y ⊎ ((z : Counted) × Adjacent cs y z × (IsLower z → ⊥)) → Has (runs cs) (missing y.source (y.output + 1))

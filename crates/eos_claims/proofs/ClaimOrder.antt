@@ -12,9 +12,10 @@ use Rattle.eos_base.proofs.Exact.{is_tied}
 use Rattle.eos_claims.specs.declared.place.Place.{Place}
 use Rattle.eos_claims.specs.declared.fault.OutputFault.{OutputFault}
 use Rattle.eos_claims.specs.Outputs.{PlacedClaim}
-use Rattle.eos_claims.specs.Faults.{rank, place_cmp, number_cmp, fault_cmp}
+use Rattle.eos_claims.specs.declared.fault.OutputKind.{OutputKind}
+use Rattle.eos_claims.specs.Faults.{place_cmp, number_cmp, fault_cmp}
 use Rattle.eos_claims.specs.Candidates.{Counted, counted, claim_cmp}
-use Rattle.eos_claims.proofs.FaultOrder.{place_exact, place_total}
+use Rattle.eos_claims.proofs.FaultOrder.{kind_cmp, kind_total, place_exact, place_total}
 
 -- ---- orders one after the other
 
@@ -95,18 +96,21 @@ sandwich c d e p q s = go (source_upto c d p) (source_upto d e q)
 
 -- ---- faults
 
-abbrev pub LaterKind : ℕ → ℕ → Option Place → Option Place → Type 0
-LaterKind k l at bt = (k < l) ⊎ ((k ≡ l) × UpTo (option_cmp place_cmp) at bt)
+abbrev pub LaterKind : OutputKind → OutputKind → Option Place → Option Place → Type 0
+LaterKind k l at bt = (kind_cmp k l ≡ Less) ⊎ ((k ≡ l) × UpTo (option_cmp place_cmp) at bt)
 
-pub fault_upto : (f g : OutputFault) → f.source ≡ g.source → (f.output < g.output) ⊎ ((f.output ≡ g.output) × LaterKind (rank f.kind) (rank g.kind) f.at g.at) → UpTo fault_cmp f g
+kind_tied : (k l : OutputKind) → k ≡ l → kind_cmp k l ≡ Equal
+kind_tied k l e = subst (λ z. kind_cmp k z ≡ Equal) e (tied_itself kind_total k)
+
+pub fault_upto : (f g : OutputFault) → f.source ≡ g.source → (f.output < g.output) ⊎ ((f.output ≡ g.output) × LaterKind f.kind g.kind f.at g.at) → UpTo fault_cmp f g
 fault_upto f g s h = ap is_gt (then_equal (place_cmp f.source g.source) _ (place_tied f.source g.source s)) ∙ rest h
   where
-    by_kind : LaterKind (rank f.kind) (rank g.kind) f.at g.at → is_gt (ordering_then (nat_cmp (rank f.kind) (rank g.kind)) (option_cmp place_cmp f.at g.at)) ≡ false
-    by_kind (inl l) = then_less _ _ (nat_less (rank f.kind) (rank g.kind) l)
-    by_kind (inr r) = ap is_gt (then_equal _ _ (nat_tied (rank f.kind) (rank g.kind) r.0)) ∙ r.1
+    by_kind : LaterKind f.kind g.kind f.at g.at → is_gt (ordering_then (kind_cmp f.kind g.kind) (option_cmp place_cmp f.at g.at)) ≡ false
+    by_kind (inl l) = then_less _ _ l
+    by_kind (inr r) = ap is_gt (then_equal _ _ (kind_tied f.kind g.kind r.0)) ∙ r.1
 
-    rest : (f.output < g.output) ⊎ ((f.output ≡ g.output) × LaterKind (rank f.kind) (rank g.kind) f.at g.at)
-        → is_gt (ordering_then (nat_cmp f.output g.output) (ordering_then (nat_cmp (rank f.kind) (rank g.kind)) (option_cmp place_cmp f.at g.at))) ≡ false
+    rest : (f.output < g.output) ⊎ ((f.output ≡ g.output) × LaterKind f.kind g.kind f.at g.at)
+        → is_gt (ordering_then (nat_cmp f.output g.output) (ordering_then (kind_cmp f.kind g.kind) (option_cmp place_cmp f.at g.at))) ≡ false
     rest (inl l) = then_less _ _ (nat_less f.output g.output l)
     rest (inr r) = ap is_gt (then_equal _ _ (nat_tied f.output g.output r.0)) ∙ by_kind r.1
 

@@ -3,6 +3,7 @@ pub mod CandidatesWhole
 pub mod ClaimOrder
 pub mod ClaimTests
 pub mod FaultOrder
+pub mod FoundOrder
 pub mod NeighbourLists
 pub mod OnePass
 pub mod OutputsLaw

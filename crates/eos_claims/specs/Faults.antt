@@ -3,18 +3,19 @@ use Rattle.std.specs.Prelude.{◌≡◌, ◌≢◌, ◌⊎◌, ℕ, ◌≤◌, �
 use Rattle.std.specs.Ordering.{nat_cmp, on, then_cmp}
 use Rattle.std.specs.declared.cmp.Ordering.{Ordering}
 use Rattle.std.specs.declared.cmp.Ordering.TheVariants.{Less}
-use Rattle.std.specs.Option.{option_cmp}
-use Rattle.eos_base.specs.PartitionNames.{name_cmp}
 use Rattle.eos_base.specs.Members.{Has}
 use Rattle.eos_base.specs.Least.{UpTo}
 use Rattle.eos_claims.specs.declared.place.Place.{Place}
 use Rattle.eos_claims.specs.declared.fault.OutputFault.{OutputFault}
 use Rattle.eos_claims.specs.declared.fault.OutputKind.{OutputKind}
 use Rattle.eos_claims.specs.declared.fault.OutputKind.TheVariants.{ForeignSource, NoSuchInput, Early, CountDisagrees, NumberRange, Repeated, Missing, OtherTransaction}
+use Rattle.eos_claims.specs.contracts.fault.OutputFaultOrd.TheImpl.{ghosts as fault_ghosts}
+use Rattle.eos_claims.specs.contracts.place.PlaceOrd.TheImpl.{ghosts as place_ghosts}
 use Rattle.eos_claims.specs.Outputs.{PlacedClaim, Application, committed_offset, IsBelow, Names, IsPassed}
 
+-- the derived order: by the partition's name, then the offset, as the fields stand
 abbrev pub place_cmp : Place → Place → Ordering
-place_cmp = then_cmp (on (λ p. p.partition) name_cmp) (on (λ p. p.offset) nat_cmp)
+place_cmp = place_ghosts.cmp
 
 -- the claims of one source: by output number, then place
 abbrev pub number_cmp : PlacedClaim → PlacedClaim → Ordering
@@ -62,25 +63,23 @@ StandsAs a f OtherTransaction = (at : AtClaim a f) × IsBelow a f.source × (IsP
 abbrev pub Stands : Application → OutputFault → Type 0
 Stands a f = StandsAs a f f.kind
 
-abbrev pub rank : OutputKind → ℕ
-rank ForeignSource = 5
-rank NoSuchInput = 6
-rank Early = 7
-rank CountDisagrees = 8
-rank NumberRange = 9
-rank Repeated = 10
-rank Missing = 11
-rank OtherTransaction = 12
-
-abbrev pub kind_name : OutputKind → List ℕ
-kind_name ForeignSource = codes "ForeignSource"
-kind_name NoSuchInput = codes "NoSuchInput"
-kind_name Early = codes "Early"
-kind_name CountDisagrees = codes "CountDisagrees"
-kind_name NumberRange = codes "NumberRange"
-kind_name Repeated = codes "Repeated"
-kind_name Missing = codes "Missing"
-kind_name OtherTransaction = codes "OtherTransaction"
-
+-- the derived order: by the fields as they stand, input, output number, kind and place of the claim; kinds as they stand there too
 abbrev pub fault_cmp : OutputFault → OutputFault → Ordering
-fault_cmp = then_cmp (on (λ f. f.source) place_cmp) (then_cmp (on (λ f. f.output) nat_cmp) (then_cmp (on (λ f. rank f.kind) nat_cmp) (on (λ f. f.at) (option_cmp place_cmp))))
+fault_cmp = fault_ghosts.cmp
+
+-- number and name, a line for each kind
+abbrev pub row_of : OutputKind → ℕ × List ℕ
+row_of ForeignSource = (5, codes "ForeignSource")
+row_of NoSuchInput = (6, codes "NoSuchInput")
+row_of Early = (7, codes "Early")
+row_of CountDisagrees = (8, codes "CountDisagrees")
+row_of NumberRange = (9, codes "NumberRange")
+row_of Repeated = (10, codes "Repeated")
+row_of Missing = (11, codes "Missing")
+row_of OtherTransaction = (12, codes "OtherTransaction")
+
+abbrev pub number_of : OutputKind → ℕ
+number_of kind = (row_of kind).0
+
+abbrev pub name_of : OutputKind → List ℕ
+name_of kind = (row_of kind).1

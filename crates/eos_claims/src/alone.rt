@@ -7,7 +7,7 @@ ghost use Rattle.eos_claims.specs.Faults.{fault_cmp};
 ghost use Rattle.eos_claims.specs.Plain.{plain_place, plain_fault, plain_lent};
 
 use crate::fault::OutputKind;
-use crate::found::{Found, lesser, lesser_when};
+use crate::found::{Found, with_tested};
 use crate::place::{PlaceRef, SourceRef, source_at};
 
 /// What is known of a claim's source: whether its topic is one that the application reads, whether a visible record
@@ -64,20 +64,20 @@ pub fn least_of_claim<'a>(
         (shown_alone tests.is_source tests.is_input tests.is_committed (is_out claim.entry.now.of claim.entry.now.output) tests.is_passed (plain_lent claim.entry.now)) }
 {
     if !tests.is_source {
-        return lesser(best, fault_at(OutputKind::ForeignSource, claim));
+        return with_tested(best, true, fault_at(OutputKind::ForeignSource, claim));
     }
     if !tests.is_input {
-        return lesser(best, fault_at(OutputKind::NoSuchInput, claim));
+        return with_tested(best, true, fault_at(OutputKind::NoSuchInput, claim));
     }
     if !tests.is_committed {
-        return lesser(best, fault_at(OutputKind::Early, claim));
+        return with_tested(best, true, fault_at(OutputKind::Early, claim));
     }
-    let best = lesser_when(
+    let best = with_tested(
         best,
         is_out_of_range(claim),
         fault_at(OutputKind::NumberRange, claim),
     );
-    lesser_when(
+    with_tested(
         best,
         !tests.is_passed,
         fault_at(OutputKind::OtherTransaction, claim),
@@ -101,5 +101,5 @@ pub fn least_of_input<'a>(
         kind: OutputKind::Missing,
         at: None,
     };
-    lesser_when(best, is_committed && !is_claimed, missing)
+    with_tested(best, is_committed && !is_claimed, missing)
 }

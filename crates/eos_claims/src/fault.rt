@@ -1,12 +1,12 @@
 //! What is wrong with the outputs of an application.
 
 ghost use Rattle.std.specs.Prelude.{◌≡◌};
-ghost use Rattle.eos_claims.specs.Faults.{rank, kind_name};
+ghost use Rattle.eos_claims.specs.Faults.{number_of, name_of};
 
 use crate::place::Place;
 
-/// What is wrong, in the order in which faults of one source and output number are named.
-#[derive(Clone, Copy, Debug, PartialEq, Eq)]
+/// What is wrong, in the order of their numbers.
+#[derive(Clone, Copy, Debug, PartialEq, Eq, PartialOrd, Ord)]
 pub enum OutputKind {
     /// A claim on a record of a topic that the application doesn't read.
     ForeignSource,
@@ -27,41 +27,41 @@ pub enum OutputKind {
 }
 
 impl OutputKind {
-    /// The kind's number among the faults of the outputs, by which they are ordered.
+    /// The kind's number among the faults of the outputs, from 5 to 12, by which kinds are ordered.
     pub fn number(self) -> u8
-        ensures { result ≡ rank self }
+        ensures { result ≡ number_of self }
     {
-        match self {
-            OutputKind::ForeignSource => 5,
-            OutputKind::NoSuchInput => 6,
-            OutputKind::Early => 7,
-            OutputKind::CountDisagrees => 8,
-            OutputKind::NumberRange => 9,
-            OutputKind::Repeated => 10,
-            OutputKind::Missing => 11,
-            OutputKind::OtherTransaction => 12,
-        }
+        self.row().0
     }
 
     /// The kind's name, as a verdict prints it.
     pub fn name(self) -> &'static str
-        ensures { result.now ≡ kind_name self }
+        ensures { result.now ≡ name_of self }
+    {
+        self.row().1
+    }
+
+    // The number and the name, a line for each kind.
+    fn row(self) -> (u8, &'static str)
+        ensures number { result.0 ≡ number_of self }
+        ensures name { result.1.now ≡ name_of self }
     {
         match self {
-            OutputKind::ForeignSource => "ForeignSource",
-            OutputKind::NoSuchInput => "NoSuchInput",
-            OutputKind::Early => "Early",
-            OutputKind::CountDisagrees => "CountDisagrees",
-            OutputKind::NumberRange => "NumberRange",
-            OutputKind::Repeated => "Repeated",
-            OutputKind::Missing => "Missing",
-            OutputKind::OtherTransaction => "OtherTransaction",
+            OutputKind::ForeignSource => (5, "ForeignSource"),
+            OutputKind::NoSuchInput => (6, "NoSuchInput"),
+            OutputKind::Early => (7, "Early"),
+            OutputKind::CountDisagrees => (8, "CountDisagrees"),
+            OutputKind::NumberRange => (9, "NumberRange"),
+            OutputKind::Repeated => (10, "Repeated"),
+            OutputKind::Missing => (11, "Missing"),
+            OutputKind::OtherTransaction => (12, "OtherTransaction"),
         }
     }
 }
 
-/// A fault of the outputs. Its fields stand in the order that decides which one is named first.
-#[derive(Clone, Debug, PartialEq, Eq, Drop)]
+/// A fault of the outputs. Of those that stand, the least counts: by input, output number, kind and place of the claim, as the
+/// fields stand here.
+#[derive(Clone, Debug, PartialEq, Eq, PartialOrd, Ord, Drop)]
 pub struct OutputFault {
     /// The input that is claimed, or that lacks an output.
     pub source: Place,

@@ -8,7 +8,7 @@ ghost use Rattle.eos_claims.specs.Faults.{fault_cmp, place_cmp};
 ghost use Rattle.eos_claims.specs.Plain.{plain_place, plain_fault, plain_claim};
 
 use crate::fault::OutputKind;
-use crate::found::{Found, lesser_when};
+use crate::found::{Found, with_tested};
 use crate::place::{PlaceRef, source_at};
 
 /// A claim without its writer. Claims are ordered by source, output number and place.
@@ -73,7 +73,7 @@ fn at_start<'a>(best: Option<Found<'a>>, claim: &NumberedClaim<'a>) -> Option<Fo
     ensures { option_map plain_fault result ≡ fold (lesser_of fault_cmp) (option_map plain_fault best.entry) (start_of (plain_claim claim.entry.now)) }
 {
     let late = starts_late(claim);
-    lesser_when(best, late, missing(claim, 1))
+    with_tested(best, late, missing(claim, 1))
 }
 
 // The last claim of its source ends with the last output.
@@ -81,7 +81,7 @@ fn at_end<'a>(best: Option<Found<'a>>, claim: &NumberedClaim<'a>) -> Option<Foun
     ensures { option_map plain_fault result ≡ fold (lesser_of fault_cmp) (option_map plain_fault best.entry) (end_of (plain_claim claim.entry.now)) }
 {
     if claim.output < claim.of {
-        lesser_when(best, true, missing(claim, claim.output + 1))
+        with_tested(best, true, missing(claim, claim.output + 1))
     } else {
         best
     }
@@ -95,15 +95,15 @@ fn in_run<'a>(
 ) -> Option<Found<'a>>
     ensures { option_map plain_fault result ≡ fold (lesser_of fault_cmp) (option_map plain_fault best.entry) (run_of (plain_claim claim.entry.now) (plain_claim next.entry.now)) }
 {
-    let best = lesser_when(
+    let best = with_tested(
         best,
         claim.of != next.of,
         fault_at(OutputKind::CountDisagrees, next),
     );
     let repeated = is_repeated(claim, next);
-    let best = lesser_when(best, repeated, fault_at(OutputKind::Repeated, next));
+    let best = with_tested(best, repeated, fault_at(OutputKind::Repeated, next));
     if leaves_gap(claim, next) {
-        lesser_when(best, true, missing(claim, claim.output + 1))
+        with_tested(best, true, missing(claim, claim.output + 1))
     } else {
         best
     }

@@ -1,11 +1,9 @@
 //! Where a record stands.
 
 ghost use Rattle.std.specs.Prelude.{◌≡◌};
-ghost use Rattle.eos_claims.specs.Faults.{place_cmp};
 ghost use Rattle.eos_claims.specs.Plain.{plain_place, plain_source};
 
 use eos_base::PartitionName;
-use std::cmp::Ordering;
 
 /// A record's place: its partition and its offset there. Places are ordered by the partition's name, then the offset.
 #[derive(Clone, Debug, PartialEq, Eq, PartialOrd, Ord, Drop)]
@@ -21,24 +19,12 @@ pub struct PlaceRef<'a> {
     pub offset: u64,
 }
 
-/// A place whose topic is lent, as a claim names it: no partition of that name needs to be there.
-#[derive(Clone, Copy)]
+/// A place whose topic is lent, as a claim names it: no partition of that name needs to be there. In the order of places.
+#[derive(Clone, Copy, PartialEq, Eq, PartialOrd, Ord)]
 pub struct SourceRef<'a> {
     pub topic: &'a [u8],
     pub partition: i32,
     pub offset: u64,
-}
-
-impl<'a> SourceRef<'a> {
-    // In the order of places.
-    pub(crate) fn order(&self, other: &SourceRef<'a>) -> Ordering
-        ensures { result ≡ place_cmp (plain_source self.now) (plain_source other.now) }
-    {
-        self.topic
-            .cmp(other.topic)
-            .then(self.partition.cmp(&other.partition))
-            .then(self.offset.cmp(&other.offset))
-    }
 }
 
 // The same place.

@@ -1,5 +1,5 @@
 -- What a table picks for an application are its commits.
-use Rattle.std.proofs.Common.{◌≡◌, ◌∙◌, ◌++◌, ◌&&◌, ℕ, ℤ, Option, None, Some, Result, Ok, Err, List, [], ◌∷◌, map, flat_map, refl, sym, ap, subst, Bool, true, false, cond, if◌then◌else◌, IsPermutation, append-nil}
+use Rattle.std.proofs.Common.{◌≡◌, ◌∙◌, ◌++◌, ◌&&◌, ℕ, ℤ, Option, None, Some, Result, Ok, Err, List, [], ◌∷◌, map, flat_map, refl, sym, ap, Bool, true, false, if◌then◌else◌, IsPermutation}
 use Rattle.std.specs.Prelude.{filter}
 use Rattle.std.specs.Ordering.{nat_cmp, is_eq}
 use Rattle.std.specs.Cmp.Lexicographic.{slice_cmp}
@@ -20,7 +20,7 @@ use Rattle.eos_commits.specs.declared.table.Entry.{Entry}
 use Rattle.eos_commits.specs.Visible.{is_visible}
 use Rattle.eos_commits.specs.Commits.{Group, Topic, is_same, is_of, is_offsets_part, key_of, value_of, commit_with, commit_under, commits_of}
 use Rattle.eos_commits.specs.Tables.{Tabled, IsTableOf, pick, pick_of_topics, picked}
-use Rattle.eos_commits.specs.steps.CommitLists.{commit_at, commits_at, commits_by}
+use Rattle.eos_commits.specs.steps.CommitLists.{commit_at, commits_at}
 use Rattle.eos_commits.specs.steps.Entries.{plain_entry, is_read, is_under, entry_under, entry_at, entries_at, entries_by}
 use Rattle.eos_commits.specs.steps.Roles.{Source, source_cmp, sources_of}
 use Rattle.eos_commits.proofs.CommitSets.{flat_filter, in_log}

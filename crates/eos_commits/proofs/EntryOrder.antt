@@ -1,8 +1,8 @@
 -- The entries of a table in the order of their groups.
-use Rattle.std.proofs.Common.{◌≡◌, ◌∙◌, ◌++◌, ◌+◌, ◌-◌, ◌<◌, ◌≤◌, ℕ, zero, suc, List, [], ◌∷◌, length, drop, length-drop, map, refl, sym, ap, subst, inl, inr, arith, Bool, true, false, not, ◌&&◌, IsSorted}
+use Rattle.std.proofs.Common.{◌≡◌, ◌∙◌, ◌++◌, ◌+◌, ◌<◌, ◌≤◌, ℕ, zero, suc, List, [], ◌∷◌, length, drop, length-drop, map, refl, sym, ap, subst, arith, Bool, true, false, not, ◌&&◌, IsSorted}
 use Rattle.std.specs.Prelude.{slice_index_or}
 use Rattle.std.specs.List.{filter}
-use Rattle.std.specs.List.Sorted.{ties, IsStableByKey}
+use Rattle.std.specs.List.Sorted.{ties}
 use Rattle.std.specs.Ordering.{nat_cmp, is_eq, is_lt, ordering_reverse}
 use Rattle.std.specs.Cmp.Lexicographic.{slice_cmp}
 use Rattle.std.specs.declared.cmp.Ordering.{Ordering}

@@ -1,11 +1,12 @@
 -- What the walk says of a record is the least of what the record shows.
 use Rattle.std.proofs.Common.{◌≡◌, ◌∙◌, ◌⊎◌, ℤ, List, Option, Some, None, Result, Ok, Err, refl, sym, ap, subst, true, false, Bool, inl, inr, ◌&&◌, if◌then◌else◌}
-use Rattle.std.specs.Ordering.{nat_cmp, is_gt, ordering_then}
+use Rattle.std.specs.Ordering.{nat_cmp}
 use Rattle.std.specs.Cmp.Lexicographic.{slice_cmp}
-use Rattle.std.proofs.lemmas.Cmp.{nat_cmp_total, tied_itself}
 use Rattle.eos_base.specs.declared.record_fault.RecordFault.{RecordFault}
+use Rattle.eos_base.specs.Least.{UpTo}
 use Rattle.eos_base.specs.Members.{Has, is_found}
 use Rattle.eos_base.proofs.Decides.{differs}
+use Rattle.eos_base.proofs.LeastOf.{upto_same}
 use Rattle.eos_offsets.specs.declared.key.OffsetKey.{OffsetKey}
 use Rattle.eos_claims.specs.declared.claim.Claim.{Claim}
 use Rattle.eos_claims.specs.Headers.{claim_of}
@@ -17,11 +18,10 @@ use Rattle.eos_commits.specs.declared.fault.VisibleFaultKind.TheVariants.{BadLin
 use Rattle.eos_commits.specs.Visible.{is_visible}
 use Rattle.eos_commits.specs.Commits.{Group, Topic, is_offsets_part, key_of, value_of, IsUnderGroup}
 use Rattle.eos_commits.specs.Kept.{is_output_part}
-use Rattle.eos_base.specs.FaultNames.{record_number}
-use Rattle.eos_commits.specs.Faults.{rank, detail_of}
 use Rattle.eos_commits.specs.steps.Roles.{RoleSets, source_cmp, sources_of}
 use Rattle.eos_commits.specs.steps.Walks.{Homes, home_of, is_below, with_home, Judged, kind_of_value, judged, judge_key, judge_visible, judge_item, is_none, role_of}
 use Rattle.eos_commits.proofs.RoleSearch.{found_is_read, read_is_found}
+use Rattle.eos_commits.proofs.VisibleOrder.{kind_cmp, kind_total}
 use Rattle.eos_commits.proofs.Spots.{Spot, IsCommit, ShowsAs}
 
 -- the look-ups say what the applications read and write
@@ -29,9 +29,9 @@ pub record AreRoles (apps : List App) (r : RoleSets) : Type 0 where
   pub outputs : (t : Topic) → is_found (slice_cmp nat_cmp) r.outputs t ≡ is_found (slice_cmp nat_cmp) (outputs_of apps) t
   pub sources : (g : Group) (t : Topic) → is_found source_cmp r.sources (g, t) ≡ is_found source_cmp (sources_of apps) (g, t)
 
--- by number, then refusal
+-- in the order of kinds
 abbrev pub KindUpTo : VisibleFaultKind → VisibleFaultKind → Type 0
-KindUpTo k l = is_gt (ordering_then (nat_cmp (rank k) (rank l)) (nat_cmp (detail_of k) (detail_of l))) ≡ false
+KindUpTo k l = UpTo kind_cmp k l
 
 pub record Quiet (apps : List App) (all : List Spot) (z : Spot) (before after : Homes) : Type 0 where
   pub none : (k : VisibleFaultKind) → ShowsAs apps all z k → ⊥
@@ -98,7 +98,7 @@ bad_lineage_first SplitGroup = refl
 bad_lineage_first OffsetDeleted = refl
 
 same_offset : (d e : RecordFault) → d ≡ e → KindUpTo (BadOffset d) (BadOffset e)
-same_offset d e q = subst (λ z. KindUpTo (BadOffset d) (BadOffset z)) q (let t = tied_itself nat_cmp_total (record_number d) in rw (t) refl)
+same_offset d e q = upto_same kind_total (BadOffset d) (BadOffset e) (ap BadOffset q)
 
 unclaimed_is : (o : Option Claim) → is_none o ≡ true → o ≡ None
 unclaimed_is None e = refl

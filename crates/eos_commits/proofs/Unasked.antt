@@ -5,7 +5,7 @@ use Rattle.eos_items.specs.declared.item.Item.{Item}
 use Rattle.eos_commits.specs.declared.judge.PartRole.{PartRole}
 use Rattle.eos_commits.specs.Visible.{is_visible}
 use Rattle.eos_commits.specs.steps.Roles.{RoleSets}
-use Rattle.eos_commits.specs.steps.Walks.{Homes, Judged, judge_visible, judge_item, at_offset, walk_items}
+use Rattle.eos_commits.specs.steps.Walks.{Homes, Judged, judge_visible, at_offset, walk_items}
 
 pub nothing_asked : (r : RoleSets) (p : PartRole) (hs : Homes) (xs : List Item) → p.output ≡ false → p.offsets ≡ false → walk_items r p hs xs ≡ Ok hs
 nothing_asked r p hs [] o f = refl

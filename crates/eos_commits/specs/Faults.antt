@@ -1,11 +1,9 @@
 -- The faults of visible records, what each of them says, and their order.
 use Rattle.std.specs.Prelude.{◌≡◌, ◌⊎◌, ◌<ℤ◌, ℕ, Some, None, Err, List, codes}
 use Rattle.std.specs.List.{AllPairs}
-use Rattle.std.specs.Ordering.{nat_cmp, on, then_cmp}
 use Rattle.std.specs.declared.cmp.Ordering.{Ordering}
 use Rattle.std.specs.declared.cmp.Ordering.TheVariants.{Less}
 use Rattle.eos_base.specs.declared.record_fault.RecordFault.{RecordFault}
-use Rattle.eos_base.specs.FaultNames.{record_number}
 use Rattle.eos_base.specs.PartitionNames.{name_cmp}
 use Rattle.eos_base.specs.Members.{Has}
 use Rattle.eos_evidence.specs.declared.application.App.{App}
@@ -15,6 +13,7 @@ use Rattle.eos_claims.specs.Headers.{claim_of}
 use Rattle.eos_commits.specs.declared.fault.VisibleFault.{VisibleFault}
 use Rattle.eos_commits.specs.declared.fault.VisibleFaultKind.{VisibleFaultKind}
 use Rattle.eos_commits.specs.declared.fault.VisibleFaultKind.TheVariants.{BadLineage, BadOffset, SplitGroup, OffsetDeleted}
+use Rattle.eos_commits.specs.contracts.fault.VisibleFaultOrd.TheImpl.{ghosts}
 use Rattle.eos_commits.specs.Visible.{VisibleIn}
 use Rattle.eos_commits.specs.Commits.{Group, offsets_parts, key_of, value_of, IsUnderGroup}
 use Rattle.eos_commits.specs.Kept.{output_parts}
@@ -47,30 +46,23 @@ StandsAs apps ps f OffsetDeleted = (at : AtRecord (offsets_parts ps) f) × (grou
 abbrev pub Stands : List App → List PartLog → VisibleFault → Type 0
 Stands apps ps f = StandsAs apps ps f f.kind
 
--- ---- their order
-
-abbrev pub rank : VisibleFaultKind → ℕ
-rank BadLineage = 1
-rank (BadOffset fault) = 2
-rank SplitGroup = 3
-rank OffsetDeleted = 4
-
--- the refusal that is printed
-abbrev pub detail_of : VisibleFaultKind → ℕ
-detail_of BadLineage = 0
-detail_of (BadOffset fault) = record_number fault
-detail_of SplitGroup = 0
-detail_of OffsetDeleted = 0
-
--- by partition, offset and kind, and last by the refusal
+-- the derived order: by the fields as they stand, partition, offset and kind; kinds as they stand there, and BadOffset by the
+-- refusal that is printed
 abbrev pub visible_cmp : VisibleFault → VisibleFault → Ordering
-visible_cmp = then_cmp (on (λ f. f.partition) name_cmp) (then_cmp (on (λ f. f.offset) nat_cmp) (then_cmp (on (λ f. rank f.kind) nat_cmp) (on (λ f. detail_of f.kind) nat_cmp)))
+visible_cmp = ghosts.cmp
 
-abbrev pub kind_name : VisibleFaultKind → List ℕ
-kind_name BadLineage = codes "BadLineage"
-kind_name (BadOffset fault) = codes "BadOffset"
-kind_name SplitGroup = codes "SplitGroup"
-kind_name OffsetDeleted = codes "OffsetDeleted"
+-- number and name, a line for each kind
+abbrev pub row_of : VisibleFaultKind → ℕ × List ℕ
+row_of BadLineage = (1, codes "BadLineage")
+row_of (BadOffset fault) = (2, codes "BadOffset")
+row_of SplitGroup = (3, codes "SplitGroup")
+row_of OffsetDeleted = (4, codes "OffsetDeleted")
+
+abbrev pub number_of : VisibleFaultKind → ℕ
+number_of kind = (row_of kind).0
+
+abbrev pub name_of : VisibleFaultKind → List ℕ
+name_of kind = (row_of kind).1
 
 -- ---- the partitions in order
 

@@ -1,6 +1,5 @@
 -- Which data records a reader of committed records is given (KIP-98, "Consumer", isolation level `read_committed`).
 use Rattle.std.specs.Prelude.{Bool, true, false, List, filter}
-use Rattle.eos_base.specs.declared.partition_name.PartitionName.{PartitionName}
 use Rattle.eos_base.specs.Members.{Has}
 use Rattle.eos_items.specs.declared.item.Item.{Item}
 use Rattle.eos_items.specs.declared.item.Fate.{Fate}

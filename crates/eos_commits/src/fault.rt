@@ -1,13 +1,13 @@
 //! What is wrong with a visible record.
 
 ghost use Rattle.std.specs.Prelude.{◌≡◌};
-ghost use Rattle.eos_commits.specs.Faults.{rank, kind_name};
+ghost use Rattle.eos_commits.specs.Faults.{number_of, name_of};
 
 use eos_base::{PartitionName, RecordFault};
 
 /// A visible record that can't be read for what it has to be. Of those that stand, the least counts: by partition,
-/// offset and kind.
-#[derive(Debug, PartialEq, Eq, Drop)]
+/// offset and kind, as the fields stand here.
+#[derive(Debug, PartialEq, Eq, PartialOrd, Ord, Drop)]
 pub struct VisibleFault {
     /// The record's partition.
     pub partition: PartitionName,
@@ -16,8 +16,9 @@ pub struct VisibleFault {
     pub kind: VisibleFaultKind,
 }
 
-/// The kind of a fault of a visible record, in the order in which kinds are named.
-#[derive(Clone, Copy, Debug, PartialEq, Eq)]
+/// The kind of a fault of a visible record, with what its text prints; in the order of their numbers, and those of one kind by
+/// what they print.
+#[derive(Clone, Copy, Debug, PartialEq, Eq, PartialOrd, Ord)]
 pub enum VisibleFaultKind {
     /// A record of an output topic whose headers are no claim.
     BadLineage,
@@ -33,25 +34,28 @@ pub enum VisibleFaultKind {
 impl VisibleFaultKind {
     /// The kind's number, from 1 to 4, by which kinds are ordered.
     pub fn number(self) -> u8
-        ensures { result ≡ rank self }
+        ensures { result ≡ number_of self }
     {
-        match self {
-            VisibleFaultKind::BadLineage => 1,
-            VisibleFaultKind::BadOffset { .. } => 2,
-            VisibleFaultKind::SplitGroup => 3,
-            VisibleFaultKind::OffsetDeleted => 4,
-        }
+        self.row().0
     }
 
     /// The kind's name, as a verdict prints it.
     pub fn name(self) -> &'static str
-        ensures { result.now ≡ kind_name self }
+        ensures { result.now ≡ name_of self }
+    {
+        self.row().1
+    }
+
+    // The number and the name, a line for each kind.
+    fn row(self) -> (u8, &'static str)
+        ensures number { result.0 ≡ number_of self }
+        ensures name { result.1.now ≡ name_of self }
     {
         match self {
-            VisibleFaultKind::BadLineage => "BadLineage",
-            VisibleFaultKind::BadOffset { .. } => "BadOffset",
-            VisibleFaultKind::SplitGroup => "SplitGroup",
-            VisibleFaultKind::OffsetDeleted => "OffsetDeleted",
+            VisibleFaultKind::BadLineage => (1, "BadLineage"),
+            VisibleFaultKind::BadOffset { .. } => (2, "BadOffset"),
+            VisibleFaultKind::SplitGroup => (3, "SplitGroup"),
+            VisibleFaultKind::OffsetDeleted => (4, "OffsetDeleted"),
         }
     }
 }

@@ -56,12 +56,12 @@ phase_of (Record f) = 4
 phase_of (Output group f) = 5
 
 abbrev pub number_of : LineageFault → ℕ
-number_of (Record f) = records.rank f.kind
-number_of (Output group f) = outputs.rank f.kind
+number_of (Record f) = records.number_of f.kind
+number_of (Output group f) = outputs.number_of f.kind
 
 abbrev pub name_of : LineageFault → List ℕ
-name_of (Record f) = records.kind_name f.kind
-name_of (Output group f) = outputs.kind_name f.kind
+name_of (Record f) = records.name_of f.kind
+name_of (Output group f) = outputs.name_of f.kind
 
 -- ---- the answer
 

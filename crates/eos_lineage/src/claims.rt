@@ -1,16 +1,15 @@
 //! The walk over the claims of an application's output topics.
 
-ghost use Rattle.std.specs.Prelude.{◌≡◌, ◌≤◌, ◌<◌, ◌*◌, ◌++◌, ◌∷◌, [], ℕ, List, flat_map, map, take, drop, length, IfOk, OnOk};
+ghost use Rattle.std.specs.Prelude.{◌≡◌, ◌≤◌, ◌<◌, ◌*◌, ◌++◌, ◌∷◌, [], ℕ, List, flat_map, map, option_map, take, drop, length, IfOk, OnOk};
 ghost use Rattle.eos_claims.specs.Outputs.{Application, PlacedClaim};
-ghost use Rattle.eos_claims.specs.Plain.{plain_claim, plain_lent};
+ghost use Rattle.eos_claims.specs.Plain.{plain_claim, plain_fault, plain_lent};
 ghost use Rattle.eos_fold.specs.Parts.{part_name};
-ghost use Rattle.eos_lineage.specs.steps.Walks.{kept_of, counted_ref, AreTables, HasWalked, plain_walk, begun, placed_ref, claim_at, output_claims, claims_of_part, joined_walk, EachWalked, in_turn};
+ghost use Rattle.eos_lineage.specs.steps.Walks.{kept_of, counted_ref, AreTables, HasWalked, plain_walk, begun, placed_ref, claim_at, output_claims, claims_of_part, lesser_found, joined_walk, EachWalked, in_turn};
 
 use crate::tables::{Known, Marks, Tables, known_of, tests_of};
-use eos_base::PartitionName;
+use eos_base::{PartitionName, lesser};
 use eos_claims::{
-    ClaimRef, Found, LentClaim, NumberedClaim, PlaceRef, SourceRef, least_of_claim, lesser,
-    view_claim,
+    ClaimRef, Found, LentClaim, NumberedClaim, PlaceRef, SourceRef, least_of_claim, view_claim,
 };
 use eos_commits::{TopicSet, is_visible};
 use eos_fold::Part;
@@ -193,14 +192,22 @@ fn take_chunk<'a>(
     take_first(alloc, &ground.tables, outputs, size)
 }
 
+// The lesser of the least so far and what another walk found.
+fn lesser_of_both<'a>(best: Option<Found<'a>>, found: Option<Found<'a>>) -> Option<Found<'a>>
+    ensures { option_map plain_fault result ≡ lesser_found (option_map plain_fault best.entry) (option_map plain_fault found.entry) }
+{
+    match found {
+        None => best,
+        Some(found) => lesser(best, found),
+    }
+}
+
 // Puts a walk at the end of another one.
 fn join_walk<'a>(walk: &mut Walk<'a>, next: Walk<'a>) -> Result<(), AllocError>
     ensures { OnOk result (plain_walk walk.new ≡ joined_walk (plain_walk walk.old) (plain_walk next.entry)) }
 {
     let Walk { best, mut below } = next;
-    if let Some(found) = best {
-        walk.best = lesser(walk.best, found);
-    }
+    walk.best = lesser_of_both(walk.best, best);
     if walk.below.is_empty() {
         walk.below = below;
         return Ok(());

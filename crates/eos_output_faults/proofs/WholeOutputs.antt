@@ -1,5 +1,5 @@
 -- What was found, in order and each once, is the list of one application's faults.
-use Rattle.std.proofs.Common.{◌≡◌, List, map, sym, subst, ◌∙◌, inl, inr, true, flat_map, IsPermutation}
+use Rattle.std.proofs.Common.{◌≡◌, List, map, sym, subst, inl, inr, true, flat_map, IsPermutation}
 use Rattle.std.specs.List.Sorted.{IsStrictlySortedBy}
 use Rattle.std.specs.Ordering.{is_eq}
 use Rattle.std.proofs.lemmas.List.Sorted.{Contains-permutation, IsPermutation-sym}
@@ -13,11 +13,9 @@ use Rattle.eos_claims.specs.Candidates.{AreApart}
 use Rattle.eos_claims.specs.Faults.{fault_cmp}
 use Rattle.eos_claims.proofs.FaultOrder.{fault_exact}
 use Rattle.eos_fault_list.proofs.TiedKept.{contained_has, has_contained}
-use Rattle.eos_fault_list.proofs.WholeList.{plain_rises}
 use Rattle.eos_output_faults.specs.declared.lent.LentPlace.{LentPlace}
-use Rattle.eos_output_faults.specs.declared.ordered.Ordered.{Ordered}
 use Rattle.eos_output_faults.specs.steps.Gathered.{shown_at, lacking, gathered_by, gathered, AreOutputFaults}
-use Rattle.eos_output_faults.specs.steps.Plain.{place_at, fault_in}
+use Rattle.eos_output_faults.specs.steps.Plain.{place_at}
 use Rattle.eos_output_faults.proofs.GatheredSound.{sound}
 use Rattle.eos_output_faults.proofs.GatheredWhole.{all_whole, one_missing}
 
@@ -34,11 +32,11 @@ in_other_order xs ys perm x h = contained_has ys x (Contains-permutation xs ys x
 mapped_order : {X Y : Type 0} (f : X → Y) (xs ys : List X) → IsPermutation xs ys → (y : Y) → Has (map f xs) y → Has (map f ys) y
 mapped_order f xs ys perm y h = let r = map_has f xs y h in subst (Has (map f ys)) r.2 (has_map f ys r.0 (in_other_order xs ys perm r.0 r.1))
 
-pub whole_outputs : (a : Application) → ReadsSources a → AreApart a → (places sorted : List LentPlace) → map place_at places ≡ a.inputs → IsPermutation places sorted → (found kept : List Ordered)
-    → map fault_in found ≡ gathered_by a (map place_at sorted) → IsStrictlySortedBy (λ (x y : Ordered). fault_cmp (fault_in x) (fault_in y)) kept → ((x : Ordered) → Has kept x → Has found x)
-    → ((x : Ordered) → Has found x → (y : Ordered) × Has kept y × (is_eq (fault_cmp (fault_in x) (fault_in y)) ≡ true)) → AreOutputFaults a (map fault_in kept)
+pub whole_outputs : (a : Application) → ReadsSources a → AreApart a → (places sorted : List LentPlace) → map place_at places ≡ a.inputs → IsPermutation places sorted → (found kept : List OutputFault)
+    → found ≡ gathered_by a (map place_at sorted) → IsStrictlySortedBy fault_cmp kept → ((f : OutputFault) → Has kept f → Has found f)
+    → ((f : OutputFault) → Has found f → (g : OutputFault) × Has kept g × (is_eq (fault_cmp f g) ≡ true)) → AreOutputFaults a kept
 whole_outputs a reads apart places sorted inputs perm found kept is rises each all = record {
-  rises = plain_rises fault_in fault_cmp kept rises;
+  rises = rises;
   each = λ f h. sound a f (there f h);
   all = λ f st. elim (all_whole a reads apart f st) [
     | inl h ↦ inl (back f h)
@@ -47,18 +45,13 @@ whole_outputs a reads apart places sorted inputs perm found kept is rises each a
   one_missing = λ f g h k of. one_missing a f g (there f h) (there g k) of;
 }
   where
-    there : (f : OutputFault) → Has (map fault_in kept) f → Has (gathered a) f
+    there : (f : OutputFault) → Has kept f → Has (gathered a) f
     there f h =
-        let r = map_has fault_in kept f h in
-        let in_found = has_map fault_in found r.0 (each r.0 r.1) in
-        let by_sorted = subst (λ fs. Has fs (fault_in r.0)) is in_found in
-        let by_inputs = moved a (map place_at sorted) a.inputs (λ i m. subst (λ is. Has is i) inputs (mapped_order place_at sorted places (IsPermutation-sym places sorted perm) i m)) (fault_in r.0) by_sorted in
-        subst (Has (gathered a)) r.2 by_inputs
+        let by_sorted = subst (λ fs. Has fs f) is (each f h) in
+        moved a (map place_at sorted) a.inputs (λ i m. subst (λ is. Has is i) inputs (mapped_order place_at sorted places (IsPermutation-sym places sorted perm) i m)) f by_sorted
 
-    back : (f : OutputFault) → Has (gathered a) f → Has (map fault_in kept) f
+    back : (f : OutputFault) → Has (gathered a) f → Has kept f
     back f h =
         let by_sorted = moved a a.inputs (map place_at sorted) (λ i m. mapped_order place_at places sorted perm i (subst (λ is. Has is i) (sym inputs) m)) f h in
-        let r = map_has fault_in found f (subst (λ fs. Has fs f) (sym is) by_sorted) in
-        let k = all r.0 r.1 in
-        let same = fault_exact (fault_in r.0) (fault_in k.0) (is_tied (fault_cmp (fault_in r.0) (fault_in k.0)) k.2) in
-        subst (Has (map fault_in kept)) (sym same ∙ r.2) (has_map fault_in kept k.0 k.1)
+        let k = all f (subst (λ fs. Has fs f) (sym is) by_sorted) in
+        subst (Has kept) (sym (fault_exact f k.0 (is_tied (fault_cmp f k.0) k.2))) k.1

@@ -5,14 +5,13 @@ ghost use Rattle.eos_claims.specs.Outputs.{Application, ReadsSources};
 ghost use Rattle.eos_claims.specs.Candidates.{AreApart};
 ghost use Rattle.eos_commits.specs.Plain.{plain_commit};
 ghost use Rattle.eos_output_faults.specs.steps.Gathered.{AreOutputFaults};
-ghost use Rattle.eos_output_faults.specs.steps.Plain.{claim_at, place_at, fault_in};
+ghost use Rattle.eos_output_faults.specs.steps.Plain.{claim_at, place_at};
 ghost use Rattle.eos_output_faults.specs.steps.Tables.{AreTables};
 
 use crate::commits::{offsets_of, reached_by};
 use crate::firsts::{firsts_of, places_of};
 use crate::inputs::Inputs;
 use crate::lent::{LentPlace, VisibleClaim};
-use crate::ordered::Ordered;
 use crate::shown::found;
 use crate::tables::Tables;
 use eos_claims::OutputFault;
@@ -45,16 +44,6 @@ fn tables_of<'a>(
     })
 }
 
-fn to_ordered(alloc: Global, faults: Vec<OutputFault>) -> Result<Vec<Ordered>, AllocError>
-    ensures { IfOk result (λ list. map fault_in list.items ≡ faults.items) }
-{
-    let mut list = Vec::new(alloc);
-    for fault in faults {
-        list.push(Ordered { fault })?;
-    }
-    Ok(list)
-}
-
 /// All faults of the outputs of an application that reads these topics and records, commits so, and claims so. Of the outputs
 /// that one input lacks it has the first.
 pub(crate) fn output_faults<'a>(
@@ -63,11 +52,11 @@ pub(crate) fn output_faults<'a>(
     inputs: Vec<LentPlace<'a>>,
     commits: &[CommitRef<'a>],
     claims: &[VisibleClaim<'a>],
-) -> Result<Vec<Ordered>, AllocError>
+) -> Result<Vec<OutputFault>, AllocError>
     ensures { (a : Application) → ReadsSources a → AreApart a → IsPermutation a.sources sources.entry → map place_at inputs.entry.items ≡ a.inputs → map plain_commit commits.now ≡ a.commits
-        → map claim_at claims.now ≡ a.claims → IfOk result (λ faults. AreOutputFaults a (map fault_in faults.items)) }
+        → map claim_at claims.now ≡ a.claims → IfOk result (λ faults. AreOutputFaults a faults.items) }
 {
     let tables = tables_of(alloc, sources, inputs, commits, claims)?;
-    let faults = to_ordered(alloc, found(alloc, &tables, claims)?)?;
+    let faults = found(alloc, &tables, claims)?;
     Ok(distinct_in_order(faults))
 }

@@ -10,12 +10,11 @@ ghost use Rattle.eos_lineage.specs.Faults.{named_group};
 ghost use Rattle.eos_lineage.specs.Lineage.{application_of};
 ghost use Rattle.eos_output_faults.specs.LineageFaults.{AreLineageFaults};
 ghost use Rattle.eos_output_faults.specs.steps.Gathered.{AreOutputFaults};
-ghost use Rattle.eos_output_faults.specs.steps.Plain.{fault_in};
 ghost use Rattle.eos_output_faults.specs.steps.Taken.{AreTaken, in_group};
 
 use crate::application::output_faults;
-use crate::ordered::Ordered;
 use crate::reading::{claims_of, inputs_of};
+use eos_claims::OutputFault;
 use eos_commits::{CommitTable, TopicSet};
 use eos_evidence::{App, GroupId, Spec};
 use eos_fold::Part;
@@ -27,9 +26,9 @@ fn faults_of<'a>(
     app: &'a App,
     table: &CommitTable<'a>,
     parts: &'a [Part],
-) -> Result<Vec<Ordered>, AllocError>
+) -> Result<Vec<OutputFault>, AllocError>
     requires { (apps : List App) × IsTableOf apps parts.now table.now × Has apps app.now }
-    ensures { AreInOrder parts.now → IfOk result (λ faults. AreOutputFaults (application_of app.now parts.now) (map fault_in faults.items)) }
+    ensures { AreInOrder parts.now → IfOk result (λ faults. AreOutputFaults (application_of app.now parts.now) faults.items) }
 {
     let sources = TopicSet::of(alloc, app.sources.as_slice())?;
     let outputs = TopicSet::of(alloc, app.outputs.as_slice())?;
@@ -61,16 +60,13 @@ fn push_faults(
     list: &mut Vec<LineageFault>,
     apps: &[App],
     app: &App,
-    faults: Vec<Ordered>,
+    faults: Vec<OutputFault>,
 ) -> Result<(), AllocError>
-    ensures { OnOk result (list.new.items ≡ list.old.items ++ map (in_group (named_group apps.now app.now)) (map fault_in faults.items)) }
+    ensures { OnOk result (list.new.items ≡ list.old.items ++ map (in_group (named_group apps.now app.now)) faults.items) }
 {
-    for ordered in faults {
+    for fault in faults {
         let group = group_of(apps, app)?;
-        list.push(LineageFault::Output {
-            group,
-            fault: ordered.fault,
-        })?;
+        list.push(LineageFault::Output { group, fault })?;
     }
     Ok(())
 }

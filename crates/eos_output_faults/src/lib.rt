@@ -7,7 +7,6 @@ mod every;
 mod firsts;
 mod inputs;
 mod lent;
-mod ordered;
 mod reading;
 mod shown;
 mod tables;

@@ -2,7 +2,6 @@
 use Rattle.std.proofs.Common.{◌≡◌, ◌++◌, List, [], ◌∷◌, Option, Some, None, Bool, true, false, refl, sym, subst, inl, inr}
 use Rattle.std.specs.List.{AllByRecursion}
 use Rattle.std.specs.List.Sorted.{IsStrictlySortedBy}
-use Rattle.std.specs.Ordering.{nat_cmp}
 use Rattle.std.specs.declared.cmp.Ordering.{Ordering}
 use Rattle.std.specs.declared.cmp.Ordering.TheVariants.{Less}
 use Rattle.std.proofs.lemmas.Cmp.{nat_cmp_total, tied_itself}
@@ -14,8 +13,9 @@ use Rattle.eos_fold.specs.Parts.{part_name}
 use Rattle.eos_commits.specs.declared.fault.VisibleFault.{VisibleFault}
 use Rattle.eos_commits.specs.declared.fault.VisibleFaultKind.{VisibleFaultKind}
 use Rattle.eos_commits.specs.declared.fault.VisibleFaultKind.TheVariants.{BadLineage, BadOffset, SplitGroup, OffsetDeleted}
-use Rattle.eos_commits.specs.Faults.{rank, visible_cmp}
+use Rattle.eos_commits.specs.Faults.{visible_cmp}
 use Rattle.eos_commits.proofs.Spots.{Spot, fault_of}
+use Rattle.eos_commits.proofs.VisibleOrder.{kind_cmp}
 use Rattle.eos_fault_list.proofs.WholeList.{first_less}
 use Rattle.eos_record_faults.specs.declared.shown.Shown.{Shown}
 use Rattle.eos_record_faults.specs.steps.Gathered.{tested, refusal_at, shown_at}
@@ -111,9 +111,9 @@ unfolding IsStrictlySortedBy
 refusal_rises z None = tt
 refusal_rises z (Some e) = (tt, tt)
 
--- a kind of lesser rank comes first
-by_rank : (z : Spot) (k l : VisibleFaultKind) → nat_cmp (rank k) (rank l) ≡ Less → visible_cmp (fault_of z k) (fault_of z l) ≡ Less
-by_rank z k l e =
+-- a lesser kind comes first
+by_kind : (z : Spot) (k l : VisibleFaultKind) → kind_cmp k l ≡ Less → visible_cmp (fault_of z k) (fault_of z l) ≡ Less
+by_kind z k l e =
     let n = tied_itself name_total (part_name z.0) in
     let o = tied_itself nat_cmp_total z.1.offset in
     rw (n, o, e) refl
@@ -121,8 +121,8 @@ by_rank z k l e =
 abbrev Below : VisibleFault → VisibleFault → Type 0
 Below f g = visible_cmp f g ≡ Less
 
-placed : (z : Spot) (k l : VisibleFaultKind) (f g : VisibleFault) → fault_of z k ≡ f → fault_of z l ≡ g → nat_cmp (rank k) (rank l) ≡ Less → Below f g
-placed z k l f g p q e = subst (λ (v : VisibleFault). Below v g) p (subst (λ (v : VisibleFault). Below (fault_of z k) v) q (by_rank z k l e))
+placed : (z : Spot) (k l : VisibleFaultKind) (f g : VisibleFault) → fault_of z k ≡ f → fault_of z l ≡ g → kind_cmp k l ≡ Less → Below f g
+placed z k l f g p q e = subst (λ (v : VisibleFault). Below v g) p (subst (λ (v : VisibleFault). Below (fault_of z k) v) q (by_kind z k l e))
 
 module _ (z : Spot) (b : Bool) (s : Shown) where
   abbrev split_faults : List VisibleFault

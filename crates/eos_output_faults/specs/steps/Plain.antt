@@ -3,13 +3,11 @@ use Rattle.std.specs.declared.cmp.Ordering.{Ordering}
 use Rattle.eos_base.specs.declared.partition_name.PartitionName.{PartitionName}
 use Rattle.eos_base.specs.PartitionNames.{name_cmp}
 use Rattle.eos_claims.specs.declared.place.Place.{Place}
-use Rattle.eos_claims.specs.declared.fault.OutputFault.{OutputFault}
 use Rattle.eos_claims.specs.Outputs.{PlacedClaim}
 use Rattle.eos_claims.specs.Faults.{place_cmp}
 use Rattle.eos_output_faults.specs.declared.lent.LentName.{LentName}
 use Rattle.eos_output_faults.specs.declared.lent.LentPlace.{LentPlace}
 use Rattle.eos_output_faults.specs.declared.lent.VisibleClaim.{VisibleClaim}
-use Rattle.eos_output_faults.specs.declared.ordered.Ordered.{Ordered}
 
 abbrev pub name_at : LentName → PartitionName
 name_at n = record { topic = n.topic.now; partition = n.partition }
@@ -25,6 +23,3 @@ by_name n m = name_cmp (name_at n) (name_at m)
 
 abbrev pub by_place : LentPlace → LentPlace → Ordering
 by_place p q = place_cmp (place_at p) (place_at q)
-
-abbrev pub fault_in : Ordered → OutputFault
-fault_in o = o.fault

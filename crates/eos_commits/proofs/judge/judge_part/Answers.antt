@@ -1,4 +1,4 @@
-use Rattle.std.proofs.Common.{◌≡◌, false, Ok, sym, subst, rules}
+use Rattle.std.proofs.Common.{◌≡◌, false, Ok, subst, rules}
 use Rattle.eos_commits.specs.declared.judge.PartRole.{PartRole}
 use Rattle.eos_commits.specs.steps.Walks.{walk_items}
 use Rattle.eos_commits.proofs.Unasked.{nothing_asked}

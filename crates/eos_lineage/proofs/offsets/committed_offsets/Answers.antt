@@ -1,5 +1,4 @@
-use Rattle.std.proofs.Common.{◌≡◌, ◌∙◌, ap, sym, subst, map, List}
-use Rattle.eos_base.specs.declared.partition_name.PartitionName.{PartitionName}
+use Rattle.std.proofs.Common.{◌≡◌, ◌∙◌, ap, sym, subst, map}
 use Rattle.eos_claims.specs.Outputs.{committed_offset}
 use Rattle.eos_commits.specs.Plain.{plain_commit}
 use Rattle.eos_fold.specs.Parts.{part_name}

@@ -1,9 +1,8 @@
-use Rattle.std.proofs.Common.{◌++◌, ◌∷◌, [], ap, sym, subst, map, take, List, ◌∙◌}
+use Rattle.std.proofs.Common.{◌++◌, ◌∷◌, [], ap, sym, subst, take, List, ◌∙◌}
 use Rattle.std.proofs.lemmas.List.{take_more}
 use Rattle.eos_evidence.specs.declared.application.App.{App}
 use Rattle.eos_commits.proofs.PushedMore.{item_has}
 use Rattle.eos_lineage.proofs.FirstFault.{take_all}
-use Rattle.eos_output_faults.specs.steps.Plain.{fault_in}
 use Rattle.eos_output_faults.specs.steps.Taken.{AreTaken}
 use Rattle.eos_output_faults.proofs.AllTaken.{none_taken, taken_more}
 use Rattle.eos_output_faults.proofs.every.each_app.Goals as goal
@@ -19,7 +18,7 @@ loop-app-preserved c = λ are.
     let app = c.app-item.result in
     let further = ap (λ (t : App). take i apps ++ t ∷ []) c.app-item.is ∙ sym (take_more apps i app c.loop-app-test.true) in
     subst (λ (done : List App). AreTaken apps parts done c.push_faults.new.list.items) further
-    (taken_more apps parts (take i apps) app (map fault_in c.in_ok-faults.faults.items) c.loop-app.list.items c.push_faults.new.list.items (c.loop-app.invariant are) (c.in_ok-faults.ensures are) c.in_ok-push_faults.ensures)
+    (taken_more apps parts (take i apps) app c.in_ok-faults.faults.items c.loop-app.list.items c.push_faults.new.list.items (c.loop-app.invariant are) (c.in_ok-faults.ensures are) c.in_ok-push_faults.ensures)
 
 pub returns : goal.returns
 returns c = λ are.
