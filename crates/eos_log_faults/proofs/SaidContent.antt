@@ -8,7 +8,7 @@ use Rattle.eos_items.specs.declared.item.Item.{Item}
 use Rattle.eos_fold.specs.Parts.{PartLog}
 use Rattle.eos_table.specs.declared.log_fault.LogFault.{LogFault}
 use Rattle.eos_table.specs.declared.log_fault.LogFaultKind.{LogFaultKind}
-use Rattle.eos_table.specs.declared.log_fault.LogFaultKind.TheVariants.{BadRecord, Step, SplitId, SharedProducer, Unfinished}
+use Rattle.eos_table.specs.declared.log_fault.LogFaultKind.TheVariants.{BadRecord}
 use Rattle.eos_table.specs.TransactionLog as txn
 use Rattle.eos_table.specs.steps.LogCandidates as candidates
 use Rattle.eos_log_faults.specs.steps.Gathered.{Said, said_with, said_under, said_at, said, step_at, next_state, steps_after, state_after, steps_of, all_steps}
@@ -85,10 +85,7 @@ refused x e h = refused_at x.key x.value e h
 -- the refusal that candidates tell
 abbrev kind_said : LogFaultKind → Said
 kind_said (BadRecord e) = Err e
-kind_said (Step id why) = Ok None
-kind_said (SplitId id) = Ok None
-kind_said (SharedProducer id) = Ok None
-kind_said (Unfinished id) = Ok None
+kind_said kind = Ok None
 
 abbrev told : List LogFault → Said
 told [] = Ok None

@@ -10,25 +10,25 @@ use Rattle.eos_fold.specs.declared.close.Close.{Close}
 use Rattle.eos_fold.specs.Parts.{part_name, PartLog}
 
 -- the decision is of this data
-pub record IsOf (d : Decision) (c : Close) : Type 0 where
-  pub producer : d.producer ≡ c.producer
-  pub epoch : d.epoch ≡ c.epoch
+pub record IsOf (decision : Decision) (close : Close) : Type 0 where
+  pub producer : decision.producer ≡ close.producer
+  pub epoch : decision.epoch ≡ close.epoch
 
 -- the data ended as was decided
-pub record EndsAs (d : Decision) (c : Close) : Type 0 where
-  pub epoch : d.marker_epoch ≡ c.marker_epoch
-  pub kind : d.kind ≡ c.kind
+pub record EndsAs (decision : Decision) (close : Close) : Type 0 where
+  pub epoch : decision.marker_epoch ≡ close.marker_epoch
+  pub kind : decision.kind ≡ close.kind
 
 -- the marker is the decision's
-pub record Ends (d : Decision) (m : Marker) : Type 0 where
-  pub producer : d.producer ≡ m.producer
-  pub epoch : d.marker_epoch ≡ m.epoch
-  pub kind : d.kind ≡ m.kind
+pub record Ends (decision : Decision) (marker : Marker) : Type 0 where
+  pub producer : decision.producer ≡ marker.producer
+  pub epoch : decision.marker_epoch ≡ marker.epoch
+  pub kind : decision.kind ≡ marker.kind
 
 -- two decisions of one producer id and data epoch
-pub record AreOfOne (d e : Decision) : Type 0 where
-  pub producer : d.producer ≡ e.producer
-  pub epoch : d.epoch ≡ e.epoch
+pub record AreOfOne (decision other : Decision) : Type 0 where
+  pub producer : decision.producer ≡ other.producer
+  pub epoch : decision.epoch ≡ other.epoch
 
 -- none stands in this relation to a later one
 abbrev pub NoTwo : {X : Type 0} → (X → X → Type 0) → List X → Type 0
@@ -36,15 +36,15 @@ NoTwo R [] = ⊤
 NoTwo {X} R (x ∷ xs) = ((y : X) → Has xs y → R x y → ⊥) × NoTwo R xs
 
 -- The closes of a partition are those of its transactional data batches, each with its next end marker.
-pub record Atomic (ds : List Decision) (ps : List PartLog) : Type 0 where
+pub record Atomic (decisions : List Decision) (parts : List PartLog) : Type 0 where
   -- no two decisions have one producer id and data epoch
-  pub once : NoTwo AreOfOne ds
+  pub once : NoTwo AreOfOne decisions
   -- of all transactional data there is a decision, which lists its partition, and the data ended so
-  pub decided : (p : PartLog) (c : Close) → Has ps p → Has p.closes c
-      → (d : Decision) × Has ds d × IsOf d c × EndsAs d c × Has (names_of d.partitions) (part_name p)
+  pub decided : (part : PartLog) (close : Close) → Has parts part → Has part.closes close
+      → (decision : Decision) × Has decisions decision × IsOf decision close × EndsAs decision close × Has (names_of decision.partitions) (part_name part)
   -- each partition that a decision lists is there and has the decision's marker
-  pub marked : (d : Decision) (n : PartitionName) → Has ds d → Has (names_of d.partitions) n
-      → (p : PartLog) × Has ps p × (part_name p ≡ n) × (m : Marker) × Has p.markers m × Ends d m
+  pub marked : (decision : Decision) (name : PartitionName) → Has decisions decision → Has (names_of decision.partitions) name
+      → (part : PartLog) × Has parts part × (part_name part ≡ name) × (marker : Marker) × Has part.markers marker × Ends decision marker
   -- each marker is that of a decision which lists its partition
-  pub no_stray : (p : PartLog) (m : Marker) → Has ps p → Has p.markers m
-      → (d : Decision) × Has ds d × Ends d m × Has (names_of d.partitions) (part_name p)
+  pub no_stray : (part : PartLog) (marker : Marker) → Has parts part → Has part.markers marker
+      → (decision : Decision) × Has decisions decision × Ends decision marker × Has (names_of decision.partitions) (part_name part)

@@ -18,54 +18,57 @@ use Rattle.eos_table.specs.Atomic.{EndsAs, Ends}
 
 -- the decisions of a producer id and data epoch
 abbrev pub is_of : ℤ → ℤ → Decision → Bool
-is_of producer epoch d = int_eq d.producer producer && int_eq d.epoch epoch
+is_of producer epoch decision = int_eq decision.producer producer && int_eq decision.epoch epoch
 
 abbrev pub deciders : List Decision → ℤ → ℤ → List Decision
-deciders ds producer epoch = filter (is_of producer epoch) ds
+deciders decisions producer epoch = filter (is_of producer epoch) decisions
 
 -- data of a transaction, of the fault's producer id and epoch, in the fault's partition
-pub record AtData (ps : List PartLog) (f : MatchFault) : Type 0 where
+pub record AtData (parts : List PartLog) (fault : MatchFault) : Type 0 where
   pub part : PartLog
   pub close : Close
-  pub has_part : Has ps part
+  pub has_part : Has parts part
   pub has_close : Has part.closes close
-  pub producer : close.producer ≡ f.producer
-  pub epoch : close.epoch ≡ f.epoch
-  pub partition : f.partition ≡ Some (part_name part)
+  pub producer : close.producer ≡ fault.producer
+  pub epoch : close.epoch ≡ fault.epoch
+  pub partition : fault.partition ≡ Some (part_name part)
 
 -- a marker of the fault's producer id and epoch, in the fault's partition
-pub record AtMarker (ps : List PartLog) (f : MatchFault) : Type 0 where
+pub record AtMarker (parts : List PartLog) (fault : MatchFault) : Type 0 where
   pub part : PartLog
   pub marker : Marker
-  pub has_part : Has ps part
+  pub has_part : Has parts part
   pub has_marker : Has part.markers marker
-  pub producer : marker.producer ≡ f.producer
-  pub epoch : marker.epoch ≡ f.epoch
-  pub partition : f.partition ≡ Some (part_name part)
+  pub producer : marker.producer ≡ fault.producer
+  pub epoch : marker.epoch ≡ fault.epoch
+  pub partition : fault.partition ≡ Some (part_name part)
 
 -- a partition that a decision of the fault's producer id and epoch lists
-pub record AtListed (ds : List Decision) (f : MatchFault) : Type 0 where
+pub record AtListed (decisions : List Decision) (fault : MatchFault) : Type 0 where
   pub decision : Decision
   pub name : PartitionName
-  pub has_decision : Has ds decision
+  pub has_decision : Has decisions decision
   pub has_name : Has (names_of decision.partitions) name
-  pub producer : decision.producer ≡ f.producer
-  pub epoch : decision.epoch ≡ f.epoch
-  pub partition : f.partition ≡ Some name
+  pub producer : decision.producer ≡ fault.producer
+  pub epoch : decision.epoch ≡ fault.epoch
+  pub partition : fault.partition ≡ Some name
 
 -- by the kind
 abbrev pub StandsAs : List Decision → List PartLog → MatchFault → MatchFaultKind → Type 0
-StandsAs ds ps f TwiceDecided = (2 ≤ length (deciders ds f.producer f.epoch)) × (f.partition ≡ None)
-StandsAs ds ps f Undecided = (at : AtData ps f) × (deciders ds f.producer f.epoch ≡ [])
-StandsAs ds ps f WrongKind = (at : AtData ps f) × (d : Decision) × (deciders ds f.producer f.epoch ≡ d ∷ []) × (EndsAs d at.close → ⊥)
-StandsAs ds ps f NotListed = (at : AtData ps f) × (d : Decision) × (deciders ds f.producer f.epoch ≡ d ∷ []) × (Has (names_of d.partitions) (part_name at.part) → ⊥)
-StandsAs ds ps f StrayMarker = (at : AtMarker ps f) × ((d : Decision) → Has ds d → Ends d at.marker → Has (names_of d.partitions) (part_name at.part) → ⊥)
-StandsAs ds ps f AbsentPartition = (at : AtListed ds f) × ((p : PartLog) → Has ps p → part_name p ≢ at.name)
-StandsAs ds ps f MissingMarker = (at : AtListed ds f) × (p : PartLog) × Has ps p × (part_name p ≡ at.name)
-    × ((q : PartLog) (m : Marker) → Has ps q → part_name q ≡ at.name → Has q.markers m → Ends at.decision m → ⊥)
+StandsAs decisions parts fault TwiceDecided = (2 ≤ length (deciders decisions fault.producer fault.epoch)) × (fault.partition ≡ None)
+StandsAs decisions parts fault Undecided = (at : AtData parts fault) × (deciders decisions fault.producer fault.epoch ≡ [])
+StandsAs decisions parts fault WrongKind = (at : AtData parts fault) × (decision : Decision) × (deciders decisions fault.producer fault.epoch ≡ decision ∷ [])
+    × (EndsAs decision at.close → ⊥)
+StandsAs decisions parts fault NotListed = (at : AtData parts fault) × (decision : Decision) × (deciders decisions fault.producer fault.epoch ≡ decision ∷ [])
+    × (Has (names_of decision.partitions) (part_name at.part) → ⊥)
+StandsAs decisions parts fault StrayMarker = (at : AtMarker parts fault)
+    × ((decision : Decision) → Has decisions decision → Ends decision at.marker → Has (names_of decision.partitions) (part_name at.part) → ⊥)
+StandsAs decisions parts fault AbsentPartition = (at : AtListed decisions fault) × ((part : PartLog) → Has parts part → part_name part ≢ at.name)
+StandsAs decisions parts fault MissingMarker = (at : AtListed decisions fault) × (there : PartLog) × Has parts there × (part_name there ≡ at.name)
+    × ((part : PartLog) (marker : Marker) → Has parts part → part_name part ≡ at.name → Has part.markers marker → Ends at.decision marker → ⊥)
 
 abbrev pub Stands : List Decision → List PartLog → MatchFault → Type 0
-Stands ds ps f = StandsAs ds ps f f.kind
+Stands decisions parts fault = StandsAs decisions parts fault fault.kind
 
 -- the derived order: by the fields as they stand, producer id, epoch, kind and partition; kinds as they stand there too
 abbrev pub fault_cmp : MatchFault → MatchFault → Ordering

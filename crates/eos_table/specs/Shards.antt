@@ -8,15 +8,15 @@ use Rattle.eos_table.specs.declared.match_fault.MatchFault.{MatchFault}
 use Rattle.eos_table.specs.MatchFaults.{fault_cmp, Stands}
 
 abbrev pub InShard : ℕ → ℕ → MatchFault → Type 0
-InShard n s f = int_rem_euclid f.producer (pos n) ≡ pos s
+InShard shards shard fault = int_rem_euclid fault.producer (pos shards) ≡ pos shard
 
 abbrev pub StandsIn : List Decision → List PartLog → ℕ → ℕ → MatchFault → Type 0
-StandsIn ds ps n s f = InShard n s f × Stands ds ps f
+StandsIn decisions parts shards shard fault = InShard shards shard fault × Stands decisions parts fault
 
 -- the least fault of the shard, or none stands in it
 abbrev pub IsAnswer : List Decision → List PartLog → ℕ → ℕ → Option MatchFault → Type 0
-IsAnswer ds ps n s o = IsLeastOrNone fault_cmp (StandsIn ds ps n s) o
+IsAnswer decisions parts shards shard found = IsLeastOrNone fault_cmp (StandsIn decisions parts shards shard) found
 
 -- one answer for each shard
 abbrev pub AreAnswers : List Decision → List PartLog → ℕ → (ℕ → Option MatchFault) → Type 0
-AreAnswers ds ps n a = (s : ℕ) → s < n → IsAnswer ds ps n s (a s)
+AreAnswers decisions parts shards answers = (shard : ℕ) → shard < shards → IsAnswer decisions parts shards shard (answers shard)

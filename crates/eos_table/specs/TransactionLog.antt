@@ -69,35 +69,36 @@ abbrev pub nothing : State
 nothing id = None
 
 abbrev pub update : State → Id → Option TxnValue → State
-update last id v other = cond (same_id id other) (Some v) (last other)
+update last id value other = cond (same_id id other) (Some value) (last other)
 
 abbrev pub flat : Option (Option TxnValue) → Option TxnValue
 flat None = None
-flat (Some v) = v
+flat (Some value) = value
 
 abbrev pub next_state : State → Content → State
 next_state last (Unreadable fault) = last
 next_state last Other = last
-next_state last (Of id v) = if is_skipped (last id) v then last else update last id v
+next_state last (Of id value) = if is_skipped (last id) value then last else update last id value
 
 abbrev pub step_at : State → ℤ → ℕ → Content → List Unskipped
-step_at last n o (Unreadable fault) = []
-step_at last n o Other = []
-step_at last n o (Of id v) = if is_skipped (last id) v then [] else record { partition = n; offset = o; id = id; before = flat (last id); value = v } ∷ []
+step_at last partition offset (Unreadable fault) = []
+step_at last partition offset Other = []
+step_at last partition offset (Of id value) =
+    if is_skipped (last id) value then [] else record { partition = partition; offset = offset; id = id; before = flat (last id); value = value } ∷ []
 
 abbrev pub steps_after : State → ℤ → List Item → List Unskipped
-steps_after last n [] = []
-steps_after last n (x ∷ xs) = step_at last n x.offset (content_of x) ++ steps_after (next_state last (content_of x)) n xs
+steps_after last partition [] = []
+steps_after last partition (item ∷ items) = step_at last partition item.offset (content_of item) ++ steps_after (next_state last (content_of item)) partition items
 
 abbrev pub state_after : State → List Item → State
 state_after last [] = last
-state_after last (x ∷ xs) = state_after (next_state last (content_of x)) xs
+state_after last (item ∷ items) = state_after (next_state last (content_of item)) items
 
 abbrev pub last_of : List Item → Id → Option TxnValue
-last_of xs id = flat (state_after nothing xs id)
+last_of items id = flat (state_after nothing items id)
 
 abbrev pub steps_of : PartLog → List Unskipped
-steps_of p = steps_after nothing p.number p.items
+steps_of part = steps_after nothing part.number part.items
 
 abbrev pub all_steps : List PartLog → List Unskipped
 all_steps log = flat_map steps_of log
@@ -125,7 +126,7 @@ decision_between id (Some before) None = []
 
 -- a Prepare record decides: the data epoch is that of the record before, the marker epoch its own
 abbrev pub decision_of : Unskipped → List Decision
-decision_of s = decision_between s.id s.before s.value
+decision_of step = decision_between step.id step.before step.value
 
 -- in the order of the log
 abbrev pub decisions_of : List PartLog → List Decision
@@ -135,35 +136,35 @@ decisions_of log = flat_map decision_of (all_steps log)
 
 abbrev pub is_unfinished : Option TxnValue → Bool
 is_unfinished None = false
-is_unfinished (Some v) = is_open v.status
+is_unfinished (Some value) = is_open value.status
 
 -- they have one producer id, of 0 or more
 abbrev pub ShareProducer : Option TxnValue → Option TxnValue → Type 0
-ShareProducer None v = ⊥
-ShareProducer (Some u) None = ⊥
-ShareProducer (Some u) (Some v) = (u.producer ≡ v.producer) × (pos 0 ≤ℤ u.producer)
+ShareProducer None other = ⊥
+ShareProducer (Some value) None = ⊥
+ShareProducer (Some value) (Some other) = (value.producer ≡ other.producer) × (pos 0 ≤ℤ value.producer)
 
 pub record IsTransactionLog (log : List PartLog) : Type 0 where
   -- every record reads
-  pub reads : (p : PartLog) (x : Item) (fault : RecordFault) → Has log p → Has p.items x → content_of x ≡ Unreadable fault → ⊥
+  pub reads : (part : PartLog) (item : Item) (fault : RecordFault) → Has log part → Has part.items item → content_of item ≡ Unreadable fault → ⊥
   -- the unskipped records of an id follow the table of steps
-  pub follows : (s : Unskipped) → Has (all_steps log) s → step_verdict s.before s.value ≡ Ok tt
+  pub follows : (step : Unskipped) → Has (all_steps log) step → step_verdict step.before step.value ≡ Ok tt
   -- they lie in one partition
-  pub one_partition : (s t : Unskipped) → Has (all_steps log) s → Has (all_steps log) t → s.id ≡ t.id → s.partition ≡ t.partition
+  pub one_partition : (step other : Unskipped) → Has (all_steps log) step → Has (all_steps log) other → step.id ≡ other.id → step.partition ≡ other.partition
   -- no two ids share a producer id
-  pub one_id : (s t : Unskipped) → Has (all_steps log) s → Has (all_steps log) t → ShareProducer s.value t.value → s.id ≡ t.id
+  pub one_id : (step other : Unskipped) → Has (all_steps log) step → Has (all_steps log) other → ShareProducer step.value other.value → step.id ≡ other.id
   -- at the end no transaction goes on
-  pub settled : (p : PartLog) (id : Id) → Has log p → is_unfinished (last_of p.items id) ≡ false
+  pub settled : (part : PartLog) (id : Id) → Has log part → is_unfinished (last_of part.items id) ≡ false
 
 -- ---- the parts that are the log
 
 abbrev pub is_transaction_part : PartLog → Bool
-is_transaction_part p = is_eq (slice_cmp nat_cmp p.topic (codes "__transaction_state"))
+is_transaction_part part = is_eq (slice_cmp nat_cmp part.topic (codes "__transaction_state"))
 
 abbrev pub transaction_parts : List PartLog → List PartLog
-transaction_parts ps = filter is_transaction_part ps
+transaction_parts parts = filter is_transaction_part parts
 
 -- the partitions by number, each with offsets that rise
 pub record AreInOrder (log : List PartLog) : Type 0 where
-  pub numbers : AllPairs (λ p q. p.number <ℤ q.number) log
-  pub offsets : (p : PartLog) → Has log p → Rises p.items
+  pub numbers : AllPairs (λ part next. part.number <ℤ next.number) log
+  pub offsets : (part : PartLog) → Has log part → Rises part.items

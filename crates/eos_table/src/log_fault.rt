@@ -1,7 +1,7 @@
 //! Where the transaction log breaks its own rule.
 
-ghost use Rattle.std.specs.Prelude.{◌≡◌};
-ghost use Rattle.eos_table.specs.LogFaults.{number_of, name_of};
+ghost use Rattle.std.specs.Prelude.{◌≡◌, option_map};
+ghost use Rattle.eos_table.specs.LogFaults.{number_of, name_of, id_of};
 ghost use Rattle.eos_table.specs.steps.LogCandidates.{fault_at};
 
 use crate::mark::Place;
@@ -63,17 +63,25 @@ impl LogFaultKind {
         self.row().1
     }
 
-    // The number and the name, a line for each kind.
-    fn row(&self) -> (u8, &'static str)
+    /// The transactional id that it names; none where a record doesn't read.
+    pub fn id(&self) -> Option<&Bytes>
+        ensures { option_map (λ id. id.now) result ≡ id_of self.now }
+    {
+        self.row().2
+    }
+
+    // The number, the name and the transactional id, a line for each kind.
+    fn row(&self) -> (u8, &'static str, Option<&Bytes>)
         ensures number { result.0 ≡ number_of self.now }
         ensures name { result.1.now ≡ name_of self.now }
+        ensures id { option_map (λ id. id.now) result.2 ≡ id_of self.now }
     {
         match self {
-            LogFaultKind::BadRecord { .. } => (1, "BadRecord"),
-            LogFaultKind::Step { .. } => (2, "Step"),
-            LogFaultKind::SplitId { .. } => (3, "SplitId"),
-            LogFaultKind::SharedProducer { .. } => (4, "SharedProducer"),
-            LogFaultKind::Unfinished { .. } => (5, "Unfinished"),
+            LogFaultKind::BadRecord { .. } => (1, "BadRecord", None),
+            LogFaultKind::Step { id, .. } => (2, "Step", Some(id)),
+            LogFaultKind::SplitId { id } => (3, "SplitId", Some(id)),
+            LogFaultKind::SharedProducer { id } => (4, "SharedProducer", Some(id)),
+            LogFaultKind::Unfinished { id } => (5, "Unfinished", Some(id)),
         }
     }
 }
