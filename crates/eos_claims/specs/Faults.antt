@@ -19,19 +19,19 @@ place_cmp = place_ghosts.cmp
 
 -- the claims of one source: by output number, then place
 abbrev pub number_cmp : PlacedClaim → PlacedClaim → Ordering
-number_cmp = then_cmp (on (λ c. c.output) nat_cmp) (on (λ c. c.at) place_cmp)
+number_cmp = then_cmp (on (λ claim. claim.output) nat_cmp) (on (λ claim. claim.at) place_cmp)
 
-pub record IsLeastClaim (a : Application) (i : Place) (c : PlacedClaim) : Type 0 where
-  pub names : Names a i c
-  pub least : (d : PlacedClaim) → Names a i d → UpTo number_cmp c d
+pub record IsLeastClaim (app : Application) (input : Place) (claim : PlacedClaim) : Type 0 where
+  pub names : Names app input claim
+  pub least : (other : PlacedClaim) → Names app input other → UpTo number_cmp claim other
 
 -- a claim of the fault's source and number, at the fault's place
-pub record AtClaim (a : Application) (f : OutputFault) : Type 0 where
+pub record AtClaim (app : Application) (fault : OutputFault) : Type 0 where
   pub claim : PlacedClaim
-  pub has : Has a.claims claim
-  pub source : claim.source ≡ f.source
-  pub output : claim.output ≡ f.output
-  pub at : f.at ≡ Some claim.at
+  pub has : Has app.claims claim
+  pub source : claim.source ≡ fault.source
+  pub output : claim.output ≡ fault.output
+  pub at : fault.at ≡ Some claim.at
 
 -- not in 1 to `of`, nor the note 0 of 0
 abbrev pub IsOutOfRange : ℕ → ℕ → Type 0
@@ -39,29 +39,29 @@ IsOutOfRange of output = ((of ≡ 0) × (1 ≤ output)) ⊎ ((1 ≤ of) × ((out
 
 -- the number up to which outputs of an input are looked for: what its least claim says, and 1 where it has no claim
 abbrev pub IsTop : Application → Place → ℕ → Type 0
-IsTop a i top = ((c : PlacedClaim) × IsLeastClaim a i c × (c.of ≡ top)) ⊎ (((c : PlacedClaim) → Names a i c → ⊥) × (top ≡ 1))
+IsTop app input top = ((claim : PlacedClaim) × IsLeastClaim app input claim × (claim.of ≡ top)) ⊎ (((claim : PlacedClaim) → Names app input claim → ⊥) × (top ≡ 1))
 
-pub record IsMissing (a : Application) (f : OutputFault) : Type 0 where
-  pub below : IsBelow a f.source
+pub record IsMissing (app : Application) (fault : OutputFault) : Type 0 where
+  pub below : IsBelow app fault.source
   pub top : ℕ
-  pub is_top : IsTop a f.source top
-  pub first : 1 ≤ f.output
-  pub last : f.output ≤ top
-  pub absent : (c : PlacedClaim) → Names a f.source c → c.output ≢ f.output
-  pub at : f.at ≡ None
+  pub is_top : IsTop app fault.source top
+  pub first : 1 ≤ fault.output
+  pub last : fault.output ≤ top
+  pub absent : (claim : PlacedClaim) → Names app fault.source claim → claim.output ≢ fault.output
+  pub at : fault.at ≡ None
 
 abbrev pub StandsAs : Application → OutputFault → OutputKind → Type 0
-StandsAs a f ForeignSource = AtClaim a f × (Has a.sources f.source.partition.topic → ⊥)
-StandsAs a f NoSuchInput = AtClaim a f × Has a.sources f.source.partition.topic × (Has a.inputs f.source → ⊥)
-StandsAs a f Early = AtClaim a f × Has a.inputs f.source × (committed_offset a.commits f.source.partition ≤ℤ pos f.source.offset)
-StandsAs a f CountDisagrees = (at : AtClaim a f) × (c : PlacedClaim) × IsLeastClaim a f.source c × (at.claim.of ≢ c.of)
-StandsAs a f NumberRange = (at : AtClaim a f) × IsOutOfRange at.claim.of f.output
-StandsAs a f Repeated = (at : AtClaim a f) × (c : PlacedClaim) × Names a f.source c × (c.output ≡ f.output) × (place_cmp c.at at.claim.at ≡ Less)
-StandsAs a f Missing = IsMissing a f
-StandsAs a f OtherTransaction = (at : AtClaim a f) × IsBelow a f.source × (IsPassed a at.claim → ⊥)
+StandsAs app fault ForeignSource = AtClaim app fault × (Has app.sources fault.source.partition.topic → ⊥)
+StandsAs app fault NoSuchInput = AtClaim app fault × Has app.sources fault.source.partition.topic × (Has app.inputs fault.source → ⊥)
+StandsAs app fault Early = AtClaim app fault × Has app.inputs fault.source × (committed_offset app.commits fault.source.partition ≤ℤ pos fault.source.offset)
+StandsAs app fault CountDisagrees = (at : AtClaim app fault) × (least : PlacedClaim) × IsLeastClaim app fault.source least × (at.claim.of ≢ least.of)
+StandsAs app fault NumberRange = (at : AtClaim app fault) × IsOutOfRange at.claim.of fault.output
+StandsAs app fault Repeated = (at : AtClaim app fault) × (other : PlacedClaim) × Names app fault.source other × (other.output ≡ fault.output) × (place_cmp other.at at.claim.at ≡ Less)
+StandsAs app fault Missing = IsMissing app fault
+StandsAs app fault OtherTransaction = (at : AtClaim app fault) × IsBelow app fault.source × (IsPassed app at.claim → ⊥)
 
 abbrev pub Stands : Application → OutputFault → Type 0
-Stands a f = StandsAs a f f.kind
+Stands app fault = StandsAs app fault fault.kind
 
 -- the derived order: by the fields as they stand, input, output number, kind and place of the claim; kinds as they stand there too
 abbrev pub fault_cmp : OutputFault → OutputFault → Ordering

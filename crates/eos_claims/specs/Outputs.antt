@@ -35,51 +35,51 @@ pub record Application : Type 0 where
   pub claims : List PlacedClaim
 
 abbrev pub ReadsSources : Application → Type 0
-ReadsSources a = (i : Place) → Has a.inputs i → Has a.sources i.partition.topic
+ReadsSources app = (input : Place) → Has app.inputs input → Has app.sources input.partition.topic
 
 -- the offset of the last commit, or this one where there is none
 abbrev pub last_offset : ℤ → List Commit → ℤ
 last_offset otherwise [] = otherwise
-last_offset otherwise (c ∷ cs) = last_offset c.offset cs
+last_offset otherwise (commit ∷ commits) = last_offset commit.offset commits
 
 -- The committed offset of a partition is that of its last commit, and 0 where there is none.
 abbrev pub committed_offset : List Commit → PartitionName → ℤ
-committed_offset cs p = last_offset (pos 0) (filter (λ c. is_eq (name_cmp c.partition p)) cs)
+committed_offset commits name = last_offset (pos 0) (filter (λ commit. is_eq (name_cmp commit.partition name)) commits)
 
 -- an input below the committed offset of its partition
-pub record IsBelow (a : Application) (i : Place) : Type 0 where
-  pub input : Has a.inputs i
-  pub below : pos i.offset <ℤ committed_offset a.commits i.partition
+pub record IsBelow (app : Application) (place : Place) : Type 0 where
+  pub input : Has app.inputs place
+  pub below : pos place.offset <ℤ committed_offset app.commits place.partition
 
 -- a claim that names this input
-pub record Names (a : Application) (i : Place) (c : PlacedClaim) : Type 0 where
-  pub has : Has a.claims c
-  pub source : c.source ≡ i
+pub record Names (app : Application) (input : Place) (claim : PlacedClaim) : Type 0 where
+  pub has : Has app.claims claim
+  pub source : claim.source ≡ input
 
 -- the claims that name it are 1 of n to n of n, each once
-pub record Numbered (a : Application) (i : Place) (n : ℕ) : Type 0 where
+pub record Numbered (app : Application) (input : Place) (n : ℕ) : Type 0 where
   pub some : 1 ≤ n
-  pub within : (c : PlacedClaim) → Names a i c → (c.of ≡ n) × (1 ≤ c.output) × (c.output ≤ n)
-  pub each : (k : ℕ) → 1 ≤ k → k ≤ n → (c : PlacedClaim) × Names a i c × (c.output ≡ k)
-  pub once : (c d : PlacedClaim) → Names a i c → Names a i d → c.output ≡ d.output → c.at ≡ d.at
+  pub within : (claim : PlacedClaim) → Names app input claim → (claim.of ≡ n) × (1 ≤ claim.output) × (claim.output ≤ n)
+  pub each : (number : ℕ) → 1 ≤ number → number ≤ n → (claim : PlacedClaim) × Names app input claim × (claim.output ≡ number)
+  pub once : (claim other : PlacedClaim) → Names app input claim → Names app input other → claim.output ≡ other.output → claim.at ≡ other.at
 
 -- the one claim that names it is the note 0 of 0
-pub record Noted (a : Application) (i : Place) : Type 0 where
-  pub note : (c : PlacedClaim) × Names a i c
-  pub zero : (c : PlacedClaim) → Names a i c → (c.output ≡ 0) × (c.of ≡ 0)
-  pub once : (c d : PlacedClaim) → Names a i c → Names a i d → c.at ≡ d.at
+pub record Noted (app : Application) (input : Place) : Type 0 where
+  pub note : (claim : PlacedClaim) × Names app input claim
+  pub zero : (claim : PlacedClaim) → Names app input claim → (claim.output ≡ 0) × (claim.of ≡ 0)
+  pub once : (claim other : PlacedClaim) → Names app input claim → Names app input other → claim.at ≡ other.at
 
 -- the claim is written in a transaction, and that transaction commits an offset past the claim's input
-pub record IsPassed (a : Application) (c : PlacedClaim) : Type 0 where
+pub record IsPassed (app : Application) (claim : PlacedClaim) : Type 0 where
   pub writer : Writer
-  pub transactional : c.writer ≡ Some writer
+  pub transactional : claim.writer ≡ Some writer
   pub commit : Commit
-  pub has : Has a.commits commit
+  pub has : Has app.commits commit
   pub same : commit.writer ≡ Some writer
-  pub partition : commit.partition ≡ c.source.partition
-  pub past : pos c.source.offset <ℤ commit.offset
+  pub partition : commit.partition ≡ claim.source.partition
+  pub past : pos claim.source.offset <ℤ commit.offset
 
-pub record Exact (a : Application) : Type 0 where
-  pub counted : (i : Place) → IsBelow a i → ((n : ℕ) × Numbered a i n) ⊎ Noted a i
-  pub passed : (c : PlacedClaim) → Has a.claims c → IsPassed a c
-  pub named : (c : PlacedClaim) → Has a.claims c → IsBelow a c.source
+pub record Exact (app : Application) : Type 0 where
+  pub counted : (input : Place) → IsBelow app input → ((n : ℕ) × Numbered app input n) ⊎ Noted app input
+  pub passed : (claim : PlacedClaim) → Has app.claims claim → IsPassed app claim
+  pub named : (claim : PlacedClaim) → Has app.claims claim → IsBelow app claim.source

@@ -19,32 +19,32 @@ use Rattle.eos_commits.specs.Commits.{Group, offsets_parts, key_of, value_of, Is
 use Rattle.eos_commits.specs.Kept.{output_parts}
 
 -- a visible record of these partitions at the fault's place
-pub record AtRecord (ps : List PartLog) (f : VisibleFault) : Type 0 where
-  pub found : VisibleIn ps
-  pub partition : part_name found.part ≡ f.partition
-  pub offset : found.item.offset ≡ f.offset
+pub record AtRecord (parts : List PartLog) (fault : VisibleFault) : Type 0 where
+  pub found : VisibleIn parts
+  pub partition : part_name found.part ≡ fault.partition
+  pub offset : found.item.offset ≡ fault.offset
 
 -- its key doesn't read, or its value under a key that names a group and a source topic
 abbrev pub CannotRead : List App → Item → RecordFault → Type 0
-CannotRead apps x fault = (key_of x ≡ Err fault) ⊎ ((group : Group) × IsUnderGroup apps group x × (value_of x ≡ Some (Err fault)))
+CannotRead apps item refusal = (key_of item ≡ Err refusal) ⊎ ((group : Group) × IsUnderGroup apps group item × (value_of item ≡ Some (Err refusal)))
 
 -- a record of the group, and another one in a lesser partition
-pub record IsSplit (apps : List App) (ps : List PartLog) (r : VisibleIn (offsets_parts ps)) : Type 0 where
+pub record IsSplit (apps : List App) (parts : List PartLog) (one : VisibleIn (offsets_parts parts)) : Type 0 where
   pub group : Group
-  pub here : IsUnderGroup apps group r.item
-  pub other : VisibleIn (offsets_parts ps)
+  pub here : IsUnderGroup apps group one.item
+  pub other : VisibleIn (offsets_parts parts)
   pub there : IsUnderGroup apps group other.item
-  pub lesser : other.part.number <ℤ r.part.number
+  pub lesser : other.part.number <ℤ one.part.number
 
 -- by the kind
 abbrev pub StandsAs : List App → List PartLog → VisibleFault → VisibleFaultKind → Type 0
-StandsAs apps ps f BadLineage = (at : AtRecord (output_parts apps ps) f) × (claim_of at.found.item.headers ≡ None)
-StandsAs apps ps f (BadOffset fault) = (at : AtRecord (offsets_parts ps) f) × CannotRead apps at.found.item fault
-StandsAs apps ps f SplitGroup = (at : AtRecord (offsets_parts ps) f) × IsSplit apps ps at.found
-StandsAs apps ps f OffsetDeleted = (at : AtRecord (offsets_parts ps) f) × (group : Group) × IsUnderGroup apps group at.found.item × (value_of at.found.item ≡ None)
+StandsAs apps parts fault BadLineage = (at : AtRecord (output_parts apps parts) fault) × (claim_of at.found.item.headers ≡ None)
+StandsAs apps parts fault (BadOffset refusal) = (at : AtRecord (offsets_parts parts) fault) × CannotRead apps at.found.item refusal
+StandsAs apps parts fault SplitGroup = (at : AtRecord (offsets_parts parts) fault) × IsSplit apps parts at.found
+StandsAs apps parts fault OffsetDeleted = (at : AtRecord (offsets_parts parts) fault) × (group : Group) × IsUnderGroup apps group at.found.item × (value_of at.found.item ≡ None)
 
 abbrev pub Stands : List App → List PartLog → VisibleFault → Type 0
-Stands apps ps f = StandsAs apps ps f f.kind
+Stands apps parts fault = StandsAs apps parts fault fault.kind
 
 -- the derived order: by the fields as they stand, partition, offset and kind; kinds as they stand there, and BadOffset by the
 -- refusal that is printed
@@ -54,7 +54,7 @@ visible_cmp = ghosts.cmp
 -- number and name, a line for each kind
 abbrev pub row_of : VisibleFaultKind → ℕ × List ℕ
 row_of BadLineage = (1, codes "BadLineage")
-row_of (BadOffset fault) = (2, codes "BadOffset")
+row_of (BadOffset refusal) = (2, codes "BadOffset")
 row_of SplitGroup = (3, codes "SplitGroup")
 row_of OffsetDeleted = (4, codes "OffsetDeleted")
 
@@ -67,6 +67,6 @@ name_of kind = (row_of kind).1
 -- ---- the partitions in order
 
 -- each name below the next, and the offsets of each rise
-pub record AreInOrder (ps : List PartLog) : Type 0 where
-  pub names : AllPairs (λ p q. name_cmp (part_name p) (part_name q) ≡ Less) ps
-  pub offsets : (p : PartLog) → Has ps p → Rises p.items
+pub record AreInOrder (parts : List PartLog) : Type 0 where
+  pub names : AllPairs (λ part next. name_cmp (part_name part) (part_name next) ≡ Less) parts
+  pub offsets : (part : PartLog) → Has parts part → Rises part.items
