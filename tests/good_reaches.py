@@ -28,6 +28,7 @@ OF_THE_CHECKER = (
     ("eos_batch.specs.Reading", None),
     ("eos_touch.specs.Pair", "stands"),
     ("eos_touch.specs.FaultNames", None),
+    ("eos_touch.specs.declared.fault.PartitionFault", None),
     ("eos_summary.specs.Summaries", None),
     ("eos_fold.specs.Standing", None),
     ("eos_fold.specs.Sums", None),

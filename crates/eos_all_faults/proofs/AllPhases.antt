@@ -1,12 +1,13 @@
 -- The phases one after the other: what was found is the list of all, or nothing stands.
-use Rattle.std.proofs.Common.{◌≡◌, ◌==◌, ℕ, List, [], ◌∷◌, map, length, Option, Some, None, Bool, true, false, is_some, refl, subst, inl, arith, ◌⊎◌}
+use Rattle.std.proofs.Common.{◌≡◌, ◌==◌, ℕ, List, [], ◌∷◌, map, length, Option, Some, None, true, false, refl, subst, inl, arith, ◌⊎◌}
 use Rattle.std.specs.declared.cmp.Ordering.{Ordering}
 use Rattle.eos_base.specs.Members.{Has}
-use Rattle.eos_base.specs.Least.{NoneStands, IsLeastOrNone}
+use Rattle.eos_base.specs.Least.{NoneStands}
 use Rattle.eos_base.proofs.Membership.{map_has, has_map}
 use Rattle.eos_evidence.specs.declared.application.App.{App}
 use Rattle.eos_evidence.specs.Evidence.{EvidenceParts, IsEvidence}
 use Rattle.eos_touch.specs.declared.fault.PartitionFault.{PartitionFault}
+use Rattle.eos_fold.specs.LeastFaults.{IsFirstFault}
 use Rattle.eos_fold.specs.Parts.{PartLog}
 use Rattle.eos_table.specs.declared.log_fault.LogFault.{LogFault}
 use Rattle.eos_table.specs.declared.match_fault.MatchFault.{MatchFault}
@@ -23,7 +24,6 @@ use Rattle.eos_lineage.specs.EvidenceLogs.{AreLogsOf}
 use Rattle.eos_lineage.proofs.LogsInOrder.{sorted}
 use Rattle.eos_check.specs.declared.verdict.Fault.TheVariants.{Partition as InPartition, Log, Match}
 use Rattle.eos_check.specs.Verdicts.{StandsInPartitions, StandsInLog, StandsInMatching, partition_cmp}
-use Rattle.eos_check.specs.steps.Phases.{first_fault}
 use Rattle.eos_check.proofs.FirstFault.{least_of_first}
 use Rattle.eos_check.proofs.PhaseAnswers.{partition_none}
 use Rattle.eos_fault_list.specs.AllOf.{IsAllOf}
@@ -62,23 +62,12 @@ module _ (e : EvidenceParts) (ls : List PartLog) (of : AreLogsOf e.partitions ls
   found_in_matching none no_log (x ∷ xs) n len t all = match_list e ls of x xs none no_log all
 
   module _ (is : IsEvidence e) where
-    least : IsLeastOrNone partition_cmp (StandsInPartitions e.partitions ls of) (first_fault ls)
-    least = least_of_first e.partitions ls of (sorted e is)
+    pub found_in_partitions : (f : PartitionFault) → IsFirstFault ls (Some f) → (xs : List PartitionFault) → IsAllOf partition_cmp (StandsInPartitions e.partitions ls of) xs → AreAllFaults e ls of (map InPartition xs)
+    found_in_partitions f first [] all = absurd (none_listed partition_cmp (StandsInPartitions e.partitions ls of) all f (least_of_first e.partitions ls of (sorted e is) (Some f) first).stands)
+    found_in_partitions f first (x ∷ xs) all = partition_list e ls of x xs all
 
-    stands_there : (o : Option PartitionFault) → IsLeastOrNone partition_cmp (StandsInPartitions e.partitions ls of) o → is_some o ≡ true → NoneStands (StandsInPartitions e.partitions ls of) → ⊥
-    stands_there None l t none = absurd cc
-    stands_there (Some f) l t none = none f l.stands
-
-    pub found_in_partitions : is_some (first_fault ls) ≡ true → (xs : List PartitionFault) → IsAllOf partition_cmp (StandsInPartitions e.partitions ls of) xs → AreAllFaults e ls of (map InPartition xs)
-    found_in_partitions t [] all = absurd (stands_there (first_fault ls) least t (none_listed partition_cmp (StandsInPartitions e.partitions ls of) all))
-    found_in_partitions t (x ∷ xs) all = partition_list e ls of x xs all
-
-    none_is : (o : Option PartitionFault) → is_some o ≡ false → o ≡ None
-    none_is None t = refl
-    none_is (Some f) t = absurd cc
-
-    pub none_in_partitions : is_some (first_fault ls) ≡ false → NoneStands (StandsInPartitions e.partitions ls of)
-    none_in_partitions t = partition_none e ls of is (none_is (first_fault ls) t)
+    pub none_in_partitions : IsFirstFault ls None → NoneStands (StandsInPartitions e.partitions ls of)
+    none_in_partitions first = partition_none e ls of is first
 
 -- ---- those of records, where one stands
 

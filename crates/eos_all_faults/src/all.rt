@@ -1,13 +1,12 @@
 //! All faults of an evidence: the list of the first phase that has one.
 
-ghost use Rattle.std.specs.Prelude.{◌≡◌, is_some, IfOk, map};
+ghost use Rattle.std.specs.Prelude.{◌≡◌, IfOk, map};
 ghost use Rattle.eos_base.specs.Least.{NoneStands};
 ghost use Rattle.eos_commits.specs.Faults.{AreInOrder};
 ghost use Rattle.eos_evidence.specs.Evidence.{EvidenceParts, IsEvidence};
 ghost use Rattle.eos_lineage.specs.declared.fault.LineageFault.TheVariants.{Record};
 ghost use Rattle.eos_lineage.specs.EvidenceLogs.{AreLogsOf};
 ghost use Rattle.eos_check.specs.declared.verdict.Fault.TheVariants.{Partition as InPartition, Log, Match, Lineage};
-ghost use Rattle.eos_check.specs.steps.Phases.{first_fault};
 ghost use Rattle.eos_check.specs.Verdicts.{StandsInPartitions, StandsInLog, StandsInMatching};
 ghost use Rattle.eos_output_faults.specs.LineageFaults.{AreLineageFaults};
 ghost use Rattle.eos_all_faults.specs.AllFaults.{AreAllFaults};
@@ -16,7 +15,7 @@ use crate::partitions::all_partition_faults;
 use eos_check::Fault;
 use eos_commits::VisibleFault;
 use eos_evidence::{Evidence, Spec};
-use eos_fold::Part;
+use eos_fold::{Part, first_fault};
 use eos_lineage::LineageFault;
 use eos_log_faults::all_log_faults;
 use eos_match_faults::all_match_faults;
@@ -133,18 +132,6 @@ fn after_partitions(alloc: Global, spec: &Spec, logs: &[Part]) -> Result<Vec<Fau
     Ok(list)
 }
 
-// Whether the log of a partition has a fault.
-fn is_faulty(logs: &[Part]) -> bool
-    ensures { result ≡ is_some (first_fault logs.now) }
-{
-    for part in logs {
-        if part.fault().is_some() {
-            return true;
-        }
-    }
-    false
-}
-
 /// Every fault of the evidence whose logs these are, in the verdict's order, each once; but of the outputs that one input lacks,
 /// which may be very many, the first alone. Since a fault of a phase counts only where none of the phases before stands, they are
 /// of one phase. None where the verdict is yes; else the first is the verdict's (`laws::first_fault`).
@@ -162,11 +149,11 @@ pub fn all_faults(
     ensures { (of : AreLogsOf evidence.now.partitions logs.now) → IfOk result (λ faults. AreAllFaults evidence.now logs.now of faults.items) }
 {
     let spec = evidence.spec();
-    if !is_faulty(logs) {
-        let list = after_partitions(alloc, spec, logs)?;
+    if let Some(_fault) = first_fault(logs) {
+        let faults = all_partition_faults(alloc, evidence)?;
+        let list = of_partitions(alloc, faults)?;
         return Ok(list);
     }
-    let faults = all_partition_faults(alloc, evidence)?;
-    let list = of_partitions(alloc, faults)?;
+    let list = after_partitions(alloc, spec, logs)?;
     Ok(list)
 }

@@ -1,10 +1,9 @@
--- Where no fault stands in the partitions, an evidence has one list of logs.
-use Rattle.std.proofs.Common.{◌≡◌, ◌↔◌, suc, inl, inr, true, List, [], ◌∷◌, Option, Some, None, refl, sym, ap, subst, ◌∙◌, arith}
+-- An evidence has one list of logs.
+use Rattle.std.proofs.Common.{◌≡◌, ◌↔◌, suc, inl, inr, true, List, [], ◌∷◌, refl, sym, ap, subst, ◌∙◌, arith}
 use Rattle.std.specs.List.{All}
 use Rattle.std.specs.Ordering.{is_lt, ordering_reverse}
 use Rattle.std.specs.declared.cmp.Ordering.{Ordering}
 use Rattle.std.specs.declared.cmp.Ordering.TheVariants.{Less, Equal, Greater}
-use Rattle.eos_base.specs.Least.{NoneStands, IsLeastOrNone}
 use Rattle.eos_base.specs.Members.{Has}
 use Rattle.eos_touch.proofs.AllTouches.{AllPairs-head, AllPairs-tail}
 use Rattle.eos_batch.specs.declared.batch.Batch.{Batch}
@@ -15,10 +14,8 @@ use Rattle.eos_fold.specs.Closes.{close_cmp, closes_of}
 use Rattle.eos_fold.specs.Parts.{PartLog, Ascends}
 use Rattle.eos_summary.specs.Settling.{data_in}
 use Rattle.eos_batch.specs.Marker.{markers_of}
-use Rattle.eos_fold.specs.Standing as folds
 use Rattle.eos_fold.proofs.ClosesOnce.{close_total}
 use Rattle.eos_lineage.specs.EvidenceLogs.{IsLogOf, AreLogsOf}
-use Rattle.eos_check.specs.Verdicts.{StandsInPartitions}
 use Rattle.eos_check.proofs.FrontsUnique.{one_front}
 
 -- ---- ascending lists of the same members
@@ -84,33 +81,25 @@ one_closes bs cs ds up rise h k = one_list cs ds up rise (λ c m. (k c).1 ((h c)
 
 -- ---- the logs
 
-no_fault : {X : Type 0} (cmp : X → X → Ordering) (S : X → Type 0) (o : Option X) → IsLeastOrNone cmp S o → NoneStands S → o ≡ None
-no_fault cmp S None m none = refl
-no_fault cmp S (Some f) m none = absurd (none f m.stands)
-
-one_log : (p : Partition) (l m : PartLog) (of : IsLogOf p l) (are : IsLogOf p m) → NoneStands (folds.IsStanding p.end.topic p.end.partition p.end.end of.batches of.stop) → l ≡ m
-one_log p l m of are none =
+one_log : (p : Partition) (l m : PartLog) → IsLogOf p l → IsLogOf p m → l ≡ m
+one_log p l m of are =
     let front = one_front 0 p.segments of.batches are.batches of.stop are.stop of.front are.front in
-    let none_too : NoneStands (folds.IsStanding p.end.topic p.end.partition p.end.end are.batches are.stop) =
-    subst (λ s. NoneStands (folds.IsStanding p.end.topic p.end.partition p.end.end are.batches s)) front.1
-    (subst (λ (bs : List Batch). NoneStands (folds.IsStanding p.end.topic p.end.partition p.end.end bs of.stop)) front.0 none) in
     let topic = of.log.of_topic ∙ sym are.log.of_topic in
     let number = of.log.of_number ∙ sym are.log.of_number in
     let end = of.log.until ∙ sym are.log.until in
-    let fault = no_fault folds.fault_cmp (folds.IsStanding p.end.topic p.end.partition p.end.end of.batches of.stop) l.fault of.fault none
-    ∙ sym (no_fault folds.fault_cmp (folds.IsStanding p.end.topic p.end.partition p.end.end are.batches are.stop) m.fault are.fault none_too) in
+    let segments = of.log.of_segments ∙ sym are.log.of_segments in
     let items = of.log.items ∙ (ap (λ (bs : List Batch). items_of (data_in bs)) front.0 ∙ sym are.log.items) in
     let markers = of.log.markers ∙ (ap markers_of front.0 ∙ sym are.log.markers) in
     let closes = one_closes are.batches l.closes m.closes of.ascends are.ascends (subst (λ (bs : List Batch). Hold l.closes bs) front.0 of.log.closes) are.log.closes in
-    λ i. record { topic = topic i; number = number i; end = end i; fault = fault i; items = items i; closes = closes i; markers = markers i }
+    λ i. record { topic = topic i; number = number i; end = end i; segments = segments i; items = items i; closes = closes i; markers = markers i }
 
-pub one_logs : (ps : List Partition) (ls ms : List PartLog) (of : AreLogsOf ps ls) (are : AreLogsOf ps ms) → NoneStands (StandsInPartitions ps ls of) → ls ≡ ms
-one_logs [] [] [] of are none = refl
-one_logs [] [] (m ∷ ms) of are none = absurd are
-one_logs [] (l ∷ ls) ms of are none = absurd of
-one_logs (p ∷ ps) [] ms of are none = absurd of
-one_logs (p ∷ ps) (l ∷ ls) [] of are none = absurd are
-one_logs (p ∷ ps) (l ∷ ls) (m ∷ ms) of are none =
-    let here = one_log p l m of.0 are.0 (λ f s. none f (inl s)) in
-    let others = one_logs ps ls ms of.1 are.1 (λ f s. none f (inr s)) in
+pub one_logs : (ps : List Partition) (ls ms : List PartLog) → AreLogsOf ps ls → AreLogsOf ps ms → ls ≡ ms
+one_logs [] [] [] of are = refl
+one_logs [] [] (m ∷ ms) of are = absurd are
+one_logs [] (l ∷ ls) ms of are = absurd of
+one_logs (p ∷ ps) [] ms of are = absurd of
+one_logs (p ∷ ps) (l ∷ ls) [] of are = absurd are
+one_logs (p ∷ ps) (l ∷ ls) (m ∷ ms) of are =
+    let here = one_log p l m of.0 are.0 in
+    let others = one_logs ps ls ms of.1 are.1 in
     λ i. here i ∷ others i

@@ -1,6 +1,6 @@
--- Two verdicts of one evidence are equal: the logs are the same where no partition has a fault, and each phase has one least fault.
-use Rattle.std.proofs.Common.{◌≡◌, ◌⊎◌, inl, inr, true, false, List, refl, sym, ap, subst, ◌∙◌}
-use Rattle.eos_base.specs.Least.{NoneStands, IsLeast}
+-- Two verdicts of one evidence are equal: the logs are the same, and each phase has one least fault.
+use Rattle.std.proofs.Common.{◌≡◌, true, false, List, sym, ap, subst, ◌∙◌}
+use Rattle.eos_base.specs.Least.{IsLeast}
 use Rattle.eos_base.proofs.LeastOf.{one_least}
 use Rattle.eos_evidence.specs.Evidence.{EvidenceParts, IsEvidence}
 use Rattle.eos_touch.specs.declared.fault.PartitionFault.{PartitionFault}
@@ -85,31 +85,10 @@ module _ (e : EvidenceParts) (is : IsEvidence e) where
     one_of (No f) (Yes d) h k = absurd ((law e ls of is).0 k.0 f h.stands)
     one_of (No f) (No g) h k = ap No (one_fault f g h k)
 
-    -- a fault of the partitions, or none
-    by_partitions : (v : Verdict) → IsVerdictOf e ls of v
-        → ((f : PartitionFault) × (v ≡ No (InPartition f)) × IsLeast partition_cmp (StandsInPartitions e.partitions ls of) f) ⊎ NoneStands (StandsInPartitions e.partitions ls of)
-    by_partitions (Yes c) h = inr (λ f s. (law e ls of is).0 h.0 (InPartition f) s)
-    by_partitions (No (InPartition f)) h = inl (f, refl, in_partitions f h)
-    by_partitions (No (Log f)) h = inr h.stands.0
-    by_partitions (No (Match f)) h = inr h.stands.0
-    by_partitions (No (Lineage f)) h = inr h.stands.0
-
   -- ---- of any
 
   one_verdict_of : (ls ms : List PartLog) (of : AreLogsOf e.partitions ls) (are : AreLogsOf e.partitions ms) (v w : Verdict) → IsVerdictOf e ls of v → IsVerdictOf e ms are w → v ≡ w
-  one_verdict_of ls ms of are v w h k = elim (by_partitions ls of v h) [
-    | inl a ↦ elim (by_partitions ms are w k) [
-      | inl b ↦
-          let there : IsLeast partition_cmp (StandsInPartitions e.partitions ms are) a.0 = record {
-            stands = same_standing e.partitions ls ms of are a.0 a.2.stands;
-            least = λ g s. a.2.least g (same_standing e.partitions ms ls are of g s);
-          } in
-          let same = one_partition_fault e.partitions ms are (sorted e is) a.0 b.0 there b.2 in
-          a.1 ∙ (ap (λ (f : PartitionFault). No (InPartition f)) same ∙ sym b.1)
-      | inr none ↦ absurd (none a.0 (same_standing e.partitions ls ms of are a.0 a.2.stands))
-    ]
-    | inr none ↦ one_of ls of v w h (same_logs ls ms (one_logs e.partitions ls ms of are none) of are w k)
-  ]
+  one_verdict_of ls ms of are v w h k = one_of ls of v w h (same_logs ls ms (one_logs e.partitions ls ms of are) of are w k)
 
   pub one_verdict : (v w : Verdict) → IsVerdict e v → IsVerdict e w → v ≡ w
   one_verdict v w h k = one_verdict_of h.0 k.0 h.1 k.1 v w h.2 k.2

@@ -2,10 +2,11 @@
 use Rattle.std.proofs.Common.{◌≡◌, ℕ, List, Some, None, Result, Ok, Err, length, sym, ap, subst, ◌∙◌}
 use Rattle.std.specs.Prelude.{IfOk}
 use Rattle.std.specs.Result.{MatchResult}
-use Rattle.eos_base.specs.Least.{NoneStands, IsLeast, IsLeastOrNone}
+use Rattle.eos_base.specs.Least.{NoneStands, IsLeast}
 use Rattle.eos_evidence.specs.declared.application.App.{App}
 use Rattle.eos_evidence.specs.Evidence.{EvidenceParts, IsEvidence}
 use Rattle.eos_touch.specs.declared.fault.PartitionFault.{PartitionFault}
+use Rattle.eos_fold.specs.LeastFaults.{IsFirstFault}
 use Rattle.eos_fold.specs.Parts.{PartLog}
 use Rattle.eos_txnlog.specs.declared.decision.Decision.{Decision}
 use Rattle.eos_table.specs.declared.log_fault.LogFault.{LogFault}
@@ -19,8 +20,8 @@ use Rattle.eos_lineage.specs.Faults as lineage
 use Rattle.eos_check.specs.declared.verdict.Fault.TheVariants.{Partition as InPartition, Log, Lineage}
 use Rattle.eos_check.specs.declared.verdict.Verdict.TheVariants.{Yes, No}
 use Rattle.eos_lineage.specs.EvidenceLogs.{AreLogsOf}
-use Rattle.eos_check.specs.Verdicts.{StandsInPartitions, StandsInLog, StandsInMatching, partition_cmp, IsVerdictOf, IsVerdict}
-use Rattle.eos_check.specs.steps.Phases.{first_fault, IsMatched, IsTransacted}
+use Rattle.eos_check.specs.Verdicts.{StandsInPartitions, StandsInLog, StandsInMatching, IsVerdictOf, IsVerdict}
+use Rattle.eos_check.specs.steps.Phases.{IsMatched, IsTransacted}
 use Rattle.eos_check.proofs.FirstFault.{least_of_first}
 use Rattle.eos_lineage.proofs.LogsInOrder.{sorted, in_order}
 use Rattle.eos_check.proofs.TransactionLogInOrder.{log_in_order}
@@ -33,19 +34,19 @@ if_ok (Err e) P Q f h = h
 pub match_ok : {X E : Type 0} (P : X → Type 0) (Q : E → Type 0) (r : Result X E) (x : X) → r ≡ Ok x → MatchResult r P Q → P x
 match_ok P Q r x e h = subst (λ s. MatchResult s P Q) e h
 
-pub partition_found : (e : EvidenceParts) (ls : List PartLog) (of : AreLogsOf e.partitions ls) → IsEvidence e → (f : PartitionFault) → first_fault ls ≡ Some f
+pub partition_found : (e : EvidenceParts) (ls : List PartLog) (of : AreLogsOf e.partitions ls) → IsEvidence e → (f : PartitionFault) → IsFirstFault ls (Some f)
     → IsVerdictOf e ls of (No (InPartition f))
-partition_found e ls of is f at = no_partition e ls of f (subst (IsLeastOrNone partition_cmp (StandsInPartitions e.partitions ls of)) at (least_of_first e.partitions ls of (sorted e is)))
+partition_found e ls of is f first = no_partition e ls of f (least_of_first e.partitions ls of (sorted e is) (Some f) first)
 
-pub partition_none : (e : EvidenceParts) (ls : List PartLog) (of : AreLogsOf e.partitions ls) → IsEvidence e → first_fault ls ≡ None
+pub partition_none : (e : EvidenceParts) (ls : List PartLog) (of : AreLogsOf e.partitions ls) → IsEvidence e → IsFirstFault ls None
     → NoneStands (StandsInPartitions e.partitions ls of)
-partition_none e ls of is at = subst (IsLeastOrNone partition_cmp (StandsInPartitions e.partitions ls of)) at (least_of_first e.partitions ls of (sorted e is))
+partition_none e ls of is first = least_of_first e.partitions ls of (sorted e is) None first
 
-pub log_found : (e : EvidenceParts) (ls : List PartLog) (of : AreLogsOf e.partitions ls) → IsEvidence e → first_fault ls ≡ None → (f : LogFault)
+pub log_found : (e : EvidenceParts) (ls : List PartLog) (of : AreLogsOf e.partitions ls) → IsEvidence e → IsFirstFault ls None → (f : LogFault)
     → (AreInOrder (transaction_parts ls) → IsLeast logs.log_cmp (StandsInLog ls) f) → IsVerdictOf e ls of (No (Log f))
 log_found e ls of is at f least = no_log e ls of f (partition_none e ls of is at) (least (log_in_order ls (in_order e ls is of)))
 
-pub matched_found : (e : EvidenceParts) (ls : List PartLog) (of : AreLogsOf e.partitions ls) → IsEvidence e → first_fault ls ≡ None → (ds : List Decision)
+pub matched_found : (e : EvidenceParts) (ls : List PartLog) (of : AreLogsOf e.partitions ls) → IsEvidence e → IsFirstFault ls None → (ds : List Decision)
     → (AreInOrder (transaction_parts ls) → NoneStands (StandsInLog ls) × (ds ≡ decisions_of (transaction_parts ls)))
     → (r : Result ℕ Fault) → IsMatched ds ls r → IsTransacted e ls of r
 matched_found e ls of is at ds read (Ok n) m =

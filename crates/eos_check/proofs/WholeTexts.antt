@@ -1,5 +1,5 @@
 -- Segments are texts of batches exactly where their front ends with their bytes.
-use Rattle.std.proofs.Common.{◌≡◌, ◌↔◌, ℕ, ◌+◌, ℤ, List, [], ◌∷◌, refl, sym, subst, inl, inr}
+use Rattle.std.proofs.Common.{◌≡◌, ◌↔◌, ℕ, ◌+◌, ℤ, List, [], ◌∷◌, refl, subst, inl, inr}
 use Rattle.eos_batch.specs.declared.batch.Batch.{Batch}
 use Rattle.eos_batch.specs.Segment.{Splits}
 use Rattle.eos_evidence.specs.declared.segment.Segment.{Segment}

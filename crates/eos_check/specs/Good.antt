@@ -16,7 +16,7 @@ use Rattle.eos_check.specs.PartitionRules.{KeepsRules}
 -- the log of this partition, whose batches are whole, sequenced and fenced
 pub record IsKeptLog (p : Partition) (log : PartLog) : Type 0 where
   pub batches : List Batch
-  pub read : IsReadFrom p.end.topic p.end.partition p.end.end batches log
+  pub read : IsReadFrom p.end.topic p.end.partition p.end.end p.segments batches log
   pub rules : KeepsRules p.end.topic p.end.end p.segments batches
 
 -- the logs of these partitions, in order

@@ -1,30 +1,17 @@
 //! The phases of the check over the logs, one after the other.
 
-ghost use Rattle.std.specs.Prelude.{◌≡◌, ◌<◌, IfOk, option_map};
+ghost use Rattle.std.specs.Prelude.{◌≡◌, ◌<◌, IfOk};
 ghost use Rattle.eos_lineage.specs.EvidenceLogs.{AreLogsOf};
-ghost use Rattle.eos_check.specs.steps.Phases.{first_fault, IsMatched, IsTransacted};
+ghost use Rattle.eos_check.specs.steps.Phases.{IsMatched, IsTransacted};
 ghost use Rattle.eos_evidence.specs.Evidence.{EvidenceParts, IsEvidence};
 
 use crate::shards::least_fault;
 use crate::verdict::Fault;
-use eos_fold::{Part, PartitionFault};
+use eos_fold::{Part, PartitionFault, first_fault};
 use eos_table::{TxnTable, txn_log};
 use eos_txnlog::Decision;
 use std::alloc::{AllocError, Global};
 use std::thread::Threads;
-
-/// The fault of the first partition that has one.
-fn first_fault(parts: &[Part]) -> Option<&PartitionFault>
-    ensures { option_map (λ f. f.now) result ≡ first_fault parts.now }
-{
-    for part in parts {
-        let fault = part.fault();
-        if fault.is_some() {
-            return fault;
-        }
-    }
-    None
-}
 
 /// An equal fault, which shares the bytes.
 fn copied(fault: &PartitionFault) -> Result<PartitionFault, AllocError>

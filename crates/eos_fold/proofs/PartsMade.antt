@@ -9,6 +9,7 @@ use Rattle.eos_fold.specs.Closes.{closes_in}
 use Rattle.eos_fold.proofs.ClosesRead.{closes_read}
 use Rattle.eos_touch.specs.declared.fault.PartitionFault.{PartitionFault}
 use Rattle.eos_fold.specs.declared.summary.Summary.{Summary}
+use Rattle.eos_fold.specs.LeastFaults.{IsFaultIn}
 use Rattle.eos_fold.specs.Parts.{PartLog, Rises}
 use Rattle.eos_fold.specs.Standing.{IsPartitionFault, AreOf}
 use Rattle.eos_summary.specs.Settling.{data_in}
@@ -28,18 +29,17 @@ same_data topic segments s w = w.keeps.known.items
 pub rise : (topic : List ℕ) (segments : List Segment) (s : Summary) (items : List Item) → IsWhole topic segments s → items ≡ items_of s.run.index.batches → Rises items
 rise topic segments s items w e = subst Rises (sym (e ∙ ap items_of (same_data topic segments s w))) (items_rise 0 w.batches (front_steady 0 segments w.batches s.stop w.front).continuous)
 
--- the least fault, by names and numbers as a call passes them
-pub fault_as : (topic topic' : List ℕ) (number number' end end' : ℤ) (s : Summary) (f : Option PartitionFault) → topic' ≡ topic → number' ≡ number → end' ≡ end
-    → ((segments : List Segment) (w : IsWhole topic' segments s) → IsPartitionFault topic' number' end' w.batches s.stop f) → (segments : List Segment) (w : IsWhole topic segments s) → IsPartitionFault topic number end w.batches s.stop f
-fault_as topic topic' number number' end end' s f a b c h =
-    subst (λ (t : List ℕ). (segments : List Segment) (w : IsWhole t segments s) → IsPartitionFault t number end w.batches s.stop f) a
-    (subst (λ (n : ℤ). (segments : List Segment) (w : IsWhole topic' segments s) → IsPartitionFault topic' n end w.batches s.stop f) b
-    (subst (λ (e : ℤ). (segments : List Segment) (w : IsWhole topic' segments s) → IsPartitionFault topic' number' e w.batches s.stop f) c h))
+-- the least fault, of the topic and the segments as they are kept
+pub fault_in : (topic topic' : List ℕ) (number end : ℤ) (segments kept : List Segment) (s : Summary) (f : Option PartitionFault) → topic' ≡ topic → kept ≡ segments
+    → IsWhole topic segments s → ((ss : List Segment) (w : IsWhole topic' ss s) → IsPartitionFault topic' number end w.batches s.stop f) → IsFaultIn topic number end kept f
+fault_in topic topic' number end segments kept s f a same w h =
+    let least = subst (λ (t : List ℕ). (ss : List Segment) (v : IsWhole t ss s) → IsPartitionFault t number end v.batches s.stop f) a h in
+    subst (λ (ss : List Segment). IsFaultIn topic number end ss f) (sym same) (record { batches = w.batches; stop = s.stop; front = w.front; least = least segments w })
 
 pub part_of : (topic : List ℕ) (number end : ℤ) (segments : List Segment) (s : Summary) (w : IsWhole topic segments s) (part : PartLog)
-    → part.topic ≡ topic → part.number ≡ number → part.end ≡ end → IsPartitionFault topic number end w.batches s.stop part.fault → part.items ≡ items_of s.run.index.batches → part.markers ≡ s.markers.items
+    → part.topic ≡ topic → part.number ≡ number → part.end ≡ end → part.segments ≡ segments → part.items ≡ items_of s.run.index.batches → part.markers ≡ s.markers.items
     → AreCloses (closes_in s.run.index.batches) part.closes → IsPartOf topic number end segments part
-part_of topic number end segments s w part a b c f items markers closes = record {
+part_of topic number end segments s w part a b c d items markers closes = record {
   batches = w.batches;
   stop = s.stop;
   front = w.front;
@@ -47,11 +47,11 @@ part_of topic number end segments s w part a b c f items markers closes = record
     of_topic = a;
     of_number = b;
     until = c;
+    of_segments = d;
     items = items ∙ ap items_of (same_data topic segments s w);
     markers = markers ∙ w.keeps.markers;
     closes = subst (λ (all : List Close). (close : Close) → Has part.closes close ↔ Has all close) (ap closes_in (same_data topic segments s w) ∙ closes_read w.batches) closes.members;
   };
   rises = rise topic segments s part.items w items;
   ascends = closes.ascend;
-  fault = f;
 }

@@ -4,4 +4,5 @@ pub mod Fronts
 pub mod Sums
 pub mod Standing
 pub mod Whole
+pub mod LeastFaults
 pub mod steps

@@ -1,22 +1,22 @@
 -- What a partition's log holds, as the rest of the checker sees it.
 -- Sources: Kafka's documentation, Message Format ("Control Batches"), and KIP-98 (read_committed).
-use Rattle.std.specs.Prelude.{◌≡◌, ◌<◌, ℕ, ℤ, true, List, Option}
+use Rattle.std.specs.Prelude.{◌≡◌, ◌<◌, ℕ, ℤ, true, List}
 use Rattle.std.specs.List.{AllPairs}
 use Rattle.std.specs.Ordering.{is_lt}
 use Rattle.eos_base.specs.declared.partition_name.PartitionName.{PartitionName}
 use Rattle.eos_batch.specs.declared.marker.Marker.{Marker}
+use Rattle.eos_evidence.specs.declared.segment.Segment.{Segment}
 use Rattle.eos_items.specs.declared.item.Item.{Item}
 use Rattle.eos_fold.specs.declared.close.Close.{Close}
-use Rattle.eos_touch.specs.declared.fault.PartitionFault.{PartitionFault}
 use Rattle.eos_fold.specs.Closes.{close_cmp}
 
--- A partition's topic and number, its declared end, the least fault of its log, and of its front the data records, the
--- closes and the end markers.
+-- A partition's topic and number, its declared end and its segments, and of its front the data records, the closes and the
+-- end markers.
 pub record PartLog : Type 0 where
   pub topic : List ℕ
   pub number : ℤ
   pub end : ℤ
-  pub fault : Option PartitionFault
+  pub segments : List Segment
   pub items : List Item
   pub closes : List Close
   pub markers : List Marker

@@ -19,6 +19,6 @@ pub use eos_summary::EndMark;
 pub use eos_touch::{PairFault, PartitionFault, PartitionFaultKind, Touch, pair_ok};
 pub use many::summarise;
 pub use named::Named;
-pub use part::Part;
+pub use part::{Part, first_fault};
 pub use stop::Stop;
 pub use summary::Summary;

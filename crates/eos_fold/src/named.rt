@@ -93,11 +93,12 @@ impl Named {
         }
     }
 
-    /// Its summary, without the segments.
-    pub(crate) fn into_summary(self) -> Summary
-        ensures { IsSummaryOf self.segments result }
+    /// Its segments, in order, and their summary.
+    pub(crate) fn into_parts(self) -> (Vec<Segment>, Summary)
+        ensures segments { result.0.items ≡ self.segments }
+        ensures summary { IsSummaryOf self.segments result.1 }
     {
-        self.summary
+        (self.segments, self.summary)
     }
 
     /// The numbers of its pieces: the first and the last.

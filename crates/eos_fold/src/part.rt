@@ -3,6 +3,7 @@
 ghost use Rattle.std.specs.Prelude.{◌≡◌, IfOk};
 ghost use Rattle.std.specs.Option.{option_map};
 ghost use Rattle.eos_fold.specs.Parts.{Rises, Ascends};
+ghost use Rattle.eos_fold.specs.LeastFaults.{IsFaultOf, IsFirstFault};
 ghost use Rattle.eos_fold.specs.Standing.{AreOf};
 ghost use Rattle.eos_fold.specs.Whole.{segments_in, IsPartOf};
 
@@ -12,6 +13,7 @@ use crate::summary::Summary;
 use crate::whole::{least_fault, of_all};
 use bytes::Bytes;
 use eos_batch::Marker;
+use eos_evidence::Segment;
 use eos_items::Items;
 use eos_touch::PartitionFault;
 use std::alloc::{AllocError, Global};
@@ -23,6 +25,7 @@ pub struct Part {
     topic: Bytes,
     partition: i32,
     end: i64,
+    segments: Vec<Segment>,
     fault: Option<PartitionFault>,
     items: Items,
     closes: Vec<Close>,
@@ -30,13 +33,14 @@ pub struct Part {
 }
 
 impl Model for Part {
+    ghost use Rattle.eos_fold.specs.LeastFaults.{IsFaultIn};
     ghost use Rattle.eos_fold.specs.Parts.{PartLog, Rises, Ascends};
 
     ghost Value = { PartLog };
 
-    ghost view = { λ p. record { topic = p.topic; number = p.partition; end = p.end; fault = p.fault; items = p.items; closes = p.closes.items; markers = p.markers.items } };
+    ghost view = { λ p. record { topic = p.topic; number = p.partition; end = p.end; segments = p.segments.items; items = p.items; closes = p.closes.items; markers = p.markers.items } };
 
-    ghost invariant = { λ p. Rises p.items × Ascends p.closes.items };
+    ghost invariant = { λ p. Rises p.items × Ascends p.closes.items × IsFaultIn p.topic p.partition p.end p.segments.items p.fault };
 }
 
 impl Part {
@@ -54,7 +58,7 @@ impl Part {
         requires { AreOf topic partition (segments_in run) }
         ensures { IfOk result (IsPartOf topic partition end (segments_in run)) }
     {
-        let summary = of_all(alloc, &topic, run);
+        let (segments, summary) = of_all(alloc, &topic, run);
         let fault = least_fault(&summary, topic.clone()?, partition, end);
         let Summary { markers, run, .. } = summary;
         let index = run.into_index();
@@ -63,6 +67,7 @@ impl Part {
             topic,
             partition,
             end,
+            segments,
             fault,
             items: Items::new(index),
             closes,
@@ -93,7 +98,7 @@ impl Part {
 
     /// The least fault of the partition's log, if one stands.
     pub fn fault(&self) -> Option<&PartitionFault>
-        ensures { option_map (λ f. f.now) result ≡ self.now.fault }
+        ensures { IsFaultOf self.now (option_map (λ f. f.now) result) }
     {
         self.fault.as_ref()
     }
@@ -120,4 +125,17 @@ impl Part {
     {
         self.markers.as_slice()
     }
+}
+
+/// The least fault of the first of these logs that has one. With logs in the order of their partitions it is the least of all.
+pub fn first_fault(parts: &[Part]) -> Option<&PartitionFault>
+    ensures { IsFirstFault parts.now (option_map (λ f. f.now) result) }
+{
+    for part in parts {
+        let fault = part.fault();
+        if fault.is_some() {
+            return fault;
+        }
+    }
+    None
 }

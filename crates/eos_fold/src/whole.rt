@@ -14,6 +14,7 @@ use crate::named::Named;
 use crate::stop::Stop;
 use crate::summary::{Summary, is_checked};
 use bytes::Bytes;
+use eos_evidence::Segment;
 use eos_summary::{BatchSummary, Fault};
 use eos_touch::{PartitionFault, PartitionFaultKind};
 use std::alloc::Global;
@@ -36,22 +37,23 @@ fn nothing(alloc: Global, topic: &Bytes, stop: Stop) -> Summary
     }
 }
 
-/// What a run says as the whole list of a partition's segments: the first of them has to be named 0.
-pub(crate) fn of_all(alloc: Global, topic: &Bytes, run: Option<Named>) -> Summary
+/// A run as the whole list of a partition's segments, and what it says so: the first of them has to be named 0.
+pub(crate) fn of_all(alloc: Global, topic: &Bytes, run: Option<Named>) -> (Vec<Segment>, Summary)
     requires { BeginsIn topic.now (segments_in run) }
-    ensures { IsWhole topic.now (segments_in run) result }
+    ensures segments { result.0.items ≡ segments_in run }
+    ensures whole { IsWhole topic.now (segments_in run) result.1 }
 {
     let Some(run) = run else {
-        return nothing(alloc, topic, Stop::AtEnd);
+        return (Vec::new(alloc), nothing(alloc, topic, Stop::AtEnd));
     };
-    let summary = run.into_summary();
+    let (segments, summary) = run.into_parts();
     if summary.begin == 0 {
-        return summary;
+        return (segments, summary);
     }
     let stop = Stop::Elsewhere {
         found: summary.begin,
     };
-    nothing(alloc, topic, stop)
+    (segments, nothing(alloc, topic, stop))
 }
 
 /// Whether a front ends where its log was declared to end.

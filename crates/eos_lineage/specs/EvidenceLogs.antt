@@ -1,6 +1,5 @@
 -- The logs of an evidence: for each partition what its segments say; and what is asked of all of them at once.
-use Rattle.std.specs.Prelude.{List, [], ◌∷◌, ⊤, Bool, is_some}
-use Rattle.std.specs.List.{list_any}
+use Rattle.std.specs.Prelude.{List, [], ◌∷◌, ⊤}
 use Rattle.eos_evidence.specs.declared.application.App.{App}
 use Rattle.eos_evidence.specs.declared.partition.Partition.{Partition}
 use Rattle.eos_fold.specs.Parts.{PartLog}
@@ -18,10 +17,6 @@ AreLogsOf [] [] = ⊤
 AreLogsOf [] (l ∷ ls) = ⊥
 AreLogsOf (p ∷ ps) [] = ⊥
 AreLogsOf (p ∷ ps) (l ∷ ls) = IsLogOf p l × AreLogsOf ps ls
-
--- a partition's log has a fault: then it isn't known which records are visible
-abbrev pub has_fault : List PartLog → Bool
-has_fault logs = list_any (λ p. is_some p.fault) logs
 
 -- the commits of an application's group under its source topics, in the order of their log (KIP-98, "AddOffsetCommitsToTxn";
 -- KIP-447)

@@ -1,10 +1,12 @@
 -- The notes of an evidence: signs that it isn't the one that was meant, in the order in which `check` prints them. They change no
 -- verdict.
-use Rattle.std.specs.Prelude.{◌≡◌, Bool, true, false, List, ◌++◌}
+use Rattle.std.specs.Prelude.{◌≡◌, Bool, true, false, List, ◌++◌, Option, is_some}
 use Rattle.eos_evidence.specs.Evidence.{EvidenceParts}
 use Rattle.eos_evidence.specs.Parts.{Parts}
+use Rattle.eos_touch.specs.declared.fault.PartitionFault.{PartitionFault}
+use Rattle.eos_fold.specs.LeastFaults.{IsFirstFault}
 use Rattle.eos_fold.specs.Parts.{PartLog}
-use Rattle.eos_lineage.specs.EvidenceLogs.{AreLogsOf, has_fault}
+use Rattle.eos_lineage.specs.EvidenceLogs.{AreLogsOf}
 use Rattle.eos_notes.specs.declared.note.Note.{Note}
 use Rattle.eos_notes.specs.ManifestNotes.{absent_topics, gaps, absent_internals}
 use Rattle.eos_notes.specs.CommitNotes.{AreUnlistedNotes, past_ends, nothing_committed, behind}
@@ -26,4 +28,5 @@ AreNotesBy spec logs false notes = (unlisted : List Note) × AreUnlistedNotes sp
 
 -- of the evidence, over its logs as the verdict sees them
 abbrev pub AreNotes : EvidenceParts → List Note → Type 0
-AreNotes e notes = (logs : List PartLog) × AreLogsOf e.partitions logs × AreNotesBy e.spec logs (has_fault logs) notes
+AreNotes e notes =
+    (logs : List PartLog) × AreLogsOf e.partitions logs × (fault : Option PartitionFault) × IsFirstFault logs fault × AreNotesBy e.spec logs (is_some fault) notes

@@ -2,7 +2,7 @@
 
 ghost use Rattle.std.specs.Prelude.{◌≡◌, ◌++◌, [], false, List, map, IfOk, OnOk, IsPermutation};
 ghost use Rattle.eos_base.specs.Members.{Has};
-ghost use Rattle.eos_lineage.specs.EvidenceLogs.{AreLogsOf, commits_for, has_fault as has_fault_in};
+ghost use Rattle.eos_lineage.specs.EvidenceLogs.{AreLogsOf, commits_for};
 ghost use Rattle.eos_claims.specs.Outputs.{committed_offset};
 ghost use Rattle.eos_commits.specs.Faults.{AreInOrder};
 ghost use Rattle.eos_commits.specs.Plain.{plain_commit};
@@ -19,7 +19,7 @@ use crate::note::Note;
 use crate::unlisted::unlisted_notes;
 use eos_commits::{CommitRef, CommitTable, TopicSet};
 use eos_evidence::{App, End, Evidence, Spec};
-use eos_fold::Part;
+use eos_fold::{Part, first_fault};
 use eos_lineage::committed_offsets;
 use std::alloc::{AllocError, Global};
 
@@ -170,13 +170,6 @@ fn all_notes(alloc: Global, spec: &Spec, parts: &[Part]) -> Result<Vec<Note>, Al
     Ok(all)
 }
 
-// Whether the log of a partition has a fault.
-fn has_fault(parts: &[Part]) -> bool
-    ensures { result ≡ has_fault_in parts.now }
-{
-    parts.iter().any(|part| part.fault().is_some())
-}
-
 /// The notes of an evidence whose logs these are: signs that it isn't the one that was meant. Where the log of a partition has a
 /// fault, it isn't known which records are visible, and only those are looked for that the manifest alone shows.
 ///
@@ -187,9 +180,10 @@ pub fn notes(alloc: Global, evidence: &Evidence, logs: &[Part]) -> Result<Vec<No
     ensures { IfOk result (λ notes. AreNotes evidence.now notes.items) }
 {
     let spec = evidence.spec();
-    if has_fault(logs) {
-        manifest_notes(alloc, spec)
-    } else {
-        all_notes(alloc, spec, logs)
+    if let Some(_fault) = first_fault(logs) {
+        let notes = manifest_notes(alloc, spec)?;
+        return Ok(notes);
     }
+    let notes = all_notes(alloc, spec, logs)?;
+    Ok(notes)
 }

@@ -1,14 +1,16 @@
 -- How far each application's group has got: the offsets that it has committed of the partitions that it reads (KIP-98,
 -- "AddOffsetCommitsToTxn"; KIP-447), and the visible records below them.
-use Rattle.std.specs.Prelude.{ℕ, ℤ, pos, Bool, List, map, filter, length, int_lt, Option, None, Some, if◌then◌else◌}
+use Rattle.std.specs.Prelude.{◌≡◌, ℕ, ℤ, pos, Bool, List, map, filter, length, int_lt, Option, None, Some, is_some, if◌then◌else◌}
 use Rattle.eos_base.specs.declared.partition_name.PartitionName.{PartitionName}
 use Rattle.eos_evidence.specs.declared.application.App.{App}
 use Rattle.eos_items.specs.declared.item.Item.{Item}
+use Rattle.eos_touch.specs.declared.fault.PartitionFault.{PartitionFault}
+use Rattle.eos_fold.specs.LeastFaults.{IsFirstFault}
 use Rattle.eos_fold.specs.Parts.{PartLog, part_name}
 use Rattle.eos_claims.specs.Outputs.{committed_offset}
 use Rattle.eos_commits.specs.Visible.{visible}
 use Rattle.eos_lineage.specs.Lineage.{parts_of}
-use Rattle.eos_lineage.specs.EvidenceLogs.{commits_for, has_fault}
+use Rattle.eos_lineage.specs.EvidenceLogs.{commits_for}
 use Rattle.eos_tallies.specs.declared.tally.SourceTally.{SourceTally}
 use Rattle.eos_tallies.specs.declared.tally.GroupTally.{GroupTally}
 
@@ -41,5 +43,7 @@ group_tally logs app = record {
 }
 
 -- one for each application, where no partition's log has a fault
-abbrev pub group_tallies : List PartLog → List App → Option (List GroupTally)
-group_tallies logs apps = if has_fault logs then None else Some (map (group_tally logs) apps)
+pub record AreGroupTallies (logs : List PartLog) (apps : List App) (tallies : Option (List GroupTally)) : Type 0 where
+  pub fault : Option PartitionFault
+  pub first : IsFirstFault logs fault
+  pub groups : tallies ≡ (if is_some fault then None else Some (map (group_tally logs) apps))

@@ -9,8 +9,10 @@ use Rattle.eos_evidence.specs.declared.application.App.{App}
 use Rattle.eos_evidence.specs.declared.partition.Partition.{Partition}
 use Rattle.eos_evidence.specs.declared.segment.Segment.{Segment}
 use Rattle.eos_evidence.specs.Parts.{outputs_of}
+use Rattle.eos_touch.specs.declared.fault.PartitionFault.{PartitionFault}
 use Rattle.eos_fold.specs.declared.stop.Stop.{Stop}
 use Rattle.eos_fold.specs.Fronts.{IsFront}
+use Rattle.eos_fold.specs.LeastFaults.{IsFaultOf}
 use Rattle.eos_fold.specs.Parts.{PartLog}
 use Rattle.eos_commits.specs.Commits.{Topic, is_same}
 use Rattle.eos_commits.specs.Visible.{visible}
@@ -44,8 +46,10 @@ abbrev pub bytes_in : List Segment → ℕ
 bytes_in segments = sum (map (λ s. length s.bytes) segments)
 
 -- so many visible records, where the log has no fault
-abbrev pub visible_in : PartLog → Option ℕ
-visible_in log = if is_some log.fault then None else Some (length (visible log))
+pub record AreVisibleIn (log : PartLog) (count : Option ℕ) : Type 0 where
+  pub fault : Option PartitionFault
+  pub least : IsFaultOf log fault
+  pub counted : count ≡ (if is_some fault then None else Some (length (visible log)))
 
 -- of a partition and its log, by the roles of topics
 pub record IsPartitionTally (roles : Topic → TopicRoles) (p : Partition) (log : PartLog) (tally : PartitionTally) : Type 0 where
@@ -55,7 +59,7 @@ pub record IsPartitionTally (roles : Topic → TopicRoles) (p : Partition) (log 
   pub end : tally.end ≡ p.end.end
   pub batches : HasBatches p.segments tally.batches
   pub data_records : tally.data_records ≡ length log.items
-  pub visible_records : tally.visible_records ≡ visible_in log
+  pub visible_records : AreVisibleIn log tally.visible_records
   pub segments : tally.segments ≡ length p.segments
   pub bytes : tally.bytes ≡ bytes_in p.segments
 

@@ -6,8 +6,8 @@ ghost use Rattle.eos_claims.specs.Outputs.{committed_offset};
 ghost use Rattle.eos_commits.specs.Faults.{AreInOrder};
 ghost use Rattle.eos_fold.specs.Parts.{part_name};
 ghost use Rattle.eos_lineage.specs.Lineage.{is_part_of};
-ghost use Rattle.eos_lineage.specs.EvidenceLogs.{commits_for, has_fault as has_fault_in};
-ghost use Rattle.eos_tallies.specs.GroupTallies.{source_tally, source_tally_at, group_tally as tally_of_group, group_tallies};
+ghost use Rattle.eos_lineage.specs.EvidenceLogs.{commits_for};
+ghost use Rattle.eos_tallies.specs.GroupTallies.{source_tally, source_tally_at, group_tally as tally_of_group, AreGroupTallies};
 ghost use Rattle.eos_tallies.specs.steps.Counted.{source_if};
 
 use crate::records::count_below;
@@ -15,7 +15,7 @@ use crate::tally::{GroupTally, SourceTally};
 use eos_base::Listed;
 use eos_commits::{TopicSet, commits_of};
 use eos_evidence::App;
-use eos_fold::Part;
+use eos_fold::{Part, first_fault};
 use eos_lineage::committed_offsets;
 use std::alloc::{AllocError, Global};
 
@@ -107,13 +107,6 @@ fn all_groups(alloc: Global, apps: &[App], parts: &[Part]) -> Result<Vec<GroupTa
     Ok(all)
 }
 
-// Whether the log of a partition has a fault.
-fn has_fault(parts: &[Part]) -> bool
-    ensures { result ≡ has_fault_in parts.now }
-{
-    parts.iter().any(|part| part.fault().is_some())
-}
-
 /// One for each application, in order, where no partition's log has a fault.
 ///
 /// # Errors
@@ -124,9 +117,9 @@ pub(crate) fn group_tallies_of(
     logs: &[Part],
 ) -> Result<Option<Listed<GroupTally>>, AllocError>
     requires { AreInOrder logs.now }
-    ensures { IfOk result (λ groups. groups ≡ group_tallies logs.now apps.now) }
+    ensures { IfOk result (AreGroupTallies logs.now apps.now) }
 {
-    if has_fault(logs) {
+    if let Some(_fault) = first_fault(logs) {
         return Ok(None);
     }
     let all = all_groups(alloc, apps, logs)?;

@@ -7,7 +7,7 @@ ghost use Rattle.eos_base.specs.Members.{is_found};
 ghost use Rattle.eos_lineage.specs.EvidenceLogs.{AreLogsOf};
 ghost use Rattle.eos_commits.specs.Commits.{is_same as is_same_text};
 ghost use Rattle.eos_evidence.specs.Parts.{outputs_of as outputs_in};
-ghost use Rattle.eos_tallies.specs.PartitionTallies.{sources_of as sources_in, roles_by, bytes_in, visible_in, IsPartitionTally, roles_of, ArePartitionTallies};
+ghost use Rattle.eos_tallies.specs.PartitionTallies.{sources_of as sources_in, roles_by, bytes_in, AreVisibleIn, IsPartitionTally, roles_of, ArePartitionTallies};
 
 use crate::fronts::count_batches;
 use crate::records::{count_visible, sum};
@@ -83,9 +83,9 @@ fn count_bytes(segments: &[Segment]) -> Result<u64, AllocError>
 
 // The visible records, where the log has no fault.
 fn visible_of(log: &Part) -> Result<Option<u64>, AllocError>
-    ensures { IfOk result (λ n. n ≡ visible_in log.now) }
+    ensures { IfOk result (AreVisibleIn log.now) }
 {
-    if log.fault().is_some() {
+    if let Some(_fault) = log.fault() {
         return Ok(None);
     }
     let count = count_visible(log)?;

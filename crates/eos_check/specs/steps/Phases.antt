@@ -1,9 +1,7 @@
 -- What the check makes and looks at on its way. For its private steps.
-use Rattle.std.specs.Prelude.{◌≡◌, ℕ, List, [], ◌∷◌, length, Option, None, Result, Ok, Err}
-use Rattle.std.specs.Option.{option_or}
+use Rattle.std.specs.Prelude.{◌≡◌, ℕ, List, length, Result, Ok, Err}
 use Rattle.eos_base.specs.Least.{NoneStands, IsLeast}
 use Rattle.eos_evidence.specs.Evidence.{EvidenceParts}
-use Rattle.eos_touch.specs.declared.fault.PartitionFault.{PartitionFault}
 use Rattle.eos_fold.specs.Parts.{PartLog}
 use Rattle.eos_txnlog.specs.declared.decision.Decision.{Decision}
 use Rattle.eos_table.specs.declared.match_fault.MatchFault.{MatchFault}
@@ -14,11 +12,6 @@ use Rattle.eos_check.specs.declared.verdict.Fault.TheVariants.{Match}
 use Rattle.eos_check.specs.declared.verdict.Verdict.TheVariants.{No}
 use Rattle.eos_lineage.specs.EvidenceLogs.{AreLogsOf}
 use Rattle.eos_check.specs.Verdicts.{StandsInPartitions, StandsInLog, StandsInMatching, IsVerdictOf}
-
--- the fault of the first partition that has one
-abbrev pub first_fault : List PartLog → Option PartitionFault
-first_fault [] = None
-first_fault (l ∷ ls) = option_or l.fault (first_fault ls)
 
 -- what the matching of these decisions answers: their number, or the least fault
 abbrev pub IsMatched : List Decision → List PartLog → Result ℕ Fault → Type 0
