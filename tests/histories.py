@@ -236,6 +236,20 @@ def worked():
     none_there = [it if it["number"] != 21 else it | {"claim": {**first, "topic": "out", "partition": 1, "offset": 1}} for it in second]
     answer = replayed(chain, *deeds[:14], *none_there)
     expect(answer[0] == 0 and "\nno 5." in answer[1], f"an input that is no record: {answer}")
+    # the producer epochs of an application are spent: none of its sessions begins or goes on, and another application's does
+    last = 32766
+    spent = [
+        *(event(1, "start", application=0, reply="done", value=session) for session in range(last + 1)),
+        event(2, "start", application=0, reply="epochs-spent"),
+        event(3, "end", session=last, kind="abort", reply="done", value=0),
+        event(4, "deliver", message=0, reply="done", value=1),
+        event(5, "resume", session=last, reply="epochs-spent"),
+        event(6, "start", application=0, reply="epochs-spent"),
+        event(7, "start", application=1, reply="done", value=last + 1),
+    ]
+    answer = (0, "wrote partitions=6\nyes transactions=0 inputs=0 outputs=0\n", "")
+    found = replayed({**HEAD, "segment_records": 1000}, *spent)
+    expect(found == answer, f"epochs that are spent: {found}")
     # cut before the end: a transaction is open
     expect(replayed(HEAD, *deeds[:9]) == (2, "", "eoscheck: the cluster is not at rest\n"), "a schedule that is cut")
     # nothing happens

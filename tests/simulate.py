@@ -1,14 +1,15 @@
 #!/usr/bin/env -S python3 -B
 """What `simulate` writes: `check` says yes to it, each switch gives its fault, `dump` reads it back.
 
-    tests/simulate.py PROGRAM [REFUSE.SO [SEEDS]]
+    tests/simulate.py PROGRAM [REFUSE.SO [SEEDS]] [--wide]
 
 SEEDS (200) scripts of 50 to 2,000 events each, and each switch with 20 of them, after the script and, with 5, inside it. Every
 fifth folder is read back by `dump`, and every tenth's verdict compared with that of tests/reference.py too. Then random sizes
 and rates, half of them with a second group, each rate's least and most, each mishap with 8 seeds, several switches and mishaps
 at once; with a second group each switch with 5 seeds, and its mishap with 8, at the first record that suits and at a chosen one;
-and the tables of docs/SIMULATOR.md, the help and these lists say the same. With REFUSE.SO (tests/refuse.c, built) the allocations of a run are
-refused, each in turn. Prints what is wrong, and as its last line 'N passed, N failed'.
+and the tables of docs/SIMULATOR.md, the help and these lists say the same. With --wide each switch and mishap with 20 seeds, all
+by tests/reference.py too, and 50 seeds with each of twenty random settings. With REFUSE.SO (tests/refuse.c, built) the
+allocations of a run are refused, each in turn. Prints what is wrong, and as its last line 'N passed, N failed'.
 """
 import concurrent.futures
 import filecmp
@@ -85,6 +86,9 @@ SIZES = {
     "segment-records": (1, 1000, 16),
     "batch-records": (1, 1000, 1),
 }
+
+# What is said of each switch and mishap is asked of 20 seeds, not of a few.
+wide = "--wide" in sys.argv
 
 passed = failed = 0
 
@@ -169,18 +173,19 @@ def switched(name, seed):
     wrote = simulate(seed, events_of(seed) % 400, folder, "--switch", name)
     said = run("check", "--workers", 1 + seed % 4, folder)
     notes = notes_reference.lines(folder)
-    behind = kinds_in(folder) if seed < 4 else set()
+    behind = kinds_in(folder) if wide or seed < 4 else set()
+    second = not wide or reference.verdict(folder) + "\n" == said[1]
     shutil.rmtree(folder)
-    if not behind <= {SWITCHES[name].split()[0], *BEHIND[name]}:
+    if not second or not behind <= {SWITCHES[name].split()[0], *BEHIND[name]}:
         return False
     return wrote == (0, WROTE, "") and said[0] == 1 and said[1].startswith(f"no {SWITCHES[name]} ") and said[2] == notes
 
 
-def told(folder):
+def told(folder, is_second_asked=True):
     """What `check` says of a folder with 1 and 4 workers, where the second program says the same, and else that it doesn't. The
     folder is taken away."""
     one, four = (run("check", "--quiet", "--workers", workers, folder) for workers in (1, 4))
-    said = reference.verdict(folder)
+    said = reference.verdict(folder) if is_second_asked else one[1].strip()
     shutil.rmtree(folder)
     return one[1].strip() if one == four and said + "\n" == one[1] else f"{one}, {four}, the reference {said}"
 
@@ -254,16 +259,15 @@ def settings(choice, without=()):
     return words, partitions
 
 
-def other_settings(number):
+def other_settings(number, seed):
     """What is wrong with a run of random sizes and rates, or None."""
-    choice = random.Random(number)
-    words, partitions = settings(choice)
-    folder = os.path.join(scratch, f"other-{number}")
-    wrote = simulate(number, 300 + number * 37 % 700, folder, *words)
+    words, partitions = settings(random.Random(number))
+    folder = os.path.join(scratch, f"other-{number}-{seed}")
+    wrote = simulate(seed, 300 + seed * 37 % 700, folder, *words)
     if wrote != (0, f"wrote partitions={partitions}\n", ""):
         return f"{words}: {wrote}"
-    said = told(folder)
-    return None if YES.fullmatch(said + "\n") else f"{words}: {said}"
+    said = told(folder, not wide or seed % 10 == 0)
+    return None if YES.fullmatch(said + "\n") else f"seed {seed}, {words}: {said}"
 
 
 def batches_of(path):
@@ -464,6 +468,10 @@ def documented():
         named = re.search(rf"\b{option.strip('`')[2:]}\s+{re.escape(rate)}[,.]", said) if option else True
         expect(named, f"the help says that {option} is {rate}")
     expect(all(f"--{name} " in said for name in [*RATES, *SIZES]), "the help has all sizes and rates")
+    for name, fault in SWITCHES.items():
+        row = re.search(rf"^  {name} +{re.escape(fault)}  .*\n((?: {{20,}}.*\n)?)", said, re.M)
+        parts = [f"behind it {', '.join(BEHIND[name])}" if BEHIND[name] else "", f"before it {', '.join(INSIDE[name])}" if INSIDE[name] else ""]
+        expect(row and row[1].strip() == "; ".join(part for part in parts if part), f"the help has what stands around the fault of {name}")
 
 
 def same_folder(one, other):
@@ -613,7 +621,7 @@ def refused_memory(library):
 
 
 def main():
-    seeds = range(1, 1 + (int(sys.argv[3]) if len(sys.argv) > 3 else 200))
+    seeds = range(1, 1 + (int(words[2]) if len(words) > 2 else 200))
     with concurrent.futures.ThreadPoolExecutor(4) as pool:
         counts = []
         for seed, (wrong, found) in zip(seeds, pool.map(good, seeds)):
@@ -624,19 +632,22 @@ def main():
         for name in SWITCHES:
             right = list(pool.map(lambda seed: switched(name, seed), seeds[:20]))
             expect(all(right), f"{name}: {right.count(False)} of {len(right)} runs don't give {SWITCHES[name]}")
-        insides(pool, seeds[:5])
+        insides(pool, seeds[: 20 if wide else 5])
         for name in MISHAPS:
-            wrong = [it for it in pool.map(lambda seed: erring(name, seed), seeds[:8]) if it]
+            wrong = [it for it in pool.map(lambda seed: erring(name, seed), seeds[: 20 if wide else 8]) if it]
             expect(not wrong, f"{name}: {wrong}")
-        wrong = [it for it in pool.map(other_settings, seeds[: max(1, len(seeds) // 5)]) if it]
+        chosen = [(number, number) for number in seeds[: max(1, len(seeds) // 5)]]
+        if wide:
+            chosen = [(number, seed) for number in range(1, 21) for seed in range(1, 51)]
+        wrong = [it for it in pool.map(lambda it: other_settings(*it), chosen) if it]
         expect(not wrong, f"other sizes and rates: {wrong}")
         wrong, largest = zip(*pool.map(batched, seeds[: max(4, len(seeds) // 5)]))
         expect(not any(wrong), f"batches of several records: {[it for it in wrong if it]}")
         expect(max(largest) > 3, f"the largest batch has {max(largest)} records")
-        chained = [(name, seed) for name in SWITCHES for seed in seeds[:5]]
+        chained = [(name, seed) for name in SWITCHES for seed in seeds[: 20 if wide else 5]]
         wrong = [it for it in pool.map(lambda it: chained_switch(*it), chained) if it]
         expect(not wrong, f"switches with two groups: {wrong}")
-        wrong = [it for it in pool.map(chained_mishap, seeds[:8]) if it]
+        wrong = [it for it in pool.map(chained_mishap, seeds[: 20 if wide else 8]) if it]
         expect(not wrong, f"the mishap of the second group: {wrong}")
     worked()
     rates()
@@ -644,12 +655,13 @@ def main():
     documented()
     refused_folders()
     bad_words()
-    if len(sys.argv) > 2:
-        refused_memory(os.path.abspath(sys.argv[2]))
+    if len(words) > 1:
+        refused_memory(os.path.abspath(words[1]))
     print(f"{passed} passed, {failed} failed")
 
 
 if __name__ == "__main__":
-    program = os.path.abspath(sys.argv[1])
+    words = [word for word in sys.argv[1:] if word != "--wide"]
+    program = os.path.abspath(words[0])
     with tempfile.TemporaryDirectory() as scratch:
         main()
