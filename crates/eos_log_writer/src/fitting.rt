@@ -1,6 +1,6 @@
 //! Whether what stands in a log fits the fields of its batches.
 
-ghost use Rattle.std.specs.Prelude.{◌≡◌, ◌^◌, ◌&&◌, length, nat_lt, nat_le};
+ghost use Rattle.std.specs.Prelude.{◌≡◌, ◌^◌, ◌&&◌, ◌+◌, length, nat_lt, nat_le};
 ghost use Rattle.std.specs.List.{list_all};
 ghost use Rattle.eos_machine.specs.Places.{IsConfig, application_count};
 ghost use Rattle.eos_machine.specs.Sessions.{claimed_topic};
@@ -56,6 +56,29 @@ fn is_entry_fit(config: Config, application: usize, entry: &Entry) -> bool
         && are_all_there(config, entry.partitions.as_slice())
 }
 
+/// Whether by whom and when a batch was appended fits.
+fn is_origin_fit(config: Config, application: usize, epoch: u16, event: u64) -> bool
+    requires { IsConfig config }
+    ensures { result ≡ (nat_lt application (application_count config) && nat_lt epoch (2 ^ 15) && nat_lt event (2 ^ 63)) }
+{
+    application < config.application_count() && epoch < EPOCHS && event < NUMBERS
+}
+
+/// Whether what an output says fits.
+fn is_output_fit(sequence: u32, claim: &Option<Claim>, value: u64) -> bool
+    ensures { result ≡ (nat_lt sequence (2 ^ 31) && nat_le (length (claimed_topic claim.now)) 249 && nat_lt value (2 ^ 63)) }
+{
+    sequence < SEQUENCES && is_topic_fit(claim) && value < NUMBERS
+}
+
+/// Whether there is such a source.
+fn is_source_fit(config: Config, source: usize) -> bool
+    requires { IsConfig config }
+    ensures { result ≡ nat_lt source (config.inputs + config.outputs) }
+{
+    source < config.inputs + config.outputs
+}
+
 /// Whether an item fits.
 fn is_fit(config: Config, item: &Item) -> bool
     requires { IsConfig config }
@@ -76,12 +99,8 @@ fn is_fit(config: Config, item: &Item) -> bool
             value,
             event,
         } => {
-            *application < config.application_count()
-                && *epoch < EPOCHS
-                && *sequence < SEQUENCES
-                && is_topic_fit(claim)
-                && *value < NUMBERS
-                && *event < NUMBERS
+            is_origin_fit(config, *application, *epoch, *event)
+                && is_output_fit(*sequence, claim, *value)
         }
         Item::Offset {
             application,
@@ -89,18 +108,13 @@ fn is_fit(config: Config, item: &Item) -> bool
             source,
             event,
             ..
-        } => {
-            *application < config.application_count()
-                && *epoch < EPOCHS
-                && *source < config.inputs + config.outputs
-                && *event < NUMBERS
-        }
+        } => is_origin_fit(config, *application, *epoch, *event) && is_source_fit(config, *source),
         Item::Marker {
             application,
             epoch,
             event,
             ..
-        } => *application < config.application_count() && *epoch < EPOCHS && *event < NUMBERS,
+        } => is_origin_fit(config, *application, *epoch, *event),
     }
 }
 
