@@ -9,11 +9,12 @@ use Rattle.eos_base.specs.declared.partition_name.PartitionName.{PartitionName}
 use Rattle.eos_touch.specs.declared.fault.PartitionFaultKind.{PartitionFaultKind}
 use Rattle.eos_touch.specs.declared.fault.PartitionFaultKind.TheVariants.{BadBatch, Gap, Pair, End, OpenAtEnd}
 use Rattle.eos_table.specs.declared.log_fault.LogFaultKind.{LogFaultKind}
-use Rattle.eos_table.specs.declared.log_fault.LogFaultKind.TheVariants.{BadRecord, Step, SplitId, SharedProducer, Unfinished}
+use Rattle.eos_table.specs.declared.log_fault.LogFaultKind.TheVariants.{BadRecord, Step}
+use Rattle.eos_table.specs.LogFaults.{id_of}
 use Rattle.eos_claims.specs.declared.fault.OutputFault.{OutputFault}
 use Rattle.eos_claims.specs.declared.place.Place.{Place}
 use Rattle.eos_commits.specs.declared.fault.VisibleFaultKind.{VisibleFaultKind}
-use Rattle.eos_commits.specs.declared.fault.VisibleFaultKind.TheVariants.{BadLineage, BadOffset, SplitGroup, OffsetDeleted}
+use Rattle.eos_commits.specs.declared.fault.VisibleFaultKind.TheVariants.{BadOffset}
 use Rattle.eos_lineage.specs.declared.fault.LineageFault.TheVariants as lineage
 use Rattle.eos_check.specs.declared.verdict.Fault.{Fault}
 use Rattle.eos_check.specs.declared.verdict.Fault.TheVariants.{Partition as InPartition, Log, Match, Lineage}
@@ -26,7 +27,7 @@ use Rattle.eos_json_report.specs.declared.about.About.{About}
 use Rattle.eos_json_report.specs.declared.about.Times.{Times}
 use Rattle.eos_check.specs.Verdicts.{phase_of, name_of}
 use Rattle.eos_json_report.specs.Values.{count, text_value, with_partition, with_place, place_value}
-use Rattle.eos_json_report.specs.FaultValues.{with_details, with_partition_fault, with_log_details, with_log_fault, with_found, with_match_fault, with_visible_details, with_visible_fault, with_claim, with_group, with_output_fault, with_where, code_of, fault_value}
+use Rattle.eos_json_report.specs.FaultValues.{with_details, with_partition_fault, with_id, with_refusal, with_log_fault, with_found, with_match_fault, with_visible_details, with_visible_fault, with_claim, with_group, with_output_fault, with_where, code_of, fault_value}
 use Rattle.eos_json_report.specs.NoteValues.{with_note, note_value}
 use Rattle.eos_tallies.specs.declared.tally.TopicRoles.{TopicRoles}
 use Rattle.eos_tallies.specs.declared.tally.PartitionTally.{PartitionTally}
@@ -95,13 +96,16 @@ details_depth (Pair fault producer) ms q = flat _ _ ms (omega arith) q
 details_depth (End end) ms q = flat _ _ ms (omega arith) q
 details_depth (OpenAtEnd producer) ms q = flat _ _ ms (omega arith) q
 
-log_details_depth : (k : LogFaultKind) (ms : Members) → members_depth ms ≤ 2 → members_depth (with_log_details k ms) ≤ 2
-unfolding with_log_details
-log_details_depth (BadRecord fault) ms q = flat _ _ ms (omega arith) q
-log_details_depth (Step id why) ms q = flat _ _ _ (omega arith) (texts _ id ms q)
-log_details_depth (SplitId id) ms q = texts _ id ms q
-log_details_depth (SharedProducer id) ms q = texts _ id ms q
-log_details_depth (Unfinished id) ms q = texts _ id ms q
+id_depth : (id : Option (List ℕ)) (ms : Members) → members_depth ms ≤ 2 → members_depth (with_id id ms) ≤ 2
+unfolding with_id
+id_depth None ms q = q
+id_depth (Some id) ms q = texts _ id ms q
+
+refusal_depth : (k : LogFaultKind) (ms : Members) → members_depth ms ≤ 2 → members_depth (with_refusal k ms) ≤ 2
+unfolding with_refusal
+refusal_depth (BadRecord refusal) ms q = flat _ _ ms (omega arith) q
+refusal_depth (Step id why) ms q = flat _ _ ms (omega arith) q
+refusal_depth kind ms q = q
 
 found_depth : (o : Option PartitionName) (ms : Members) → members_depth ms ≤ 2 → members_depth (with_found o ms) ≤ 2
 unfolding with_found
@@ -110,10 +114,8 @@ found_depth (Some p) ms q = partition_depth 2 p.topic p.partition ms (omega arit
 
 visible_details_depth : (k : VisibleFaultKind) (ms : Members) → members_depth ms ≤ 2 → members_depth (with_visible_details k ms) ≤ 2
 unfolding with_visible_details
-visible_details_depth BadLineage ms q = q
-visible_details_depth (BadOffset fault) ms q = flat _ _ ms (omega arith) q
-visible_details_depth SplitGroup ms q = q
-visible_details_depth OffsetDeleted ms q = q
+visible_details_depth (BadOffset refusal) ms q = flat _ _ ms (omega arith) q
+visible_details_depth kind ms q = q
 
 claim_depth : (o : Option Place) (ms : Members) → members_depth ms ≤ 2 → members_depth (with_claim o ms) ≤ 2
 unfolding with_claim
@@ -132,7 +134,7 @@ output_depth group f ms q = group_depth group _ (claim_depth f.at _ (flat _ _ _ 
 where_depth : (f : Fault) (ms : Members) → members_depth ms ≤ 2 → members_depth (with_where f ms) ≤ 2
 unfolding with_where with_partition_fault with_log_fault with_match_fault with_visible_fault
 where_depth (InPartition f) ms q = details_depth f.kind _ (place_depth 2 f.topic f.partition f.offset ms (omega arith) q)
-where_depth (Log f) ms q = log_details_depth f.kind _ (place_depth 2 _ f.partition f.offset ms (omega arith) q)
+where_depth (Log f) ms q = refusal_depth f.kind _ (id_depth (id_of f.kind) _ (place_depth 2 _ f.partition f.offset ms (omega arith) q))
 where_depth (Match f) ms q = found_depth f.partition _ (flat _ _ _ (omega arith) (flat _ _ ms (omega arith) q))
 where_depth (Lineage (lineage.Record f)) ms q = visible_details_depth f.kind _ (place_depth 2 f.partition.topic f.partition.partition f.offset ms (omega arith) q)
 where_depth (Lineage (lineage.Output group f)) ms q = output_depth group f ms q

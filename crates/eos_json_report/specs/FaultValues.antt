@@ -12,13 +12,14 @@ use Rattle.eos_touch.specs.declared.fault.PartitionFaultKind.{PartitionFaultKind
 use Rattle.eos_touch.specs.declared.fault.PartitionFaultKind.TheVariants.{BadBatch, Gap, Pair, End, OpenAtEnd}
 use Rattle.eos_table.specs.declared.log_fault.LogFault.{LogFault}
 use Rattle.eos_table.specs.declared.log_fault.LogFaultKind.{LogFaultKind}
-use Rattle.eos_table.specs.declared.log_fault.LogFaultKind.TheVariants.{BadRecord, Step, SplitId, SharedProducer, Unfinished}
+use Rattle.eos_table.specs.declared.log_fault.LogFaultKind.TheVariants.{BadRecord, Step}
+use Rattle.eos_table.specs.LogFaults.{id_of}
 use Rattle.eos_table.specs.declared.match_fault.MatchFault.{MatchFault}
 use Rattle.eos_claims.specs.declared.fault.OutputFault.{OutputFault}
 use Rattle.eos_claims.specs.declared.place.Place.{Place}
 use Rattle.eos_commits.specs.declared.fault.VisibleFault.{VisibleFault}
 use Rattle.eos_commits.specs.declared.fault.VisibleFaultKind.{VisibleFaultKind}
-use Rattle.eos_commits.specs.declared.fault.VisibleFaultKind.TheVariants.{BadLineage, BadOffset, SplitGroup, OffsetDeleted}
+use Rattle.eos_commits.specs.declared.fault.VisibleFaultKind.TheVariants.{BadOffset}
 use Rattle.eos_lineage.specs.declared.fault.LineageFault.TheVariants as lineage
 use Rattle.eos_check.specs.declared.verdict.Fault.{Fault}
 use Rattle.eos_check.specs.declared.verdict.Fault.TheVariants.{Partition as InPartition, Log, Match, Lineage}
@@ -40,15 +41,19 @@ with_partition_fault f ms = with_details f.kind (with_place f.topic f.partition 
 
 -- ---- phase 2
 
-unfoldable pub with_log_details : LogFaultKind → Members → Members
-with_log_details (BadRecord fault) ms = put (codes "record") (string (record_fault_name fault)) ms
-with_log_details (Step id why) ms = put (codes "why") (string (step_fault_name why)) (put (codes "id") (text_value id) ms)
-with_log_details (SplitId id) ms = put (codes "id") (text_value id) ms
-with_log_details (SharedProducer id) ms = put (codes "id") (text_value id) ms
-with_log_details (Unfinished id) ms = put (codes "id") (text_value id) ms
+-- the transactional id, where one is named
+unfoldable pub with_id : Option (List ℕ) → Members → Members
+with_id None ms = ms
+with_id (Some id) ms = put (codes "id") (text_value id) ms
+
+-- why a record or a step is refused
+unfoldable pub with_refusal : LogFaultKind → Members → Members
+with_refusal (BadRecord refusal) ms = put (codes "record") (string (record_fault_name refusal)) ms
+with_refusal (Step id why) ms = put (codes "why") (string (step_fault_name why)) ms
+with_refusal kind ms = ms
 
 unfoldable pub with_log_fault : LogFault → Members → Members
-with_log_fault f ms = with_log_details f.kind (with_place (codes "__transaction_state") f.partition f.offset ms)
+with_log_fault f ms = with_refusal f.kind (with_id (id_of f.kind) (with_place (codes "__transaction_state") f.partition f.offset ms))
 
 -- ---- phase 3: the partition, where the fault is in one
 
@@ -62,10 +67,8 @@ with_match_fault f ms = with_found f.partition (put (codes "epoch") (integer f.e
 -- ---- phase 4
 
 unfoldable pub with_visible_details : VisibleFaultKind → Members → Members
-with_visible_details BadLineage ms = ms
-with_visible_details (BadOffset fault) ms = put (codes "record") (string (record_fault_name fault)) ms
-with_visible_details SplitGroup ms = ms
-with_visible_details OffsetDeleted ms = ms
+with_visible_details (BadOffset refusal) ms = put (codes "record") (string (record_fault_name refusal)) ms
+with_visible_details kind ms = ms
 
 unfoldable pub with_visible_fault : VisibleFault → Members → Members
 with_visible_fault f ms = with_visible_details f.kind (with_place f.partition.topic f.partition.partition f.offset ms)

@@ -1,11 +1,12 @@
 //! The JSON object of a fault.
 
-ghost use Rattle.std.specs.Prelude.{◌≡◌, IfOk, OnOk, string_bytes};
+ghost use Rattle.std.specs.Prelude.{◌≡◌, IfOk, OnOk, option_map, string_bytes};
 ghost use Rattle.serde_json.specs.View.{view};
 ghost use Rattle.eos_json_report.specs.steps.Held.{held};
-ghost use Rattle.eos_json_report.specs.FaultValues.{with_details, with_partition_fault, with_log_details, with_log_fault, with_found, with_match_fault, with_visible_details, with_visible_fault, with_claim, with_group, with_output_fault, with_where, code_of, fault_value};
+ghost use Rattle.eos_json_report.specs.FaultValues.{with_details, with_partition_fault, with_id, with_refusal, with_log_fault, with_found, with_match_fault, with_visible_details, with_visible_fault, with_claim, with_group, with_output_fault, with_where, code_of, fault_value};
 
 use crate::object::Object;
+use bytes::Bytes;
 use eos_base::PartitionName;
 use eos_check::Fault;
 use eos_claims::{OutputFault, Place};
@@ -95,23 +96,29 @@ fn put_log_fault(out: &mut Object, fault: &LogFault) -> Result<(), AllocError>
 {
     let topic = "__transaction_state";
     out.put_record(topic.as_bytes(), fault.partition, fault.offset)?;
-    put_log_details(out, &fault.kind)?;
+    put_id(out, fault.kind.id())?;
+    put_refusal(out, &fault.kind)?;
     Ok(())
 }
 
-#[tactic(auto, unfolding(crate::specs::FaultValues::with_log_details))]
-fn put_log_details(out: &mut Object, kind: &LogFaultKind) -> Result<(), AllocError>
-    ensures { OnOk result (held out.new ≡ with_log_details kind.now (held out.old)) }
+#[tactic(auto, unfolding(crate::specs::FaultValues::with_id))]
+fn put_id(out: &mut Object, id: Option<&Bytes>) -> Result<(), AllocError>
+    ensures { OnOk result (held out.new ≡ with_id (option_map (λ id. id.now) id.entry) (held out.old)) }
+{
+    match id {
+        None => Ok(()),
+        Some(id) => out.put_text("id", id.as_slice()),
+    }
+}
+
+#[tactic(auto, unfolding(crate::specs::FaultValues::with_refusal))]
+fn put_refusal(out: &mut Object, kind: &LogFaultKind) -> Result<(), AllocError>
+    ensures { OnOk result (held out.new ≡ with_refusal kind.now (held out.old)) }
 {
     match kind {
         LogFaultKind::BadRecord { record } => out.put_str("record", record.name()),
-        LogFaultKind::Step { id, why } => {
-            out.put_text("id", id.as_slice())?;
-            out.put_str("why", why.name())
-        }
-        LogFaultKind::SplitId { id }
-        | LogFaultKind::SharedProducer { id }
-        | LogFaultKind::Unfinished { id } => out.put_text("id", id.as_slice()),
+        LogFaultKind::Step { why, .. } => out.put_str("why", why.name()),
+        _ => Ok(()),
     }
 }
 
@@ -155,9 +162,7 @@ fn put_visible_details(out: &mut Object, kind: VisibleFaultKind) -> Result<(), A
 {
     match kind {
         VisibleFaultKind::BadOffset { record } => out.put_str("record", record.name()),
-        VisibleFaultKind::BadLineage
-        | VisibleFaultKind::SplitGroup
-        | VisibleFaultKind::OffsetDeleted => Ok(()),
+        _ => Ok(()),
     }
 }
 

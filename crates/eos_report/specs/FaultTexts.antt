@@ -11,14 +11,15 @@ use Rattle.eos_claims.specs.declared.fault.OutputFault.{OutputFault}
 use Rattle.eos_claims.specs.declared.place.Place.{Place}
 use Rattle.eos_commits.specs.declared.fault.VisibleFault.{VisibleFault}
 use Rattle.eos_commits.specs.declared.fault.VisibleFaultKind.{VisibleFaultKind}
-use Rattle.eos_commits.specs.declared.fault.VisibleFaultKind.TheVariants.{BadLineage, BadOffset, SplitGroup, OffsetDeleted}
+use Rattle.eos_commits.specs.declared.fault.VisibleFaultKind.TheVariants.{BadOffset}
 use Rattle.eos_touch.specs.declared.fault.PartitionFault.{PartitionFault}
 use Rattle.eos_lineage.specs.declared.fault.LineageFault.{LineageFault}
 use Rattle.eos_lineage.specs.declared.fault.LineageFault.TheVariants as lineage
 use Rattle.eos_segment.specs.Details.{details}
 use Rattle.eos_table.specs.declared.log_fault.LogFault.{LogFault}
 use Rattle.eos_table.specs.declared.log_fault.LogFaultKind.{LogFaultKind}
-use Rattle.eos_table.specs.declared.log_fault.LogFaultKind.TheVariants.{BadRecord, Step, SplitId, SharedProducer, Unfinished}
+use Rattle.eos_table.specs.declared.log_fault.LogFaultKind.TheVariants.{BadRecord, Step}
+use Rattle.eos_table.specs.LogFaults.{id_of}
 use Rattle.eos_table.specs.declared.match_fault.MatchFault.{MatchFault}
 use Rattle.eos_text.specs.Escaping.{escaped}
 use Rattle.eos_txnlog.specs.Names.{step_fault_name}
@@ -39,13 +40,18 @@ place_text p = name_text p.partition.topic p.partition.partition ++ (codes ":" +
 
 -- ---- what stood there
 
--- phase 2
+-- phase 2: the transactional id, where one is named, and why a record or a step is refused
+abbrev pub id_text : Option (List ℕ) → List ℕ
+id_text None = []
+id_text (Some id) = codes " id=" ++ escaped id
+
+abbrev pub refusal_text : LogFaultKind → List ℕ
+refusal_text (BadRecord refusal) = codes " record=" ++ record_fault_name refusal
+refusal_text (Step id why) = codes " why=" ++ step_fault_name why
+refusal_text kind = []
+
 unfoldable pub log_details : LogFaultKind → List ℕ
-log_details (BadRecord fault) = codes " record=" ++ record_fault_name fault
-log_details (Step id why) = (codes " id=" ++ escaped id) ++ (codes " why=" ++ step_fault_name why)
-log_details (SplitId id) = codes " id=" ++ escaped id
-log_details (SharedProducer id) = codes " id=" ++ escaped id
-log_details (Unfinished id) = codes " id=" ++ escaped id
+log_details kind = id_text (id_of kind) ++ refusal_text kind
 
 -- phase 3: the partition, where the fault is in one
 abbrev pub in_partition : Option PartitionName → List ℕ
@@ -54,10 +60,8 @@ in_partition (Some p) = codes " partition=" ++ name_text p.topic p.partition
 
 -- phase 4
 abbrev pub visible_details : VisibleFaultKind → List ℕ
-visible_details BadLineage = []
-visible_details (BadOffset fault) = codes " record=" ++ record_fault_name fault
-visible_details SplitGroup = []
-visible_details OffsetDeleted = []
+visible_details (BadOffset refusal) = codes " record=" ++ record_fault_name refusal
+visible_details kind = []
 
 -- phase 5: the place of the claim, where there is one, and the group, where it is named
 abbrev pub at_claim : Option Place → List ℕ

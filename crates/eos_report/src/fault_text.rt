@@ -1,9 +1,8 @@
 //! The text of a fault: its phase and number, its name, where it stands, and what stood there.
 
-ghost use Rattle.std.specs.Prelude.{◌≡◌, ◌++◌, OnOk, string_bytes, codes};
-ghost use Rattle.eos_text.specs.Escaping.{escaped};
+ghost use Rattle.std.specs.Prelude.{◌≡◌, ◌++◌, OnOk, string_bytes, option_map};
 ghost use Rattle.eos_text.specs.Adding.{Adds};
-ghost use Rattle.eos_report.specs.FaultTexts.{name_text, offset_text, place_text, log_details, in_partition, visible_details, at_claim, of_group, partition_text, log_text, match_text, visible_text, output_text, lineage_text, where_text, fault_text};
+ghost use Rattle.eos_report.specs.FaultTexts.{name_text, offset_text, place_text, id_text, refusal_text, log_details, in_partition, visible_details, at_claim, of_group, partition_text, log_text, match_text, visible_text, output_text, lineage_text, where_text, fault_text};
 
 use bytes::Bytes;
 use eos_base::PartitionName;
@@ -110,21 +109,28 @@ fn push_log(alloc: Global, out: &mut String, fault: &LogFault) -> Result<(), All
 fn push_log_details(alloc: Global, out: &mut String, kind: &LogFaultKind) -> Result<(), AllocError>
     ensures { OnOk result (Adds (string_bytes out.old) (string_bytes out.new) (log_details kind.now)) }
 {
-    match kind {
-        LogFaultKind::BadRecord { record } => push_value(out, " record=", &record.name()),
-        LogFaultKind::Step { id, why } => push_step(alloc, out, id, why.name()),
-        LogFaultKind::SplitId { id }
-        | LogFaultKind::SharedProducer { id }
-        | LogFaultKind::Unfinished { id } => push_escaped(alloc, out, " id=", id.as_slice()),
+    push_id(alloc, out, kind.id())?;
+    push_refusal(out, kind)?;
+    Ok(())
+}
+
+fn push_id(alloc: Global, out: &mut String, id: Option<&Bytes>) -> Result<(), AllocError>
+    ensures { OnOk result (Adds (string_bytes out.old) (string_bytes out.new) (id_text (option_map (λ id. id.now) id.entry))) }
+{
+    match id {
+        None => push_text(out, ""),
+        Some(id) => push_escaped(alloc, out, " id=", id.as_slice()),
     }
 }
 
-fn push_step(alloc: Global, out: &mut String, id: &Bytes, why: &str) -> Result<(), AllocError>
-    ensures { OnOk result (Adds (string_bytes out.old) (string_bytes out.new) ((codes " id=" ++ escaped id.now) ++ (codes " why=" ++ why.now))) }
+fn push_refusal(out: &mut String, kind: &LogFaultKind) -> Result<(), AllocError>
+    ensures { OnOk result (Adds (string_bytes out.old) (string_bytes out.new) (refusal_text kind.now)) }
 {
-    push_escaped(alloc, out, " id=", id.as_slice())?;
-    push_value(out, " why=", &why)?;
-    Ok(())
+    match kind {
+        LogFaultKind::BadRecord { record } => push_value(out, " record=", &record.name()),
+        LogFaultKind::Step { why, .. } => push_value(out, " why=", &why.name()),
+        _ => push_text(out, ""),
+    }
 }
 
 // ---- phase 3
@@ -188,9 +194,7 @@ fn push_visible_details(out: &mut String, kind: VisibleFaultKind) -> Result<(), 
 {
     match kind {
         VisibleFaultKind::BadOffset { record } => push_value(out, " record=", &record.name()),
-        VisibleFaultKind::BadLineage
-        | VisibleFaultKind::SplitGroup
-        | VisibleFaultKind::OffsetDeleted => push_text(out, ""),
+        _ => push_text(out, ""),
     }
 }
 
