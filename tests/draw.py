@@ -230,12 +230,27 @@ def check_shapes(what, folder, root, printed, around, line):
         kinds = ["committed", "aborted", "open", "commit-marker", "abort-marker", "passed", "not-passed"]
         same(f"{what}: shapes", {it: found[it] for it in kinds}, {it: wanted[it] for it in kinds})
     same(f"{what}: columns drawn", found["column"], len(heads))
+    check_labels(what, root)
     drawn_rows = sum(1 for it in root.iter(SPACE + "line"))
     same(f"{what}: printed", printed, f"drew columns={len(heads)} rows={drawn_rows}\n")
     same(f"{what}: rows", drawn_rows == len(rows) or (drawn_rows > len(rows) and line.startswith("no")), True)
     same(f"{what}: arcs", found["fault-arc"], max(0, found["fault"] - 2))
     width, height = float(root.get("width")), float(root.get("height"))
     same(f"{what}: inside", [it.attrib for it in root.iter(SPACE + "rect") if not is_inside(it, width, height)], [])
+
+
+def check_labels(what, root):
+    """Below each ring around a box stands the offset: that in the box, or of a commit, whose box has another text, a number."""
+    words = {(int(it.get("x")), int(it.get("y"))): (it.get("class"), it.text) for it in root.iter(SPACE + "text")}
+    for it in root.iter(SPACE + "rect"):
+        x, y, high = (int(it.get(name)) for name in ("x", "y", "height"))
+        kind, inside = words.get((x + 7, y + 15), (None, ""))
+        if it.get("class") != "fault" or kind != "words" or not (inside.isdigit() or " -> " in inside):
+            continue
+        kind, label = words.get((x + 3, y + high + 11), (None, ""))
+        same(f"{what}: label at {x},{y}", (kind, label[:1], label[1:].isdigit()), ("fault-words", ":", True))
+        if inside.isdigit():
+            same(f"{what}: label of {inside}", label, ":" + inside)
 
 
 def is_inside(it, width, height):

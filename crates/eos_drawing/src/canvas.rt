@@ -6,6 +6,8 @@ use std::alloc::{AllocError, Global};
 /// What is drawn so far.
 #[derive(Drop)]
 pub(crate) struct Canvas {
+    /// Where texts and shapes are allocated.
+    pub alloc: Global,
     pub shapes: Vec<Shape>,
     /// Where the fault has its places, in the order in which they were drawn.
     pub spots: Vec<Point>,
@@ -22,6 +24,7 @@ pub(crate) fn moved(at: Point, right: u64, down: u64) -> Point {
 impl Canvas {
     pub(crate) fn new(alloc: Global) -> Canvas {
         Canvas {
+            alloc,
             shapes: Vec::new(alloc),
             spots: Vec::new(alloc),
         }
@@ -55,14 +58,9 @@ impl Canvas {
         Ok(())
     }
 
-    pub(crate) fn words(
-        &mut self,
-        alloc: Global,
-        at: Point,
-        words: &str,
-        look: Look,
-    ) -> Result<(), AllocError> {
-        self.text(at, String::from_str(alloc, words)?, look)
+    pub(crate) fn words(&mut self, at: Point, words: &str, look: Look) -> Result<(), AllocError> {
+        let text = String::from_str(self.alloc, words)?;
+        self.text(at, text, look)
     }
 
     /// A ring around a shape of this size, which is a place of the fault.

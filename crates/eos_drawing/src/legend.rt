@@ -2,49 +2,41 @@
 
 use crate::canvas::{Canvas, moved};
 use eos_svg::{Look, Point, Size};
-use std::alloc::{AllocError, Global};
+use std::alloc::AllocError;
 
 const SAMPLE: Size = Size {
     width: 16,
     height: 14,
 };
 
-fn draw_sample(
-    alloc: Global,
-    canvas: &mut Canvas,
-    at: Point,
-    look: Look,
-    words: &str,
-) -> Result<(), AllocError> {
+fn draw_sample(canvas: &mut Canvas, at: Point, look: Look, words: &str) -> Result<(), AllocError> {
     canvas.rectangle(at, SAMPLE, look)?;
-    canvas.words(alloc, moved(at, 22, 11), words, Look::Remark)
+    canvas.words(moved(at, 22, 11), words, Look::Remark)
 }
 
 /// Draws it below the rows.
-pub(crate) fn draw_legend(alloc: Global, canvas: &mut Canvas, at: Point) -> Result<(), AllocError> {
-    draw_sample(alloc, canvas, at, Look::Committed, "committed")?;
-    draw_sample(alloc, canvas, moved(at, 110, 0), Look::Aborted, "aborted")?;
-    draw_sample(
-        alloc,
-        canvas,
-        moved(at, 205, 0),
-        Look::Open,
-        "open: no end marker",
-    )?;
+pub(crate) fn draw_legend(canvas: &mut Canvas, at: Point) -> Result<(), AllocError> {
+    draw_sample(canvas, at, Look::Committed, "committed")?;
+    draw_sample(canvas, moved(at, 110, 0), Look::Aborted, "aborted")?;
+    draw_sample(canvas, moved(at, 205, 0), Look::Open, "open: no end marker")?;
     let down = moved(at, 0, 22);
     canvas.diamond(moved(down, 8, 0), Look::CommitMarker)?;
-    canvas.words(alloc, moved(down, 22, 11), "commits", Look::Remark)?;
+    canvas.words(moved(down, 22, 11), "commits", Look::Remark)?;
     canvas.diamond(moved(down, 118, 0), Look::AbortMarker)?;
-    canvas.words(alloc, moved(down, 132, 11), "aborts", Look::Remark)?;
+    canvas.words(moved(down, 132, 11), "aborts", Look::Remark)?;
     draw_sample(
-        alloc,
         canvas,
         moved(down, 205, 0),
         Look::Passed,
         "[a,b) inputs that its commit passed, dashed where it didn't hold",
     )?;
     let last = moved(down, 0, 22);
-    draw_sample(alloc, canvas, last, Look::Fault, "a place of the fault")
+    draw_sample(
+        canvas,
+        last,
+        Look::Fault,
+        "a place of the fault, its offset below",
+    )
 }
 
 /// How much room it takes.

@@ -2,6 +2,7 @@
 #![tactic(auto)]
 
 mod canvas;
+mod cells;
 mod command;
 mod headings;
 mod labels;

@@ -1,8 +1,9 @@
 //! How wide what is.
 
+use crate::cells::offset_of;
 use crate::headings::heading_of;
 use crate::labels::{digits, name_label};
-use eos_picture::{Picture, Row, Sign};
+use eos_picture::{Picture, Row};
 use std::alloc::{AllocError, Global};
 
 /// The width of a character, and more.
@@ -24,8 +25,8 @@ pub(crate) struct Plan {
     pub left: u64,
     /// Of a column.
     pub column: u64,
-    /// How many characters a line in a cell may have.
-    pub characters: usize,
+    /// How many columns have room, at least one.
+    pub columns: usize,
     /// Of a record.
     pub record: u64,
     /// How many records have room side by side, at least one.
@@ -65,20 +66,12 @@ fn heading_characters(alloc: Global, picture: &Picture) -> Result<usize, AllocEr
     Ok(most)
 }
 
-fn offset_of(sign: &Sign) -> u64 {
-    match sign {
-        Sign::Decision { offset, .. } | Sign::Record { offset, .. } => *offset,
-        Sign::Spot(Some(offset)) => *offset,
-        _ => 0,
-    }
-}
-
 /// The digits of the greatest offset that is printed.
 fn offset_digits(picture: &Picture) -> u64 {
     let mut most = 2;
     for row in picture.rows.as_slice() {
         for mark in row.marks.as_slice() {
-            most = digits(offset_of(&mark.sign)).max(most);
+            most = digits(offset_of(&mark.sign).unwrap_or(0)).max(most);
         }
     }
     most
@@ -96,7 +89,7 @@ pub(crate) fn plan_of(alloc: Global, picture: &Picture) -> Result<Plan, AllocErr
     Ok(Plan {
         left: width_of(names).saturating_add(2 * GAP),
         column,
-        characters,
+        columns: picture.columns.len().max(1),
         record,
         per_line: per_line.max(1),
     })
@@ -107,6 +100,11 @@ impl Plan {
     pub(crate) fn x_of(&self, column: u64) -> u64 {
         let pitch = self.column.saturating_add(GAP);
         self.left.saturating_add(pitch.saturating_mul(column))
+    }
+
+    /// Where the last column ends.
+    pub(crate) fn right(&self) -> u64 {
+        self.x_of(self.columns as u64)
     }
 
     /// How many lines so many records take.
