@@ -13,7 +13,7 @@ use Rattle.eos_picture.specs.declared.mark.Row.{Row}
 use Rattle.eos_picture.specs.declared.mark.Sign.{Sign}
 use Rattle.eos_picture.specs.declared.mark.Sign.TheVariants as signs
 use Rattle.eos_picture.specs.Marks.{IsSo, IsTrueAt, IsTrueOf, AreTrue, IsTrueRow, HasTrueRows}
-use Rattle.eos_picture.specs.steps.Signs.{IsOf, IsOfWriter}
+use Rattle.eos_picture.specs.Signs.{IsOf, IsOfWriter}
 
 pub one_more : (p : PartLog) (columns : List Column) (marks : List Mark) (m : Mark) → IsTrueOf p columns m → AreTrue p columns marks → AreTrue p columns (marks ++ m ∷ [])
 one_more p columns marks m now before x h = elim (append_cases marks (m ∷ []) x h) [ inl a ↦ before x a | inr b ↦ last b ]

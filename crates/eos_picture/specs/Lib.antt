@@ -1,3 +1,6 @@
 pub mod Transactions
+pub mod Signs
 pub mod Marks
+pub mod Whole
+pub mod Window
 pub mod steps

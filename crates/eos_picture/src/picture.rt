@@ -1,7 +1,11 @@
 //! The picture of an evidence.
 
-ghost use Rattle.std.specs.Prelude.{IfOk};
+ghost use Rattle.std.specs.Prelude.{◌≡◌, [], Some, None, drop, take, IfOk};
+ghost use Rattle.std.specs.Option.{option_copied};
 ghost use Rattle.eos_picture.specs.Marks.{HasTrueRows};
+ghost use Rattle.eos_picture.specs.Whole.{HasWholeRows};
+ghost use Rattle.eos_picture.specs.Window.{IsWindow, place_of};
+ghost use Rattle.eos_picture.specs.steps.Spots.{StartsAt};
 
 use crate::mark::{Column, Picture};
 use crate::passes::passes_of;
@@ -20,11 +24,34 @@ fn spots_in(
     logs: &[Part],
     columns: &[Column],
     fault: Option<&Fault>,
-) -> Result<Vec<Spot>, AllocError> {
+) -> Result<Vec<Spot>, AllocError>
+    ensures none { option_copied fault.entry ≡ None → IfOk result (λ spots. spots.items ≡ []) }
+    ensures first { (f : Fault) → option_copied fault.entry ≡ Some f → IfOk result (λ spots. StartsAt spots.items (place_of f)) }
+{
     match fault {
         None => Ok(Vec::new(alloc)),
         Some(fault) => spots_of(alloc, apps, logs, columns, fault),
     }
+}
+
+/// Those of a list behind the first ones, of which there are so many.
+fn without_first(
+    alloc: Global,
+    columns: Vec<Column>,
+    count: usize,
+) -> Result<Vec<Column>, AllocError>
+    ensures { IfOk result (λ kept. kept.items ≡ drop count columns.items) }
+{
+    let mut kept = Vec::new(alloc);
+    let mut left = count;
+    for column in columns {
+        if left > 0 {
+            left -= 1;
+        } else {
+            kept.push(column)?;
+        }
+    }
+    Ok(kept)
 }
 
 /// Those of a list that have their place from the start on, and before the end.
@@ -33,16 +60,12 @@ fn cut(
     columns: Vec<Column>,
     start: usize,
     end: usize,
-) -> Result<Vec<Column>, AllocError> {
-    let mut kept = Vec::new(alloc);
-    let mut place = 0usize;
-    for column in columns {
-        if start <= place && place < end {
-            kept.push(column)?;
-        }
-        place = place.saturating_add(1);
-    }
-    Ok(kept)
+) -> Result<Vec<Column>, AllocError>
+    ensures { IfOk result (λ kept. kept.items ≡ drop start (take end columns.items)) }
+{
+    let mut columns = columns;
+    columns.truncate(end);
+    without_first(alloc, columns, start)
 }
 
 /// The picture around a fault of an evidence whose logs these are: so many transactions on each side of the first one that has to do
@@ -59,7 +82,9 @@ pub fn picture_of(
     fault: Option<&Fault>,
     around: usize,
 ) -> Result<Picture, AllocError>
-    ensures { IfOk result (λ picture. HasTrueRows logs.now picture.columns.items picture.rows.items) }
+    ensures so { IfOk result (λ picture. HasTrueRows logs.now picture.columns.items picture.rows.items) }
+    ensures whole { IfOk result (λ picture. HasWholeRows logs.now picture.columns.items picture.rows.items) }
+    ensures window { IfOk result (IsWindow logs.now (option_copied fault.entry) around) }
 {
     let columns = columns_of(alloc, logs)?;
     let spots = spots_in(alloc, apps, logs, columns.as_slice(), fault)?;

@@ -1,11 +1,13 @@
 //! The rows of a picture: what its transactions did in a partition.
 
-ghost use Rattle.std.specs.Prelude.{◌<◌, length, slice_get, IfOk, OnOk};
+ghost use Rattle.std.specs.Prelude.{◌≡◌, ◌<◌, ◌++◌, ℕ, true, length, slice_get, IfOk, OnOk};
 ghost use Rattle.eos_base.specs.Members.{Has};
 ghost use Rattle.eos_items.specs.declared.item.Item.{Item};
-ghost use Rattle.eos_fold.specs.Parts.{part_name};
+ghost use Rattle.eos_table.specs.TransactionLog.{is_transaction_part};
 ghost use Rattle.eos_picture.specs.Marks.{IsTrueAt, AreTrue, IsTrueRow, HasTrueRows};
-ghost use Rattle.eos_picture.specs.steps.Signs.{IsOf};
+ghost use Rattle.eos_picture.specs.Signs.{IsOf};
+ghost use Rattle.eos_picture.specs.Whole.{IsAt, Shows, ShowsRecord, ShowsDecision, ShowsMarker, ShowsClose, IsWhole, IsCovered, HasWholeRows};
+ghost use Rattle.eos_picture.specs.steps.Kept.{Keeps};
 
 use crate::mark::{Column, Mark, Row, Sign};
 use crate::passes::{Pass, commit_of, is_of_offsets_log};
@@ -73,7 +75,9 @@ fn push_mark(
     sign: Sign,
 ) -> Result<(), AllocError>
     requires { IsTrueAt part.now (slice_get scene.columns.now column) sign }
-    ensures { AreTrue part.now scene.entry.columns.now marks.old.items → OnOk result (AreTrue part.now scene.entry.columns.now marks.new.items) }
+    ensures so { AreTrue part.now scene.entry.columns.now marks.old.items → OnOk result (AreTrue part.now scene.entry.columns.now marks.new.items) }
+    ensures keeps { OnOk result (Keeps marks.old.items marks.new.items) }
+    ensures shows { column < length scene.entry.columns.now → OnOk result (Shows marks.new.items (IsAt column sign)) }
 {
     let Some(of) = scene.columns.get(column) else {
         return Ok(());
@@ -97,7 +101,9 @@ fn push_decision(
     i: usize,
 ) -> Result<(), AllocError>
     requires { i < length scene.columns.now }
-    ensures { AreTrue part.now scene.entry.columns.now marks.old.items → OnOk result (AreTrue part.now scene.entry.columns.now marks.new.items) }
+    ensures so { AreTrue part.now scene.entry.columns.now marks.old.items → OnOk result (AreTrue part.now scene.entry.columns.now marks.new.items) }
+    ensures keeps { OnOk result (Keeps marks.old.items marks.new.items) }
+    ensures shows { OnOk result (ShowsDecision part.now.number scene.entry.columns.now marks.new.items i) }
 {
     let Some(decided) = &scene.columns[i].decided else {
         return Ok(());
@@ -113,7 +119,9 @@ fn push_decision(
 }
 
 fn push_decisions(marks: &mut Vec<Mark>, scene: Scene<'_>, part: &Part) -> Result<(), AllocError>
-    ensures { AreTrue part.now scene.entry.columns.now marks.old.items → OnOk result (AreTrue part.now scene.entry.columns.now marks.new.items) }
+    ensures so { AreTrue part.now scene.entry.columns.now marks.old.items → OnOk result (AreTrue part.now scene.entry.columns.now marks.new.items) }
+    ensures keeps { OnOk result (Keeps marks.old.items marks.new.items) }
+    ensures shows { OnOk result (is_transaction_part part.now ≡ true → (i : ℕ) → ShowsDecision part.now.number scene.entry.columns.now marks.new.items i) }
 {
     if !is_of_transaction_log(part) {
         return Ok(());
@@ -155,7 +163,9 @@ fn push_record(
     item: &ItemRef<'_>,
 ) -> Result<(), AllocError>
     requires { Has part.now.items item.now }
-    ensures { AreTrue part.now scene.entry.columns.now marks.old.items → OnOk result (AreTrue part.now scene.entry.columns.now marks.new.items) }
+    ensures so { AreTrue part.now scene.entry.columns.now marks.old.items → OnOk result (AreTrue part.now scene.entry.columns.now marks.new.items) }
+    ensures keeps { OnOk result (Keeps marks.old.items marks.new.items) }
+    ensures shows { OnOk result (ShowsRecord scene.entry.columns.now marks.new.items item.now) }
 {
     let Some(writer) = item.writer() else {
         return Ok(());
@@ -173,7 +183,9 @@ fn push_records(
     scene: Scene<'_>,
     part: &Part,
 ) -> Result<(), AllocError>
-    ensures { AreTrue part.now scene.entry.columns.now marks.old.items → OnOk result (AreTrue part.now scene.entry.columns.now marks.new.items) }
+    ensures so { AreTrue part.now scene.entry.columns.now marks.old.items → OnOk result (AreTrue part.now scene.entry.columns.now marks.new.items) }
+    ensures keeps { OnOk result (Keeps marks.old.items marks.new.items) }
+    ensures shows { OnOk result ((x : Item) → Has part.now.items x → ShowsRecord scene.entry.columns.now marks.new.items x) }
 {
     let mut items = part.items().cursor();
     while let Some(item) = items.next() {
@@ -183,7 +195,8 @@ fn push_records(
 }
 
 fn push_passes(marks: &mut Vec<Mark>, scene: Scene<'_>, part: &Part) -> Result<(), AllocError>
-    ensures { AreTrue part.now scene.entry.columns.now marks.old.items → OnOk result (AreTrue part.now scene.entry.columns.now marks.new.items) }
+    ensures so { AreTrue part.now scene.entry.columns.now marks.old.items → OnOk result (AreTrue part.now scene.entry.columns.now marks.new.items) }
+    ensures keeps { OnOk result (Keeps marks.old.items marks.new.items) }
 {
     for pass in scene.passes {
         if part.topic().as_slice() == pass.topic && part.partition() == pass.partition {
@@ -208,7 +221,9 @@ fn push_marker_of(
 ) -> Result<(), AllocError>
     requires inside { i < length scene.columns.now }
     requires has { Has part.now.markers marker.now }
-    ensures { AreTrue part.now scene.entry.columns.now marks.old.items → OnOk result (AreTrue part.now scene.entry.columns.now marks.new.items) }
+    ensures so { AreTrue part.now scene.entry.columns.now marks.old.items → OnOk result (AreTrue part.now scene.entry.columns.now marks.new.items) }
+    ensures keeps { OnOk result (Keeps marks.old.items marks.new.items) }
+    ensures shows { OnOk result (ShowsMarker scene.entry.columns.now marks.new.items marker.now i) }
 {
     let column = &scene.columns[i];
     let Some(decided) = &column.decided else {
@@ -227,7 +242,9 @@ fn push_marker(
     marker: &Marker,
 ) -> Result<(), AllocError>
     requires { Has part.now.markers marker.now }
-    ensures { AreTrue part.now scene.entry.columns.now marks.old.items → OnOk result (AreTrue part.now scene.entry.columns.now marks.new.items) }
+    ensures so { AreTrue part.now scene.entry.columns.now marks.old.items → OnOk result (AreTrue part.now scene.entry.columns.now marks.new.items) }
+    ensures keeps { OnOk result (Keeps marks.old.items marks.new.items) }
+    ensures shows { OnOk result ((i : ℕ) → ShowsMarker scene.entry.columns.now marks.new.items marker.now i) }
 {
     for i in 0..scene.columns.len() {
         push_marker_of(marks, scene, part, marker, i)?;
@@ -237,7 +254,9 @@ fn push_marker(
 
 /// The end markers of the transactions that were decided.
 fn push_markers(marks: &mut Vec<Mark>, scene: Scene<'_>, part: &Part) -> Result<(), AllocError>
-    ensures { AreTrue part.now scene.entry.columns.now marks.old.items → OnOk result (AreTrue part.now scene.entry.columns.now marks.new.items) }
+    ensures so { AreTrue part.now scene.entry.columns.now marks.old.items → OnOk result (AreTrue part.now scene.entry.columns.now marks.new.items) }
+    ensures keeps { OnOk result (Keeps marks.old.items marks.new.items) }
+    ensures shows { OnOk result ((x : Marker) → Has part.now.markers x → (i : ℕ) → ShowsMarker scene.entry.columns.now marks.new.items x i) }
 {
     for marker in part.markers() {
         push_marker(marks, scene, part, marker)?;
@@ -245,7 +264,30 @@ fn push_markers(marks: &mut Vec<Mark>, scene: Scene<'_>, part: &Part) -> Result<
     Ok(())
 }
 
-#[tactic(auto, using(crate::proofs::TrueMarks::closed_true))]
+/// The end marker, if it is the next one behind the data of the transaction at this place, and nothing decided that.
+fn push_close_of(
+    marks: &mut Vec<Mark>,
+    scene: Scene<'_>,
+    part: &Part,
+    close: &Close,
+    i: usize,
+) -> Result<(), AllocError>
+    requires inside { i < length scene.columns.now }
+    requires has { Has part.now.closes close.now }
+    ensures so { AreTrue part.now scene.entry.columns.now marks.old.items → OnOk result (AreTrue part.now scene.entry.columns.now marks.new.items) }
+    ensures keeps { OnOk result (Keeps marks.old.items marks.new.items) }
+    ensures shows { OnOk result (ShowsClose scene.entry.columns.now marks.new.items close.now i) }
+{
+    let column = &scene.columns[i];
+    if column.decided.is_some()
+        || column.producer != close.producer
+        || column.epoch != close.epoch
+    {
+        return Ok(());
+    }
+    push_mark(marks, scene, part, i, Sign::Marker(close.kind))
+}
+
 fn push_close(
     marks: &mut Vec<Mark>,
     scene: Scene<'_>,
@@ -253,20 +295,21 @@ fn push_close(
     close: &Close,
 ) -> Result<(), AllocError>
     requires { Has part.now.closes close.now }
-    ensures { AreTrue part.now scene.entry.columns.now marks.old.items → OnOk result (AreTrue part.now scene.entry.columns.now marks.new.items) }
+    ensures so { AreTrue part.now scene.entry.columns.now marks.old.items → OnOk result (AreTrue part.now scene.entry.columns.now marks.new.items) }
+    ensures keeps { OnOk result (Keeps marks.old.items marks.new.items) }
+    ensures shows { OnOk result ((i : ℕ) → ShowsClose scene.entry.columns.now marks.new.items close.now i) }
 {
-    let Some(i) = column_of(scene.columns, (close.producer, close.epoch)) else {
-        return Ok(());
-    };
-    if scene.columns[i].decided.is_some() {
-        return Ok(());
+    for i in 0..scene.columns.len() {
+        push_close_of(marks, scene, part, close, i)?;
     }
-    push_mark(marks, scene, part, i, Sign::Marker(close.kind))
+    Ok(())
 }
 
 /// Those of the others: the next ones behind their data.
 fn push_closes(marks: &mut Vec<Mark>, scene: Scene<'_>, part: &Part) -> Result<(), AllocError>
-    ensures { AreTrue part.now scene.entry.columns.now marks.old.items → OnOk result (AreTrue part.now scene.entry.columns.now marks.new.items) }
+    ensures so { AreTrue part.now scene.entry.columns.now marks.old.items → OnOk result (AreTrue part.now scene.entry.columns.now marks.new.items) }
+    ensures keeps { OnOk result (Keeps marks.old.items marks.new.items) }
+    ensures shows { OnOk result ((x : Close) → Has part.now.closes x → (i : ℕ) → ShowsClose scene.entry.columns.now marks.new.items x i) }
 {
     for close in part.closes() {
         push_close(marks, scene, part, close)?;
@@ -288,7 +331,8 @@ fn has_spot(marks: &[Mark], scene: Scene<'_>, at: At) -> bool {
 }
 
 fn push_spots(marks: &mut Vec<Mark>, scene: Scene<'_>, part: &Part) -> Result<(), AllocError>
-    ensures { AreTrue part.now scene.entry.columns.now marks.old.items → OnOk result (AreTrue part.now scene.entry.columns.now marks.new.items) }
+    ensures so { AreTrue part.now scene.entry.columns.now marks.old.items → OnOk result (AreTrue part.now scene.entry.columns.now marks.new.items) }
+    ensures keeps { OnOk result (Keeps marks.old.items marks.new.items) }
 {
     for spot in scene.spots {
         push_absent(marks, scene, part, spot)?;
@@ -303,7 +347,8 @@ fn push_absent(
     part: &Part,
     spot: &Spot,
 ) -> Result<(), AllocError>
-    ensures { AreTrue part.now scene.entry.columns.now marks.old.items → OnOk result (AreTrue part.now scene.entry.columns.now marks.new.items) }
+    ensures so { AreTrue part.now scene.entry.columns.now marks.old.items → OnOk result (AreTrue part.now scene.entry.columns.now marks.new.items) }
+    ensures keeps { OnOk result (Keeps marks.old.items marks.new.items) }
 {
     if !is_named(part, &spot.name) || has_spot(marks.as_slice(), scene, spot.at) {
         return Ok(());
@@ -317,7 +362,8 @@ fn push_spot(
     part: &Part,
     spot: &Spot,
 ) -> Result<(), AllocError>
-    ensures { AreTrue part.now scene.entry.columns.now marks.old.items → OnOk result (AreTrue part.now scene.entry.columns.now marks.new.items) }
+    ensures so { AreTrue part.now scene.entry.columns.now marks.old.items → OnOk result (AreTrue part.now scene.entry.columns.now marks.new.items) }
+    ensures keeps { OnOk result (Keeps marks.old.items marks.new.items) }
 {
     let place = match spot.at {
         At::Offset(offset) => Some(offset),
@@ -336,7 +382,8 @@ fn push_spot(
 // ---- rows
 
 fn row_of(alloc: Global, scene: Scene<'_>, part: &Part) -> Result<Row, AllocError>
-    ensures { IfOk result (IsTrueRow part.now scene.entry.columns.now) }
+    ensures so { IfOk result (IsTrueRow part.now scene.entry.columns.now) }
+    ensures whole { IfOk result (λ row. IsWhole part.now scene.entry.columns.now row.marks.items) }
 {
     let mut marks = Vec::new(alloc);
     push_decisions(&mut marks, scene, part)?;
@@ -363,7 +410,9 @@ fn push_row(
     part: &Part,
 ) -> Result<(), AllocError>
     requires { Has scene.logs.now part.now }
-    ensures { HasTrueRows scene.entry.logs.now scene.entry.columns.now rows.old.items → OnOk result (HasTrueRows scene.entry.logs.now scene.entry.columns.now rows.new.items) }
+    ensures so { HasTrueRows scene.entry.logs.now scene.entry.columns.now rows.old.items → OnOk result (HasTrueRows scene.entry.logs.now scene.entry.columns.now rows.new.items) }
+    ensures keeps { OnOk result (Keeps rows.old.items rows.new.items) }
+    ensures whole { OnOk result (IsCovered scene.entry.columns.now rows.new.items part.now) }
 {
     let row = row_of(alloc, scene, part)?;
     if row.marks.is_empty() {
@@ -373,21 +422,26 @@ fn push_row(
     Ok(())
 }
 
-/// Puts the rows of Kafka's internal topics at the end, or those of the others.
-fn push_rows(
+/// Puts the row of a partition behind those of Kafka's internal topics, if it is one of these, or else behind the others.
+fn push_row_to(
     alloc: Global,
     rows: &mut Vec<Row>,
+    internal: &mut Vec<Row>,
     scene: Scene<'_>,
-    internal: bool,
+    part: &Part,
 ) -> Result<(), AllocError>
-    ensures { HasTrueRows scene.entry.logs.now scene.entry.columns.now rows.old.items → OnOk result (HasTrueRows scene.entry.logs.now scene.entry.columns.now rows.new.items) }
+    requires { Has scene.logs.now part.now }
+    ensures so { HasTrueRows scene.entry.logs.now scene.entry.columns.now rows.old.items → OnOk result (HasTrueRows scene.entry.logs.now scene.entry.columns.now rows.new.items) }
+    ensures so_internal { HasTrueRows scene.entry.logs.now scene.entry.columns.now internal.old.items → OnOk result (HasTrueRows scene.entry.logs.now scene.entry.columns.now internal.new.items) }
+    ensures keeps { OnOk result (Keeps rows.old.items rows.new.items) }
+    ensures keeps_internal { OnOk result (Keeps internal.old.items internal.new.items) }
+    ensures whole { OnOk result (IsCovered scene.entry.columns.now (rows.new.items ++ internal.new.items) part.now) }
 {
-    for part in scene.logs {
-        if is_internal(part) != internal {
-            continue;
-        }
-        push_row(alloc, rows, scene, part)?;
+    if is_internal(part) {
+        push_row(alloc, internal, scene, part)?;
+        return Ok(());
     }
+    push_row(alloc, rows, scene, part)?;
     Ok(())
 }
 
@@ -397,10 +451,14 @@ fn push_rows(
 /// # Errors
 /// Only want of memory.
 pub(crate) fn rows_of(alloc: Global, scene: Scene<'_>) -> Result<Vec<Row>, AllocError>
-    ensures { IfOk result (λ rows. HasTrueRows scene.entry.logs.now scene.entry.columns.now rows.items) }
+    ensures so { IfOk result (λ rows. HasTrueRows scene.entry.logs.now scene.entry.columns.now rows.items) }
+    ensures whole { IfOk result (λ rows. HasWholeRows scene.entry.logs.now scene.entry.columns.now rows.items) }
 {
     let mut rows = Vec::new(alloc);
-    push_rows(alloc, &mut rows, scene, false)?;
-    push_rows(alloc, &mut rows, scene, true)?;
+    let mut internal = Vec::new(alloc);
+    for part in scene.logs {
+        push_row_to(alloc, &mut rows, &mut internal, scene, part)?;
+    }
+    rows.append(&mut internal)?;
     Ok(rows)
 }

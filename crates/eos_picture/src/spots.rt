@@ -1,7 +1,10 @@
 //! The places of a fault.
 
-ghost use Rattle.std.specs.Prelude.{◌≡◌, IfOk};
+ghost use Rattle.std.specs.Prelude.{◌≡◌, ◌++◌, ◌∷◌, [], Option, codes, IfOk, OnOk};
+ghost use Rattle.eos_claims.specs.declared.place.Place.{Place};
 ghost use Rattle.eos_fold.specs.Parts.{part_name};
+ghost use Rattle.eos_picture.specs.Window.{place_of};
+ghost use Rattle.eos_picture.specs.steps.Spots.{StartsAt, spot_at};
 
 use crate::mark::Column;
 use bytes::Bytes;
@@ -33,18 +36,24 @@ pub(crate) enum At {
     Passing(u64),
 }
 
-fn clone_name(name: &PartitionName) -> Result<PartitionName, AllocError> {
+fn clone_name(name: &PartitionName) -> Result<PartitionName, AllocError>
+    ensures { IfOk result (λ copy. copy ≡ name.now) }
+{
     name.clone()
 }
 
-fn transaction_log(alloc: Global, partition: i32) -> Result<PartitionName, AllocError> {
+fn transaction_log(alloc: Global, partition: i32) -> Result<PartitionName, AllocError>
+    ensures { IfOk result (λ name. name ≡ record { topic = codes "__transaction_state"; partition = partition }) }
+{
     Ok(PartitionName {
         topic: Bytes::copy_from_slice(alloc, b"__transaction_state".as_slice())?,
         partition,
     })
 }
 
-fn push_offset(spots: &mut Vec<Spot>, name: PartitionName, offset: u64) -> Result<(), AllocError> {
+fn push_offset(spots: &mut Vec<Spot>, name: PartitionName, offset: u64) -> Result<(), AllocError>
+    ensures { OnOk result (spots.new.items ≡ spots.old.items ++ spot_at (record { partition = name; offset = offset }) ∷ []) }
+{
     spots.push(Spot {
         name,
         at: At::Offset(offset),
@@ -125,11 +134,9 @@ fn is_claim_of(fault: &OutputFault, item: ItemRef<'_>) -> bool {
     }
 }
 
-fn push_claims_in(
-    spots: &mut Vec<Spot>,
-    fault: &OutputFault,
-    part: &Part,
-) -> Result<(), AllocError> {
+fn push_claims_in(spots: &mut Vec<Spot>, fault: &OutputFault, part: &Part) -> Result<(), AllocError>
+    ensures stays { (at : Option Place) → StartsAt spots.old.items at → OnOk result (StartsAt spots.new.items at) }
+{
     let mut items = part.items().cursor();
     while let Some(item) = items.next() {
         let offset = item.offset();
@@ -156,7 +163,9 @@ fn push_claims(
     app: &App,
     logs: &[Part],
     fault: &OutputFault,
-) -> Result<(), AllocError> {
+) -> Result<(), AllocError>
+    ensures stays { (at : Option Place) → StartsAt spots.old.items at → OnOk result (StartsAt spots.new.items at) }
+{
     let outputs = TopicSet::of(alloc, app.outputs.as_slice())?;
     for part in logs {
         if outputs.has(part.topic().as_slice()) {
@@ -173,7 +182,19 @@ fn push_output(
     logs: &[Part],
     group: &Option<GroupId>,
     fault: &OutputFault,
-) -> Result<(), AllocError> {
+) -> Result<(), AllocError>
+    ensures stays { (at : Option Place) → StartsAt spots.old.items at → OnOk result (StartsAt spots.new.items at) }
+{
+    match app_of(apps, group) {
+        None => Ok(()),
+        Some(app) => push_claims(alloc, spots, app, logs, fault),
+    }
+}
+
+/// The place that the fault names, and the commits that passed its input.
+fn push_named(spots: &mut Vec<Spot>, fault: &OutputFault) -> Result<(), AllocError>
+    ensures { spots.old.items ≡ [] → OnOk result (StartsAt spots.new.items fault.now.at) }
+{
     if let Some(at) = &fault.at {
         push_offset(spots, clone_name(&at.partition)?, at.offset)?;
     }
@@ -186,10 +207,7 @@ fn push_output(
             at: At::Passing(fault.source.offset),
         })?;
     }
-    match app_of(apps, group) {
-        None => Ok(()),
-        Some(app) => push_claims(alloc, spots, app, logs, fault),
-    }
+    Ok(())
 }
 
 /// The places of a fault, that which its line names first. A record that belongs to it twice may stand there twice.
@@ -202,7 +220,9 @@ pub(crate) fn spots_of(
     logs: &[Part],
     columns: &[Column],
     fault: &Fault,
-) -> Result<Vec<Spot>, AllocError> {
+) -> Result<Vec<Spot>, AllocError>
+    ensures { IfOk result (λ spots. StartsAt spots.items (place_of fault.now)) }
+{
     let mut spots = Vec::new(alloc);
     match fault {
         Fault::Partition(fault) => {
@@ -221,6 +241,7 @@ pub(crate) fn spots_of(
             push_offset(&mut spots, clone_name(&fault.partition)?, fault.offset)?;
         }
         Fault::Lineage(LineageFault::Output { group, fault }) => {
+            push_named(&mut spots, fault)?;
             push_output(alloc, &mut spots, apps, logs, group, fault)?;
         }
     }

@@ -1,7 +1,13 @@
 //! Which transactions are shown: those around the fault.
 
-ghost use Rattle.std.specs.Prelude.{◌<◌, length, slice_get, IfSome};
-ghost use Rattle.eos_picture.specs.steps.Signs.{IsOfWriter};
+ghost use Rattle.std.specs.Prelude.{◌≡◌, ◌≢◌, ◌<◌, ℤ, List, [], Some, None, true, false, take, length, IfSome};
+ghost use Rattle.eos_base.specs.Members.{Has};
+ghost use Rattle.eos_items.specs.declared.item.Item.{Item};
+ghost use Rattle.eos_fold.specs.Parts.{part_name};
+ghost use Rattle.eos_claims.specs.declared.place.Place.{Place};
+ghost use Rattle.eos_picture.specs.Window.{IsOfRecordAt, first_shown, end_shown};
+ghost use Rattle.eos_picture.specs.steps.Found.{IsPlaceOf};
+ghost use Rattle.eos_picture.specs.steps.Spots.{StartsAt, spot_at};
 
 use crate::mark::Column;
 use crate::spots::{At, Spot, is_of};
@@ -9,20 +15,29 @@ use crate::transactions::is_of_transaction_log;
 use eos_base::PartitionName;
 use eos_fold::Part;
 
+fn is_written_by(column: &Column, writer: (i64, i16)) -> bool
+    ensures yes { result ≡ true → writer ≡ (column.now.producer, column.now.epoch) }
+    ensures no { result ≡ false → writer ≢ (column.now.producer, column.now.epoch) }
+{
+    column.producer == writer.0 && column.epoch == writer.1
+}
+
 /// The place of the transaction whose data have this producer id and epoch.
 pub(crate) fn column_of(columns: &[Column], writer: (i64, i16)) -> Option<usize>
     ensures inside { IfSome result (λ i. i < length columns.now) }
-    ensures writer { IfSome result (λ i. IsOfWriter (slice_get columns.now i) writer) }
+    ensures place { IsPlaceOf columns.now writer result }
 {
     for i in 0..columns.len() {
-        if columns[i].producer == writer.0 && columns[i].epoch == writer.1 {
+        if is_written_by(&columns[i], writer) {
             return Some(i);
         }
     }
     None
 }
 
-fn column_of_either(columns: &[Column], producer: i64, epoch: i16) -> Option<usize> {
+fn column_of_either(columns: &[Column], producer: i64, epoch: i16) -> Option<usize>
+    ensures inside { IfSome result (λ m. m < length columns.now) }
+{
     for i in 0..columns.len() {
         if is_of(&columns[i], producer, epoch) {
             return Some(i);
@@ -31,13 +46,18 @@ fn column_of_either(columns: &[Column], producer: i64, epoch: i16) -> Option<usi
     None
 }
 
-pub(crate) fn is_named(part: &Part, name: &PartitionName) -> bool {
+pub(crate) fn is_named(part: &Part, name: &PartitionName) -> bool
+    ensures yes { result ≡ true → part_name part.now ≡ name.now }
+    ensures no { result ≡ false → part_name part.now ≢ name.now }
+{
     part.topic() == &name.topic && part.partition() == name.partition
 }
 
 /// In a partition of the transaction log: the first transaction that was decided at this offset or behind it, or else the last of
 /// the partition.
-fn decided_near(columns: &[Column], partition: i32, offset: u64) -> Option<usize> {
+fn decided_near(columns: &[Column], partition: i32, offset: u64) -> Option<usize>
+    ensures inside { IfSome result (λ m. m < length columns.now) }
+{
     let mut near = None;
     for i in 0..columns.len() {
         if let Some(decided) = &columns[i].decided {
@@ -53,16 +73,16 @@ fn decided_near(columns: &[Column], partition: i32, offset: u64) -> Option<usize
 }
 
 /// The producer id and epoch of the last transactional record of a partition up to this offset.
-fn writer_near(part: &Part, offset: u64) -> Option<(i64, i16)> {
+fn writer_near(part: &Part, offset: u64) -> Option<(i64, i16)>
+    ensures { (x : Item) (w : ℤ × ℤ) → Has part.now.items x → x.offset ≡ offset → x.writer ≡ Some w → result ≡ Some w }
+{
     let mut near = None;
     let mut items = part.items().cursor();
     while let Some(item) = items.next() {
         if offset < item.offset() {
             return near;
         }
-        if item.writer().is_some() {
-            near = item.writer();
-        }
+        near = item.writer().or(near);
     }
     near
 }
@@ -72,20 +92,29 @@ fn column_near(
     logs: &[Part],
     name: &PartitionName,
     offset: u64,
-) -> Option<usize> {
+) -> Option<usize>
+    ensures inside { IfSome result (λ m. m < length columns.now) }
+    ensures of { IsOfRecordAt logs.now columns.now result (record { partition = name.now; offset = offset }) }
+{
     for part in logs {
         if is_named(part, name) {
             if is_of_transaction_log(part) {
                 return decided_near(columns, name.partition, offset);
             }
-            return column_of(columns, writer_near(part, offset)?);
+            return match writer_near(part, offset) {
+                Some(writer) => column_of(columns, writer),
+                None => None,
+            };
         }
     }
     None
 }
 
 /// The transaction that did what stands at a place of the fault, or that was the last to do something in this partition before.
-pub(crate) fn column_of_spot(columns: &[Column], logs: &[Part], spot: &Spot) -> Option<usize> {
+pub(crate) fn column_of_spot(columns: &[Column], logs: &[Part], spot: &Spot) -> Option<usize>
+    ensures inside { IfSome result (λ m. m < length columns.now) }
+    ensures of { (at : Place) → spot.now ≡ spot_at at → IsOfRecordAt logs.now columns.now result at }
+{
     match spot.at {
         At::Offset(offset) => column_near(columns, logs, &spot.name, offset),
         At::Transaction { producer, epoch } => column_of_either(columns, producer, epoch),
@@ -94,7 +123,11 @@ pub(crate) fn column_of_spot(columns: &[Column], logs: &[Part], spot: &Spot) -> 
 }
 
 /// The first place of a fault that is of a transaction, and that transaction's place.
-pub(crate) fn middle_of(columns: &[Column], logs: &[Part], spots: &[Spot]) -> Option<usize> {
+pub(crate) fn middle_of(columns: &[Column], logs: &[Part], spots: &[Spot]) -> Option<usize>
+    ensures inside { IfSome result (λ m. m < length columns.now) }
+    ensures of { (at : Place) → StartsAt spots.now (Some at) → IsOfRecordAt logs.now columns.now result at }
+    ensures none { spots.now ≡ [] → result ≡ None }
+{
     for spot in spots {
         if let Some(middle) = column_of_spot(columns, logs, spot) {
             return Some(middle);
@@ -103,8 +136,12 @@ pub(crate) fn middle_of(columns: &[Column], logs: &[Part], spots: &[Spot]) -> Op
     None
 }
 
-/// The first transaction that is shown, and the first behind it that isn't, of so many: those around the middle, or the first ones.
-pub(crate) fn window_of(count: usize, middle: Option<usize>, around: usize) -> (usize, usize) {
+/// Of all places below the count those that are shown: from the first on, and before the second.
+pub(crate) fn window_of(count: usize, middle: Option<usize>, around: usize) -> (usize, usize)
+    requires { IfSome middle (λ m. m < count) }
+    ensures first { result.0 ≡ first_shown around middle }
+    ensures end { (xs : List Column) → length xs ≡ count → take result.1 xs ≡ take (end_shown around middle) xs }
+{
     match middle {
         Some(middle) => (
             middle.saturating_sub(around),

@@ -1,5 +1,9 @@
 use Rattle.eos_picture.specs.Marks.{AreTrue}
+use Rattle.eos_picture.specs.steps.Kept.{Keeps}
 use Rattle.eos_picture.proofs.rows.push_passes.Given as goal
 
 abbrev pub invariant-loop-pass : goal.invariant-loop-pass
-invariant-loop-pass l = AreTrue l.part l.scene.columns.now l.fn.marks.items → AreTrue l.part l.scene.columns.now l.marks.items
+invariant-loop-pass l = record {
+  true_yet : AreTrue l.part l.scene.columns.now l.fn.marks.items → AreTrue l.part l.scene.columns.now l.marks.items;
+  keeps : Keeps l.fn.marks.items l.marks.items;
+}
