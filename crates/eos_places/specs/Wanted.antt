@@ -4,7 +4,7 @@ use Rattle.std.specs.Prelude.{ℕ, ◌+◌, Bool, ◌&&◌, not, nat_le, nat_lt}
 use Rattle.std.specs.Ordering.{int_eq}
 use Rattle.eos_batch.specs.declared.head.BatchHead.{BatchHead}
 use Rattle.eos_places.specs.declared.wanted.Wanted.{Wanted}
-use Rattle.eos_places.specs.declared.wanted.Wanted.TheVariants.{Holding, Between, Of, Ending, Marking, Data}
+use Rattle.eos_places.specs.declared.wanted.Wanted.TheVariants.{Holding, Between, Of, Ending, Marking, Data, Open}
 
 abbrev pub is_wanted : Wanted → BatchHead → Bool
 is_wanted (Holding offset) h = nat_le h.offset offset && nat_lt offset (h.offset + h.count)
@@ -13,3 +13,4 @@ is_wanted (Of producer) h = int_eq h.producer producer
 is_wanted (Ending producer from) h = h.is_control && int_eq h.producer producer && nat_le from h.offset
 is_wanted (Marking producer epoch) h = h.is_control && int_eq h.producer producer && int_eq h.epoch epoch
 is_wanted (Data producer epoch) h = h.is_transactional && not h.is_control && int_eq h.producer producer && int_eq h.epoch epoch
+is_wanted (Open producer from) h = h.is_transactional && not h.is_control && int_eq h.producer producer && nat_le from h.offset

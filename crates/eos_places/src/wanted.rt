@@ -27,6 +27,8 @@ pub enum Wanted {
     Marking { producer: i64, epoch: i16 },
     /// The transactional data of a producer id and epoch.
     Data { producer: i64, epoch: i16 },
+    /// The transactional data of a producer id, from this offset on.
+    Open { producer: i64, from: u64 },
 }
 
 impl Wanted {
@@ -51,6 +53,12 @@ impl Wanted {
                     && !head.is_control
                     && head.producer == producer
                     && head.epoch == epoch
+            }
+            Wanted::Open { producer, from } => {
+                head.is_transactional
+                    && !head.is_control
+                    && head.producer == producer
+                    && from <= head.offset
             }
         }
     }
