@@ -17,13 +17,7 @@ use Rattle.eos_sought.specs.declared.finding.Find.{Find}
 use Rattle.eos_sought.specs.declared.finding.Finds.{Finds}
 use Rattle.eos_sought.specs.Finds.{AreFirst, all_of}
 
--- what is at a place of a list is in it
-pub has_at : {X : Type 0} (xs : List X) (i : ℕ) (x : X) → i < length xs → x ≡ get_or xs i x → Has xs x
-has_at [] i x lt is = absurd (omega (arith, lt))
-has_at (y ∷ ys) zero x lt is = inl (sym is)
-has_at (y ∷ ys) (suc i) x lt is = inr (has_at ys i x (omega (arith, lt)) is)
-
-has_index : {X : Type 0} (xs : List X) (i : ℕ) (d : X) → i < length xs → Has xs (get_or xs i d)
+pub has_index : {X : Type 0} (xs : List X) (i : ℕ) (d : X) → i < length xs → Has xs (get_or xs i d)
 has_index [] i d lt = absurd (omega (arith, lt))
 has_index (y ∷ ys) zero d lt = inl refl
 has_index (y ∷ ys) (suc i) d lt = inr (has_index ys i d (omega (arith, lt)))
@@ -42,8 +36,8 @@ all_kept xs finds shown are is = λ i d lt. has_taken finds.most xs (get_or show
 pub one_of_all : (xs finds : List Find) (i : ℕ) (x : Find) → All (Has xs) finds → i < length finds → x ≡ get_or finds i x → Has xs x
 one_of_all xs finds i x all lt is = subst (Has xs) (sym is) (all i x lt)
 
-pub one_of : (ps : List Partition) (name shown : PartitionName) (wanted : Wanted) (found : List Placed) (i : ℕ) (d : Placed) → AreBatchesOf ps name wanted found → shown ≡ name → i < length found → IsOneOf ps shown wanted (get_or found i d)
-one_of ps name shown wanted found i d are is lt = record { found = found; are = subst (λ (n : PartitionName). AreBatchesOf ps n wanted found) (sym is) are; has = has_index found i d lt }
+pub one_of : (ps : List Partition) (name shown : PartitionName) (wanted : Wanted) (found : List Placed) (placed : Placed) → AreBatchesOf ps name wanted found → shown ≡ name → Has found placed → IsOneOf ps shown wanted placed
+one_of ps name shown wanted found placed are is has = record { found = found; are = subst (λ (n : PartitionName). AreBatchesOf ps n wanted found) (sym is) are; has = has }
 
 pub record_at : (ps : List Partition) (logs : List PartLog) (sought shown : Sought) (find kept : Find) (found slice : List Placed) (spot : Option Placed) → Has (all_of sought logs) find → shown ≡ sought → kept ≡ find
     → AreBatchesOf ps find.partition (Holding find.item.offset) found → slice ≡ found → spot ≡ slice_get slice 0 → IsRecordAt ps logs kept spot (all_of shown logs)
@@ -51,13 +45,12 @@ record_at ps logs sought shown find kept found slice spot has is same are lent f
     let h : Has (all_of shown logs) find = subst (λ (s : Sought). Has (all_of s logs) find) (sym is) has in
     subst (λ (f : Find). IsRecordAt ps logs f spot (all_of shown logs)) (sym same) (record { has = h; holds = record { found = found; are = are; first = first ∙ ap (λ (xs : List Placed). slice_get xs 0) lent } })
 
-pub segment_of : (ps : List Partition) (name shown : PartitionName) (p : Partition) (segments : List Segment) (i : ℕ) (s : Segment) (base size : ℕ) → partition_named name ps ≡ Some p → shown ≡ name → segments ≡ p.segments → i < length segments
-    → s ≡ get_or segments i s → base ≡ base_of s → size ≡ length s.bytes → IsSegmentOf ps shown base size
-segment_of ps name shown p segments i s base size named is are lt at of_base of_size = record {
+pub segment_of : (ps : List Partition) (name shown : PartitionName) (p : Partition) (s : Segment) (base size : ℕ) → partition_named name ps ≡ Some p → shown ≡ name → Has p.segments s → base ≡ base_of s → size ≡ length s.bytes → IsSegmentOf ps shown base size
+segment_of ps name shown p s base size named is has of_base of_size = record {
   partition = p;
   named = subst (λ (n : PartitionName). partition_named n ps ≡ Some p) (sym is) named;
   segment = s;
-  has = subst (λ (xs : List Segment). Has xs s) are (has_at segments i s lt at);
+  has = has;
   of_base = of_base;
   of_size = of_size;
 }

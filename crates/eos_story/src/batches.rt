@@ -1,14 +1,21 @@
 //! Rows of batches.
 
-ghost use Rattle.std.specs.Prelude.{◌≡◌, ◌<◌, ◌≤◌, OnOk, length};
+ghost use Rattle.std.specs.Prelude.{◌≡◌, ◌≤◌, ◌-◌, ◌∷◌, [], List, IfOk, OnOk, All, length, slice_get};
+ghost use Rattle.eos_base.specs.Members.{Has};
+ghost use Rattle.eos_places.specs.declared.partition.Placed.{Placed as Batch};
+ghost use Rattle.eos_places.specs.declared.wanted.Wanted.TheVariants.{Of};
 ghost use Rattle.eos_places.specs.Partitions.{AreBatchesOf};
-ghost use Rattle.eos_story.specs.Rows.{AreTrue};
-ghost use Rattle.eos_story.specs.steps.Batches.{AreFound};
+ghost use Rattle.eos_story.specs.Answers.{StandInOrder, IsBatchRow, count_below};
+ghost use Rattle.eos_story.specs.declared.row.Row.TheVariants.{Batch as BatchRow, First as FirstRow};
+ghost use Rattle.eos_story.specs.Questions.{Around, Batches};
+ghost use Rattle.eos_story.specs.steps.Batches.{AreFound, AreMoreTold};
+ghost use Rattle.eos_story.specs.steps.Telling.{Tells, TellsEach, IsNext};
 
 use crate::copies::copy_name;
 use crate::records::first_of;
 use crate::row::{Row, add_row};
 use crate::scene::Scene;
+use crate::slices::around;
 use eos_base::PartitionName;
 use eos_places::{Placed, Wanted, batches_of};
 use std::alloc::AllocError;
@@ -33,7 +40,7 @@ pub(crate) fn push_first(
     name: &PartitionName,
     wanted: Wanted,
 ) -> Result<Option<Placed>, AllocError>
-    ensures { AreTrue scene.now rows.old.items → OnOk result (AreTrue scene.now rows.new.items) }
+    ensures { IfOk result (λ placed. Tells scene.now rows.old.items rows.new.items (λ told. Has told (FirstRow name.now wanted placed))) }
 {
     let found = batches_of(scene.alloc, scene.evidence.partitions(), name, wanted)?;
     let placed = first_of(found.as_slice());
@@ -50,19 +57,18 @@ pub(crate) fn push_first(
     Ok(placed)
 }
 
-fn push_at(
+fn push_batch(
     scene: &Scene<'_>,
     rows: &mut Vec<Row>,
     found: &Found<'_>,
-    i: usize,
+    placed: Placed,
 ) -> Result<(), AllocError>
     requires found { AreFound scene.now found.now }
-    requires inside { i < length found.now.batches.now }
-    ensures { AreTrue scene.now rows.old.items → OnOk result (AreTrue scene.now rows.new.items) }
+    requires has { Has found.now.batches.now placed }
+    ensures { OnOk result (Tells scene.now rows.old.items rows.new.items (IsNext rows.old.items (BatchRow found.now.name.now found.now.wanted placed))) }
 {
     let partition = copy_name(found.name)?;
     let wanted = found.wanted;
-    let placed = found.batches[i];
     add_row(
         scene,
         rows,
@@ -71,47 +77,54 @@ fn push_at(
             wanted,
             placed,
         },
-    )
+    )?;
+    Ok(())
 }
 
-// Those from one place of the list on, up to another.
-fn push_range(
+// Those of them that are to be shown.
+fn push_each(
     scene: &Scene<'_>,
     rows: &mut Vec<Row>,
     found: &Found<'_>,
-    from: usize,
-    to: usize,
+    shown: &[Placed],
 ) -> Result<(), AllocError>
     requires found { AreFound scene.now found.now }
-    requires inside { to ≤ length found.now.batches.now }
-    ensures { AreTrue scene.now rows.old.items → OnOk result (AreTrue scene.now rows.new.items) }
+    requires have { All (Has found.now.batches.now) shown.now }
+    ensures { OnOk result (Tells scene.now rows.old.items rows.new.items (StandInOrder (IsBatchRow found.now.name.now found.now.wanted) shown.now)) }
 {
-    for i in from..to {
-        push_at(scene, rows, found, i)?;
+    for placed in shown {
+        push_batch(scene, rows, found, *placed)?;
     }
     Ok(())
 }
 
 // How many of these begin below an offset.
 fn count_below(batches: &[Placed], offset: u64) -> usize
-    ensures { result ≤ length batches.now }
+    ensures count { result ≡ count_below offset batches.now }
+    ensures within { result ≤ length batches.now }
 {
-    batches.partition_point(|placed| placed.standing.head.offset < offset)
+    let mut count = 0usize;
+    for placed in batches {
+        if placed.standing.head.offset < offset {
+            count += 1;
+        }
+    }
+    count
 }
 
-// The last batch before a place of the list, or the one that stands there.
-fn batch_before(batches: &[Placed], at: usize) -> Option<Placed> {
-    if at > 0 && at <= batches.len() {
-        return Some(batches[at - 1]);
-    }
-    if at < batches.len() {
-        return Some(batches[at]);
+// The last batch before a place of the list, or the first of all.
+fn batch_before(batches: &[Placed], at: usize) -> Option<Placed>
+    requires { at ≤ length batches.now }
+    ensures { result ≡ slice_get batches.now (at - 1) }
+{
+    let before = at.saturating_sub(1);
+    if before < batches.len() {
+        return Some(batches[before]);
     }
     None
 }
 
-/// Adds the touches of a producer id around an offset of a partition, and gives the last one before it, or the one that stands
-/// there.
+/// Adds the touches of a producer id around an offset of a partition, and gives the last one before it, or the first of all.
 pub(crate) fn push_touches(
     scene: &Scene<'_>,
     rows: &mut Vec<Row>,
@@ -119,7 +132,8 @@ pub(crate) fn push_touches(
     producer: i64,
     offset: u64,
 ) -> Result<Option<Placed>, AllocError>
-    ensures { AreTrue scene.now rows.old.items → OnOk result (AreTrue scene.now rows.new.items) }
+    ensures { IfOk result (λ before. (found : List Batch) × AreBatchesOf scene.now.evidence.now.partitions name.now (Of producer) found
+        × (before ≡ slice_get found (count_below offset found - 1)) × TellsEach scene.now rows.old.items rows.new.items (Around name.now (Of producer) offset ∷ [])) }
 {
     let wanted = Wanted::Of { producer };
     let all = batches_of(scene.alloc, scene.evidence.partitions(), name, wanted)?;
@@ -130,9 +144,36 @@ pub(crate) fn push_touches(
         batches,
     };
     let at = count_below(batches, offset);
-    let to = at.saturating_add(AFTER).min(batches.len());
-    push_range(scene, rows, &found, at.saturating_sub(BEFORE), to)?;
+    let shown = around(batches, at, BEFORE, AFTER);
+    push_each(scene, rows, &found, shown)?;
     Ok(batch_before(batches, at))
+}
+
+fn push_more(
+    scene: &Scene<'_>,
+    rows: &mut Vec<Row>,
+    found: &Found<'_>,
+    most: usize,
+) -> Result<(), AllocError>
+    requires { AreFound scene.now found.now }
+    ensures { OnOk result (Tells scene.now rows.old.items rows.new.items (AreMoreTold found.now most)) }
+{
+    let all = found.batches.len();
+    if most < all {
+        let partition = copy_name(found.name)?;
+        let wanted = found.wanted;
+        add_row(
+            scene,
+            rows,
+            Row::MoreBatches {
+                partition,
+                wanted,
+                shown: most as u64,
+                all: all as u64,
+            },
+        )?;
+    }
+    Ok(())
 }
 
 /// Adds the first batches of a partition that are wanted, so many at most, and how many more there are.
@@ -143,7 +184,7 @@ pub(crate) fn push_some(
     wanted: Wanted,
     most: usize,
 ) -> Result<(), AllocError>
-    ensures { AreTrue scene.now rows.old.items → OnOk result (AreTrue scene.now rows.new.items) }
+    ensures { OnOk result (TellsEach scene.now rows.old.items rows.new.items (Batches name.now wanted most ∷ [])) }
 {
     let found = batches_of(scene.alloc, scene.evidence.partitions(), name, wanted)?;
     let batches = found.as_slice();
@@ -152,19 +193,8 @@ pub(crate) fn push_some(
         wanted,
         batches,
     };
-    push_range(scene, rows, &found, 0, most.min(batches.len()))?;
-    if most < batches.len() {
-        let partition = copy_name(name)?;
-        add_row(
-            scene,
-            rows,
-            Row::MoreBatches {
-                partition,
-                wanted,
-                shown: most as u64,
-                all: batches.len() as u64,
-            },
-        )?;
-    }
+    let shown = &batches[..most.min(batches.len())];
+    push_each(scene, rows, &found, shown)?;
+    push_more(scene, rows, &found, most)?;
     Ok(())
 }

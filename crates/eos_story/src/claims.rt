@@ -1,18 +1,41 @@
 //! Rows of the claims of an input, and of what became of them.
 
-ghost use Rattle.std.specs.Prelude.{OnOk, All};
+ghost use Rattle.std.specs.Prelude.{◌≡◌, ◌∷◌, [], IfOk, OnOk, All, length};
+ghost use Rattle.eos_sought.specs.declared.sought.Sought.TheVariants.{Hidden};
 ghost use Rattle.eos_base.specs.Members.{Has};
 ghost use Rattle.eos_sought.specs.Finds.{all_of};
-ghost use Rattle.eos_story.specs.Rows.{AreTrue};
+ghost use Rattle.eos_story.specs.Answers.{IsDecided, IsEndingShown, IsEndShown};
+ghost use Rattle.eos_story.specs.Questions.{Claims, unseen};
+ghost use Rattle.eos_story.specs.steps.Claims.{IsClaimTold, AreClaimsTold};
+ghost use Rattle.eos_story.specs.steps.Telling.{Tells, TellsEach};
 
 use crate::batches::push_first;
-use crate::records::{push_find, push_records, push_rest};
+use crate::copies::copy_place;
+use crate::records::{count_of, push_find, push_records, push_rest};
 use crate::row::Row;
 use crate::scene::Scene;
 use eos_base::PartitionName;
-use eos_places::Wanted;
+use eos_claims::Place;
+use eos_places::{Placed, Wanted};
 use eos_sought::{Find, Sought, find_records};
 use std::alloc::AllocError;
+
+// Adds the decision of an end marker, if there is one.
+fn push_decision(
+    scene: &Scene<'_>,
+    rows: &mut Vec<Row>,
+    producer: i64,
+    marker: Option<Placed>,
+) -> Result<(), AllocError>
+    ensures { OnOk result (Tells scene.now rows.old.items rows.new.items (IsDecided scene.now.logs.now producer marker)) }
+{
+    let Some(marker) = marker else {
+        return Ok(());
+    };
+    let epoch = marker.standing.head.epoch;
+    push_records(scene, rows, Sought::Deciding { producer, epoch }, 1)?;
+    Ok(())
+}
 
 // Adds the end of the transaction of a record: the next marker of its producer id, and the decision of it.
 fn push_fate(
@@ -22,17 +45,25 @@ fn push_fate(
     producer: i64,
     offset: u64,
 ) -> Result<(), AllocError>
-    ensures { AreTrue scene.now rows.old.items → OnOk result (AreTrue scene.now rows.new.items) }
+    ensures { OnOk result (Tells scene.now rows.old.items rows.new.items (IsEndingShown scene.now.logs.now name.now producer offset)) }
 {
     let wanted = Wanted::Ending {
         producer,
         from: offset,
     };
-    match push_first(scene, rows, name, wanted)? {
+    let marker = push_first(scene, rows, name, wanted)?;
+    push_decision(scene, rows, producer, marker)?;
+    Ok(())
+}
+
+// Adds the end of the transaction of a record, if it is in one.
+fn push_end(scene: &Scene<'_>, rows: &mut Vec<Row>, find: &Find) -> Result<(), AllocError>
+    ensures { OnOk result (Tells scene.now rows.old.items rows.new.items (IsEndShown scene.now.logs.now find.now.partition find.now.item.offset find.now.item.writer)) }
+{
+    match find.item.writer {
         None => Ok(()),
-        Some(marker) => {
-            let epoch = marker.standing.head.epoch;
-            push_records(scene, rows, Sought::Deciding { producer, epoch }, 1)
+        Some((producer, _)) => {
+            push_fate(scene, rows, &find.partition, producer, find.item.offset)
         }
     }
 }
@@ -45,15 +76,11 @@ fn push_claim(
     find: &Find,
 ) -> Result<(), AllocError>
     requires { Has (all_of sought.now scene.now.logs.now) find.now }
-    ensures { AreTrue scene.now rows.old.items → OnOk result (AreTrue scene.now rows.new.items) }
+    ensures { OnOk result (Tells scene.now rows.old.items rows.new.items (IsClaimTold scene.now.logs.now sought.now find.now rows.old.items)) }
 {
     push_find(scene, rows, sought, find)?;
-    match find.item.writer {
-        None => Ok(()),
-        Some((producer, _)) => {
-            push_fate(scene, rows, &find.partition, producer, find.item.offset)
-        }
-    }
+    push_end(scene, rows, find)?;
+    Ok(())
 }
 
 fn push_each(
@@ -63,7 +90,7 @@ fn push_each(
     finds: &[Find],
 ) -> Result<(), AllocError>
     requires { All (Has (all_of sought.now scene.now.logs.now)) finds.now }
-    ensures { AreTrue scene.now rows.old.items → OnOk result (AreTrue scene.now rows.new.items) }
+    ensures { OnOk result (Tells scene.now rows.old.items rows.new.items (AreClaimsTold scene.now.logs.now sought.now finds.now)) }
 {
     for find in finds {
         push_claim(scene, rows, sought, find)?;
@@ -79,25 +106,33 @@ pub(crate) fn push_claims(
     sought: Sought,
     most: u64,
 ) -> Result<(), AllocError>
-    ensures { AreTrue scene.now rows.old.items → OnOk result (AreTrue scene.now rows.new.items) }
+    ensures { OnOk result (TellsEach scene.now rows.old.items rows.new.items (Claims sought most ∷ [])) }
 {
     let finds = find_records(scene.alloc, scene.logs, &sought, most)?;
     push_each(scene, rows, &sought, finds.first.as_slice())?;
-    push_rest(scene, rows, &sought, most, finds.count)
+    push_rest(scene, rows, &sought, most, finds.count)?;
+    Ok(())
 }
 
-/// The same; nothing where there is none.
+/// Adds the first claims of an input that no reader of committed records is given, two at most, each with the end of its
+/// transaction, and how many more there are; nothing where there is none.
 pub(crate) fn push_unseen(
     scene: &Scene<'_>,
     rows: &mut Vec<Row>,
-    sought: Sought,
-    most: u64,
+    place: Place,
 ) -> Result<(), AllocError>
-    ensures { AreTrue scene.now rows.old.items → OnOk result (AreTrue scene.now rows.new.items) }
+    ensures { OnOk result (TellsEach scene.now rows.old.items rows.new.items (unseen scene.now.logs.now place)) }
 {
-    let finds = find_records(scene.alloc, scene.logs, &sought, 0)?;
-    if finds.count == 0 {
+    if count_hidden(scene, &place)? == 0 {
         return Ok(());
     }
-    push_claims(scene, rows, sought, most)
+    push_claims(scene, rows, Sought::Hidden(place), 2)?;
+    Ok(())
+}
+
+fn count_hidden(scene: &Scene<'_>, place: &Place) -> Result<u64, AllocError>
+    ensures { IfOk result (λ count. count ≡ length (all_of (Hidden place.now) scene.now.logs.now)) }
+{
+    let sought = Sought::Hidden(copy_place(place)?);
+    count_of(scene, &sought)
 }

@@ -2,11 +2,18 @@
 
 ghost use Rattle.std.specs.Prelude.{◌≡◌, IfOk};
 
+use bytes::Bytes;
 use eos_base::PartitionName;
 use eos_claims::Place;
 use eos_fold::Item;
 use eos_sought::{Find, Sought};
 use std::alloc::AllocError;
+
+pub(crate) fn copy_bytes(bytes: &Bytes) -> Result<Bytes, AllocError>
+    ensures { IfOk result (λ copy. copy ≡ bytes.now) }
+{
+    bytes.clone()
+}
 
 pub(crate) fn copy_name(name: &PartitionName) -> Result<PartitionName, AllocError>
     ensures { IfOk result (λ copy. copy ≡ name.now) }

@@ -1,12 +1,18 @@
 //! Rows of decisions: what was decided of a transaction, and which of its partitions have its marker and its data.
 
-ghost use Rattle.std.specs.Prelude.{◌≡◌, OnOk};
-ghost use Rattle.eos_story.specs.Rows.{AreTrue};
+ghost use Rattle.std.specs.Prelude.{◌≡◌, ◌++◌, ◌∷◌, [], IfOk, OnOk, slice_get};
+ghost use Rattle.std.specs.Option.{option_map};
+ghost use Rattle.eos_sought.specs.Finds.{all_of};
+ghost use Rattle.eos_story.specs.Listings.{names_of, names_in, listed_by, epoch_after, epoch_before};
+ghost use Rattle.eos_story.specs.Questions.{in_each, listing, listed_open, markers_of, decision};
+ghost use Rattle.eos_story.specs.steps.Telling.{TellsEach};
+ghost use Rattle.std.specs.Prelude.{Some};
 
 use crate::batches::push_first;
 use crate::records::push_records;
 use crate::row::Row;
 use crate::scene::Scene;
+use crate::slices::from_on;
 use bytes::Bytes;
 use eos_base::PartitionName;
 use eos_places::Wanted;
@@ -17,8 +23,24 @@ use std::alloc::{AllocError, Global};
 /// How many partitions of a transaction are told of.
 const MOST: usize = 6;
 
-fn push_topic(names: &mut Vec<PartitionName>, topic: &TopicPartitions) -> Result<(), AllocError> {
-    for number in topic.numbers.as_slice() {
+/// The epoch of the end markers behind data of this epoch; the greatest has none after it.
+pub(crate) fn epoch_after(epoch: i16) -> i16
+    ensures { result ≡ epoch_after epoch }
+{
+    if epoch < 32767 { epoch + 1 } else { epoch }
+}
+
+fn epoch_before(epoch: i16) -> i16
+    ensures { result ≡ epoch_before epoch }
+{
+    if epoch > -32768 { epoch - 1 } else { epoch }
+}
+
+fn push_topic(names: &mut Vec<PartitionName>, topic: &TopicPartitions) -> Result<(), AllocError>
+    ensures { OnOk result (names.new.items ≡ names.old.items ++ names_of topic.now) }
+{
+    let numbers = topic.numbers.as_slice();
+    for number in numbers {
         names.push(PartitionName {
             topic: topic.topic.clone()?,
             partition: *number,
@@ -27,45 +49,68 @@ fn push_topic(names: &mut Vec<PartitionName>, topic: &TopicPartitions) -> Result
     Ok(())
 }
 
-fn names_in(alloc: Global, state: &TxnValue) -> Result<Vec<PartitionName>, AllocError> {
+fn names_in(alloc: Global, state: &TxnValue) -> Result<Vec<PartitionName>, AllocError>
+    ensures { IfOk result (λ names. names.items ≡ names_in (Some state.now)) }
+{
     let mut names = Vec::new(alloc);
-    for topic in state.partitions.as_slice() {
+    let topics = state.partitions.as_slice();
+    for topic in topics {
         push_topic(&mut names, topic)?;
     }
     Ok(names)
 }
 
-pub(crate) fn bytes_of(value: &Option<Bytes>) -> Option<&[u8]> {
+pub(crate) fn bytes_of(value: &Option<Bytes>) -> Option<&[u8]>
+    ensures { option_map (λ s. s.now) result ≡ value.now }
+{
     match value {
         None => None,
         Some(bytes) => Some(bytes.as_slice()),
     }
 }
 
-// The partitions that the first of these records lists.
-fn listed(alloc: Global, finds: &[Find]) -> Result<Vec<PartitionName>, AllocError> {
-    if finds.is_empty() {
-        return Ok(Vec::new(alloc));
-    }
-    match state_of(alloc, bytes_of(&finds[0].item.value))? {
+fn listed_by(alloc: Global, find: &Find) -> Result<Vec<PartitionName>, AllocError>
+    ensures { IfOk result (λ names. names.items ≡ listed_by (Some find.now)) }
+{
+    match state_of(alloc, bytes_of(&find.item.value))? {
         None => Ok(Vec::new(alloc)),
         Some(state) => names_in(alloc, &state),
     }
 }
 
-// Of each of these partitions the first batch that is wanted.
+// The partitions that the first of these records lists.
+fn listed(alloc: Global, finds: &[Find]) -> Result<Vec<PartitionName>, AllocError>
+    ensures { IfOk result (λ names. names.items ≡ listed_by (slice_get finds.now 0)) }
+{
+    if finds.is_empty() {
+        return Ok(Vec::new(alloc));
+    }
+    listed_by(alloc, &finds[0])
+}
+
+// Of each of these partitions, six at most, the first batch that is wanted.
 fn push_each(
     scene: &Scene<'_>,
     rows: &mut Vec<Row>,
     names: &[PartitionName],
     wanted: Wanted,
 ) -> Result<(), AllocError>
-    ensures { AreTrue scene.now rows.old.items → OnOk result (AreTrue scene.now rows.new.items) }
+    ensures { OnOk result (TellsEach scene.now rows.old.items rows.new.items (in_each wanted names.now)) }
 {
-    for i in 0..names.len().min(MOST) {
-        push_first(scene, rows, &names[i], wanted)?;
+    let first = &names[..MOST.min(names.len())];
+    for name in first {
+        push_first(scene, rows, name, wanted)?;
     }
     Ok(())
+}
+
+// The decision whose markers have this producer id and epoch, if there is one; and the partitions that it lists.
+fn decision_of(scene: &Scene<'_>, producer: i64, epoch: i16) -> Result<Vec<Find>, AllocError>
+    ensures { IfOk result (λ found. slice_get found.items 0 ≡ decision producer epoch scene.now.logs.now) }
+{
+    let sought = Sought::Deciding { producer, epoch };
+    let finds = find_records(scene.alloc, scene.logs, &sought, 1)?;
+    Ok(finds.first)
 }
 
 /// Adds the decision whose markers have this producer id and epoch, and of each partition that it lists the marker, or that there
@@ -76,17 +121,61 @@ pub(crate) fn push_listing(
     producer: i64,
     epoch: i16,
 ) -> Result<(), AllocError>
-    ensures { AreTrue scene.now rows.old.items → OnOk result (AreTrue scene.now rows.new.items) }
+    ensures { OnOk result (TellsEach scene.now rows.old.items rows.new.items (listing scene.now.logs.now producer epoch)) }
 {
-    let sought = Sought::Deciding { producer, epoch };
-    let finds = find_records(scene.alloc, scene.logs, &sought, 1)?;
-    let names = listed(scene.alloc, finds.first.as_slice())?;
-    push_records(scene, rows, sought, 1)?;
+    let found = decision_of(scene, producer, epoch)?;
+    let names = listed(scene.alloc, found.as_slice())?;
+    push_records(scene, rows, Sought::Deciding { producer, epoch }, 1)?;
     let marking = Wanted::Marking { producer, epoch };
     push_each(scene, rows, names.as_slice(), marking)?;
     let data = Wanted::Data {
         producer,
-        epoch: epoch.saturating_sub(1),
+        epoch: epoch_before(epoch),
     };
-    push_each(scene, rows, names.as_slice(), data)
+    push_each(scene, rows, names.as_slice(), data)?;
+    Ok(())
+}
+
+// The partitions that the last state of a producer id lists.
+fn last_listed(scene: &Scene<'_>, producer: i64) -> Result<Vec<PartitionName>, AllocError>
+    ensures { IfOk result (λ names. names.items ≡ listed_open scene.now.logs.now producer Rattle.std.specs.Prelude.None) }
+{
+    let sought = Sought::OfProducer(producer);
+    let count = find_records(scene.alloc, scene.logs, &sought, 0)?.count;
+    let finds = find_records(scene.alloc, scene.logs, &sought, count)?;
+    let states = finds.first.as_slice();
+    let before = states.len().saturating_sub(1);
+    listed(scene.alloc, from_on(states, before))
+}
+
+// The partitions that the decision lists, or else those that the last state of the producer id lists.
+fn listed_open(
+    scene: &Scene<'_>,
+    producer: i64,
+    found: &[Find],
+) -> Result<Vec<PartitionName>, AllocError>
+    ensures { IfOk result (λ names. names.items ≡ listed_open scene.now.logs.now producer (slice_get found.now 0)) }
+{
+    if found.is_empty() {
+        return last_listed(scene, producer);
+    }
+    listed_by(scene.alloc, &found[0])
+}
+
+/// Adds the decision whose markers have this producer id and epoch, and of each partition that is listed for the transaction the
+/// marker, or that there is none.
+pub(crate) fn push_markers(
+    scene: &Scene<'_>,
+    rows: &mut Vec<Row>,
+    producer: i64,
+    epoch: i16,
+) -> Result<(), AllocError>
+    ensures { OnOk result (TellsEach scene.now rows.old.items rows.new.items (markers_of scene.now.logs.now producer epoch)) }
+{
+    let found = decision_of(scene, producer, epoch)?;
+    let names = listed_open(scene, producer, found.as_slice())?;
+    push_records(scene, rows, Sought::Deciding { producer, epoch }, 1)?;
+    let marking = Wanted::Marking { producer, epoch };
+    push_each(scene, rows, names.as_slice(), marking)?;
+    Ok(())
 }

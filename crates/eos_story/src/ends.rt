@@ -1,25 +1,34 @@
 //! Rows of a partition's end: where it was declared to end, and its segments.
 
-ghost use Rattle.std.specs.Prelude.{◌≡◌, ◌<◌, OnOk, Some, length};
+ghost use Rattle.std.specs.Prelude.{◌≡◌, ◌≢◌, ◌≤◌, ◌-◌, ◌∷◌, [], OnOk, Some, All, length};
+ghost use Rattle.eos_base.specs.Members.{Has};
 ghost use Rattle.eos_fold.specs.Fronts.{base_of};
 ghost use Rattle.eos_places.specs.Partitions.{partition_named};
-ghost use Rattle.eos_story.specs.Rows.{AreTrue};
+ghost use Rattle.eos_places.specs.declared.wanted.Wanted.TheVariants.{Holding};
+ghost use Rattle.eos_story.specs.Answers.{StandInOrder, IsFirstShown, IsSegmentRow, AreSegmentsShown, count_begun, segments_around};
+ghost use Rattle.eos_story.specs.declared.row.Row.TheVariants.{Segment as SegmentRow, End as EndRow};
+ghost use Rattle.eos_story.specs.Questions.{Ends};
+ghost use Rattle.eos_story.specs.steps.Telling.{Tells, TellsEach, IsNext};
 
 use crate::batches::push_first;
 use crate::copies::copy_name;
 use crate::row::{Row, add_row};
 use crate::scene::Scene;
+use crate::slices::around;
 use eos_base::PartitionName;
 use eos_evidence::{Partition, Segment};
 use eos_places::{Wanted, partition_named};
 use std::alloc::AllocError;
 
 // How many of these segments begin at an offset or before it.
-fn count_begun(segments: &[Segment], offset: u64) -> usize {
+fn count_begun(segments: &[Segment], offset: u64) -> usize
+    ensures count { result ≡ count_begun offset segments.now }
+    ensures within { result ≤ length segments.now }
+{
     let mut count = 0usize;
     for segment in segments {
         if base_of(segment) <= offset {
-            count = count.saturating_add(1);
+            count += 1;
         }
     }
     count
@@ -43,13 +52,12 @@ fn push_segment(
     rows: &mut Vec<Row>,
     name: &PartitionName,
     partition: &Partition,
-    i: usize,
+    segment: &Segment,
 ) -> Result<(), AllocError>
     requires named { partition_named name.now scene.now.evidence.now.partitions ≡ Some partition.now }
-    requires inside { i < length partition.now.segments }
-    ensures { AreTrue scene.now rows.old.items → OnOk result (AreTrue scene.now rows.new.items) }
+    requires has { Has partition.now.segments segment.now }
+    ensures { OnOk result (Tells scene.now rows.old.items rows.new.items (IsNext rows.old.items (SegmentRow name.now (base_of segment.now) (length segment.now.bytes)))) }
 {
-    let segment = &partition.segments.as_slice()[i];
     let base = base_of(segment);
     let size = size_of(segment);
     let partition = copy_name(name)?;
@@ -61,7 +69,26 @@ fn push_segment(
             base,
             size,
         },
-    )
+    )?;
+    Ok(())
+}
+
+// These of its segments.
+fn push_each(
+    scene: &Scene<'_>,
+    rows: &mut Vec<Row>,
+    name: &PartitionName,
+    partition: &Partition,
+    segments: &[Segment],
+) -> Result<(), AllocError>
+    requires named { partition_named name.now scene.now.evidence.now.partitions ≡ Some partition.now }
+    requires have { All (Has partition.now.segments) segments.now }
+    ensures { OnOk result (Tells scene.now rows.old.items rows.new.items (StandInOrder (IsSegmentRow name.now) segments.now)) }
+{
+    for segment in segments {
+        push_segment(scene, rows, name, partition, segment)?;
+    }
+    Ok(())
 }
 
 // The segments around an offset: the last that begins there or before, the one before it, and the next.
@@ -73,13 +100,12 @@ fn push_segments(
     offset: u64,
 ) -> Result<(), AllocError>
     requires { partition_named name.now scene.now.evidence.now.partitions ≡ Some partition.now }
-    ensures { AreTrue scene.now rows.old.items → OnOk result (AreTrue scene.now rows.new.items) }
+    ensures { OnOk result (Tells scene.now rows.old.items rows.new.items (StandInOrder (IsSegmentRow name.now) (segments_around offset partition.now.segments))) }
 {
-    let begun = count_begun(partition.segments.as_slice(), offset);
-    let to = begun.saturating_add(1).min(partition.segments.len());
-    for i in begun.saturating_sub(2)..to {
-        push_segment(scene, rows, name, partition, i)?;
-    }
+    let segments = partition.segments.as_slice();
+    let begun = count_begun(segments, offset);
+    let shown = around(segments, begun, 2, 1);
+    push_each(scene, rows, name, partition, shown)?;
     Ok(())
 }
 
@@ -90,11 +116,12 @@ fn push_end(
     partition: &Partition,
 ) -> Result<(), AllocError>
     requires { partition_named name.now scene.now.evidence.now.partitions ≡ Some partition.now }
-    ensures { AreTrue scene.now rows.old.items → OnOk result (AreTrue scene.now rows.new.items) }
+    ensures { OnOk result (Tells scene.now rows.old.items rows.new.items (λ told. Has told (EndRow name.now partition.now.end.end))) }
 {
     let end = partition.end.end;
     let partition = copy_name(name)?;
-    add_row(scene, rows, Row::End { partition, end })
+    add_row(scene, rows, Row::End { partition, end })?;
+    Ok(())
 }
 
 // The batch that holds the record before an offset.
@@ -104,7 +131,7 @@ fn push_last(
     name: &PartitionName,
     offset: u64,
 ) -> Result<(), AllocError>
-    ensures { AreTrue scene.now rows.old.items → OnOk result (AreTrue scene.now rows.new.items) }
+    ensures { OnOk result (Tells scene.now rows.old.items rows.new.items (λ told. offset ≢ 0 → IsFirstShown name.now (Holding (offset - 1)) told)) }
 {
     if offset == 0 {
         return Ok(());
@@ -114,6 +141,25 @@ fn push_last(
     Ok(())
 }
 
+// Where the partition is declared to end, and its segments around an offset; nothing where there is no such partition.
+fn push_rest(
+    scene: &Scene<'_>,
+    rows: &mut Vec<Row>,
+    name: &PartitionName,
+    offset: u64,
+) -> Result<(), AllocError>
+    ensures { OnOk result (Tells scene.now rows.old.items rows.new.items (AreSegmentsShown name.now offset (partition_named name.now scene.now.evidence.now.partitions))) }
+{
+    match partition_named(scene.evidence.partitions(), name) {
+        None => Ok(()),
+        Some(partition) => {
+            push_end(scene, rows, name, partition)?;
+            push_segments(scene, rows, name, partition, offset)?;
+            Ok(())
+        }
+    }
+}
+
 /// Adds the last batch before an offset of a partition, where the partition is declared to end, and its segments around there.
 pub(crate) fn push_place(
     scene: &Scene<'_>,
@@ -121,14 +167,9 @@ pub(crate) fn push_place(
     name: &PartitionName,
     offset: u64,
 ) -> Result<(), AllocError>
-    ensures { AreTrue scene.now rows.old.items → OnOk result (AreTrue scene.now rows.new.items) }
+    ensures { OnOk result (TellsEach scene.now rows.old.items rows.new.items (Ends name.now offset ∷ [])) }
 {
     push_last(scene, rows, name, offset)?;
-    match partition_named(scene.evidence.partitions(), name) {
-        None => Ok(()),
-        Some(partition) => {
-            push_end(scene, rows, name, partition)?;
-            push_segments(scene, rows, name, partition, offset)
-        }
-    }
+    push_rest(scene, rows, name, offset)?;
+    Ok(())
 }

@@ -1,12 +1,15 @@
 //! The five headers of a claim, as they stand in a record.
 
-ghost use Rattle.std.specs.Prelude.{◌≡◌, ◌++◌, IfOk, OnOk, ◌∷◌, []};
+ghost use Rattle.std.specs.Prelude.{◌≡◌, ◌++◌, IfOk, OnOk, ◌∷◌, [], Some};
 ghost use Rattle.eos_claims.specs.Headers.{values_of};
 ghost use Rattle.eos_sought.specs.Finds.{all_of};
 ghost use Rattle.eos_base.specs.Members.{Has};
 ghost use Rattle.eos_sought.specs.declared.sought.Sought.TheVariants.{At};
 ghost use Rattle.eos_story.specs.HeaderNames.{key_of};
-ghost use Rattle.eos_story.specs.Rows.{AreTrue};
+ghost use Rattle.eos_story.specs.Answers.{AreHeadersShown};
+ghost use Rattle.eos_story.specs.declared.row.Row.TheVariants.{Header as HeaderRow};
+ghost use Rattle.eos_story.specs.Questions.{Headers};
+ghost use Rattle.eos_story.specs.steps.Telling.{Tells, TellsEach, IsNext};
 
 use crate::copies::copy_place;
 use crate::row::{Row, add_row};
@@ -79,7 +82,7 @@ fn push_header(
     name: HeaderName,
 ) -> Result<(), AllocError>
     requires { Has (all_of (At place.now) scene.now.logs.now) find.now }
-    ensures { AreTrue scene.now rows.old.items → OnOk result (AreTrue scene.now rows.new.items) }
+    ensures { OnOk result (Tells scene.now rows.old.items rows.new.items (IsNext rows.old.items (HeaderRow place.now name (values_of (key_of name) find.now.item.headers)))) }
 {
     let values = values_under(scene.alloc, name.key(), find.item.headers.as_slice())?;
     let place = copy_place(place)?;
@@ -91,7 +94,8 @@ fn push_header(
             name,
             values,
         },
-    )
+    )?;
+    Ok(())
 }
 
 fn push_names(
@@ -101,7 +105,7 @@ fn push_names(
     find: &Find,
 ) -> Result<(), AllocError>
     requires { Has (all_of (At place.now) scene.now.logs.now) find.now }
-    ensures { AreTrue scene.now rows.old.items → OnOk result (AreTrue scene.now rows.new.items) }
+    ensures { OnOk result (Tells scene.now rows.old.items rows.new.items (AreHeadersShown place.now (Some find.now))) }
 {
     push_header(scene, rows, place, find, HeaderName::Topic)?;
     push_header(scene, rows, place, find, HeaderName::Partition)?;
@@ -117,12 +121,13 @@ pub(crate) fn push_headers(
     rows: &mut Vec<Row>,
     place: &Place,
 ) -> Result<(), AllocError>
-    ensures { AreTrue scene.now rows.old.items → OnOk result (AreTrue scene.now rows.new.items) }
+    ensures { OnOk result (TellsEach scene.now rows.old.items rows.new.items (Headers place.now ∷ [])) }
 {
     let sought = Sought::At(copy_place(place)?);
     let finds = find_records(scene.alloc, scene.logs, &sought, 1)?;
     if finds.first.is_empty() {
         return Ok(());
     }
-    push_names(scene, rows, place, &finds.first[0])
+    push_names(scene, rows, place, &finds.first[0])?;
+    Ok(())
 }

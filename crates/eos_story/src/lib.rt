@@ -10,10 +10,13 @@ mod decisions;
 mod ends;
 mod headers;
 mod kinds;
+mod outputs;
+mod pairs;
 mod place;
 mod records;
 mod row;
 mod scene;
+mod slices;
 
 pub use headers::HeaderName;
 pub use kinds::rows_of;

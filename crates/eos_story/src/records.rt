@@ -1,14 +1,17 @@
 //! Rows of data records.
 
-ghost use Rattle.std.specs.Prelude.{◌≡◌, OnOk, All, length, slice_get};
+ghost use Rattle.std.specs.Prelude.{◌≡◌, ◌∷◌, [], IfOk, OnOk, All, length, slice_get};
 ghost use Rattle.eos_base.specs.Members.{Has};
 ghost use Rattle.eos_places.specs.declared.wanted.Wanted.TheVariants.{Holding};
 ghost use Rattle.eos_sought.specs.Finds.{all_of};
-ghost use Rattle.eos_story.specs.Rows.{AreTrue};
+ghost use Rattle.eos_story.specs.Answers.{StandInOrder, IsRecordRow};
+ghost use Rattle.eos_story.specs.Questions.{Records, Latest as LatestOf};
+ghost use Rattle.eos_story.specs.steps.Telling.{Tells, TellsEach, IsRecordBehind, IsRestTold};
 
 use crate::copies::{copy_find, copy_sought};
 use crate::row::{Row, add_row};
 use crate::scene::Scene;
+use crate::slices::from_on;
 use eos_places::{Placed, Wanted, batches_of};
 use eos_sought::{Find, Sought, find_records};
 use std::alloc::AllocError;
@@ -23,6 +26,14 @@ pub(crate) fn first_of(found: &[Placed]) -> Option<Placed>
     Some(found[0])
 }
 
+/// How many data records are sought so.
+pub(crate) fn count_of(scene: &Scene<'_>, sought: &Sought) -> Result<u64, AllocError>
+    ensures { IfOk result (λ count. count ≡ length (all_of sought.now scene.now.logs.now)) }
+{
+    let finds = find_records(scene.alloc, scene.logs, sought, 0)?;
+    Ok(finds.count)
+}
+
 /// Adds a data record that is sought.
 pub(crate) fn push_find(
     scene: &Scene<'_>,
@@ -31,7 +42,7 @@ pub(crate) fn push_find(
     find: &Find,
 ) -> Result<(), AllocError>
     requires { Has (all_of sought.now scene.now.logs.now) find.now }
-    ensures { AreTrue scene.now rows.old.items → OnOk result (AreTrue scene.now rows.new.items) }
+    ensures { OnOk result (Tells scene.now rows.old.items rows.new.items (IsRecordBehind sought.now find.now rows.old.items)) }
 {
     let wanted = Wanted::Holding {
         offset: find.item.offset,
@@ -45,7 +56,8 @@ pub(crate) fn push_find(
     let spot = first_of(found.as_slice());
     let sought = copy_sought(sought)?;
     let find = copy_find(find)?;
-    add_row(scene, rows, Row::Record { sought, find, spot })
+    add_row(scene, rows, Row::Record { sought, find, spot })?;
+    Ok(())
 }
 
 /// Adds that there are more than are shown, or that there is none, if so.
@@ -57,15 +69,17 @@ pub(crate) fn push_rest(
     all: u64,
 ) -> Result<(), AllocError>
     requires { all ≡ length (all_of sought.now scene.now.logs.now) }
-    ensures { AreTrue scene.now rows.old.items → OnOk result (AreTrue scene.now rows.new.items) }
+    ensures { OnOk result (Tells scene.now rows.old.items rows.new.items (IsRestTold sought.now shown all)) }
 {
     if all == 0 {
         let sought = copy_sought(sought)?;
-        return add_row(scene, rows, Row::NoRecord { sought });
+        add_row(scene, rows, Row::NoRecord { sought })?;
+        return Ok(());
     }
     if shown < all {
         let sought = copy_sought(sought)?;
-        return add_row(scene, rows, Row::MoreRecords { shown, all, sought });
+        add_row(scene, rows, Row::MoreRecords { shown, all, sought })?;
+        return Ok(());
     }
     Ok(())
 }
@@ -77,7 +91,7 @@ fn push_finds(
     finds: &[Find],
 ) -> Result<(), AllocError>
     requires { All (Has (all_of sought.now scene.now.logs.now)) finds.now }
-    ensures { AreTrue scene.now rows.old.items → OnOk result (AreTrue scene.now rows.new.items) }
+    ensures { OnOk result (Tells scene.now rows.old.items rows.new.items (StandInOrder (IsRecordRow sought.now) finds.now)) }
 {
     for find in finds {
         push_find(scene, rows, sought, find)?;
@@ -92,9 +106,30 @@ pub(crate) fn push_records(
     sought: Sought,
     most: u64,
 ) -> Result<(), AllocError>
-    ensures { AreTrue scene.now rows.old.items → OnOk result (AreTrue scene.now rows.new.items) }
+    ensures { OnOk result (TellsEach scene.now rows.old.items rows.new.items (Records sought most ∷ [])) }
 {
     let finds = find_records(scene.alloc, scene.logs, &sought, most)?;
     push_finds(scene, rows, &sought, finds.first.as_slice())?;
-    push_rest(scene, rows, &sought, most, finds.count)
+    push_rest(scene, rows, &sought, most, finds.count)?;
+    Ok(())
+}
+
+/// Adds how many data records are sought so, where there are more than so many, or that there is none; and the last of them.
+///
+/// All of them are held at once: a producer id has some states for each of its epochs, of which there are 32,768 at most.
+pub(crate) fn push_latest(
+    scene: &Scene<'_>,
+    rows: &mut Vec<Row>,
+    sought: &Sought,
+    most: usize,
+) -> Result<(), AllocError>
+    ensures { OnOk result (TellsEach scene.now rows.old.items rows.new.items (LatestOf sought.now most ∷ [])) }
+{
+    let count = find_records(scene.alloc, scene.logs, sought, 0)?.count;
+    let finds = find_records(scene.alloc, scene.logs, sought, count)?;
+    push_rest(scene, rows, sought, most as u64, count)?;
+    let all = finds.first.as_slice();
+    let last = from_on(all, all.len().saturating_sub(most));
+    push_finds(scene, rows, sought, last)?;
+    Ok(())
 }

@@ -2,6 +2,7 @@
 
 ghost use Rattle.std.specs.Prelude.{OnOk};
 ghost use Rattle.eos_story.specs.Rows.{IsTrue, AreTrue};
+ghost use Rattle.eos_story.specs.steps.Telling.{IsNext};
 
 use crate::headers::HeaderName;
 use crate::scene::Scene;
@@ -72,7 +73,8 @@ pub enum Row {
 /// Puts a row at the end that says what is so.
 pub(crate) fn add_row(scene: &Scene<'_>, rows: &mut Vec<Row>, row: Row) -> Result<(), AllocError>
     requires { IsTrue scene.now.evidence.now.partitions scene.now.logs.now row }
-    ensures { AreTrue scene.now rows.old.items → OnOk result (AreTrue scene.now rows.new.items) }
+    ensures are { AreTrue scene.now rows.old.items → OnOk result (AreTrue scene.now rows.new.items) }
+    ensures next { OnOk result (IsNext rows.old.items row rows.new.items) }
 {
     rows.push(row)?;
     Ok(())

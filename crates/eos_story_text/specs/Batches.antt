@@ -9,7 +9,7 @@ use Rattle.eos_batch.specs.declared.marker.Marker.{Marker}
 use Rattle.eos_claims.specs.declared.place.Place.{Place}
 use Rattle.eos_places.specs.declared.partition.Placed.{Placed}
 use Rattle.eos_places.specs.declared.wanted.Wanted.{Wanted}
-use Rattle.eos_places.specs.declared.wanted.Wanted.TheVariants.{Holding, Between, Of, Ending, Marking, Data}
+use Rattle.eos_places.specs.declared.wanted.Wanted.TheVariants.{Holding, Between, Of, Ending, Marking, Data, Open}
 use Rattle.eos_report.specs.FaultTexts.{name_text}
 use Rattle.eos_story_text.specs.Places.{at_text, spot_text, is_there, mark_of}
 
@@ -20,6 +20,7 @@ kind_role (Of producer) = codes " touch    "
 kind_role (Ending producer from) = codes " marker   "
 kind_role (Marking producer epoch) = codes " marker   "
 kind_role (Data producer epoch) = codes " data     "
+kind_role (Open producer from) = codes " open     "
 
 abbrev pub end_kind : Kind → List ℕ
 end_kind Commit = codes " COMMIT"
@@ -52,6 +53,7 @@ no_batch_text (Of producer) = codes " has none of producer=" ++ signed_decimal p
 no_batch_text (Ending producer from) = codes " HAS NONE of producer=" ++ signed_decimal producer
 no_batch_text (Marking producer epoch) = (codes " HAS NONE of producer=" ++ signed_decimal producer) ++ (codes " epoch=" ++ signed_decimal epoch)
 no_batch_text (Data producer epoch) = (codes " has none of producer=" ++ signed_decimal producer) ++ (codes " epoch=" ++ signed_decimal epoch)
+no_batch_text (Open producer from) = codes " has none of producer=" ++ signed_decimal producer
 
 unfoldable pub no_batch_line : PartitionName → Wanted → List ℕ
 no_batch_line name wanted = (kind_role wanted ++ name_text name.topic name.partition) ++ (no_batch_text wanted ++ codes "\n")

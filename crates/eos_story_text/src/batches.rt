@@ -23,6 +23,7 @@ fn kind_role(wanted: Wanted) -> &'static str
         Wanted::Of { .. } => " touch    ",
         Wanted::Ending { .. } | Wanted::Marking { .. } => " marker   ",
         Wanted::Data { .. } => " data     ",
+        Wanted::Open { .. } => " open     ",
     }
 }
 
@@ -102,6 +103,7 @@ fn push_absent(out: &mut String, wanted: Wanted) -> Result<(), AllocError>
         Wanted::Holding { offset } => push_value(out, " has none that holds ", &offset),
         Wanted::Between { .. } => push_text(out, " has none"),
         Wanted::Of { producer } => push_value(out, " has none of producer=", &producer),
+        Wanted::Open { producer, .. } => push_value(out, " has none of producer=", &producer),
         Wanted::Ending { producer, .. } => push_value(out, " HAS NONE of producer=", &producer),
         Wanted::Marking { producer, epoch } => push_both(
             out,

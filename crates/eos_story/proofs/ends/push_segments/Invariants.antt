@@ -1,5 +1,0 @@
-use Rattle.eos_story.specs.Rows.{AreTrue}
-use Rattle.eos_story.proofs.ends.push_segments.Given as goal
-
-abbrev pub invariant-loop-i : goal.invariant-loop-i
-invariant-loop-i l = AreTrue l.scene l.fn.rows.items → AreTrue l.scene l.rows.items

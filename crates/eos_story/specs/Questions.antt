@@ -1,0 +1,189 @@
+-- What the story of a fault is asked, by the fault's kind.
+use Rattle.std.specs.Prelude.{ℕ, ℤ, ◌+◌, ◌-◌, ◌^◌, min, List, [], ◌∷◌, ◌++◌, ◌==◌, Bool, codes, length, map, take, Option, Some, None, slice_get, if◌then◌else◌}
+use Rattle.eos_base.specs.declared.partition_name.PartitionName.{PartitionName}
+use Rattle.eos_batch.specs.declared.head.BatchHead.{BatchHead}
+use Rattle.eos_claims.specs.declared.place.Place.{Place}
+use Rattle.eos_commits.specs.Commits.{Group}
+use Rattle.eos_commits.specs.declared.fault.VisibleFault.{VisibleFault}
+use Rattle.eos_commits.specs.declared.fault.VisibleFaultKind.{VisibleFaultKind}
+use Rattle.eos_commits.specs.declared.fault.VisibleFaultKind.TheVariants.{BadLineage, BadOffset, SplitGroup, OffsetDeleted}
+use Rattle.eos_evidence.specs.declared.application.App.{App}
+use Rattle.eos_fold.specs.Parts.{PartLog}
+use Rattle.eos_lineage.specs.declared.fault.LineageFault.{LineageFault}
+use Rattle.eos_lineage.specs.declared.fault.LineageFault.TheVariants.{Record, Output}
+use Rattle.eos_places.specs.declared.partition.Placed.{Placed}
+use Rattle.eos_places.specs.declared.wanted.Wanted.{Wanted}
+use Rattle.eos_places.specs.declared.wanted.Wanted.TheVariants.{Between, Of, Marking, Data}
+use Rattle.eos_sought.specs.declared.finding.Find.{Find}
+use Rattle.eos_sought.specs.declared.sought.Sought.{Sought}
+use Rattle.eos_sought.specs.declared.sought.Sought.TheVariants.{At, Claiming, Hidden, OfId, OfProducer, Deciding, OfGroup, Passing, Passed}
+use Rattle.eos_sought.specs.Finds.{all_of}
+use Rattle.eos_sought.specs.Passing.{group_in}
+use Rattle.eos_story.specs.Listings.{listed_by, epoch_after, epoch_before}
+use Rattle.eos_table.specs.declared.log_fault.LogFault.{LogFault}
+use Rattle.eos_table.specs.declared.log_fault.LogFaultKind.{LogFaultKind}
+use Rattle.eos_table.specs.declared.log_fault.LogFaultKind.TheVariants.{BadRecord, Step, SplitId, SharedProducer, Unfinished}
+use Rattle.eos_table.specs.declared.match_fault.MatchFault.{MatchFault}
+use Rattle.eos_table.specs.declared.match_fault.MatchFaultKind.{MatchFaultKind}
+use Rattle.eos_table.specs.declared.match_fault.MatchFaultKind.TheVariants.{TwiceDecided, Undecided, WrongKind, NotListed, StrayMarker, AbsentPartition, MissingMarker}
+
+pub data Question : Type 0 where
+  -- which data records are sought so? the first, so many at most
+  Records : (sought : Sought) → (most : ℕ) → Question
+  -- the same of the last
+  Latest : (sought : Sought) → (most : ℕ) → Question
+  -- the same of the first, and of each: how did its transaction end, and who decided that?
+  Claims : (sought : Sought) → (most : ℕ) → Question
+  -- what stands under each of the five names in the headers of the record of this place?
+  Headers : (place : Place) → Question
+  -- which is the first batch of a partition that is wanted?
+  FirstBatch : (name : PartitionName) → (wanted : Wanted) → Question
+  -- which batches of a partition are wanted? the first, so many at most
+  Batches : (name : PartitionName) → (wanted : Wanted) → (most : ℕ) → Question
+  -- which of them stand around an offset?
+  Around : (name : PartitionName) → (wanted : Wanted) → (offset : ℕ) → Question
+  -- which batch stands before an offset of a partition, where does it end, and which segments has it there?
+  Ends : (name : PartitionName) → (offset : ℕ) → Question
+
+abbrev pub is_none_of : Sought → List PartLog → Bool
+is_none_of sought logs = length (all_of sought logs) == 0
+
+-- ---- of a transaction
+
+abbrev pub decision : ℤ → ℤ → List PartLog → Option Find
+decision producer epoch logs = slice_get (all_of (Deciding producer epoch) logs) 0
+
+-- in each of these partitions, six at most, the first batch that is wanted
+abbrev pub in_each : Wanted → List PartitionName → List Question
+in_each wanted names = map (λ (name : PartitionName). FirstBatch name wanted) (take 6 names)
+
+-- who decided it, and in each partition that is listed: its marker, and its data
+abbrev pub listing : List PartLog → ℤ → ℤ → List Question
+listing logs producer epoch =
+    Records (Deciding producer epoch) 1 ∷ (in_each (Marking producer epoch) (listed_by (decision producer epoch logs))
+    ++ in_each (Data producer (epoch_before epoch)) (listed_by (decision producer epoch logs)))
+
+-- ---- phase 1
+
+-- the epoch of the markers of a batch's transaction
+abbrev pub ending_epoch : BatchHead → ℤ
+ending_epoch h = if h.is_control then h.epoch else epoch_after h.epoch
+
+-- of a batch: who decided the end of its transaction
+abbrev pub ending : List PartLog → ℤ → Option Placed → List Question
+ending logs producer None = []
+ending logs producer (Some batch) =
+    if batch.standing.head.is_transactional
+    then listing logs producer (ending_epoch batch.standing.head)
+    else []
+
+-- the batches between a batch and an offset
+abbrev pub between : PartitionName → ℕ → Option Placed → List Question
+between name offset None = []
+between name offset (Some batch) = Batches name (Between (min (batch.standing.head.offset + 1) (2 ^ 64 - 1)) offset) 2 ∷ []
+
+-- of the touches of a producer id, this one being the last before the fault's offset
+abbrev pub of_pair : List PartLog → PartitionName → ℤ → ℕ → Option Placed → List Question
+of_pair logs name producer offset before =
+    Around name (Of producer) offset ∷ (ending logs producer before ++ (between name offset before ++ (Records (OfProducer producer) 4 ∷ [])))
+
+-- where nothing was decided, the partitions that the last state of the producer id lists
+abbrev pub listed_open : List PartLog → ℤ → Option Find → List PartitionName
+listed_open logs producer None = listed_by (slice_get (all_of (OfProducer producer) logs) (length (all_of (OfProducer producer) logs) - 1))
+listed_open logs producer (Some find) = listed_by (Some find)
+
+-- of the transaction of this batch: its decision, and which of the partitions that are listed for it have their markers
+abbrev pub markers_of : List PartLog → ℤ → ℤ → List Question
+markers_of logs producer epoch = Records (Deciding producer epoch) 1 ∷ in_each (Marking producer epoch) (listed_open logs producer (decision producer epoch logs))
+
+abbrev pub of_open : List PartLog → ℤ → Option Placed → List Question
+of_open logs producer None = Latest (OfProducer producer) 4 ∷ []
+of_open logs producer (Some batch) = markers_of logs producer (epoch_after batch.standing.head.epoch) ++ (Latest (OfProducer producer) 4 ∷ [])
+
+-- ---- phase 2
+
+abbrev pub states_of : LogFaultKind → List Question
+states_of (BadRecord fault) = []
+states_of (Step id why) = Records (OfId id) 8 ∷ []
+states_of (SplitId id) = Records (OfId id) 8 ∷ []
+states_of (SharedProducer id) = Records (OfId id) 8 ∷ []
+states_of (Unfinished id) = Records (OfId id) 8 ∷ []
+
+abbrev pub in_log : LogFault → Place
+in_log f = record { partition = record { topic = codes "__transaction_state"; partition = f.partition }; offset = f.offset }
+
+abbrev pub of_log : LogFault → List Question
+of_log f = Records (At (in_log f)) 1 ∷ states_of f.kind
+
+-- ---- phase 3
+
+-- the fault names the epoch of the data, and at a marker without a decision the marker's
+abbrev pub marker_epoch : MatchFaultKind → ℤ → ℤ
+marker_epoch StrayMarker epoch = epoch
+marker_epoch TwiceDecided epoch = epoch_after epoch
+marker_epoch Undecided epoch = epoch_after epoch
+marker_epoch WrongKind epoch = epoch_after epoch
+marker_epoch NotListed epoch = epoch_after epoch
+marker_epoch AbsentPartition epoch = epoch_after epoch
+marker_epoch MissingMarker epoch = epoch_after epoch
+
+abbrev pub there : ℤ → Option PartitionName → List Question
+there producer None = []
+there producer (Some name) = Batches name (Of producer) 4 ∷ []
+
+abbrev pub of_match : List PartLog → MatchFault → List Question
+of_match logs f = listing logs f.producer (marker_epoch f.kind f.epoch) ++ (there f.producer f.partition ++ (Records (OfProducer f.producer) 4 ∷ []))
+
+-- ---- phase 4
+
+abbrev pub group_of : Option Find → Option (List ℕ)
+group_of None = None
+group_of (Some find) = group_in find.item.key
+
+abbrev pub commits_of : Option (List ℕ) → List Question
+commits_of None = []
+commits_of (Some group) = Records (OfGroup group) 8 ∷ []
+
+-- the commits of the group of the record of this place
+abbrev pub of_group : List PartLog → Place → List Question
+of_group logs place = commits_of (group_of (slice_get (all_of (At place) logs) 0))
+
+abbrev pub of_kind : List PartLog → Place → VisibleFaultKind → List Question
+of_kind logs place BadLineage = Headers place ∷ []
+of_kind logs place (BadOffset fault) = []
+of_kind logs place SplitGroup = of_group logs place
+of_kind logs place OffsetDeleted = of_group logs place
+
+abbrev pub of_record : List PartLog → VisibleFault → List Question
+of_record logs f = Records (At (record { partition = f.partition; offset = f.offset })) 1 ∷ of_kind logs (record { partition = f.partition; offset = f.offset }) f.kind
+
+-- ---- phase 5
+
+-- the group that is named, or else that of the first application
+abbrev pub first_group : List App → Option (List ℕ)
+first_group [] = None
+first_group (app ∷ apps) = Some app.group
+
+abbrev pub group_meant : List App → Option Group → Option (List ℕ)
+group_meant apps None = first_group apps
+group_meant apps (Some group) = Some group
+
+-- the commits that go past an input: those of the group, or where it has none those of others
+abbrev pub others_past : List PartLog → List ℕ → Place → List Question
+others_past logs group place = if is_none_of (Passing group place) logs then Records (Passed place) 3 ∷ [] else []
+
+abbrev pub commits_past : List PartLog → Option (List ℕ) → Place → List Question
+commits_past logs None place = []
+commits_past logs (Some group) place = Records (Passing group place) 3 ∷ others_past logs group place
+
+-- the claims that no reader of committed records is given, if there are any
+abbrev pub unseen : List PartLog → Place → List Question
+unseen logs place = if is_none_of (Hidden place) logs then [] else Claims (Hidden place) 2 ∷ []
+
+abbrev pub of_output : List App → List PartLog → Option Group → Place → List Question
+of_output apps logs group input =
+    Records (At input) 1 ∷ (Claims (Claiming input) 3 ∷ (commits_past logs (group_meant apps group) input ++ unseen logs input))
+
+abbrev pub of_lineage : List App → List PartLog → LineageFault → List Question
+of_lineage apps logs (Record f) = of_record logs f
+of_lineage apps logs (Output group f) = of_output apps logs group f.source
