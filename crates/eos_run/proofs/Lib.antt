@@ -1,0 +1,3 @@
+pub mod HeadLists
+pub mod Takings
+pub mod JoinedRuns
