@@ -6,8 +6,9 @@
 Of each folder of tests/evidence and of the stories: the first line of the K-th story is the K-th fault by tests/reference.py; a
 story has 40 lines at most; each place is one at which the plain reader finds that batch, of that producer and epoch, with that
 record in it, and what a row says of it is what the plain reader reads there; that nothing is there is so; the claims, markers,
-decisions and commits of a fault of an output are those that the second program finds. With 1 and 4 workers alike; a yes, a
-refused folder, a number past the list and output that can't be written. The last line is 'N passed, N failed'.
+decisions and commits of a fault of an output are those that the second program finds, and so is the first batch of what was left
+open. With 1 and 4 workers alike; a yes, a refused folder, a number past the list and output that can't be written. The last line
+is 'N passed, N failed'.
 """
 import collections
 import os
@@ -23,7 +24,7 @@ from plain_logs import (ABORT, COMMIT, OFFSETS, STATES, claim_of, next_marker, o
 HERE = os.path.dirname(os.path.abspath(__file__))
 PLACE = re.compile(r"^ (\w+) +([\w.%-]+)-(\d+):(\d+) byte (\d+) of segment (\d+)(.*)$")
 NOTHING = re.compile(r"^ (marker|data) +([\w.%-]+)-(\d+) [Hh][Aa][Ss] [Nn][Oo][Nn][Ee] of producer=(-?\d+)(?: epoch=(-?\d+))?$")
-BATCH_ROLES = {"touch", "between", "before", "marker", "data"}
+LEFT_OPEN = re.compile(r"^no 1\.11 OpenAtEnd ([\w.%-]+)-(\d+) offset=\d+ producer=(-?\d+)$")
 STATUS_NAMES = "Empty Ongoing PrepareCommit PrepareAbort CompleteCommit CompleteAbort Dead PrepareEpochFence".split()
 PREPARES = (2, 3)
 wrong, passed = [], 0
@@ -116,6 +117,14 @@ def is_right_absence(parts, row):
     )
 
 
+def first_open(parts, fault):
+    """The offset of the first transactional data of a producer id behind its last end marker in a partition."""
+    topic, number, producer = bytes_of(fault[1]), int(fault[2]), int(fault[3])
+    batches = [b for p in parts if p.name == (topic, number) for b in p.batches if b.producer == producer]
+    ends = [b.base for b in batches if b.word in (COMMIT, ABORT)]
+    return min(b.base for b in batches if b.word == "txn" and b.base >= max(ends, default=0))
+
+
 # ---- the rows of a fault of an output, by the second program
 
 
@@ -193,6 +202,10 @@ def look_at(program, folder, faults, number):
     expect(wanted in lines, f"{where}: not '{wanted}'")
     for word in "Means: ", "Next: ":
         expect(sum(line.startswith(word) for line in lines) == 1, f"{where}: no {word}")
+    left_open = LEFT_OPEN.match(lines[0])
+    if left_open:
+        first = f" open     {left_open[1]}-{left_open[2]}:{first_open(parts, left_open)} "
+        expect(sum(line.startswith(first) for line in lines) == 1, f"{where}: no row that begins '{first}'")
     if lines[0].startswith("no 5."):
         expect(told_rows(lines, None) == wanted_rows(apps, parts, lines[0]), f"{where}: other rows than {wanted_rows(apps, parts, lines[0])}")
 
