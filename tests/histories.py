@@ -247,7 +247,8 @@ def worked():
         event(6, "start", application=0, reply="epochs-spent"),
         event(7, "start", application=1, reply="done", value=last + 1),
     ]
-    answer = (0, "wrote partitions=6\nyes transactions=0 inputs=0 outputs=0\n", "")
+    # the one transaction that was decided is the abort
+    answer = (0, "wrote partitions=6\nyes transactions=1 inputs=0 outputs=0\n", "")
     found = replayed({**HEAD, "segment_records": 1000}, *spent)
     expect(found == answer, f"epochs that are spent: {found}")
     # cut before the end: a transaction is open
