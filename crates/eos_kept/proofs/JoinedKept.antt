@@ -1,0 +1,125 @@
+-- Fronts of two lists of segments, and what is kept of both.
+use Rattle.std.proofs.Common.{◌≡◌, ◌≢◌, ℕ, ◌+◌, inr, Bool, List, [], ◌∷◌, ◌++◌, refl, sym, ap, subst, ◌∙◌, arith}
+use Rattle.std.proofs.lemmas.List.{append-nil}
+use Rattle.std.proofs.lemmas.Grind.{flat_map-append}
+use Rattle.eos_batch.specs.declared.batch.Batch.{Batch}
+use Rattle.eos_batch.specs.declared.marker.Marker.{Marker}
+use Rattle.eos_batch.specs.declared.record.Record.{Record}
+use Rattle.eos_batch.specs.Marker.{markers_of}
+use Rattle.eos_evidence.specs.declared.segment.Segment.{Segment}
+use Rattle.eos_touch.specs.Front.{records_in, ContinuesFrom}
+use Rattle.eos_touch.proofs.Continuity.{records_in-append}
+use Rattle.eos_fold.specs.declared.stop.Stop.{Stop}
+use Rattle.eos_fold.specs.declared.stop.Stop.TheVariants.{AtEnd, NoBatch, Elsewhere}
+use Rattle.eos_fold.specs.Fronts.{base_of, IsSegmentFront, GoesOn, IsFront}
+use Rattle.eos_fold.specs.Sums.{BeginsAt, AreChecked, is_checked}
+use Rattle.eos_fold.proofs.SegmentWalks.{markers_of-append}
+use Rattle.eos_fold.proofs.JoinedFronts.{front_goes, front_stops, other_name}
+use Rattle.eos_reading.specs.Kept.{kept_in, kept_of}
+use Rattle.eos_run.specs.declared.run.Run.{Run}
+use Rattle.eos_run.specs.Runs.{IsRunOf}
+use Rattle.eos_kept.specs.declared.front.Front.{Front}
+use Rattle.eos_kept.specs.Kept.{KeepsFront, IsFrontOf, KeptView, IsKept}
+use Rattle.eos_kept.specs.steps.Passing.{GoesAlong}
+
+begins_more : (xs ys : List Segment) (n : ℕ) → BeginsAt xs n → BeginsAt (xs ++ ys) n
+begins_more [] ys n h = absurd h
+begins_more (x ∷ xs) ys n h = h
+
+checked_more : (xs ys : List Segment) (b : Bool) → AreChecked xs b → AreChecked (xs ++ ys) b
+checked_more [] ys b h = absurd h
+checked_more (x ∷ xs) ys b h = h
+
+-- the first front ends before its segments do
+pub stops_before : (xs ys : List Segment) (bs : List Batch) (f : Front) → f.stop ≢ AtEnd → IsFrontOf xs bs f → IsFrontOf (xs ++ ys) bs f
+stops_before xs ys bs f ne h = record {
+  begins = begins_more xs ys f.begin h.begins;
+  sequenced = checked_more xs ys f.run.sequenced h.sequenced;
+  front = front_stops f.begin xs ys bs f.stop ne h.front;
+  keeps = h.keeps;
+}
+
+-- the same, with another stop
+pub keeps_same : (bs : List Batch) (f g : Front) → g.begin ≡ f.begin → g.next ≡ f.next → g.markers ≡ f.markers → g.run ≡ f.run → KeepsFront bs f → KeepsFront bs g
+keeps_same bs f g begin next markers run h = record {
+  next = next ∙ (h.next ∙ ap (λ (n : ℕ). n + records_in bs) (sym begin));
+  fits = let e = h.fits in omega (arith, next, e);
+  markers = ap (λ m. m.items) markers ∙ h.markers;
+  run = subst (λ (r : Run). IsRunOf bs r) (sym run) h.run;
+}
+
+pub same_along : (bs : List Batch) (f g : Front) → g.begin ≡ f.begin → g.next ≡ f.next → g.markers ≡ f.markers → g.run ≡ f.run → GoesAlong bs f → GoesAlong bs g
+same_along bs f g begin next markers run h = record {
+  keeps = keeps_same bs f g begin next markers run h.keeps;
+  continuous = subst (λ (n : ℕ). ContinuesFrom n bs) (sym begin) h.continuous;
+}
+
+-- a segment of another name comes
+pub stops_between : (xs ys : List Segment) (bs cs : List Batch) (f g r : Front) → f.stop ≡ AtEnd → g.begin ≢ f.next → r.begin ≡ f.begin → r.next ≡ f.next → r.stop ≡ Elsewhere g.begin → r.markers ≡ f.markers → r.run ≡ f.run
+    → IsFrontOf xs bs f → IsFrontOf ys cs g → IsFrontOf (xs ++ ys) bs r
+stops_between xs ys bs cs f g r end ne begin next stop markers run h k = record {
+  begins = subst (λ (n : ℕ). BeginsAt (xs ++ ys) n) (sym begin) (begins_more xs ys f.begin h.begins);
+  sequenced = subst (λ (x : Run). AreChecked (xs ++ ys) x.sequenced) (sym run) (checked_more xs ys f.run.sequenced h.sequenced);
+  front =
+      let a : IsFront f.begin xs bs AtEnd = subst (λ (st : Stop). IsFront f.begin xs bs st) end h.front in
+      let b : IsFront (f.begin + records_in bs) ys [] (Elsewhere g.begin) = other_name (f.begin + records_in bs) ys g.begin k.begins (λ e. ne (e ∙ sym h.keeps.next)) in
+      let both = front_goes f.begin xs ys bs [] (Elsewhere g.begin) a b in
+      subst (λ (n : ℕ). IsFront n (xs ++ ys) bs r.stop) (sym begin) (subst (λ (st : Stop). IsFront f.begin (xs ++ ys) bs st) (sym stop) (subst (λ (ds : List Batch). IsFront f.begin (xs ++ ys) ds (Elsewhere g.begin)) (append-nil bs) both));
+  keeps = keeps_same bs f r begin next markers run h.keeps;
+}
+
+-- the second goes on where the first ends
+pub goes_on : (xs ys : List Segment) (bs cs : List Batch) (f g r : Front) → f.stop ≡ AtEnd → g.begin ≡ f.next → r.begin ≡ f.begin → r.next ≡ g.next → r.stop ≡ g.stop → r.markers.items ≡ f.markers.items ++ g.markers.items
+    → r.run.sequenced ≡ f.run.sequenced → IsRunOf (bs ++ cs) r.run → IsFrontOf xs bs f → IsFrontOf ys cs g → IsFrontOf (xs ++ ys) (bs ++ cs) r
+goes_on xs ys bs cs f g r end joint begin next stop markers sequenced run h k = record {
+  begins = subst (λ (n : ℕ). BeginsAt (xs ++ ys) n) (sym begin) (begins_more xs ys f.begin h.begins);
+  sequenced = subst (λ (b : Bool). AreChecked (xs ++ ys) b) (sym sequenced) (checked_more xs ys f.run.sequenced h.sequenced);
+  front =
+      let a : IsFront f.begin xs bs AtEnd = subst (λ (st : Stop). IsFront f.begin xs bs st) end h.front in
+      let b : IsFront (f.begin + records_in bs) ys cs g.stop = subst (λ (n : ℕ). IsFront n ys cs g.stop) (joint ∙ h.keeps.next) k.front in
+      subst (λ (n : ℕ). IsFront n (xs ++ ys) (bs ++ cs) r.stop) (sym begin) (subst (λ (st : Stop). IsFront f.begin (xs ++ ys) (bs ++ cs) st) (sym stop) (front_goes f.begin xs ys bs cs g.stop a b));
+  keeps = record {
+    next = let a = records_in-append bs cs in let p = h.keeps.next in let q = k.keeps.next in omega (arith, a, p, q, next, joint, begin);
+    fits = let e = k.keeps.fits in omega (arith, next, e);
+    markers = markers ∙ (ap (λ (ms : List Marker). ms ++ g.markers.items) h.keeps.markers ∙ (ap (λ (ms : List Marker). markers_of bs ++ ms) k.keeps.markers ∙ sym (markers_of-append bs cs)));
+    run = run;
+  };
+}
+
+alone : (at : ℕ) (st : Stop) (bs : List Batch) → GoesOn st bs (λ os. IsFront at [] os st) bs st
+alone at AtEnd bs = ([], sym (append-nil bs), (refl, refl))
+alone at (NoBatch s b f) bs = (refl, refl)
+alone at (Elsewhere n) bs = (refl, refl)
+
+-- one segment
+pub of_one : (x : Segment) (bs : List Batch) (f : Front) → f.begin ≡ base_of x → f.run.sequenced ≡ is_checked x → IsSegmentFront f.begin x.bytes bs f.stop → KeepsFront bs f → IsFrontOf (x ∷ []) bs f
+of_one x bs f begins checked front keeps = record {
+  begins = sym begins;
+  sequenced = checked;
+  front = inr (sym begins, bs, f.stop, front, alone (f.begin + records_in bs) f.stop bs);
+  keeps = keeps;
+}
+
+-- ---- what is kept
+
+pub kept_joined : {K : Type 0} (keep : ℕ → Record → K) (bs cs : List Batch) (ks ls ms : List K) → ks ≡ kept_of keep bs → ls ≡ kept_of keep cs → ms ≡ ks ++ ls → ms ≡ kept_of keep (bs ++ cs)
+kept_joined {K} keep bs cs ks ls ms e f g = g ∙ (ap (λ (xs : List K). xs ++ ls) e ∙ (ap (λ (xs : List K). kept_of keep bs ++ xs) f ∙ sym (flat_map-append (kept_in keep) bs cs)))
+
+pub kept_before : {K : Type 0} (keep : ℕ → Record → K) (xs ys : List Segment) (v : KeptView K) → v.front.stop ≢ AtEnd → IsKept keep xs v → IsKept keep (xs ++ ys) v
+kept_before keep xs ys v ne h = record { batches = h.batches; front = stops_before xs ys h.batches v.front ne h.front; kept = h.kept }
+
+pub kept_between : {K : Type 0} (keep : ℕ → Record → K) (xs ys : List Segment) (v w r : KeptView K) → v.front.stop ≡ AtEnd → w.front.begin ≢ v.front.next → r.front.begin ≡ v.front.begin → r.front.next ≡ v.front.next → r.front.stop ≡ Elsewhere w.front.begin
+    → r.front.markers ≡ v.front.markers → r.front.run ≡ v.front.run → r.kept ≡ v.kept → IsKept keep xs v → IsKept keep ys w → IsKept keep (xs ++ ys) r
+kept_between keep xs ys v w r end ne begin next stop markers run kept h k = record {
+  batches = h.batches;
+  front = stops_between xs ys h.batches k.batches v.front w.front r.front end ne begin next stop markers run h.front k.front;
+  kept = kept ∙ h.kept;
+}
+
+pub kept_on : {K : Type 0} (keep : ℕ → Record → K) (xs ys : List Segment) (v w r : KeptView K) → ((bs cs : List Batch) → IsFrontOf xs bs v.front → IsFrontOf ys cs w.front → IsFrontOf (xs ++ ys) (bs ++ cs) r.front) → r.kept ≡ v.kept ++ w.kept
+    → IsKept keep xs v → IsKept keep ys w → IsKept keep (xs ++ ys) r
+kept_on keep xs ys v w r front kept h k = record {
+  batches = h.batches ++ k.batches;
+  front = front h.batches k.batches h.front k.front;
+  kept = kept_joined keep h.batches k.batches v.kept w.kept r.kept h.kept k.kept kept;
+}

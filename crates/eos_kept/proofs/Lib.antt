@@ -1,0 +1,3 @@
+pub mod PassedHeads
+pub mod JoinedKept
+pub mod ChunkSteps

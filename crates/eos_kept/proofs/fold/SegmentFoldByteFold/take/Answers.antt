@@ -1,0 +1,37 @@
+use Rattle.std.proofs.Common.{◌≡◌, ◌≢◌, ◌+◌, ◌++◌, List, length, take, sym, ap, subst, ◌∙◌, rules}
+use Rattle.eos_batch.specs.declared.head.BatchHead.{BatchHead}
+use Rattle.eos_fold.specs.declared.stop.Stop.TheVariants.{AtEnd}
+use Rattle.eos_reading.specs.Runs as read
+use Rattle.eos_kept.specs.steps.Passing.{AreHeads}
+use Rattle.eos_kept.specs.steps.Folding.{IsFolding}
+use Rattle.eos_kept.proofs.PassedHeads.{are_heads}
+use Rattle.eos_kept.proofs.ChunkSteps.{chunk, chunk_behind}
+use Rattle.eos_kept.proofs.fold.SegmentFoldByteFold.take.Goals as goal
+
+pub returns-then-not-is_at_end-clause-goes_on : goal.returns-then-not-is_at_end-clause-goes_on
+returns-then-not-is_at_end-clause-goes_on g c = λ fed waiting more f is.
+    let stopped : c.self.inside.front.stop ≢ AtEnd = search rules in
+    chunk_behind (g.K.Reading.kept c.args.told.now.reading) c.args.told.now.begin c.args.told.now.sequenced fed waiting more _ c.args.self.now (subst (λ v. v.front.stop ≢ AtEnd) c.self.view_is stopped) f
+
+pub pass_all-requires-clause-heads : goal.pass_all-requires-clause-heads
+pass_all-requires-clause-heads g c =
+    let run = c.in_ok-taken.ensures in
+    let same : c.keep_batches.new.heads.items ≡ run.more = run.heads_are ∙ ap (λ (hs : List BatchHead). hs ++ run.more) c.clear.ensures.items in
+    (run.batches, subst (λ (hs : List BatchHead). AreHeads run.batches hs) (sym same) (are_heads c.args.buffer.now run.batches run.more _ run.reads))
+
+pub returns-clause-goes_on : goal.returns-clause-goes_on
+returns-clause-goes_on g c = λ fed waiting more f is.
+    let keep = g.K.Reading.kept c.args.told.now.reading in
+    let buffer = c.args.buffer.now in
+    let v = c.self.inside in
+    let first = c.in_ok-taken.ensures in
+    let run = subst (λ (hs : List BatchHead). read.IsRun keep buffer hs c.keep_batches.new.heads.items v.kept.items c.keep_batches.new.kept.items c.in_ok-taken.taken c.in_ok-taken.fault) c.clear.ensures.items first in
+    let same : c.keep_batches.new.heads.items ≡ run.more = run.heads_are in
+    let heads = subst (λ (hs : List BatchHead). AreHeads run.batches hs) (sym same) (are_heads buffer run.batches run.more _ run.reads) in
+    let end : v.front.stop ≡ AtEnd = search rules in
+    let before : c.len-before.result ≡ length v.kept.items = search rules in
+    let place : c.in-Some.place ≡ v.place + c.in_ok-taken.taken = search rules in
+    let kept = c.in_ok-keep_first.ensures ∙ ap (λ n. take (n + c.in_ok-count.count) c.keep_batches.new.kept.items) before in
+    chunk keep c.args.told.now.begin c.args.told.now.sequenced fed waiting more buffer _ _ c.pass_all.new.front _ _ c.in_ok-taken.taken c.in_ok-count.count c.in_ok-taken.fault is end run
+    (c.in_ok-count.ensures.passed run.batches heads) c.pass_all.ensures.begin c.pass_all.ensures.sequenced kept place c.end_at.ensures
+    (subst (λ v. IsFolding keep c.args.told.now.begin c.args.told.now.sequenced fed waiting v) (sym c.self.view_is) f)

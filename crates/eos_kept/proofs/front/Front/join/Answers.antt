@@ -1,0 +1,17 @@
+use Rattle.std.proofs.Common.{List, ◌++◌, refl, ap, ◌∙◌}
+use Rattle.eos_batch.specs.declared.marker.Marker.{Marker}
+use Rattle.eos_kept.proofs.JoinedKept.{goes_on}
+use Rattle.eos_kept.proofs.front.Front.join.Goals as goal
+
+pub returns-in-Ok-append-clause-run : goal.returns-in-Ok-append-clause-run
+returns-in-Ok-append-clause-run c =
+    let r = c.requires.before in
+    let s = c.requires.after in
+    (r.0 ++ s.0, c.in-Ok.ensures.ok r.0 s.0 r.1 s.1)
+
+pub returns-in-Ok-append-clause-ok : goal.returns-in-Ok-append-clause-ok
+returns-in-Ok-append-clause-ok c = λ xs ys bs cs h k.
+    let f = c.args.before in
+    let g = c.args.after in
+    goes_on xs ys bs cs f g _ c.requires.end c.requires.next refl refl refl (c.in-Ok-append.ensures.items ∙ ap (λ (ms : List Marker). ms ++ g.markers.items) c.reserve.ensures.items) c.in-Ok.ensures.sequenced
+    (c.in-Ok.ensures.ok bs cs h.keeps.run k.keeps.run) h k

@@ -1,0 +1,48 @@
+-- The batches of a chunk, passed one after the other as far as each begins where the one before ends.
+use Rattle.std.specs.Prelude.{◌≡◌, ◌≢◌, ℕ, ◌+◌, List, [], ◌∷◌, ◌++◌, length, ⊤, if◌then◌else◌}
+use Rattle.eos_batch.specs.declared.batch.Batch.{Batch}
+use Rattle.eos_batch.specs.declared.head.BatchHead.{BatchHead}
+use Rattle.eos_batch.specs.Attributes.{is_control}
+use Rattle.eos_batch.specs.Offsets.{offset_of}
+use Rattle.eos_batch.specs.Rules.{IsCounted}
+use Rattle.eos_touch.specs.Front.{ContinuesFrom}
+use Rattle.eos_fold.specs.declared.stop.Stop.{Stop}
+use Rattle.eos_fold.specs.declared.stop.Stop.TheVariants.{AtEnd, Elsewhere}
+use Rattle.eos_run.specs.Runs.{IsHeadOf}
+use Rattle.eos_kept.specs.declared.front.Front.{Front}
+use Rattle.eos_kept.specs.Kept.{KeepsFront}
+
+-- the head of a batch whose offsets fit
+pub record IsRealHead (b : Batch) (head : BatchHead) : Type 0 where
+  pub of : IsHeadOf b head
+  pub counted : IsCounted b
+
+abbrev pub AreHeads : List Batch → List BatchHead → Type 0
+AreHeads [] [] = ⊤
+AreHeads [] (h ∷ hs) = ⊥
+AreHeads (b ∷ bs) [] = ⊥
+AreHeads (b ∷ bs) (h ∷ hs) = IsRealHead b h × AreHeads bs hs
+
+-- the number of data records
+abbrev pub data_count : List Batch → ℕ
+data_count [] = 0
+data_count (b ∷ bs) = (if is_control b.attributes then 0 else length b.records) + data_count bs
+
+-- all were passed, or the next one begins elsewhere
+abbrev pub EndsBefore : List Batch → Stop → ℕ → Type 0
+EndsBefore [] stop next = stop ≡ AtEnd
+EndsBefore (b ∷ bs) stop next = (stop ≡ Elsewhere (offset_of b)) × (offset_of b ≢ next)
+
+-- a front that goes on from its name
+pub record GoesAlong (batches : List Batch) (f : Front) : Type 0 where
+  pub keeps : KeepsFront batches f
+  pub continuous : ContinuesFrom f.begin batches
+
+-- the first of these batches were passed, with so many data records
+pub record Passes (batches : List Batch) (old new : Front) (count : ℕ) : Type 0 where
+  pub passed : List Batch
+  pub others : List Batch
+  pub parts : batches ≡ passed ++ others
+  pub counted : count ≡ data_count passed
+  pub ends : EndsBefore others new.stop new.next
+  pub along : (before : List Batch) → GoesAlong before old → GoesAlong (before ++ passed) new

@@ -1,0 +1,166 @@
+//! A segment's front as far as its bytes were fed.
+
+ghost use Rattle.std.specs.Prelude.{◌≡◌, ◌≤◌, ◌+◌, ◌∷◌, [], ◌^◌, ℕ, List, length, take, OnOk};
+ghost use Rattle.eos_batch.specs.declared.record.Record.{Record};
+ghost use Rattle.eos_evidence.specs.declared.segment.Segment.{Segment};
+ghost use Rattle.eos_fold.specs.Fronts.{base_of};
+ghost use Rattle.eos_fold.specs.Sums.{is_checked};
+ghost use Rattle.eos_kept.specs.Kept.{IsKept};
+ghost use Rattle.eos_kept.specs.steps.Folding.{IsFolding, EndsAt, CutsAt};
+
+use crate::front::{Front, is_at_end};
+use crate::pass::pass_all;
+use crate::summary::Kept;
+use bytes::Bytes;
+use eos_batch::{BatchFault, BatchHead};
+use eos_chunks::ByteFold;
+use eos_fold::Stop;
+use eos_reading::{Reading, keep_batches};
+use std::alloc::{AllocError, Global};
+use std::marker::Model;
+
+/// What is asked of a segment.
+#[derive(Drop)]
+pub(crate) struct Asked<K> {
+    pub(crate) reading: K,
+    /// The segment's name.
+    pub(crate) begin: u64,
+    /// Whether sequences are checked.
+    pub(crate) sequenced: bool,
+}
+
+/// A segment as far as it was read.
+#[derive(Drop)]
+pub(crate) struct SegmentFold<K: Reading> {
+    front: Front,
+    kept: Vec<K::Kept>,
+    /// The byte after the last batch.
+    place: u64,
+    /// The heads of a chunk's batches.
+    heads: Vec<BatchHead>,
+}
+
+impl<K: Reading> Model for SegmentFold<K> {
+    ghost use Rattle.std.specs.Coded.{codes};
+    ghost use Rattle.eos_run.specs.Runs.{IsRun};
+    ghost use Rattle.eos_kept.specs.contracts.front.Front as of_front;
+    ghost use Rattle.eos_kept.specs.steps.Folding.{FoldView};
+
+    ghost Value = { FoldView K.Kept };
+
+    ghost coded = { Prim.hlevel (codes, of_front.the_row.coded) };
+
+    ghost view = { λ f. record { front = f.front; kept = f.kept.items; place = f.place } };
+
+    ghost invariant = { λ f. IsRun f.front.run };
+}
+
+/// Ends a front at this byte, where no batch stands there and none can.
+fn end_at(front: &mut Front, place: u64, fault: BatchFault)
+    ensures { EndsAt place fault front.old front.new }
+{
+    if !is_at_end(front.stop) {
+        return;
+    }
+    if fault != BatchFault::Truncated {
+        front.stop = Stop::NoBatch {
+            segment: front.begin,
+            byte: place,
+            fault,
+        };
+    }
+}
+
+/// Ends a front at this byte, where so many bytes wait for more and none follow.
+fn cut_at(front: &mut Front, place: u64, waiting: usize)
+    ensures { CutsAt place waiting front.old front.new }
+{
+    if waiting == 0 {
+        return;
+    }
+    if !is_at_end(front.stop) {
+        return;
+    }
+    front.stop = Stop::NoBatch {
+        segment: front.begin,
+        byte: place,
+        fault: BatchFault::Truncated,
+    };
+}
+
+/// Cuts what is kept back to so many after those before.
+fn keep_first<T: Drop>(kept: &mut Vec<T>, before: usize, count: usize) -> Result<(), AllocError>
+    ensures { OnOk result (kept.new.items ≡ take (before + count) kept.old.items) }
+{
+    let Some(end) = before.checked_add(count) else {
+        return Err(AllocError);
+    };
+    kept.truncate(end);
+    Ok(())
+}
+
+impl<K: Reading> ByteFold for SegmentFold<K> {
+    ghost use Rattle.eos_kept.specs.steps.Folding.{IsFolding};
+
+    type Told = Asked<K>;
+
+    ghost holds = { λ asked f fed waiting. IsFolding (K.kept asked.reading) asked.begin asked.sequenced fed waiting f };
+
+    fn take(
+        &mut self,
+        alloc: Global,
+        told: &Asked<K>,
+        buffer: &Bytes,
+    ) -> Result<usize, AllocError> {
+        if !is_at_end(self.front.stop) {
+            return Ok(buffer.len());
+        }
+        let before = self.kept.len();
+        self.heads.clear();
+        let (taken, fault) = keep_batches(
+            alloc,
+            &told.reading,
+            buffer,
+            &mut self.heads,
+            &mut self.kept,
+        )?;
+        let count = pass_all(alloc, &mut self.front, &self.heads)?;
+        keep_first(&mut self.kept, before, count)?;
+        let Some(place) = self.place.checked_add(taken as u64) else {
+            return Err(AllocError);
+        };
+        self.place = place;
+        end_at(&mut self.front, place, fault);
+        Ok(taken)
+    }
+}
+
+impl<K: Reading> SegmentFold<K> {
+    /// Before the first byte of a segment of this name.
+    pub(crate) fn new(alloc: Global, begin: u64, sequenced: bool) -> SegmentFold<K>
+        requires { begin ≤ 2 ^ 63 }
+        ensures { (keep : ℕ → Record → K.Kept) → IsFolding keep begin sequenced [] [] result }
+    {
+        SegmentFold {
+            front: Front::new(alloc, begin, sequenced),
+            kept: Vec::new(alloc),
+            place: 0,
+            heads: Vec::new(alloc),
+        }
+    }
+
+    /// What the whole segment gives, of which so many bytes still wait.
+    pub(crate) fn finish(self, waiting: usize) -> Kept<K::Kept>
+        ensures { (keep : ℕ → Record → K.Kept) (segment : Segment) (rest : List ℕ) → length rest ≡ waiting
+            → IsFolding keep (base_of segment) (is_checked segment) segment.bytes rest self → IsKept keep (segment ∷ []) result }
+    {
+        let SegmentFold {
+            mut front,
+            kept,
+            place,
+            ..
+        } = self;
+        cut_at(&mut front, place, waiting);
+        Kept::new(front, kept)
+    }
+}

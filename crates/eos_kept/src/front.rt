@@ -1,0 +1,112 @@
+//! The front of a list of segments, without its records.
+
+ghost use Rattle.std.specs.Prelude.{◌≡◌, ◌≢◌, ◌≤◌, ◌^◌, true, false, [], ◌++◌, List, IfOk, IfErr, OnOk};
+ghost use Rattle.std.specs.Option.{option_to_list};
+ghost use Rattle.eos_batch.specs.declared.batch.Batch.{Batch};
+ghost use Rattle.eos_evidence.specs.declared.segment.Segment.{Segment};
+ghost use Rattle.eos_fold.specs.declared.stop.Stop.TheVariants.{AtEnd};
+ghost use Rattle.eos_run.specs.Runs.{IsRun};
+ghost use Rattle.eos_kept.specs.Kept.{KeepsFront, IsFrontOf, SameFront};
+
+use eos_batch::Marker;
+use eos_fold::Stop;
+use eos_run::Run;
+use std::alloc::{AllocError, Global};
+
+/// The front of a list of segments.
+#[derive(Drop)]
+pub struct Front {
+    /// The name of its first segment.
+    pub(crate) begin: u64,
+    /// The offset after its last record.
+    pub(crate) next: u64,
+    /// Why it ends.
+    pub(crate) stop: Stop,
+    /// Its end markers.
+    pub(crate) markers: Vec<Marker>,
+    pub(crate) run: Run,
+}
+
+/// Whether a front uses all bytes.
+pub(crate) fn is_at_end(stop: Stop) -> bool
+    ensures at_end { result ≡ true → stop ≡ AtEnd }
+    ensures other { result ≡ false → stop ≢ AtEnd }
+{
+    match stop {
+        Stop::AtEnd => true,
+        _ => false,
+    }
+}
+
+/// Puts an end marker at the end, if there is one.
+pub(crate) fn push_marker(
+    markers: &mut Vec<Marker>,
+    marker: Option<Marker>,
+) -> Result<(), AllocError>
+    ensures { OnOk result (markers.new.items ≡ markers.old.items ++ option_to_list marker) }
+{
+    let Some(marker) = marker else {
+        return Ok(());
+    };
+    markers.push(marker)?;
+    Ok(())
+}
+
+impl Front {
+    /// Before the first batch of a segment of this name.
+    pub(crate) fn new(alloc: Global, begin: u64, sequenced: bool) -> Front
+        requires { begin ≤ 2 ^ 63 }
+        ensures begin { result.begin ≡ begin }
+        ensures stop { result.stop ≡ AtEnd }
+        ensures sequenced { result.run.sequenced ≡ sequenced }
+        ensures keeps { KeepsFront [] result }
+    {
+        Front {
+            begin,
+            next: begin,
+            stop: Stop::AtEnd,
+            markers: Vec::new(alloc),
+            run: Run::new(alloc, sequenced),
+        }
+    }
+
+    /// Joins two fronts of which the second begins where the first ends. Where memory is refused both are handed back.
+    pub(crate) fn join(
+        alloc: Global,
+        mut before: Front,
+        mut after: Front,
+    ) -> Result<Front, (Front, Front)>
+        requires before { IsRun before.run }
+        requires after { IsRun after.run }
+        requires same { after.run.sequenced ≡ before.run.sequenced }
+        requires end { before.stop ≡ AtEnd }
+        requires next { after.begin ≡ before.next }
+        ensures run { IfOk result (λ f. IsRun f.run) }
+        ensures sequenced { IfOk result (λ f. f.run.sequenced ≡ before.run.sequenced) }
+        ensures ok { (xs ys : List Segment) (bs cs : List Batch) → IsFrontOf xs bs before → IsFrontOf ys cs after → IfOk result (IsFrontOf (xs ++ ys) (bs ++ cs)) }
+        ensures err { IfErr result (λ back. SameFront before back.0 × SameFront after back.1) }
+    {
+        if before.markers.reserve(after.markers.len()).is_err() {
+            return Err((before, after));
+        }
+        match Run::join(alloc, before.run, after.run) {
+            Ok(run) => {
+                let Ok(()) = before.markers.append(&mut after.markers) else {
+                    unreachable!()
+                };
+                Ok(Front {
+                    begin: before.begin,
+                    next: after.next,
+                    stop: after.stop,
+                    markers: before.markers,
+                    run,
+                })
+            }
+            Err((run, run_after)) => {
+                before.run = run;
+                after.run = run_after;
+                Err((before, after))
+            }
+        }
+    }
+}

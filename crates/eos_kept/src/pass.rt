@@ -1,0 +1,70 @@
+//! A chunk's batches, passed one after the other.
+
+ghost use Rattle.std.specs.Prelude.{◌≡◌, ◌≤◌, ◌+◌, ◌^◌, ◌∷◌, [], ◌++◌, List, IfOk, OnOk, if◌then◌else◌};
+ghost use Rattle.eos_batch.specs.declared.batch.Batch.{Batch};
+ghost use Rattle.eos_fold.specs.declared.stop.Stop.TheVariants.{AtEnd};
+ghost use Rattle.eos_run.specs.Runs.{IsRun};
+ghost use Rattle.eos_kept.specs.steps.Passing.{IsRealHead, AreHeads, GoesAlong, Passes};
+
+use crate::front::{Front, push_marker};
+use eos_batch::BatchHead;
+use eos_fold::Stop;
+use std::alloc::{AllocError, Global};
+
+/// Passes the batch that begins at the front's next offset.
+fn pass_next(alloc: Global, front: &mut Front, head: &BatchHead) -> Result<(), AllocError>
+    requires run { IsRun front.old.run }
+    requires head { (b : Batch) × IsRealHead b head.now }
+    requires next { head.now.offset ≡ front.old.next }
+    ensures run { IsRun front.new.run }
+    ensures begin { front.new.begin ≡ front.old.begin }
+    ensures stop { front.new.stop ≡ front.old.stop }
+    ensures sequenced { front.new.run.sequenced ≡ front.old.run.sequenced }
+    ensures next { OnOk result (front.new.next ≡ front.old.next + head.now.count) }
+    ensures fits { OnOk result (front.new.next ≤ 2 ^ 63) }
+    ensures passed { (batches : List Batch) (b : Batch) → IsRealHead b head.now → GoesAlong batches front.old → OnOk result (GoesAlong (batches ++ b ∷ []) front.new) }
+{
+    front.run.take(alloc, head)?;
+    push_marker(&mut front.markers, head.marker)?;
+    front.next += u64::from(head.count);
+    Ok(())
+}
+
+/// The number of a batch's data records.
+fn data_records(head: &BatchHead) -> usize
+    ensures value { result ≡ (if head.now.is_control then 0 else head.now.count) }
+    ensures bound { result ≤ head.now.count }
+{
+    if head.is_control {
+        return 0;
+    }
+    head.count as usize
+}
+
+/// Passes a chunk's batches, up to one that begins at another offset than the front's next. The answer is the number of data
+/// records of those that were passed.
+pub(crate) fn pass_all(
+    alloc: Global,
+    front: &mut Front,
+    heads: &Vec<BatchHead>,
+) -> Result<usize, AllocError>
+    requires run { IsRun front.old.run }
+    requires stop { front.old.stop ≡ AtEnd }
+    requires heads { (bs : List Batch) × AreHeads bs heads.now.items }
+    ensures run { IsRun front.new.run }
+    ensures begin { front.new.begin ≡ front.old.begin }
+    ensures sequenced { front.new.run.sequenced ≡ front.old.run.sequenced }
+    ensures passed { IfOk result (λ count. (bs : List Batch) → AreHeads bs heads.now.items → Passes bs front.old front.new count) }
+{
+    let mut count = 0;
+    for i in 0..heads.len() {
+        let head = heads[i];
+        if head.offset != front.next {
+            front.stop = Stop::Elsewhere { found: head.offset };
+            return Ok(count);
+        }
+        pass_next(alloc, front, &head)?;
+        count += data_records(&head);
+    }
+    Ok(count)
+}

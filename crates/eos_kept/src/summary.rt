@@ -1,0 +1,126 @@
+//! What is kept of a list of segments, and of two.
+
+ghost use Rattle.std.specs.Prelude.{◌≡◌, ◌++◌, ℕ, List, IfOk, IfErr};
+ghost use Rattle.eos_batch.specs.declared.record.Record.{Record};
+ghost use Rattle.eos_evidence.specs.declared.segment.Segment.{Segment};
+ghost use Rattle.eos_run.specs.Runs.{IsRun};
+ghost use Rattle.eos_kept.specs.Kept.{IsKept, SameKept};
+
+use crate::front::{Front, is_at_end};
+use eos_batch::Marker;
+use eos_fold::Stop;
+use eos_run::DataHead;
+use std::alloc::Global;
+use std::marker::Model;
+
+/// What is kept of a list of segments: their front, and of each data record of it what a reading keeps.
+#[derive(Drop)]
+pub struct Kept<T> {
+    front: Front,
+    kept: Vec<T>,
+}
+
+impl<T> Model for Kept<T> {
+    ghost use Rattle.std.specs.Coded.{codes};
+    ghost use Rattle.eos_run.specs.Runs.{IsRun};
+    ghost use Rattle.eos_kept.specs.Kept.{KeptView};
+    ghost use Rattle.eos_kept.specs.contracts.front.Front as of_front;
+
+    ghost Value = { KeptView T };
+
+    ghost coded = { Prim.hlevel (codes, of_front.the_row.coded) };
+
+    ghost view = { λ k. record { front = k.front; kept = k.kept.items } };
+
+    ghost invariant = { λ k. IsRun k.front.run };
+}
+
+impl<T> Kept<T> {
+    pub(crate) fn new(front: Front, kept: Vec<T>) -> Kept<T>
+        requires { IsRun front.run }
+        ensures front { result.front ≡ front }
+        ensures kept { result.kept ≡ kept.items }
+    {
+        Kept { front, kept }
+    }
+
+    /// The heads of the front's data batches, in order, each with its ending as far as these segments say. What is kept of a
+    /// batch's records are the next so many of what is kept.
+    pub fn heads(&self) -> &[DataHead]
+        ensures { result.now ≡ self.now.front.run.heads.list }
+    {
+        self.front.run.heads()
+    }
+
+    /// What is kept of the front's data records, in order.
+    pub fn kept(&self) -> &[T]
+        ensures { result.now ≡ self.now.kept }
+    {
+        self.kept.as_slice()
+    }
+
+    /// The front's end markers, in order.
+    pub fn markers(&self) -> &[Marker]
+        ensures { result.now ≡ self.now.front.markers.items }
+    {
+        self.front.markers.as_slice()
+    }
+
+    /// The offset after the front's last record.
+    pub fn next(&self) -> u64
+        ensures { result ≡ self.now.front.next }
+    {
+        self.front.next
+    }
+
+    /// Why the front ends.
+    pub fn stop(&self) -> Stop
+        ensures { result ≡ self.now.front.stop }
+    {
+        self.front.stop
+    }
+}
+
+impl<T: Drop> Kept<T> {
+    /// What is kept of two lists of segments of one partition, of which the second follows the first. Where memory is refused
+    /// both are handed back.
+    pub fn join(
+        alloc: Global,
+        mut before: Kept<T>,
+        mut after: Kept<T>,
+    ) -> Result<Kept<T>, (Kept<T>, Kept<T>)>
+        requires { after.front.run.sequenced ≡ before.front.run.sequenced }
+        ensures ok { (keep : ℕ → Record → T) (xs ys : List Segment) → IsKept keep xs before → IsKept keep ys after → IfOk result (IsKept keep (xs ++ ys)) }
+        ensures sequenced { IfOk result (λ k. k.front.run.sequenced ≡ before.front.run.sequenced) }
+        ensures err { IfErr result (λ back. SameKept before back.0 × SameKept after back.1) }
+    {
+        if !is_at_end(before.front.stop) {
+            return Ok(before);
+        }
+        if after.front.begin != before.front.next {
+            before.front.stop = Stop::Elsewhere {
+                found: after.front.begin,
+            };
+            return Ok(before);
+        }
+        if before.kept.reserve(after.kept.len()).is_err() {
+            return Err((before, after));
+        }
+        match Front::join(alloc, before.front, after.front) {
+            Ok(front) => {
+                let Ok(()) = before.kept.append(&mut after.kept) else {
+                    unreachable!()
+                };
+                Ok(Kept {
+                    front,
+                    kept: before.kept,
+                })
+            }
+            Err((front, front_after)) => {
+                before.front = front;
+                after.front = front_after;
+                Err((before, after))
+            }
+        }
+    }
+}
