@@ -89,7 +89,7 @@ def prove(crates, work=None):
     for crate in crates:
         waits = [(it.name, "proof") for it in crate.below() if it.name in names]
         call = lambda given, jobs, it=crate: task(it, given, jobs)
-        tasks[crate.name, "proof"] = (waits, progress.cost[crate.name], rt.need(crate), call)
+        tasks[crate.name, "proof"] = (waits, progress.cost[crate.name], 0.55 * rt.need(crate), call)
     progress.say(f"proving {len(crates)} crates on {rt.processors()} processors")
     given = in_lanes(tasks)
     return [it.name for it in crates if not given[it.name, "proof"]]

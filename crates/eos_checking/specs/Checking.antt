@@ -1,5 +1,4 @@
--- What `check` prints for an evidence: the line of its verdict, or the lines of all its faults, as text or as JSON, and on standard
--- error the lines of its notes.
+-- What `check` prints for an evidence: the line of its verdict, or the lines of all its faults, as text or as JSON.
 use Rattle.std.specs.Prelude.{◌≡◌, ℕ, List, [], ◌∷◌, ◌++◌, Bool, true, false, codes, Option, None, Some, if◌then◌else◌}
 use Rattle.serde_json.specs.Written.{compact_text}
 use Rattle.eos_check.specs.declared.verdict.Fault.{Fault}
@@ -14,7 +13,6 @@ use Rattle.eos_json_report.specs.declared.about.About.{About}
 use Rattle.eos_json_report.specs.Reports.{IsReportText}
 use Rattle.eos_notes.specs.declared.note.Note.{Note}
 use Rattle.eos_notes.specs.Notes.{AreNotes}
-use Rattle.eos_notes.specs.Texts.{note_lines}
 use Rattle.eos_report.specs.VerdictTexts.{verdict_line, verdict_value, status_of}
 use Rattle.eos_report.specs.FaultLists.{list_text, list_json}
 use Rattle.eos_tallies.specs.declared.tally.Tallies.{Tallies}
@@ -57,11 +55,6 @@ pub record IsCheckAnswer (about : List ℕ) (e : EvidenceParts) (json all : Bool
   pub told : AreTold e all verdict faults
   pub lines : text ≡ answer_text about json all verdict faults
   pub exit : status ≡ status_of verdict
-
--- the lines of the notes, or nothing where they are left out
-abbrev pub IsNotesText : EvidenceParts → Bool → List ℕ → Type 0
-IsNotesText e true text = text ≡ []
-IsNotesText e false text = (notes : List Note) × AreNotes e notes × (text ≡ note_lines notes)
 
 -- a report on this evidence: its JSON value is that of the verdict, of the faults that are told, of the notes and of the tables
 pub record IsReport (e : EvidenceParts) (all : Bool) (about : About) (text : List ℕ) : Type 0 where

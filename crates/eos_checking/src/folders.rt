@@ -1,12 +1,11 @@
 //! `check` of folders: reads them one after the other, and tells of each its verdict and what else is wanted.
 
 use crate::check::{Asked, check_to};
-use crate::notes::say_notes;
-use crate::progress::{Meter, Progress};
 use eos_ending::{Ending, STANDARD, Subject, end_about, fill_file, make_file};
 use eos_evidence::Evidence;
-use eos_folder::{Cause, FolderFault, read_folder};
+use eos_folder::{Cause, read_folder};
 use eos_json_report::About;
+use eos_progress::{Meter, Progress, end_unread, say_notes};
 use eos_segment::RunFault;
 use eos_words::{Check, VERSION};
 use std::io;
@@ -155,15 +154,4 @@ fn asked_by<'a>(words: &Check<'a>, folder: &'a str, subject: Subject<'a>) -> Ask
         subject,
         report: words.report.map(|_| about),
     }
-}
-
-/// Says why a folder isn't read, and gives the exit status.
-pub fn end_unread(rt: &HostRuntime, subject: Subject<'_>, fault: &FolderFault) -> u8 {
-    let ending = match fault {
-        FolderFault::CannotRead(path, cause) => Ending::CannotRead(path.as_str(), cause),
-        FolderFault::Manifest(fault, cause) => Ending::Manifest(*fault, cause),
-        FolderFault::Limit(cause) => Ending::Limit(cause),
-        FolderFault::OutOfMemory => Ending::OutOfMemory,
-    };
-    end_about(rt, subject, ending)
 }

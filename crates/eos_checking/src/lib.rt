@@ -4,12 +4,8 @@
 
 mod check;
 mod folders;
-mod notes;
-mod progress;
 mod report;
 
 pub use check::{Asked, Said, check_to};
-pub use folders::{check_words, end_unread};
-pub use notes::{lines_of, say_notes};
-pub use progress::{Meter, Progress};
+pub use folders::check_words;
 pub use report::Timed;

@@ -10,12 +10,24 @@ use eos_evidence::Evidence;
 use eos_fold::Part;
 use eos_json_report::{About, Findings, Times, report_text};
 use eos_notes::notes;
+use eos_progress::Progress;
 use eos_tallies::tallies_of;
 use std::alloc::{AllocError, Global};
 
 /// Who knows how long the stages of a check took. No contract speaks of it.
 pub trait Timed {
     fn times(&self) -> Times;
+}
+
+impl Timed for Progress<'_> {
+    fn times(&self) -> Times {
+        let stages = self.stages();
+        Times {
+            read: stages.read,
+            folded: stages.folded,
+            judged: stages.judged,
+        }
+    }
 }
 
 /// The report on an evidence whose logs and verdict these are, if one is wanted.

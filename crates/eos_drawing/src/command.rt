@@ -1,14 +1,14 @@
 //! `draw`: the picture of a fault of an evidence, as a new file.
 
-use crate::layout::drawing_of;
 use eos_all_faults::all_faults;
 use eos_check::{Fault, Verdict, logs_of, verdict_of};
-use eos_checking::{Meter, Progress, end_unread};
 use eos_ending::{Ending, STANDARD, Subject, end, fill_file, make_file};
 use eos_evidence::Evidence;
 use eos_fold::Part;
 use eos_folder::read_folder;
+use eos_layout::drawing_of;
 use eos_picture::picture_of;
+use eos_progress::{Meter, Progress, end_unread};
 use eos_report::verdict_line;
 use eos_svg::svg_text;
 use eos_words::Draw;

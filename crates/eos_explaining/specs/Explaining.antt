@@ -6,11 +6,11 @@ use Rattle.eos_check.specs.declared.verdict.Verdict.{Verdict}
 use Rattle.eos_check.specs.declared.verdict.Verdict.TheVariants.{Yes, No}
 use Rattle.eos_check.specs.Verdicts.{IsVerdict}
 use Rattle.eos_check.specs.declared.verdict.Counts.{Counts}
-use Rattle.eos_checking.specs.Checking.{IsNotesText}
 use Rattle.eos_evidence.specs.Evidence.{EvidenceParts}
 use Rattle.eos_fold.specs.Parts.{PartLog}
 use Rattle.eos_lineage.specs.EvidenceLogs.{AreLogsOf}
 use Rattle.eos_all_faults.specs.AllFaults.{AreAllFaults}
+use Rattle.eos_notes.specs.Lines.{IsNotesText}
 use Rattle.eos_notes.specs.Notes.{AreNotes}
 use Rattle.eos_report.specs.VerdictTexts.{verdict_line}
 use Rattle.eos_story.specs.PlaceOfFault.{place_in}

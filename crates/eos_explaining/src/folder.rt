@@ -1,10 +1,10 @@
 //! `explain` of a folder.
 
 use crate::answer::{Answer, explain};
-use eos_checking::{Meter, Progress, end_unread, say_notes};
 use eos_ending::{Ending, STANDARD, Subject, end};
 use eos_evidence::Evidence;
 use eos_folder::{Cause, read_folder};
+use eos_progress::{Meter, Progress, end_unread, say_notes};
 use eos_segment::RunFault;
 use eos_text::finish;
 use eos_words::Explain;

@@ -2,4 +2,5 @@ pub mod ManifestNotes
 pub mod CommitNotes
 pub mod Notes
 pub mod Texts
+pub mod Lines
 pub mod steps

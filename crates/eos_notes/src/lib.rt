@@ -6,11 +6,13 @@
 
 mod evidence_notes;
 mod groups;
+mod lines;
 mod manifest;
 mod note;
 mod text;
 mod unlisted;
 
 pub use evidence_notes::notes;
+pub use lines::lines_of;
 pub use note::{InternalTopic, Note};
 pub use text::note_lines;

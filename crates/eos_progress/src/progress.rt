@@ -1,11 +1,9 @@
 //! How far a check is, as standard error is told, and how long its stages took.
 
-use crate::report::Timed;
 use eos_board_core::Gate;
 use eos_ending::Subject;
 use eos_fold::Named;
 use eos_folder::Watch;
-use eos_json_report::Times;
 use std::sync::atomic::{AtomicU64, Ordering};
 use std::time::Instant;
 
@@ -63,13 +61,24 @@ impl<'a> Meter<'a> {
 #[derive(Drop)]
 pub struct Progress<'a> {
     meter: &'a Meter<'a>,
-    pub(crate) subject: Subject<'a>,
+    pub subject: Subject<'a>,
     /// At which millisecond of the run it began.
     begun: u64,
     /// How many segments there are.
     segments: AtomicU64,
     read: Stage,
     folded: Stage,
+}
+
+/// How many milliseconds the stages of a check took.
+#[derive(Clone, Copy)]
+pub struct Stages {
+    /// Reading the segments.
+    pub read: u64,
+    /// Folding them.
+    pub folded: u64,
+    /// Judging the whole.
+    pub judged: u64,
 }
 
 /// A stage of a check.
@@ -136,29 +145,27 @@ impl<'a> Progress<'a> {
     /// The check is done: tells how long its stages took.
     pub fn end(&self) {
         if self.meter.tells && self.meter.start.is_some() {
-            self.tell_times(self.times());
+            self.tell_stages(self.stages());
         }
     }
 
-    fn tell_times(&self, times: Times) {
+    fn tell_stages(&self, stages: Stages) {
         let subject = self.subject;
-        let (read, read_rest) = (times.read / 1000, times.read % 1000);
-        let (folded, folded_rest) = (times.folded / 1000, times.folded % 1000);
-        let (judged, judged_rest) = (times.judged / 1000, times.judged % 1000);
+        let (read, read_rest) = (stages.read / 1000, stages.read % 1000);
+        let (folded, folded_rest) = (stages.folded / 1000, stages.folded % 1000);
+        let (judged, judged_rest) = (stages.judged / 1000, stages.judged % 1000);
         let _ = eprint!(self.meter.rt;
             "{subject}eoscheck: seconds read={read}.{read_rest:03} folded={folded}.{folded_rest:03} judged={judged}.{judged_rest:03}\n"
         );
     }
-}
 
-impl Timed for Progress<'_> {
     /// How long its stages took until now; nothing where there is no clock.
-    fn times(&self) -> Times {
+    pub fn stages(&self) -> Stages {
         let now = self.meter.now().unwrap_or(self.begun);
         let read = self.read.last.load(Ordering::SeqCst).max(self.begun);
         let folded = self.folded.last.load(Ordering::SeqCst).max(read);
         let judged = now.max(folded);
-        Times {
+        Stages {
             read: read - self.begun,
             folded: folded - read,
             judged: judged - folded,

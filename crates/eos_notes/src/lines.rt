@@ -1,13 +1,13 @@
-//! The notes of an evidence, as `check` prints them on standard error.
+//! The lines of an evidence's notes, as commands print them on standard error.
 
 ghost use Rattle.std.specs.Prelude.{false, IfOk, string_bytes};
 ghost use Rattle.eos_lineage.specs.EvidenceLogs.{AreLogsOf};
-ghost use Rattle.eos_checking.specs.Checking.{IsNotesText};
+ghost use Rattle.eos_notes.specs.Lines.{IsNotesText};
 
-use eos_ending::Subject;
+use crate::evidence_notes::notes;
+use crate::text::note_lines;
 use eos_evidence::Evidence;
 use eos_fold::Part;
-use eos_notes::{note_lines, notes};
 use std::alloc::{AllocError, Global};
 
 /// The lines of the notes of an evidence whose logs these are, or nothing where they are left out.
@@ -37,12 +37,4 @@ fn found_lines(alloc: Global, evidence: &Evidence, logs: &[Part]) -> Result<Stri
     let found = notes(alloc, evidence, logs)?;
     let lines = note_lines(alloc, found.as_slice())?;
     Ok(lines)
-}
-
-/// Prints the lines of the notes behind an answer that was written, each after the words on which folder it is about. Where
-/// standard error takes nothing, the status is all that is left.
-pub fn say_notes(rt: &HostRuntime, subject: Subject<'_>, lines: &str) {
-    for line in lines.lines() {
-        let _ = eprint!(rt; "{subject}{line}\n");
-    }
 }
