@@ -47,8 +47,8 @@ def main():
     said = {cells[0]: cells[1].strip("`") for cells in rows(text) if re.fullmatch(r"[1-5]\.\d+", cells[0])}
     kinds = {}
     for phase, path, first in (
-        ("1", "crates/eos_touch/specs/FaultNames.antt", "number_of"),
-        ("1", "crates/eos_touch/specs/Pair.antt", "number_of"),
+        ("1", "crates/eos_touch/specs/FaultNames.antt", "row_of"),
+        ("1", "crates/eos_touch/specs/Pair.antt", "row_of"),
         ("2", "crates/eos_table/specs/LogFaults.antt", "row_of"),
         ("3", "crates/eos_table/specs/MatchFaults.antt", "row_of"),
         ("4", "crates/eos_commits/specs/Faults.antt", "row_of"),

@@ -2,20 +2,18 @@
 -- table.
 use Rattle.std.specs.Prelude.{ℕ, List, codes}
 use Rattle.eos_touch.specs.Pair as pair
-use Rattle.eos_touch.specs.Names as pair_names
 use Rattle.eos_touch.specs.declared.fault.PartitionFaultKind.{PartitionFaultKind}
 use Rattle.eos_touch.specs.declared.fault.PartitionFaultKind.TheVariants.{BadBatch, Gap, Pair, End, OpenAtEnd}
 
+abbrev pub row_of : PartitionFaultKind → ℕ × List ℕ
+row_of (BadBatch segment byte batch) = (1, codes "BadBatch")
+row_of (Gap found) = (2, codes "Gap")
+row_of (Pair fault producer) = pair.row_of fault
+row_of (End end) = (10, codes "End")
+row_of (OpenAtEnd producer) = (11, codes "OpenAtEnd")
+
 abbrev pub number_of : PartitionFaultKind → ℕ
-number_of (BadBatch segment byte batch) = 1
-number_of (Gap found) = 2
-number_of (Pair fault producer) = pair.number_of fault
-number_of (End end) = 10
-number_of (OpenAtEnd producer) = 11
+number_of kind = (row_of kind).0
 
 abbrev pub name_of : PartitionFaultKind → List ℕ
-name_of (BadBatch segment byte batch) = codes "BadBatch"
-name_of (Gap found) = codes "Gap"
-name_of (Pair fault producer) = pair_names.name_of fault
-name_of (End end) = codes "End"
-name_of (OpenAtEnd producer) = codes "OpenAtEnd"
+name_of kind = (row_of kind).1

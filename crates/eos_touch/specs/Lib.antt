@@ -1,7 +1,6 @@
 pub mod Pair
 pub mod Rules
 pub mod Neighbours
-pub mod Names
 pub mod Touches
 pub mod Front
 pub mod FaultNames

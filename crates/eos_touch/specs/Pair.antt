@@ -2,7 +2,7 @@
 -- least counts.
 -- Sources: KIP-98 (a producer's sequences and epochs), KIP-890 (a transaction's end raises the epoch), and Message
 -- Format (the fields of a record batch).
-use Rattle.std.specs.Prelude.{◌≡◌, ℕ, ◌^◌, ◌≤◌, ℤ, pos, ◌+ℤ◌, int_lt, int_le, Bool, true, false, not, ◌&&◌, Option, Some, None, Result, Ok, Err, if◌then◌else◌}
+use Rattle.std.specs.Prelude.{◌≡◌, ℕ, ◌^◌, ◌≤◌, ℤ, pos, ◌+ℤ◌, int_lt, int_le, Bool, true, false, not, ◌&&◌, List, codes, Option, Some, None, Result, Ok, Err, if◌then◌else◌}
 use Rattle.std.specs.Ordering.{int_eq}
 use Rattle.std.specs.Int.{int_rem_euclid}
 use Rattle.eos_batch.specs.declared.marker.Kind.{Kind}
@@ -104,15 +104,21 @@ stands sequenced before next MarkerKind = marker_kind before next
 
 -- ---- the least kind
 
--- a kind's number among the faults of a partition
+-- a kind's number among the faults of a partition, and the name under which it is printed: both are this project's own
+abbrev pub row_of : PairFault → ℕ × List ℕ
+row_of FirstSequence = (3, codes "FirstSequence")
+row_of Sequence = (4, codes "Sequence")
+row_of ZombieEpoch = (5, codes "ZombieEpoch")
+row_of EpochWhileOpen = (6, codes "EpochWhileOpen")
+row_of NoBump = (7, codes "NoBump")
+row_of MixedProducer = (8, codes "MixedProducer")
+row_of MarkerKind = (9, codes "MarkerKind")
+
 abbrev pub number_of : PairFault → ℕ
-number_of FirstSequence = 3
-number_of Sequence = 4
-number_of ZombieEpoch = 5
-number_of EpochWhileOpen = 6
-number_of NoBump = 7
-number_of MixedProducer = 8
-number_of MarkerKind = 9
+number_of kind = (row_of kind).0
+
+abbrev pub name_of : PairFault → List ℕ
+name_of kind = (row_of kind).1
 
 abbrev pub NoneStands : Bool → Option Touch → Touch → Type 0
 NoneStands sequenced before next = (kind : PairFault) → stands sequenced before next kind ≡ false

@@ -2,8 +2,7 @@
 //! that a log shows afterwards. Each kind of fault is a test of its own, and the least kind that stands is the answer.
 
 ghost use Rattle.std.specs.Prelude.{◌≡◌, OnOk, IfErr};
-ghost use Rattle.eos_touch.specs.Pair.{pair_verdict, sequence_at, first_sequence, sequence, epoch_of, is_plain, is_open, zombie_epoch, epoch_while_open, no_bump, mixed_producer, marker_kind, NoneStands, IsLeast, number_of};
-ghost use Rattle.eos_touch.specs.Names.{name_of};
+ghost use Rattle.eos_touch.specs.Pair.{pair_verdict, sequence_at, first_sequence, sequence, epoch_of, is_plain, is_open, zombie_epoch, epoch_while_open, no_bump, mixed_producer, marker_kind, NoneStands, IsLeast, number_of, name_of};
 
 use crate::touch::Touch;
 use thiserror::Error;
@@ -36,29 +35,29 @@ impl PairFault {
     pub fn number(self) -> u8
         ensures { result ≡ number_of self }
     {
-        match self {
-            PairFault::FirstSequence => 3,
-            PairFault::Sequence => 4,
-            PairFault::ZombieEpoch => 5,
-            PairFault::EpochWhileOpen => 6,
-            PairFault::NoBump => 7,
-            PairFault::MixedProducer => 8,
-            PairFault::MarkerKind => 9,
-        }
+        self.row().0
     }
 
     /// The kind's name, as a verdict prints it.
     pub fn name(self) -> &'static str
         ensures { result.now ≡ name_of self }
     {
+        self.row().1
+    }
+
+    // The number and the name, a line for each kind.
+    fn row(self) -> (u8, &'static str)
+        ensures number { result.0 ≡ number_of self }
+        ensures name { result.1.now ≡ name_of self }
+    {
         match self {
-            PairFault::FirstSequence => "FirstSequence",
-            PairFault::Sequence => "Sequence",
-            PairFault::ZombieEpoch => "ZombieEpoch",
-            PairFault::EpochWhileOpen => "EpochWhileOpen",
-            PairFault::NoBump => "NoBump",
-            PairFault::MixedProducer => "MixedProducer",
-            PairFault::MarkerKind => "MarkerKind",
+            PairFault::FirstSequence => (3, "FirstSequence"),
+            PairFault::Sequence => (4, "Sequence"),
+            PairFault::ZombieEpoch => (5, "ZombieEpoch"),
+            PairFault::EpochWhileOpen => (6, "EpochWhileOpen"),
+            PairFault::NoBump => (7, "NoBump"),
+            PairFault::MixedProducer => (8, "MixedProducer"),
+            PairFault::MarkerKind => (9, "MarkerKind"),
         }
     }
 }
