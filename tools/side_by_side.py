@@ -15,6 +15,9 @@ from kit import TOP, rt, rtlib
 # Where a crate has no line in the table, its seconds are guessed by its lines.
 SECONDS_OF_A_LINE = 0.2
 
+# What part of the memory that the kit plans on a proof takes at most, as seen: 3.7 GB of 6.9.
+TAKEN = 0.6
+
 # How many processors the proof gets on which the longest chain of others waits. Two shorten a proof by a third or more, and
 # cost a tenth more of the processors; what more would gain is less than what it takes from the others.
 JOBS_OF_THE_CHAIN = 2
@@ -89,7 +92,7 @@ def prove(crates, work=None):
     for crate in crates:
         waits = [(it.name, "proof") for it in crate.below() if it.name in names]
         call = lambda given, jobs, it=crate: task(it, given, jobs)
-        tasks[crate.name, "proof"] = (waits, progress.cost[crate.name], 0.55 * rt.need(crate), call)
+        tasks[crate.name, "proof"] = (waits, progress.cost[crate.name], TAKEN * rt.need(crate), call)
     progress.say(f"proving {len(crates)} crates on {rt.processors()} processors")
     given = in_lanes(tasks)
     return [it.name for it in crates if not given[it.name, "proof"]]
