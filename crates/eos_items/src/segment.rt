@@ -67,23 +67,31 @@ fn source_of(head: &BatchHead, first: u32) -> Source
     }
 }
 
-/// Reads the batch at `at` into the index, if it begins at the next offset.
+/// Where a log goes on.
+#[derive(Clone, Copy)]
+struct Front {
+    /// The byte of the next batch in its segment.
+    at: usize,
+    /// The next offset.
+    next: u64,
+}
+
+/// Reads the batch at the front into the index, if it begins at the next offset.
 fn read_batch(
     alloc: Global,
     bytes: &Bytes,
     sources: &mut Vec<Source>,
     entries: &mut Vec<Entry>,
-    at: usize,
-    next: u64,
+    front: Front,
 ) -> Result<BatchHead, BatchFault>
-    requires { IsSegmentIndex bytes.now at sources.old.items entries.old.items }
-    ensures ok { IfOk result (IsRead bytes.now at next sources.old.items sources.new.items entries.old.items entries.new.items) }
-    ensures err { IfErr result (λ e. Fails e (batch_at (drop at bytes.now)) × (sources.new.items ≡ sources.old.items) × (entries.new.items ≡ entries.old.items)) }
+    requires { IsSegmentIndex bytes.now front.at sources.old.items entries.old.items }
+    ensures ok { IfOk result (IsRead bytes.now front.at front.next sources.old.items sources.new.items entries.old.items entries.new.items) }
+    ensures err { IfErr result (λ e. Fails e (batch_at (drop front.at bytes.now)) × (sources.new.items ≡ sources.old.items) × (entries.new.items ≡ entries.old.items)) }
 {
     let kept = entries.len();
     let source = sources.len() as u32;
-    let head = index_batch(alloc, bytes, entries, source, at)?;
-    if head.offset != next {
+    let head = index_batch(alloc, bytes, entries, source, front.at)?;
+    if head.offset != front.next {
         entries.truncate(kept);
         return Ok(head);
     }
@@ -140,13 +148,16 @@ impl SegmentIndex {
         ensures ok { IfOk result (TakesBatch next self.old self.new) }
         ensures err { IfErr result (λ e. Fails e (batch_at self.old.rest) × (self.new ≡ self.old)) }
     {
+        let front = Front {
+            at: self.next,
+            next,
+        };
         let head = read_batch(
             alloc,
             &self.bytes,
             &mut self.sources,
             &mut self.entries,
-            self.next,
-            next,
+            front,
         )?;
         if head.offset == next {
             self.next += head.size;

@@ -11,36 +11,34 @@ ghost use Rattle.eos_items.specs.steps.Indexed.{Pushed, HasGrown, IsIndexed};
 use crate::entry::Entry;
 use bytes::Bytes;
 use eos_batch::{
-    Batch, BatchFault, BatchHead, Marker, decode_batch, open_batch, pass_record, pass_records,
-    test_data,
+    Batch, BatchFault, BatchHead, Marker, Opened, decode_batch, open_batch, pass_record,
+    pass_records, test_data,
 };
 use std::alloc::Global;
 
-/// Puts down where each of a batch's records stands. The records take the bytes from `begin` to `end`.
+/// Puts down where each of a batch's records stands.
 fn push_entries(
     bytes: &Bytes,
     entries: &mut Vec<Entry>,
     source: u32,
-    begin: usize,
-    end: usize,
-    count: u32,
+    opened: &Opened,
 ) -> Result<(), BatchFault>
-    requires inside { (begin ≤ end) × (end ≤ length bytes.now) × (end < 2 ^ 32) }
-    ensures ok { OnOk result (Pushed bytes.now source entries.old.items entries.new.items (records_in bytes.now begin end count)) }
-    ensures few { OnOk result (length entries.new.items + begin ≤ length entries.old.items + end) }
+    requires inside { (opened.now.begin ≤ opened.now.end) × (opened.now.end ≤ length bytes.now) × (opened.now.end < 2 ^ 32) }
+    ensures ok { OnOk result (Pushed bytes.now source entries.old.items entries.new.items (records_in bytes.now opened.now.begin opened.now.end opened.now.count)) }
+    ensures few { OnOk result (length entries.new.items + opened.now.begin ≤ length entries.old.items + opened.now.end) }
     ensures grown { HasGrown entries.old.items entries.new.items }
-    ensures err { IfErr result (λ e. Fails e (records_in bytes.now begin end count)) }
+    ensures err { IfErr result (λ e. Fails e (records_in bytes.now opened.now.begin opened.now.end opened.now.count)) }
 {
-    let mut from = begin;
-    for place in 0..count {
-        let next = pass_record(bytes, from, end, place)?;
+    let mut from = opened.begin;
+    for place in 0..opened.count {
+        let next = pass_record(bytes, from, opened.end, place)?;
         entries.push(Entry {
             at: from as u32,
             source,
         })?;
         from = next;
     }
-    if from != end {
+    if from != opened.end {
         return Err(BatchFault::Trailing);
     }
     Ok(())
@@ -92,14 +90,7 @@ pub(crate) fn index_batch(
         return control_head(alloc, bytes, at);
     }
     let kept = entries.len();
-    if let Err(fault) = push_entries(
-        bytes,
-        entries,
-        source,
-        opened.begin,
-        opened.end,
-        opened.count,
-    ) {
+    if let Err(fault) = push_entries(bytes, entries, source, &opened) {
         entries.truncate(kept);
         return Err(fault);
     }

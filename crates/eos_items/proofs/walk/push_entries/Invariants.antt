@@ -8,8 +8,8 @@ use Rattle.eos_items.proofs.walk.push_entries.Given as goal
 
 abbrev pub invariant-loop-place : goal.invariant-loop-place
 invariant-loop-place l = record {
-  within : l.from ≤ l.end;
+  within : l.from ≤ l.opened.end;
   walked : (rs : List Record) × (es : List Entry)
-      × (with_front rs (records_at (l.count - l.place) l.place (slice_range l.bytes l.from l.end)) ≡ records_at l.count 0 (slice_range l.bytes l.begin l.end))
-      × (l.entries.items ≡ l.fn.entries.items ++ es) × AreEntriesOf l.bytes l.source es rs × (length es + l.begin ≤ l.from);
+      × (with_front rs (records_at (l.opened.count - l.place) l.place (slice_range l.bytes l.from l.opened.end)) ≡ records_at l.opened.count 0 (slice_range l.bytes l.opened.begin l.opened.end))
+      × (l.entries.items ≡ l.fn.entries.items ++ es) × AreEntriesOf l.bytes l.source es rs × (length es + l.opened.begin ≤ l.from);
 }
