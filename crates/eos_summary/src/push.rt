@@ -14,42 +14,33 @@ ghost use Rattle.eos_batch.specs.Heads.{head_of};
 ghost use Rattle.eos_batch.specs.Rules.{IsProducerRight};
 
 use crate::ends::Ends;
-use crate::fault::Fault;
-use crate::summary::{BatchSummary, make_room_for, take_over};
+use crate::summary::{BatchSummary, make_room_for};
 use bytes::Bytes;
 use eos_batch::BatchFault;
-use eos_items::{BatchHead, LogIndex};
+use eos_items::BatchHead;
 use eos_touch::touch_of;
 use std::alloc::{AllocError, Global};
-use std::collections::BTreeMap;
-
-/// Takes over what a batch says of its producer id. So many data batches were there before it.
-fn take_batch(
-    alloc: Global,
-    sequenced: bool,
-    producers: &mut BTreeMap<i64, Ends>,
-    index: &mut LogIndex,
-    fault: &mut Option<Fault>,
-    head: &BatchHead,
-    by: usize,
-) -> Result<(), AllocError>
-    requires within { by ≤ length index.old.batches }
-    requires places { KeepsPlaces producers.old (take by index.old.batches) }
-    ensures taken { (xs : List Batch) (b : Batch) (size : ℕ) → head.now ≡ head_of b size → IsProducerRight b → drop by index.old.batches ≡ data_in (b ∷ [])
-        → TakesFrom sequenced xs producers.old (take by index.old.batches) fault.old
-        → OnOk result (IsTakenFrom xs b sequenced producers.new index.new.batches fault.new) }
-    ensures rest { index.new.rest ≡ index.old.rest }
-{
-    let Some((producer, touch)) = touch_of(head) else {
-        return Ok(());
-    };
-    let ends = Ends::of(alloc, head.offset, !head.is_control, producer, touch)?;
-    make_room_for(alloc, producers, producer, ends.waiting.len())?;
-    take_over(sequenced, producers, index, fault, producer, ends, by);
-    Ok(())
-}
 
 impl BatchSummary {
+    /// Takes over what a batch says of its producer id. So many data batches were there before it.
+    fn take_batch(&mut self, alloc: Global, head: &BatchHead, by: usize) -> Result<(), AllocError>
+        requires within { by ≤ length self.old.index.batches }
+        requires places { KeepsPlaces self.old.producers (take by self.old.index.batches) }
+        ensures taken { (xs : List Batch) (b : Batch) (size : ℕ) → head.now ≡ head_of b size → IsProducerRight b → drop by self.old.index.batches ≡ data_in (b ∷ [])
+            → TakesFrom self.old.sequenced xs self.old.producers (take by self.old.index.batches) self.old.fault
+            → OnOk result (IsTakenFrom xs b self.old.sequenced self.new.producers self.new.index.batches self.new.fault) }
+        ensures rest { self.new.index.rest ≡ self.old.index.rest }
+        ensures sequenced { self.new.sequenced ≡ self.old.sequenced }
+    {
+        let Some((producer, touch)) = touch_of(head) else {
+            return Ok(());
+        };
+        let ends = Ends::of(alloc, head.offset, !head.is_control, producer, touch)?;
+        make_room_for(alloc, &mut self.producers, producer, ends.waiting.len())?;
+        self.take_over(producer, ends, by);
+        Ok(())
+    }
+
     /// Begins to read a further segment's bytes.
     pub fn open(&mut self, alloc: Global, bytes: Bytes) -> Result<(), AllocError>
         requires { length bytes < 2 ^ 32 }
@@ -73,15 +64,7 @@ impl BatchSummary {
         if head.offset != next {
             return Ok(head);
         }
-        take_batch(
-            alloc,
-            self.sequenced,
-            &mut self.producers,
-            &mut self.index,
-            &mut self.fault,
-            &head,
-            by,
-        )?;
+        self.take_batch(alloc, &head, by)?;
         Ok(head)
     }
 }

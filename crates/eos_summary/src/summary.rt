@@ -98,56 +98,46 @@ fn make_room(
     Ok(())
 }
 
-/// Takes over what a producer id does in what comes after, whose data batches begin after so many. Behind those that are
-/// settled there may already be more, but not where a marker comes.
-pub(crate) fn take_over(
-    sequenced: bool,
-    producers: &mut BTreeMap<i64, Ends>,
-    index: &mut LogIndex,
-    fault: &mut Option<Fault>,
-    producer: i64,
-    after: Ends,
-    by: usize,
-)
-    requires present { IsSome (get int_cmp producers.old producer) }
-    requires room { HasRoom (ends_at producers.old producer) after }
-    requires inside { All (λ place. place < length index.old.batches) (ends_at producers.old producer).waiting.list }
-    requires fits { All (λ p. p + by < 2 ^ 64) after.waiting.list }
-    ensures joined { IsJoined by (ends_at producers.old producer) after (ends_at producers.new producer) }
-    ensures others { (id : ℤ) → int_eq producer id ≡ false → get int_cmp producers.new id ≡ get int_cmp producers.old id }
-    ensures items { (base extra : List DataBatch) → index.old.batches ≡ base ++ extra → (IsSome after.marker → extra ≡ [])
-        → (ends_at producers.old producer).waiting.list ≡ waiting_in producer base
-        → index.new.batches ≡ map (settled (only producer after.marker)) base ++ extra }
-    ensures rest { index.new.rest ≡ index.old.rest }
-    ensures segments { index.new.segments ≡ index.old.segments }
-    ensures capacity { index.new.room ≡ index.old.room }
-    ensures fault { TakesFault sequenced producer (ends_at producers.old producer).last after.first fault.old fault.new }
-{
-    let Some(ends) = producers.get_mut(&producer) else {
-        unreachable!()
-    };
-    let seam = at_seam(ends.last, after.first, producer, sequenced);
-    *fault = earlier(*fault, seam);
-    settle_by(index, &ends.waiting, after.marker);
-    ends.take_over(after, by);
-}
+impl BatchSummary {
+    /// Takes over what a producer id does in what comes after, whose data batches begin after so many. Behind those that are
+    /// settled there may already be more, but not where a marker comes.
+    pub(crate) fn take_over(&mut self, producer: i64, after: Ends, by: usize)
+        requires present { IsSome (get int_cmp self.old.producers producer) }
+        requires room { HasRoom (ends_at self.old.producers producer) after }
+        requires inside { All (λ place. place < length self.old.index.batches) (ends_at self.old.producers producer).waiting.list }
+        requires fits { All (λ p. p + by < 2 ^ 64) after.waiting.list }
+        ensures joined { IsJoined by (ends_at self.old.producers producer) after (ends_at self.new.producers producer) }
+        ensures others { (id : ℤ) → int_eq producer id ≡ false → get int_cmp self.new.producers id ≡ get int_cmp self.old.producers id }
+        ensures items { (base extra : List DataBatch) → self.old.index.batches ≡ base ++ extra → (IsSome after.marker → extra ≡ [])
+            → (ends_at self.old.producers producer).waiting.list ≡ waiting_in producer base
+            → self.new.index.batches ≡ map (settled (only producer after.marker)) base ++ extra }
+        ensures rest { self.new.index.rest ≡ self.old.index.rest }
+        ensures segments { self.new.index.segments ≡ self.old.index.segments }
+        ensures capacity { self.new.index.room ≡ self.old.index.room }
+        ensures sequenced { self.new.sequenced ≡ self.old.sequenced }
+        ensures fault { TakesFault self.old.sequenced producer (ends_at self.old.producers producer).last after.first self.old.fault self.new.fault }
+    {
+        let Some(ends) = self.producers.get_mut(&producer) else {
+            unreachable!()
+        };
+        let seam = at_seam(ends.last, after.first, producer, self.sequenced);
+        self.fault = earlier(self.fault, seam);
+        settle_by(&mut self.index, &ends.waiting, after.marker);
+        ends.take_over(after, by);
+    }
 
-/// Takes over all producer ids of what comes after.
-fn take_all(
-    sequenced: bool,
-    producers: &mut BTreeMap<i64, Ends>,
-    index: &mut LogIndex,
-    fault: &mut Option<Fault>,
-    mut after: BTreeMap<i64, Ends>,
-    by: usize,
-)
-    requires { IsTaking by producers.old index.old.batches (rest_of after) }
-    ensures segments { index.new.segments ≡ index.old.segments }
-    ensures capacity { index.new.room ≡ index.old.room }
-    ensures taken { (xs ys : List Batch) → Starts xs ys sequenced producers.old index.old.batches fault.old (rest_of after) → IsTaken xs ys sequenced producers.new index.new.batches fault.new (λ _. None) }
-{
-    while let Some((producer, ends)) = after.pop_first() {
-        take_over(sequenced, producers, index, fault, producer, ends, by);
+    /// Takes over all producer ids of what comes after.
+    fn take_all(&mut self, mut after: BTreeMap<i64, Ends>, by: usize)
+        requires { IsTaking by self.old.producers self.old.index.batches (rest_of after) }
+        ensures segments { self.new.index.segments ≡ self.old.index.segments }
+        ensures capacity { self.new.index.room ≡ self.old.index.room }
+        ensures sequenced { self.new.sequenced ≡ self.old.sequenced }
+        ensures taken { (xs ys : List Batch) → Starts xs ys self.old.sequenced self.old.producers self.old.index.batches self.old.fault (rest_of after)
+            → IsTaken xs ys self.old.sequenced self.new.producers self.new.index.batches self.new.fault (λ _. None) }
+    {
+        while let Some((producer, ends)) = after.pop_first() {
+            self.take_over(producer, ends, by);
+        }
     }
 }
 
@@ -177,14 +167,7 @@ fn join_reserved(mut before: BatchSummary, after: BatchSummary) -> BatchSummary
 {
     let by = before.index.len();
     before.fault = earlier(before.fault, after.fault);
-    take_all(
-        before.sequenced,
-        &mut before.producers,
-        &mut before.index,
-        &mut before.fault,
-        after.producers,
-        by,
-    );
+    before.take_all(after.producers, by);
     before.index.append(after.index);
     before
 }

@@ -1,4 +1,4 @@
-use Rattle.std.proofs.Common.{refl, sym, subst, Option}
+use Rattle.std.proofs.Common.{sym, subst, Option}
 use Rattle.eos_summary.specs.declared.fault.Fault.{Fault}
 use Rattle.eos_summary.specs.Joins.{Starts, rest_of}
 use Rattle.eos_summary.proofs.JoinedSummaries.{starts, ends_taken}
@@ -9,4 +9,4 @@ returns-clause-known c = λ xs ys p q e.
     let s = c.args.before in
     let t = c.args.after in
     let begun = subst (λ (f : Option Fault). Starts xs ys s.sequenced s.producers s.index.batches f (rest_of t.producers)) (sym c.earlier-before.ensures) (starts xs ys s t p q e) in
-    ends_taken xs ys s t _ c.take_all.new.index.batches p q (c.take_all.ensures.taken xs ys begun) refl c.append.ensures.batches
+    ends_taken xs ys s t _ c.take_all.new.self.index.batches p q (c.take_all.ensures.taken xs ys begun) c.take_all.ensures.sequenced c.append.ensures.batches

@@ -1,4 +1,4 @@
-use Rattle.std.proofs.Common.{◌≡◌, ◌++◌, ◌∷◌, [], List, take, drop, refl, ap, sym, ◌∙◌}
+use Rattle.std.proofs.Common.{◌≡◌, ◌++◌, ◌∷◌, [], List, take, drop, ap, sym, ◌∙◌}
 use Rattle.std.proofs.lemmas.List.{take_at, drop_at}
 use Rattle.eos_items.specs.Batches.{DataBatch}
 use Rattle.eos_summary.specs.Settling.{data_in}
@@ -24,7 +24,7 @@ returns-clause-ok c =
             let rest : drop by c.read.new.self.batches ≡ data_in (b ∷ []) = ap (drop by) s ∙ drop_at old (data_in (b ∷ [])) by (sym c.len-by.ensures) in
             let w : TakesFrom c.args.self.now.sequenced xs c.args.self.now.producers (take by c.read.new.self.batches) c.args.self.now.fault = record { ends = p.ends; items = front ∙ p.items; fault = p.fault } in
             let taken = c.in_ok-take_batch.ensures.taken xs b c.in_ok-head.head.size r.head_is right rest w in
-            pushed xs b c.args.self.now _ taken.0 p taken.2 refl taken.1;
+            pushed xs b c.args.self.now c.take_batch.new.self taken.0 p taken.2 c.take_batch.ensures.sequenced taken.1;
         rest = c.take_batch.ensures.rest ∙ (r.taken eq).1;
       };
       leaves = λ ne. absurd (ne c.if-head-next.false);
