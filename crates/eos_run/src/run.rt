@@ -14,7 +14,6 @@ use crate::ends::ProducerEnds;
 use crate::fault::earlier;
 use crate::heads::{Heads, data_head};
 use crate::table::{make_room, make_room_for};
-use crate::taking::{take_all, take_over};
 use eos_batch::BatchHead;
 use eos_items::DataHead;
 use eos_summary::Fault;
@@ -32,33 +31,6 @@ pub struct Run {
     pub(crate) producers: BTreeMap<i64, ProducerEnds>,
     /// The least fault that the run settles by itself.
     pub(crate) fault: Option<Fault>,
-}
-
-/// Takes over what a batch says of its producer id.
-fn take_touch(
-    alloc: Global,
-    sequenced: bool,
-    producers: &mut BTreeMap<i64, ProducerEnds>,
-    heads: &mut Heads,
-    fault: &mut Option<Fault>,
-    head: &BatchHead,
-) -> Result<(), AllocError>
-    requires { HavePlaces producers.old heads.old.list }
-    ensures taken { (xs : List Batch) (b : Batch) → IsHeadOf b head.now → BeginsWith xs sequenced producers.old heads.old.list fault.old
-        → OnOk result (HasTaken xs (b ∷ []) sequenced producers.new heads.new.list fault.new (λ _. None)) }
-    ensures capacity { heads.new.room ≡ heads.old.room }
-    ensures all { length heads.new.list ≡ length heads.old.list }
-    ensures same { OnErr result ((id : ℤ) → SameEnds (ends_at producers.old id) (ends_at producers.new id)) }
-    ensures kept { OnErr result ((heads.new.list ≡ heads.old.list) × (fault.new ≡ fault.old)) }
-{
-    let Some((producer, touch)) = touch_of(head) else {
-        return Ok(());
-    };
-    let ends = ProducerEnds::of(alloc, head.offset, !head.is_control, producer, touch)?;
-    make_room_for(alloc, producers, producer, ends.waiting().len())?;
-    let by = heads.len();
-    take_over(sequenced, producers, heads, fault, producer, ends, by);
-    Ok(())
 }
 
 /// Makes room for all of a second run. What is known stays.
@@ -96,6 +68,26 @@ impl Run {
         }
     }
 
+    /// Takes over what a batch says of its producer id.
+    fn take_touch(&mut self, alloc: Global, head: &BatchHead) -> Result<(), AllocError>
+        requires { HavePlaces self.old.producers self.old.heads.list }
+        ensures taken { (xs : List Batch) (b : Batch) → IsHeadOf b head.now → BeginsWith xs self.old.sequenced self.old.producers self.old.heads.list self.old.fault
+            → OnOk result (HasTaken xs (b ∷ []) self.old.sequenced self.new.producers self.new.heads.list self.new.fault (λ _. None)) }
+        ensures capacity { self.new.heads.room ≡ self.old.heads.room }
+        ensures all { length self.new.heads.list ≡ length self.old.heads.list }
+        ensures sequenced { self.new.sequenced ≡ self.old.sequenced }
+        ensures err { OnErr result (SameRun self.old self.new) }
+    {
+        let Some((producer, touch)) = touch_of(head) else {
+            return Ok(());
+        };
+        let ends = ProducerEnds::of(alloc, head.offset, !head.is_control, producer, touch)?;
+        make_room_for(alloc, &mut self.producers, producer, ends.waiting().len())?;
+        let by = self.heads.len();
+        self.take_over(producer, ends, by);
+        Ok(())
+    }
+
     /// Takes the next batch. Where memory is refused the run stays as it was.
     pub fn take(&mut self, alloc: Global, head: &BatchHead) -> Result<(), AllocError>
         requires known { IsRun self.old }
@@ -105,14 +97,7 @@ impl Run {
         ensures err { OnErr result (SameRun self.old self.new) }
     {
         self.heads.reserve(1)?;
-        take_touch(
-            alloc,
-            self.sequenced,
-            &mut self.producers,
-            &mut self.heads,
-            &mut self.fault,
-            head,
-        )?;
+        self.take_touch(alloc, head)?;
         if !head.is_control {
             self.heads.push(data_head(head));
         }
@@ -120,7 +105,7 @@ impl Run {
     }
 
     /// The run of two, of which the second follows the first. Where memory is refused both are handed back.
-    pub fn join(alloc: Global, before: Run, after: Run) -> Result<Run, (Run, Run)>
+    pub fn join(alloc: Global, mut before: Run, after: Run) -> Result<Run, (Run, Run)>
         requires before { IsRun before }
         requires after { IsRun after }
         requires same { after.sequenced ≡ before.sequenced }
@@ -128,38 +113,14 @@ impl Run {
         ensures sequenced { IfOk result (λ run. run.sequenced ≡ before.sequenced) }
         ensures err { IfErr result (λ back. SameRun before back.0 × (back.1 ≡ after)) }
     {
-        let Run {
-            sequenced,
-            mut heads,
-            mut producers,
-            mut fault,
-        } = before;
-        if reserve_for(alloc, &mut heads, &mut producers, &after).is_err() {
-            let before = Run {
-                sequenced,
-                heads,
-                producers,
-                fault,
-            };
+        if reserve_for(alloc, &mut before.heads, &mut before.producers, &after).is_err() {
             return Err((before, after));
         }
-        let by = heads.len();
-        fault = earlier(fault, after.fault);
-        take_all(
-            sequenced,
-            &mut producers,
-            &mut heads,
-            &mut fault,
-            after.producers,
-            by,
-        );
-        heads.append(after.heads);
-        Ok(Run {
-            sequenced,
-            heads,
-            producers,
-            fault,
-        })
+        let by = before.heads.len();
+        before.fault = earlier(before.fault, after.fault);
+        before.take_all(after.producers, by);
+        before.heads.append(after.heads);
+        Ok(before)
     }
 
     /// The heads of the data batches, each with its ending as far as the run says.

@@ -1,4 +1,4 @@
-use Rattle.std.proofs.Common.{refl, sym, ap, length, ◌∙◌, arith}
+use Rattle.std.proofs.Common.{sym, ap, length, ◌∙◌, arith}
 use Rattle.eos_summary.proofs.TableWrites.{ok_of}
 use Rattle.eos_run.proofs.JoinedRuns.{can_join, begins_joining, made_joined}
 use Rattle.eos_run.proofs.run.Run.join.Goals as goal
@@ -20,5 +20,5 @@ append-requires c =
 pub returns-clause-ok : goal.returns-clause-ok
 returns-clause-ok c = λ xs ys h k.
     let o = c.reserve_for.ensures in
-    let begins = begins_joining xs ys c.args.before c.args.after c.reserve_for.new.producers c.reserve_for.new.heads.list _ h k c.requires.same o.same o.list c.earlier-fault.ensures in
-    made_joined xs ys c.args.before c.args.after _ c.take_all.new.heads.list k (c.take_all.ensures.taken xs ys begins) refl c.append.ensures
+    let begins = begins_joining xs ys c.args.before c.args.after c.reserve_for.new.producers c.reserve_for.new.heads.list _ h k c.requires.same o.same o.list c.earlier-before.ensures in
+    made_joined xs ys c.args.before c.args.after _ c.take_all.new.self.heads.list k (c.take_all.ensures.taken xs ys begins) c.take_all.ensures.sequenced c.append.ensures
