@@ -20,6 +20,19 @@ pub struct Request {
     pub place: usize,
 }
 
+impl Request {
+    pub(crate) fn new(number: u64, application: usize, epoch: u16, place: usize) -> Request
+        ensures { result ≡ record { number = number; application = application; epoch = epoch; place = place } }
+    {
+        Request {
+            number,
+            application,
+            epoch,
+            place,
+        }
+    }
+}
+
 /// A batch that a broker appends, and whether the transaction lists its partition.
 #[derive(Drop)]
 pub struct Arrival {

@@ -17,28 +17,37 @@ use eos_store::places::is_odd_output;
 use eos_store::{Store, copies};
 use std::alloc::AllocError;
 
-/// Whether a broker refuses an end marker of this epoch.
-fn is_marker_fenced(
-    store: &Store,
-    switches: Switches,
-    application: usize,
-    epoch: u16,
-    place: usize,
-) -> bool
-    requires { application < application_count store.now.config }
-    ensures { result ≡ is_marker_fenced switches (producer_at store.now.world application place) epoch }
+/// An end marker on its way to a broker.
+#[derive(Clone, Copy, Debug, PartialEq, Eq)]
+pub struct EndMarker {
+    pub application: usize,
+    pub epoch: u16,
+    pub kind: Kind,
+    pub place: usize,
+}
+
+/// Whether a broker refuses an end marker.
+fn is_marker_fenced(store: &Store, switches: Switches, marker: EndMarker) -> bool
+    requires { marker.application < application_count store.now.config }
+    ensures { result ≡ is_marker_fenced switches (producer_at store.now.world marker.application marker.place) marker.epoch }
 {
     if switches.no_bump {
         return false;
     }
-    let producer = store.producer(application, place);
-    epoch < producer.high || is_not_above(producer, epoch)
+    let producer = store.producer(marker.application, marker.place);
+    marker.epoch < producer.high || is_not_above(producer, marker.epoch)
 }
 
 /// Whether the coordinator waits for an end marker.
-fn awaits_marker(store: &Store, application: usize, epoch: u16, kind: Kind, place: usize) -> bool
-    ensures { result ≡ (waits_for (coord_at store.now.world application).status (coord_at store.now.world application).epoch epoch kind && has place (coord_at store.now.world application).awaited) }
+fn awaits_marker(store: &Store, marker: EndMarker) -> bool
+    ensures { result ≡ (waits_for (coord_at store.now.world marker.application).status (coord_at store.now.world marker.application).epoch marker.epoch marker.kind && has marker.place (coord_at store.now.world marker.application).awaited) }
 {
+    let EndMarker {
+        application,
+        epoch,
+        kind,
+        place,
+    } = marker;
     let now = store.epoch(application);
     waits_for(store.status(application), now, epoch, kind) && store.is_awaited(application, place)
 }
@@ -74,38 +83,30 @@ fn marker_kind(switches: Switches, config: Config, place: usize, kind: Kind) -> 
 }
 
 /// The item of an end marker that is appended.
-fn marker_of(
-    store: &Store,
-    switches: Switches,
-    application: usize,
-    epoch: u16,
-    kind: Kind,
-    place: usize,
-) -> Item
-    ensures { result ≡ marker_of switches store.now.config application epoch kind place store.now.world.events }
+fn marker_of(store: &Store, switches: Switches, marker: EndMarker) -> Item
+    ensures { result ≡ marker_of switches store.now.config marker.application marker.epoch marker.kind marker.place store.now.world.events }
 {
     Item::Marker {
-        application,
-        epoch: marker_epoch(switches, epoch),
-        kind: marker_kind(switches, store.config(), place, kind),
+        application: marker.application,
+        epoch: marker_epoch(switches, marker.epoch),
+        kind: marker_kind(switches, store.config(), marker.place, marker.kind),
         event: store.events(),
     }
 }
 
 /// Appends an end marker that the coordinator waits for, which ticks it off and completes after the last one.
-fn put_awaited(
-    store: &mut Store,
-    switches: Switches,
-    application: usize,
-    epoch: u16,
-    kind: Kind,
-    place: usize,
-) -> Result<(), AllocError>
-    requires { application < length store.old.world.coordinators }
-    ensures ok { OnOk result (store.new.world ≡ settled switches store.old.config store.old.world application epoch kind place) }
+fn put_awaited(store: &mut Store, switches: Switches, marker: EndMarker) -> Result<(), AllocError>
+    requires { marker.application < length store.old.world.coordinators }
+    ensures ok { OnOk result (store.new.world ≡ settled switches store.old.config store.old.world marker.application marker.epoch marker.kind marker.place) }
     ensures err { OnErr result (store.new.world ≡ store.old.world) }
     ensures config { store.new.config ≡ store.old.config }
 {
+    let EndMarker {
+        application,
+        kind,
+        place,
+        ..
+    } = marker;
     store.make_room(2)?;
     let now = store.epoch(application);
     let none = copies::none(store.alloc());
@@ -113,8 +114,8 @@ fn put_awaited(
     let left = store.others_awaited(application, place)?;
     let is_last = left.as_slice().is_empty();
     if !switches.lose_marker {
-        let marker = marker_of(store, switches, application, epoch, kind, place);
-        store.put(place, marker);
+        let item = marker_of(store, switches, marker);
+        store.put(place, item);
     }
     store.tick_off(application, place, left);
     if is_last {
@@ -124,22 +125,15 @@ fn put_awaited(
 }
 
 /// Appends an end marker that nobody waits for.
-fn put_alone(
-    store: &mut Store,
-    switches: Switches,
-    application: usize,
-    epoch: u16,
-    kind: Kind,
-    place: usize,
-) -> Result<(), AllocError>
-    ensures ok { OnOk result (store.new.world ≡ marked switches store.old.config store.old.world application epoch kind place) }
+fn put_alone(store: &mut Store, switches: Switches, marker: EndMarker) -> Result<(), AllocError>
+    ensures ok { OnOk result (store.new.world ≡ marked switches store.old.config store.old.world marker.application marker.epoch marker.kind marker.place) }
     ensures err { OnErr result (store.new.world ≡ store.old.world) }
     ensures config { store.new.config ≡ store.old.config }
 {
     store.make_room(1)?;
     if !switches.lose_marker {
-        let marker = marker_of(store, switches, application, epoch, kind, place);
-        store.put(place, marker);
+        let item = marker_of(store, switches, marker);
+        store.put(marker.place, item);
     }
     Ok(())
 }
@@ -149,25 +143,22 @@ fn put_alone(
 pub(crate) fn deliver_marker(
     store: &mut Store,
     switches: Switches,
-    application: usize,
-    epoch: u16,
-    kind: Kind,
-    place: usize,
+    marker: EndMarker,
 ) -> Result<Reply, AllocError>
-    requires named { application < application_count store.old.config }
-    requires there { application < length store.old.world.coordinators }
-    ensures ok { IfOk result (λ r. (store.new.world, r) ≡ deliver_marker switches store.old.config store.old.world application epoch kind place) }
+    requires named { marker.application < application_count store.old.config }
+    requires there { marker.application < length store.old.world.coordinators }
+    ensures ok { IfOk result (λ r. (store.new.world, r) ≡ deliver_marker switches store.old.config store.old.world marker.application marker.epoch marker.kind marker.place) }
     ensures err { OnErr result (store.new.world ≡ store.old.world) }
     ensures config { store.new.config ≡ store.old.config }
 {
-    if is_marker_fenced(store, switches, application, epoch, place) {
+    if is_marker_fenced(store, switches, marker) {
         return Ok(Reply::Fenced);
     }
-    let offset = store.log(place).len() as u64;
-    if awaits_marker(store, application, epoch, kind, place) {
-        put_awaited(store, switches, application, epoch, kind, place)?;
+    let offset = store.log(marker.place).len() as u64;
+    if awaits_marker(store, marker) {
+        put_awaited(store, switches, marker)?;
     } else {
-        put_alone(store, switches, application, epoch, kind, place)?;
+        put_alone(store, switches, marker)?;
     }
     Ok(Reply::Done(offset))
 }

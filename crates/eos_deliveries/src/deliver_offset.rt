@@ -13,6 +13,26 @@ use eos_store::Store;
 use eos_store::answers::is_prepare;
 use eos_store::places::OFFSETS_PLACE;
 
+/// An offset that is to be committed for a source of the group, or deleted where it is none, at a generation of the group.
+#[derive(Clone, Copy)]
+pub struct OffsetCommit {
+    pub generation: u64,
+    pub source: usize,
+    pub offset: Option<u64>,
+}
+
+impl OffsetCommit {
+    pub(crate) fn new(generation: u64, source: usize, offset: Option<u64>) -> OffsetCommit
+        ensures { result ≡ record { generation = generation; source = source; offset = offset } }
+    {
+        OffsetCommit {
+            generation,
+            source,
+            offset,
+        }
+    }
+}
+
 /// Whether an offset is refused as one of another generation of the group.
 fn is_stale(switches: Switches, generation: u64, now: u64) -> bool
     ensures { result ≡ is_stale switches generation now }
@@ -62,22 +82,20 @@ pub(crate) fn offset_arrival(
     store: &Store,
     switches: Switches,
     request: Request,
-    generation: u64,
-    source: usize,
-    offset: Option<u64>,
+    commit: OffsetCommit,
 ) -> Result<Arrival, Reply>
     requires application { request.application < application_count store.now.config }
     requires place { request.place ≡ offsets_place }
     ensures from { IfOk result (IsFromIf (application_count store.now.config)) }
-    ensures answer { deliver_offset switches store.now.config store.now.world request.number request.application request.epoch generation source offset
+    ensures answer { deliver_offset switches store.now.config store.now.world request.number request.application request.epoch commit.generation commit.source commit.offset
         ≡ taken switches store.now.config store.now.world request result }
 {
-    let is_listed = judge_offset(store, switches, request, generation)?;
+    let is_listed = judge_offset(store, switches, request, commit.generation)?;
     let item = Item::Offset {
         application: request.application,
         epoch: request.epoch,
-        source,
-        offset,
+        source: commit.source,
+        offset: commit.offset,
         event: store.events(),
     };
     Ok(Arrival { item, is_listed })

@@ -16,6 +16,21 @@ use eos_store::Store;
 use eos_store::answers::is_prepare;
 use std::alloc::AllocError;
 
+/// A record as a session sends it, but for what it claims.
+#[derive(Clone, Copy)]
+pub struct SentRecord {
+    pub sequence: u32,
+    pub value: u64,
+}
+
+impl SentRecord {
+    pub(crate) fn new(sequence: u32, value: u64) -> SentRecord
+        ensures { result ≡ record { sequence = sequence; value = value } }
+    {
+        SentRecord { sequence, value }
+    }
+}
+
 /// Whether a sequence is refused as one that the epoch has already.
 fn is_repeated(switches: Switches, producer: Producer, epoch: u16, sequence: u32) -> bool
     ensures { result ≡ is_repeated switches producer epoch sequence }
@@ -80,25 +95,24 @@ pub(crate) fn output_arrival(
     store: &Store,
     switches: Switches,
     request: Request,
-    sequence: u32,
+    sent: SentRecord,
     claim: &Option<Claim>,
-    value: u64,
 ) -> Result<Result<Arrival, Reply>, AllocError>
     requires { request.application < application_count store.now.config }
     ensures from { IfOk result (λ r. IfOk r (IsFromIf (application_count store.now.config))) }
-    ensures answer { IfOk result (λ r. deliver_output switches store.now.config store.now.world request.number request.application request.epoch request.place sequence claim.now value
+    ensures answer { IfOk result (λ r. deliver_output switches store.now.config store.now.world request.number request.application request.epoch request.place sent.sequence claim.now sent.value
         ≡ taken switches store.now.config store.now.world request r) }
 {
-    let is_listed = match judge_output(store, switches, request, sequence) {
+    let is_listed = match judge_output(store, switches, request, sent.sequence) {
         Ok(is_listed) => is_listed,
         Err(refusal) => return Ok(Err(refusal)),
     };
     let item = Item::Output {
         application: request.application,
         epoch: request.epoch,
-        sequence,
+        sequence: sent.sequence,
         claim: claim.clone()?,
-        value,
+        value: sent.value,
         event: store.events(),
     };
     Ok(Ok(Arrival { item, is_listed }))

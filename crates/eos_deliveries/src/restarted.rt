@@ -8,20 +8,11 @@ ghost use Rattle.eos_machine.specs.Machine.{reread, due_again, restarted};
 ghost use Rattle.eos_store.specs.Held.{becomes};
 ghost use Rattle.eos_deliveries.specs.Restarting.{said_by, due_message};
 
-use eos_batch::Kind;
+use crate::deliver_marker::EndMarker;
 use eos_machine::{Coordinator, Entry, Item, Message, Status};
 use eos_store::places::txn_place;
 use eos_store::{Store, copies, fresh, state_of};
 use std::alloc::{AllocError, Global};
-
-/// An end marker that is due.
-#[derive(Clone, Copy, Debug, PartialEq, Eq)]
-pub struct Due {
-    pub application: usize,
-    pub epoch: u16,
-    pub kind: Kind,
-    pub place: usize,
-}
 
 /// The last record of an application in a log.
 fn last_entry(log: &[Item], application: usize) -> Option<&Entry>
@@ -56,12 +47,16 @@ fn state_said(alloc: Global, found: Option<&Entry>) -> Result<Coordinator, Alloc
 }
 
 /// Adds the end markers that a state waits for.
-fn push_due(due: &mut Vec<Due>, application: usize, state: &Coordinator) -> Result<(), AllocError>
+fn push_due(
+    due: &mut Vec<EndMarker>,
+    application: usize,
+    state: &Coordinator,
+) -> Result<(), AllocError>
     ensures { OnOk result (map due_message due.new.items ≡ map due_message due.old.items ++ due_again state.now.status application state.now.epoch state.now.partitions) }
 {
     if let Status::Prepare(kind) = state.status {
         for place in state.partitions.as_slice() {
-            due.push(Due {
+            due.push(EndMarker {
                 application,
                 epoch: state.epoch,
                 kind,
@@ -79,7 +74,7 @@ fn reread(store: &Store, application: usize) -> Result<Coordinator, AllocError>
     state_said(store.alloc(), last_entry(store.log(place), application))
 }
 
-fn queue_due(store: &mut Store, due: &[Due])
+fn queue_due(store: &mut Store, due: &[EndMarker])
     requires { length due.now ≤ store.old.spare }
     ensures { store.new ≡ becomes store.old (with_messages store.old.world (map due_message due.now)) (length due.now) }
 {

@@ -1,10 +1,12 @@
 -- A message on its way: a refusal, or what is done.
-use Rattle.std.specs.Prelude.{ℕ, Bool, false, [], length, if◌then◌else◌, Option, Some, None, Result, Ok, Err}
+use Rattle.std.specs.Prelude.{ℕ, Bool, false, [], length, if◌then◌else◌, Option, Some, None, Result, Ok, Err, ⊤}
 use Rattle.eos_batch.specs.declared.marker.Kind.{Kind}
 use Rattle.eos_machine.specs.declared.config.Config.{Config}
 use Rattle.eos_machine.specs.declared.switches.Switches.{Switches}
 use Rattle.eos_machine.specs.World.{World, coord_at, log_at, prepared, finished}
 use Rattle.eos_machine.specs.declared.item.Item.{Item}
+use Rattle.eos_machine.specs.declared.state.Message.{Message}
+use Rattle.eos_machine.specs.declared.state.Message.TheVariants as messages
 use Rattle.eos_machine.specs.declared.event.Reply.{Reply}
 use Rattle.eos_machine.specs.declared.event.Reply.TheVariants.{Done, Fenced}
 use Rattle.eos_machine.specs.Answers.{Answer, when}
@@ -13,6 +15,13 @@ use Rattle.eos_machine.specs.Tests.{is_nil, ongoing_partitions}
 use Rattle.eos_store.specs.Named.{IsFrom}
 use Rattle.eos_deliveries.specs.declared.accept.Request.{Request}
 use Rattle.eos_deliveries.specs.declared.accept.Arrival.{Arrival}
+
+-- a message with data, not with the end of a transaction
+abbrev pub IsData : Message → Type 0
+IsData (messages.Output a e p s x v) = ⊤
+IsData (messages.Offset a e g q v) = ⊤
+IsData (messages.End a e k) = ⊥
+IsData (messages.Marker a e k p) = ⊥
 
 -- data of an old epoch: no transaction lists it, or it is refused
 abbrev pub fence : Switches → Result Bool Reply
