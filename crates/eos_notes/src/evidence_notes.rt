@@ -43,25 +43,33 @@ impl Found {
     }
 }
 
-// What an application's group has committed, by its source topics, its commits and their offsets for each part.
+/// What an application's group has committed of its source topics.
+#[derive(Clone, Copy)]
+struct Committed<'a> {
+    commits: &'a [CommitRef<'a>],
+    /// The offset that they commit for each part.
+    offsets: &'a [i64],
+}
+
+// What an application's group has committed, by its source topics.
 fn take_commits(
     found: &mut Found,
     app: &App,
     sources: &TopicSet<'_>,
     parts: &[Part],
-    commits: &[CommitRef<'_>],
-    offsets: &[i64],
+    committed: &Committed<'_>,
 ) -> Result<(), AllocError>
     requires sources { IsPermutation app.now.sources sources.now }
-    requires commits { map plain_commit commits.now ≡ commits_for parts.now app.now }
-    requires offsets { offsets.now ≡ map (committed_offset (commits_for parts.now app.now)) (map part_name parts.now) }
+    requires commits { map plain_commit committed.now.commits.now ≡ commits_for parts.now app.now }
+    requires offsets { committed.now.offsets.now ≡ map (committed_offset (commits_for parts.now app.now)) (map part_name parts.now) }
     ensures past_ends { OnOk result (found.new.past_ends.items ≡ found.old.past_ends.items ++ past_ends_in parts.now app.now) }
     ensures nothing { OnOk result (found.new.nothing.items ≡ found.old.nothing.items ++ nothing_in parts.now app.now) }
     ensures behind { OnOk result (found.new.behind.items ≡ found.old.behind.items ++ behind_in parts.now app.now) }
 {
     let group = &app.group;
+    let offsets = committed.offsets;
     push_past_ends(&mut found.past_ends, group, sources, parts, offsets)?;
-    push_nothing(&mut found.nothing, group, commits)?;
+    push_nothing(&mut found.nothing, group, committed.commits)?;
     let count = count_inputs(sources, parts, offsets)?;
     push_behind(&mut found.behind, group, count)?;
     Ok(())
@@ -85,7 +93,11 @@ fn take_app(
     let commits = table.commits_of(alloc, app)?;
     let commits = commits.as_slice();
     let offsets = committed_offsets(alloc, parts, commits)?;
-    take_commits(found, app, &sources, parts, commits, offsets.as_slice())?;
+    let committed = Committed {
+        commits,
+        offsets: offsets.as_slice(),
+    };
+    take_commits(found, app, &sources, parts, &committed)?;
     Ok(())
 }
 

@@ -44,7 +44,15 @@ fn push_note(alloc: Global, out: &mut String, note: &Note) -> Result<(), AllocEr
             offset,
             partition,
             end,
-        } => push_past_end(alloc, out, group, offset, partition, end),
+        } => {
+            let past = PastEnd {
+                group,
+                partition,
+                offset: *offset,
+                end: *end,
+            };
+            push_past_end(alloc, out, &past)
+        }
         Note::NoPartition { topic, group } => push_no_partition(alloc, out, topic, group),
         Note::Gap { topic, number } => push_gap(alloc, out, topic, number),
         Note::NothingCommitted { group } => push_nothing_committed(alloc, out, group),
@@ -72,21 +80,25 @@ fn push_unlisted(
     Ok(())
 }
 
-fn push_past_end(
-    alloc: Global,
-    out: &mut String,
-    group: &GroupId,
-    offset: &i64,
-    partition: &PartitionName,
-    end: &i64,
-) -> Result<(), AllocError>
-    ensures { OnOk result (Adds (string_bytes out.old) (string_bytes out.new) (note_text (Note.PastEnd group.now offset.now partition.now end.now))) }
+/// What a group has committed of a partition that ends before.
+#[derive(Clone, Copy)]
+struct PastEnd<'a> {
+    group: &'a GroupId,
+    partition: &'a PartitionName,
+    /// The committed offset.
+    offset: i64,
+    /// The partition's declared end.
+    end: i64,
+}
+
+fn push_past_end(alloc: Global, out: &mut String, past: &PastEnd<'_>) -> Result<(), AllocError>
+    ensures { OnOk result (Adds (string_bytes out.old) (string_bytes out.new) (note_text (Note.PastEnd past.now.group.now past.now.offset past.now.partition.now past.now.end))) }
 {
-    push_escaped(alloc, out, "group ", group.as_bytes())?;
-    push_value(out, " committed offset ", offset)?;
-    push_escaped(alloc, out, " of ", partition.topic.as_slice())?;
-    push_value(out, "-", &partition.partition)?;
-    push_value(out, ", past its end ", end)?;
+    push_escaped(alloc, out, "group ", past.group.as_bytes())?;
+    push_value(out, " committed offset ", &past.offset)?;
+    push_escaped(alloc, out, " of ", past.partition.topic.as_slice())?;
+    push_value(out, "-", &past.partition.partition)?;
+    push_value(out, ", past its end ", &past.end)?;
     Ok(())
 }
 

@@ -4,14 +4,11 @@ ghost use Rattle.std.specs.Prelude.{◌≡◌, ◌++◌, [], ◌∷◌, true, Li
 ghost use Rattle.std.specs.List.{Any, Contains};
 ghost use Rattle.std.specs.List.Sorted.{IsStrictlySortedBy};
 ghost use Rattle.std.specs.Ordering.{is_eq};
-ghost use Rattle.eos_base.specs.Members.{Has, is_found};
+ghost use Rattle.eos_base.specs.Members.{is_found};
 ghost use Rattle.eos_base.specs.PartitionNames.{name_cmp};
 ghost use Rattle.eos_base.specs.declared.partition_name.PartitionName.{PartitionName as Name};
 ghost use Rattle.eos_commits.specs.Plain.{plain_commit};
-ghost use Rattle.eos_commits.specs.Tables.{IsTableOf};
-ghost use Rattle.eos_evidence.specs.declared.application.App.{App as AppOf};
 ghost use Rattle.eos_evidence.specs.declared.ends.End.{End as EndOf};
-ghost use Rattle.eos_lineage.specs.EvidenceLogs.{commits_for};
 ghost use Rattle.eos_notes.specs.CommitNotes.{end_name, unlisted_note, AreUnlisted, AreUnlistedNotes};
 ghost use Rattle.eos_notes.specs.steps.Unlisted.{plain_name, by_name, commit_name, is_unlisted, AreEachOnce};
 
@@ -137,24 +134,21 @@ fn push_notes(
     Ok(())
 }
 
-// The notes of one application, behind the others.
-fn push_app(
+// The notes of one group, by its commits and the names that have a declared end, behind the others.
+fn push_group(
     alloc: Global,
     all: &mut Vec<Note>,
-    app: &App,
-    table: &CommitTable<'_>,
+    group: &GroupId,
     listed: &[NameRef<'_>],
-    parts: &[Part],
+    commits: &[CommitRef<'_>],
 ) -> Result<(), AllocError>
-    requires table { (apps : List AppOf) × IsTableOf apps parts.now table.now × Has apps app.now }
-    requires listed { IsSorted by_name listed.now }
+    requires { IsSorted by_name listed.now }
     ensures { OnOk result ((ends : List EndOf) → IsPermutation (map end_name ends) (map plain_name listed.now)
-        → (names : List Name) × AreUnlisted ends (commits_for parts.now app.now) names × (all.new.items ≡ all.old.items ++ map (unlisted_note app.now.group) names)) }
+        → (names : List Name) × AreUnlisted ends (map plain_commit commits.now) names × (all.new.items ≡ all.old.items ++ map (unlisted_note group.now) names)) }
 {
-    let commits = table.commits_of(alloc, app)?;
-    let found = unlisted_names(alloc, listed, commits.as_slice())?;
+    let found = unlisted_names(alloc, listed, commits)?;
     let names = each_once(found);
-    push_notes(alloc, all, &app.group, names.as_slice())?;
+    push_notes(alloc, all, group, names.as_slice())?;
     Ok(())
 }
 
@@ -171,7 +165,8 @@ fn notes_by(
     let table = CommitTable::of(alloc, apps, parts)?;
     let mut all = Vec::new(alloc);
     for app in apps {
-        push_app(alloc, &mut all, app, &table, listed, parts)?;
+        let commits = table.commits_of(alloc, app)?;
+        push_group(alloc, &mut all, &app.group, listed, commits.as_slice())?;
     }
     Ok(all)
 }

@@ -1,12 +1,20 @@
+use Rattle.std.proofs.Common.{◌≡◌, ◌∙◌, List, ap, map, subst}
+use Rattle.eos_claims.specs.Outputs.{Commit}
+use Rattle.eos_commits.specs.declared.commits.CommitRef.{CommitRef}
+use Rattle.eos_commits.specs.Plain.{plain_commit}
 use Rattle.eos_commits.proofs.PushedMore.{item_has}
+use Rattle.eos_lineage.specs.EvidenceLogs.{commits_for}
+use Rattle.eos_notes.specs.CommitNotes.{AreUnlisted}
 use Rattle.eos_notes.proofs.UnlistedNotes.{one_more}
 use Rattle.eos_notes.proofs.unlisted.notes_by.Goals as goal
 
 pub loop-app-preserved : goal.loop-app-preserved
 loop-app-preserved c = λ ends perm.
-    let p = c.in_ok-push_app.ensures ends perm in
-    one_more ends c.args.parts.now c.args.apps.now c.loop-app.app-index c.app-item.result c.loop-app.all.items c.push_app.new.all.items p.0 c.loop-app-test.true c.app-item.is (c.loop-app.invariant ends perm) p.1 p.2
-
-pub push_app-requires-clause-table : goal.push_app-requires-clause-table
-push_app-requires-clause-table c =
-    (c.args.apps.now, c.in_ok-table.ensures, item_has c.args.apps.now c.loop-app.app-index c.app-item.result c.loop-app-test.true c.app-item.is)
+    let logs = c.args.parts.now in
+    let apps = c.args.apps.now in
+    let app = c.app-item.result in
+    let has = item_has apps c.loop-app.app-index app c.loop-app-test.true c.app-item.is in
+    let commits : map plain_commit c.as_slice.result.now ≡ commits_for logs app = ap (λ (cs : List CommitRef). map plain_commit cs) c.as_slice.ensures.value ∙ c.in_ok-commits.ensures apps logs c.in_ok-table.ensures has in
+    let p = c.in_ok-push_group.ensures ends perm in
+    let are = subst (λ (cs : List Commit). AreUnlisted ends cs p.0) commits p.1 in
+    one_more ends logs apps c.loop-app.app-index app c.loop-app.all.items c.push_group.new.all.items p.0 c.loop-app-test.true c.app-item.is (c.loop-app.invariant ends perm) are p.2
