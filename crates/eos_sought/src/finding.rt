@@ -52,19 +52,26 @@ fn keep(alloc: Global, finds: &mut Finds, part: &Part, i: usize) -> Result<(), A
     Ok(())
 }
 
+/// A data record, and its number in the part that holds it.
+#[derive(Drop)]
+struct Numbered<'a> {
+    i: usize,
+    item: ItemRef<'a>,
+}
+
 // With one record more, if it is sought.
 fn take_item(
     alloc: Global,
     finds: &mut Finds,
     sought: &Sought,
     part: &Part,
-    i: usize,
-    item: ItemRef<'_>,
+    numbered: Numbered<'_>,
 ) -> Result<(), AllocError>
-    requires { slice_get part.now.items i ≡ Some item }
+    requires { slice_get part.now.items numbered.i ≡ Some numbered.item }
     ensures most { finds.new.most ≡ finds.old.most }
-    ensures taken { (xs : List Record) → AreFirst xs finds.old → OnOk result (AreFirst (xs ++ among sought.now part.now (item.entry ∷ [])) finds.new) }
+    ensures taken { (xs : List Record) → AreFirst xs finds.old → OnOk result (AreFirst (xs ++ among sought.now part.now (numbered.entry.item ∷ [])) finds.new) }
 {
+    let Numbered { i, item } = numbered;
     if meets(alloc, sought, part, item)? {
         keep(alloc, finds, part, i)?;
     }
@@ -85,7 +92,7 @@ fn take_part(
     let mut left = part.items().cursor();
     let mut i = 0;
     while let Some(item) = left.next() {
-        take_item(alloc, finds, sought, part, i, item)?;
+        take_item(alloc, finds, sought, part, Numbered { i, item })?;
         i += 1;
     }
     Ok(())
