@@ -39,6 +39,14 @@ impl Model for LogReading {
     ghost view = { λ r. record { marks = r.marks.items; decisions = r.decisions.items; best = r.best } };
 }
 
+/// A record of a transactional id: where it stands, and its value; none is a tombstone.
+#[derive(Drop)]
+struct TxnRecord {
+    place: Place,
+    id: Bytes,
+    value: Option<TxnValue>,
+}
+
 /// The value of the last unskipped record of each transactional id of a partition; none is a tombstone.
 type LastValues = BTreeMap<Bytes, Option<TxnValue>>;
 
@@ -125,13 +133,13 @@ fn take_value(
     alloc: Global,
     reading: &mut LogReading,
     last: &mut LastValues,
-    place: Place,
-    id: Bytes,
-    value: Option<TxnValue>,
+    written: TxnRecord,
 ) -> Result<(), AllocError>
-    ensures read { OnOk result (reading.new ≡ after reading.old (step_at (state_of last.old) place.partition place.offset (Of id value)) (faults_at (state_of last.old) place.partition place.offset (Of id value))) }
-    ensures last { OnOk result (state_of last.new ≡ next_state (state_of last.old) (Of id value)) }
+    ensures read { let content = Of written.id written.value in
+        OnOk result (reading.new ≡ after reading.old (step_at (state_of last.old) written.place.partition written.place.offset content) (faults_at (state_of last.old) written.place.partition written.place.offset content)) }
+    ensures last { OnOk result (state_of last.new ≡ next_state (state_of last.old) (Of written.id written.value)) }
 {
+    let TxnRecord { place, id, value } = written;
     let before = last_value(last, &id);
     let next = value.as_ref();
     if is_skipped(alloc, before, next)? {
@@ -163,7 +171,10 @@ fn take_record(
             Ok(())
         }
         Content::Other => Ok(()),
-        Content::Of(id, value) => take_value(alloc, reading, last, place, id, value),
+        Content::Of(id, value) => {
+            let written = TxnRecord { place, id, value };
+            take_value(alloc, reading, last, written)
+        }
     }
 }
 
