@@ -1,7 +1,9 @@
 //! A page, and how it is found.
 
-ghost use Rattle.std.specs.Prelude.{◌≡◌, IfOk, IfSome, OnOk, codes, string_bytes};
+ghost use Rattle.std.specs.Prelude.{◌≡◌, IfOk, OnOk, codes, string_bytes};
+ghost use Rattle.std.specs.Option.{option_copied};
 ghost use Rattle.eos_text.specs.Adding.{Adds};
+ghost use Rattle.eos_catalogue.specs.Catalogue.{page_in, IsPageOf};
 ghost use Rattle.eos_catalogue.specs.Pages.{title_text, section_text, sections_text, page_text};
 
 use crate::outputs::OUTPUTS;
@@ -28,25 +30,28 @@ pub struct Page {
     pub next: &'static str,
 }
 
-/// The page of the kind with this code, such as `5.10`.
-pub fn page_of(code: &str) -> Option<&'static Page>
-    ensures { IfSome result (λ page. page.now.code.now ≡ code.now) }
+// The first of these with this code.
+fn page_in(pages: &'static [Page], code: &str) -> Option<&'static Page>
+    ensures { option_copied result ≡ page_in pages.now code.now }
 {
-    for pages in [
-        LOGS.as_slice(),
-        PRODUCERS.as_slice(),
-        TRANSACTION_LOG.as_slice(),
-        DECISIONS.as_slice(),
-        RECORDS.as_slice(),
-        OUTPUTS.as_slice(),
-    ] {
-        for page in pages {
-            if page.code == code {
-                return Some(page);
-            }
+    for page in pages {
+        if page.code == code {
+            return Some(page);
         }
     }
     None
+}
+
+/// The page of the kind with this code, such as `5.10`; none where no kind has it.
+pub fn page_of(code: &str) -> Option<&'static Page>
+    ensures { IsPageOf code.now (option_copied result) }
+{
+    page_in(LOGS.as_slice(), code)
+        .or(page_in(PRODUCERS.as_slice(), code))
+        .or(page_in(TRANSACTION_LOG.as_slice(), code))
+        .or(page_in(DECISIONS.as_slice(), code))
+        .or(page_in(RECORDS.as_slice(), code))
+        .or(page_in(OUTPUTS.as_slice(), code))
 }
 
 /// A page as it is printed.

@@ -1,0 +1,29 @@
+-- Which codes have a page in the catalogue, and which page a code has.
+use Rattle.std.specs.Prelude.{◌≡◌, ℕ, List, [], ◌∷◌, Option, Some, None, Bool, true, false, bytes_eq, codes, if◌then◌else◌}
+use Rattle.std.specs.List.{list_any}
+use Rattle.eos_catalogue.specs.declared.page.Page.{Page}
+
+-- the codes of the kinds of faults, in the order of the pages
+unfoldable pub page_codes : List (List ℕ)
+page_codes =
+    codes "1.1" ∷ codes "1.2" ∷ codes "1.10" ∷ codes "1.11" ∷
+    codes "1.3" ∷ codes "1.4" ∷ codes "1.5" ∷ codes "1.6" ∷ codes "1.7" ∷ codes "1.8" ∷ codes "1.9" ∷
+    codes "2.1" ∷ codes "2.2" ∷ codes "2.3" ∷ codes "2.4" ∷ codes "2.5" ∷
+    codes "3.1" ∷ codes "3.2" ∷ codes "3.3" ∷ codes "3.4" ∷ codes "3.5" ∷ codes "3.6" ∷ codes "3.7" ∷
+    codes "4.1" ∷ codes "4.2" ∷ codes "4.3" ∷ codes "4.4" ∷
+    codes "5.5" ∷ codes "5.6" ∷ codes "5.7" ∷ codes "5.8" ∷ codes "5.9" ∷ codes "5.10" ∷ codes "5.11" ∷ codes "5.12" ∷
+    []
+
+-- the first of these with this code
+abbrev pub page_in : List Page → List ℕ → Option Page
+page_in [] code = None
+page_in (p ∷ ps) code = if bytes_eq p.code.now code then Some p else page_in ps code
+
+-- this code is one of these
+abbrev pub is_one_of : List (List ℕ) → List ℕ → Bool
+is_one_of all code = list_any (λ c. bytes_eq c code) all
+
+-- a code that a kind has gives its page, and another gives none
+abbrev pub IsPageOf : List ℕ → Option Page → Type 0
+IsPageOf code None = is_one_of page_codes code ≡ false
+IsPageOf code (Some page) = (page.code.now ≡ code) × (is_one_of page_codes code ≡ true)
