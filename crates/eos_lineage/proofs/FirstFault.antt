@@ -96,7 +96,7 @@ passed_more apps ps i d m n k l lt s answer = subst (λ (ts : List App). PassedS
     cut : take i apps ++ get_or apps i d ∷ [] ≡ take (i + 1) apps
     cut = let e : suc i ≡ i + 1 = omega arith in subst (λ j. take i apps ++ get_or apps i d ∷ [] ≡ take j apps) e (sym (take-suc apps i d lt))
 
-pub all_passed : (apps : List App) (ps : List PartLog) (m n : ℕ) → NoneStands (records.Stands apps ps) → PassedSoFar apps ps m n → IsAnswer apps ps (Ok (m, n))
+pub all_passed : (apps : List App) (ps : List PartLog) (m n : ℕ) → NoneStands (records.Stands apps ps) → PassedSoFar apps ps m n → IsAnswer apps ps (Ok (record { inputs = m; outputs = n }))
 all_passed apps ps m n none s = (nothing, s.inputs_are, s.outputs_are)
   where
     nothing : (f : LineageFault) → Stands apps ps f → ⊥

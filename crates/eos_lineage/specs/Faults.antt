@@ -11,6 +11,7 @@ use Rattle.eos_claims.specs.declared.fault.OutputFault.{OutputFault}
 use Rattle.eos_claims.specs.Faults as outputs
 use Rattle.eos_commits.specs.Commits.{Group, is_same}
 use Rattle.eos_commits.specs.Faults as records
+use Rattle.eos_lineage.specs.declared.counts.LineageCounts.{LineageCounts}
 use Rattle.eos_lineage.specs.declared.fault.LineageFault.{LineageFault}
 use Rattle.eos_lineage.specs.declared.fault.LineageFault.TheVariants.{Record, Output}
 use Rattle.eos_lineage.specs.Lineage.{application_of, count_inputs, count_outputs}
@@ -65,7 +66,12 @@ name_of (Output group f) = outputs.name_of f.kind
 
 -- ---- the answer
 
--- the two counts where no fault stands, else the least fault
-abbrev pub IsAnswer : List App → List PartLog → Result (ℕ × ℕ) LineageFault → Type 0
-IsAnswer apps ps (Ok counts) = NoneStands (Stands apps ps) × (counts.0 ≡ count_inputs apps ps) × (counts.1 ≡ count_outputs apps ps)
+-- the counts where no fault stands, else the least fault
+abbrev pub IsAnswer : List App → List PartLog → Result LineageCounts LineageFault → Type 0
+IsAnswer apps ps (Ok counts) = NoneStands (Stands apps ps) × (counts.inputs ≡ count_inputs apps ps) × (counts.outputs ≡ count_outputs apps ps)
 IsAnswer apps ps (Err f) = IsLeast (lineage_cmp apps) (Stands apps ps) f
+
+-- the number of inputs, and that of outputs
+abbrev pub as_counts : Result (ℕ × ℕ) LineageFault → Result LineageCounts LineageFault
+as_counts (Ok pair) = Ok (record { inputs = pair.0; outputs = pair.1 })
+as_counts (Err f) = Err f

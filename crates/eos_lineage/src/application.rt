@@ -1,21 +1,16 @@
 //! The outputs of one application: the least fault, and what is counted.
 
-ghost use Rattle.std.specs.Prelude.{◌≡◌, ◌≤◌, ◌<◌, true, map, flat_map, filter, length, fold, option_map, IfOk, IsSorted, IsPermutation};
+ghost use Rattle.std.specs.Prelude.{◌≡◌, ◌≤◌, true, map, flat_map, filter, length, fold, option_map, IfOk, IsSorted, IsPermutation};
 ghost use Rattle.eos_base.specs.Members.{Has};
 ghost use Rattle.eos_base.specs.Least.{lesser_of};
 ghost use Rattle.eos_claims.specs.Outputs.{Application, ReadsSources};
 ghost use Rattle.eos_claims.specs.Faults.{fault_cmp};
 ghost use Rattle.eos_claims.specs.Candidates.{AreApart, unclaimed, is_committed as is_committed_in};
 ghost use Rattle.eos_claims.specs.Plain.{plain_place, plain_source, plain_fault, plain_claim};
-ghost use Rattle.eos_commits.specs.Faults.{AreInOrder};
-ghost use Rattle.eos_fold.specs.Parts.{part_name};
-ghost use Rattle.eos_lineage.specs.Lineage.{application_of, inputs_below};
-ghost use Rattle.eos_lineage.specs.steps.Walks.{one_if, AreTables, AreNamed, by_claim, by_source, is_named, claims_of_part, is_no_note, IsOutputsAnswer};
+ghost use Rattle.eos_lineage.specs.Lineage.{inputs_below};
+ghost use Rattle.eos_lineage.specs.steps.Walks.{one_if, AreTables, AreNamed, by_claim, by_source, is_named, output_claims, is_no_note, IsOutputsAnswer};
 
-use crate::claims::take_parts;
-use crate::inputs::inputs_of;
-use crate::name::Names;
-use crate::passes::PassTable;
+use crate::claims::{Output, take_outputs};
 use crate::sorting::sort_by_threads;
 use crate::tables::{Marks, Tables, is_committed};
 use bytes::Bytes;
@@ -23,9 +18,7 @@ use eos_base::PartitionName;
 use eos_claims::{
     Found, NumberedClaim, OutputFault, Place, PlaceRef, SourceRef, least_of_input, least_of_runs,
 };
-use eos_commits::{TopicSet, commits_of};
-use eos_evidence::App;
-use eos_fold::Part;
+use eos_workers::Workers;
 use std::alloc::{AllocError, Global};
 use std::thread::Threads;
 
@@ -42,13 +35,13 @@ pub(crate) struct Tally {
 // such is wanted.
 fn sorted<'a>(
     rt: &(impl Threads + Sync),
-    threads: usize,
+    workers: Workers,
     mut claims: Vec<NumberedClaim<'a>>,
 ) -> Vec<NumberedClaim<'a>>
     ensures same { IsPermutation claims.entry.items result.items }
     ensures in_order { IsSorted by_claim result.items }
 {
-    sort_by_threads(rt, threads, claims.as_mut_slice());
+    sort_by_threads(rt, workers.get() as usize, claims.as_mut_slice());
     claims
 }
 
@@ -122,7 +115,6 @@ fn take_input<'a>(
     tables: &Tables<'_, '_, '_, '_, '_, 'a>,
     marks: &mut Marks,
     claims: &[NumberedClaim<'a>],
-    near: usize,
     best: Option<Found<'a>>,
     input: &PlaceRef<'a>,
 ) -> Option<Found<'a>>
@@ -130,7 +122,8 @@ fn take_input<'a>(
         → option_map plain_fault result ≡ fold (lesser_of fault_cmp) (option_map plain_fault best.entry) (unclaimed a (plain_place input.entry.now)) }
 {
     let committed = is_committed(tables, marks, input);
-    let claimed = is_claimed(claims, near, input);
+    marks.claim = advanced(claims, marks.claim, input);
+    let claimed = is_claimed(claims, marks.claim, input);
     least_of_input(best, *input, committed, claimed)
 }
 
@@ -145,10 +138,8 @@ fn take_inputs<'a>(
 {
     let mut best = best;
     let mut marks = Marks::new();
-    let mut near = 0;
     for input in tables.inputs {
-        near = advanced(claims, near, input);
-        best = take_input(tables, &mut marks, claims, near, best, input);
+        best = take_input(tables, &mut marks, claims, best, input);
     }
     best
 }
@@ -212,24 +203,20 @@ fn published_if(alloc: Global, found: Option<Found<'_>>) -> Result<Option<Output
     }
 }
 
-// Of tables of an application and the partitions of its output topics, by at most so many threads.
+/// Of an application with these tables and these partitions of its output topics, by so many threads at most.
 pub(crate) fn make_tally<'a, R: Threads + Sync>(
     alloc: Global,
     rt: &R,
-    threads: usize,
+    workers: Workers,
     tables: &Tables<'_, '_, '_, '_, '_, 'a>,
-    outputs: &TopicSet<'_>,
-    all: &'a [PartitionName],
-    parts: &'a [Part],
+    outputs: &[Output<'a>],
 ) -> Result<Tally, AllocError>
-    requires threads { 0 < threads }
-    requires all { all.now ≡ map part_name parts.now }
-    ensures { (a : Application) → AreTables a tables.now → ReadsSources a → AreApart a → a.claims ≡ flat_map (claims_of_part outputs.now) parts.now
+    ensures { (a : Application) → AreTables a tables.now → ReadsSources a → AreApart a → a.claims ≡ flat_map output_claims outputs.now
         → IfOk result (λ t. IsOutputsAnswer a t.fault t.inputs t.outputs) }
 {
-    let walk = take_parts(alloc, rt, threads, tables, outputs, all, parts)?;
+    let walk = take_outputs(alloc, rt, workers, tables, outputs)?;
     let outputs = count_outputs(walk.below.as_slice());
-    let below = sorted(rt, threads, walk.below);
+    let below = sorted(rt, workers, walk.below);
     let best = least_of_runs(walk.best, below.as_slice());
     let best = take_inputs(tables, below.as_slice(), best);
     let inputs = count_inputs(tables);

@@ -1,59 +1,50 @@
 //! The lineage of all applications: the least fault, or the counts.
 
-ghost use Rattle.std.specs.Prelude.{◌≡◌, ◌+◌, ◌<◌, true, List, map, IfOk, IsPermutation};
+ghost use Rattle.std.specs.Prelude.{◌≡◌, ◌+◌, true, IfOk};
 ghost use Rattle.eos_base.specs.Least.{NoneStands};
-ghost use Rattle.eos_base.specs.Members.{Has};
-ghost use Rattle.eos_commits.specs.Commits.{commits_of as commits_in};
-ghost use Rattle.eos_commits.specs.Plain.{plain_commit};
-ghost use Rattle.eos_commits.specs.Tables.{IsTableOf};
 ghost use Rattle.eos_commits.specs.Faults.{AreInOrder, Stands as StandsAtRecord};
-ghost use Rattle.eos_fold.specs.Parts.{part_name};
 ghost use Rattle.eos_evidence.specs.declared.application.App.{App};
 ghost use Rattle.eos_evidence.specs.Parts.{groups_of};
 ghost use Rattle.eos_evidence.specs.Topics.{are_unequal};
-ghost use Rattle.eos_lineage.specs.Faults.{named_group, IsAnswer};
+ghost use Rattle.eos_lineage.specs.Faults.{named_group, IsAnswer, as_counts};
 ghost use Rattle.eos_lineage.specs.Lineage.{application_of};
-ghost use Rattle.eos_lineage.specs.steps.Walks.{IsOutputsAnswer};
+ghost use Rattle.eos_lineage.specs.steps.Walks.{IsOutputsAnswer, IsPipelineOf};
 
 use crate::application::{Tally, make_tally};
+use crate::claims::outputs_of;
+use crate::counts::LineageCounts;
 use crate::fault::LineageFault;
 use crate::inputs::inputs_of;
-use crate::name::{Names, names_of};
+use crate::logs::Logs;
+use crate::name::names_of;
 use crate::offsets::offsets_of;
 use crate::passes::PassTable;
+use crate::pipeline::Pipeline;
 use crate::tables::Tables;
-use eos_base::PartitionName;
-use eos_commits::{CommitRef, CommitTable, TopicSet, least_visible_fault};
+use eos_commits::{CommitTable, least_visible_fault};
 use eos_evidence::{App, GroupId, Spec};
 use eos_fold::Part;
+use eos_workers::Workers;
 use std::alloc::{AllocError, Global};
 use std::thread::Threads;
 
-/// How many threads are asked for at most, where nothing else is said.
-const MOST: usize = 64;
-
-// The outputs of an application with these topics and commits.
-fn check_claims(
+// The outputs of the application with this pipeline.
+fn check_application(
     alloc: Global,
     rt: &(impl Threads + Sync),
-    threads: usize,
-    sources: &TopicSet<'_>,
-    outputs: &TopicSet<'_>,
-    commits: &[CommitRef<'_>],
-    all: &[PartitionName],
-    names: &Names<'_>,
-    parts: &[Part],
+    workers: Workers,
+    pipeline: &Pipeline<'_>,
+    logs: &Logs<'_>,
 ) -> Result<Tally, AllocError>
-    requires threads { 0 < threads }
-    requires all { all.now ≡ map part_name parts.now }
-    requires names { names.now ≡ all.now }
-    ensures { (app : App) → AreInOrder parts.now → IsPermutation app.sources sources.now → IsPermutation app.outputs outputs.now
-        → map plain_commit commits.now ≡ commits_in app.group app.sources parts.now
-        → IfOk result (λ t. IsOutputsAnswer (application_of app parts.now) t.fault t.inputs t.outputs) }
+    ensures { (app : App) → AreInOrder logs.now → IsPipelineOf app logs.now pipeline.now → IfOk result (λ t. IsOutputsAnswer (application_of app logs.now) t.fault t.inputs t.outputs) }
 {
-    let inputs = inputs_of(alloc, sources, all, parts)?;
-    let offsets = offsets_of(alloc, all, names, commits)?;
+    let names = logs.names();
+    let sources = &pipeline.sources;
+    let commits = pipeline.commits.as_slice();
+    let inputs = inputs_of(alloc, sources, names.as_slice(), logs.parts())?;
+    let offsets = offsets_of(alloc, names, commits)?;
     let passes = PassTable::of(alloc, commits)?;
+    let outputs = outputs_of(alloc, &pipeline.outputs, names.as_slice(), logs.parts())?;
     let tables = Tables {
         names,
         sources,
@@ -61,40 +52,7 @@ fn check_claims(
         offsets: offsets.as_slice(),
         passes: &passes,
     };
-    make_tally(alloc, rt, threads, &tables, outputs, all, parts)
-}
-
-// The outputs of one application.
-fn check_application(
-    alloc: Global,
-    rt: &(impl Threads + Sync),
-    threads: usize,
-    app: &App,
-    table: &CommitTable<'_>,
-    all: &[PartitionName],
-    names: &Names<'_>,
-    parts: &[Part],
-) -> Result<Tally, AllocError>
-    requires threads { 0 < threads }
-    requires table { (apps : List App) × IsTableOf apps parts.now table.now × Has apps app.now }
-    requires all { all.now ≡ map part_name parts.now }
-    requires names { names.now ≡ all.now }
-    ensures { AreInOrder parts.now → IfOk result (λ t. IsOutputsAnswer (application_of app.now parts.now) t.fault t.inputs t.outputs) }
-{
-    let sources = TopicSet::of(alloc, app.sources.as_slice())?;
-    let outputs = TopicSet::of(alloc, app.outputs.as_slice())?;
-    let commits = table.commits_of(alloc, app)?;
-    check_claims(
-        alloc,
-        rt,
-        threads,
-        &sources,
-        &outputs,
-        commits.as_slice(),
-        all,
-        names,
-        parts,
-    )
+    make_tally(alloc, rt, workers, &tables, outputs.as_slice())
 }
 
 // The group that a fault of an application's outputs names.
@@ -119,23 +77,19 @@ fn sum(a: u64, b: u64) -> Result<u64, AllocError>
 fn check_each(
     alloc: Global,
     rt: &(impl Threads + Sync),
-    threads: usize,
+    workers: Workers,
     apps: &[App],
-    all: &[PartitionName],
-    names: &Names<'_>,
-    parts: &[Part],
-) -> Result<Result<(u64, u64), LineageFault>, AllocError>
-    requires threads { 0 < threads }
-    requires unequal { are_unequal (groups_of apps.now) ≡ true }
-    requires all { all.now ≡ map part_name parts.now }
-    requires names { names.now ≡ all.now }
-    ensures { AreInOrder parts.now → NoneStands (StandsAtRecord apps.now parts.now) → IfOk result (IsAnswer apps.now parts.now) }
+    logs: &Logs<'_>,
+) -> Result<Result<LineageCounts, LineageFault>, AllocError>
+    requires { are_unequal (groups_of apps.now) ≡ true }
+    ensures { AreInOrder logs.now → NoneStands (StandsAtRecord apps.now logs.now) → IfOk result (IsAnswer apps.now logs.now) }
 {
-    let table = CommitTable::of(alloc, apps, parts)?;
+    let table = CommitTable::of(alloc, apps, logs.parts())?;
     let mut inputs = 0u64;
     let mut outputs = 0u64;
     for app in apps {
-        let tally = check_application(alloc, rt, threads, app, &table, all, names, parts)?;
+        let pipeline = Pipeline::of(alloc, app, &table)?;
+        let tally = check_application(alloc, rt, workers, &pipeline, logs)?;
         let found = tally.fault;
         if let Some(fault) = found {
             let group = group_of(apps, app)?;
@@ -144,24 +98,23 @@ fn check_each(
         inputs = sum(inputs, tally.inputs)?;
         outputs = sum(outputs, tally.outputs)?;
     }
-    Ok(Ok((inputs, outputs)))
+    Ok(Ok(LineageCounts { inputs, outputs }))
 }
 
 // The outputs of the applications over these partitions.
 fn check_outputs(
     alloc: Global,
     rt: &(impl Threads + Sync),
-    threads: usize,
+    workers: Workers,
     apps: &[App],
     parts: &[Part],
-) -> Result<Result<(u64, u64), LineageFault>, AllocError>
-    requires threads { 0 < threads }
-    requires unequal { are_unequal (groups_of apps.now) ≡ true }
+) -> Result<Result<LineageCounts, LineageFault>, AllocError>
+    requires { are_unequal (groups_of apps.now) ≡ true }
     ensures { AreInOrder parts.now → NoneStands (StandsAtRecord apps.now parts.now) → IfOk result (IsAnswer apps.now parts.now) }
 {
-    let all = names_of(alloc, parts)?;
-    let names = Names::of(alloc, all.as_slice())?;
-    check_each(alloc, rt, threads, apps, all.as_slice(), &names, parts)
+    let names = names_of(alloc, parts)?;
+    let logs = Logs::of(alloc, names.as_slice(), parts)?;
+    check_each(alloc, rt, workers, apps, &logs)
 }
 
 /// The number of inputs below their committed offsets, over all applications, and that of visible claims that are no
@@ -174,21 +127,20 @@ fn check_outputs(
 pub fn check_lineage_by(
     alloc: Global,
     rt: &(impl Threads + Sync),
-    threads: usize,
+    workers: Workers,
     spec: &Spec,
     parts: &[Part],
-) -> Result<Result<(u64, u64), LineageFault>, AllocError>
-    requires { 0 < threads }
+) -> Result<Result<LineageCounts, LineageFault>, AllocError>
     ensures { AreInOrder parts.now → IfOk result (IsAnswer spec.now.apps parts.now) }
 {
     let apps = spec.apps().as_slice();
     if let Some(fault) = least_visible_fault(alloc, apps, parts)? {
         return Ok(Err(LineageFault::Record(fault)));
     }
-    check_outputs(alloc, rt, threads, apps, parts)
+    check_outputs(alloc, rt, workers, apps, parts)
 }
 
-/// The same, by at most 64 threads.
+/// The same, by at most 64 threads, the number of inputs before that of outputs.
 ///
 /// # Errors
 /// Only want of memory.
@@ -198,7 +150,10 @@ pub fn check_lineage(
     spec: &Spec,
     parts: &[Part],
 ) -> Result<Result<(u64, u64), LineageFault>, AllocError>
-    ensures { AreInOrder parts.now → IfOk result (IsAnswer spec.now.apps parts.now) }
+    ensures { AreInOrder parts.now → IfOk result (λ answer. IsAnswer spec.now.apps parts.now (as_counts answer)) }
 {
-    check_lineage_by(alloc, rt, MOST, spec, parts)
+    match check_lineage_by(alloc, rt, Workers::most(), spec, parts)? {
+        Err(fault) => Ok(Err(fault)),
+        Ok(counts) => Ok(Ok((counts.inputs, counts.outputs))),
+    }
 }

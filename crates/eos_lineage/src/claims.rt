@@ -4,7 +4,7 @@ ghost use Rattle.std.specs.Prelude.{◌≡◌, ◌≤◌, ◌<◌, ◌*◌, ◌+
 ghost use Rattle.eos_claims.specs.Outputs.{Application, PlacedClaim};
 ghost use Rattle.eos_claims.specs.Plain.{plain_claim, plain_fault, plain_lent};
 ghost use Rattle.eos_fold.specs.Parts.{part_name};
-ghost use Rattle.eos_lineage.specs.steps.Walks.{kept_of, counted_ref, AreTables, HasWalked, plain_walk, begun, placed_ref, claim_at, output_claims, claims_of_part, lesser_found, joined_walk, EachWalked, in_turn};
+ghost use Rattle.eos_lineage.specs.steps.Walks.{kept_of, counted_ref, AreTables, HasWalked, plain_walk, begun, plain_placed, claim_at, output_claims, claims_of_part, lesser_found, joined_walk, EachWalked, in_turn};
 
 use crate::tables::{Known, Marks, Tables, known_of, tests_of};
 use eos_base::{PartitionName, lesser};
@@ -14,6 +14,7 @@ use eos_claims::{
 use eos_commits::{TopicSet, is_visible};
 use eos_fold::Part;
 use eos_items::ItemRef;
+use eos_workers::Workers;
 use std::alloc::{AllocError, Global};
 use std::thread;
 use std::thread::Threads;
@@ -28,9 +29,17 @@ pub(crate) struct Walk<'a> {
 
 /// The log of a partition of an output topic, and its name.
 #[derive(Clone, Copy)]
-struct Output<'a> {
+pub(crate) struct Output<'a> {
     name: &'a PartitionName,
     part: &'a Part,
+}
+
+/// A claim as a log has it: what it says, where it stands, and which transaction wrote it.
+#[derive(Clone, Copy)]
+struct PlacedRef<'a> {
+    claim: ClaimRef<'a>,
+    at: PlaceRef<'a>,
+    writer: Option<(i64, i16)>,
 }
 
 // What threads walk over: the partitions, with the tables beside them.
@@ -62,9 +71,10 @@ fn keep_below<'a>(
     Ok(())
 }
 
-fn lent_of<'a>(claim: &ClaimRef<'a>, at: PlaceRef<'a>) -> LentClaim<'a>
-    ensures { plain_lent result ≡ counted_ref claim.entry.now at.entry }
+fn lent_of<'a>(placed: &PlacedRef<'a>) -> LentClaim<'a>
+    ensures { plain_lent result ≡ counted_ref placed.entry.now.claim placed.entry.now.at }
 {
+    let claim = placed.claim;
     LentClaim {
         source: SourceRef {
             topic: claim.topic,
@@ -73,7 +83,7 @@ fn lent_of<'a>(claim: &ClaimRef<'a>, at: PlaceRef<'a>) -> LentClaim<'a>
         },
         output: claim.output,
         of: claim.of,
-        at,
+        at: placed.at,
     }
 }
 
@@ -82,15 +92,13 @@ fn take_claim<'a>(
     walk: &mut Walk<'a>,
     tables: &Tables<'_, '_, '_, '_, '_, 'a>,
     marks: &mut Marks,
-    claim: &ClaimRef<'a>,
-    at: PlaceRef<'a>,
-    writer: Option<(i64, i16)>,
+    placed: &PlacedRef<'a>,
 ) -> Result<(), AllocError>
-    ensures { (a : Application) → AreTables a tables.now → OnOk result (HasWalked a (plain_walk walk.old) (plain_walk walk.new) (placed_ref claim.now at.entry writer ∷ [])) }
+    ensures { (a : Application) → AreTables a tables.now → OnOk result (HasWalked a (plain_walk walk.old) (plain_walk walk.new) (plain_placed placed.now ∷ [])) }
 {
-    let lent = lent_of(claim, at);
+    let lent = lent_of(placed);
     let known = known_of(tables, marks, &lent.source);
-    let tests = tests_of(tables, marks, &known, &lent.source, writer);
+    let tests = tests_of(tables, marks, &known, &lent.source, placed.writer);
     walk.best = least_of_claim(walk.best, tests, &lent);
     keep_below(&mut walk.below, &known, &lent)
 }
@@ -115,7 +123,10 @@ fn take_item<'a>(
     let writer = item.writer();
     match view_claim(item.into_headers()) {
         None => Ok(()),
-        Some(claim) => take_claim(walk, tables, marks, &claim, at, writer),
+        Some(claim) => {
+            let placed = PlacedRef { claim, at, writer };
+            take_claim(walk, tables, marks, &placed)
+        }
     }
 }
 
@@ -136,8 +147,8 @@ fn take_part<'a>(
     Ok(())
 }
 
-// The partitions of these topics.
-fn outputs_of<'a>(
+/// The partitions of these topics, in their order.
+pub(crate) fn outputs_of<'a>(
     alloc: Global,
     topics: &TopicSet<'_>,
     names: &'a [PartitionName],
@@ -233,15 +244,14 @@ fn join_walks<'a>(
     Ok(all)
 }
 
-// Takes the claims of these partitions, in their order, by at most so many threads.
-fn take_outputs<'a, R: Threads + Sync>(
+/// Takes the claims of these partitions, in their order. They are read by so many threads at most, of which the caller's is one.
+pub(crate) fn take_outputs<'a, R: Threads + Sync>(
     alloc: Global,
     rt: &R,
-    threads: usize,
+    workers: Workers,
     tables: &Tables<'_, '_, '_, '_, '_, 'a>,
     outputs: &[Output<'a>],
 ) -> Result<Walk<'a>, AllocError>
-    requires { 0 < threads }
     ensures { (a : Application) → AreTables a tables.now → IfOk result (λ walk. HasWalked a begun (plain_walk walk) (flat_map output_claims outputs.now)) }
 {
     let ground = Ground {
@@ -249,6 +259,7 @@ fn take_outputs<'a, R: Threads + Sync>(
         outputs,
     };
     let last = outputs.len().saturating_sub(1);
+    let threads = workers.get() as usize;
     let size = last / threads + 1;
     let walks = thread::map_indices(
         rt,
@@ -257,23 +268,4 @@ fn take_outputs<'a, R: Threads + Sync>(
         &|chunk| { take_chunk(alloc, &ground, size, chunk) },
     )?;
     join_walks(alloc, walks)
-}
-
-/// Takes the claims of the partitions of these topics, in their order. They are read by at most so many threads, of which the
-/// caller's is one.
-pub(crate) fn take_parts<'a, R: Threads + Sync>(
-    alloc: Global,
-    rt: &R,
-    threads: usize,
-    tables: &Tables<'_, '_, '_, '_, '_, 'a>,
-    topics: &TopicSet<'_>,
-    names: &'a [PartitionName],
-    parts: &'a [Part],
-) -> Result<Walk<'a>, AllocError>
-    requires threads { 0 < threads }
-    requires names { names.now ≡ map part_name parts.now }
-    ensures { (a : Application) → AreTables a tables.now → IfOk result (λ walk. HasWalked a begun (plain_walk walk) (flat_map (claims_of_part topics.now) parts.now)) }
-{
-    let outputs = outputs_of(alloc, topics, names, parts)?;
-    take_outputs(alloc, rt, threads, tables, outputs.as_slice())
 }

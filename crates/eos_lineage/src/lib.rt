@@ -5,16 +5,20 @@
 mod application;
 mod check;
 mod claims;
+mod counts;
 mod fault;
 mod inputs;
 pub mod laws;
+mod logs;
 mod name;
 mod offsets;
 mod passes;
+mod pipeline;
 mod sorting;
 mod tables;
 
 pub use check::{check_lineage, check_lineage_by};
+pub use counts::LineageCounts;
 pub use eos_claims::{Claim, read_claim};
 pub use eos_commits::committed;
 pub use fault::LineageFault;

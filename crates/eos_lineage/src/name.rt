@@ -79,6 +79,13 @@ impl<'a> Names<'a> {
         Ok(Names { names, refs })
     }
 
+    /// The names.
+    pub(crate) fn as_slice(&self) -> &'a [PartitionName]
+        ensures { result.now ≡ self.now }
+    {
+        self.names
+    }
+
     /// The partition of this name, by a binary search: where names ascend, there is none only where it isn't among them.
     pub(crate) fn find(&self, topic: &[u8], partition: i32) -> Option<NamedPart<'a>>
         ensures found { IfSome result (λ p. slice_get self.now p.place ≡ Some p.name.now) }

@@ -45,14 +45,12 @@ fn none_committed(alloc: Global, names: &[PartitionName]) -> Result<Vec<i64>, Al
 /// The committed offset of each partition, in the order of the names.
 pub(crate) fn offsets_of(
     alloc: Global,
-    all: &[PartitionName],
     names: &Names<'_>,
     commits: &[CommitRef<'_>],
 ) -> Result<Vec<i64>, AllocError>
-    requires { names.now ≡ all.now }
     ensures { IfOk result (λ offsets. AreAscending names.now → offsets.items ≡ map (committed_offset (map plain_commit commits.now)) names.now) }
 {
-    let mut offsets = none_committed(alloc, all)?;
+    let mut offsets = none_committed(alloc, names.as_slice())?;
     for commit in commits {
         commit_one(&mut offsets, names, commit);
     }
@@ -74,7 +72,7 @@ pub fn committed_offsets(
 {
     let all = names_of(alloc, parts)?;
     let names = Names::of(alloc, all.as_slice())?;
-    let offsets = offsets_of(alloc, all.as_slice(), &names, commits)?;
+    let offsets = offsets_of(alloc, &names, commits)?;
     Ok(offsets)
 }
 

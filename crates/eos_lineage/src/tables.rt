@@ -45,6 +45,8 @@ pub(crate) struct Marks {
     input: usize,
     offset: u64,
     pass: usize,
+    /// Where the claims of the last input stand, or the first of a greater one.
+    pub(crate) claim: usize,
 }
 
 impl Marks {
@@ -54,6 +56,7 @@ impl Marks {
             input: 0,
             offset: 0,
             pass: 0,
+            claim: 0,
         }
     }
 

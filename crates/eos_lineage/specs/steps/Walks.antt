@@ -7,6 +7,7 @@ use Rattle.std.specs.declared.cmp.Ordering.{Ordering}
 use Rattle.eos_base.specs.declared.partition_name.PartitionName.{PartitionName}
 use Rattle.eos_base.specs.Members.{Has}
 use Rattle.eos_base.specs.Least.{NoneStands, IsLeast, lesser_of}
+use Rattle.eos_evidence.specs.declared.application.App.{App}
 use Rattle.eos_items.specs.declared.item.Item.{Item}
 use Rattle.eos_fold.specs.Parts.{part_name, PartLog}
 use Rattle.eos_claims.specs.declared.place.Place.{Place}
@@ -19,12 +20,16 @@ use Rattle.eos_claims.specs.Outputs.{Writer, PlacedClaim, Application, committed
 use Rattle.eos_claims.specs.Faults.{place_cmp, fault_cmp, Stands}
 use Rattle.eos_claims.specs.Candidates.{Counted, counted, shown_by, is_source, is_input, is_committed, names as names_input, passes}
 use Rattle.eos_claims.specs.Plain.{plain_place, plain_fault, plain_claim}
+use Rattle.eos_commits.specs.Commits.{commits_of}
+use Rattle.eos_commits.specs.Plain.{plain_commit}
 use Rattle.eos_commits.specs.Visible.{is_visible}
 use Rattle.eos_lineage.specs.Lineage.{Topic, is_part_of, place_in, claims_at, inputs_below, outputs_in}
 use Rattle.eos_lineage.specs.declared.tables.Tables.{Tables}
 use Rattle.eos_lineage.specs.declared.tables.Known.{Known}
 use Rattle.eos_lineage.specs.declared.claims.Walk.{Walk}
 use Rattle.eos_lineage.specs.declared.claims.Output.{Output}
+use Rattle.eos_lineage.specs.declared.claims.PlacedRef.{PlacedRef}
+use Rattle.eos_lineage.specs.declared.pipeline.Pipeline.{Pipeline}
 use Rattle.eos_lineage.specs.steps.Tables.{AreAscending, passes_of}
 
 -- ---- what records give
@@ -58,6 +63,12 @@ pub record AreTables (a : Application) (t : Tables) : Type 0 where
   pub offsets : t.offsets.now ≡ map (committed_offset a.commits) t.names.now
   pub passes : IsPermutation (flat_map passes_of a.commits) t.passes.now
 
+-- what goes through an application, by these logs
+pub record IsPipelineOf (app : App) (ps : List PartLog) (p : Pipeline) : Type 0 where
+  pub sources : IsPermutation app.sources p.sources
+  pub outputs : IsPermutation app.outputs p.outputs
+  pub commits : map plain_commit p.commits.items ≡ commits_of app.group app.sources ps
+
 -- below the committed offset, where there is one
 abbrev pub is_below_in : Option ℤ → ℕ → Bool
 is_below_in None o = false
@@ -82,6 +93,9 @@ pub record AreTests (a : Application) (i : Place) (w : Option Writer) (t : Sourc
 
 abbrev pub placed_ref : ClaimRef → PlaceRef → Option Writer → PlacedClaim
 placed_ref c at w = record { source = record { partition = record { topic = c.topic.now; partition = c.partition }; offset = c.offset }; output = c.output; of = c.of; at = plain_place at; writer = w }
+
+abbrev pub plain_placed : PlacedRef → PlacedClaim
+plain_placed p = placed_ref p.claim p.at p.writer
 
 abbrev pub counted_ref : ClaimRef → PlaceRef → Counted
 counted_ref c at = counted (placed_ref c at None)

@@ -14,7 +14,7 @@ returns-in-Some g c = λ are.
     let here = subst (λ (o : Option VisibleFault). IsLeastOrNone visible_cmp (Stands c.as_slice-apps.result.now c.args.parts.now) o) c.in-Some.is (c.in_ok-fault.ensures are) in
     least_record c.args.spec.now.apps c.args.parts.now c.in-Some.fault (subst (λ (xs : List App). IsLeast visible_cmp (Stands xs c.args.parts.now) c.in-Some.fault) apps here)
 
-pub check_outputs-requires-clause-unequal : goal.check_outputs-requires-clause-unequal
-check_outputs-requires-clause-unequal g c κs within =
+pub check_outputs-requires-after_bounds : goal.check_outputs-requires-after_bounds
+check_outputs-requires-after_bounds g c κs within =
     let apps = c.as_slice-apps.ensures ∙ c.apps.ensures.value in
     subst (λ (xs : List App). are_unequal (groups_of xs) ≡ true) (sym apps) (unequal_groups c.args.spec.now c.apps.ensures.accepted)

@@ -1,4 +1,4 @@
-use Rattle.std.proofs.Common.{◌≡◌, ◌∙◌, ap, sym, map, take, take_all, length, List, []}
+use Rattle.std.proofs.Common.{◌≡◌, ◌∙◌, ap, map, take, take_all, length, List, []}
 use Rattle.eos_claims.specs.Outputs.{Commit, committed_offset}
 use Rattle.eos_commits.specs.declared.commits.CommitRef.{CommitRef}
 use Rattle.eos_commits.specs.Plain.{plain_commit}
@@ -8,7 +8,7 @@ use Rattle.eos_lineage.proofs.offsets.offsets_of.Goals as goal
 
 pub loop-commit-init : goal.loop-commit-init
 loop-commit-init c =
-    let e : c.in_ok-offsets.offsets.items ≡ map (committed_offset []) c.args.names.now = c.in_ok-offsets.ensures ∙ ap (map (committed_offset [])) (sym c.requires) in
+    let e : c.in_ok-offsets.offsets.items ≡ map (committed_offset []) c.args.names.now = c.in_ok-offsets.ensures ∙ ap (map (committed_offset [])) c.as_slice.ensures in
     record { len = ap length e ∙ length_of_map (committed_offset []) c.args.names.now; offsets_are = λ up. e }
 
 pub loop-commit-preserved : goal.loop-commit-preserved
