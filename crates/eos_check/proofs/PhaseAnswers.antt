@@ -15,6 +15,7 @@ use Rattle.eos_table.specs.LogFaults as logs
 use Rattle.eos_table.specs.MatchFaults as matches
 use Rattle.eos_check.specs.declared.verdict.Fault.{Fault}
 use Rattle.eos_commits.specs.Faults as commits
+use Rattle.eos_lineage.specs.declared.counts.LineageCounts.{LineageCounts}
 use Rattle.eos_lineage.specs.declared.fault.LineageFault.{LineageFault}
 use Rattle.eos_lineage.specs.Faults as lineage
 use Rattle.eos_check.specs.declared.verdict.Fault.TheVariants.{Partition as InPartition, Log, Lineage}
@@ -64,12 +65,12 @@ pub lineage_found : (e : EvidenceParts) (ls : List PartLog) (of : AreLogsOf e.pa
     → (commits.AreInOrder ls → IsLeast (lineage.lineage_cmp e.spec.apps) (lineage.Stands e.spec.apps ls) f) → IsVerdictOf e ls of (No (Lineage f))
 lineage_found e ls of is n t f least = no_lineage e ls of f t.1 t.2 t.3 (least (in_order e ls is of))
 
-pub lineage_kept : (e : EvidenceParts) (ls : List PartLog) (of : AreLogsOf e.partitions ls) → IsEvidence e → (n : ℕ) → IsTransacted e ls of (Ok n) → (inputs outputs : ℕ)
-    → (commits.AreInOrder ls → lineage.IsAnswer e.spec.apps ls (Ok (inputs, outputs)))
-    → IsVerdictOf e ls of (Yes (record { transactions = n; inputs = inputs; outputs = outputs }))
-lineage_kept e ls of is n t inputs outputs answer =
+pub lineage_kept : (e : EvidenceParts) (ls : List PartLog) (of : AreLogsOf e.partitions ls) → IsEvidence e → (n : ℕ) → IsTransacted e ls of (Ok n) → (counts : LineageCounts)
+    → (commits.AreInOrder ls → lineage.IsAnswer e.spec.apps ls (Ok counts))
+    → IsVerdictOf e ls of (Yes (record { transactions = n; inputs = counts.inputs; outputs = counts.outputs }))
+lineage_kept e ls of is n t counts answer =
     let a = answer (in_order e ls is of) in
-    yes e ls of (record { transactions = n; inputs = inputs; outputs = outputs }) is t.1 t.2 t.3 a.0 (record { transactions = t.0; inputs = a.1; outputs = a.2 })
+    yes e ls of (record { transactions = n; inputs = counts.inputs; outputs = counts.outputs }) is t.1 t.2 t.3 a.0 (record { transactions = t.0; inputs = a.1; outputs = a.2 })
 
 -- ---- the verdict
 
@@ -78,6 +79,3 @@ refused e ls of r f at h = (ls, of, subst (IsTransacted e ls of) at h)
 
 pub transacted : (e : EvidenceParts) (ls : List PartLog) (of : AreLogsOf e.partitions ls) (r : Result ℕ Fault) (n : ℕ) → r ≡ Ok n → IsTransacted e ls of r → IsTransacted e ls of (Ok n)
 transacted e ls of r n at h = subst (IsTransacted e ls of) at h
-
-pub answered : (apps others : List App) (ls : List PartLog) (r s : Result (ℕ × ℕ) LineageFault) → apps ≡ others → r ≡ s → lineage.IsAnswer others ls r → lineage.IsAnswer apps ls s
-answered apps others ls r s p q h = subst (λ (xs : List App). lineage.IsAnswer xs ls s) (sym p) (subst (lineage.IsAnswer others ls) q h)

@@ -1,40 +1,37 @@
 //! The check of an evidence by one thread.
 
-ghost use Rattle.std.specs.Prelude.{◌≡◌, ◌<◌, IfOk, Ok};
+ghost use Rattle.std.specs.Prelude.{List, IfOk, Ok};
 ghost use Rattle.eos_lineage.specs.EvidenceLogs.{AreLogsOf};
 ghost use Rattle.eos_check.specs.Verdicts.{IsVerdict, IsVerdictOf};
 ghost use Rattle.eos_check.specs.steps.Phases.{IsTransacted};
+ghost use Rattle.eos_commits.specs.Faults.{AreInOrder};
 ghost use Rattle.eos_evidence.specs.Evidence.{EvidenceParts, IsEvidence};
+ghost use Rattle.eos_fold.specs.Parts.{PartLog};
+ghost use Rattle.eos_lineage.specs.Faults.{IsAnswer};
 
 use crate::parts::parts_from;
 use crate::phases::transactions;
 use crate::verdict::{Counts, Fault, Verdict};
-use eos_evidence::{Evidence, Spec};
+use eos_evidence::Evidence;
 use eos_fold::Part;
-use eos_lineage::check_lineage_by;
+use eos_lineage::{LineageCounts, LineageFault, check_lineage_by};
+use eos_workers::Workers;
 use std::alloc::{AllocError, Global};
 use std::thread::Threads;
 
-/// The verdict of logs in which no partition, no transaction log and no transaction has a fault, by at most so many threads.
-fn of_lineage<R: Threads + Sync>(
-    alloc: Global,
-    rt: &R,
-    workers: u32,
-    spec: &Spec,
-    parts: &[Part],
-    transactions: u64,
-) -> Result<Verdict, AllocError>
-    requires { 0 < workers }
-    ensures { (e : EvidenceParts) (of : AreLogsOf e.partitions parts.now) → IsEvidence e → e.spec ≡ spec.now → IsTransacted e parts.now of (Ok transactions)
-        → IfOk result (IsVerdictOf e parts.now of) }
+/// The verdict of logs in which no partition, no transaction log and none of so many transactions has a fault, by what the lineage
+/// answers.
+fn of_lineage(transactions: u64, lineage: Result<LineageCounts, LineageFault>) -> Verdict
+    ensures { (e : EvidenceParts) (logs : List PartLog) (of : AreLogsOf e.partitions logs) → IsEvidence e → IsTransacted e logs of (Ok transactions)
+        → (AreInOrder logs → IsAnswer e.spec.apps logs lineage) → IsVerdictOf e logs of result }
 {
-    match check_lineage_by(alloc, rt, workers as usize, spec, parts)? {
-        Err(fault) => Ok(Verdict::No(Fault::Lineage(fault))),
-        Ok((inputs, outputs)) => Ok(Verdict::Yes(Counts {
+    match lineage {
+        Err(fault) => Verdict::No(Fault::Lineage(fault)),
+        Ok(counts) => Verdict::Yes(Counts {
             transactions,
-            inputs,
-            outputs,
-        })),
+            inputs: counts.inputs,
+            outputs: counts.outputs,
+        }),
     }
 }
 
@@ -48,16 +45,18 @@ pub fn verdict_of<R: Threads + Sync>(
     rt: &R,
     evidence: &Evidence,
     logs: &[Part],
-    workers: u32,
+    workers: Workers,
 ) -> Result<Verdict, AllocError>
-    requires workers { 0 < workers }
-    requires logs { AreLogsOf evidence.now.partitions logs.now }
+    requires { AreLogsOf evidence.now.partitions logs.now }
     ensures { IfOk result (IsVerdict evidence.now) }
 {
     let spec = evidence.spec();
     match transactions(alloc, rt, logs, workers)? {
         Err(fault) => Ok(Verdict::No(fault)),
-        Ok(transactions) => of_lineage(alloc, rt, workers, spec, logs, transactions),
+        Ok(transactions) => {
+            let lineage = check_lineage_by(alloc, rt, workers, spec, logs)?;
+            Ok(of_lineage(transactions, lineage))
+        }
     }
 }
 
@@ -78,5 +77,5 @@ pub fn check_one<R: Threads + Sync>(
     ensures { IfOk result (IsVerdict evidence.now) }
 {
     let parts = parts_from(alloc, evidence, Vec::new(alloc))?;
-    verdict_of(alloc, rt, evidence, parts.as_slice(), 1)
+    verdict_of(alloc, rt, evidence, parts.as_slice(), Workers::one())
 }

@@ -1,6 +1,6 @@
 //! The phases of the check over the logs, one after the other.
 
-ghost use Rattle.std.specs.Prelude.{◌≡◌, ◌<◌, IfOk};
+ghost use Rattle.std.specs.Prelude.{◌≡◌, IfOk};
 ghost use Rattle.eos_lineage.specs.EvidenceLogs.{AreLogsOf};
 ghost use Rattle.eos_check.specs.steps.Phases.{IsMatched, IsTransacted};
 ghost use Rattle.eos_evidence.specs.Evidence.{EvidenceParts, IsEvidence};
@@ -10,6 +10,7 @@ use crate::verdict::Fault;
 use eos_fold::{Part, PartitionFault, first_fault};
 use eos_table::{TxnTable, txn_log};
 use eos_txnlog::Decision;
+use eos_workers::Workers;
 use std::alloc::{AllocError, Global};
 use std::thread::Threads;
 
@@ -31,28 +32,26 @@ fn matched<R: Threads + Sync>(
     rt: &R,
     decisions: Vec<Decision>,
     parts: &[Part],
-    shards: u32,
+    workers: Workers,
 ) -> Result<Result<u64, Fault>, AllocError>
-    requires { 0 < shards }
     ensures { IfOk result (IsMatched decisions.items parts.now) }
 {
     let transactions = decisions.len() as u64;
     let table = TxnTable::from_decisions(decisions)?;
-    match least_fault(alloc, rt, &table, parts, shards)? {
+    match least_fault(alloc, rt, &table, parts, workers)? {
         None => Ok(Ok(transactions)),
         Some(fault) => Ok(Err(Fault::Match(fault))),
     }
 }
 
-/// The number of transactions, or the least fault of the partitions, the transaction log and the matching, which runs in
-/// this many shards.
+/// The number of transactions, or the least fault of the partitions, the transaction log and the matching, which runs in as many
+/// shards as there are workers.
 pub(crate) fn transactions<R: Threads + Sync>(
     alloc: Global,
     rt: &R,
     parts: &[Part],
-    shards: u32,
+    workers: Workers,
 ) -> Result<Result<u64, Fault>, AllocError>
-    requires { 0 < shards }
     ensures { (e : EvidenceParts) (of : AreLogsOf e.partitions parts.now) → IsEvidence e → IfOk result (IsTransacted e parts.now of) }
 {
     if let Some(fault) = first_fault(parts) {
@@ -60,6 +59,6 @@ pub(crate) fn transactions<R: Threads + Sync>(
     }
     match txn_log(alloc, parts)? {
         Err(fault) => Ok(Err(Fault::Log(fault))),
-        Ok(decisions) => matched(alloc, rt, decisions, parts, shards),
+        Ok(decisions) => matched(alloc, rt, decisions, parts, workers),
     }
 }

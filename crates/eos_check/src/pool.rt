@@ -9,6 +9,7 @@ use eos_board_core::{Board, Gate, Receipt};
 use eos_evidence::{Evidence, Segment};
 use eos_fold::Named;
 use eos_tickets::{Drawn, Seat, Tickets};
+use eos_workers::Workers;
 use std::alloc::{AllocError, Global};
 use std::sync::ledger::{Blank, Ledger};
 use std::sync::{Mutex, Wait};
@@ -17,6 +18,22 @@ use std::thread::Threads;
 
 /// A board takes fewer posts than this.
 const MAX_POSTS: u64 = 1 << 63;
+
+/// The evidence whose pieces are folded, and the gate that each worker passes.
+#[derive(Drop)]
+pub(crate) struct Task<'t, G> {
+    pub(crate) evidence: &'t Evidence,
+    pub(crate) gate: &'t G,
+}
+
+/// What the workers share.
+#[derive(Drop)]
+struct Shared<'s, L: Ledger, G> {
+    evidence: &'s Evidence,
+    gate: &'s G,
+    tickets: &'s Tickets,
+    board: &'s Mutex<Board<L>>,
+}
 
 /// What a worker starts with.
 #[derive(Drop)]
@@ -94,16 +111,13 @@ fn join_pairs<L: Ledger, G: Gate>(
 fn work<L: Ledger, G: Gate>(
     alloc: Global,
     rt: &impl Wait,
-    evidence: &Evidence,
-    tickets: &Tickets,
-    board: &Mutex<Board<L>>,
-    gate: &G,
+    shared: &Shared<'_, L, G>,
     job: Job<L>,
 ) -> Seat
-    requires made { job.seat.of ≡ tickets.now }
+    requires made { job.seat.of ≡ shared.now.tickets.now }
     requires open { job.seat.is_done ≡ false }
-    requires pieces { tickets.now.count ≡ length (segments_of evidence.now.partitions) }
-    ensures made { result.of ≡ tickets.now }
+    requires pieces { shared.now.tickets.now.count ≡ length (segments_of shared.now.evidence.now.partitions) }
+    ensures made { result.of ≡ shared.now.tickets.now }
     ensures done { result.is_done ≡ true }
 {
     let Job {
@@ -111,16 +125,16 @@ fn work<L: Ledger, G: Gate>(
         mut receipt,
     } = job;
     for _ in rt.forever() {
-        let Some(piece) = tickets.draw(&mut seat) else {
+        let Some(piece) = shared.tickets.draw(&mut seat) else {
             break;
         };
-        gate.pass(piece);
-        if let Some(run) = summarised(alloc, evidence, piece) {
-            gate.made(&run);
-            post(rt, board, &mut receipt, run);
+        shared.gate.pass(piece);
+        if let Some(run) = summarised(alloc, shared.evidence, piece) {
+            shared.gate.made(&run);
+            post(rt, shared.board, &mut receipt, run);
         }
     }
-    join_pairs(alloc, rt, board, gate, &mut receipt);
+    join_pairs(alloc, rt, shared.board, shared.gate, &mut receipt);
     seat
 }
 
@@ -150,26 +164,23 @@ fn jobs_of<L: Ledger>(
 fn run_jobs<R: Threads + Wait + Sync, L: Ledger + Send + Sync, G: Gate>(
     alloc: Global,
     rt: &R,
-    evidence: &Evidence,
-    tickets: &Tickets,
-    board: &Mutex<Board<L>>,
-    gate: &G,
+    shared: &Shared<'_, L, G>,
     jobs: Vec<Job<L>>,
 ) -> Result<Drawn, AllocError>
-    requires some { (1 ≤ vec_len jobs) × (vec_len jobs ≡ tickets.now.workers) }
-    requires ready { All (λ job. (job.seat.of ≡ tickets.now) × (job.seat.is_done ≡ false)) jobs.items }
-    requires pieces { tickets.now.count ≡ length (segments_of evidence.now.partitions) }
-    ensures { IfOk result (AreBelow (length (segments_of evidence.now.partitions))) }
+    requires some { (1 ≤ vec_len jobs) × (vec_len jobs ≡ shared.now.tickets.now.workers) }
+    requires ready { All (λ job. (job.seat.of ≡ shared.now.tickets.now) × (job.seat.is_done ≡ false)) jobs.items }
+    requires pieces { shared.now.tickets.now.count ≡ length (segments_of shared.now.evidence.now.partitions) }
+    ensures { IfOk result (AreBelow (length (segments_of shared.now.evidence.now.partitions))) }
 {
     let seats = thread::map_vec(
         rt,
         jobs,
         &|job: Job<L>| -> Seat
-            requires { (job.seat.of ≡ tickets.now) × (job.seat.is_done ≡ false) × (tickets.now.count ≡ length (segments_of evidence.now.partitions)) }
-            ensures { (result.of ≡ tickets.entry.now) × (result.is_done ≡ true) }
-        { work(alloc, rt, evidence, tickets, board, gate, job) },
+            requires { (job.seat.of ≡ shared.now.tickets.now) × (job.seat.is_done ≡ false) × (shared.now.tickets.now.count ≡ length (segments_of shared.now.evidence.now.partitions)) }
+            ensures { (result.of ≡ shared.entry.now.tickets.now) × (result.is_done ≡ true) }
+        { work(alloc, rt, shared, job) },
     )?;
-    Ok(tickets.gather(seats))
+    Ok(shared.tickets.gather(seats))
 }
 
 /// The runs that so many workers make of the evidence, in piece order, beside what all workers drew: each piece once. A piece
@@ -177,20 +188,26 @@ fn run_jobs<R: Threads + Wait + Sync, L: Ledger + Send + Sync, G: Gate>(
 pub(crate) fn runs_of<R: Threads + Wait + Sync, L: Ledger + Send + Sync, G: Gate>(
     alloc: Global,
     rt: &R,
-    evidence: &Evidence,
-    workers: u64,
-    gate: &G,
+    task: &Task<'_, G>,
+    workers: Workers,
     blank: Blank,
 ) -> Result<(Vec<Named>, Drawn), AllocError>
     requires name { blank.name ≡ L.name }
     requires parts { (blank.parts ≡ L.parts) × (L.parts ≡ workers) }
-    requires workers { (1 ≤ workers) × (workers ≤ 64) }
-    ensures { IfOk result (λ r. AreBelow (length (segments_of evidence.now.partitions)) r.1) }
+    ensures { IfOk result (λ r. AreBelow (length (segments_of task.now.evidence.now.partitions)) r.1) }
 {
-    let (tickets, seats) = Tickets::new(alloc, evidence.pieces(), workers)?;
-    let (board, receipts) = Board::<L>::new(alloc, blank, evidence, workers)?;
+    let evidence = task.evidence;
+    let count = workers.get();
+    let (tickets, seats) = Tickets::new(alloc, evidence.pieces(), count)?;
+    let (board, receipts) = Board::<L>::new(alloc, blank, evidence, count)?;
     let jobs = jobs_of(alloc, &tickets, seats, receipts)?;
     let board = Mutex::new(board);
-    let drawn = run_jobs(alloc, rt, evidence, &tickets, &board, gate, jobs)?;
+    let shared = Shared {
+        evidence,
+        gate: task.gate,
+        tickets: &tickets,
+        board: &board,
+    };
+    let drawn = run_jobs(alloc, rt, &shared, jobs)?;
     Ok((board.into_inner().into_runs(), drawn))
 }

@@ -1,6 +1,6 @@
 //! The matching of the decisions with the logs, in shards of the producer ids, each of which a thread may take.
 
-ghost use Rattle.std.specs.Prelude.{◌≡◌, ◌<◌, IfOk};
+ghost use Rattle.std.specs.Prelude.{◌≡◌, IfOk};
 ghost use Rattle.eos_base.specs.Least.{IsLeastOrNone};
 ghost use Rattle.eos_table.specs.MatchFaults.{fault_cmp, Stands};
 ghost use Rattle.eos_check.specs.steps.Shards.{lesser_answer, AreSettled};
@@ -8,6 +8,7 @@ ghost use Rattle.eos_check.specs.steps.Shards.{lesser_answer, AreSettled};
 use eos_base::lesser;
 use eos_fold::Part;
 use eos_table::{MatchFault, TxnTable, match_shard};
+use eos_workers::Workers;
 use std::alloc::{AllocError, Global};
 use std::thread;
 use std::thread::Threads;
@@ -35,18 +36,18 @@ fn least_of(
     Ok(best)
 }
 
-/// The least fault between the decisions and the partitions' logs, or none. Each shard may have a thread of its own; with one
-/// shard no thread is started.
+/// The least fault between the decisions and the partitions' logs, or none, in as many shards as there are workers. Each shard may
+/// have a thread of its own; with one no thread is started.
 pub(crate) fn least_fault<R: Threads + Sync>(
     alloc: Global,
     rt: &R,
     table: &TxnTable,
     parts: &[Part],
-    shards: u32,
+    workers: Workers,
 ) -> Result<Option<MatchFault>, AllocError>
-    requires { 0 < shards }
     ensures { IfOk result (IsLeastOrNone fault_cmp (Stands table.now parts.now)) }
 {
+    let shards = workers.get() as u32;
     let answers = thread::map_indices(
         rt,
         alloc,

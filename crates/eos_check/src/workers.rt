@@ -1,23 +1,24 @@
 //! The check of an evidence by workers.
 
-ghost use Rattle.std.specs.Prelude.{◌≤◌, IfOk};
+ghost use Rattle.std.specs.Prelude.{IfOk};
 ghost use Rattle.eos_lineage.specs.EvidenceLogs.{AreLogsOf};
 ghost use Rattle.eos_check.specs.Verdicts.{IsVerdict};
 
 use crate::one_thread::verdict_of;
 use crate::parts::parts_from;
-use crate::pool::runs_of;
+use crate::pool::{Task, runs_of};
 use crate::verdict::Verdict;
 use eos_board_core::Gate;
 use eos_evidence::Evidence;
 use eos_fold::Part;
+use eos_workers::Workers;
 use std::alloc::{AllocError, Global};
 use std::marker::Brand;
 use std::sync::Wait;
 use std::sync::ledger::Blank;
 use std::thread::Threads;
 
-/// The verdict of an evidence, as `check_one` gives it, by so many workers, 1 to 64.
+/// The verdict of an evidence, as `check_one` gives it, by so many workers.
 ///
 /// Each worker draws pieces of the evidence, one at a time; it passes the gate, summarises the piece outside the lock, and posts
 /// the run on a board under a lock. Once all are drawn it takes pairs of runs that lie side by side, joins them outside the lock
@@ -33,17 +34,16 @@ pub fn check<R: Threads + Wait + Sync, G: Gate>(
     alloc: Global,
     rt: &R,
     evidence: &Evidence,
-    workers: u64,
+    workers: Workers,
     gate: &G,
 ) -> Result<Verdict, AllocError>
-    requires { (1 ≤ workers) × (workers ≤ 64) }
     ensures { IfOk result (IsVerdict evidence.now) }
 {
     let logs = logs_of(alloc, rt, evidence, workers, gate)?;
-    verdict_of(alloc, rt, evidence, logs.as_slice(), workers as u32)
+    verdict_of(alloc, rt, evidence, logs.as_slice(), workers)
 }
 
-/// The logs of an evidence's partitions, in their order, which so many workers fold, 1 to 64, as `check` says.
+/// The logs of an evidence's partitions, in their order, which so many workers fold, as `check` says.
 ///
 /// # Errors
 /// Only want of memory.
@@ -51,19 +51,13 @@ pub fn logs_of<R: Threads + Wait + Sync, G: Gate>(
     alloc: Global,
     rt: &R,
     evidence: &Evidence,
-    workers: u64,
+    workers: Workers,
     gate: &G,
 ) -> Result<Vec<Part>, AllocError>
-    requires { (1 ≤ workers) × (workers ≤ 64) }
     ensures { IfOk result (λ logs. AreLogsOf evidence.now.partitions logs.items) }
 {
-    let (runs, _drawn) = runs_of::<R, Brand, G>(
-        alloc,
-        rt,
-        evidence,
-        workers,
-        gate,
-        Blank::new(workers),
-    )?;
+    let task = Task { evidence, gate };
+    let blank = Blank::new(workers.get());
+    let (runs, _drawn) = runs_of::<R, Brand, G>(alloc, rt, &task, workers, blank)?;
     parts_from(alloc, evidence, runs)
 }

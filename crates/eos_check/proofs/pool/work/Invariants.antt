@@ -5,5 +5,5 @@ abbrev pub invariant-loop : goal.invariant-loop
 invariant-loop g l =
     (goal.iterator-loop g).can_next l.iterator'
     × (goal.iterator-loop g).is_finite l.iterator'
-    × (l.seat.of ≡ l.tickets)
+    × (l.seat.of ≡ l.shared.tickets.now)
     × (l.seat.is_done ≡ false)
