@@ -1,6 +1,6 @@
 //! Reading a folder of evidence: its manifest, and the segments of the partitions that the manifest names.
 
-ghost use Rattle.std.specs.Prelude.{◌≡◌, ◌≤◌};
+ghost use Rattle.std.specs.Prelude.{◌≡◌};
 ghost use Rattle.eos_folder.specs.declared.folder.FolderFault.TheVariants.{OutOfMemory};
 
 use crate::cause::Cause;
@@ -12,6 +12,7 @@ use eos_evidence::{
     parse_spec, read_segment,
 };
 use eos_manifest_cause::explain_spec;
+use eos_workers::Workers;
 use std::alloc::{AllocError, AllocFailed, Global};
 use std::fs::{DirEntry, File};
 use std::io::{Error, ErrorKind};
@@ -64,16 +65,14 @@ struct SegmentFile<'a> {
 }
 
 /// Reads the evidence of a folder: its manifest, and for each partition of it the segments in the folder `TOPIC-N`, by at most
-/// so many threads. A partition without a folder has no segments.
+/// as many threads as there are workers. A partition without a folder has no segments.
 pub fn read_folder<W: Watch>(
     rt: &HostRuntime,
     threads: &(impl Threads + Sync),
     folder: &str,
-    workers: u64,
+    workers: Workers,
     watch: &W,
-) -> Result<Evidence, FolderFault>
-    requires { 1 ≤ workers }
-{
+) -> Result<Evidence, FolderFault> {
     let spec = read_manifest(rt, folder)?;
     let ends = spec.ends().clone()?;
     let mut files = Vec::new(rt.alloc());
@@ -82,7 +81,7 @@ pub fn read_folder<W: Watch>(
     thread::for_each_mut(
         threads,
         files.as_mut_slice(),
-        workers as usize,
+        workers.get() as usize,
         &|_, file: &mut SegmentFile<'_>| { file.read(rt, folder, watch) },
     );
     let evidence = evidence_of(rt, spec, files)?;

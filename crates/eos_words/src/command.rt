@@ -8,10 +8,8 @@ use crate::request::{
 use clap::builder::ValueParser;
 use clap::error::{Error, ErrorKind};
 use clap::{Arg, ArgAction, ArgMatches, Command};
+use eos_workers::Workers;
 use std::alloc::{AllocError, Global};
-
-/// How many workers there are where the words don't say.
-const WORKERS: u64 = 4;
 
 /// The version of the program.
 pub const VERSION: &str = "0.1.0";
@@ -170,8 +168,11 @@ fn read_check<'a>(
     let Some(folders) = inner.get_strs("folder") else {
         return Ok(None);
     };
+    let Some(workers) = read_workers(inner) else {
+        return Ok(None);
+    };
     Ok(Some(Request::Check(Check {
-        workers: inner.get_one::<u64>("workers").unwrap_or(WORKERS),
+        workers,
         json: inner.get_flag("json"),
         all: inner.get_flag("all"),
         quiet: inner.get_flag("quiet"),
@@ -181,13 +182,21 @@ fn read_check<'a>(
     })))
 }
 
+/// How many workers are asked for; none where it is no such number.
+fn read_workers(inner: &ArgMatches<'_>) -> Option<Workers> {
+    match inner.get_one::<u64>("workers") {
+        None => Some(Workers::standard()),
+        Some(count) => Workers::new(count),
+    }
+}
+
 fn read_explain<'a>(inner: &ArgMatches<'a>) -> Option<Request<'a>> {
     if let Some(code) = inner.get_str("code") {
         return Some(Request::Explain { code });
     }
     let folder = inner.get_str("folder")?;
     Some(Request::Story(Explain {
-        workers: inner.get_one::<u64>("workers").unwrap_or(WORKERS),
+        workers: read_workers(inner)?,
         fault: inner.get_one::<u64>("fault").unwrap_or(1),
         folder,
     }))

@@ -1,5 +1,7 @@
 //! What a run is asked to do.
 
+use eos_workers::Workers;
+
 /// What a run is asked to do.
 #[derive(Drop)]
 pub enum Request<'a> {
@@ -46,8 +48,7 @@ pub struct Listing<'a> {
 /// Which fault of a folder of evidence is explained.
 #[derive(Clone, Copy)]
 pub struct Explain<'a> {
-    /// The number of workers, from 1 to 64.
-    pub workers: u64,
+    pub workers: Workers,
     /// The number of the fault in the list of all, from 1 on.
     pub fault: u64,
     pub folder: &'a str,
@@ -56,8 +57,7 @@ pub struct Explain<'a> {
 /// What is asked about folders of evidence.
 #[derive(Drop)]
 pub struct Check<'a> {
-    /// The number of workers, from 1 to 64.
-    pub workers: u64,
+    pub workers: Workers,
     /// Whether the verdict is printed as JSON.
     pub json: bool,
     /// Whether all faults are printed, and not the first alone.
