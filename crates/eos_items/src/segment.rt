@@ -67,31 +67,31 @@ fn source_of(head: &BatchHead, first: u32) -> Source
     }
 }
 
-/// Where a log goes on.
+/// The batch that is to come next.
 #[derive(Clone, Copy)]
-struct Front {
-    /// The byte of the next batch in its segment.
+struct NextBatch {
+    /// The byte of the segment where it stands.
     at: usize,
-    /// The next offset.
-    next: u64,
+    /// The offset where it has to begin.
+    offset: u64,
 }
 
-/// Reads the batch at the front into the index, if it begins at the next offset.
+/// Reads the next batch into the index, if it begins at the next offset.
 fn read_batch(
     alloc: Global,
     bytes: &Bytes,
     sources: &mut Vec<Source>,
     entries: &mut Vec<Entry>,
-    front: Front,
+    next: NextBatch,
 ) -> Result<BatchHead, BatchFault>
-    requires { IsSegmentIndex bytes.now front.at sources.old.items entries.old.items }
-    ensures ok { IfOk result (IsRead bytes.now front.at front.next sources.old.items sources.new.items entries.old.items entries.new.items) }
-    ensures err { IfErr result (λ e. Fails e (batch_at (drop front.at bytes.now)) × (sources.new.items ≡ sources.old.items) × (entries.new.items ≡ entries.old.items)) }
+    requires { IsSegmentIndex bytes.now next.at sources.old.items entries.old.items }
+    ensures ok { IfOk result (IsRead bytes.now next.at next.offset sources.old.items sources.new.items entries.old.items entries.new.items) }
+    ensures err { IfErr result (λ e. Fails e (batch_at (drop next.at bytes.now)) × (sources.new.items ≡ sources.old.items) × (entries.new.items ≡ entries.old.items)) }
 {
     let kept = entries.len();
     let source = sources.len() as u32;
-    let head = index_batch(alloc, bytes, entries, source, front.at)?;
-    if head.offset != front.next {
+    let head = index_batch(alloc, bytes, entries, source, next.at)?;
+    if head.offset != next.offset {
         entries.truncate(kept);
         return Ok(head);
     }
@@ -148,16 +148,16 @@ impl SegmentIndex {
         ensures ok { IfOk result (TakesBatch next self.old self.new) }
         ensures err { IfErr result (λ e. Fails e (batch_at self.old.rest) × (self.new ≡ self.old)) }
     {
-        let front = Front {
+        let batch = NextBatch {
             at: self.next,
-            next,
+            offset: next,
         };
         let head = read_batch(
             alloc,
             &self.bytes,
             &mut self.sources,
             &mut self.entries,
-            front,
+            batch,
         )?;
         if head.offset == next {
             self.next += head.size;

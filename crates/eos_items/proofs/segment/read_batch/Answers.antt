@@ -10,22 +10,22 @@ use Rattle.eos_items.proofs.segment.read_batch.Goals as goal
 pub overflow_cast-source : goal.overflow_cast-source
 overflow_cast-source c =
     let n : c.len-source.result ≡ length c.args.sources.now.items = search rules in
-    omega (arith, n, few_batches c.args.bytes.now c.args.front.at c.args.sources.now.items c.args.entries.now.items c.requires)
+    omega (arith, n, few_batches c.args.bytes.now c.args.next.at c.args.sources.now.items c.args.entries.now.items c.requires)
 
 pub returns-then-head-clause-ok : goal.returns-then-head-clause-ok
 returns-then-head-clause-ok c =
     let n : c.len-source.result ≡ length c.args.sources.now.items = search rules in
-    let i : IsIndexed c.args.bytes.now c.args.front.at (length c.args.sources.now.items) c.args.entries.now.items c.index_batch.new.entries.items c.in_ok-head.head =
-    subst (λ (k : ℕ). IsIndexed c.args.bytes.now c.args.front.at k c.args.entries.now.items c.index_batch.new.entries.items c.in_ok-head.head) n c.in_ok-head.ensures.ok in
-    let r = read_control c.args.bytes.now c.args.front.at c.args.sources.now.items c.args.entries.now.items c.index_batch.new.entries.items c.in_ok-head.head i c.requires c.if-head.true in
-    record { batch = i.batch; reads = i.reads; head_is = i.head_is; taken = λ same. r; left = λ other. absurd (other c.if-head-front.false) }
+    let i : IsIndexed c.args.bytes.now c.args.next.at (length c.args.sources.now.items) c.args.entries.now.items c.index_batch.new.entries.items c.in_ok-head.head =
+    subst (λ (k : ℕ). IsIndexed c.args.bytes.now c.args.next.at k c.args.entries.now.items c.index_batch.new.entries.items c.in_ok-head.head) n c.in_ok-head.ensures.ok in
+    let r = read_control c.args.bytes.now c.args.next.at c.args.sources.now.items c.args.entries.now.items c.index_batch.new.entries.items c.in_ok-head.head i c.requires c.if-head.true in
+    record { batch = i.batch; reads = i.reads; head_is = i.head_is; taken = λ same. r; left = λ other. absurd (other c.if-head-next.false) }
 
 pub returns-clause-ok : goal.returns-clause-ok
 returns-clause-ok c =
     let n : c.len-source.result ≡ length c.args.sources.now.items = search rules in
     let first : c.len-kept.result ≡ length c.args.entries.now.items = search rules in
-    let i : IsIndexed c.args.bytes.now c.args.front.at (length c.args.sources.now.items) c.args.entries.now.items c.index_batch.new.entries.items c.in_ok-head.head =
-    subst (λ (k : ℕ). IsIndexed c.args.bytes.now c.args.front.at k c.args.entries.now.items c.index_batch.new.entries.items c.in_ok-head.head) n c.in_ok-head.ensures.ok in
+    let i : IsIndexed c.args.bytes.now c.args.next.at (length c.args.sources.now.items) c.args.entries.now.items c.index_batch.new.entries.items c.in_ok-head.head =
+    subst (λ (k : ℕ). IsIndexed c.args.bytes.now c.args.next.at k c.args.entries.now.items c.index_batch.new.entries.items c.in_ok-head.head) n c.in_ok-head.ensures.ok in
     let is : IsSourceOf c.in_ok-head.head (length c.args.entries.now.items) i.batch c.source_of.result = record {
       offset = c.source_of.ensures.offset;
       writer = c.source_of.ensures.writer ∙ ap (λ (h : BatchHead). if h.is_transactional then Some (h.producer, h.epoch) else None) i.head_is;
@@ -33,5 +33,5 @@ returns-clause-ok c =
       first = c.source_of.ensures.first ∙ first;
       count = c.source_of.ensures.count;
     } in
-    let r = read_data c.args.bytes.now c.args.front.at c.args.sources.now.items c.args.entries.now.items c.index_batch.new.entries.items c.in_ok-head.head c.source_of.result i c.requires c.if-head.false is in
-    rw c.in_default.ensures.items (record { batch = i.batch; reads = i.reads; head_is = i.head_is; taken = λ same. r; left = λ other. absurd (other c.if-head-front.false) })
+    let r = read_data c.args.bytes.now c.args.next.at c.args.sources.now.items c.args.entries.now.items c.index_batch.new.entries.items c.in_ok-head.head c.source_of.result i c.requires c.if-head.false is in
+    rw c.in_default.ensures.items (record { batch = i.batch; reads = i.reads; head_is = i.head_is; taken = λ same. r; left = λ other. absurd (other c.if-head-next.false) })
