@@ -49,21 +49,27 @@ fn push_content(
     }
 }
 
+/// A record with its offset.
+#[derive(Clone, Copy)]
+struct Placed<'a> {
+    offset: i64,
+    item: &'a Record,
+}
+
 /// Adds the lines of a record that was asked for.
 fn push_asked(
     alloc: Global,
     out: &mut String,
     options: &ListingOptions,
     batch: &Batch,
-    offset: i64,
-    item: &Record,
+    placed: Placed<'_>,
 ) -> Result<(), AllocError>
     ensures { OnOk result (Adds (string_bytes out.old) (string_bytes out.new)
-        (record_line offset item.now ++ (its_headers options.now batch.now item.now ++ its_content options.now.decode batch.now item.now))) }
+        (record_line placed.entry.offset placed.entry.item.now ++ (its_headers options.now batch.now placed.entry.item.now ++ its_content options.now.decode batch.now placed.entry.item.now))) }
 {
-    push_record(alloc, out, offset, item)?;
-    push_its_headers(alloc, out, options, batch, item)?;
-    push_content(alloc, out, options.decode, batch, item)?;
+    push_record(alloc, out, placed.offset, placed.item)?;
+    push_its_headers(alloc, out, options, batch, placed.item)?;
+    push_content(alloc, out, options.decode, batch, placed.item)?;
     Ok(())
 }
 
@@ -73,14 +79,13 @@ fn push_chosen(
     out: &mut String,
     options: &ListingOptions,
     batch: &Batch,
-    offset: i64,
-    item: &Record,
+    placed: Placed<'_>,
 ) -> Result<(), AllocError>
-    requires { pos 0 ≤ℤ offset }
-    ensures { OnOk result (Adds (string_bytes out.old) (string_bytes out.new) (chosen_record options.now batch.now offset item.now)) }
+    requires { pos 0 ≤ℤ placed.offset }
+    ensures { OnOk result (Adds (string_bytes out.old) (string_bytes out.new) (chosen_record options.now batch.now placed.entry.offset placed.entry.item.now)) }
 {
-    if options.ask_for(offset) {
-        push_asked(alloc, out, options, batch, offset, item)?;
+    if options.ask_for(placed.offset) {
+        push_asked(alloc, out, options, batch, placed)?;
     }
     Ok(())
 }
@@ -98,8 +103,11 @@ fn push_records(
         (chosen_records options.now batch.now batch.now.base_offset batch.now.records)) }
 {
     for (place, item) in batch.records.as_slice().iter().enumerate() {
-        let offset = batch.base_offset + place as i64;
-        push_chosen(alloc, out, options, batch, offset, item)?;
+        let placed = Placed {
+            offset: batch.base_offset + place as i64,
+            item,
+        };
+        push_chosen(alloc, out, options, batch, placed)?;
     }
     Ok(())
 }
