@@ -73,18 +73,18 @@ fn last_value<'a>(last: &'a LastValues, id: &Bytes) -> Option<Option<&'a TxnValu
     }
 }
 
-// Takes up a record of a transactional id, unless it is skipped.
+// Takes up what a record says, its transactional id and the value, unless it is skipped.
 fn take_value(
     alloc: Global,
     reading: &mut Reading,
     last: &mut LastValues,
     place: Place,
-    id: Bytes,
-    value: Option<TxnValue>,
+    content: (Bytes, Option<TxnValue>),
 ) -> Result<(), AllocError>
-    ensures read { OnOk result (reading.new ≡ after reading.old (step_at (state_of last.old) place.partition place.offset (Ok (Some (id, value)))) (faults_at (state_of last.old) place.partition place.offset (Ok (Some (id, value))))) }
-    ensures last { OnOk result (state_of last.new ≡ next_state (state_of last.old) (Ok (Some (id, value)))) }
+    ensures read { OnOk result (reading.new ≡ after reading.old (step_at (state_of last.old) place.partition place.offset (Ok (Some content))) (faults_at (state_of last.old) place.partition place.offset (Ok (Some content)))) }
+    ensures last { OnOk result (state_of last.new ≡ next_state (state_of last.old) (Ok (Some content))) }
 {
+    let (id, value) = content;
     let before = last_value(last, &id);
     let next = value.as_ref();
     if is_skipped(alloc, before, next)? {
@@ -115,7 +115,7 @@ fn take_record(
             push_fault(&mut reading.faults, place, kind)
         }
         Ok(None) => Ok(()),
-        Ok(Some((id, value))) => take_value(alloc, reading, last, place, id, value),
+        Ok(Some(content)) => take_value(alloc, reading, last, place, content),
     }
 }
 

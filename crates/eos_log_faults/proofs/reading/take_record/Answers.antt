@@ -6,5 +6,5 @@ use Rattle.eos_log_faults.proofs.reading.take_record.Goals as goal
 
 pub returns-in-Ok-Some-clause-last : goal.returns-in-Ok-Some-clause-last
 returns-in-Ok-Some-clause-last c =
-    let read : c.in_ok-record.field-0 ≡ Ok (Some (c.in-Ok-Some.id, c.in-Ok-Some.value)) = search rules in
+    let read : c.in_ok-record.field-0 ≡ Ok (Some c.in-Ok-Some.content) = search rules in
     subst (λ (z : Said). OnOk c.take_value.result (state_of c.take_value.new.last ≡ next_state (state_of c.args.last.now) z)) (sym read ∙ c.in_ok-record.ensures) c.take_value.ensures.last
