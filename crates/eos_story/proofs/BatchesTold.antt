@@ -50,10 +50,25 @@ all_dropped {X} n xs ys all = λ i d lt. has_all (Has xs) ys all (get_or (drop n
 pub all_taken : {X : Type 0} (n : ℕ) (xs : List X) → All (Has xs) (take n xs)
 all_taken n xs = λ i d lt. has_taken n xs _ (has_index (take n xs) i d lt)
 
-pub around_told : {scene : Scene} {a b : List Row} (name : PartitionName) (wanted : Wanted) (offset : ℕ) (found shown : List Placed) → AreBatchesOf scene.evidence.now.partitions name wanted found → Tells scene a b (StandInOrder (IsBatchRow name wanted) shown) → shown ≡ around offset found
-    → TellsEach scene a b (Around name wanted offset ∷ [])
-around_told {scene} {a} {b} name wanted offset found shown are h e =
-    told_each (Around name wanted offset ∷ []) (λ told. (record { found = found; are = are; in_order = subst (λ (ps : List Placed). StandInOrder (IsBatchRow name wanted) ps b) e told }, tt)) h
+pub around_told : {scene : Scene} {a b c : List Row} (name : PartitionName) (wanted : Wanted) (offset : ℕ) (found shown : List Placed) → AreBatchesOf scene.evidence.now.partitions name wanted found → Tells scene a b (StandInOrder (IsBatchRow name wanted) shown) → shown ≡ around offset found
+    → Tells scene b c (λ told. length shown < length found → Has told (rows.MoreBatches name wanted (length shown) (length found))) → TellsEach scene a c (Around name wanted offset ∷ [])
+around_told {scene} {a} {b} {c} name wanted offset found shown are h e k =
+    let R = IsBatchRow name wanted in
+    let kept : StandInOrder R shown c = subst (StandInOrder R shown) (sym k.grown) (in_order_grown R shown b k.added h.told) in
+    record {
+      added = h.added ++ k.added;
+      grown = grown_twice a b c h.added k.added h.grown k.grown;
+      are = λ old. k.are (h.are old);
+      answers = (
+        record {
+          found = found;
+          are = are;
+          in_order = subst (λ (ps : List Placed). StandInOrder R ps c) e kept;
+          more = subst (λ (ps : List Placed). length ps < length found → Has c (rows.MoreBatches name wanted (length ps) (length found))) e k.told;
+        },
+        tt,
+      );
+    }
 
 pub batches_told : {scene : Scene} {a b c : List Row} (name : PartitionName) (wanted : Wanted) (most : ℕ) (found shown : List Placed) → AreBatchesOf scene.evidence.now.partitions name wanted found → Tells scene a b (StandInOrder (IsBatchRow name wanted) shown) → shown ≡ take most found
     → Tells scene b c (λ told. most < length found → Has told (rows.MoreBatches name wanted most (length found))) → TellsEach scene a c (Batches name wanted most ∷ [])

@@ -5,3 +5,4 @@ pub mod ClaimsTold
 pub mod BatchesTold
 pub mod PairsTold
 pub mod EndsTold
+pub mod ListedTold

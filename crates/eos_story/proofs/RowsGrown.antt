@@ -4,6 +4,7 @@ use Rattle.eos_base.specs.declared.partition_name.PartitionName.{PartitionName}
 use Rattle.eos_base.specs.Members.{Has}
 use Rattle.eos_claims.specs.declared.place.Place.{Place}
 use Rattle.eos_evidence.specs.declared.partition.Partition.{Partition as Log}
+use Rattle.eos_evidence.specs.declared.segment.Segment.{Segment}
 use Rattle.eos_fold.specs.Parts.{PartLog}
 use Rattle.eos_places.specs.declared.partition.Placed.{Placed}
 use Rattle.eos_places.specs.declared.wanted.Wanted.{Wanted}
@@ -13,10 +14,10 @@ use Rattle.eos_sought.specs.declared.finding.Find.{Find}
 use Rattle.eos_sought.specs.declared.sought.Sought.{Sought}
 use Rattle.eos_sought.specs.declared.sought.Sought.TheVariants.{At, Deciding}
 use Rattle.eos_sought.specs.Finds.{all_of}
-use Rattle.eos_story.specs.Answers.{StandInOrder, IsRecordRow, AreShown, AreFirstShown, IsBatchRow, IsFirstShown, AreBatchesShown, AreAroundShown, IsDecided, IsEndingShown, IsEndShown, AreEndsShown, IsHeaderRow, header_names, AreHeadersShown, IsSegmentRow, AreSegmentsShown, AreEndsOfShown, Answers, AnswersEach}
+use Rattle.eos_story.specs.Answers.{StandInOrder, IsRecordRow, AreShown, AreFirstShown, IsBatchRow, IsFirstShown, AreBatchesShown, AreAroundShown, IsDecided, IsEndingShown, IsEndShown, AreEndsShown, IsHeaderRow, header_names, AreHeadersShown, IsSegmentRow, AreSegmentsAround, AreSegmentsShown, AreEndsOfShown, Answers, AnswersEach}
 use Rattle.eos_story.specs.declared.row.Row.{Row}
 use Rattle.eos_story.specs.declared.row.Row.TheVariants as rows
-use Rattle.eos_story.specs.Questions.{Question, Records, Latest, Claims, Headers, FirstBatch, Batches, Around, Ends}
+use Rattle.eos_story.specs.Questions.{Question, Records, Latest, Claims, Headers, FirstBatch, Batches, Listed, Around, Ends}
 
 pub has_grown : {X : Type 0} (xs added : List X) (x : X) → Has xs x → Has (xs ++ added) x
 has_grown [] added x h = absurd h
@@ -85,11 +86,19 @@ batches_grown ps name wanted most told added h = record {
 }
 
 around_grown : (ps : List Log) (name : PartitionName) (wanted : Wanted) (offset : ℕ) (told added : List Row) → AreAroundShown ps name wanted offset told → AreAroundShown ps name wanted offset (told ++ added)
-around_grown ps name wanted offset told added h = record { found = h.found; are = h.are; in_order = in_order_grown (IsBatchRow name wanted) _ told added h.in_order }
+around_grown ps name wanted offset told added h = record {
+  found = h.found;
+  are = h.are;
+  in_order = in_order_grown (IsBatchRow name wanted) _ told added h.in_order;
+  more = λ lt. has_grown told added _ (h.more lt);
+}
+
+segments_around_grown : (name : PartitionName) (offset : ℕ) (segments : List Segment) (told added : List Row) → AreSegmentsAround name offset segments told → AreSegmentsAround name offset segments (told ++ added)
+segments_around_grown name offset segments told added h = record { in_order = in_order_grown (IsSegmentRow name) _ told added h.in_order; more = λ lt. has_grown told added _ (h.more lt) }
 
 pub segments_grown : (name : PartitionName) (offset : ℕ) (p : Option Log) (told added : List Row) → AreSegmentsShown name offset p told → AreSegmentsShown name offset p (told ++ added)
 segments_grown name offset None told added h = tt
-segments_grown name offset (Some p) told added h = (has_grown told added _ h.0, in_order_grown (IsSegmentRow name) _ told added h.1)
+segments_grown name offset (Some p) told added h = (has_grown told added _ h.0, segments_around_grown name offset p.segments told added h.1)
 
 ends_of_grown : (ps : List Log) (name : PartitionName) (offset : ℕ) (told added : List Row) → AreEndsOfShown ps name offset told → AreEndsOfShown ps name offset (told ++ added)
 ends_of_grown ps name offset told added h = record {
@@ -106,6 +115,7 @@ answers_grown ps logs told added (Claims sought most) h = (shown_grown _ _ _ _ t
 answers_grown ps logs told added (Headers place) h = headers_grown place _ told added h
 answers_grown ps logs told added (FirstBatch name wanted) h = first_grown name wanted told added h
 answers_grown ps logs told added (Batches name wanted most) h = batches_grown ps name wanted most told added h
+answers_grown ps logs told added (Listed sought shown all) h = has_grown told added _ h
 answers_grown ps logs told added (Around name wanted offset) h = around_grown ps name wanted offset told added h
 answers_grown ps logs told added (Ends name offset) h = ends_of_grown ps name offset told added h
 

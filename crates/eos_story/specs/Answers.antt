@@ -21,7 +21,7 @@ use Rattle.eos_story.specs.declared.headers.HeaderName.TheVariants.{Topic, Parti
 use Rattle.eos_story.specs.declared.row.Row.{Row}
 use Rattle.eos_story.specs.declared.row.Row.TheVariants as rows
 use Rattle.eos_story.specs.HeaderNames.{key_of}
-use Rattle.eos_story.specs.Questions.{Question, Records, Latest, Claims, Headers, FirstBatch, Batches, Around, Ends}
+use Rattle.eos_story.specs.Questions.{Question, Records, Latest, Claims, Headers, FirstBatch, Batches, Listed, Around, Ends}
 
 -- each of these has a row of its own, behind the row of the one before
 abbrev pub StandInOrder : {X : Type 0} → (X → Row → Type 0) → List X → List Row → Type 0
@@ -69,10 +69,12 @@ count_below offset found = count_by (λ (p : Placed). nat_lt p.standing.head.off
 abbrev pub around : ℕ → List Placed → List Placed
 around offset found = drop (count_below offset found - 2) (take (count_below offset found + 3) found)
 
+-- these have rows, in order; where there are more, a row says how many there are
 pub record AreAroundShown (partitions : List Partition) (name : PartitionName) (wanted : Wanted) (offset : ℕ) (told : List Row) : Type 0 where
   pub found : List Placed
   pub are : AreBatchesOf partitions name wanted found
   pub in_order : StandInOrder (IsBatchRow name wanted) (around offset found) told
+  pub more : length (around offset found) < length found → Has told (rows.MoreBatches name wanted (length (around offset found)) (length found))
 
 -- ---- claims
 
@@ -118,9 +120,14 @@ segments_around offset segments = drop (count_begun offset segments - 2) (take (
 abbrev pub IsSegmentRow : PartitionName → Segment → Row → Type 0
 IsSegmentRow name s row = row ≡ rows.Segment name (base_of s) (length s.bytes)
 
+-- these have rows, in order; where there are more, a row says how many there are
+pub record AreSegmentsAround (name : PartitionName) (offset : ℕ) (segments : List Segment) (told : List Row) : Type 0 where
+  pub in_order : StandInOrder (IsSegmentRow name) (segments_around offset segments) told
+  pub more : length (segments_around offset segments) < length segments → Has told (rows.MoreSegments name (length (segments_around offset segments)) (length segments))
+
 abbrev pub AreSegmentsShown : PartitionName → ℕ → Option Partition → List Row → Type 0
 AreSegmentsShown name offset None told = ⊤
-AreSegmentsShown name offset (Some p) told = Has told (rows.End name p.end.end) × StandInOrder (IsSegmentRow name) (segments_around offset p.segments) told
+AreSegmentsShown name offset (Some p) told = Has told (rows.End name p.end.end) × AreSegmentsAround name offset p.segments told
 
 pub record AreEndsOfShown (partitions : List Partition) (name : PartitionName) (offset : ℕ) (told : List Row) : Type 0 where
   pub last : offset ≢ 0 → IsFirstShown name (Holding (offset - 1)) told
@@ -135,6 +142,7 @@ Answers ps logs told (Claims sought most) = AreFirstShown logs sought most told 
 Answers ps logs told (Headers place) = AreHeadersShown place (slice_get (all_of (At place) logs) 0) told
 Answers ps logs told (FirstBatch name wanted) = IsFirstShown name wanted told
 Answers ps logs told (Batches name wanted most) = AreBatchesShown ps name wanted most told
+Answers ps logs told (Listed sought shown all) = Has told (rows.MorePartitions shown all sought)
 Answers ps logs told (Around name wanted offset) = AreAroundShown ps name wanted offset told
 Answers ps logs told (Ends name offset) = AreEndsOfShown ps name offset told
 

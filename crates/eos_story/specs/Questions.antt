@@ -1,5 +1,5 @@
 -- What the story of a fault is asked, by the fault's kind.
-use Rattle.std.specs.Prelude.{ℕ, ℤ, ◌+◌, ◌-◌, ◌^◌, min, List, [], ◌∷◌, ◌++◌, ◌==◌, Bool, codes, length, map, take, Option, Some, None, slice_get, if◌then◌else◌}
+use Rattle.std.specs.Prelude.{ℕ, ℤ, ◌+◌, ◌-◌, ◌^◌, min, List, [], ◌∷◌, ◌++◌, ◌==◌, Bool, codes, length, map, take, nat_le, Option, Some, None, slice_get, if◌then◌else◌}
 use Rattle.eos_base.specs.declared.partition_name.PartitionName.{PartitionName}
 use Rattle.eos_batch.specs.declared.head.BatchHead.{BatchHead}
 use Rattle.eos_claims.specs.declared.place.Place.{Place}
@@ -40,7 +40,9 @@ pub data Question : Type 0 where
   FirstBatch : (name : PartitionName) → (wanted : Wanted) → Question
   -- which batches of a partition are wanted? the first, so many at most
   Batches : (name : PartitionName) → (wanted : Wanted) → (most : ℕ) → Question
-  -- which of them stand around an offset?
+  -- how many partitions does the record that is sought list, of which so many are told of?
+  Listed : (sought : Sought) → (shown all : ℕ) → Question
+  -- which of them stand around an offset, and how many are there?
   Around : (name : PartitionName) → (wanted : Wanted) → (offset : ℕ) → Question
   -- which batch stands before an offset of a partition, where does it end, and which segments has it there?
   Ends : (name : PartitionName) → (offset : ℕ) → Question
@@ -53,15 +55,19 @@ is_none_of sought logs = length (all_of sought logs) == 0
 abbrev pub decision : ℤ → ℤ → List PartLog → Option Find
 decision producer epoch logs = slice_get (all_of (Deciding producer epoch) logs) 0
 
--- in each of these partitions, six at most, the first batch that is wanted
-abbrev pub in_each : Wanted → List PartitionName → List Question
-in_each wanted names = map (λ (name : PartitionName). FirstBatch name wanted) (take 6 names)
+-- how many partitions are listed, where there are more than six
+abbrev pub rest_listed : Sought → ℕ → List Question
+rest_listed sought all = if nat_le all 6 then [] else Listed sought 6 all ∷ []
+
+-- in each of these partitions, which the record that is sought lists, six at most: the first batch that is wanted
+abbrev pub in_each : Sought → Wanted → List PartitionName → List Question
+in_each sought wanted names = map (λ (name : PartitionName). FirstBatch name wanted) (take 6 names) ++ rest_listed sought (length names)
 
 -- who decided it, and in each partition that is listed: its marker, and its data
 abbrev pub listing : List PartLog → ℤ → ℤ → List Question
 listing logs producer epoch =
-    Records (Deciding producer epoch) 1 ∷ (in_each (Marking producer epoch) (listed_by (decision producer epoch logs))
-    ++ in_each (Data producer (epoch_before epoch)) (listed_by (decision producer epoch logs)))
+    Records (Deciding producer epoch) 1 ∷ (in_each (Deciding producer epoch) (Marking producer epoch) (listed_by (decision producer epoch logs))
+    ++ in_each (Deciding producer epoch) (Data producer (epoch_before epoch)) (listed_by (decision producer epoch logs)))
 
 -- ---- phase 1
 
@@ -92,9 +98,15 @@ abbrev pub listed_open : List PartLog → ℤ → Option Find → List Partition
 listed_open logs producer None = listed_by (slice_get (all_of (OfProducer producer) logs) (length (all_of (OfProducer producer) logs) - 1))
 listed_open logs producer (Some find) = listed_by (Some find)
 
+-- which record that is
+abbrev pub lister : ℤ → ℤ → Option Find → Sought
+lister producer epoch None = OfProducer producer
+lister producer epoch (Some find) = Deciding producer epoch
+
 -- of the transaction of this batch: its decision, and which of the partitions that are listed for it have their markers
 abbrev pub markers_of : List PartLog → ℤ → ℤ → List Question
-markers_of logs producer epoch = Records (Deciding producer epoch) 1 ∷ in_each (Marking producer epoch) (listed_open logs producer (decision producer epoch logs))
+markers_of logs producer epoch =
+    Records (Deciding producer epoch) 1 ∷ in_each (lister producer epoch (decision producer epoch logs)) (Marking producer epoch) (listed_open logs producer (decision producer epoch logs))
 
 abbrev pub of_open : List PartLog → ℤ → Option Placed → List Question
 of_open logs producer None = Latest (OfProducer producer) 4 ∷ []

@@ -12,12 +12,14 @@ use Rattle.eos_places.specs.declared.wanted.Wanted.{Wanted}
 use Rattle.eos_places.specs.declared.wanted.Wanted.TheVariants.{Holding}
 use Rattle.eos_places.specs.Partitions.{partition_named, AreBatchesOf}
 use Rattle.eos_sought.specs.declared.finding.Find.{Find}
+use Rattle.eos_sought.specs.declared.sought.Sought.{Sought}
 use Rattle.eos_sought.specs.declared.sought.Sought.TheVariants.{At}
 use Rattle.eos_sought.specs.Finds.{all_of}
 use Rattle.eos_story.specs.declared.row.Row.{Row}
 use Rattle.eos_story.specs.declared.row.Row.TheVariants as rows
 use Rattle.eos_story.specs.declared.scene.Scene.{Scene}
 use Rattle.eos_story.specs.HeaderNames.{key_of}
+use Rattle.eos_story.specs.Listings.{listed_by}
 
 -- the first batch of a partition that is wanted
 pub record IsFirst (partitions : List Partition) (name : PartitionName) (wanted : Wanted) (placed : Option Placed) : Type 0 where
@@ -46,6 +48,18 @@ pub record IsSegmentOf (partitions : List Partition) (name : PartitionName) (bas
   pub of_base : base ≡ base_of segment
   pub of_size : size ≡ length segment.bytes
 
+-- so many segments of a partition
+pub record AreSegmentsOf (partitions : List Partition) (name : PartitionName) (all : ℕ) : Type 0 where
+  pub partition : Partition
+  pub named : partition_named name partitions ≡ Some partition
+  pub number : all ≡ length partition.segments
+
+-- one of the records that are sought lists so many partitions
+pub record AreListed (logs : List PartLog) (sought : Sought) (all : ℕ) : Type 0 where
+  pub find : Find
+  pub has : Has (all_of sought logs) find
+  pub number : all ≡ length (listed_by (Some find))
+
 -- the declared end of a partition
 pub record IsEndOf (partitions : List Partition) (name : PartitionName) (end : ℤ) : Type 0 where
   pub partition : Partition
@@ -64,7 +78,9 @@ IsTrue ps logs (rows.MoreRecords shown all sought) = all ≡ length (all_of soug
 IsTrue ps logs (rows.Batch name wanted placed) = IsOneOf ps name wanted placed
 IsTrue ps logs (rows.First name wanted placed) = IsFirst ps name wanted placed
 IsTrue ps logs (rows.MoreBatches name wanted shown all) = AreSoMany ps name wanted all
+IsTrue ps logs (rows.MorePartitions shown all sought) = AreListed logs sought all
 IsTrue ps logs (rows.Segment name base size) = IsSegmentOf ps name base size
+IsTrue ps logs (rows.MoreSegments name shown all) = AreSegmentsOf ps name all
 IsTrue ps logs (rows.End name end) = IsEndOf ps name end
 IsTrue ps logs (rows.Header place name values) = (find : Find) × Has (all_of (At place) logs) find × (values ≡ values_of (key_of name) find.item.headers)
 

@@ -124,7 +124,8 @@ fn batch_before(batches: &[Placed], at: usize) -> Option<Placed>
     None
 }
 
-/// Adds the touches of a producer id around an offset of a partition, and gives the last one before it, or the first of all.
+/// Adds the touches of a producer id around an offset of a partition, and how many more there are; and gives the last one before
+/// the offset, or the first of all.
 pub(crate) fn push_touches(
     scene: &Scene<'_>,
     rows: &mut Vec<Row>,
@@ -146,6 +147,7 @@ pub(crate) fn push_touches(
     let at = count_below(batches, offset);
     let shown = around(batches, at, BEFORE, AFTER);
     push_each(scene, rows, &found, shown)?;
+    push_more(scene, rows, &found, shown.len())?;
     Ok(batch_before(batches, at))
 }
 

@@ -1,16 +1,19 @@
 //! Rows of decisions: what was decided of a transaction, and which of its partitions have its marker and its data.
 
-ghost use Rattle.std.specs.Prelude.{◌≡◌, ◌++◌, ◌∷◌, [], IfOk, OnOk, slice_get};
+ghost use Rattle.std.specs.Prelude.{◌≡◌, ◌<◌, ◌++◌, ◌∷◌, [], IfOk, OnOk, length, map, slice_get, take};
 ghost use Rattle.std.specs.Option.{option_map};
 ghost use Rattle.eos_sought.specs.Finds.{all_of};
 ghost use Rattle.eos_story.specs.Listings.{names_of, names_in, listed_by, epoch_after, epoch_before};
-ghost use Rattle.eos_story.specs.Questions.{in_each, listing, listed_open, markers_of, decision};
+ghost use Rattle.eos_base.specs.declared.partition_name.PartitionName.{PartitionName as Name};
+ghost use Rattle.eos_story.specs.Questions.{FirstBatch, rest_listed, in_each, listing, listed_open, lister, markers_of, decision};
+ghost use Rattle.eos_story.specs.Rows.{AreListed};
 ghost use Rattle.eos_story.specs.steps.Telling.{TellsEach};
 ghost use Rattle.std.specs.Prelude.{Some};
 
 use crate::batches::push_first;
+use crate::copies::copy_sought;
 use crate::records::push_records;
-use crate::row::Row;
+use crate::row::{Row, add_row};
 use crate::scene::Scene;
 use crate::slices::from_on;
 use bytes::Bytes;
@@ -95,12 +98,54 @@ fn push_each(
     names: &[PartitionName],
     wanted: Wanted,
 ) -> Result<(), AllocError>
-    ensures { OnOk result (TellsEach scene.now rows.old.items rows.new.items (in_each wanted names.now)) }
+    ensures { OnOk result (TellsEach scene.now rows.old.items rows.new.items (map (λ (name : Name). FirstBatch name wanted) (take 6 names.now))) }
 {
     let first = &names[..MOST.min(names.len())];
     for name in first {
         push_first(scene, rows, name, wanted)?;
     }
+    Ok(())
+}
+
+// How many partitions the record that is sought lists, where there are more than are told of.
+fn push_rest(
+    scene: &Scene<'_>,
+    rows: &mut Vec<Row>,
+    sought: &Sought,
+    all: usize,
+) -> Result<(), AllocError>
+    requires { 6 < all → AreListed scene.now.logs.now sought.now all }
+    ensures { OnOk result (TellsEach scene.now rows.old.items rows.new.items (rest_listed sought.now all)) }
+{
+    if all <= MOST {
+        return Ok(());
+    }
+    let sought = copy_sought(sought)?;
+    add_row(
+        scene,
+        rows,
+        Row::MorePartitions {
+            shown: MOST as u64,
+            all: all as u64,
+            sought,
+        },
+    )?;
+    Ok(())
+}
+
+// Of each of these partitions, which the record that is sought lists, the first batch that is wanted, and how many more there are.
+fn push_listed(
+    scene: &Scene<'_>,
+    rows: &mut Vec<Row>,
+    sought: &Sought,
+    names: &[PartitionName],
+    wanted: Wanted,
+) -> Result<(), AllocError>
+    requires { 6 < length names.now → AreListed scene.now.logs.now sought.now (length names.now) }
+    ensures { OnOk result (TellsEach scene.now rows.old.items rows.new.items (in_each sought.now wanted names.now)) }
+{
+    push_each(scene, rows, names, wanted)?;
+    push_rest(scene, rows, sought, names.len())?;
     Ok(())
 }
 
@@ -114,7 +159,7 @@ fn decision_of(scene: &Scene<'_>, producer: i64, epoch: i16) -> Result<Vec<Find>
 }
 
 /// Adds the decision whose markers have this producer id and epoch, and of each partition that it lists the marker, or that there
-/// is none, and the first data of the epoch before.
+/// is none, and the first data of the epoch before; of both, how many more partitions there are.
 pub(crate) fn push_listing(
     scene: &Scene<'_>,
     rows: &mut Vec<Row>,
@@ -126,13 +171,14 @@ pub(crate) fn push_listing(
     let found = decision_of(scene, producer, epoch)?;
     let names = listed(scene.alloc, found.as_slice())?;
     push_records(scene, rows, Sought::Deciding { producer, epoch }, 1)?;
+    let decided = Sought::Deciding { producer, epoch };
     let marking = Wanted::Marking { producer, epoch };
-    push_each(scene, rows, names.as_slice(), marking)?;
+    push_listed(scene, rows, &decided, names.as_slice(), marking)?;
     let data = Wanted::Data {
         producer,
         epoch: epoch_before(epoch),
     };
-    push_each(scene, rows, names.as_slice(), data)?;
+    push_listed(scene, rows, &decided, names.as_slice(), data)?;
     Ok(())
 }
 
@@ -162,8 +208,18 @@ fn listed_open(
     listed_by(scene.alloc, &found[0])
 }
 
+// The records by which the partitions of a transaction are known: the decision, or else the states of the producer id.
+fn lister(producer: i64, epoch: i16, found: &[Find]) -> Sought
+    ensures { result ≡ lister producer epoch (slice_get found.now 0) }
+{
+    if found.is_empty() {
+        return Sought::OfProducer(producer);
+    }
+    Sought::Deciding { producer, epoch }
+}
+
 /// Adds the decision whose markers have this producer id and epoch, and of each partition that is listed for the transaction the
-/// marker, or that there is none.
+/// marker, or that there is none; and how many more partitions there are.
 pub(crate) fn push_markers(
     scene: &Scene<'_>,
     rows: &mut Vec<Row>,
@@ -174,8 +230,9 @@ pub(crate) fn push_markers(
 {
     let found = decision_of(scene, producer, epoch)?;
     let names = listed_open(scene, producer, found.as_slice())?;
+    let sought = lister(producer, epoch, found.as_slice());
     push_records(scene, rows, Sought::Deciding { producer, epoch }, 1)?;
     let marking = Wanted::Marking { producer, epoch };
-    push_each(scene, rows, names.as_slice(), marking)?;
+    push_listed(scene, rows, &sought, names.as_slice(), marking)?;
     Ok(())
 }

@@ -1,12 +1,12 @@
 //! Rows of a partition's end: where it was declared to end, and its segments.
 
-ghost use Rattle.std.specs.Prelude.{◌≡◌, ◌≢◌, ◌≤◌, ◌-◌, ◌∷◌, [], OnOk, Some, All, length};
+ghost use Rattle.std.specs.Prelude.{◌≡◌, ◌≢◌, ◌≤◌, ◌<◌, ◌-◌, ◌∷◌, [], OnOk, Some, All, length};
 ghost use Rattle.eos_base.specs.Members.{Has};
 ghost use Rattle.eos_fold.specs.Fronts.{base_of};
 ghost use Rattle.eos_places.specs.Partitions.{partition_named};
 ghost use Rattle.eos_places.specs.declared.wanted.Wanted.TheVariants.{Holding};
-ghost use Rattle.eos_story.specs.Answers.{StandInOrder, IsFirstShown, IsSegmentRow, AreSegmentsShown, count_begun, segments_around};
-ghost use Rattle.eos_story.specs.declared.row.Row.TheVariants.{Segment as SegmentRow, End as EndRow};
+ghost use Rattle.eos_story.specs.Answers.{StandInOrder, IsFirstShown, IsSegmentRow, AreSegmentsAround, AreSegmentsShown, count_begun};
+ghost use Rattle.eos_story.specs.declared.row.Row.TheVariants.{Segment as SegmentRow, MoreSegments, End as EndRow};
 ghost use Rattle.eos_story.specs.Questions.{Ends};
 ghost use Rattle.eos_story.specs.steps.Telling.{Tells, TellsEach, IsNext};
 
@@ -91,7 +91,36 @@ fn push_each(
     Ok(())
 }
 
-// The segments around an offset: the last that begins there or before, the one before it, and the next.
+// How many segments a partition has, where there are more than are shown.
+fn push_more(
+    scene: &Scene<'_>,
+    rows: &mut Vec<Row>,
+    name: &PartitionName,
+    partition: &Partition,
+    shown: usize,
+) -> Result<(), AllocError>
+    requires { partition_named name.now scene.now.evidence.now.partitions ≡ Some partition.now }
+    ensures { OnOk result (Tells scene.now rows.old.items rows.new.items (λ told. shown < length partition.now.segments
+        → Has told (MoreSegments name.now shown (length partition.now.segments)))) }
+{
+    let all = partition.segments.len();
+    if shown < all {
+        let partition = copy_name(name)?;
+        add_row(
+            scene,
+            rows,
+            Row::MoreSegments {
+                partition,
+                shown: shown as u64,
+                all: all as u64,
+            },
+        )?;
+    }
+    Ok(())
+}
+
+// The segments around an offset: the last that begins there or before, the one before it, and the next; and how many more there
+// are.
 fn push_segments(
     scene: &Scene<'_>,
     rows: &mut Vec<Row>,
@@ -100,12 +129,13 @@ fn push_segments(
     offset: u64,
 ) -> Result<(), AllocError>
     requires { partition_named name.now scene.now.evidence.now.partitions ≡ Some partition.now }
-    ensures { OnOk result (Tells scene.now rows.old.items rows.new.items (StandInOrder (IsSegmentRow name.now) (segments_around offset partition.now.segments))) }
+    ensures { OnOk result (Tells scene.now rows.old.items rows.new.items (AreSegmentsAround name.now offset partition.now.segments)) }
 {
     let segments = partition.segments.as_slice();
     let begun = count_begun(segments, offset);
     let shown = around(segments, begun, 2, 1);
     push_each(scene, rows, name, partition, shown)?;
+    push_more(scene, rows, name, partition, shown.len())?;
     Ok(())
 }
 

@@ -51,11 +51,23 @@ pub enum Row {
         shown: u64,
         all: u64,
     },
+    /// The record that is sought lists so many partitions, of which these are shown.
+    MorePartitions {
+        shown: u64,
+        all: u64,
+        sought: Sought,
+    },
     /// A segment of this partition: its name and its size.
     Segment {
         partition: PartitionName,
         base: u64,
         size: u64,
+    },
+    /// This partition has so many segments, of which these are shown.
+    MoreSegments {
+        partition: PartitionName,
+        shown: u64,
+        all: u64,
     },
     /// Where this partition is declared to end.
     End {

@@ -155,9 +155,10 @@ pub(crate) fn push_row(
     match row {
         Row::Record { sought, find, spot } => push_record(alloc, out, fault, sought, (find, *spot)),
         Row::NoRecord { sought } => push_no_record(alloc, out, sought),
-        Row::MoreRecords { shown, all, .. } | Row::MoreBatches { shown, all, .. } => {
-            push_more(out, *shown, *all)
-        }
+        Row::MoreRecords { shown, all, .. }
+        | Row::MoreBatches { shown, all, .. }
+        | Row::MorePartitions { shown, all, .. }
+        | Row::MoreSegments { shown, all, .. } => push_more(out, *shown, *all),
         Row::Batch {
             partition,
             wanted,

@@ -16,9 +16,10 @@ returns c =
     let p = c.ranges.producer in
     let batches = simp to_z-of_z at c.in_ok-all.ensures in
     let told = simp to_z-of_z at c.in_ok-push_each.ensures in
+    let more = simp to_z-of_z at c.in_ok-push_more.ensures in
     let name = c.args.name.now in
     let wanted = Of c.args.producer in
     let found : List Placed = c.as_slice-batches.result.now in
     let are = subst (λ (ps : List Partition). AreBatchesOf ps name wanted found) c.partitions.ensures.value (subst (λ (xs : List Placed). AreBatchesOf c.partitions.result.now name wanted xs) (sym c.as_slice-batches.ensures.value) batches) in
     let shown : c.around-shown.result.now ≡ around c.args.offset found = c.around-shown.ensures ∙ ap (λ n. drop (n - 2) (take (n + 3) found)) c.count_below-at.ensures.count in
-    (found, are, c.batch_before.ensures ∙ ap (λ n. slice_get found (n - 1)) c.count_below-at.ensures.count, around_told name wanted c.args.offset found c.around-shown.result.now are told shown)
+    (found, are, c.batch_before.ensures ∙ ap (λ n. slice_get found (n - 1)) c.count_below-at.ensures.count, around_told name wanted c.args.offset found c.around-shown.result.now are told shown more)
