@@ -1,6 +1,6 @@
 //! `check`: whether the promise of exactly once was kept in an evidence.
 
-ghost use Rattle.std.specs.Prelude.{◌≡◌, ◌≤◌, ◌++◌, true, Err, IfOk, OnErr, option_map, string_bytes};
+ghost use Rattle.std.specs.Prelude.{◌≡◌, ◌++◌, true, Err, IfOk, OnErr, option_map, string_bytes};
 ghost use Rattle.std.specs.Io.KnownBytes.{Keeps};
 ghost use Rattle.eos_text.specs.Writing.{Writes, WritesFrontOf};
 ghost use Rattle.eos_check.specs.Verdicts.{IsVerdict};
@@ -23,15 +23,19 @@ use eos_notes::lines_of;
 use eos_report::{fault_list, fault_list_json, verdict_json, verdict_line};
 use eos_segment::RunFault;
 use eos_text::{finish, push_text, push_value};
+use eos_workers::Workers;
 use std::alloc::{AllocError, Global};
 use std::io::Write;
 use std::slice;
 use std::sync::Wait;
 use std::thread::Threads;
 
-/// How the outside is told of a check.
-#[derive(Clone, Copy)]
-pub struct Asked<'a> {
+/// What is asked of a check: by how many workers, and how the outside is told of it.
+#[derive(Drop)]
+pub struct Asked<'a, G> {
+    pub workers: Workers,
+    /// What the workers pass, and who knows how long the stages took.
+    pub gate: &'a G,
     /// Whether lines are of JSON.
     pub json: bool,
     /// Whether all faults are told, and not the first alone.
@@ -55,15 +59,17 @@ pub struct Said {
     pub report: Option<String>,
 }
 
-/// The verdict over an evidence, and the faults that are told of it: at yes none, at no the first or all.
+/// An evidence with its logs, the verdict over it, and the faults that are told: at yes none, at no the first or all.
 #[derive(Clone, Copy)]
-pub(crate) struct Found<'a> {
+pub(crate) struct Judged<'a> {
+    pub evidence: &'a Evidence,
+    pub logs: &'a [Part],
     pub verdict: &'a Verdict,
     pub faults: &'a [Fault],
 }
 
-/// Writes the verdict over an evidence, by so many workers, 1 to 64, or where all faults are asked for and one stands, these; as
-/// lines of text or of JSON, of one of several folders after the words that say which. The workers pass the gate.
+/// Writes the verdict over an evidence, by so many workers, or where all faults are asked for and one stands, these; as lines of
+/// text or of JSON, of one of several folders after the words that say which. The workers pass the gate.
 ///
 /// # Errors
 /// At `Write` a front of the lines was written, at `OutOfMemory` nothing. There is no other refusal.
@@ -71,21 +77,17 @@ pub fn check_to<W: Write, G: Gate + Timed>(
     alloc: Global,
     rt: &(impl Threads + Wait + Sync),
     evidence: &Evidence,
-    workers: u64,
-    asked: Asked<'_>,
-    gate: &G,
+    asked: &Asked<'_, G>,
     writer: &mut W,
 ) -> Result<Said, RunFault>
-    requires some { 1 ≤ workers }
-    requires most { workers ≤ 64 }
-    ensures ok { IfOk result (λ r. Writes (IsCheckAnswer (subject_text asked.entry.subject) evidence.now asked.entry.json asked.entry.all) (W.contents writer.old) (W.contents writer.new) r.status) }
-    ensures notes { IfOk result (λ r. IsNotesText evidence.now asked.entry.quiet (string_bytes r.notes)) }
-    ensures report { IfOk result (λ r. IsReportAsked evidence.now asked.entry.all asked.entry.report (option_map string_bytes r.report)) }
-    ensures write { result ≡ Err RunFault.Write → WritesFrontOf (IsCheckAnswer (subject_text asked.entry.subject) evidence.now asked.entry.json asked.entry.all) (W.contents writer.old) (W.contents writer.new) }
+    ensures ok { IfOk result (λ r. Writes (IsCheckAnswer (subject_text asked.now.subject) evidence.now asked.now.json asked.now.all) (W.contents writer.old) (W.contents writer.new) r.status) }
+    ensures notes { IfOk result (λ r. IsNotesText evidence.now asked.now.quiet (string_bytes r.notes)) }
+    ensures report { IfOk result (λ r. IsReportAsked evidence.now asked.now.all asked.now.report (option_map string_bytes r.report)) }
+    ensures write { result ≡ Err RunFault.Write → WritesFrontOf (IsCheckAnswer (subject_text asked.now.subject) evidence.now asked.now.json asked.now.all) (W.contents writer.old) (W.contents writer.new) }
     ensures memory { result ≡ Err RunFault.OutOfMemory → Keeps (W.contents writer.old) (W.contents writer.new) }
     ensures only { OnErr result (IsOfReading result → ⊥) }
 {
-    let (lines, said) = answer(alloc, rt, evidence, workers, asked, gate)?;
+    let (lines, said) = answer(alloc, rt, evidence, asked)?;
     finish(writer, lines.as_bytes())?;
     Ok(said)
 }
@@ -95,18 +97,15 @@ fn answer<G: Gate + Timed>(
     alloc: Global,
     rt: &(impl Threads + Wait + Sync),
     evidence: &Evidence,
-    workers: u64,
-    asked: Asked<'_>,
-    gate: &G,
+    asked: &Asked<'_, G>,
 ) -> Result<(String, Said), AllocError>
-    requires { (1 ≤ workers) × (workers ≤ 64) }
-    ensures lines { IfOk result (λ r. IsCheckAnswer (subject_text asked.entry.subject) evidence.now asked.entry.json asked.entry.all (string_bytes r.0) r.1.status) }
-    ensures notes { IfOk result (λ r. IsNotesText evidence.now asked.entry.quiet (string_bytes r.1.notes)) }
-    ensures report { IfOk result (λ r. IsReportAsked evidence.now asked.entry.all asked.entry.report (option_map string_bytes r.1.report)) }
+    ensures lines { IfOk result (λ r. IsCheckAnswer (subject_text asked.now.subject) evidence.now asked.now.json asked.now.all (string_bytes r.0) r.1.status) }
+    ensures notes { IfOk result (λ r. IsNotesText evidence.now asked.now.quiet (string_bytes r.1.notes)) }
+    ensures report { IfOk result (λ r. IsReportAsked evidence.now asked.now.all asked.now.report (option_map string_bytes r.1.report)) }
 {
-    let logs = logs_of(alloc, rt, evidence, workers, gate)?;
-    let verdict = verdict_of(alloc, rt, evidence, logs.as_slice(), workers as u32)?;
-    answer_of(alloc, evidence, logs.as_slice(), &verdict, asked, gate)
+    let logs = logs_of(alloc, rt, evidence, asked.workers, asked.gate)?;
+    let verdict = verdict_of(alloc, rt, evidence, logs.as_slice(), asked.workers)?;
+    answer_of(alloc, evidence, logs.as_slice(), &verdict, asked)
 }
 
 /// The same of an evidence whose logs and verdict these are.
@@ -115,37 +114,42 @@ fn answer_of<T: Timed>(
     evidence: &Evidence,
     logs: &[Part],
     verdict: &Verdict,
-    asked: Asked<'_>,
-    timed: &T,
+    asked: &Asked<'_, T>,
 ) -> Result<(String, Said), AllocError>
     requires logs { AreLogsOf evidence.now.partitions logs.now }
     requires verdict { IsVerdict evidence.now verdict.now }
-    ensures lines { IfOk result (λ r. IsCheckAnswer (subject_text asked.entry.subject) evidence.now asked.entry.json asked.entry.all (string_bytes r.0) r.1.status) }
-    ensures notes { IfOk result (λ r. IsNotesText evidence.now asked.entry.quiet (string_bytes r.1.notes)) }
-    ensures report { IfOk result (λ r. IsReportAsked evidence.now asked.entry.all asked.entry.report (option_map string_bytes r.1.report)) }
+    ensures lines { IfOk result (λ r. IsCheckAnswer (subject_text asked.now.subject) evidence.now asked.now.json asked.now.all (string_bytes r.0) r.1.status) }
+    ensures notes { IfOk result (λ r. IsNotesText evidence.now asked.now.quiet (string_bytes r.1.notes)) }
+    ensures report { IfOk result (λ r. IsReportAsked evidence.now asked.now.all asked.now.report (option_map string_bytes r.1.report)) }
 {
     match verdict {
         Verdict::Yes(_) => {
-            let found = Found {
+            let judged = Judged {
+                evidence,
+                logs,
                 verdict,
                 faults: &[],
             };
-            told(alloc, evidence, logs, found, asked, timed)
+            told(alloc, judged, asked)
         }
         Verdict::No(_) if asked.all => {
             let faults = all_faults(alloc, evidence, logs)?;
-            let found = Found {
+            let judged = Judged {
+                evidence,
+                logs,
                 verdict,
                 faults: faults.as_slice(),
             };
-            told(alloc, evidence, logs, found, asked, timed)
+            told(alloc, judged, asked)
         }
         Verdict::No(first) => {
-            let found = Found {
+            let judged = Judged {
+                evidence,
+                logs,
                 verdict,
                 faults: slice::from_ref(first),
             };
-            told(alloc, evidence, logs, found, asked, timed)
+            told(alloc, judged, asked)
         }
     }
 }
@@ -153,56 +157,54 @@ fn answer_of<T: Timed>(
 /// The same where these are the faults that are told.
 fn told<T: Timed>(
     alloc: Global,
-    evidence: &Evidence,
-    logs: &[Part],
-    found: Found<'_>,
-    asked: Asked<'_>,
-    timed: &T,
+    judged: Judged<'_>,
+    asked: &Asked<'_, T>,
 ) -> Result<(String, Said), AllocError>
-    requires logs { AreLogsOf evidence.now.partitions logs.now }
-    requires verdict { IsVerdict evidence.now found.verdict.now }
-    requires told { AreTold evidence.now asked.all found.verdict.now found.faults.now }
-    ensures lines { IfOk result (λ r. IsCheckAnswer (subject_text asked.entry.subject) evidence.now asked.entry.json asked.entry.all (string_bytes r.0) r.1.status) }
-    ensures notes { IfOk result (λ r. IsNotesText evidence.now asked.entry.quiet (string_bytes r.1.notes)) }
-    ensures report { IfOk result (λ r. IsReportAsked evidence.now asked.entry.all asked.entry.report (option_map string_bytes r.1.report)) }
+    requires logs { AreLogsOf judged.evidence.now.partitions judged.logs.now }
+    requires verdict { IsVerdict judged.evidence.now judged.verdict.now }
+    requires told { AreTold judged.evidence.now asked.now.all judged.verdict.now judged.faults.now }
+    ensures lines { IfOk result (λ r. IsCheckAnswer (subject_text asked.now.subject) judged.entry.evidence.now asked.now.json asked.now.all (string_bytes r.0) r.1.status) }
+    ensures notes { IfOk result (λ r. IsNotesText judged.entry.evidence.now asked.now.quiet (string_bytes r.1.notes)) }
+    ensures report { IfOk result (λ r. IsReportAsked judged.entry.evidence.now asked.now.all asked.now.report (option_map string_bytes r.1.report)) }
 {
-    let lines = lines_told(alloc, found, asked)?;
-    let said = said_of(alloc, evidence, logs, found, asked, timed)?;
+    let lines = lines_told(alloc, judged, asked)?;
+    let said = said_of(alloc, judged, asked)?;
     Ok((lines, said))
 }
 
 /// What is told beside the lines.
 fn said_of<T: Timed>(
     alloc: Global,
-    evidence: &Evidence,
-    logs: &[Part],
-    found: Found<'_>,
-    asked: Asked<'_>,
-    timed: &T,
+    judged: Judged<'_>,
+    asked: &Asked<'_, T>,
 ) -> Result<Said, AllocError>
-    requires logs { AreLogsOf evidence.now.partitions logs.now }
-    requires verdict { IsVerdict evidence.now found.verdict.now }
-    requires told { AreTold evidence.now asked.all found.verdict.now found.faults.now }
-    ensures status { IfOk result (λ said. said.status ≡ status_of found.entry.verdict.now) }
-    ensures notes { IfOk result (λ said. IsNotesText evidence.now asked.entry.quiet (string_bytes said.notes)) }
-    ensures report { IfOk result (λ said. IsReportAsked evidence.now asked.entry.all asked.entry.report (option_map string_bytes said.report)) }
+    requires logs { AreLogsOf judged.evidence.now.partitions judged.logs.now }
+    requires verdict { IsVerdict judged.evidence.now judged.verdict.now }
+    requires told { AreTold judged.evidence.now asked.now.all judged.verdict.now judged.faults.now }
+    ensures status { IfOk result (λ said. said.status ≡ status_of judged.entry.verdict.now) }
+    ensures notes { IfOk result (λ said. IsNotesText judged.entry.evidence.now asked.now.quiet (string_bytes said.notes)) }
+    ensures report { IfOk result (λ said. IsReportAsked judged.entry.evidence.now asked.now.all asked.now.report (option_map string_bytes said.report)) }
 {
-    let notes = lines_of(alloc, evidence, logs, asked.quiet)?;
-    let report = report_of(alloc, evidence, logs, found, asked, timed)?;
+    let notes = lines_of(alloc, judged.evidence, judged.logs, asked.quiet)?;
+    let report = report_of(alloc, judged, asked)?;
     Ok(Said {
-        status: status_of(found.verdict),
+        status: status_of(judged.verdict),
         notes,
         report,
     })
 }
 
 /// The line of the verdict, or those of all faults.
-fn lines_told(alloc: Global, found: Found<'_>, asked: Asked<'_>) -> Result<String, AllocError>
-    ensures { IfOk result (λ lines. string_bytes lines ≡ answer_text (subject_text asked.entry.subject) asked.entry.json asked.entry.all found.entry.verdict.now found.entry.faults.now) }
+fn lines_told<T>(
+    alloc: Global,
+    judged: Judged<'_>,
+    asked: &Asked<'_, T>,
+) -> Result<String, AllocError>
+    ensures { IfOk result (λ lines. string_bytes lines ≡ answer_text (subject_text asked.now.subject) asked.now.json asked.now.all judged.entry.verdict.now judged.entry.faults.now) }
 {
     let about = about_of(alloc, asked.subject)?;
-    match found.verdict {
-        Verdict::No(_) if asked.all => list_lines(alloc, about.as_str(), asked.json, found.faults),
+    match judged.verdict {
+        Verdict::No(_) if asked.all => list_lines(alloc, about.as_str(), asked.json, judged.faults),
         verdict => line_about(alloc, about.as_str(), asked.json, verdict),
     }
 }

@@ -93,8 +93,14 @@ fn check_folder(
     folder: &str,
     progress: &Progress<'_>,
 ) -> Done {
-    match read_folder(rt, threads, folder, words.workers.clamp(1, 64), progress) {
-        Ok(evidence) => judge(rt, threads, words, folder, &evidence, progress),
+    match read_folder(rt, threads, folder, words.workers, progress) {
+        Ok(evidence) => judge(
+            rt,
+            threads,
+            folder,
+            &evidence,
+            &asked_by(words, folder, progress),
+        ),
         Err(fault) => Done::with_status(end_unread(rt, progress.subject, &fault)),
     }
 }
@@ -102,23 +108,12 @@ fn check_folder(
 fn judge(
     rt: &HostRuntime,
     threads: &(impl Threads + Wait + Sync),
-    words: &Check<'_>,
     folder: &str,
     evidence: &Evidence,
-    progress: &Progress<'_>,
+    asked: &Asked<'_, Progress<'_>>,
 ) -> Done {
-    let workers = words.workers.clamp(1, 64);
-    let asked = asked_by(words, folder, progress.subject);
-    let writer = &mut io::writer(rt);
-    let answered = check_to(
-        rt.alloc(),
-        threads,
-        evidence,
-        workers,
-        asked,
-        progress,
-        writer,
-    );
+    let progress = asked.gate;
+    let answered = check_to(rt.alloc(), threads, evidence, asked, &mut io::writer(rt));
     progress.end();
     match answered {
         Ok(said) => {
@@ -140,18 +135,24 @@ fn judge(
     }
 }
 
-/// How the outside is told of the check of a folder.
-fn asked_by<'a>(words: &Check<'a>, folder: &'a str, subject: Subject<'a>) -> Asked<'a> {
+/// What is asked of the check of a folder.
+fn asked_by<'a, 'p>(
+    words: &Check<'a>,
+    folder: &'a str,
+    progress: &'a Progress<'p>,
+) -> Asked<'a, Progress<'p>> {
     let about = About {
         version: VERSION,
         folder,
-        workers: words.workers,
+        workers: words.workers.get(),
     };
     Asked {
+        workers: words.workers,
+        gate: progress,
         json: words.json,
         all: words.all,
         quiet: words.quiet,
-        subject,
+        subject: progress.subject,
         report: words.report.map(|_| about),
     }
 }

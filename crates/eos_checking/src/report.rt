@@ -1,13 +1,11 @@
 //! The report of a check.
 
-ghost use Rattle.std.specs.Prelude.{◌≡◌, IfOk, Some, option_map, string_bytes};
+ghost use Rattle.std.specs.Prelude.{IfOk, option_map, string_bytes};
 ghost use Rattle.eos_lineage.specs.EvidenceLogs.{AreLogsOf};
 ghost use Rattle.eos_check.specs.Verdicts.{IsVerdict};
 ghost use Rattle.eos_checking.specs.Checking.{AreTold, IsReport, IsReportAsked};
 
-use crate::check::{Asked, Found};
-use eos_evidence::Evidence;
-use eos_fold::Part;
+use crate::check::{Asked, Judged};
 use eos_json_report::{About, Findings, Times, report_text};
 use eos_notes::notes;
 use eos_progress::Progress;
@@ -19,35 +17,21 @@ pub trait Timed {
     fn times(&self) -> Times;
 }
 
-impl Timed for Progress<'_> {
-    fn times(&self) -> Times {
-        let stages = self.stages();
-        Times {
-            read: stages.read,
-            folded: stages.folded,
-            judged: stages.judged,
-        }
-    }
-}
-
-/// The report on an evidence whose logs and verdict these are, if one is wanted.
+/// The report on an evidence, if one is wanted.
 pub(crate) fn report_of<T: Timed>(
     alloc: Global,
-    evidence: &Evidence,
-    logs: &[Part],
-    found: Found<'_>,
-    asked: Asked<'_>,
-    timed: &T,
+    judged: Judged<'_>,
+    asked: &Asked<'_, T>,
 ) -> Result<Option<String>, AllocError>
-    requires logs { AreLogsOf evidence.now.partitions logs.now }
-    requires verdict { IsVerdict evidence.now found.verdict.now }
-    requires told { AreTold evidence.now asked.all found.verdict.now found.faults.now }
-    ensures { IfOk result (λ r. IsReportAsked evidence.now asked.entry.all asked.entry.report (option_map string_bytes r)) }
+    requires logs { AreLogsOf judged.evidence.now.partitions judged.logs.now }
+    requires verdict { IsVerdict judged.evidence.now judged.verdict.now }
+    requires told { AreTold judged.evidence.now asked.now.all judged.verdict.now judged.faults.now }
+    ensures { IfOk result (λ r. IsReportAsked judged.entry.evidence.now asked.now.all asked.now.report (option_map string_bytes r)) }
 {
     match asked.report {
         None => Ok(None),
         Some(about) => {
-            let text = made_report(alloc, evidence, logs, found, asked.all, about, timed)?;
+            let text = made_report(alloc, judged, about, asked)?;
             Ok(Some(text))
         }
     }
@@ -55,26 +39,23 @@ pub(crate) fn report_of<T: Timed>(
 
 fn made_report<T: Timed>(
     alloc: Global,
-    evidence: &Evidence,
-    logs: &[Part],
-    found: Found<'_>,
-    all: bool,
+    judged: Judged<'_>,
     about: About<'_>,
-    timed: &T,
+    asked: &Asked<'_, T>,
 ) -> Result<String, AllocError>
-    requires logs { AreLogsOf evidence.now.partitions logs.now }
-    requires verdict { IsVerdict evidence.now found.verdict.now }
-    requires told { AreTold evidence.now all found.verdict.now found.faults.now }
-    ensures { IfOk result (λ text. IsReport evidence.now all about.entry (string_bytes text)) }
+    requires logs { AreLogsOf judged.evidence.now.partitions judged.logs.now }
+    requires verdict { IsVerdict judged.evidence.now judged.verdict.now }
+    requires told { AreTold judged.evidence.now asked.now.all judged.verdict.now judged.faults.now }
+    ensures { IfOk result (λ text. IsReport judged.entry.evidence.now asked.now.all about.entry (string_bytes text)) }
 {
-    let notes = notes(alloc, evidence, logs)?;
-    let tallies = tallies_of(alloc, evidence, logs)?;
+    let notes = notes(alloc, judged.evidence, judged.logs)?;
+    let tallies = tallies_of(alloc, judged.evidence, judged.logs)?;
     let findings = Findings {
-        verdict: found.verdict,
-        faults: found.faults,
+        verdict: judged.verdict,
+        faults: judged.faults,
         notes: notes.as_slice(),
         tallies: &tallies,
     };
-    let text = report_text(alloc, about, findings, timed.times())?;
+    let text = report_text(alloc, about, findings, asked.gate.times())?;
     Ok(text)
 }

@@ -4,8 +4,8 @@ pub returns : goal.returns
 returns g c =
     let says = rw c.as_slice.ensures.value at c.in_ok-text.ensures.says in
     record {
-      verdict = c.args.found.verdict.now;
-      faults = c.args.found.faults.now;
+      verdict = c.args.judged.verdict.now;
+      faults = c.args.judged.faults.now;
       told = c.requires.told;
       notes = c.in_ok-notes.notes.items;
       tallies = c.in_ok-tallies.tallies;
