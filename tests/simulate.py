@@ -45,12 +45,12 @@ SWITCHES = {
 }
 # What stands behind a switch's own fault, in all phases.
 BEHIND = {
-    "keep-duplicates": ["5.8", "5.10", "5.12"],
+    "keep-duplicates": ["5.6", "5.8", "5.10", "5.12"],
     "no-fence": ["1.11"],
-    "no-bump": ["3.3", "3.5", "3.7", "5.8", "5.12"],
+    "no-bump": ["3.3", "3.5", "3.7", "5.6", "5.8", "5.12"],
     "lose-marker": [],
-    "swap-marker": ["3.5", "3.7", "5.8", "5.12"],
-    "hide-listing": ["3.5", "5.8", "5.10", "5.12"],
+    "swap-marker": ["3.5", "3.7", "5.6", "5.8", "5.12"],
+    "hide-listing": ["3.5", "5.6", "5.8", "5.10", "5.12"],
     "ignore-generation": [],
 }
 # What may come before a switch's own fault where the rule is broken inside a script.
@@ -63,6 +63,8 @@ INSIDE = {
     "hide-listing": ["1.6"],
     "ignore-generation": [],
 }
+# The switch with which a cluster may not come to rest where its rule is broken inside a script.
+RESTLESS = "hide-listing"
 MISHAPS = {
     "lost-output": "5.11 Missing",
     "repeated-output": "5.10 Repeated",
@@ -212,10 +214,13 @@ def code_in(line):
 
 
 def inside(name, seed):
-    """The first fault of a cluster that breaks a rule from a word on; or why it isn't one of those."""
+    """The first fault of a cluster that breaks a rule from a word on, or why it isn't one of those; None where there is no fault since
+    the cluster doesn't come to rest."""
     folder = os.path.join(scratch, f"inside-{name}-{seed}")
     events = 150 + seed * 37 % 250
     wrote = simulate(seed, events, folder, "--switch", name, "--switch-at", events // 3)
+    if name == RESTLESS and wrote == (2, "", "eoscheck: the cluster is not at rest\n") and not os.path.exists(folder):
+        return None
     if wrote != (0, WROTE, ""):
         return f"{wrote}"
     return code_in(told(folder))
@@ -225,7 +230,8 @@ def insides(pool, seeds):
     for name, fault in SWITCHES.items():
         own = fault.split()[0]
         found = list(pool.map(lambda seed: inside(name, seed), seeds))
-        expect(set(found) <= {own, *INSIDE[name]}, f"{name} inside a script: {found}")
+        expect({it for it in found if it} <= {own, *INSIDE[name]}, f"{name} inside a script: {found}")
+        expect(found.count(None) <= len(seeds) // 10, f"{name} inside a script: {found.count(None)} runs of {len(seeds)} don't come to rest")
 
 
 def erring(name, seed):
@@ -489,6 +495,35 @@ def same_folder(one, other):
     return True
 
 
+def restless():
+    """What keeps a cluster from its rest: a restart of the coordinator, with a record of a transaction that lists none of its
+    partitions, since all are hidden."""
+    path = os.path.join(scratch, "restless.jsonl")
+    simulate(7, 0, os.path.join(scratch, "restless-head"), "--history", path)
+    with open(path) as f:
+        head = {**json.loads(f.readline()), "switches": ["hide-listing"]}
+    claim = {"of": 1, "offset": 0, "output": 1, "partition": 0, "topic": "in"}
+    begin, restart = {"event": "start", "application": 0}, {"event": "coordinator-restart"}
+    arrive = [{"event": "deliver", "message": number} for number in range(4)]
+    produce = {"event": "produce", "session": 0, "partition": 1, "claim": claim}
+    opened = [{"set": ["hide-listing"]}, begin, produce, arrive[0]]
+    ended = [*opened, {"event": "end", "session": 0, "kind": "commit"}, arrive[1]]
+    stuck = (2, "", "eoscheck: the cluster is not at rest\n")
+    for events, wanted in [
+        ([*ended, *arrive], (0, WROTE, "")),
+        ([*opened, begin, *arrive], (0, WROTE, "")),
+        ([*ended, restart, *arrive, begin, restart, *arrive], stuck),
+        ([*opened, restart, begin, *arrive, begin, restart, *arrive], stuck),
+    ]:
+        with open(path, "w") as f:
+            lines = [head, *({**it, "number": at} for at, it in enumerate(events, 1))]
+            f.writelines(json.dumps(it, sort_keys=True, separators=(",", ":")) + "\n" for it in lines)
+        folder = os.path.join(scratch, "restless")
+        found = run("simulate", "--schedule", path, folder)
+        expect(found == wanted and os.path.exists(folder) == (wanted != stuck), f"{events}: {found}")
+        shutil.rmtree(folder, ignore_errors=True)
+
+
 def worked():
     """The worked example: seed 7 and 200 events, with each switch and without."""
     folder = os.path.join(scratch, "worked")
@@ -527,7 +562,9 @@ def refused_folders():
     expect(simulate(7, 10, absent) == (2, "", message), "simulate to a folder in an absent one")
     folder = os.path.join(scratch, "no-manifest")
     message = f"eoscheck: cannot write {folder}/evidence.json\n"
-    expect(simulate(7, 100, folder, **limited(10)) == (2, "", message), "a manifest that can't be written")
+    # segments of one record are shorter than the manifest of so many partitions
+    many = ["--segment-records", 1, "--inputs", 16, "--outputs", 16]
+    expect(simulate(7, 0, folder, *many, **limited(300)) == (2, "", message), "a manifest that can't be written")
     expect(not os.path.exists(folder), "a folder without its manifest is taken away")
     folder = os.path.join(scratch, "no-segment")
     status, out, said = simulate(7, 100, folder, **limited(400))
@@ -540,6 +577,27 @@ def refused_folders():
         words = [program, "simulate", "--seed", "7", "--events", "10", os.path.join(scratch, "full")]
         done = subprocess.run(words, stdout=full, stderr=subprocess.PIPE, timeout=60)
         expect((done.returncode, done.stderr) == (2, b"eoscheck: cannot write -\n"), "simulate to a full device")
+
+
+def killed():
+    """A run that is killed while it writes leaves a folder without a whole manifest, or all of it: `check` takes no part for the
+    whole."""
+    words = [program, "simulate", "--seed", "7", "--events", "3000", "--segment-records", "1", "--inputs", "16", "--outputs", "16"]
+    whole = os.path.join(scratch, "whole-of-killed")
+    subprocess.run([*words, whole], capture_output=True, timeout=120)
+    parts = 0
+    for most in (1, 2, 4, 8, 16, 24, 32):
+        folder = os.path.join(scratch, f"killed-{most}")
+        running = subprocess.Popen([*words, folder], stdout=subprocess.DEVNULL)
+        while running.poll() is None and (not os.path.exists(folder) or len(os.listdir(folder)) < most):
+            pass
+        running.kill()
+        running.wait()
+        if not os.path.exists(folder) or not same_folder(whole, folder):
+            parts += 1
+            said = run("check", folder)
+            expect(said[0] == 2 and "evidence.json" in said[2], f"check of what a run leaves that is killed after {most} folders: {said}")
+    expect(parts > 0, "no run was killed before its end")
 
 
 def bad_words():
@@ -653,7 +711,9 @@ def main():
     rates()
     several()
     documented()
+    restless()
     refused_folders()
+    killed()
     bad_words()
     if len(words) > 1:
         refused_memory(os.path.abspath(words[1]))

@@ -26,8 +26,8 @@ impl From<AllocError> for WritingFault {
     }
 }
 
-/// Writes evidence into a folder that is there and empty: the manifest, and for each partition a folder `TOPIC-N` with its
-/// segments.
+/// Writes evidence into a folder that is there and empty: for each partition a folder `TOPIC-N` with its segments, and after all of
+/// them the manifest, without which no folder is evidence.
 ///
 /// # Errors
 /// Some of it may have been written: `remove_folder` takes it away.
@@ -38,11 +38,10 @@ pub fn write_evidence(
 ) -> Result<(), WritingFault> {
     let text = spec_text(rt.alloc(), evidence.spec())?;
     let path = manifest_path(rt.alloc(), folder)?;
-    write_file(rt, &path, text.as_slice())?;
     for partition in evidence.partitions() {
         write_partition(rt, folder, partition)?;
     }
-    Ok(())
+    write_file(rt, &path, text.as_slice())
 }
 
 fn write_partition(
