@@ -284,17 +284,17 @@ in a few events after the script, or from a word on that --switch-at gives.
 all phases, and what may come before it inside a script:
 
   keep-duplicates    1.4 Sequence     a record that came twice stands twice
-                     behind it 5.8, 5.10, 5.12
+                     behind it 5.6, 5.8, 5.10, 5.12
   no-fence           1.5 ZombieEpoch  a zombie writes after a newer epoch
                      behind it 1.11; before it 1.6, 1.11
   no-bump            1.7 NoBump       end markers have the epoch of the data
-                     behind it 3.3, 3.5, 3.7, 5.8, 5.12; before it 1.5
+                     behind it 3.3, 3.5, 3.7, 5.6, 5.8, 5.12; before it 1.5
   lose-marker        1.11 OpenAtEnd   end markers are missing in the logs
                      before it 1.6
   swap-marker        3.3 WrongKind    out-1 has an abort where out-0 has a commit
-                     behind it 3.5, 3.7, 5.8, 5.12; before it 1.9
+                     behind it 3.5, 3.7, 5.6, 5.8, 5.12; before it 1.9
   hide-listing       3.4 NotListed    transactions don't list out-1, but write it
-                     behind it 3.5, 5.8, 5.10, 5.12; before it 1.6
+                     behind it 3.5, 5.6, 5.8, 5.10, 5.12; before it 1.6
   ignore-generation  5.10 Repeated    two members process the same input
 
 With --mishap an application errs, once: at the input O of in-N, or at the first
