@@ -3,7 +3,8 @@ use Rattle.std.proofs.Common.{◌≡◌, ◌++◌, ◌∷◌, [], ℕ, List, Opt
 use Rattle.std.proofs.lemmas.Slice.Eq.{bytes_eq-Decides}
 use Rattle.std.specs.Option.{option_or}
 use Rattle.std.specs.Str.{bytes_eq}
-use Rattle.eos_catalogue.specs.Catalogue.{page_codes, page_in, is_one_of, IsPageOf}
+use Rattle.eos_catalogue.specs.Catalogue.{page_codes, is_one_of, IsPageOf}
+use Rattle.eos_catalogue.specs.steps.Found.{page_in}
 use Rattle.eos_catalogue.specs.declared.page.Page.{Page}
 
 abbrev pub codes_of : List Page → List (List ℕ)

@@ -1,5 +1,5 @@
--- Which codes have a page in the catalogue, and which page a code has.
-use Rattle.std.specs.Prelude.{◌≡◌, ℕ, List, [], ◌∷◌, Option, Some, None, Bool, true, false, bytes_eq, codes, if◌then◌else◌}
+-- Which codes have a page in the catalogue.
+use Rattle.std.specs.Prelude.{◌≡◌, ℕ, List, [], ◌∷◌, Option, Some, None, Bool, true, false, bytes_eq, codes}
 use Rattle.std.specs.List.{list_any}
 use Rattle.eos_catalogue.specs.declared.page.Page.{Page}
 
@@ -13,11 +13,6 @@ page_codes =
     codes "4.1" ∷ codes "4.2" ∷ codes "4.3" ∷ codes "4.4" ∷
     codes "5.5" ∷ codes "5.6" ∷ codes "5.7" ∷ codes "5.8" ∷ codes "5.9" ∷ codes "5.10" ∷ codes "5.11" ∷ codes "5.12" ∷
     []
-
--- the first of these with this code
-abbrev pub page_in : List Page → List ℕ → Option Page
-page_in [] code = None
-page_in (p ∷ ps) code = if bytes_eq p.code.now code then Some p else page_in ps code
 
 -- this code is one of these
 abbrev pub is_one_of : List (List ℕ) → List ℕ → Bool

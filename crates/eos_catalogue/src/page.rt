@@ -3,8 +3,9 @@
 ghost use Rattle.std.specs.Prelude.{◌≡◌, IfOk, OnOk, codes, string_bytes};
 ghost use Rattle.std.specs.Option.{option_copied};
 ghost use Rattle.eos_text.specs.Adding.{Adds};
-ghost use Rattle.eos_catalogue.specs.Catalogue.{page_in, IsPageOf};
+ghost use Rattle.eos_catalogue.specs.Catalogue.{IsPageOf};
 ghost use Rattle.eos_catalogue.specs.Pages.{title_text, section_text, sections_text, page_text};
+ghost use Rattle.eos_catalogue.specs.steps.Found.{page_in};
 
 use crate::outputs::OUTPUTS;
 use crate::partitions::{LOGS, PRODUCERS};

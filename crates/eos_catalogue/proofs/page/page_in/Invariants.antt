@@ -1,5 +1,5 @@
 use Rattle.std.proofs.Common.{◌≡◌, drop}
-use Rattle.eos_catalogue.specs.Catalogue.{page_in}
+use Rattle.eos_catalogue.specs.steps.Found.{page_in}
 use Rattle.eos_catalogue.proofs.page.page_in.Given as goal
 
 abbrev pub invariant-loop-page : goal.invariant-loop-page

@@ -1,6 +1,7 @@
 use Rattle.std.proofs.Common.{◌≡◌, ℕ, ◌++◌, ◌∙◌, refl, sym, ap, Bor, Option, List, Some, None}
 use Rattle.std.specs.Option.{option_copied, option_or}
-use Rattle.eos_catalogue.specs.Catalogue.{page_codes, page_in}
+use Rattle.eos_catalogue.specs.Catalogue.{page_codes}
+use Rattle.eos_catalogue.specs.steps.Found.{page_in}
 use Rattle.eos_catalogue.specs.declared.page.Page.{Page}
 use Rattle.eos_catalogue.proofs.PagesFound.{found_in_both, is_page, codes_of}
 use Rattle.eos_catalogue.proofs.page.page_of.Goals as goal
