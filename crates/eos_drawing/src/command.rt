@@ -12,12 +12,10 @@ use eos_progress::{Meter, Progress, end_unread};
 use eos_report::verdict_line;
 use eos_svg::svg_text;
 use eos_words::Draw;
+use eos_workers::Workers;
 use std::alloc::{AllocError, Global};
 use std::sync::Wait;
 use std::thread::Threads;
-
-/// How many threads work.
-const WORKERS: u64 = 4;
 
 /// How many transactions are shown on each side of the fault where the words don't say.
 const AROUND: u64 = 6;
@@ -84,7 +82,7 @@ fn made(
 ) -> Result<Drawn, u8> {
     let meter = Meter::start(rt, false, false);
     let progress = Progress::begin(&meter, Subject::Only);
-    let evidence = match read_folder(rt, threads, words.folder, WORKERS, &progress) {
+    let evidence = match read_folder(rt, threads, words.folder, Workers::standard(), &progress) {
         Ok(evidence) => evidence,
         Err(fault) => return Err(end_unread(rt, Subject::Only, &fault)),
     };
@@ -105,8 +103,9 @@ fn answer_of(
     words: &Draw<'_>,
     progress: &Progress<'_>,
 ) -> Result<Answer, AllocError> {
-    let logs = logs_of(alloc, threads, evidence, WORKERS, progress)?;
-    let verdict = verdict_of(alloc, threads, evidence, logs.as_slice(), WORKERS as u32)?;
+    let workers = Workers::standard();
+    let logs = logs_of(alloc, threads, evidence, workers, progress)?;
+    let verdict = verdict_of(alloc, threads, evidence, logs.as_slice(), workers)?;
     match verdict {
         Verdict::Yes(counts) => match words.fault {
             Some(_) => Ok(Answer::TooFew(0)),

@@ -1,6 +1,6 @@
 //! The answer of `explain` for an evidence.
 
-ghost use Rattle.std.specs.Prelude.{◌≡◌, ◌≤◌, ◌<◌, IfOk, OnErr, Err, map, string_bytes};
+ghost use Rattle.std.specs.Prelude.{◌≡◌, ◌<◌, IfOk, OnErr, Err, map, string_bytes};
 ghost use Rattle.eos_check.specs.declared.verdict.Verdict.TheVariants.{No};
 ghost use Rattle.eos_check.specs.Verdicts.{IsVerdict};
 ghost use Rattle.eos_lineage.specs.EvidenceLogs.{AreLogsOf};
@@ -15,9 +15,18 @@ use eos_fold::Part;
 use eos_notes::lines_of;
 use eos_report::verdict_line;
 use eos_story::Scene;
+use eos_workers::Workers;
 use std::alloc::{AllocError, Global};
 use std::sync::Wait;
 use std::thread::Threads;
+
+/// What is asked of `explain`.
+#[derive(Clone, Copy)]
+pub struct Asked {
+    pub workers: Workers,
+    /// Which fault of the list of all it is, from 1 on.
+    pub number: u64,
+}
 
 /// What `explain` answers.
 #[derive(Drop)]
@@ -87,7 +96,7 @@ fn of_verdict(
 }
 
 /// The story of a fault of the evidence, of this number in the list of all, from 1 on; or the line of a yes, or how many faults
-/// there are. The workers, 1 to 64, pass the gate.
+/// there are. The workers pass the gate.
 ///
 /// # Errors
 /// Only want of memory.
@@ -95,15 +104,12 @@ pub fn explain<G: Gate>(
     alloc: Global,
     rt: &(impl Threads + Wait + Sync),
     evidence: &Evidence,
-    workers: u64,
-    number: u64,
+    asked: Asked,
     gate: &G,
 ) -> Result<Answer, AllocError>
-    requires some { 1 ≤ workers }
-    requires most { workers ≤ 64 }
-    ensures { IfOk result (IsAnswer evidence.now number) }
+    ensures { IfOk result (IsAnswer evidence.now asked.number) }
 {
-    let logs = logs_of(alloc, rt, evidence, workers, gate)?;
-    let verdict = verdict_of(alloc, rt, evidence, logs.as_slice(), workers as u32)?;
-    of_verdict(alloc, evidence, logs.as_slice(), &verdict, number)
+    let logs = logs_of(alloc, rt, evidence, asked.workers, gate)?;
+    let verdict = verdict_of(alloc, rt, evidence, logs.as_slice(), asked.workers)?;
+    of_verdict(alloc, evidence, logs.as_slice(), &verdict, asked.number)
 }

@@ -1,6 +1,6 @@
 //! `explain` of a folder.
 
-use crate::answer::{Answer, explain};
+use crate::answer::{Answer, Asked, explain};
 use eos_ending::{Ending, STANDARD, Subject, end};
 use eos_evidence::Evidence;
 use eos_folder::{Cause, read_folder};
@@ -20,13 +20,7 @@ pub fn explain_folder(
 ) -> u8 {
     let meter = Meter::start(rt, false, false);
     let progress = Progress::begin(&meter, Subject::Only);
-    match read_folder(
-        rt,
-        threads,
-        words.folder,
-        words.workers.clamp(1, 64),
-        &progress,
-    ) {
+    match read_folder(rt, threads, words.folder, words.workers, &progress) {
         Ok(evidence) => tell(rt, threads, words, &evidence, &progress),
         Err(fault) => end_unread(rt, Subject::Only, &fault),
     }
@@ -39,15 +33,11 @@ fn tell(
     evidence: &Evidence,
     progress: &Progress<'_>,
 ) -> u8 {
-    let workers = words.workers.clamp(1, 64);
-    match explain(
-        rt.alloc(),
-        threads,
-        evidence,
-        workers,
-        words.fault,
-        progress,
-    ) {
+    let asked = Asked {
+        workers: words.workers,
+        number: words.fault,
+    };
+    match explain(rt.alloc(), threads, evidence, asked, progress) {
         Ok(Answer::Yes { line, notes }) => {
             let status = write_answer(rt, line.as_str(), 0);
             if status == 0 {

@@ -5,5 +5,5 @@ mod answer;
 mod folder;
 mod story;
 
-pub use answer::{Answer, explain};
+pub use answer::{Answer, Asked, explain};
 pub use folder::explain_folder;

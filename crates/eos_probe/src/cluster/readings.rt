@@ -1,7 +1,5 @@
 //! What a cluster says of itself, and what stands in its logs.
 
-ghost use Rattle.std.specs.Prelude.{◌≤◌};
-
 use crate::words::{Notes, show};
 use eos_batch::{Batch, decode_segment};
 use eos_board::OpenGate;
@@ -10,6 +8,7 @@ use eos_cluster::{Cluster, EvidenceRefusal};
 use eos_drive::Script;
 use eos_evidence::Evidence;
 use eos_text::push_value;
+use eos_workers::Workers;
 use std::alloc::{AllocError, Global};
 use std::sync::Wait;
 use std::thread::Threads;
@@ -90,7 +89,7 @@ fn read_evidence<R: Threads + Wait + Sync>(
             evidence,
             line,
             name == "verdict",
-            number.clamp(1, 64),
+            Workers::new(number).unwrap_or(Workers::one()),
         ),
     }
 }
@@ -140,10 +139,8 @@ fn judge<R: Threads + Wait + Sync>(
     evidence: &Evidence,
     line: &mut String,
     is_told: bool,
-    workers: u64,
-) -> Result<(), AllocError>
-    requires { (1 ≤ workers) × (workers ≤ 64) }
-{
+    workers: Workers,
+) -> Result<(), AllocError> {
     match check(alloc, rt, evidence, workers, &OpenGate) {
         Ok(verdict) => tell(evidence, line, is_told, &verdict),
         Err(error) => Err(error),

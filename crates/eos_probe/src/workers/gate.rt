@@ -1,11 +1,12 @@
 //! The check by workers behind a gate that holds some of them and notes what passes it, and by the caller alone.
 
 use crate::layers::push_verdict;
-use crate::words::{Notes, first_of, number_of, numbers_of, place};
+use crate::words::{Notes, first_of, number_of, numbers_of, or_bad, place};
 use eos_board::Gate;
 use eos_check::{Verdict, check, check_one};
 use eos_evidence::Evidence;
 use eos_fold::Named;
+use eos_workers::Workers;
 use std::alloc::{AllocError, Global};
 use std::sync::Wait;
 use std::sync::atomic::{AtomicU64, Ordering};
@@ -123,7 +124,8 @@ pub(super) fn check_behind<R: Threads + Wait + Sync>(
     words: &str,
 ) -> Result<(), AllocError> {
     let (workers, words) = first_of(words);
-    let workers = place(number_of(notes, workers)).clamp(1, 64) as u64;
+    let count = place(number_of(notes, workers)) as u64;
+    let workers = or_bad(notes, Workers::new(count), Workers::one());
     let gate = gate_of(notes, words);
     match check(alloc, rt, evidence, workers, &gate) {
         Ok(verdict) => tell(alloc, line, &verdict, &gate),
