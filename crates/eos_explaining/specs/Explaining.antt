@@ -1,10 +1,13 @@
 -- What `explain` answers for an evidence: the line of a yes and the notes, the story of one of all faults, or how many there are.
-use Rattle.std.specs.Prelude.{◌≡◌, ◌<◌, ◌⊎◌, ℕ, suc, List, map, length, Some, slice_get, string_bytes, false}
+use Rattle.std.specs.Prelude.{◌≡◌, ◌<◌, ◌⊎◌, ◌++◌, ℕ, suc, List, map, length, Option, Some, None, slice_get, codes, string_bytes, false}
+use Rattle.std.specs.Fmt.{decimal}
 use Rattle.std.specs.Option.{option_copied}
+use Rattle.eos_catalogue.specs.Catalogue.{IsPageOf}
+use Rattle.eos_catalogue.specs.declared.page.Page.{Page}
 use Rattle.eos_check.specs.declared.verdict.Fault.{Fault}
 use Rattle.eos_check.specs.declared.verdict.Verdict.{Verdict}
 use Rattle.eos_check.specs.declared.verdict.Verdict.TheVariants.{Yes, No}
-use Rattle.eos_check.specs.Verdicts.{IsVerdict}
+use Rattle.eos_check.specs.Verdicts.{IsVerdict, phase_of, number_of}
 use Rattle.eos_check.specs.declared.verdict.Counts.{Counts}
 use Rattle.eos_evidence.specs.Evidence.{EvidenceParts}
 use Rattle.eos_fold.specs.Parts.{PartLog}
@@ -21,12 +24,22 @@ use Rattle.eos_story_text.specs.Stories.{story_text}
 use Rattle.eos_explaining.specs.declared.answer.Answer.{Answer}
 use Rattle.eos_explaining.specs.declared.answer.Answer.TheVariants as answers
 
--- the text is the story of the fault that this verdict names: of true rows, with the notes of the evidence
+-- the code of a fault's kind: its phase, a dot, and its number
+abbrev pub code_of : Fault → List ℕ
+code_of f = decimal (phase_of f) ++ (codes "." ++ decimal (number_of f))
+
+-- the catalogue's page of the kind of the fault that a verdict names
+abbrev pub HasItsPage : Verdict → Option Page → Type 0
+HasItsPage (Yes counts) page = page ≡ None
+HasItsPage (No fault) page = IsPageOf (code_of fault) page
+
+-- the text is the story of the fault that this verdict names: of true rows, with its page and the notes of the evidence
 pub record IsStoryOf (e : EvidenceParts) (logs : List PartLog) (told : List Verdict) (verdict : Verdict) (text : List ℕ) : Type 0 where
   pub story : Story
   pub of_verdict : story.verdict.now ≡ verdict
   pub at : option_copied story.place ≡ place_in verdict
   pub rows : All (IsTrue e.partitions logs) story.rows.now
+  pub page : HasItsPage verdict (option_copied story.page)
   pub list : story.told.now ≡ told
   pub notes : AreNotes e story.notes.now
   pub says : text ≡ story_text story

@@ -1,11 +1,13 @@
 //! The story of one of all faults.
 
 ghost use Rattle.std.specs.Prelude.{◌≡◌, ◌<◌, length, map, List, IfOk, Some, slice_get, string_bytes};
+ghost use Rattle.std.specs.Option.{option_copied};
+ghost use Rattle.eos_catalogue.specs.Catalogue.{IsPageOf};
 ghost use Rattle.eos_check.specs.declared.verdict.Fault.{Fault as AFault};
 ghost use Rattle.eos_check.specs.declared.verdict.Verdict.{Verdict as Named};
 ghost use Rattle.eos_check.specs.declared.verdict.Verdict.TheVariants.{No};
 ghost use Rattle.eos_lineage.specs.EvidenceLogs.{AreLogsOf};
-ghost use Rattle.eos_explaining.specs.Explaining.{IsStoryOf};
+ghost use Rattle.eos_explaining.specs.Explaining.{IsStoryOf, code_of};
 
 use eos_catalogue::{Page, page_of};
 use eos_check::{Fault, Verdict};
@@ -15,7 +17,9 @@ use eos_story_text::{Story, story_text};
 use std::alloc::{AllocError, Global};
 
 // The catalogue's page of a kind of fault.
-fn page_for(alloc: Global, fault: &Fault) -> Result<Option<&'static Page>, AllocError> {
+fn page_for(alloc: Global, fault: &Fault) -> Result<Option<&'static Page>, AllocError>
+    ensures { IfOk result (λ page. IsPageOf (code_of fault.now) (option_copied page)) }
+{
     let phase = fault.phase();
     let number = fault.number();
     let code = format!(in alloc; "{phase}.{number}")?;

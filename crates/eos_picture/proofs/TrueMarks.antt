@@ -1,6 +1,6 @@
 -- Marks that are true, and one more.
 use Rattle.std.proofs.Common.{◌≡◌, ◌<◌, length, zero, suc, arith, refl, ℕ, ℤ, List, [], ◌∷◌, ◌++◌, Option, Some, None, inl, inr, sym, ap, subst, ◌∙◌}
-use Rattle.std.specs.List.{slice_get, slice_index_or}
+use Rattle.std.specs.List.{slice_index_or}
 use Rattle.eos_base.specs.Members.{Has}
 use Rattle.eos_base.proofs.Membership.{append_cases}
 use Rattle.eos_fold.specs.declared.close.Close.{Close}

@@ -1,9 +1,8 @@
 -- Marks that lack nothing, and one more.
-use Rattle.std.proofs.Common.{◌≡◌, ◌≢◌, ◌<◌, ◌≤◌, ◌⊎◌, ◌+◌, length, zero, suc, arith, refl, ℕ, ℤ, List, [], ◌∷◌, ◌++◌, drop, Option, Some, None, true, false, inl, inr, sym, ap, subst, ◌∙◌}
+use Rattle.std.proofs.Common.{◌≡◌, ◌≢◌, ◌<◌, ◌≤◌, ◌⊎◌, ◌+◌, length, zero, suc, arith, refl, ℕ, ℤ, List, [], ◌∷◌, ◌++◌, drop, Option, Some, None, true, inl, inr, sym, ap, subst, ◌∙◌}
 use Rattle.std.specs.List.{slice_get, slice_index_or, AllPairs}
 use Rattle.std.specs.Option.{option_or}
 use Rattle.std.proofs.lemmas.Bool.{cases_lt}
-use Rattle.std.proofs.lemmas.List.{drop-append-le}
 use Rattle.std.proofs.lemmas.Option.{slice_get_past}
 use Rattle.eos_base.specs.Members.{Has}
 use Rattle.eos_base.proofs.Membership.{append_cases, append_left, append_right}
@@ -12,18 +11,16 @@ use Rattle.eos_fold.specs.declared.close.Close.{Close}
 use Rattle.eos_fold.specs.Parts.{PartLog, part_name, Rises}
 use Rattle.eos_items.specs.declared.item.Item.{Item}
 use Rattle.eos_picture.specs.declared.mark.Column.{Column}
-use Rattle.eos_picture.specs.declared.mark.Decided.{Decided}
 use Rattle.eos_picture.specs.declared.mark.Mark.{Mark}
 use Rattle.eos_picture.specs.declared.mark.Row.{Row}
-use Rattle.eos_picture.specs.declared.mark.Sign.{Sign}
 use Rattle.eos_picture.specs.declared.mark.Sign.TheVariants as signs
 use Rattle.eos_picture.specs.Marks.{HasTrueRows}
-use Rattle.eos_picture.specs.Signs.{IsOf, IsOfWriter}
+use Rattle.eos_picture.specs.Signs.{IsOfWriter}
 use Rattle.eos_table.specs.TransactionLog.{is_transaction_part}
-use Rattle.eos_picture.specs.Whole.{IsAt, IsMarkOf, Shows, ShowsRecord, ShowsDecision, ShowsMarker, ShowsClose, IsWhole, HasRow, IsCovered, HasWholeRows}
+use Rattle.eos_picture.specs.Whole.{IsAt, IsMarkOf, Shows, ShowsRecord, ShowsDecision, ShowsMarker, ShowsClose, IsWhole, IsCovered}
 use Rattle.eos_base.specs.declared.partition_name.PartitionName.{PartitionName}
 use Rattle.eos_claims.specs.declared.place.Place.{Place}
-use Rattle.eos_picture.specs.Window.{IsOnly, IsThere, IsOfRecordAt}
+use Rattle.eos_picture.specs.Window.{IsThere, IsOfRecordAt}
 use Rattle.eos_picture.specs.declared.spots.Spot.{Spot}
 use Rattle.eos_picture.specs.steps.Spots.{StartsAt, spot_at}
 use Rattle.eos_picture.specs.steps.Kept.{Keeps}

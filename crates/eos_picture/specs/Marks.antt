@@ -1,7 +1,7 @@
 -- What the signs of a picture say of the logs: nothing is drawn in a cell that doesn't stand there. A data record is of the transaction of
 -- its producer id and epoch, and has the fate that a reader of committed records sees (KIP-98, "Consumer"); an end marker is one that
 -- carries the transaction's producer id, and the epoch that was decided for it or that is the next behind its data (KIP-890).
-use Rattle.std.specs.Prelude.{◌≡◌, ◌⊎◌, ⊤, ℕ, ℤ, List, Option, Some, None, slice_get}
+use Rattle.std.specs.Prelude.{◌≡◌, ◌⊎◌, ⊤, ℕ, List, Option, Some, None, slice_get}
 use Rattle.eos_base.specs.Members.{Has}
 use Rattle.eos_batch.specs.declared.marker.Kind.{Kind}
 use Rattle.eos_batch.specs.declared.marker.Marker.{Marker}

@@ -1,5 +1,5 @@
 -- That a picture leaves nothing out: whatever a transaction that is shown did in a partition has its mark in the partition's row.
-use Rattle.std.specs.Prelude.{◌≡◌, ◌⊎◌, ℕ, ℤ, List, [], Option, Some, None, true, slice_get}
+use Rattle.std.specs.Prelude.{◌≡◌, ◌⊎◌, ℕ, ℤ, List, [], Some, None, true, slice_get}
 use Rattle.eos_base.specs.Members.{Has}
 use Rattle.eos_batch.specs.declared.marker.Marker.{Marker}
 use Rattle.eos_fold.specs.declared.close.Close.{Close}

@@ -18,7 +18,7 @@ use bytes::Bytes;
 use eos_base::PartitionName;
 use eos_batch::Marker;
 use eos_commits::is_visible;
-use eos_fold::{Close, Fate, ItemRef, Part};
+use eos_fold::{Close, ItemRef, Part};
 use std::alloc::{AllocError, Global};
 
 /// What a row is made of.

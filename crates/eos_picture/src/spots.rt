@@ -178,14 +178,13 @@ fn push_claims(
 fn push_output(
     alloc: Global,
     spots: &mut Vec<Spot>,
-    apps: &[App],
+    app: Option<&App>,
     logs: &[Part],
-    group: &Option<GroupId>,
     fault: &OutputFault,
 ) -> Result<(), AllocError>
     ensures stays { (at : Option Place) → StartsAt spots.old.items at → OnOk result (StartsAt spots.new.items at) }
 {
-    match app_of(apps, group) {
+    match app {
         None => Ok(()),
         Some(app) => push_claims(alloc, spots, app, logs, fault),
     }
@@ -242,7 +241,7 @@ pub(crate) fn spots_of(
         }
         Fault::Lineage(LineageFault::Output { group, fault }) => {
             push_named(&mut spots, fault)?;
-            push_output(alloc, &mut spots, apps, logs, group, fault)?;
+            push_output(alloc, &mut spots, app_of(apps, group), logs, fault)?;
         }
     }
     Ok(spots)

@@ -84,18 +84,26 @@ fn last_value<'a>(last: &'a LastValues, id: &Bytes) -> Option<Option<&'a TxnValu
     }
 }
 
+/// What a record says of a transactional id.
+#[derive(Drop)]
+struct State {
+    id: Bytes,
+    /// None is a tombstone.
+    value: Option<TxnValue>,
+}
+
 // Takes up a record of a transactional id, unless it is skipped.
 fn take_value(
     alloc: Global,
     columns: &mut Vec<Column>,
     last: &mut LastValues,
     place: Place,
-    id: Bytes,
-    value: Option<TxnValue>,
+    state: State,
 ) -> Result<(), AllocError>
-    ensures columns { OnOk result (columns.new.items ≡ columns.old.items ++ flat_map column_at (step_at (state_of last.old) place.partition place.offset (Ok (Some (id, value))))) }
-    ensures last { OnOk result (state_of last.new ≡ next_state (state_of last.old) (Ok (Some (id, value)))) }
+    ensures columns { OnOk result (columns.new.items ≡ columns.old.items ++ flat_map column_at (step_at (state_of last.old) place.partition place.offset (Ok (Some (state.id, state.value))))) }
+    ensures last { OnOk result (state_of last.new ≡ next_state (state_of last.old) (Ok (Some (state.id, state.value)))) }
 {
+    let State { id, value } = state;
     let before = last_value(last, &id);
     let next = value.as_ref();
     if is_skipped(alloc, before, next)? {
@@ -122,7 +130,7 @@ fn take_record(
     };
     match read_content(alloc, item)? {
         Err(_) | Ok(None) => Ok(()),
-        Ok(Some((id, value))) => take_value(alloc, columns, last, place, id, value),
+        Ok(Some((id, value))) => take_value(alloc, columns, last, place, State { id, value }),
     }
 }
 

@@ -1,5 +1,5 @@
 -- Where a transaction stands among those of a picture.
-use Rattle.std.specs.Prelude.{◌≡◌, ℕ, ℤ, List, Option, Some, None, slice_get}
+use Rattle.std.specs.Prelude.{ℕ, ℤ, List, Option, Some, None, slice_get}
 use Rattle.eos_picture.specs.declared.mark.Column.{Column}
 use Rattle.eos_picture.specs.Signs.{IsOfWriter}
 

@@ -1,4 +1,4 @@
-use Rattle.std.proofs.Common.{◌⊎◌, ◌++◌, [], drop}
+use Rattle.std.proofs.Common.{◌⊎◌, ◌++◌, drop}
 use Rattle.eos_base.specs.Members.{Has}
 use Rattle.eos_fold.specs.Parts.{PartLog}
 use Rattle.eos_picture.specs.Marks.{HasTrueRows}
