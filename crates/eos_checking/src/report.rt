@@ -17,6 +17,17 @@ pub trait Timed {
     fn times(&self) -> Times;
 }
 
+impl Timed for Progress<'_> {
+    fn times(&self) -> Times {
+        let stages = self.stages();
+        Times {
+            read: stages.read,
+            folded: stages.folded,
+            judged: stages.judged,
+        }
+    }
+}
+
 /// The report on an evidence, if one is wanted.
 pub(crate) fn report_of<T: Timed>(
     alloc: Global,
