@@ -69,14 +69,14 @@ fn builder_of(
     }
 }
 
-/// The segment of a word, of the partition of this name.
+/// The segment of a word.
 fn segment_of(
     alloc: Global,
     notes: &mut Notes,
-    name: (&str, i32),
+    topic: &str,
+    partition: i32,
     word: &str,
 ) -> Result<Segment, AllocError> {
-    let (topic, partition) = name;
     let (base, digits) = sides(notes, word, '/');
     let base = number_of(notes, base);
     let bytes = bytes_of(alloc, notes, digits)?;
@@ -93,10 +93,11 @@ fn add(
     alloc: Global,
     notes: &mut Notes,
     builder: &mut EvidenceBuilder,
-    name: (&str, i32),
+    topic: &str,
+    partition: i32,
     word: &str,
 ) -> Result<(), AllocError> {
-    let segment = segment_of(alloc, notes, name, word)?;
+    let segment = segment_of(alloc, notes, topic, partition, word)?;
     match builder.add(segment) {
         Ok(()) => Ok(()),
         Err(AddFault::OutOfMemory) => Err(AllocError),
@@ -113,9 +114,9 @@ fn add_all(
 ) -> Result<(), AllocError> {
     let (name, rest) = sides(notes, word, ':');
     let (_, segments) = sides(notes, rest, ':');
-    let name = name_of(notes, name);
+    let (topic, partition) = name_of(notes, name);
     for segment in segments.split_terminator(',') {
-        add(alloc, notes, builder, name, segment)?;
+        add(alloc, notes, builder, topic, partition, segment)?;
     }
     Ok(())
 }
