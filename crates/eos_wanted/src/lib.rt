@@ -2,6 +2,7 @@
 //! rest of the bytes may be forgotten.
 #![tactic(auto)]
 
+pub mod laws;
 mod wanted;
 
 pub use wanted::Wanted;

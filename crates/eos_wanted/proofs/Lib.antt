@@ -1,0 +1,3 @@
+pub mod SameThrough
+pub mod ClaimHeaders
+pub mod WantedItems
