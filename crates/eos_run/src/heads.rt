@@ -74,6 +74,12 @@ impl Heads {
         self.items.as_slice()
     }
 
+    pub(crate) fn into_vec(self) -> Vec<DataHead>
+        ensures { result.items ≡ self.list }
+    {
+        self.items
+    }
+
     /// Makes room for so many more.
     pub(crate) fn reserve(&mut self, count: usize) -> Result<(), AllocError>
         ensures list { self.new.list ≡ self.old.list }

@@ -129,4 +129,11 @@ impl Run {
     {
         self.heads.as_slice()
     }
+
+    /// The heads of the data batches, by themselves.
+    pub fn into_heads(self) -> Vec<DataHead>
+        ensures { result.items ≡ self.heads.list }
+    {
+        self.heads.into_vec()
+    }
 }
