@@ -17,14 +17,14 @@ use std::alloc::{AllocError, Global};
 #[derive(Drop)]
 pub struct Front {
     /// The name of its first segment.
-    pub(crate) begin: u64,
+    pub begin: u64,
     /// The offset after its last record.
-    pub(crate) next: u64,
+    pub next: u64,
     /// Why it ends.
-    pub(crate) stop: Stop,
+    pub stop: Stop,
     /// Its end markers.
-    pub(crate) markers: Vec<Marker>,
-    pub(crate) run: Run,
+    pub markers: Vec<Marker>,
+    pub run: Run,
 }
 
 /// Whether a front uses all bytes.

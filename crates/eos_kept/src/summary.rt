@@ -79,6 +79,14 @@ impl<T> Kept<T> {
     {
         self.front.stop
     }
+
+    /// The front, and what is kept of its data records.
+    pub fn into_parts(self) -> (Front, Vec<T>)
+        ensures front { result.0 ≡ self.front }
+        ensures kept { result.1.items ≡ self.kept }
+    {
+        (self.front, self.kept)
+    }
 }
 
 impl<T: Drop> Kept<T> {
