@@ -1,4 +1,5 @@
 pub mod Driven
+pub mod Mishaps
 pub mod Rates
 pub mod Words
 pub mod steps

@@ -7,6 +7,18 @@ abbrev pub share_of : Option ℕ → ℕ → ℕ
 share_of (Some rate) today = 32 * rate
 share_of None today = today
 
+-- today's: none is chosen
+abbrev pub today : Rates
+today = record {
+  lose = None;
+  repeat = None;
+  abandon = None;
+  members = None;
+  restart_broker = None;
+  restart_coordinator = None;
+  abort = None;
+}
+
 -- of 32,000 words how many say one of these
 abbrev pub sum_of : Rates → ℕ
 sum_of r = share_of r.lose 500 + share_of r.repeat 2000 + share_of r.abandon 250 + share_of r.members 125

@@ -1,5 +1,8 @@
 //! Mistakes that an application makes, each once, at one input.
 
+ghost use Rattle.std.specs.Prelude.{◌≡◌, None, IfSome};
+ghost use Rattle.eos_scripts.specs.Mishaps.{mishap_name, name_in};
+
 /// A mistake of an application at one input: the outputs are not those that it should have, or its offset is lost.
 #[derive(Clone, Copy, Debug, PartialEq, Eq)]
 pub enum Mishap {
@@ -41,7 +44,9 @@ const MISHAPS: [Mishap; 10] = [
 
 impl Mishap {
     /// The mishap's name, as a program's words have it.
-    pub fn name(self) -> &'static str {
+    pub fn name(self) -> &'static str
+        ensures { result.now ≡ mishap_name self }
+    {
         match self {
             Mishap::LostOutput => "lost-output",
             Mishap::RepeatedOutput => "repeated-output",
@@ -57,7 +62,9 @@ impl Mishap {
     }
 
     /// The mishap of this name, if there is one.
-    fn named(name: &str) -> Option<Mishap> {
+    fn named(name: &str) -> Option<Mishap>
+        ensures { IfSome result (λ mishap. mishap_name mishap ≡ name.now) }
+    {
         for mishap in MISHAPS {
             if mishap.name() == name {
                 return Some(mishap);
@@ -128,7 +135,10 @@ pub struct ChosenMishap {
 
 impl ChosenMishap {
     /// What a word says: `NAME`, or `NAME@in-N:O`, or `NAME@out-N:O` of the second group. `None` where it is neither.
-    pub fn from_word(word: &str) -> Option<ChosenMishap> {
+    pub fn from_word(word: &str) -> Option<ChosenMishap>
+        ensures named { IfSome result (λ chosen. mishap_name chosen.mishap ≡ name_in word.now) }
+        ensures plain { IfSome result (λ chosen. name_in word.now ≡ word.now → chosen.at ≡ None) }
+    {
         match word.split_once('@') {
             Some((name, place)) => {
                 let mishap = Mishap::named(name)?;

@@ -1,6 +1,7 @@
 //! What a run is besides its script.
 
-ghost use Rattle.std.specs.Prelude.{◌≡◌, None};
+ghost use Rattle.std.specs.Prelude.{◌≡◌, [], None};
+ghost use Rattle.eos_scripts.specs.Rates.{today};
 
 use crate::mishap::ChosenMishap;
 use crate::rates::Rates;
@@ -29,7 +30,9 @@ pub struct Turning {
 impl<'a> Settings<'a> {
     /// Today's rates, no switch and no mishap.
     pub fn today() -> Settings<'a>
-        ensures { result.turning ≡ None }
+        ensures rates { result.rates ≡ today }
+        ensures turning { result.turning ≡ None }
+        ensures mishaps { result.mishaps.now ≡ [] }
     {
         Settings {
             rates: Rates::TODAY,
