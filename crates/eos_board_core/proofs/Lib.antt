@@ -4,3 +4,4 @@ pub mod RunsStanding
 pub mod RunsKept
 pub mod SeamsKept
 pub mod PairsTaken
+pub mod TiedRuns

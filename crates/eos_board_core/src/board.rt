@@ -9,8 +9,8 @@ ghost use Rattle.eos_board_core.specs.steps.Receipts.{IsGathered, parts_of};
 
 use crate::places::Places;
 use crate::refused::{Refused, Why};
+use crate::tied::{Pieces, Tied};
 use eos_evidence::Evidence;
-use eos_fold::Named;
 use std::alloc::{AllocError, Global};
 use std::marker::Model;
 use std::sync::ledger::{Blank, Book, Ledger, Share};
@@ -20,13 +20,13 @@ use std::sync::ledger::{Blank, Book, Ledger, Share};
 ///
 /// Its runs stand in the order of their pieces, no two have a piece in common, and each names pieces of the evidence.
 #[derive(Drop)]
-pub struct Board<L: Ledger> {
-    places: Places,
+pub struct Board<L: Ledger, E: Pieces> {
+    places: Places<E>,
     posts: u64,
     book: Book<L>,
 }
 
-impl<L: Ledger> Model for Board<L> {
+impl<L: Ledger, E: Pieces> Model for Board<L, E> {
     ghost use Rattle.std.specs.Prelude.{◌≡◌};
     ghost use Rattle.eos_board_core.specs.Runs.{BoardView};
 
@@ -64,7 +64,7 @@ impl<L: Ledger> Receipt<L> {
     }
 }
 
-impl<L: Ledger> Board<L> {
+impl<L: Ledger, E: Pieces> Board<L, E> {
     /// A board without a run for the pieces of this evidence, and a receipt for each worker. It reserves a place for each
     /// piece, and the list that `into_runs` gives.
     ///
@@ -75,7 +75,7 @@ impl<L: Ledger> Board<L> {
         blank: Blank,
         evidence: &Evidence,
         workers: u64,
-    ) -> Result<(Board<L>, Vec<Receipt<L>>), AllocError>
+    ) -> Result<(Board<L, E>, Vec<Receipt<L>>), AllocError>
         requires name { blank.name ≡ L.name }
         requires parts { (blank.parts ≡ L.parts) × (L.parts ≡ workers) }
         requires workers { 1 ≤ workers }
@@ -100,7 +100,7 @@ impl<L: Ledger> Board<L> {
     /// # Errors
     /// The run, and why, in this order: `Stranger` where a number of it is no piece of the evidence, `Twice` where a piece of
     /// it lies in a run on the board. Nothing has changed then.
-    pub fn post(&mut self, receipt: &mut Receipt<L>, named: Named) -> Result<(), Refused>
+    pub fn post(&mut self, receipt: &mut Receipt<L>, named: Tied<E>) -> Result<(), Refused<E>>
         requires { self.old.posts < 2 ^ 63 }
         ensures taken { OnOk result (MayPost self.old named) }
         ensures board { OnOk result (self.new ≡ after_post named self.old) }
@@ -122,7 +122,7 @@ impl<L: Ledger> Board<L> {
 
     /// Takes two runs from the board of which the second follows the first; `None` where there are none. It looks at each
     /// seam between two runs once after a post there, and at the places of the two runs' pieces.
-    pub fn take_pair(&mut self) -> Option<(Named, Named)>
+    pub fn take_pair(&mut self) -> Option<(Tied<E>, Tied<E>)>
         ensures posts { self.new.posts ≡ self.old.posts }
         ensures pieces { self.new.pieces ≡ self.old.pieces }
         ensures joins { IfSome result (λ pair. Joins pair.0 pair.1) }
@@ -137,7 +137,7 @@ impl<L: Ledger> Board<L> {
     ///
     /// # Errors
     /// Both runs, where a post of one of them would be refused or the two have a piece in common. Nothing has changed then.
-    pub fn put_back(&mut self, before: Named, after: Named) -> Result<(), (Named, Named)>
+    pub fn put_back(&mut self, before: Tied<E>, after: Tied<E>) -> Result<(), (Tied<E>, Tied<E>)>
         ensures taken { OnOk result (MayPutBack self.old before after) }
         ensures board { OnOk result (self.new ≡ with_run before (with_run after self.old)) }
         ensures refused { IfErr result (λ _. MayPutBack self.old before after → ⊥) }
@@ -198,7 +198,7 @@ impl<L: Ledger> Board<L> {
     }
 
     /// All runs on the board, in the order of their pieces.
-    pub fn into_runs(self) -> Vec<Named>
+    pub fn into_runs(self) -> Vec<Tied<E>>
         ensures runs { result.items ≡ self.runs }
         ensures orderly { IsOrderly self }
     {
@@ -226,7 +226,7 @@ fn receipts_of<L: Ledger>(
 }
 
 /// Why this run may not be posted, if it mayn't.
-fn refusal(places: &Places, run: &Named) -> Option<Why>
+fn refusal<E: Pieces>(places: &Places<E>, run: &Tied<E>) -> Option<Why>
     ensures some { IfSome result (λ why. IsRefused why (record { pieces = places.now.pieces; runs = places.now.runs; posts = 0 }) run.now) }
     ensures none { IfNone result (MayPost (record { pieces = places.now.pieces; runs = places.now.runs; posts = 0 }) run.now) }
 {
@@ -242,7 +242,7 @@ fn refusal(places: &Places, run: &Named) -> Option<Why>
 }
 
 /// Whether the two have a piece in common.
-fn overlap(a: &Named, b: &Named) -> bool
+fn overlap<E: Pieces>(a: &Tied<E>, b: &Tied<E>) -> bool
     requires left { a.now.first ≤ a.now.last }
     requires right { b.now.first ≤ b.now.last }
     ensures { MatchBool result (Overlap a.now b.now) (Overlap a.now b.now → ⊥) }

@@ -9,8 +9,10 @@ mod gate;
 mod places;
 mod reach;
 mod refused;
+mod tied;
 
 pub use board::{Board, Receipt};
 pub use gate::{Gate, OpenGate};
 pub use places::Places;
 pub use refused::{Refused, Why};
+pub use tied::{Loose, Pieces, Tied};

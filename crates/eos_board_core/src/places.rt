@@ -14,16 +14,16 @@ ghost use Rattle.eos_board_core.specs.steps.RunPlaces.{AreOwned, AreQueued, Begi
 
 use crate::follow::follows;
 use crate::reach::Reaches;
-use eos_fold::Named;
+use crate::tied::{Pieces, Tied};
 use std::alloc::{AllocError, Global};
 use std::collections::VecDeque;
 use std::marker::Model;
 
 /// A place for each piece, with the runs that stand there.
 #[derive(Drop)]
-pub struct Places {
+pub struct Places<E: Pieces> {
     pieces: u64,
-    runs: Vec<Option<Named>>,
+    runs: Vec<Option<Tied<E>>>,
     /// At the last piece of each run, the first.
     firsts: Vec<Option<u64>>,
     /// Of the run that begins at a place, the piece after its last; 0 where none does.
@@ -33,10 +33,10 @@ pub struct Places {
     /// Whether the seam waits in the queue.
     listed: Vec<bool>,
     /// Room for the runs when they leave.
-    leaving: Vec<Named>,
+    leaving: Vec<Tied<E>>,
 }
 
-impl Model for Places {
+impl<E: Pieces> Model for Places<E> {
     ghost use Rattle.std.specs.Prelude.{◌≡◌, ◌≤◌, [], vec_capacity};
     ghost use Rattle.std.specs.VecDeque.{deque_capacity};
     ghost use Rattle.eos_board_core.specs.Runs.{PlacesView};
@@ -49,9 +49,9 @@ impl Model for Places {
     ghost invariant = { λ p. AreSound p.pieces p.runs.items p.firsts.items p.reaches p.seams.items p.listed.items × (p.pieces ≤ deque_capacity p.seams) × (p.pieces ≤ vec_capacity p.leaving) × (p.leaving.items ≡ []) };
 }
 
-impl Places {
+impl<E: Pieces> Places<E> {
     /// So many places without a run.
-    pub fn new(alloc: Global, pieces: u64) -> Result<Places, AllocError>
+    pub fn new(alloc: Global, pieces: u64) -> Result<Places<E>, AllocError>
         ensures pieces { IfOk result (λ p. p.pieces ≡ pieces) }
         ensures runs { IfOk result (λ p. p.runs ≡ []) }
     {
@@ -83,7 +83,7 @@ impl Places {
 
     /// Whether no piece of this run lies in a run that stands here: no run that begins at its last piece or before reaches its
     /// first.
-    pub(crate) fn is_free(&self, run: &Named) -> bool
+    pub(crate) fn is_free(&self, run: &Tied<E>) -> bool
         requires { AreKnown self.now.pieces run.now }
         ensures { MatchBool result (IsTaken self.now.runs run.now → ⊥) (IsTaken self.now.runs run.now) }
     {
@@ -92,7 +92,7 @@ impl Places {
     }
 
     /// Places a run.
-    pub fn place(&mut self, run: Named)
+    pub fn place(&mut self, run: Tied<E>)
         requires known { AreKnown self.old.pieces run }
         requires free { IsTaken self.old.runs run → ⊥ }
         ensures pieces { self.new.pieces ≡ self.old.pieces }
@@ -108,7 +108,7 @@ impl Places {
     }
 
     /// Takes out the run that begins at this piece.
-    fn take_out(&mut self, first: u64) -> Named
+    fn take_out(&mut self, first: u64) -> Tied<E>
         requires { (run : NamedView) × Has self.old.runs run × (run.first ≡ first) }
         ensures first { result.first ≡ first }
         ensures pieces { self.new.pieces ≡ self.old.pieces }
@@ -143,7 +143,7 @@ impl Places {
     }
 
     /// Takes out two runs of which the second follows the first, if there are any.
-    pub fn take_pair(&mut self) -> Option<(Named, Named)>
+    pub fn take_pair(&mut self) -> Option<(Tied<E>, Tied<E>)>
         ensures pieces { self.new.pieces ≡ self.old.pieces }
         ensures follows { IfSome result (λ pair. Follows pair.0 pair.1) }
         ensures some { IfSome result (λ pair. Joins pair.0 pair.1 × (self.old.runs ≡ placed pair.0 (placed pair.1 self.new.runs))) }
@@ -156,7 +156,7 @@ impl Places {
     }
 
     /// All runs, in the order of their pieces. It takes no memory.
-    pub fn into_runs(self) -> Vec<Named>
+    pub fn into_runs(self) -> Vec<Tied<E>>
         ensures { result.items ≡ self.runs }
     {
         let Places {
@@ -177,7 +177,7 @@ impl Places {
 }
 
 /// The first piece of the run that the run beginning at this seam follows, if there are two such.
-fn joint_at(runs: &[Option<Named>], firsts: &[Option<u64>], seam: usize) -> Option<u64>
+fn joint_at<E: Pieces>(runs: &[Option<Tied<E>>], firsts: &[Option<u64>], seam: usize) -> Option<u64>
     requires owned { AreOwned (length runs.now) runs.now firsts.now }
     requires seam { seam < length runs.now }
     ensures some { IfSome result (λ first. MeetsAt runs.now first seam) }
@@ -191,7 +191,7 @@ fn joint_at(runs: &[Option<Named>], firsts: &[Option<u64>], seam: usize) -> Opti
         return None;
     };
     let before = runs[first as usize].as_ref()?;
-    if follows(before, after) {
+    if follows(before.named(), after.named()) {
         Some(first)
     } else {
         None

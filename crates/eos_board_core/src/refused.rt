@@ -1,11 +1,11 @@
 //! Why a board doesn't take a run.
 
-use eos_fold::Named;
+use crate::tied::{Pieces, Tied};
 
 /// A run that the board didn't take, and why.
 #[derive(Drop)]
-pub struct Refused {
-    pub named: Named,
+pub struct Refused<E: Pieces> {
+    pub named: Tied<E>,
     pub why: Why,
 }
 

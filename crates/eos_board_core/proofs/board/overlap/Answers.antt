@@ -18,7 +18,7 @@ overlap_is a b ha hb h false e =
     λ o. omega (arith, k, o.1.0, o.1.1, o.2.0, o.2.1)
 
 pub returns-then-a_first-b_last : goal.returns-then-a_first-b_last
-returns-then-a_first-b_last c =
+returns-then-a_first-b_last g c =
     let a = c.args.a.now in
     let b = c.args.b.now in
     let h : a.first ≤ b.last = omega (arith, c.pieces-a_first.ensures.first, c.pieces-b_first.ensures.last, c.if-a_first-b_last.true) in

@@ -6,12 +6,12 @@ use Rattle.eos_board_core.proofs.places.Places.into_runs.Goals.{in-Some+in-Ok, i
 use Rattle.eos_board_core.proofs.places.Places.into_runs.Goals as goal
 
 pub unreachable-requires : goal.unreachable-requires
-unreachable-requires c =
+unreachable-requires g c =
     let i = c.loop-i.invariant in
     omega (arith, c.in_default-push.ensures.full, c.loop-i.leaving.ok.0, ap length i.out, standing_take_length c.loop-i.i c.self.inside.runs.items, i.room, c.loop-i-test.true)
 
 pub loop-i-preserved : goal.loop-i-preserved
-loop-i-preserved c =
+loop-i-preserved g c =
     let i = c.loop-i.invariant in
     let at = c.loop-i.i in
     let places = c.self.inside.runs.items in

@@ -4,7 +4,7 @@ use Rattle.eos_board_core.specs.steps.RunPlaces.{standing}
 use Rattle.eos_board_core.proofs.places.Places.into_runs.Given as goal
 
 abbrev pub invariant-loop-i : goal.invariant-loop-i
-invariant-loop-i l = record {
+invariant-loop-i g l = record {
   len : length l.runs.items ≡ l.count;
   same : (k : ℕ) → l.i ≤ k → slice_index_or l.runs.items k None ≡ slice_index_or l.initial.runs.items k None;
   out : l.leaving.items ≡ standing (take l.i l.initial.runs.items);

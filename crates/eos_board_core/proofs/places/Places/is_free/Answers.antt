@@ -6,7 +6,7 @@ use Rattle.eos_board_core.proofs.TreeNodes.{either}
 use Rattle.eos_board_core.proofs.places.Places.is_free.Goals as goal
 
 pub returns : goal.returns
-returns c =
+returns g c =
     let run = c.args.run.now in
     let inside = c.self.inside in
     let sound = c.self.invariant.0 in

@@ -5,7 +5,7 @@ use Rattle.eos_board_core.proofs.SeamsKept.{empty_sound}
 use Rattle.eos_board_core.proofs.places.Places.new.Goals as goal
 
 pub invariant_of-result : goal.invariant_of-result
-invariant_of-result c = (
+invariant_of-result g c = (
   rw (c.in_ok-runs.ensures, c.in_ok-firsts.ensures, c.in_ok-reaches.ensures, c.in_ok-seams.ensures.items, c.in_ok-listed.ensures) (empty_sound c.args.pieces),
   omega (arith, c.in_ok-seams.ensures.capacity),
   omega (arith, c.in_ok-leaving.ensures.capacity),
@@ -13,4 +13,4 @@ invariant_of-result c = (
 )
 
 pub returns-clause-runs : goal.returns-clause-runs
-returns-clause-runs c = ap standing c.in_ok-runs.ensures ∙ standing_none c.args.pieces
+returns-clause-runs g c = ap standing c.in_ok-runs.ensures ∙ standing_none c.args.pieces

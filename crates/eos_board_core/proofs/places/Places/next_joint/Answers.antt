@@ -10,13 +10,13 @@ use Rattle.std.proofs.Common.{refl, inl}
 use Rattle.eos_board_core.proofs.places.Places.next_joint.Goals as goal
 
 pub joint_at-joint-requires-clause-seam : goal.joint_at-joint-requires-clause-seam
-joint_at-joint-requires-clause-seam c =
+joint_at-joint-requires-clause-seam g c =
     let sound = c.loop-seam.invariant.sound in
     let has : Has c.loop-seam.self-inside.seams.items c.in-Some.seam = subst (λ (xs : List ℕ). Has xs c.in-Some.seam) (sym c.in-Some.ensures.1) (inl refl) in
     omega (arith, sound.queued.seams_known c.in-Some.seam has, sound.owned.runs_len, ap length c.as_slice.ensures.value)
 
 pub returns-in-Some-joint-clause-some : goal.returns-in-Some-joint-clause-some
-returns-in-Some-joint-clause-some c =
+returns-in-Some-joint-clause-some g c =
     let first = c.in-Some-joint.first in
     let seam = c.in-Some.seam in
     let places = c.self.inside.runs.items in
@@ -37,7 +37,7 @@ returns-in-Some-joint-clause-some c =
     }
 
 pub loop-seam-preserved : goal.loop-seam-preserved
-loop-seam-preserved c =
+loop-seam-preserved g c =
     let i = c.loop-seam.invariant in
     let now = c.loop-seam.self-inside in
     let seam = c.in-Some.seam in
@@ -58,7 +58,7 @@ loop-seam-preserved c =
     }
 
 pub returns-clause-none : goal.returns-clause-none
-returns-clause-none c =
+returns-clause-none g c =
     let now = c.loop-seam.self-inside in
     let sound = c.loop-seam.invariant.sound in
     let same : c.args.self.now.runs ≡ standing now.runs.items = sym (ap (λ (v : PlacesView). v.runs) c.self.view_is) ∙ ap (λ v. standing v.items) (sym c.loop-seam.invariant.runs) in

@@ -4,7 +4,7 @@ use Rattle.eos_board_core.specs.steps.RunPlaces.{AreSound}
 use Rattle.eos_board_core.proofs.places.Places.next_joint.Given as goal
 
 abbrev pub invariant-loop-seam : goal.invariant-loop-seam
-invariant-loop-seam l = record {
+invariant-loop-seam g l = record {
   pieces : l.self-inside.pieces ≡ l.initial.self-inside.pieces;
   runs : l.self-inside.runs ≡ l.initial.self-inside.runs;
   firsts : l.self-inside.firsts ≡ l.initial.self-inside.firsts;
@@ -15,4 +15,4 @@ invariant-loop-seam l = record {
 }
 
 abbrev pub decreases-loop-seam : goal.decreases-loop-seam
-decreases-loop-seam l = deque_len l.self-inside.seams
+decreases-loop-seam g l = deque_len l.self-inside.seams

@@ -8,7 +8,7 @@ use Rattle.eos_board_core.proofs.SeamsKept.{joints_placed}
 use Rattle.eos_board_core.proofs.places.Places.place.Goals as goal
 
 pub invariant_of-self : goal.invariant_of-self
-invariant_of-self c =
+invariant_of-self g c =
     let run = c.args.run in
     let inside = c.self.inside in
     let places = inside.runs.items in
@@ -42,7 +42,7 @@ invariant_of-self c =
     )
 
 pub returns-clause-runs : goal.returns-clause-runs
-returns-clause-runs c =
+returns-clause-runs g c =
     let run = c.args.run in
     let inside = c.self.inside in
     let places = inside.runs.items in

@@ -11,14 +11,14 @@ use Rattle.eos_board_core.proofs.SeamsKept.{joints_removed}
 use Rattle.eos_board_core.proofs.places.Places.take_out.Goals as goal
 
 pub index_mut-requires : goal.index_mut-requires
-index_mut-requires c =
+index_mut-requires g c =
     let run = c.requires.0 in
     let has : Has (standing c.self.inside.runs.items) run = subst (λ (v : PlacesView). Has v.runs run) (sym c.self.view_is) c.requires.1 in
     let st = stands_where c.self.inside.pieces c.self.inside.runs.items c.self.inside.firsts.items c.args.first run c.self.invariant.0.owned has c.requires.2 in
     omega (arith, stands_within c.self.inside.runs.items c.args.first run st, c.self.inside.runs.ok.0)
 
 pub unreachable-requires : goal.unreachable-requires
-unreachable-requires c =
+unreachable-requires g c =
     let run = c.requires.0 in
     let places = c.self.inside.runs.items in
     let has : Has (standing places) run = subst (λ (v : PlacesView). Has v.runs run) (sym c.self.view_is) c.requires.1 in
@@ -33,7 +33,7 @@ stood places first run other read taken st value is some =
     read_at places first read (stands_within places first other st) value ∙ (sym is ∙ some)
 
 pub index_mut-requires-2 : goal.index_mut-requires-2
-index_mut-requires-2 c =
+index_mut-requires-2 g c =
     let run = c.requires.0 in
     let places = c.self.inside.runs.items in
     let o = c.self.invariant.0.owned in
@@ -44,7 +44,7 @@ index_mut-requires-2 c =
     omega (arith, known.1, o.firsts_len, c.self.inside.firsts.ok.0, c.pieces-last.ensures.last)
 
 pub set-requires : goal.set-requires
-set-requires c =
+set-requires g c =
     let run = c.requires.0 in
     let places = c.self.inside.runs.items in
     let sound = c.self.invariant.0 in
@@ -53,7 +53,7 @@ set-requires c =
     omega (arith, stands_within places c.args.first run st, sound.owned.runs_len, sound.reached.reaches_len)
 
 pub invariant_of-self : goal.invariant_of-self
-invariant_of-self c =
+invariant_of-self g c =
     let run = c.requires.0 in
     let taken = c.in-Some.run' in
     let places = c.self.inside.runs.items in
@@ -81,7 +81,7 @@ invariant_of-self c =
     )
 
 pub returns-clause-first : goal.returns-clause-first
-returns-clause-first c =
+returns-clause-first g c =
     let run = c.requires.0 in
     let places = c.self.inside.runs.items in
     let o = c.self.invariant.0.owned in
@@ -91,7 +91,7 @@ returns-clause-first c =
     o.home c.args.first c.in-Some.run' at
 
 pub returns-clause-runs : goal.returns-clause-runs
-returns-clause-runs c =
+returns-clause-runs g c =
     let run = c.requires.0 in
     let taken = c.in-Some.run' in
     let places = c.self.inside.runs.items in
@@ -105,7 +105,7 @@ returns-clause-runs c =
     ∙ ap (λ v. placed taken (standing (set places c.args.first v))) (sym c.take.ensures.after))
 
 pub returns-clause-run : goal.returns-clause-run
-returns-clause-run c =
+returns-clause-run g c =
     let run = c.requires.0 in
     let taken = c.in-Some.run' in
     let places = c.self.inside.runs.items in

@@ -6,20 +6,20 @@ use Rattle.eos_board_core.proofs.PairsTaken.{second_there, pair_joins}
 use Rattle.eos_board_core.proofs.places.Places.take_pair.Goals as goal
 
 pub take_out-after-requires : goal.take_out-after-requires
-take_out-after-requires c =
+take_out-after-requires g c =
     let old = c.next_joint.new.self.runs in
     let j : IsJoint old c.in_ok-first.first c.in_ok-first.seam = subst (λ (v : PlacesView). IsJoint v.runs c.in_ok-first.first c.in_ok-first.seam) (sym c.next_joint.ensures.same) c.in_ok-first.ensures.some in
     second_there old c.take_out-before.new.self.runs c.in_ok-first.first c.in_ok-first.seam c.take_out-before.result j c.take_out-before.ensures.first c.take_out-before.ensures.runs
 
 pub returns-clause-follows : goal.returns-clause-follows
-returns-clause-follows c =
+returns-clause-follows g c =
     let old = c.next_joint.new.self.runs in
     let j : IsJoint old c.in_ok-first.first c.in_ok-first.seam = subst (λ (v : PlacesView). IsJoint v.runs c.in_ok-first.first c.in_ok-first.seam) (sym c.next_joint.ensures.same) c.in_ok-first.ensures.some in
     joins_follows _ _ (pair_joins old c.take_out-before.new.self.runs c.in_ok-first.first c.in_ok-first.seam c.take_out-before.result c.take_out-after.result j
     c.take_out-before.ensures.first c.take_out-before.ensures.runs c.take_out-before.ensures.run c.take_out-after.ensures.run)
 
 pub returns-clause-some : goal.returns-clause-some
-returns-clause-some c =
+returns-clause-some g c =
     let old = c.next_joint.new.self.runs in
     let j : IsJoint old c.in_ok-first.first c.in_ok-first.seam = subst (λ (v : PlacesView). IsJoint v.runs c.in_ok-first.first c.in_ok-first.seam) (sym c.next_joint.ensures.same) c.in_ok-first.ensures.some in (
       pair_joins old c.take_out-before.new.self.runs c.in_ok-first.first c.in_ok-first.seam c.take_out-before.result c.take_out-after.result j
