@@ -31,7 +31,7 @@ pub enum KeptOutput {
     Foreign(BoxedClaim),
 }
 
-const _: () = prove!(size_of::<KeptOutput>() <= 40);
+const _: () = prove!(size_of::<KeptOutput>() <= 32);
 
 /// The place of the first of these names that is this one.
 fn place_of(names: &[Bytes], name: &[u8]) -> Option<usize>

@@ -1,0 +1,5 @@
+pub mod ItemsUnder
+pub mod ItemsWanted
+pub mod RecordsKept
+pub mod RecordsLent
+pub mod PartsMade

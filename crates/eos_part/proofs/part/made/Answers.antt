@@ -1,0 +1,32 @@
+use Rattle.std.proofs.Common.{◌≡◌, ℕ, List, refl, sym, subst}
+use Rattle.eos_fold.specs.Standing.{IsPartitionFault, AreOf}
+use Rattle.eos_fold.specs.steps.Whole.{AreCloses}
+use Rattle.eos_items.specs.declared.head.DataHead.{DataHead}
+use Rattle.eos_part.specs.steps.Closes.{closes_under}
+use Rattle.eos_part.specs.steps.Fronts.{IsChecked}
+use Rattle.eos_part.proofs.PartsMade.{items_rise_so, heads_fit_so, part_made}
+use Rattle.eos_part.proofs.part.made.Goals as goal
+
+pub invariant_of-part : goal.invariant_of-part
+invariant_of-part c =
+    let known = c.requires.known in
+    let f = c.of_all-front.result in
+    let kept = c.of_all-front.new.kept in
+    let heads = c.into_heads-heads.result.items in
+    let m = c.of_all-front.ensures.whole known.0 known.1 known.2 in
+    (items_rise_so known.0 known.1 f kept m heads c.into_heads-heads.ensures, c.in_ok-closes.ensures.ascend, heads_fit_so known.0 known.1 f kept m heads c.into_heads-heads.ensures, c.of_all-front.ensures.claims)
+
+pub returns : goal.returns
+returns c = λ w segments read of.
+    let end = c.args.end in
+    let f = c.of_all-front.result in
+    let kept = c.of_all-front.new.kept in
+    let heads = c.into_heads-heads.result.items in
+    let m = c.of_all-front.ensures.whole w segments read in
+    let of_slice = subst (λ (t : List ℕ). AreOf t end.partition segments) (sym c.as_slice.ensures) of in
+    let checked = subst (λ (t : List ℕ). IsChecked t f) c.as_slice.ensures (c.of_all-front.ensures.sequenced w segments end.partition read of_slice) in
+    let closes = subst (λ (hs : List DataHead). AreCloses (closes_under hs) c.in_ok-closes.closes.items) c.as_slice-2.ensures.value c.in_ok-closes.ensures in
+    let cloned : c.in_ok-clone.field-0 ≡ end.topic = c.in_ok-clone.ensures.cases in
+    let least = c.least_fault-fault.ensures segments m.batches m.whole (subst (λ (t : List ℕ). IsChecked t f) (sym cloned) checked) in
+    part_made w segments f kept m heads c.into_heads-heads.ensures end c.in_ok-closes.closes.items f.markers.items c.least_fault-fault.result closes refl
+    (subst (λ (t : List ℕ). IsPartitionFault t end.partition end.end m.batches f.stop c.least_fault-fault.result) cloned least)

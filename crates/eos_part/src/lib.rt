@@ -1,0 +1,17 @@
+//! The log of a partition with what is wanted of its data records, made of what is kept of its segments. Their bytes are gone.
+//!
+//! In memory a data batch costs 40 bytes and more (its head), and a data record what is kept of it; nothing is held beside that
+//! to find a record, since records are read one after the other.
+#![tactic(auto)]
+
+mod apart;
+mod close;
+mod cursor;
+mod item;
+mod part;
+mod records;
+mod whole;
+
+pub use cursor::KeptCursor;
+pub use item::KeptItem;
+pub use part::Part;

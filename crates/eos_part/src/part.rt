@@ -1,0 +1,174 @@
+//! A partition's log as the rest of the checker sees it, however it was cut into segments, without their bytes.
+
+ghost use Rattle.std.specs.Prelude.{◌≡◌, List, IfOk};
+ghost use Rattle.eos_claims.specs.Headers.{claim_of};
+ghost use Rattle.eos_evidence.specs.declared.segment.Segment.{Segment};
+ghost use Rattle.eos_fold.specs.Parts.{Rises, Ascends};
+ghost use Rattle.eos_keeping.specs.Outputs.{kept_output};
+ghost use Rattle.eos_keeping.specs.Records.{wanted_record};
+ghost use Rattle.eos_part.specs.Parts.{AreKept, IsMade};
+ghost use Rattle.eos_part.specs.steps.Fronts.{AreRead, IsPartFrom};
+ghost use Rattle.eos_part.specs.Records.{ReadBack};
+ghost use Rattle.eos_wanted.specs.declared.wanted.Wanted.{Wanted};
+ghost use Rattle.eos_wanted.specs.declared.wanted.Wanted.TheVariants.{Presence, Claims, Texts};
+
+use crate::apart::apart;
+use crate::close::closes_of;
+use crate::cursor::KeptCursor;
+use crate::records::Records;
+use crate::whole::{least_fault, of_all};
+use bytes::Bytes;
+use eos_batch::Marker;
+use eos_evidence::End;
+use eos_fold::Close;
+use eos_items::DataHead;
+use eos_keeping::{KeptOutput, KeptText};
+use eos_kept::{Front, Kept};
+use eos_touch::PartitionFault;
+use std::alloc::{AllocError, Global};
+use std::marker::Model;
+
+/// What is wanted of a partition's log.
+#[derive(Drop)]
+pub struct Part {
+    end: End,
+    heads: Vec<DataHead>,
+    records: Records,
+    closes: Vec<Close>,
+    markers: Vec<Marker>,
+}
+
+impl Model for Part {
+    ghost use Rattle.std.specs.Prelude.{[], All};
+    ghost use Rattle.eos_fold.specs.Parts.{PartLog, Rises, Ascends};
+    ghost use Rattle.eos_part.specs.Items.{items_under, Fits};
+    ghost use Rattle.eos_part.specs.Records.{records_in, ReadBack};
+
+    ghost Value = { PartLog };
+
+    ghost view = { λ p. record { topic = p.end.topic; number = p.end.partition; end = p.end.end; segments = []; items = items_under p.heads.items 0 (records_in p.records); closes = p.closes.items; markers = p.markers.items } };
+
+    ghost invariant = { λ p. Rises (items_under p.heads.items 0 (records_in p.records)) × Ascends p.closes.items × All Fits p.heads.items × ReadBack p.records };
+}
+
+/// The log of a partition that is declared to end here, of a front and what is kept of its records, and the least fault.
+fn made(
+    alloc: Global,
+    end: End,
+    front: Option<Front>,
+    mut kept: Records,
+) -> Result<(Part, Option<PartitionFault>), AllocError>
+    requires known { (w : Wanted) × (segments : List Segment) × AreRead w segments front kept }
+    requires claims { ReadBack kept }
+    ensures { IfOk result (IsPartFrom end front kept) }
+{
+    let front = of_all(alloc, end.topic.as_slice(), front, &mut kept);
+    let fault = least_fault(&front, end.topic.clone()?, &end);
+    let Front { markers, run, .. } = front;
+    let heads = run.into_heads();
+    let closes = closes_of(alloc, heads.as_slice())?;
+    let part = Part {
+        end,
+        heads,
+        records: kept,
+        closes,
+        markers,
+    };
+    Ok((part, fault))
+}
+
+impl Part {
+    /// The log of a partition that is declared to end here, of whose records it is kept that they are there, and the least fault
+    /// of its bytes. What is kept counts as that of the whole list of its segments.
+    ///
+    /// # Errors
+    /// Only want of memory.
+    pub fn of_presence(
+        alloc: Global,
+        end: End,
+        run: Option<Kept<()>>,
+    ) -> Result<(Part, Option<PartitionFault>), AllocError>
+        requires { (segments : List Segment) × AreKept (λ offset r. tt) segments run }
+        ensures { IfOk result (IsMade Presence (λ offset r. tt) end run) }
+    {
+        let (front, kept) = apart(alloc, run);
+        made(alloc, end, front, Records::Presence(kept))
+    }
+
+    /// The same of an output, of whose records the claims are kept. The topics are those that were asked for.
+    ///
+    /// # Errors
+    /// Only want of memory.
+    pub fn of_outputs(
+        alloc: Global,
+        end: End,
+        topics: Vec<Bytes>,
+        run: Option<Kept<KeptOutput>>,
+    ) -> Result<(Part, Option<PartitionFault>), AllocError>
+        requires { (segments : List Segment) × AreKept (λ offset r. kept_output topics.items (claim_of r.headers)) segments run }
+        ensures { IfOk result (IsMade Claims (λ offset r. kept_output topics.items (claim_of r.headers)) end run) }
+    {
+        let (front, kept) = apart(alloc, run);
+        made(alloc, end, front, Records::Claims { topics, kept })
+    }
+
+    /// The same of one of Kafka's own logs, of whose records keys and values are kept.
+    ///
+    /// # Errors
+    /// Only want of memory.
+    pub fn of_texts(
+        alloc: Global,
+        end: End,
+        run: Option<Kept<KeptText>>,
+    ) -> Result<(Part, Option<PartitionFault>), AllocError>
+        requires { (segments : List Segment) × AreKept (λ offset r. wanted_record Texts r) segments run }
+        ensures { IfOk result (IsMade Texts (λ offset r. wanted_record Texts r) end run) }
+    {
+        let (front, kept) = apart(alloc, run);
+        made(alloc, end, front, Records::Texts(kept))
+    }
+
+    /// The topic's bytes.
+    pub fn topic(&self) -> &Bytes
+        ensures { result.now ≡ self.now.topic }
+    {
+        &self.end.topic
+    }
+
+    /// The partition's number in its topic.
+    pub fn partition(&self) -> i32
+        ensures { result ≡ self.now.number }
+    {
+        self.end.partition
+    }
+
+    /// The offset where the partition is declared to end.
+    pub fn end(&self) -> i64
+        ensures { result ≡ self.now.end }
+    {
+        self.end.end
+    }
+
+    /// Over the data records, by offset, each lent.
+    pub fn items(&self) -> KeptCursor<'_>
+        ensures items { result ≡ self.now.items }
+        ensures rise { Rises self.now.items }
+    {
+        KeptCursor::new(self.heads.as_slice(), &self.records)
+    }
+
+    /// Of each transactional data batch and its next end marker, each unequal four once, in ascending order.
+    pub fn closes(&self) -> &[Close]
+        ensures closes { result.now ≡ self.now.closes }
+        ensures ascend { Ascends self.now.closes }
+    {
+        self.closes.as_slice()
+    }
+
+    /// Every end marker, by offset.
+    pub fn markers(&self) -> &[Marker]
+        ensures { result.now ≡ self.now.markers }
+    {
+        self.markers.as_slice()
+    }
+}
