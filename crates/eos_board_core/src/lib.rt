@@ -1,4 +1,5 @@
-//! The board of runs that workers share under a lock, with its places and receipts, and the gate that each worker passes.
+//! The board of runs that workers share under a lock, with its places and receipts, runs that are tied to an evidence by their
+//! type, and the gate that each worker passes.
 //!
 //! Threads are no part of this crate: the types say what each step does, whoever makes it.
 #![tactic(auto)]

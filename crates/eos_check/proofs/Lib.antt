@@ -8,7 +8,7 @@ pub mod FirstFault
 pub mod GoodLaw
 pub mod VerdictsMade
 pub mod RunsMade
-pub mod SegmentsEqual
+pub mod PiecesTied
 pub mod PiecesFit
 pub mod PiecesDrawn
 pub mod SettledShards

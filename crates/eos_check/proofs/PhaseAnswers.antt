@@ -3,7 +3,6 @@ use Rattle.std.proofs.Common.{◌≡◌, ℕ, List, Some, None, Result, Ok, Err,
 use Rattle.std.specs.Prelude.{IfOk}
 use Rattle.std.specs.Result.{MatchResult}
 use Rattle.eos_base.specs.Least.{NoneStands, IsLeast}
-use Rattle.eos_evidence.specs.declared.application.App.{App}
 use Rattle.eos_evidence.specs.Evidence.{EvidenceParts, IsEvidence}
 use Rattle.eos_touch.specs.declared.fault.PartitionFault.{PartitionFault}
 use Rattle.eos_fold.specs.LeastFaults.{IsFirstFault}

@@ -72,10 +72,6 @@ longer_to first n ss run next both h k e l = (
 pub all_of : (first n : ℕ) (ss : List Segment) (run : Option NamedView) → IsRunTo first n ss run → length ss ≤ n → segments_in run ≡ ss
 all_of first n ss run h l = so_far first n ss run h ∙ take_all n ss l
 
-pub run_is : (piece : ℕ) (ss : List Segment) (run : NamedView) → (run.first ≡ piece) × (run.last + 1 ≡ piece + length run.segments) × (1 ≤ length run.segments)
-    → length run.segments ≤ length ss → run.segments ≡ take (length run.segments) ss → IsRunOf piece ss run
-run_is piece ss run h l e = record { first = h.0; last = h.1; some = h.2; few = l; same = e }
-
 pub alone : (piece : ℕ) (ss : List Segment) (s : Segment) (run : NamedView) → 0 < length ss → s ≡ get_or ss 0 s → run.first ≡ piece → run.last ≡ piece → run.segments ≡ s ∷ [] → IsRunOf piece ss run
 alone piece [] s run some e f l k = absurd (omega (arith, some))
 alone piece (t ∷ ss) s run some e f l k =

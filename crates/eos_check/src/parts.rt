@@ -1,56 +1,46 @@
 //! The logs of an evidence, each folded from its segments: out of the runs that workers made and, where none is there, by this
-//! thread's own work.
+//! thread's own work. Whose segments a run has is known by its type, so that only the numbers of its pieces are looked at.
 
-ghost use Rattle.std.specs.Prelude.{◌≡◌, ◌+◌, ◌<◌, ◌≤◌, ◌^◌, ◌++◌, [], ◌∷◌, length, IfOk, IfSome, IsTrue};
+ghost use Rattle.std.specs.Prelude.{◌≡◌, ◌+◌, ◌<◌, ◌≤◌, ◌^◌, ◌++◌, [], ◌∷◌, length, Some, IfOk, IfSome, IsTrue};
 ghost use Rattle.eos_lineage.specs.EvidenceLogs.{IsLogOf, AreLogsOf};
-ghost use Rattle.eos_check.specs.steps.Runs.{AreOwn, IsBehind, IsRunOf};
-ghost use Rattle.eos_evidence.specs.Evidence.{IsPartition};
+ghost use Rattle.eos_board_core.specs.Ties.{IsPiece};
+ghost use Rattle.eos_check.specs.steps.Runs.{AreAt, AreOwn, IsBehind, IsRunOf};
+ghost use Rattle.eos_evidence.specs.Evidence.{IsPartition, segments_of};
 ghost use Rattle.eos_fold.specs.Sums.{IsFit};
 ghost use Rattle.eos_fold.specs.Whole.{segments_in};
 
+use eos_board_core::{Pieces, Tied};
 use eos_evidence::{Evidence, Partition, Segment};
-use eos_fold::{Named, Part};
+use eos_fold::Part;
 use std::alloc::{AllocError, Global};
 
 /// The run of one piece, worked out here.
-fn own_run(alloc: Global, piece: u64, segment: &Segment) -> Result<Named, AllocError>
-    requires { IsFit segment.now }
+fn own_run<E: Pieces>(alloc: Global, piece: u64, segment: &Segment) -> Result<Tied<E>, AllocError>
+    requires fit { IsFit segment.now }
+    requires piece { IsPiece E.pieces piece segment.now }
     ensures first { IfOk result (λ n. n.first ≡ piece) }
     ensures last { IfOk result (λ n. n.last ≡ piece) }
     ensures segments { IfOk result (λ n. n.segments ≡ segment.now ∷ []) }
 {
-    match Named::of(alloc, piece, segment.copy()?) {
+    match Tied::of(alloc, piece, segment.copy()?) {
         Ok(run) => Ok(run),
         Err(_) => Err(AllocError),
     }
 }
 
-/// Whether the run has so many pieces, one or more, from this one on.
-fn spans(run: &Named, piece: u64, count: usize) -> bool
-    ensures { IsTrue result → (run.now.first ≡ piece) × (run.now.last + 1 ≡ piece + count) × (1 ≤ count) }
-{
-    let (first, last) = run.pieces();
-    first == piece
-        && last >= piece
-        && last - piece < count as u64
-        && count as u64 - (last - piece) == 1
-}
-
-/// Whether the run begins at this piece and holds the first of these segments, byte for byte.
-fn is_run_of(run: &Named, piece: u64, segments: &[Segment]) -> bool
+/// Whether the run begins at this piece and has no more pieces than these segments.
+fn is_run_of<E: Pieces>(run: &Tied<E>, piece: u64, segments: &[Segment]) -> bool
+    requires { AreAt E.pieces piece segments.now }
     ensures { IsTrue result → IsRunOf piece segments.now run.now }
 {
-    let own = run.segments();
-    if own.len() > segments.len() || !spans(run, piece, own.len()) {
-        return false;
-    }
-    let (front, _) = segments.split_at(own.len());
-    own == front
+    let (first, last) = run.pieces();
+    first == piece && last >= first && last - first < segments.len() as u64
 }
 
 /// The next of these runs, which stand last first, where it begins at this piece and holds the first of these segments. Runs that
-/// begin before and those with other segments are dropped.
-fn made_run(runs: &mut Vec<Named>, piece: u64, segments: &[Segment]) -> Option<Named>
+/// begin before and those with more segments are dropped.
+fn made_run<E: Pieces>(runs: &mut Vec<Tied<E>>, piece: u64, segments: &[Segment]) -> Option<Tied<E>>
+    requires { AreAt E.pieces piece segments.now }
     ensures { IfSome result (IsRunOf piece segments.now) }
 {
     while let Some(next) = runs.last() {
@@ -69,13 +59,14 @@ fn made_run(runs: &mut Vec<Named>, piece: u64, segments: &[Segment]) -> Option<N
 }
 
 /// The run that begins at this piece with the first of these segments: one of those, or else of this piece alone.
-#[tactic(auto, using(crate::proofs::RunsMade::alone))]
-fn next_run(
+#[tactic(auto, using(crate::proofs::RunsMade::alone, crate::proofs::PiecesTied::first_piece))]
+fn next_run<E: Pieces>(
     alloc: Global,
-    runs: &mut Vec<Named>,
+    runs: &mut Vec<Tied<E>>,
     piece: u64,
     segments: &[Segment],
-) -> Result<Named, AllocError>
+) -> Result<Tied<E>, AllocError>
+    requires at { AreAt E.pieces piece segments.now }
     requires some { 0 < length segments.now }
     requires own { AreOwn segments.now }
     ensures { IfOk result (IsRunOf piece segments.now) }
@@ -88,7 +79,11 @@ fn next_run(
 }
 
 /// The run with the next one behind it.
-fn longer(alloc: Global, run: Option<Named>, next: Named) -> Result<Named, AllocError>
+fn longer<E: Pieces>(
+    alloc: Global,
+    run: Option<Tied<E>>,
+    next: Tied<E>,
+) -> Result<Tied<E>, AllocError>
     requires { IsBehind run next }
     ensures segments { IfOk result (λ n. n.segments ≡ segments_in run ++ next.segments) }
     ensures last { IfOk result (λ n. n.last ≡ next.last) }
@@ -96,7 +91,7 @@ fn longer(alloc: Global, run: Option<Named>, next: Named) -> Result<Named, Alloc
     let Some(run) = run else {
         return Ok(next);
     };
-    match Named::merge(alloc, run, next) {
+    match Tied::merge(alloc, run, next) {
         Ok(run) => Ok(run),
         Err(_) => Err(AllocError),
     }
@@ -104,12 +99,13 @@ fn longer(alloc: Global, run: Option<Named>, next: Named) -> Result<Named, Alloc
 
 /// The run of all segments of a partition, whose pieces begin at the first, or none where there are no segments.
 #[tactic(auto, using(crate::proofs::RunsMade::own_rest, crate::proofs::RunsMade::all_of))]
-fn run_of(
+fn run_of<E: Pieces>(
     alloc: Global,
-    runs: &mut Vec<Named>,
+    runs: &mut Vec<Tied<E>>,
     first: u64,
     segments: &[Segment],
-) -> Result<Option<Named>, AllocError>
+) -> Result<Option<Tied<E>>, AllocError>
+    requires at { AreAt E.pieces first segments.now }
     requires own { AreOwn segments.now }
     requires few { first + length segments.now < 2 ^ 64 }
     ensures { IfOk result (λ run. segments_in run ≡ segments.now) }
@@ -119,35 +115,38 @@ fn run_of(
     while done < segments.len() {
         let (_, rest) = segments.split_at(done);
         let next = next_run(alloc, runs, first + done as u64, rest)?;
-        done += next.segments().len();
+        done += next.named().segments().len();
         run = Some(longer(alloc, run, next)?);
     }
     Ok(run)
 }
 
 /// The log of a partition whose pieces begin at the first.
-fn part_of(
+fn part_of<E: Pieces>(
     alloc: Global,
-    runs: &mut Vec<Named>,
+    runs: &mut Vec<Tied<E>>,
     first: u64,
     partition: &Partition,
 ) -> Result<Part, AllocError>
+    requires at { AreAt E.pieces first partition.now.segments }
     requires partition { IsPartition partition.now }
     requires few { first + length partition.now.segments < 2 ^ 64 }
     ensures { IfOk result (IsLogOf partition.now) }
 {
     let run = run_of(alloc, runs, first, partition.segments.as_slice())?;
     let end = &partition.end;
-    Part::new(alloc, end.topic.clone()?, end.partition, end.end, run)
+    let named = run.map(Tied::into_named);
+    Part::new(alloc, end.topic.clone()?, end.partition, end.end, named)
 }
 
-/// The logs of the evidence's partitions, in order, out of these runs, which stand by their pieces. What no run holds, or holds
-/// with other segments than the evidence's, is worked out here.
-pub(crate) fn parts_from(
+/// The logs of the evidence's partitions, in order, out of these runs, which stand by their pieces. What no run holds is worked
+/// out here.
+pub(crate) fn parts_from<E: Pieces>(
     alloc: Global,
     evidence: &Evidence,
-    mut runs: Vec<Named>,
+    mut runs: Vec<Tied<E>>,
 ) -> Result<Vec<Part>, AllocError>
+    requires { E.pieces ≡ Some (segments_of evidence.now.partitions) }
     ensures { IfOk result (λ parts. AreLogsOf evidence.now.partitions parts.items) }
 {
     runs.reverse();

@@ -1,5 +1,5 @@
 -- The runs of which a partition's log is folded. For the check's private steps.
-use Rattle.std.specs.Prelude.{◌≡◌, ◌+◌, ◌≤◌, ℕ, ℤ, List, take, length, All, Option, Some, None, ⊤}
+use Rattle.std.specs.Prelude.{◌≡◌, ◌+◌, ◌≤◌, ℕ, ℤ, List, ◌++◌, take, drop, length, All, Option, Some, None, ⊤}
 use Rattle.eos_evidence.specs.declared.segment.Segment.{Segment}
 use Rattle.eos_fold.specs.Standing.{AreOf}
 use Rattle.eos_fold.specs.Sums.{NamedView, Follows, IsFit}
@@ -10,6 +10,11 @@ pub record AreOwn (segments : List Segment) : Type 0 where
   pub number : ℤ
   pub named : AreOf topic number segments
   pub fit : All IsFit segments
+
+-- these segments are pieces to which runs are tied, from this number on
+abbrev pub AreAt : Option (List Segment) → ℕ → List Segment → Type 0
+AreAt None piece segments = ⊥
+AreAt (Some pieces) piece segments = (rest : List Segment) × (drop piece pieces ≡ segments ++ rest)
 
 -- the run begins at this piece, and holds the first of these segments, one or more
 pub record IsRunOf (piece : ℕ) (segments : List Segment) (run : NamedView) : Type 0 where

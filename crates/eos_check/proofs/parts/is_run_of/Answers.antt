@@ -1,21 +1,11 @@
-use Rattle.std.proofs.Common.{◌≡◌, ◌≤◌, List, length, take, ap, subst, ◌∙◌, arith, rules}
-use Rattle.std.specs.Prelude.{IsTrue}
-use Rattle.eos_evidence.specs.declared.segment.Segment.{Segment}
-use Rattle.eos_check.proofs.SegmentsEqual.{lists_decide}
+use Rattle.std.proofs.Common.{◌≡◌, ◌-◌, ◌<◌, ◌≤◌, length, arith, rules}
+use Rattle.eos_check.proofs.PiecesTied.{tied_run}
 use Rattle.eos_check.proofs.parts.is_run_of.Goals as goal
 
-pub returns : goal.returns
-returns c = λ t.
-    let own : c.segments-own.result.now ≡ c.args.run.now.segments = search rules in
-    let len : length c.segments-own.result.now ≡ length c.args.run.now.segments = ap length own in
-    let spanned : IsTrue c.spans.result = search rules in
-    let s = c.spans.ensures spanned in
-    let few : length c.segments-own.result.now ≤ length c.args.segments.now = search rules in
-    let same = (lists_decide c.segments-own.result.now c.split_at.result.0.now c.eq.result c.eq.ensures).0 t in
-    record {
-      first = s.0;
-      last = omega (arith, s.1, len);
-      some = omega (arith, s.2, len);
-      few = omega (arith, few, len);
-      same = subst (λ (xs : List Segment). xs ≡ take (length xs) c.args.segments.now) own (same ∙ c.split_at.ensures.front);
-    }
+pub returns-then-last-first : goal.returns-then-last-first
+returns-then-last-first g c = λ t.
+    let run = c.args.run.now in
+    let first : run.first ≡ c.args.piece = search (arith, rules) in
+    let order : run.first ≤ run.last = search (arith, rules) in
+    let few : run.last - run.first < length c.args.segments.now = search (arith, rules, t) in
+    tied_run g.E.Pieces.pieces c.args.piece c.args.segments.now run c.requires c.pieces-first.ensures.tied first order few
