@@ -1,9 +1,7 @@
 -- What an event moves: the pieces that its worker holds and those of the stock stay the same together, and runs stay true.
-use Rattle.std.proofs.Common.{◌≡◌, ◌+◌, ◌-◌, ◌<◌, ℕ, zero, suc, Bool, true, false, Some, List, [], ◌∷◌, ◌++◌, length, take, drop, refl, sym, ap, subst, ◌∙◌, inl, inr, arith}
+use Rattle.std.proofs.Common.{◌≡◌, ◌+◌, ◌<◌, ℕ, Bool, true, false, Some, List, [], ◌∷◌, ◌++◌, length, refl, sym, ap, subst, ◌∙◌, inl, inr, arith}
 use Rattle.std.specs.Prelude.{slice_get, nat_le, if◌then◌else◌}
 use Rattle.std.specs.List.{sum_by, flat_map}
-use Rattle.std.proofs.Math.Seq.{take-add}
-use Rattle.std.proofs.lemmas.List.{drop-drop}
 use Rattle.std.proofs.lemmas.List.Sums.{sum_by-cons, sum_by-append}
 use Rattle.eos_base.specs.Members.{Has}
 use Rattle.eos_evidence.specs.declared.segment.Segment.{Segment}
@@ -11,10 +9,11 @@ use Rattle.eos_fold.specs.Sums.{NamedView}
 use Rattle.eos_pool_core.specs.declared.worker.Holding.{Holding}
 use Rattle.eos_pool_core.specs.declared.worker.Holding.TheVariants.{Nothing, Piece, Run, Pair}
 use Rattle.eos_board_core.specs.Runs.{Joins, placed}
-use Rattle.eos_pool_core.specs.PoolState.{StockView, undrawn, run_pieces, held_pieces, stock_pieces, IsRunOf, HoldsRunsOf}
+use Rattle.eos_board_core.specs.Ties.{IsRunOf}
+use Rattle.eos_pool_core.specs.PoolState.{StockView, undrawn, run_pieces, held_pieces, stock_pieces, HoldsRunsOf}
 use Rattle.eos_pool_core.specs.PoolEvents.{run_of, merged}
-use Rattle.eos_board_core.proofs.RunsKept.{some_is, none_is_some}
 use Rattle.eos_board_core.proofs.RunsStanding.{has_placed}
+use Rattle.eos_board_core.proofs.TiedRuns.{one_own, both_own}
 use Rattle.eos_pool_core.proofs.PieceSums.{sum_flat, sum_placed, sum_next, one_piece, pieces_joined}
 
 abbrev pub AreRunsOf : StockView → Type 0
@@ -46,41 +45,6 @@ pub placed_here : (run : NamedView) (runs : List NamedView) → Has (placed run 
 placed_here run [] = inl refl
 placed_here run (r ∷ rs) = here_either (nat_le run.first r.first) run r rs (placed_here run rs)
 
--- ---- segments of a run
-
-drop_at : (xs : List Segment) (n : ℕ) (x : Segment) → slice_get xs n ≡ Some x → (rest : List Segment) × (drop n xs ≡ x ∷ rest)
-drop_at [] n x e = absurd (none_is_some x e)
-drop_at (y ∷ ys) zero x e = (ys, ap (λ z. z ∷ ys) (some_is y x e))
-drop_at (y ∷ ys) (suc n) x e = drop_at ys n x e
-
-pub get_within : {X : Type 0} (xs : List X) (n : ℕ) (x : X) → slice_get xs n ≡ Some x → n < length xs
-get_within [] n x e = absurd (none_is_some x e)
-get_within (y ∷ ys) zero x e = omega arith
-get_within (y ∷ ys) (suc n) x e = omega (arith, get_within ys n x e)
-
-one_own : (segments : List Segment) (n : ℕ) (x : Segment) → slice_get segments n ≡ Some x → IsRunOf segments (run_of n x)
-one_own segments n x e =
-    let d = drop_at segments n x e in
-    let len : n + 1 - n ≡ suc zero = omega arith in record {
-      known = (omega arith, get_within segments n x e);
-      own = sym (ap (λ k. take k (drop n segments)) len ∙ ap (take (suc zero)) d.1);
-    }
-
-both_own : (segments : List Segment) (a b : NamedView) → IsRunOf segments a → IsRunOf segments b → Joins a b → IsRunOf segments (merged a b)
-both_own segments a b ia ib j =
-    let la = ia.known.0 in
-    let lb = ib.known.0 in
-    let len : b.last + 1 - a.first ≡ (a.last + 1 - a.first) + (b.last + 1 - b.first) = omega (arith, la, lb, j.pieces) in
-    let at : a.first + (a.last + 1 - a.first) ≡ b.first = omega (arith, la, j.pieces) in
-    let next : drop b.first segments ≡ drop (a.last + 1 - a.first) (drop a.first segments) = ap (λ n. drop n segments) (sym at) ∙ sym (drop-drop (a.last + 1 - a.first) a.first segments) in
-    let second : b.segments ≡ take (b.last + 1 - b.first) (drop (a.last + 1 - a.first) (drop a.first segments)) = ib.own ∙ ap (take (b.last + 1 - b.first)) next in record {
-      known = (omega (arith, la, lb, j.pieces), ib.known.1);
-      own = ap (λ xs. xs ++ b.segments) ia.own
-          ∙ (ap (λ ys. take (a.last + 1 - a.first) (drop a.first segments) ++ ys) second
-          ∙ (sym (take-add (a.last + 1 - a.first) (b.last + 1 - b.first) (drop a.first segments))
-          ∙ ap (λ n. take n (drop a.first segments)) (sym len)));
-    }
-
 -- ---- each event
 
 pub stock_sum : (f : ℕ → ℕ) (s : StockView) → sum_by f (stock_pieces s) ≡ sum_by f (undrawn s) + (sum_by (λ r. sum_by f (run_pieces r)) s.runs + sum_by f s.given_up)
@@ -103,7 +67,7 @@ pub goes_work : (s : StockView) (n : ℕ) (x : Segment) → slice_get s.segments
 goes_work s n x e board = record {
   segments = refl;
   sums = λ f. ap (λ xs. sum_by f (stock_pieces s) + sum_by f xs) (one_piece n);
-  holds = one_own s.segments n x e;
+  holds = one_own s.segments n x (run_of n x) e refl refl refl;
   on_board = board;
 }
 
@@ -140,7 +104,7 @@ pub goes_merge : (s : StockView) (a b : NamedView) → HoldsRunsOf s.segments (P
 goes_merge s a b held board = record {
   segments = refl;
   sums = λ f. ap (λ xs. sum_by f (stock_pieces s) + sum_by f xs) (pieces_joined a b held.0.known.0 held.1.known.0 held.2.pieces);
-  holds = both_own s.segments a b held.0 held.1 held.2;
+  holds = both_own s.segments a b (merged a b) held.0 held.1 held.2.pieces refl refl refl;
   on_board = board;
 }
 

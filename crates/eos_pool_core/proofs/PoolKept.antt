@@ -18,7 +18,8 @@ use Rattle.eos_pool_core.specs.steps.PoolReady.{IsKept, IsReady, HasRoom}
 use Rattle.eos_board_core.proofs.RunsKept.{some_is, none_is_some}
 use Rattle.eos_board_core.proofs.RunsJoined.{joins_follows}
 use Rattle.eos_pool_core.proofs.PieceSums.{is, sum_flat, sum_has, sum_ones, counts_whole, once_at_most, once_in_run}
-use Rattle.eos_pool_core.proofs.PiecesMoved.{stock_sum, get_within}
+use Rattle.eos_board_core.proofs.TiedRuns.{get_within}
+use Rattle.eos_pool_core.proofs.PiecesMoved.{stock_sum}
 use Rattle.eos_pool_core.proofs.EventsMoved.{Moves}
 
 -- ---- lists

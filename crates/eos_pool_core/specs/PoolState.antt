@@ -1,6 +1,6 @@
 -- The pool's core as contracts see it: what no worker holds, what each worker holds, and how many events were taken. Where
 -- its pieces are, and whose segments its runs have.
-use Rattle.std.specs.Prelude.{◌≡◌, ◌+◌, ◌-◌, ◌<◌, ◌==◌, ℕ, List, [], ◌∷◌, ◌++◌, length, replicate, slice_range, ⊤, nat_lt, if◌then◌else◌}
+use Rattle.std.specs.Prelude.{◌≡◌, ◌+◌, ◌-◌, ◌<◌, ◌==◌, ℕ, List, [], ◌∷◌, ◌++◌, length, replicate, ⊤, nat_lt, if◌then◌else◌}
 use Rattle.std.specs.List.{count_by, flat_map, range_with_len}
 use Rattle.eos_base.specs.Members.{Has}
 use Rattle.eos_evidence.specs.declared.segment.Segment.{Segment}
@@ -8,7 +8,8 @@ use Rattle.eos_fold.specs.Sums.{NamedView}
 use Rattle.eos_pool_core.specs.declared.worker.Worker.{Worker}
 use Rattle.eos_pool_core.specs.declared.worker.Holding.{Holding}
 use Rattle.eos_pool_core.specs.declared.worker.Holding.TheVariants.{Nothing, Piece, Run, Pair}
-use Rattle.eos_board_core.specs.Runs.{AreKnown, Joins}
+use Rattle.eos_board_core.specs.Runs.{Joins}
+use Rattle.eos_board_core.specs.Ties.{IsRunOf}
 
 -- What no worker holds: the evidence's segments, a piece each, of which the first so many are drawn; the runs on the board;
 -- and the pieces given up.
@@ -64,12 +65,7 @@ AreInOnePlace p = (piece : ℕ) → count_by (λ x. x == piece) (all_pieces p) �
 
 -- ---- what the runs hold
 
--- the run has the segments of its pieces (and by its type their summary)
-pub record IsRunOf (segments : List Segment) (run : NamedView) : Type 0 where
-  pub known : AreKnown (length segments) run
-  pub own : run.segments ≡ slice_range segments run.first (run.last + 1)
-
--- so has each run that a worker holds, and of a pair the second follows the first
+-- each run that a worker holds has the segments of its pieces, and of a pair the second follows the first
 abbrev pub HoldsRunsOf : List Segment → Holding → Type 0
 HoldsRunsOf segments Nothing = ⊤
 HoldsRunsOf segments (Piece n) = n < length segments

@@ -8,8 +8,8 @@ ghost use Rattle.eos_pool_core.specs.PoolEvents.{IsStep, IsCourse};
 use crate::pool_event::{PoolEvent, PoolReply};
 use crate::stock::Stock;
 use crate::worker::{Holding, Worker};
+use eos_board_core::{Loose, Tied};
 use eos_evidence::Evidence;
-use eos_fold::Named;
 use std::alloc::{AllocError, Global};
 use std::marker::Model;
 
@@ -97,7 +97,7 @@ impl PoolCore {
     }
 
     /// All runs on the board, in the order of their pieces.
-    pub fn into_runs(self) -> Vec<Named>
+    pub fn into_runs(self) -> Vec<Tied<Loose>>
         ensures runs { result.items ≡ self.stock.runs }
         ensures sound { IsSound self }
     {

@@ -10,9 +10,8 @@ ghost use Rattle.eos_pool_core.specs.steps.PoolReady.{IsReady, HasRoom};
 
 use crate::pool_event::{PoolEvent, PoolReply};
 use crate::worker::{Holding, Worker};
-use eos_board_core::Places;
+use eos_board_core::{Loose, Places, Tied};
 use eos_evidence::{Evidence, Segment};
-use eos_fold::Named;
 use std::alloc::{AllocError, Global};
 use std::marker::Model;
 
@@ -22,7 +21,7 @@ pub(crate) struct Stock {
     pub(crate) alloc: Global,
     segments: Vec<Segment>,
     drawn: u64,
-    places: Places,
+    places: Places<Loose>,
     /// There is room in it for each piece.
     given_up: Vec<u64>,
 }
@@ -99,7 +98,7 @@ impl Stock {
         let Ok(segment) = self.segments[piece as usize].copy() else {
             return PoolReply::OutOfMemory;
         };
-        let Ok(run) = Named::of(self.alloc, piece, segment) else {
+        let Ok(run) = Tied::of(self.alloc, piece, segment) else {
             return PoolReply::OutOfMemory;
         };
         worker.hold(Holding::Run(run));
@@ -142,7 +141,7 @@ impl Stock {
         ensures { Merges worker.old self.old result worker.new self.new }
     {
         match worker.release() {
-            Holding::Pair(before, after) => match Named::merge(self.alloc, before, after) {
+            Holding::Pair(before, after) => match Tied::merge(self.alloc, before, after) {
                 Ok(run) => {
                     worker.hold(Holding::Run(run));
                     PoolReply::Did
@@ -194,7 +193,7 @@ impl Stock {
     }
 
     /// All runs on the board, in the order of their pieces.
-    pub(crate) fn into_runs(self) -> Vec<Named>
+    pub(crate) fn into_runs(self) -> Vec<Tied<Loose>>
         ensures { result.items ≡ self.runs }
     {
         let Stock { places, .. } = self;
@@ -216,7 +215,7 @@ fn copies(alloc: Global, evidence: &Evidence) -> Result<Vec<Segment>, AllocError
 }
 
 /// Lists the run's pieces.
-fn list_pieces(pieces: &mut Vec<u64>, run: &Named)
+fn list_pieces(pieces: &mut Vec<u64>, run: &Tied<Loose>)
     requires order { run.now.first ≤ run.now.last }
     requires top { run.now.last < 2 ^ 32 }
     requires room { vec_len pieces.old + (run.now.last + 1 - run.now.first) ≤ vec_capacity pieces.old }

@@ -3,7 +3,7 @@
 ghost use Rattle.std.specs.Prelude.{◌≡◌};
 ghost use Rattle.eos_pool_core.specs.declared.worker.Holding.TheVariants.{Nothing};
 
-use eos_fold::Named;
+use eos_board_core::{Loose, Tied};
 use std::mem;
 
 /// What a worker holds.
@@ -11,9 +11,9 @@ use std::mem;
 pub(crate) enum Holding {
     Nothing,
     Piece(u64),
-    Run(Named),
+    Run(Tied<Loose>),
     /// Two runs of which the second follows the first.
-    Pair(Named, Named),
+    Pair(Tied<Loose>, Tied<Loose>),
 }
 
 /// A worker: what it holds, and how many posts it has made.

@@ -7,7 +7,8 @@ use Rattle.eos_pool_core.specs.declared.worker.Worker.{Worker}
 use Rattle.eos_pool_core.specs.declared.worker.Holding.{Holding}
 use Rattle.eos_pool_core.specs.declared.worker.Holding.TheVariants.{Nothing, Piece, Run, Pair}
 use Rattle.eos_board_core.specs.Runs.{AreKnown, IsTaken, Overlap}
-use Rattle.eos_pool_core.specs.PoolState.{StockView, PoolView, held_pieces, all_pieces, HoldsRunsOf, IsRunOf}
+use Rattle.eos_board_core.specs.Ties.{IsRunOf}
+use Rattle.eos_pool_core.specs.PoolState.{StockView, PoolView, held_pieces, all_pieces, HoldsRunsOf}
 
 -- the run may be placed on the board
 pub record MayPlace (s : StockView) (run : NamedView) : Type 0 where
