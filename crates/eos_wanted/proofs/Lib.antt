@@ -1,3 +1,4 @@
 pub mod SameThrough
 pub mod ClaimHeaders
 pub mod WantedItems
+pub mod TopicSearch

@@ -4,5 +4,7 @@
 
 pub mod laws;
 mod wanted;
+mod wants;
 
 pub use wanted::Wanted;
+pub use wants::Wants;
