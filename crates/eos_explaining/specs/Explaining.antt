@@ -1,5 +1,5 @@
 -- What `explain` answers for an evidence: the line of a yes and the notes, the story of one of all faults, or how many there are.
-use Rattle.std.specs.Prelude.{◌≡◌, ◌<◌, ◌⊎◌, ◌++◌, ℕ, suc, List, map, length, Option, Some, None, slice_get, codes, string_bytes, false}
+use Rattle.std.specs.Prelude.{◌≡◌, ◌<◌, ◌⊎◌, ◌++◌, ⊤, ℕ, suc, List, All, map, length, Option, Some, None, slice_get, codes, string_bytes, false}
 use Rattle.std.specs.Fmt.{decimal}
 use Rattle.std.specs.Option.{option_copied}
 use Rattle.eos_catalogue.specs.Catalogue.{IsPageOf}
@@ -17,8 +17,9 @@ use Rattle.eos_notes.specs.Lines.{IsNotesText}
 use Rattle.eos_notes.specs.Notes.{AreNotes}
 use Rattle.eos_report.specs.VerdictTexts.{verdict_line}
 use Rattle.eos_story.specs.PlaceOfFault.{place_in}
+use Rattle.eos_story.specs.declared.row.Row.{Row}
 use Rattle.eos_story.specs.Rows.{IsTrue}
-use Rattle.std.specs.Prelude.{All}
+use Rattle.eos_story.specs.Wholeness.{IsWhole}
 use Rattle.eos_story_text.specs.declared.story.Story.{Story}
 use Rattle.eos_story_text.specs.Stories.{story_text}
 use Rattle.eos_explaining.specs.declared.answer.Answer.{Answer}
@@ -33,12 +34,19 @@ abbrev pub HasItsPage : Verdict → Option Page → Type 0
 HasItsPage (Yes counts) page = page ≡ None
 HasItsPage (No fault) page = IsPageOf (code_of fault) page
 
--- the text is the story of the fault that this verdict names: of true rows, with its page and the notes of the evidence
+-- the rows answer all that a fault of its kind is asked
+abbrev pub AreWhole : EvidenceParts → List PartLog → Verdict → List Row → Type 0
+AreWhole e logs (Yes counts) rows = ⊤
+AreWhole e logs (No fault) rows = IsWhole e logs fault rows
+
+-- the text is the story of the fault that this verdict names: of true rows that answer all questions, with its page and the notes
+-- of the evidence
 pub record IsStoryOf (e : EvidenceParts) (logs : List PartLog) (told : List Verdict) (verdict : Verdict) (text : List ℕ) : Type 0 where
   pub story : Story
   pub of_verdict : story.verdict.now ≡ verdict
   pub at : option_copied story.place ≡ place_in verdict
   pub rows : All (IsTrue e.partitions logs) story.rows.now
+  pub whole : AreWhole e logs verdict story.rows.now
   pub page : HasItsPage verdict (option_copied story.page)
   pub list : story.told.now ≡ told
   pub notes : AreNotes e story.notes.now

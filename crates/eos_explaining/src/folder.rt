@@ -38,17 +38,19 @@ fn tell(
         number: words.fault,
     };
     match explain(rt.alloc(), threads, evidence, asked, progress) {
-        Ok(Answer::Yes { line, notes }) => {
-            let status = write_answer(rt, line.as_str(), 0);
-            if status == 0 {
-                say_notes(rt, Subject::Only, notes.as_str());
-            }
-            status
-        }
+        Ok(Answer::Yes { line, notes }) => write_yes(rt, line.as_str(), notes.as_str()),
         Ok(Answer::Story(text)) => write_answer(rt, text.as_str(), 1),
         Ok(Answer::Fewer(count)) => say_fewer(rt, count),
         Err(_) => end(rt, Ending::OutOfMemory),
     }
+}
+
+fn write_yes(rt: &HostRuntime, line: &str, notes: &str) -> u8 {
+    let status = write_answer(rt, line, 0);
+    if status == 0 {
+        say_notes(rt, Subject::Only, notes);
+    }
+    status
 }
 
 fn write_answer(rt: &HostRuntime, text: &str, status: u8) -> u8 {
@@ -62,11 +64,8 @@ fn write_answer(rt: &HostRuntime, text: &str, status: u8) -> u8 {
     )
 }
 
+// There are fewer faults than the number that was named.
 fn say_fewer(rt: &HostRuntime, count: u64) -> u8 {
-    if count == 1 {
-        let _ = eprint!(rt; "eoscheck: there is 1 fault\n");
-    } else {
-        let _ = eprint!(rt; "eoscheck: there are {count} faults\n");
-    }
+    let _ = eprint!(rt; "eoscheck: there are {count} faults\n");
     2
 }

@@ -10,4 +10,4 @@ mod sought;
 pub use commits::group_of;
 pub use finding::{Find, Finds, find_records};
 pub use reading::{id_of, state_of};
-pub use sought::Sought;
+pub use sought::{Epochs, Sought};

@@ -6,7 +6,7 @@ ghost use Rattle.eos_claims.specs.Slots.{plain_claim};
 ghost use Rattle.eos_claims.specs.Headers.{claim_of};
 ghost use Rattle.eos_commits.specs.Visible.{is_visible as is_visible_fate};
 ghost use Rattle.eos_sought.specs.States.{id_in, state_in};
-ghost use Rattle.eos_sought.specs.Sought.{is_at, is_state, is_id, is_by, is_marked, decides, claims, meets as is_met};
+ghost use Rattle.eos_sought.specs.Sought.{is_at, is_before, is_state, is_id, is_by, is_one_of, is_within, is_marked, decides, claims, meets as is_met};
 ghost use Rattle.eos_sought.specs.Passing.{is_of_group, passes, is_passed};
 
 use crate::commits::{is_of_group, is_passed, passes};
@@ -17,6 +17,14 @@ use eos_commits::is_visible;
 use eos_fold::{ItemRef, Part};
 use eos_txnlog::TxnValue;
 use std::alloc::{AllocError, Global};
+
+/// The epochs of a producer id from one to another, both of them included.
+#[derive(Clone, Copy, Debug)]
+pub struct Epochs {
+    pub producer: i64,
+    pub from: i16,
+    pub to: i16,
+}
 
 /// Which data records of the logs are sought.
 #[derive(Clone, Debug, Drop)]
@@ -29,8 +37,12 @@ pub enum Sought {
     Hidden(Place),
     /// The states of this transactional id.
     OfId(Bytes),
+    /// The states of this transactional id that stand before this place in its partition.
+    Before { id: Bytes, place: Place },
     /// The states of this producer id.
     OfProducer(i64),
+    /// The states of this producer id and these epochs.
+    Within(Epochs),
     /// The decisions whose markers have this producer id and epoch.
     Deciding { producer: i64, epoch: i16 },
     /// The commits of this group.
@@ -45,6 +57,12 @@ fn is_at(place: &Place, part: &Part, item: &ItemRef<'_>) -> bool
     ensures { result ≡ is_at place.now part.now item.now }
 {
     is_named(part, &place.partition) && item.offset() == place.offset
+}
+
+fn is_before(place: &Place, part: &Part, item: &ItemRef<'_>) -> bool
+    ensures { result ≡ is_before place.now part.now item.now }
+{
+    is_named(part, &place.partition) && item.offset() < place.offset
 }
 
 fn claims(place: &Place, claim: Option<ClaimRef<'_>>) -> bool
@@ -87,6 +105,22 @@ fn is_by(producer: i64, state: Option<TxnValue>) -> bool
     match state {
         None => false,
         Some(state) => state.producer == producer,
+    }
+}
+
+fn is_one_of(epochs: &Epochs, state: &TxnValue) -> bool
+    ensures { result ≡ is_one_of epochs.now state.now }
+{
+    let epoch = state.epoch;
+    state.producer == epochs.producer && epochs.from <= epoch && epoch <= epochs.to
+}
+
+fn is_within(epochs: &Epochs, state: Option<TxnValue>) -> bool
+    ensures { result ≡ is_within epochs.now state }
+{
+    match state {
+        None => false,
+        Some(state) => is_one_of(epochs, &state),
     }
 }
 
@@ -145,6 +179,36 @@ fn is_of_producer(
     Ok(is_by(producer, state))
 }
 
+fn is_of_id_before(
+    alloc: Global,
+    id: &[u8],
+    place: &Place,
+    part: &Part,
+    item: &ItemRef<'_>,
+) -> Result<bool, AllocError>
+    ensures { IfOk result (λ met. met ≡ (is_before place.now part.now item.now && (is_state part.now && is_id id.now (id_in item.now.key)))) }
+{
+    if !is_before(place, part, item) {
+        return Ok(false);
+    }
+    is_of_id(alloc, id, part, item)
+}
+
+fn is_of_epochs(
+    alloc: Global,
+    epochs: &Epochs,
+    part: &Part,
+    item: &ItemRef<'_>,
+) -> Result<bool, AllocError>
+    ensures { IfOk result (λ met. met ≡ (is_state part.now && is_within epochs.now (state_in item.now.value))) }
+{
+    if !is_state(part) {
+        return Ok(false);
+    }
+    let state = state_of(alloc, item.value())?;
+    Ok(is_within(epochs, state))
+}
+
 fn is_decision(
     alloc: Global,
     producer: i64,
@@ -178,7 +242,9 @@ pub(crate) fn meets(
         Sought::Claiming(place) => Ok(is_claiming(place, item)),
         Sought::Hidden(place) => Ok(is_hidden(place, item)),
         Sought::OfId(id) => is_of_id(alloc, id.as_slice(), part, &item),
+        Sought::Before { id, place } => is_of_id_before(alloc, id.as_slice(), place, part, &item),
         Sought::OfProducer(producer) => is_of_producer(alloc, *producer, part, &item),
+        Sought::Within(epochs) => is_of_epochs(alloc, epochs, part, &item),
         Sought::Deciding { producer, epoch } => {
             is_decision(alloc, *producer, *epoch, part, &item)
         }

@@ -15,10 +15,12 @@ use Rattle.eos_places.specs.declared.partition.Placed.{Placed}
 use Rattle.eos_places.specs.declared.wanted.Wanted.{Wanted}
 use Rattle.eos_places.specs.declared.wanted.Wanted.TheVariants.{Between, Of, Marking, Data}
 use Rattle.eos_sought.specs.declared.finding.Find.{Find}
+use Rattle.eos_sought.specs.declared.sought.Epochs.{Epochs}
 use Rattle.eos_sought.specs.declared.sought.Sought.{Sought}
-use Rattle.eos_sought.specs.declared.sought.Sought.TheVariants.{At, Claiming, Hidden, OfId, OfProducer, Deciding, OfGroup, Passing, Passed}
+use Rattle.eos_sought.specs.declared.sought.Sought.TheVariants.{At, Claiming, Hidden, OfId, Before, OfProducer, Within, Deciding, OfGroup, Passing, Passed}
 use Rattle.eos_sought.specs.Finds.{all_of}
 use Rattle.eos_sought.specs.Passing.{group_in}
+use Rattle.eos_sought.specs.States.{state_in}
 use Rattle.eos_story.specs.Listings.{listed_by, epoch_after, epoch_before}
 use Rattle.eos_table.specs.declared.log_fault.LogFault.{LogFault}
 use Rattle.eos_table.specs.declared.log_fault.LogFaultKind.{LogFaultKind}
@@ -26,6 +28,8 @@ use Rattle.eos_table.specs.declared.log_fault.LogFaultKind.TheVariants.{BadRecor
 use Rattle.eos_table.specs.declared.match_fault.MatchFault.{MatchFault}
 use Rattle.eos_table.specs.declared.match_fault.MatchFaultKind.{MatchFaultKind}
 use Rattle.eos_table.specs.declared.match_fault.MatchFaultKind.TheVariants.{TwiceDecided, Undecided, WrongKind, NotListed, StrayMarker, AbsentPartition, MissingMarker}
+use Rattle.eos_txnlog.specs.declared.value.TxnValue.{TxnValue}
+use Rattle.eos_txnlog.specs.Status.{is_prepare}
 
 pub data Question : Type 0 where
   -- which data records are sought so? the first, so many at most
@@ -49,6 +53,23 @@ pub data Question : Type 0 where
 
 abbrev pub is_none_of : Sought → List PartLog → Bool
 is_none_of sought logs = length (all_of sought logs) == 0
+
+-- ---- of states
+
+-- the states of a producer id with an epoch, and with the next, which the end markers behind data of that epoch have
+abbrev pub epochs_from : ℤ → ℤ → Epochs
+epochs_from producer epoch = record { producer = producer; from = epoch; to = epoch_after epoch }
+
+abbrev pub states_from : ℤ → ℤ → List Question
+states_from producer epoch = Records (Within (epochs_from producer epoch)) 6 ∷ []
+
+-- what a record says, where it is a state
+abbrev pub state_said : Option Find → Option TxnValue
+state_said None = None
+state_said (Some find) = state_in find.item.value
+
+abbrev pub last_of : Sought → List PartLog → Option Find
+last_of sought logs = slice_get (all_of sought logs) (length (all_of sought logs) - 1)
 
 -- ---- of a transaction
 
@@ -88,14 +109,19 @@ abbrev pub between : PartitionName → ℕ → Option Placed → List Question
 between name offset None = []
 between name offset (Some batch) = Batches name (Between (min (batch.standing.head.offset + 1) (2 ^ 64 - 1)) offset) 2 ∷ []
 
+-- the states of a producer id around the epoch of a batch
+abbrev pub states_near : ℤ → Option Placed → List Question
+states_near producer None = []
+states_near producer (Some batch) = states_from producer batch.standing.head.epoch
+
 -- of the touches of a producer id, this one being the last before the fault's offset
 abbrev pub of_pair : List PartLog → PartitionName → ℤ → ℕ → Option Placed → List Question
 of_pair logs name producer offset before =
-    Around name (Of producer) offset ∷ (ending logs producer before ++ (between name offset before ++ (Records (OfProducer producer) 4 ∷ [])))
+    Around name (Of producer) offset ∷ (ending logs producer before ++ (between name offset before ++ states_near producer before))
 
 -- where nothing was decided, the partitions that the last state of the producer id lists
 abbrev pub listed_open : List PartLog → ℤ → Option Find → List PartitionName
-listed_open logs producer None = listed_by (slice_get (all_of (OfProducer producer) logs) (length (all_of (OfProducer producer) logs) - 1))
+listed_open logs producer None = listed_by (last_of (OfProducer producer) logs)
 listed_open logs producer (Some find) = listed_by (Some find)
 
 -- which record that is
@@ -114,18 +140,37 @@ of_open logs producer (Some batch) = markers_of logs producer (epoch_after batch
 
 -- ---- phase 2
 
-abbrev pub states_of : LogFaultKind → List Question
-states_of (BadRecord fault) = []
-states_of (Step id why) = Records (OfId id) 8 ∷ []
-states_of (SplitId id) = Records (OfId id) 8 ∷ []
-states_of (SharedProducer id) = Records (OfId id) 8 ∷ []
-states_of (Unfinished id) = Records (OfId id) 8 ∷ []
+-- the epoch of the end markers of the transaction that a state is of
+abbrev pub markers_epoch : TxnValue → ℤ
+markers_epoch state = if is_prepare state.status then state.epoch else epoch_after state.epoch
+
+-- of the transaction that a state is of: its decision, and which of its partitions have their markers
+abbrev pub of_state : List PartLog → Option TxnValue → List Question
+of_state logs None = []
+of_state logs (Some state) = markers_of logs state.producer (markers_epoch state)
+
+-- the states of the producer id that a state is of
+abbrev pub by_producer : Option TxnValue → List Question
+by_producer None = []
+by_producer (Some state) = Records (OfProducer state.producer) 4 ∷ []
+
+-- of the record of this place
+abbrev pub by_holder : List PartLog → Place → List Question
+by_holder logs place = by_producer (state_said (slice_get (all_of (At place) logs) 0))
+
+-- of the transactional id that is named: the states before the fault's place, beside those that the kind is about
+abbrev pub states_of : List PartLog → Place → LogFaultKind → List Question
+states_of logs place (BadRecord fault) = []
+states_of logs place (Step id why) = Latest (Before id place) 4 ∷ []
+states_of logs place (SplitId id) = Latest (Before id place) 2 ∷ (Records (OfId id) 2 ∷ [])
+states_of logs place (SharedProducer id) = Latest (Before id place) 2 ∷ by_holder logs place
+states_of logs place (Unfinished id) = Latest (OfId id) 4 ∷ of_state logs (state_said (last_of (OfId id) logs))
 
 abbrev pub in_log : LogFault → Place
 in_log f = record { partition = record { topic = codes "__transaction_state"; partition = f.partition }; offset = f.offset }
 
-abbrev pub of_log : LogFault → List Question
-of_log f = Records (At (in_log f)) 1 ∷ states_of f.kind
+abbrev pub of_log : List PartLog → LogFault → List Question
+of_log logs f = Records (At (in_log f)) 1 ∷ states_of logs (in_log f) f.kind
 
 -- ---- phase 3
 
@@ -139,12 +184,27 @@ marker_epoch NotListed epoch = epoch_after epoch
 marker_epoch AbsentPartition epoch = epoch_after epoch
 marker_epoch MissingMarker epoch = epoch_after epoch
 
-abbrev pub there : ℤ → Option PartitionName → List Question
-there producer None = []
-there producer (Some name) = Batches name (Of producer) 4 ∷ []
+-- in a partition that is named: the first data of the transaction, and its end marker
+abbrev pub there : ℤ → ℤ → Option PartitionName → List Question
+there producer epoch None = []
+there producer epoch (Some name) = FirstBatch name (Data producer (epoch_before epoch)) ∷ (FirstBatch name (Marking producer epoch) ∷ [])
+
+-- the states around the fault's epoch; of data that nobody decided the last ones, whatever their epoch
+abbrev pub states_about : MatchFaultKind → ℤ → ℤ → List Question
+states_about Undecided producer epoch = Latest (OfProducer producer) 4 ∷ []
+states_about TwiceDecided producer epoch = states_from producer epoch
+states_about WrongKind producer epoch = states_from producer epoch
+states_about NotListed producer epoch = states_from producer epoch
+states_about StrayMarker producer epoch = states_from producer epoch
+states_about AbsentPartition producer epoch = states_from producer epoch
+states_about MissingMarker producer epoch = states_from producer epoch
+
+-- of the transaction whose end markers have this epoch
+unfoldable pub of_ended : List PartLog → MatchFault → ℤ → List Question
+of_ended logs f epoch = listing logs f.producer epoch ++ (there f.producer epoch f.partition ++ states_about f.kind f.producer f.epoch)
 
 abbrev pub of_match : List PartLog → MatchFault → List Question
-of_match logs f = listing logs f.producer (marker_epoch f.kind f.epoch) ++ (there f.producer f.partition ++ (Records (OfProducer f.producer) 4 ∷ []))
+of_match logs f = of_ended logs f (marker_epoch f.kind f.epoch)
 
 -- ---- phase 4
 

@@ -5,13 +5,13 @@ use Rattle.eos_base.specs.Members.{Has}
 use Rattle.eos_check.specs.declared.verdict.Fault.{Fault}
 use Rattle.eos_check.specs.declared.verdict.Fault.TheVariants as faults
 use Rattle.eos_evidence.specs.declared.partition.Partition.{Partition}
+use Rattle.eos_evidence.specs.Evidence.{EvidenceParts}
 use Rattle.eos_fold.specs.Parts.{PartLog}
 use Rattle.eos_places.specs.declared.partition.Placed.{Placed}
 use Rattle.eos_places.specs.declared.wanted.Wanted.TheVariants.{Of, Ending, Open}
 use Rattle.eos_places.specs.Partitions.{AreBatchesOf}
 use Rattle.eos_story.specs.declared.row.Row.{Row}
 use Rattle.eos_story.specs.declared.row.Row.TheVariants as rows
-use Rattle.eos_story.specs.declared.scene.Scene.{Scene}
 use Rattle.eos_story.specs.Answers.{count_below, AnswersEach}
 use Rattle.eos_story.specs.Questions.{Question, Ends, of_pair, of_open, of_log, of_match, of_lineage}
 use Rattle.eos_touch.specs.declared.fault.PartitionFaultKind.{PartitionFaultKind}
@@ -46,10 +46,8 @@ IsPartitionTold ps logs name offset told (End end) = AnswersEach ps logs told (E
 IsPartitionTold ps logs name offset told (Pair fault producer) = IsPairTold ps logs name producer offset told
 IsPartitionTold ps logs name offset told (OpenAtEnd producer) = IsOpenTold ps logs name producer told
 
-abbrev pub IsWhole : Scene → Fault → List Row → Type 0
-IsWhole scene (faults.Partition f) told =
-    IsPartitionTold scene.evidence.now.partitions scene.logs.now (record { topic = f.topic; partition = f.partition }) f.offset told f.kind
-IsWhole scene (faults.Log f) told = AnswersEach scene.evidence.now.partitions scene.logs.now told (of_log f)
-IsWhole scene (faults.Match f) told = AnswersEach scene.evidence.now.partitions scene.logs.now told (of_match scene.logs.now f)
-IsWhole scene (faults.Lineage f) told =
-    AnswersEach scene.evidence.now.partitions scene.logs.now told (of_lineage scene.evidence.now.spec.apps scene.logs.now f)
+abbrev pub IsWhole : EvidenceParts → List PartLog → Fault → List Row → Type 0
+IsWhole e logs (faults.Partition f) told = IsPartitionTold e.partitions logs (record { topic = f.topic; partition = f.partition }) f.offset told f.kind
+IsWhole e logs (faults.Log f) told = AnswersEach e.partitions logs told (of_log logs f)
+IsWhole e logs (faults.Match f) told = AnswersEach e.partitions logs told (of_match logs f)
+IsWhole e logs (faults.Lineage f) told = AnswersEach e.partitions logs told (of_lineage e.spec.apps logs f)

@@ -7,7 +7,7 @@ ghost use Rattle.eos_places.specs.declared.wanted.Wanted.TheVariants.{Of};
 ghost use Rattle.eos_places.specs.Partitions.{AreBatchesOf};
 ghost use Rattle.eos_story.specs.Answers.{StandInOrder, IsBatchRow, count_below};
 ghost use Rattle.eos_story.specs.declared.row.Row.TheVariants.{Batch as BatchRow, First as FirstRow};
-ghost use Rattle.eos_story.specs.Questions.{Around, Batches};
+ghost use Rattle.eos_story.specs.Questions.{Around, Batches, FirstBatch};
 ghost use Rattle.eos_story.specs.steps.Batches.{AreFound, AreMoreTold};
 ghost use Rattle.eos_story.specs.steps.Telling.{Tells, TellsEach, IsNext};
 
@@ -55,6 +55,19 @@ pub(crate) fn push_first(
         },
     )?;
     Ok(placed)
+}
+
+/// Adds the first batch of a partition that is wanted.
+pub(crate) fn push_one(
+    scene: &Scene<'_>,
+    rows: &mut Vec<Row>,
+    name: &PartitionName,
+    wanted: Wanted,
+) -> Result<(), AllocError>
+    ensures { OnOk result (TellsEach scene.now rows.old.items rows.new.items (FirstBatch name.now wanted ∷ [])) }
+{
+    push_first(scene, rows, name, wanted)?;
+    Ok(())
 }
 
 fn push_batch(

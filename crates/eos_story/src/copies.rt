@@ -63,7 +63,12 @@ pub(crate) fn copy_sought(sought: &Sought) -> Result<Sought, AllocError>
         Sought::Claiming(place) => Ok(Sought::Claiming(copy_place(place)?)),
         Sought::Hidden(place) => Ok(Sought::Hidden(copy_place(place)?)),
         Sought::OfId(id) => Ok(Sought::OfId(id.clone()?)),
+        Sought::Before { id, place } => Ok(Sought::Before {
+            id: id.clone()?,
+            place: copy_place(place)?,
+        }),
         Sought::OfProducer(producer) => Ok(Sought::OfProducer(*producer)),
+        Sought::Within(epochs) => Ok(Sought::Within(*epochs)),
         Sought::Deciding { producer, epoch } => Ok(Sought::Deciding {
             producer: *producer,
             epoch: *epoch,

@@ -5,7 +5,7 @@ ghost use Rattle.std.specs.Option.{option_map};
 ghost use Rattle.eos_sought.specs.Finds.{all_of};
 ghost use Rattle.eos_story.specs.Listings.{names_of, names_in, listed_by, epoch_after, epoch_before};
 ghost use Rattle.eos_base.specs.declared.partition_name.PartitionName.{PartitionName as Name};
-ghost use Rattle.eos_story.specs.Questions.{FirstBatch, rest_listed, in_each, listing, listed_open, lister, markers_of, decision};
+ghost use Rattle.eos_story.specs.Questions.{FirstBatch, rest_listed, in_each, listing, last_of, listed_open, lister, markers_of, decision};
 ghost use Rattle.eos_story.specs.Rows.{AreListed};
 ghost use Rattle.eos_story.specs.steps.Telling.{TellsEach};
 ghost use Rattle.std.specs.Prelude.{Some};
@@ -33,7 +33,8 @@ pub(crate) fn epoch_after(epoch: i16) -> i16
     if epoch < 32767 { epoch + 1 } else { epoch }
 }
 
-fn epoch_before(epoch: i16) -> i16
+/// The epoch of data before end markers of this epoch; the least has none before it.
+pub(crate) fn epoch_before(epoch: i16) -> i16
     ensures { result ≡ epoch_before epoch }
 {
     if epoch > -32768 { epoch - 1 } else { epoch }
@@ -182,16 +183,24 @@ pub(crate) fn push_listing(
     Ok(())
 }
 
+// The partitions that the last of the records that are sought lists.
+fn listed_last(scene: &Scene<'_>, sought: &Sought) -> Result<Vec<PartitionName>, AllocError>
+    ensures { IfOk result (λ names. names.items ≡ listed_by (last_of sought.now scene.now.logs.now)) }
+{
+    let count = find_records(scene.alloc, scene.logs, sought, 0)?.count;
+    let finds = find_records(scene.alloc, scene.logs, sought, count)?;
+    let states = finds.first.as_slice();
+    let before = states.len().saturating_sub(1);
+    listed(scene.alloc, from_on(states, before))
+}
+
 // The partitions that the last state of a producer id lists.
 fn last_listed(scene: &Scene<'_>, producer: i64) -> Result<Vec<PartitionName>, AllocError>
     ensures { IfOk result (λ names. names.items ≡ listed_open scene.now.logs.now producer Rattle.std.specs.Prelude.None) }
 {
-    let sought = Sought::OfProducer(producer);
-    let count = find_records(scene.alloc, scene.logs, &sought, 0)?.count;
-    let finds = find_records(scene.alloc, scene.logs, &sought, count)?;
-    let states = finds.first.as_slice();
-    let before = states.len().saturating_sub(1);
-    listed(scene.alloc, from_on(states, before))
+    let states = Sought::OfProducer(producer);
+    let names = listed_last(scene, &states)?;
+    Ok(names)
 }
 
 // The partitions that the decision lists, or else those that the last state of the producer id lists.

@@ -1,48 +1,31 @@
 //! Which rows a fault has, by its kind.
 
-ghost use Rattle.std.specs.Prelude.{◌≡◌, ◌∷◌, [], IfOk, OnOk};
-ghost use Rattle.eos_story.specs.Questions.{states_of, of_log, marker_epoch, there, of_match};
+ghost use Rattle.std.specs.Prelude.{◌≡◌, IfOk, OnOk, Some};
+ghost use Rattle.eos_story.specs.Questions.{of_log, marker_epoch, there, states_about, of_ended, of_match};
 ghost use Rattle.eos_story.specs.Rows.{AreTrue};
 ghost use Rattle.eos_story.specs.Wholeness.{IsWhole};
 ghost use Rattle.eos_story.specs.steps.Telling.{Tells, TellsEach};
 
-use crate::batches::push_some;
-use crate::decisions::{epoch_after, push_listing};
+use crate::batches::push_one;
+use crate::copies::copy_place;
+use crate::decisions::{epoch_after, epoch_before, push_listing};
 use crate::outputs::lineage_rows;
 use crate::pairs::partition_rows;
 use crate::records::push_records;
 use crate::row::Row;
 use crate::scene::Scene;
+use crate::states::{push_from, push_last, push_states};
 use bytes::Bytes;
 use eos_base::PartitionName;
 use eos_check::Fault;
 use eos_claims::Place;
 use eos_places::Wanted;
 use eos_sought::Sought;
-use eos_table::{LogFault, LogFaultKind, MatchFault, MatchFaultKind};
+use eos_table::{LogFault, MatchFault, MatchFaultKind};
 use std::alloc::AllocError;
 
-// The states of the transactional id that a fault of the transaction log names.
-fn push_states(
-    scene: &Scene<'_>,
-    rows: &mut Vec<Row>,
-    kind: &LogFaultKind,
-) -> Result<(), AllocError>
-    ensures { OnOk result (TellsEach scene.now rows.old.items rows.new.items (states_of kind.now)) }
-{
-    match kind {
-        LogFaultKind::BadRecord { .. } => Ok(()),
-        LogFaultKind::Step { id, .. }
-        | LogFaultKind::SplitId { id }
-        | LogFaultKind::SharedProducer { id }
-        | LogFaultKind::Unfinished { id } => {
-            push_records(scene, rows, Sought::OfId(id.clone()?), 8)
-        }
-    }
-}
-
 fn log_rows(scene: &Scene<'_>, rows: &mut Vec<Row>, fault: &LogFault) -> Result<(), AllocError>
-    ensures { OnOk result (TellsEach scene.now rows.old.items rows.new.items (of_log fault.now)) }
+    ensures { OnOk result (TellsEach scene.now rows.old.items rows.new.items (of_log scene.now.logs.now fault.now)) }
 {
     let topic = Bytes::copy_from_slice(scene.alloc, b"__transaction_state".as_slice())?;
     let place = Place {
@@ -52,23 +35,43 @@ fn log_rows(scene: &Scene<'_>, rows: &mut Vec<Row>, fault: &LogFault) -> Result<
         },
         offset: fault.offset,
     };
-    push_records(scene, rows, Sought::At(place), 1)?;
-    push_states(scene, rows, &fault.kind)?;
+    let at = copy_place(&place)?;
+    push_records(scene, rows, Sought::At(at), 1)?;
+    push_states(scene, rows, &place, &fault.kind)?;
     Ok(())
 }
 
-// The batches of a producer id in a partition, if one is named.
+// The first data of a transaction whose end markers have this epoch, and its marker, in a partition.
+fn push_in(
+    scene: &Scene<'_>,
+    rows: &mut Vec<Row>,
+    name: &PartitionName,
+    producer: i64,
+    epoch: i16,
+) -> Result<(), AllocError>
+    ensures { OnOk result (TellsEach scene.now rows.old.items rows.new.items (there producer epoch (Some name.now))) }
+{
+    let data = Wanted::Data {
+        producer,
+        epoch: epoch_before(epoch),
+    };
+    push_one(scene, rows, name, data)?;
+    push_one(scene, rows, name, Wanted::Marking { producer, epoch })?;
+    Ok(())
+}
+
 fn push_there(
     scene: &Scene<'_>,
     rows: &mut Vec<Row>,
     name: &Option<PartitionName>,
     producer: i64,
+    epoch: i16,
 ) -> Result<(), AllocError>
-    ensures { OnOk result (TellsEach scene.now rows.old.items rows.new.items (there producer name.now)) }
+    ensures { OnOk result (TellsEach scene.now rows.old.items rows.new.items (there producer epoch name.now)) }
 {
     match name {
         None => Ok(()),
-        Some(name) => push_some(scene, rows, name, Wanted::Of { producer }, 4),
+        Some(name) => push_in(scene, rows, name, producer, epoch),
     }
 }
 
@@ -82,18 +85,46 @@ fn marker_epoch(kind: MatchFaultKind, epoch: i16) -> i16
     }
 }
 
+fn push_about(
+    scene: &Scene<'_>,
+    rows: &mut Vec<Row>,
+    kind: MatchFaultKind,
+    producer: i64,
+    epoch: i16,
+) -> Result<(), AllocError>
+    ensures { OnOk result (TellsEach scene.now rows.old.items rows.new.items (states_about kind producer epoch)) }
+{
+    match kind {
+        MatchFaultKind::Undecided => push_last(scene, rows, producer),
+        _ => push_from(scene, rows, producer, epoch),
+    }
+}
+
+// Of the transaction whose end markers have this epoch.
+fn ended_rows(
+    scene: &Scene<'_>,
+    rows: &mut Vec<Row>,
+    fault: &MatchFault,
+    epoch: i16,
+) -> Result<(), AllocError>
+    ensures { OnOk result (TellsEach scene.now rows.old.items rows.new.items (of_ended scene.now.logs.now fault.now epoch)) }
+{
+    let producer = fault.producer;
+    push_listing(scene, rows, producer, epoch)?;
+    push_there(scene, rows, &fault.partition, producer, epoch)?;
+    push_about(scene, rows, fault.kind, producer, fault.epoch)?;
+    Ok(())
+}
+
 fn match_rows(scene: &Scene<'_>, rows: &mut Vec<Row>, fault: &MatchFault) -> Result<(), AllocError>
     ensures { OnOk result (TellsEach scene.now rows.old.items rows.new.items (of_match scene.now.logs.now fault.now)) }
 {
-    let producer = fault.producer;
-    push_listing(scene, rows, producer, marker_epoch(fault.kind, fault.epoch))?;
-    push_there(scene, rows, &fault.partition, producer)?;
-    push_records(scene, rows, Sought::OfProducer(producer), 4)?;
+    ended_rows(scene, rows, fault, marker_epoch(fault.kind, fault.epoch))?;
     Ok(())
 }
 
 fn push_rows(scene: &Scene<'_>, rows: &mut Vec<Row>, fault: &Fault) -> Result<(), AllocError>
-    ensures { OnOk result (Tells scene.now rows.old.items rows.new.items (IsWhole scene.now fault.now)) }
+    ensures { OnOk result (Tells scene.now rows.old.items rows.new.items (IsWhole scene.now.evidence.now scene.now.logs.now fault.now)) }
 {
     match fault {
         Fault::Partition(fault) => {
@@ -121,7 +152,7 @@ fn push_rows(scene: &Scene<'_>, rows: &mut Vec<Row>, fault: &Fault) -> Result<()
 /// Only want of memory.
 pub fn rows_of(scene: &Scene<'_>, fault: &Fault) -> Result<Vec<Row>, AllocError>
     ensures so { IfOk result (λ rows. AreTrue scene.now rows.items) }
-    ensures whole { IfOk result (λ rows. IsWhole scene.now fault.now rows.items) }
+    ensures whole { IfOk result (λ rows. IsWhole scene.now.evidence.now scene.now.logs.now fault.now rows.items) }
 {
     let mut rows = Vec::new(scene.alloc);
     push_rows(scene, &mut rows, fault)?;

@@ -17,6 +17,7 @@ mod records;
 mod row;
 mod scene;
 mod slices;
+mod states;
 
 pub use headers::HeaderName;
 pub use kinds::rows_of;

@@ -1,8 +1,7 @@
 //! Which rows the fault of one partition's log has.
 
-ghost use Rattle.std.specs.Prelude.{◌≡◌, ◌∷◌, [], OnOk};
-ghost use Rattle.eos_story.specs.Questions.{ending, ending_epoch, between, of_open, Latest};
-ghost use Rattle.eos_sought.specs.declared.sought.Sought.TheVariants.{OfProducer};
+ghost use Rattle.std.specs.Prelude.{◌≡◌, OnOk};
+ghost use Rattle.eos_story.specs.Questions.{ending, ending_epoch, between, of_open};
 ghost use Rattle.eos_story.specs.Wholeness.{IsPairTold, IsOpenTold, IsPartitionTold, last_end};
 ghost use Rattle.eos_story.specs.steps.Telling.{Tells, TellsEach};
 ghost use Rattle.eos_places.specs.declared.wanted.Wanted.TheVariants.{Ending};
@@ -13,13 +12,12 @@ ghost use Rattle.std.specs.Prelude.{IfOk, List};
 use crate::batches::{push_first, push_some, push_touches};
 use crate::decisions::{epoch_after, push_listing, push_markers};
 use crate::ends::push_place;
-use crate::records::{push_latest, push_records};
 use crate::row::Row;
 use crate::scene::Scene;
+use crate::states::{push_last, push_near};
 use eos_base::PartitionName;
 use eos_batch::BatchHead;
 use eos_places::{Placed, Wanted, batches_of};
-use eos_sought::Sought;
 use eos_touch::{PartitionFault, PartitionFaultKind};
 use std::alloc::AllocError;
 
@@ -85,7 +83,7 @@ fn pair_rows(
     let before = push_touches(scene, rows, name, producer, offset)?;
     push_ending(scene, rows, producer, before)?;
     push_between(scene, rows, name, before, offset)?;
-    push_records(scene, rows, Sought::OfProducer(producer), 4)?;
+    push_near(scene, rows, producer, before)?;
     Ok(())
 }
 
@@ -103,14 +101,6 @@ fn last_end(scene: &Scene<'_>, name: &PartitionName, producer: i64) -> Result<u6
     Ok(0)
 }
 
-fn push_states(scene: &Scene<'_>, rows: &mut Vec<Row>, producer: i64) -> Result<(), AllocError>
-    ensures { OnOk result (TellsEach scene.now rows.old.items rows.new.items (Latest (OfProducer producer) 4 ∷ [])) }
-{
-    let states = Sought::OfProducer(producer);
-    push_latest(scene, rows, &states, 4)?;
-    Ok(())
-}
-
 // The decision of an open transaction, which of its partitions have their markers, and the last states of its producer id.
 fn push_open(
     scene: &Scene<'_>,
@@ -121,11 +111,11 @@ fn push_open(
     ensures { OnOk result (TellsEach scene.now rows.old.items rows.new.items (of_open scene.now.logs.now producer first)) }
 {
     let Some(batch) = first else {
-        return push_states(scene, rows, producer);
+        return push_last(scene, rows, producer);
     };
     let epoch = epoch_after(batch.standing.head.epoch);
     push_markers(scene, rows, producer, epoch)?;
-    push_states(scene, rows, producer)?;
+    push_last(scene, rows, producer)?;
     Ok(())
 }
 

@@ -14,7 +14,7 @@ use Rattle.eos_items.specs.declared.item.Item.{Item}
 use Rattle.eos_places.specs.declared.partition.Placed.{Placed}
 use Rattle.eos_sought.specs.declared.finding.Find.{Find}
 use Rattle.eos_sought.specs.declared.sought.Sought.{Sought}
-use Rattle.eos_sought.specs.declared.sought.Sought.TheVariants.{At, Claiming, Hidden, OfId, OfProducer, Deciding, OfGroup, Passing, Passed}
+use Rattle.eos_sought.specs.declared.sought.Sought.TheVariants.{At, Claiming, Hidden, OfId, Before, OfProducer, Within, Deciding, OfGroup, Passing, Passed}
 use Rattle.eos_text.specs.Escaping.{escaped}
 use Rattle.eos_story_text.specs.Places.{at_text, spot_text, is_there, mark_of}
 
@@ -23,7 +23,9 @@ role_of (At place) = codes " record   "
 role_of (Claiming place) = codes " claim    "
 role_of (Hidden place) = codes " unseen   "
 role_of (OfId id) = codes " state    "
+role_of (Before id place) = codes " state    "
 role_of (OfProducer producer) = codes " state    "
+role_of (Within epochs) = codes " state    "
 role_of (Deciding producer epoch) = codes " decided  "
 role_of (OfGroup group) = codes " commit   "
 role_of (Passing group place) = codes " commit   "
@@ -38,7 +40,9 @@ reading_of (At place) topic = reading_at topic
 reading_of (Claiming place) topic = Some Outputs
 reading_of (Hidden place) topic = Some Outputs
 reading_of (OfId id) topic = Some Transactions
+reading_of (Before id place) topic = Some Transactions
 reading_of (OfProducer producer) topic = Some Transactions
+reading_of (Within epochs) topic = Some Transactions
 reading_of (Deciding producer epoch) topic = Some Transactions
 reading_of (OfGroup group) topic = Some Offsets
 reading_of (Passing group place) topic = Some Offsets
@@ -75,7 +79,9 @@ absent_text (At place) = codes "none at " ++ at_text place.partition place.offse
 absent_text (Claiming place) = codes "none that is visible names " ++ at_text place.partition place.offset
 absent_text (Hidden place) = codes "none names " ++ at_text place.partition place.offset
 absent_text (OfId id) = codes "none of id " ++ escaped id
+absent_text (Before id place) = (codes "none of id " ++ escaped id) ++ (codes " before " ++ at_text place.partition place.offset)
 absent_text (OfProducer producer) = codes "none of producer " ++ signed_decimal producer
+absent_text (Within epochs) = (codes "none of producer " ++ signed_decimal epochs.producer) ++ ((codes " from epoch " ++ signed_decimal epochs.from) ++ (codes " to " ++ signed_decimal epochs.to))
 absent_text (Deciding producer epoch) = (codes "nothing of producer " ++ signed_decimal producer) ++ (codes " with marker epoch " ++ signed_decimal epoch)
 absent_text (OfGroup group) = codes "none of group " ++ escaped group
 absent_text (Passing group place) = (codes "none of group " ++ escaped group) ++ (codes " goes past " ++ at_text place.partition place.offset)

@@ -3,7 +3,7 @@
 ghost use Rattle.std.specs.Prelude.{◌≡◌, ◌++◌, OnOk, IfOk, string_bytes};
 ghost use Rattle.std.specs.Option.{option_copied};
 ghost use Rattle.eos_decoded.specs.Decoding.{decoded_line};
-ghost use Rattle.eos_sought.specs.declared.sought.Sought.TheVariants.{Passing, Deciding};
+ghost use Rattle.eos_sought.specs.declared.sought.Sought.TheVariants.{Before, Within, Passing, Deciding};
 ghost use Rattle.eos_text.specs.Adding.{Adds};
 ghost use Rattle.eos_story_text.specs.Records.{role_of, reading_at, reading_of, writer_text, fate_text, said_text, record_of, record_line, absent_text, no_record_line};
 
@@ -13,7 +13,7 @@ use eos_claims::Place;
 use eos_decoded::{Reading, push_decoded};
 use eos_fold::{Fate, Item};
 use eos_places::Placed;
-use eos_sought::{Find, Sought};
+use eos_sought::{Epochs, Find, Sought};
 use eos_text::{push_escaped, push_text, push_value};
 use std::alloc::{AllocError, Global};
 
@@ -24,7 +24,8 @@ fn role_of(sought: &Sought) -> &'static str
         Sought::At(_) => " record   ",
         Sought::Claiming(_) => " claim    ",
         Sought::Hidden(_) => " unseen   ",
-        Sought::OfId(_) | Sought::OfProducer(_) => " state    ",
+        Sought::OfId(_) | Sought::Before { .. } | Sought::OfProducer(_) | Sought::Within(_) =>
+            " state    ",
         Sought::Deciding { .. } => " decided  ",
         Sought::OfGroup(_) | Sought::Passing { .. } | Sought::Passed(_) => " commit   ",
     }
@@ -49,9 +50,11 @@ fn reading_of(sought: &Sought, topic: &[u8]) -> Option<Reading>
     match sought {
         Sought::At(_) => reading_at(topic),
         Sought::Claiming(_) | Sought::Hidden(_) => Some(Reading::Outputs),
-        Sought::OfId(_) | Sought::OfProducer(_) | Sought::Deciding { .. } => {
-            Some(Reading::Transactions)
-        }
+        Sought::OfId(_)
+        | Sought::Before { .. }
+        | Sought::OfProducer(_)
+        | Sought::Within(_)
+        | Sought::Deciding { .. } => Some(Reading::Transactions),
         Sought::OfGroup(_) | Sought::Passing { .. } | Sought::Passed(_) => Some(Reading::Offsets),
     }
 }
@@ -146,6 +149,28 @@ fn push_group_past(
     Ok(())
 }
 
+fn push_none_before(
+    alloc: Global,
+    out: &mut String,
+    id: &[u8],
+    place: &Place,
+) -> Result<(), AllocError>
+    ensures { OnOk result (Adds (string_bytes out.old) (string_bytes out.new) (absent_text (Before id.now place.now))) }
+{
+    push_escaped(alloc, out, "none of id ", id)?;
+    push_at(alloc, out, " before ", &place.partition, &place.offset)?;
+    Ok(())
+}
+
+fn push_none_within(out: &mut String, epochs: &Epochs) -> Result<(), AllocError>
+    ensures { OnOk result (Adds (string_bytes out.old) (string_bytes out.new) (absent_text (Within epochs.now))) }
+{
+    push_value(out, "none of producer ", &epochs.producer)?;
+    push_value(out, " from epoch ", &epochs.from)?;
+    push_value(out, " to ", &epochs.to)?;
+    Ok(())
+}
+
 fn push_absent(alloc: Global, out: &mut String, sought: &Sought) -> Result<(), AllocError>
     ensures { OnOk result (Adds (string_bytes out.old) (string_bytes out.new) (absent_text sought.now)) }
 {
@@ -168,7 +193,9 @@ fn push_absent(alloc: Global, out: &mut String, sought: &Sought) -> Result<(), A
             &place.offset,
         ),
         Sought::OfId(id) => push_escaped(alloc, out, "none of id ", id.as_slice()),
+        Sought::Before { id, place } => push_none_before(alloc, out, id.as_slice(), place),
         Sought::OfProducer(producer) => push_value(out, "none of producer ", producer),
+        Sought::Within(epochs) => push_none_within(out, epochs),
         Sought::Deciding { producer, epoch } => push_undecided(out, producer, epoch),
         Sought::OfGroup(group) => push_escaped(alloc, out, "none of group ", group.as_slice()),
         Sought::Passing { group, place } => push_group_past(alloc, out, group.as_slice(), place),

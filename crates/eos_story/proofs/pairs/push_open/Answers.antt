@@ -10,5 +10,5 @@ returns c =
     let f : FitsSigned w16 c.in-Some.batch.standing.head.epoch = search rules in
     let after = simp to_z-of_z at c.epoch_after-epoch.ensures in
     let markers = simp to_z-of_z at c.in_ok-push_markers.ensures in
-    let states = simp to_z-of_z at c.in_ok-push_states.ensures in
+    let states = simp to_z-of_z at c.in_ok-push_last.ensures in
     open_some c.args.producer c.epoch_after-epoch.result c.args.first c.in-Some.batch c.in-Some.is after markers states
