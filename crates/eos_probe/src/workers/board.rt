@@ -6,9 +6,8 @@ ghost use Rattle.eos_fold.specs.Sums.{IsFit};
 use crate::layers::merged;
 use crate::words::{Notes, numbers_of, place};
 use crate::workers::pool::tell_runs;
-use eos_board::{Board, Receipt, Why};
+use eos_board::{Board, Loose, Receipt, Tied, Why};
 use eos_evidence::{Evidence, Segment};
-use eos_fold::Named;
 use eos_text::push_value;
 use std::alloc::{AllocError, Global};
 use std::marker::Brand;
@@ -79,8 +78,13 @@ fn segment(evidence: &Evidence, piece: u64) -> Result<Segment, AllocError>
 }
 
 /// The run of this piece's segment, under this number.
-fn named(alloc: Global, evidence: &Evidence, number: u64, piece: u64) -> Result<Named, AllocError> {
-    match Named::of(alloc, number, segment(evidence, piece)?) {
+fn named(
+    alloc: Global,
+    evidence: &Evidence,
+    number: u64,
+    piece: u64,
+) -> Result<Tied<Loose>, AllocError> {
+    match Tied::of(alloc, number, segment(evidence, piece)?) {
         Ok(run) => Ok(run),
         Err(_) => Err(AllocError),
     }
@@ -92,14 +96,19 @@ fn twofold(
     notes: &mut Notes,
     evidence: &Evidence,
     piece: u64,
-) -> Result<Named, AllocError> {
+) -> Result<Tied<Loose>, AllocError> {
     let before = named(alloc, evidence, piece, piece)?;
     let after = named(alloc, evidence, piece.saturating_add(1), piece)?;
-    merged(alloc, notes, before, after)
+    let both = merged(alloc, notes, before.into_named(), after.into_named())?;
+    Ok(Tied::new(both))
 }
 
 /// What comes of a post: `Taken`, or why not.
-fn post<L: Ledger>(board: &mut Board<L>, receipt: &mut Receipt<L>, run: Named) -> &'static str {
+fn post<L: Ledger>(
+    board: &mut Board<L, Loose>,
+    receipt: &mut Receipt<L>,
+    run: Tied<Loose>,
+) -> &'static str {
     if board.posts() >= 1 << 63 {
         return "Full";
     }
@@ -119,14 +128,14 @@ fn name_of(why: Why) -> &'static str {
 /// Merges and posts pairs until there are none, and gives their number.
 fn join_all<L: Ledger>(
     alloc: Global,
-    board: &mut Board<L>,
+    board: &mut Board<L, Loose>,
     receipt: &mut Receipt<L>,
 ) -> Result<u64, AllocError> {
     for merges in 0..64 {
         let Some((before, after)) = board.take_pair() else {
             return Ok(merges);
         };
-        let Ok(run) = Named::merge(alloc, before, after) else {
+        let Ok(run) = Tied::merge(alloc, before, after) else {
             return Err(AllocError);
         };
         post(board, receipt, run);
@@ -137,9 +146,9 @@ fn join_all<L: Ledger>(
 /// Writes the pieces of two runs, and whether they go back.
 fn put_back<L: Ledger>(
     line: &mut String,
-    board: &mut Board<L>,
-    before: Named,
-    after: Named,
+    board: &mut Board<L, Loose>,
+    before: Tied<Loose>,
+    after: Tied<Loose>,
 ) -> Result<(), AllocError> {
     let (a, b) = (before.pieces(), after.pieces());
     match board.put_back(before, after) {
@@ -149,7 +158,7 @@ fn put_back<L: Ledger>(
 }
 
 /// Writes the pieces of the next pair, and whether it goes back.
-fn pair<L: Ledger>(line: &mut String, board: &mut Board<L>) -> Result<(), AllocError> {
+fn pair<L: Ledger>(line: &mut String, board: &mut Board<L, Loose>) -> Result<(), AllocError> {
     match board.take_pair() {
         None => line.push_str("none"),
         Some((before, after)) => put_back(line, board, before, after),
@@ -160,7 +169,7 @@ fn back<L: Ledger>(
     alloc: Global,
     line: &mut String,
     evidence: &Evidence,
-    board: &mut Board<L>,
+    board: &mut Board<L, Loose>,
     first: u64,
     second: u64,
 ) -> Result<(), AllocError> {
@@ -175,7 +184,7 @@ fn happen<L: Ledger>(
     notes: &mut Notes,
     line: &mut String,
     evidence: &Evidence,
-    board: &mut Board<L>,
+    board: &mut Board<L, Loose>,
     receipt: &mut Receipt<L>,
     step: Step,
 ) -> Result<(), AllocError> {
@@ -199,7 +208,7 @@ fn happen_all<L: Ledger>(
     notes: &mut Notes,
     line: &mut String,
     evidence: &Evidence,
-    board: &mut Board<L>,
+    board: &mut Board<L, Loose>,
     receipt: &mut Receipt<L>,
     steps: &[Step],
 ) -> Result<(), AllocError> {
@@ -215,7 +224,7 @@ fn happen_all<L: Ledger>(
 fn tell_left<L: Ledger>(
     alloc: Global,
     line: &mut String,
-    board: Board<L>,
+    board: Board<L, Loose>,
     receipt: Receipt<L>,
 ) -> Result<(), AllocError>
     requires { L.parts ≡ 1 }
@@ -240,7 +249,7 @@ fn course<L: Ledger>(
     requires name { blank.name ≡ L.name }
     requires parts { (blank.parts ≡ L.parts) × (L.parts ≡ 1) }
 {
-    let (mut board, mut receipts) = Board::<L>::new(alloc, blank, evidence, 1)?;
+    let (mut board, mut receipts) = Board::<L, Loose>::new(alloc, blank, evidence, 1)?;
     let Some(mut receipt) = receipts.pop() else {
         return Err(AllocError);
     };

@@ -1,16 +1,15 @@
 //! The pool's core: it takes the events of workers one after another.
 
 use crate::words::{Notes, first_of, number_of, place, show};
-use eos_board::{PoolCore, PoolEvent, PoolReply};
+use eos_board::{Loose, PoolCore, PoolEvent, PoolReply, Tied};
 use eos_evidence::Evidence;
-use eos_fold::Named;
 use std::alloc::{AllocError, Global};
 
 /// Writes the first and the last piece of each run.
 pub(super) fn tell_runs(
     alloc: Global,
     line: &mut String,
-    runs: &[Named],
+    runs: &[Tied<Loose>],
 ) -> Result<(), AllocError> {
     let mut pieces = Vec::new(alloc);
     for run in runs {
