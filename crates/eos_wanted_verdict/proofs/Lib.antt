@@ -6,4 +6,5 @@ pub mod KeptTransactions
 pub mod KeptMatching
 pub mod KeptVisible
 pub mod KeptLineage
+pub mod NamedFaults
 pub mod KeptAnswers

@@ -2,8 +2,8 @@
 //!
 //! In each of them `apps` are any applications and `parts` any logs; what is kept of these is `wanted_logs apps parts`.
 
-ghost use Rattle.std.specs.Prelude.{◌≡◌, ◌↔◌, List};
-ghost use Rattle.eos_base.specs.Least.{NoneStands, IsLeast};
+ghost use Rattle.std.specs.Prelude.{◌≡◌, ◌↔◌, List, Option};
+ghost use Rattle.eos_base.specs.Least.{NoneStands, IsLeast, IsLeastOrNone};
 ghost use Rattle.eos_base.specs.Members.{Has};
 ghost use Rattle.eos_check.specs.Verdicts.{StandsInPartitions, StandsInLog, StandsInMatching, Stands, partition_cmp, AreCounts, IsVerdictOf};
 ghost use Rattle.eos_check.specs.declared.verdict.Counts.{Counts};
@@ -28,7 +28,14 @@ ghost use Rattle.eos_table.specs.declared.match_fault.MatchFault.{MatchFault};
 ghost use Rattle.eos_touch.specs.declared.fault.PartitionFault.{PartitionFault};
 ghost use Rattle.eos_txnlog.specs.declared.decision.Decision.{Decision};
 ghost use Rattle.eos_wanted.specs.Wanted.{wanted_logs};
-ghost use Rattle.eos_wanted_verdict.specs.KeptVerdicts.{StandAlike, kept_of, StandsKept, IsKeptVerdict};
+ghost use Rattle.eos_wanted_verdict.specs.KeptVerdicts.{StandAlike, kept_of, StandsKept, IsKeptVerdict, AreFaultsIn, first_of};
+
+/// Of the partitions' least faults, each of which was named when its segments were read, the first is the least that stands in the
+/// logs; and none stands where none was named.
+pub fn partitions()
+    ensures { (e : EvidenceParts) (parts : List PartLog) (of : AreLogsOf e.partitions parts) (faults : List (Option PartitionFault)) → IsEvidence e
+        → AreFaultsIn e.partitions faults → IsLeastOrNone partition_cmp (StandsInPartitions e.partitions parts of) (first_of faults) }
+{}
 
 /// The partitions stand in order, and so do those of the transaction log, as they did.
 pub fn order()
