@@ -4,8 +4,8 @@
     python3 -B tests/shape.py
 
 Each crate of crates.txt stands below those that name it, and names none that its sources don't; it has one entry in
-docs/ARCHITECTURE.md, stands in the picture there, and CONTRIBUTING.md says which tests are its own. No function of a crate that
-isn't tests alone has more than five parameters. The last line is 'N passed, N failed'.
+docs/ARCHITECTURE.md, stands in the picture there, and CONTRIBUTING.md says which tests are its own. No function has more than
+five parameters. The last line is 'N passed, N failed'.
 """
 import glob
 import os
@@ -113,7 +113,7 @@ def of_documents(found, say):
 
 def of_functions(found, say):
     """The sizes of functions."""
-    for crate in sorted(set(found) - TESTS):
+    for crate in found:
         for path, text in sources(crate, "rt"):
             for name, count in functions(TEXTS.sub('""', text)):
                 say(count <= MOST, f"{path}: {name} has {count} parameters")

@@ -5,7 +5,7 @@ mod course;
 mod events;
 mod readings;
 
-use crate::words::{Notes, first_of};
+use crate::words::{Line, first_of};
 use std::alloc::{AllocError, Global};
 use std::sync::Wait;
 use std::thread::Threads;
@@ -13,17 +13,16 @@ use std::thread::Threads;
 pub(crate) fn answer<R: Threads + Wait + Sync>(
     rt: &R,
     alloc: Global,
-    notes: &mut Notes,
-    line: &mut String,
+    line: &mut Line,
     call: &str,
     rest: &str,
 ) -> Result<(), AllocError> {
     match call {
         "cluster" => {
             let (sizes, words) = first_of(rest);
-            course::run(rt, alloc, notes, line, sizes, words)
+            course::run(rt, alloc, line, sizes, words)
         }
-        "callers" => callers::scripts(rt, alloc, notes, line, rest),
-        _ => callers::feeders(rt, alloc, notes, line),
+        "callers" => callers::scripts(rt, alloc, line, rest),
+        _ => callers::feeders(rt, alloc, line),
     }
 }

@@ -9,7 +9,7 @@ mod texts;
 mod words;
 mod workers;
 
-use crate::words::{Notes, first_of};
+use crate::words::{Line, first_of};
 use std::alloc::{AllocError, Global};
 use std::io;
 use std::sync::Wait;
@@ -53,48 +53,41 @@ fn layer_of(call: &str) -> Family {
 fn answer<R: Threads + Wait + Sync>(
     rt: &R,
     alloc: Global,
-    notes: &mut Notes,
-    line: &mut String,
+    line: &mut Line,
     row: &str,
 ) -> Result<(), AllocError> {
     let (call, rest) = first_of(row);
     match family_of(call) {
-        Family::Cluster => cluster::answer(rt, alloc, notes, line, call, rest),
-        Family::Workers => workers::answer(rt, alloc, notes, line, call, rest),
-        Family::Texts => texts::answer(alloc, notes, line, call, rest),
-        Family::Words => formats::answer(notes, line, call, rest),
-        Family::Layers => layers::answer(rt, alloc, notes, line, call, rest),
-        Family::Bytes => formats::of_bytes(alloc, notes, line, call, rest),
+        Family::Cluster => cluster::answer(rt, alloc, line, call, rest),
+        Family::Workers => workers::answer(rt, alloc, line, call, rest),
+        Family::Texts => texts::answer(alloc, line, call, rest),
+        Family::Words => formats::answer(line, call, rest),
+        Family::Layers => layers::answer(rt, alloc, line, call, rest),
+        Family::Bytes => formats::of_bytes(alloc, line, call, rest),
     }
 }
 
-/// Writes what is said of a row: the answer, with the mark `again` where a call was made again after want of memory.
-fn say<R: Threads + Wait + Sync>(
-    rt: &R,
-    alloc: Global,
-    line: &mut String,
-    row: &str,
-) -> Result<(), AllocError> {
-    let mut notes = Notes {
-        is_bad: false,
-        is_again: false,
-    };
-    let answered = answer(rt, alloc, &mut notes, line, row);
+/// What is said of a row: the answer, with the mark `again` where a call was made again after want of memory.
+fn say<R: Threads + Wait + Sync>(rt: &R, alloc: Global, row: &str) -> Result<String, AllocError> {
+    let mut line = Line::new(alloc);
+    let answered = answer(rt, alloc, &mut line, row);
+    let Line { mut text, notes } = line;
     if notes.is_bad {
-        line.clear();
-        return line.push_str("bad row");
+        text.clear();
+        text.push_str("bad row")?;
+        return Ok(text);
     }
     if notes.is_again {
-        line.push_str(" again")?;
+        text.push_str(" again")?;
     }
-    answered
+    answered?;
+    Ok(text)
 }
 
 fn main(rt: HostRuntime) -> io::Result<()> {
     for row in rt.lines(rt.alloc()) {
         let row = row?;
-        let mut line = String::new(rt.alloc());
-        say(&rt, rt.alloc(), &mut line, row.as_str())?;
+        let line = say(&rt, rt.alloc(), row.as_str())?;
         println!(rt; "{line}")?;
     }
     Ok(())

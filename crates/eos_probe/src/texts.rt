@@ -1,6 +1,6 @@
 //! Calls of a segment that is read and written again, and of a text that is written to a device behind a buffer.
 
-use crate::words::{Notes, bytes_of, number_of, place, show};
+use crate::words::{Line, bytes_of, number_of, place, show};
 use bytes::Bytes;
 use eos_batch::{Batch, decode_batch, encode_batch, next_batch};
 use eos_text::{finish, push_value};
@@ -9,38 +9,32 @@ use std::io::BufWriter;
 
 pub(crate) fn answer(
     alloc: Global,
-    notes: &mut Notes,
-    line: &mut String,
+    line: &mut Line,
     call: &str,
     rest: &str,
 ) -> Result<(), AllocError> {
     match call {
         "round_trip" => {
-            let bytes = bytes_of(alloc, notes, rest)?;
-            round_trip(alloc, line, &bytes)
+            let bytes = bytes_of(alloc, &mut line.notes, rest)?;
+            round_trip(alloc, &mut line.text, &bytes)
         }
-        _ => finished(alloc, notes, line, rest),
+        _ => finished(alloc, line, rest),
     }
 }
 
 /// Writes what comes of a text where the device behind a buffer has so much room, how many bytes it took, and how many the
 /// buffer holds back.
-fn finished(
-    alloc: Global,
-    notes: &mut Notes,
-    line: &mut String,
-    words: &str,
-) -> Result<(), AllocError> {
+fn finished(alloc: Global, line: &mut Line, words: &str) -> Result<(), AllocError> {
     let (room, text) = words.split_once(' ').unwrap_or((words, ""));
-    let room = place(number_of(notes, room)).min(65536);
+    let room = place(number_of(&mut line.notes, room)).min(65536);
     let mut device = vec![in alloc; 0u8; room]?;
     let Ok(mut buffer) = BufWriter::new(alloc, device.as_mut_slice()) else {
         return Err(AllocError);
     };
-    show(line, finish(&mut buffer, text.as_bytes()))?;
+    show(&mut line.text, finish(&mut buffer, text.as_bytes()))?;
     let (rest, held) = buffer.into_parts();
-    push_value(line, " left=", &rest.len())?;
-    push_value(line, " held=", &held.len())
+    push_value(&mut line.text, " left=", &rest.len())?;
+    push_value(&mut line.text, " held=", &held.len())
 }
 
 /// Writes how many batches stand at the front of a segment; and `bytes` where each of them, encoded, has the bytes that it

@@ -15,6 +15,26 @@ pub(crate) struct Notes {
     pub(crate) is_again: bool,
 }
 
+/// The line that answers a row, as far as it is written, and what came up.
+#[derive(Drop)]
+pub(crate) struct Line {
+    pub(crate) text: String,
+    pub(crate) notes: Notes,
+}
+
+impl Line {
+    /// Of which nothing is written yet.
+    pub(crate) fn new(alloc: Global) -> Line {
+        Line {
+            text: String::new(alloc),
+            notes: Notes {
+                is_bad: false,
+                is_again: false,
+            },
+        }
+    }
+}
+
 /// Notes that the row can't be read, and ends its answer.
 pub(crate) fn bad<T>(notes: &mut Notes) -> Result<T, AllocError> {
     notes.is_bad = true;

@@ -6,8 +6,7 @@ mod gate;
 mod pool;
 mod tickets;
 
-use crate::words::{Notes, sides};
-use eos_evidence::Evidence;
+use crate::words::{Line, sides};
 use std::alloc::{AllocError, Global};
 use std::sync::Wait;
 use std::thread::Threads;
@@ -16,34 +15,22 @@ use std::thread::Threads;
 pub(crate) fn answer<R: Threads + Wait + Sync>(
     rt: &R,
     alloc: Global,
-    notes: &mut Notes,
-    line: &mut String,
+    line: &mut Line,
     call: &str,
     rest: &str,
 ) -> Result<(), AllocError> {
     if call == "tickets" {
-        return tickets::tell(rt, alloc, notes, line, rest);
+        return tickets::tell(rt, alloc, line, rest);
     }
-    let (words, partitions) = sides(notes, rest, '|');
-    match evidence::evidence_of(alloc, notes, partitions) {
-        Ok(evidence) => of_evidence(rt, alloc, notes, line, &evidence, call, words.trim_end()),
+    let (words, partitions) = sides(&mut line.notes, rest, '|');
+    let words = words.trim_end();
+    match evidence::evidence_of(alloc, &mut line.notes, partitions) {
+        Ok(evidence) => match call {
+            "board" => board::run(alloc, line, &evidence, words),
+            "pool" => pool::run(alloc, line, &evidence, words),
+            "check" => gate::check_behind(rt, alloc, line, &evidence, words),
+            _ => gate::check_alone(rt, alloc, &mut line.text, &evidence),
+        },
         Err(error) => Err(error),
-    }
-}
-
-fn of_evidence<R: Threads + Wait + Sync>(
-    rt: &R,
-    alloc: Global,
-    notes: &mut Notes,
-    line: &mut String,
-    evidence: &Evidence,
-    call: &str,
-    words: &str,
-) -> Result<(), AllocError> {
-    match call {
-        "board" => board::run(alloc, notes, line, evidence, words),
-        "pool" => pool::run(alloc, notes, line, evidence, words),
-        "check" => gate::check_behind(rt, alloc, notes, line, evidence, words),
-        _ => gate::check_alone(rt, alloc, line, evidence),
     }
 }

@@ -2,8 +2,8 @@
 
 ghost use Rattle.std.specs.Prelude.{◌≡◌, ◌≤◌, true, vec_len, IfOk};
 
-use crate::cluster::readings::read_logs;
-use crate::words::{Notes, numbers_of, place, show};
+use crate::cluster::readings::{Asked, read_logs};
+use crate::words::{Line, numbers_of, place, show};
 use eos_cluster::Cluster;
 use eos_drive::{Script, run_threads};
 use eos_history::{Finished, Pass, Shared};
@@ -126,11 +126,10 @@ fn ten_each<L: Ledger + Send + Sync, R: Threads + Wait + Sync>(
 pub(super) fn feeders<R: Threads + Wait + Sync>(
     rt: &R,
     alloc: Global,
-    notes: &mut Notes,
-    line: &mut String,
+    line: &mut Line,
 ) -> Result<(), AllocError> {
     match ten_each::<Brand, R>(rt, alloc, Blank::new(2)) {
-        Ok(finished) => tell_of_feeders(rt, alloc, notes, line, &finished),
+        Ok(finished) => tell_of_feeders(rt, alloc, line, &finished),
         Err(error) => Err(error),
     }
 }
@@ -138,14 +137,21 @@ pub(super) fn feeders<R: Threads + Wait + Sync>(
 fn tell_of_feeders<R: Threads + Wait + Sync>(
     rt: &R,
     alloc: Global,
-    notes: &mut Notes,
-    line: &mut String,
+    line: &mut Line,
     finished: &Finished,
 ) -> Result<(), AllocError> {
-    tell(alloc, line, finished, 2)?;
-    push_value(line, " pair=", &(*finished.cluster.config() == PAIR))?;
-    line.push_str(" ends=")?;
-    read_logs(rt, alloc, notes, &finished.cluster, line, "ends", 0)
+    tell(alloc, &mut line.text, finished, 2)?;
+    push_value(
+        &mut line.text,
+        " pair=",
+        &(*finished.cluster.config() == PAIR),
+    )?;
+    line.text.push_str(" ends=")?;
+    let asked = Asked {
+        name: "ends",
+        number: 0,
+    };
+    read_logs(rt, alloc, &finished.cluster, line, asked)
 }
 
 /// As many scripts of seed 7 and this length.
@@ -179,15 +185,14 @@ fn by_scripts<L: Ledger + Send + Sync, R: Threads + Wait + Sync>(
 pub(super) fn scripts<R: Threads + Wait + Sync>(
     rt: &R,
     alloc: Global,
-    notes: &mut Notes,
-    line: &mut String,
+    line: &mut Line,
     rest: &str,
 ) -> Result<(), AllocError> {
-    let numbers = numbers_of(notes, rest, 2);
+    let numbers = numbers_of(&mut line.notes, rest, 2);
     let callers = place(numbers[0]).clamp(1, 64) as u64;
     let length = place(numbers[1]).min(65536) as u64;
     match by_scripts::<Brand, R>(rt, alloc, Blank::new(callers), callers, length) {
-        Ok(finished) => tell_of_scripts(alloc, line, &finished, callers, length),
+        Ok(finished) => tell_of_scripts(alloc, &mut line.text, &finished, callers, length),
         Err(error) => Err(error),
     }
 }

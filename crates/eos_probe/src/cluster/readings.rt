@@ -1,6 +1,6 @@
 //! What a cluster says of itself, and what stands in its logs.
 
-use crate::words::{Notes, show};
+use crate::words::{Line, Notes, show};
 use eos_batch::{Batch, decode_segment};
 use eos_board::OpenGate;
 use eos_check::{Verdict, check};
@@ -13,20 +13,26 @@ use std::alloc::{AllocError, Global};
 use std::sync::Wait;
 use std::thread::Threads;
 
-/// Writes what this word asks of the cluster itself, with its number.
+/// What a word asks of a cluster, with its number, 0 where it has none.
+#[derive(Clone, Copy)]
+pub(super) struct Asked<'a> {
+    pub(super) name: &'a str,
+    pub(super) number: u64,
+}
+
+/// Writes what is asked of the cluster itself.
 pub(super) fn read(
     alloc: Global,
     cluster: &Cluster,
     line: &mut String,
-    name: &str,
-    number: u64,
+    asked: Asked<'_>,
 ) -> Result<(), AllocError> {
-    match name {
+    match asked.name {
         "at-rest" => push_value(line, "", &cluster.at_rest()),
         "honest" => push_value(line, "", &cluster.is_honest()),
         "events" => push_value(line, "", &cluster.events()),
-        "past" => push_value(line, "", &(cluster.events() > number)),
-        _ => words(alloc, line, number),
+        "past" => push_value(line, "", &(cluster.events() > asked.number)),
+        _ => words(alloc, line, asked.number),
     }
 }
 
@@ -55,19 +61,17 @@ fn evidence_again(notes: &mut Notes, cluster: &Cluster) -> Result<Evidence, Evid
     }
 }
 
-/// Writes what this word asks of the cluster's logs, or why there are none; `verdict` by so many workers.
+/// Writes what is asked of the cluster's logs, or why there are none; `verdict` by so many workers.
 pub(super) fn read_logs<R: Threads + Wait + Sync>(
     rt: &R,
     alloc: Global,
-    notes: &mut Notes,
     cluster: &Cluster,
-    line: &mut String,
-    name: &str,
-    number: u64,
+    line: &mut Line,
+    asked: Asked<'_>,
 ) -> Result<(), AllocError> {
-    match evidence_again(notes, cluster) {
-        Ok(evidence) => read_evidence(rt, alloc, &evidence, line, name, number),
-        Err(refusal) => line.push_str(refusal.name()),
+    match evidence_again(&mut line.notes, cluster) {
+        Ok(evidence) => read_evidence(rt, alloc, &evidence, &mut line.text, asked),
+        Err(refusal) => line.text.push_str(refusal.name()),
     }
 }
 
@@ -76,21 +80,13 @@ fn read_evidence<R: Threads + Wait + Sync>(
     alloc: Global,
     evidence: &Evidence,
     line: &mut String,
-    name: &str,
-    number: u64,
+    asked: Asked<'_>,
 ) -> Result<(), AllocError> {
-    match name {
+    match asked.name {
         "pieces" => push_value(line, "", &evidence.pieces()),
         "ends" => ends(alloc, evidence, line),
-        "batches" => batches(alloc, evidence, line, number),
-        _ => judge(
-            rt,
-            alloc,
-            evidence,
-            line,
-            name == "verdict",
-            Workers::new(number).unwrap_or(Workers::one()),
-        ),
+        "batches" => batches(alloc, evidence, line, asked.number),
+        _ => judge(rt, alloc, evidence, line, asked),
     }
 }
 
@@ -138,11 +134,11 @@ fn judge<R: Threads + Wait + Sync>(
     alloc: Global,
     evidence: &Evidence,
     line: &mut String,
-    is_told: bool,
-    workers: Workers,
+    asked: Asked<'_>,
 ) -> Result<(), AllocError> {
+    let workers = Workers::new(asked.number).unwrap_or(Workers::one());
     match check(alloc, rt, evidence, workers, &OpenGate) {
-        Ok(verdict) => tell(evidence, line, is_told, &verdict),
+        Ok(verdict) => tell(evidence, line, asked.name == "verdict", &verdict),
         Err(error) => Err(error),
     }
 }

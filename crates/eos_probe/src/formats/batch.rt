@@ -1,7 +1,7 @@
 //! Record batches, segments and chains of batches.
 
 use crate::formats::chunks;
-use crate::words::{Notes, first_of, or_bad, show, show_digits};
+use crate::words::{Line, Notes, first_of, or_bad, show, show_digits};
 use bytes::Bytes;
 use eos_batch::{
     Batch, BatchFault, Headers, Marker, Record, Records, decode_batch, decode_segment, encode_batch,
@@ -13,24 +13,27 @@ use std::alloc::{AllocError, Global};
 
 pub(super) fn answer(
     alloc: Global,
-    notes: &mut Notes,
-    line: &mut String,
+    line: &mut Line,
     call: &str,
     bytes: &Bytes,
     more: &str,
 ) -> Result<(), AllocError> {
     match call {
-        "decode_batch" => show(line, decode_batch(alloc, bytes, 0)),
-        "marker" => show(line, marker(alloc, bytes)),
-        "read_claim" => show(line, claim(alloc, bytes)),
-        "read_head" => show(line, head(alloc, notes, bytes, more)),
-        "decode_segment" => show(line, decode_segment(alloc, bytes)),
-        "count_batches" => show(line, counted(alloc, bytes)),
-        "encode_segment" => show_digits(alloc, line, recoded(alloc, bytes)),
-        "encode_records" => show_digits(alloc, line, of_records(alloc, notes, bytes, more)),
-        "chain" => show(line, chain(alloc, bytes)),
-        "chain_fault" => show(line, chain_fault(alloc, bytes)),
-        _ => chunks::answer(alloc, notes, line, call, bytes, more),
+        "decode_batch" => show(&mut line.text, decode_batch(alloc, bytes, 0)),
+        "marker" => show(&mut line.text, marker(alloc, bytes)),
+        "read_claim" => show(&mut line.text, claim(alloc, bytes)),
+        "read_head" => show(&mut line.text, head(alloc, &mut line.notes, bytes, more)),
+        "decode_segment" => show(&mut line.text, decode_segment(alloc, bytes)),
+        "count_batches" => show(&mut line.text, counted(alloc, bytes)),
+        "encode_segment" => show_digits(alloc, &mut line.text, recoded(alloc, bytes)),
+        "encode_records" => show_digits(
+            alloc,
+            &mut line.text,
+            of_records(alloc, &mut line.notes, bytes, more),
+        ),
+        "chain" => show(&mut line.text, chain(alloc, bytes)),
+        "chain_fault" => show(&mut line.text, chain_fault(alloc, bytes)),
+        _ => chunks::answer(alloc, line, call, bytes, more),
     }
 }
 

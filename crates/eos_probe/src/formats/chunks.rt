@@ -1,6 +1,6 @@
 //! What is made of a segment that is fed chunk by chunk: so many bytes at a time, or all at once for 0.
 
-use crate::words::{Notes, bad, first_of, or_bad, show};
+use crate::words::{Line, bad, first_of, or_bad, show};
 use bytes::Bytes;
 use eos_batch::BatchFault;
 use eos_chain::chain_from;
@@ -28,30 +28,32 @@ impl<'a> Read for Chopped<'a> {
 
 pub(super) fn answer(
     alloc: Global,
-    notes: &mut Notes,
-    line: &mut String,
+    line: &mut Line,
     call: &str,
     bytes: &Bytes,
     more: &str,
 ) -> Result<(), AllocError> {
     let (size, names) = first_of(more);
-    let size = or_bad(notes, size.parse::<usize>().ok(), 0);
+    let size = or_bad(&mut line.notes, size.parse::<usize>().ok(), 0);
     let most = if size == 0 { bytes.len().max(1) } else { size };
     let bytes = bytes.as_slice();
     match call {
-        "chain_in" => show(line, chain_from(alloc, &mut Chopped { bytes, most })),
-        "count_in" => show(line, counts(fed(alloc, &Nothing, bytes, most)?)),
+        "chain_in" => show(
+            &mut line.text,
+            chain_from(alloc, &mut Chopped { bytes, most }),
+        ),
+        "count_in" => show(&mut line.text, counts(fed(alloc, &Nothing, bytes, most)?)),
         "count_from" => {
             let reader = &mut Chopped { bytes, most };
             match fold_log(alloc, &Nothing, reader) {
-                Ok(folded) => show(line, counts(folded)),
-                Err(fault) => show(line, fault),
+                Ok(folded) => show(&mut line.text, counts(folded)),
+                Err(fault) => show(&mut line.text, fault),
             }
         }
         "claims_in" => {
             let topics = names_of(alloc, names)?;
             let topics = topics.as_slice();
-            show_whole(line, fed(alloc, &Claims { topics }, bytes, most)?)
+            show_whole(&mut line.text, fed(alloc, &Claims { topics }, bytes, most)?)
         }
         "commits_in" => {
             let (groups, topics) = first_of(names);
@@ -61,10 +63,10 @@ pub(super) fn answer(
                 groups: groups.as_slice(),
                 topics: topics.as_slice(),
             };
-            show_whole(line, fed(alloc, &reading, bytes, most)?)
+            show_whole(&mut line.text, fed(alloc, &reading, bytes, most)?)
         }
-        "states_in" => show_whole(line, fed(alloc, &Transactions, bytes, most)?),
-        _ => bad(notes),
+        "states_in" => show_whole(&mut line.text, fed(alloc, &Transactions, bytes, most)?),
+        _ => bad(&mut line.notes),
     }
 }
 

@@ -1,6 +1,6 @@
 //! Claims on inputs.
 
-use crate::words::{Notes, first_of, or_bad, show, sides};
+use crate::words::{Line, Notes, first_of, or_bad, show, sides};
 use bytes::Bytes;
 use eos_base::PartitionName;
 use eos_claims::{NumberedClaim, OutputKind, PlaceRef, least_of_runs};
@@ -8,19 +8,19 @@ use std::alloc::AllocError;
 
 /// The least fault of one or two claims on the first record of `in-0`, which are given as OUTPUT/OF@OFFSET: its kind, and the
 /// output.
-pub(super) fn least(notes: &mut Notes, line: &mut String, words: &str) -> Result<(), AllocError> {
+pub(super) fn least(line: &mut Line, words: &str) -> Result<(), AllocError> {
     let name = PartitionName {
         topic: Bytes::from_static(b"in"),
         partition: 0,
     };
     let (first, second) = first_of(words);
-    let first = claim_of(notes, &name, first);
+    let first = claim_of(&mut line.notes, &name, first);
     let fault = if second.is_empty() {
         fault_of(&[first])
     } else {
-        fault_of(&[first, claim_of(notes, &name, second)])
+        fault_of(&[first, claim_of(&mut line.notes, &name, second)])
     };
-    show(line, fault)
+    show(&mut line.text, fault)
 }
 
 fn fault_of(claims: &[NumberedClaim<'_>]) -> Option<(OutputKind, u32)> {

@@ -1,7 +1,7 @@
 //! Manifests and segments of evidence.
 
 use crate::formats::batch;
-use crate::words::{Notes, number_of, or_bad, show, show_digits, sides};
+use crate::words::{Line, Notes, number_of, or_bad, show, show_digits, sides};
 use bytes::Bytes;
 use eos_base::Listed;
 use eos_evidence::{
@@ -12,19 +12,18 @@ use std::alloc::{AllocError, Global};
 
 pub(super) fn answer(
     alloc: Global,
-    notes: &mut Notes,
-    line: &mut String,
+    line: &mut Line,
     call: &str,
     bytes: &Bytes,
     more: &str,
 ) -> Result<(), AllocError> {
     match call {
-        "parse_spec" => show(line, parse_spec(alloc, bytes.as_slice())),
-        "spec_fault" => show(line, parse_spec(alloc, bytes.as_slice()).err()),
-        "write_spec" => show_digits(alloc, line, rewritten(alloc, bytes)),
-        "end_twice" => show(line, twice(alloc)),
-        "add_segments" => add_segments(alloc, notes, line, bytes, more),
-        _ => batch::answer(alloc, notes, line, call, bytes, more),
+        "parse_spec" => show(&mut line.text, parse_spec(alloc, bytes.as_slice())),
+        "spec_fault" => show(&mut line.text, parse_spec(alloc, bytes.as_slice()).err()),
+        "write_spec" => show_digits(alloc, &mut line.text, rewritten(alloc, bytes)),
+        "end_twice" => show(&mut line.text, twice(alloc)),
+        "add_segments" => add_segments(alloc, line, bytes, more),
+        _ => batch::answer(alloc, line, call, bytes, more),
     }
 }
 
@@ -56,18 +55,17 @@ fn two_ends(alloc: Global) -> Result<Ends, AllocError> {
 /// their order, and how many there are then.
 fn add_segments(
     alloc: Global,
-    notes: &mut Notes,
-    line: &mut String,
+    line: &mut Line,
     bytes: &Bytes,
     words: &str,
 ) -> Result<(), AllocError> {
     let mut builder = match builder_of(alloc, bytes) {
         Ok(builder) => builder,
-        Err(fault) => return show(line, fault),
+        Err(fault) => return show(&mut line.text, fault),
     };
-    line.push_str("Ok(Added { answers: ")?;
-    add_all(alloc, notes, line, &mut builder, words)?;
-    tell_added(alloc, line, &builder.finish())
+    line.text.push_str("Ok(Added { answers: ")?;
+    add_all(alloc, line, &mut builder, words)?;
+    tell_added(alloc, &mut line.text, &builder.finish())
 }
 
 fn tell_added(alloc: Global, line: &mut String, evidence: &Evidence) -> Result<(), AllocError> {
@@ -84,16 +82,15 @@ fn builder_of(alloc: Global, bytes: &Bytes) -> Result<EvidenceBuilder, SpecFault
 
 fn add_all(
     alloc: Global,
-    notes: &mut Notes,
-    line: &mut String,
+    line: &mut Line,
     builder: &mut EvidenceBuilder,
     words: &str,
 ) -> Result<(), AllocError> {
     let mut answers = Vec::new(alloc);
     for word in words.split(' ') {
-        answers.push(add_some(notes, builder, word))?;
+        answers.push(add_some(&mut line.notes, builder, word))?;
     }
-    show(line, answers)
+    show(&mut line.text, answers)
 }
 
 /// The topic is `in` or `out`.

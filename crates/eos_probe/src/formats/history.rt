@@ -1,6 +1,6 @@
 //! The lines of a history.
 
-use crate::words::{Notes, bad, show, show_digits};
+use crate::words::{Line, bad, show, show_digits};
 use bytes::Bytes;
 use eos_history_lines::{
     LineFault, Schedule, ScheduleFault, head_of, head_text, line_text, row_of, schedule_of,
@@ -10,30 +10,25 @@ use std::alloc::{AllocError, Global};
 
 pub(super) fn answer(
     alloc: Global,
-    notes: &mut Notes,
-    line: &mut String,
+    line: &mut Line,
     call: &str,
     bytes: &Bytes,
 ) -> Result<(), AllocError> {
     match call {
-        "read_history_head" => show(line, head_of(alloc, bytes.as_slice())),
-        "read_history_row" => show(line, row_of(alloc, bytes.as_slice())),
-        "read_history" => show(line, schedule_of(alloc, bytes.as_slice())),
-        "write_history" => show_digits(alloc, line, rewritten(alloc, bytes)),
-        "history_fault" => tell_fault(notes, line, schedule_of(alloc, bytes.as_slice())),
-        _ => bad(notes),
+        "read_history_head" => show(&mut line.text, head_of(alloc, bytes.as_slice())),
+        "read_history_row" => show(&mut line.text, row_of(alloc, bytes.as_slice())),
+        "read_history" => show(&mut line.text, schedule_of(alloc, bytes.as_slice())),
+        "write_history" => show_digits(alloc, &mut line.text, rewritten(alloc, bytes)),
+        "history_fault" => tell_fault(line, schedule_of(alloc, bytes.as_slice())),
+        _ => bad(&mut line.notes),
     }
 }
 
 /// What is said of a file that is refused.
-fn tell_fault(
-    notes: &mut Notes,
-    line: &mut String,
-    read: Result<Schedule, ScheduleFault>,
-) -> Result<(), AllocError> {
+fn tell_fault(line: &mut Line, read: Result<Schedule, ScheduleFault>) -> Result<(), AllocError> {
     match read {
-        Ok(_) => bad(notes),
-        Err(fault) => write!(line, "{fault}"),
+        Ok(_) => bad(&mut line.notes),
+        Err(fault) => write!(&mut line.text, "{fault}"),
     }
 }
 

@@ -1,6 +1,6 @@
 //! The names of the faults.
 
-use crate::words::{Notes, bad, show};
+use crate::words::{Line, bad, show};
 use eos_base::RecordFault;
 use eos_batch::BatchFault;
 use eos_evidence::{AddFault, ReadFault, SpecFault};
@@ -10,21 +10,17 @@ use std::alloc::AllocError;
 use std::fmt::{Debug, Display};
 
 /// The variant, the name and the text of each fault of a family; or the numbers of the pairs' faults.
-pub(super) fn of_family(
-    notes: &mut Notes,
-    line: &mut String,
-    family: &str,
-) -> Result<(), AllocError> {
+pub(super) fn of_family(line: &mut Line, family: &str) -> Result<(), AllocError> {
     match family {
-        "batch" => batch(line),
-        "record" => record(line),
-        "pair" => pair(line),
-        "numbers" => numbers(line),
-        "spec" => spec(line),
-        "add" => add(line),
-        "read" => read(line),
-        "step" => step(line),
-        _ => bad(notes),
+        "batch" => batch(&mut line.text),
+        "record" => record(&mut line.text),
+        "pair" => pair(&mut line.text),
+        "numbers" => numbers(&mut line.text),
+        "spec" => spec(&mut line.text),
+        "add" => add(&mut line.text),
+        "read" => read(&mut line.text),
+        "step" => step(&mut line.text),
+        _ => bad(&mut line.notes),
     }
 }
 

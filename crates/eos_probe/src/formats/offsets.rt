@@ -1,7 +1,7 @@
 //! Records of the offsets log.
 
 use crate::formats::evidence;
-use crate::words::{Notes, bytes_of, first_of, or_bad, show, show_digits};
+use crate::words::{Line, Notes, bytes_of, first_of, or_bad, show, show_digits};
 use bytes::Bytes;
 use eos_base::RecordFault;
 use eos_offsets::{Commit, OffsetKey, decode_key, decode_value, encode_key, encode_value};
@@ -9,20 +9,27 @@ use std::alloc::{AllocError, Global};
 
 pub(super) fn answer(
     alloc: Global,
-    notes: &mut Notes,
-    line: &mut String,
+    line: &mut Line,
     call: &str,
     bytes: &Bytes,
     more: &str,
 ) -> Result<(), AllocError> {
     match call {
-        "decode_offset_key" => show(line, decode_key(alloc, bytes)),
-        "encode_offset_key" => show_digits(alloc, line, written_key(alloc, notes, bytes, more)),
-        "decode_offset_value" => show(line, decode_value(bytes)),
+        "decode_offset_key" => show(&mut line.text, decode_key(alloc, bytes)),
+        "encode_offset_key" => show_digits(
+            alloc,
+            &mut line.text,
+            written_key(alloc, &mut line.notes, bytes, more),
+        ),
+        "decode_offset_value" => show(&mut line.text, decode_value(bytes)),
         "encode_offset_value" => {
-            show_digits(alloc, line, written_value(alloc, notes, bytes, more))
+            show_digits(
+                alloc,
+                &mut line.text,
+                written_value(alloc, &mut line.notes, bytes, more),
+            )
         }
-        _ => evidence::answer(alloc, notes, line, call, bytes, more),
+        _ => evidence::answer(alloc, line, call, bytes, more),
     }
 }
 

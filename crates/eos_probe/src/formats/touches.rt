@@ -1,24 +1,24 @@
 //! The rule of touches.
 
-use crate::words::{Notes, first_of, or_bad, show};
+use crate::words::{Line, Notes, first_of, or_bad, show};
 use eos_batch::Kind;
 use eos_touch::{Touch, pair_ok};
 use std::alloc::AllocError;
 
 /// Whether the second touch may follow the first one, or follow nothing where `-` stands for the first.
-pub(super) fn pair(notes: &mut Notes, line: &mut String, words: &str) -> Result<(), AllocError> {
+pub(super) fn pair(line: &mut Line, words: &str) -> Result<(), AllocError> {
     let (first, rest) = first_of(words);
     let (second, test) = first_of(rest);
     let before = if first == "-" {
         None
     } else {
-        Some(touch_of(notes, first))
+        Some(touch_of(&mut line.notes, first))
     };
-    let next = touch_of(notes, second);
+    let next = touch_of(&mut line.notes, second);
     if test != "sequenced" && test != "unsequenced" {
-        notes.is_bad = true;
+        line.notes.is_bad = true;
     }
-    show(line, pair_ok(before, next, test == "sequenced"))
+    show(&mut line.text, pair_ok(before, next, test == "sequenced"))
 }
 
 /// A touch: `txn/EPOCH/SEQUENCE` or `plain/EPOCH/SEQUENCE` is data of one record, and `commit/EPOCH` or `abort/EPOCH` an end.

@@ -1,7 +1,7 @@
 //! Records of the transaction log.
 
 use crate::formats::offsets;
-use crate::words::{Notes, bytes_of, first_of, or_bad, show, show_digits};
+use crate::words::{Line, Notes, bytes_of, first_of, or_bad, show, show_digits};
 use bytes::Bytes;
 use eos_base::RecordFault;
 use eos_txnlog::{
@@ -12,23 +12,26 @@ use std::alloc::{AllocError, Global};
 
 pub(super) fn answer(
     alloc: Global,
-    notes: &mut Notes,
-    line: &mut String,
+    line: &mut Line,
     call: &str,
     bytes: &Bytes,
     more: &str,
 ) -> Result<(), AllocError> {
     match call {
-        "decode_txn_key" => show(line, decode_key(alloc, bytes)),
-        "encode_txn_key" => show_digits(alloc, line, encode_key(alloc, bytes)),
-        "decode_txn_value" => show(line, decode_value(alloc, bytes)),
-        "encode_txn_value" => show_digits(alloc, line, recoded(alloc, notes, bytes, more)),
-        "lists" => show(line, listed(alloc, notes, bytes, more)),
-        "is_same_set" => show(line, same(alloc, notes, bytes, more)),
-        "is_skipped" => show(line, skipped(alloc, notes, bytes, more)),
-        "is_skipped_first" => show(line, skipped_first(alloc, bytes)),
-        "step_ok" => show(line, step(alloc, notes, bytes, more)),
-        _ => offsets::answer(alloc, notes, line, call, bytes, more),
+        "decode_txn_key" => show(&mut line.text, decode_key(alloc, bytes)),
+        "encode_txn_key" => show_digits(alloc, &mut line.text, encode_key(alloc, bytes)),
+        "decode_txn_value" => show(&mut line.text, decode_value(alloc, bytes)),
+        "encode_txn_value" => show_digits(
+            alloc,
+            &mut line.text,
+            recoded(alloc, &mut line.notes, bytes, more),
+        ),
+        "lists" => show(&mut line.text, listed(alloc, &mut line.notes, bytes, more)),
+        "is_same_set" => show(&mut line.text, same(alloc, &mut line.notes, bytes, more)),
+        "is_skipped" => show(&mut line.text, skipped(alloc, &mut line.notes, bytes, more)),
+        "is_skipped_first" => show(&mut line.text, skipped_first(alloc, bytes)),
+        "step_ok" => show(&mut line.text, step(alloc, &mut line.notes, bytes, more)),
+        _ => offsets::answer(alloc, line, call, bytes, more),
     }
 }
 

@@ -1,7 +1,7 @@
 //! Numbers, fields and checksums.
 
 use crate::formats::txnlog;
-use crate::words::{Notes, or_bad, show, show_digits};
+use crate::words::{Line, Notes, or_bad, show, show_digits};
 use bytes::Bytes;
 use eos_wire::{
     Fields, crc32c, read_uvarint, read_varint, read_varlong, write_uvarint, write_varint,
@@ -11,24 +11,23 @@ use std::alloc::{AllocError, Global};
 
 pub(super) fn answer(
     alloc: Global,
-    notes: &mut Notes,
-    line: &mut String,
+    line: &mut Line,
     call: &str,
     bytes: &Bytes,
     more: &str,
 ) -> Result<(), AllocError> {
     match call {
-        "crc32c" => write!(line, "{:08x}", crc32c(bytes.as_slice())),
-        "read_varint" => show(line, read_varint(bytes.as_slice())),
-        "read_varlong" => show(line, read_varlong(bytes.as_slice())),
-        "read_uvarint" => show(line, read_uvarint(bytes.as_slice())),
+        "crc32c" => write!(&mut line.text, "{:08x}", crc32c(bytes.as_slice())),
+        "read_varint" => show(&mut line.text, read_varint(bytes.as_slice())),
+        "read_varlong" => show(&mut line.text, read_varlong(bytes.as_slice())),
+        "read_uvarint" => show(&mut line.text, read_uvarint(bytes.as_slice())),
         "write_varint" | "write_varlong" | "write_uvarint" => show_digits(
             alloc,
-            line,
-            written(alloc, notes, call, bytes.as_slice(), more),
+            &mut line.text,
+            written(alloc, &mut line.notes, call, bytes.as_slice(), more),
         ),
-        "fields" => fields(line, bytes.as_slice()),
-        _ => txnlog::answer(alloc, notes, line, call, bytes, more),
+        "fields" => fields(&mut line.text, bytes.as_slice()),
+        _ => txnlog::answer(alloc, line, call, bytes, more),
     }
 }
 

@@ -3,11 +3,13 @@
 
 use super::parts::parts_of;
 use super::verdicts::push_fault;
-use crate::words::{Notes, bad, name_of, sides};
+use crate::words::{Line, Notes, bad, name_of, sides};
 use bytes::Bytes;
 use eos_base::Listed;
 use eos_check::Fault;
-use eos_commits::{TopicSet, commits_of, committed, last_committed, least_visible_fault};
+use eos_commits::{
+    CommitRef, TopicSet, commits_of, committed, last_committed, least_visible_fault,
+};
 use eos_evidence::{App, GroupId, Spec, SpecFault};
 use eos_fold::Part;
 use eos_lineage::{LineageFault, check_lineage};
@@ -109,35 +111,26 @@ fn visible(
 fn of_apps<R: Threads + Sync>(
     rt: &R,
     alloc: Global,
-    notes: &mut Notes,
-    line: &mut String,
+    line: &mut Line,
     call: &str,
     rest: &str,
 ) -> Result<(), AllocError> {
     let (apps, words) = rest.split_once(' ').unwrap_or((rest, ""));
-    let spec = spec_of(alloc, notes, apps)?;
-    let parts = parts_of(alloc, notes, words)?;
+    let spec = spec_of(alloc, &mut line.notes, apps)?;
+    let parts = parts_of(alloc, &mut line.notes, words)?;
     match call {
-        "check_lineage" => lineage(rt, alloc, line, &spec, parts.as_slice()),
-        "all_output_faults" => outputs(alloc, line, &spec, parts.as_slice()),
-        _ => visible(alloc, line, &spec, parts.as_slice()),
+        "check_lineage" => lineage(rt, alloc, &mut line.text, &spec, parts.as_slice()),
+        "all_output_faults" => outputs(alloc, &mut line.text, &spec, parts.as_slice()),
+        _ => visible(alloc, &mut line.text, &spec, parts.as_slice()),
     }
 }
 
-/// Writes the commits of a group for these topics, and the last for the partition of this name.
-fn tell(
-    alloc: Global,
-    line: &mut String,
-    group: &str,
-    topics: &[Bytes],
-    name: (&str, i32),
-    parts: &[Part],
-) -> Result<(), AllocError> {
-    let all = commits_of(alloc, group.as_bytes(), topics, parts)?;
+/// Writes the commits of a group, and the last for the partition of this name.
+fn tell(line: &mut String, all: &[CommitRef<'_>], name: (&str, i32)) -> Result<(), AllocError> {
     let (topic, number) = name;
-    let last = last_committed(all.as_slice(), topic.as_bytes(), number);
+    let last = last_committed(all, topic.as_bytes(), number);
     push_value(line, "last=", &last)?;
-    for commit in all.as_slice() {
+    for commit in all {
         let topic = std::str::from_utf8(commit.topic).unwrap_or("no text");
         let (number, offset) = (commit.partition, commit.offset);
         write!(line, " {topic}-{number}:{offset}={:?}", commit.writer)?;
@@ -146,64 +139,47 @@ fn tell(
 }
 
 /// What is said of the words `GROUP TOPIC,TOPIC NAME PART PART ..`.
-fn commits(
-    alloc: Global,
-    notes: &mut Notes,
-    line: &mut String,
-    rest: &str,
-) -> Result<(), AllocError> {
-    let (group, rest) = sides(notes, rest, ' ');
-    let (topics, rest) = sides(notes, rest, ' ');
-    let (name, words) = sides(notes, rest, ' ');
-    let name = name_of(notes, name);
+fn commits(alloc: Global, line: &mut Line, rest: &str) -> Result<(), AllocError> {
+    let (group, rest) = sides(&mut line.notes, rest, ' ');
+    let (topics, rest) = sides(&mut line.notes, rest, ' ');
+    let (name, words) = sides(&mut line.notes, rest, ' ');
+    let name = name_of(&mut line.notes, name);
     let topics = topics_of(alloc, topics)?;
-    let parts = parts_of(alloc, notes, words)?;
-    tell(
-        alloc,
-        line,
-        group,
-        topics.as_slice(),
-        name,
-        parts.as_slice(),
-    )
+    let parts = parts_of(alloc, &mut line.notes, words)?;
+    let all = commits_of(alloc, group.as_bytes(), topics.as_slice(), parts.as_slice())?;
+    tell(&mut line.text, all.as_slice(), name)
 }
 
 /// What is said of the words `GROUP NAME PART PART ..`: the committed offset.
-fn offset_of(
-    alloc: Global,
-    notes: &mut Notes,
-    line: &mut String,
-    rest: &str,
-) -> Result<(), AllocError> {
-    let (group, rest) = sides(notes, rest, ' ');
-    let (name, words) = sides(notes, rest, ' ');
-    let (topic, number) = name_of(notes, name);
+fn offset_of(alloc: Global, line: &mut Line, rest: &str) -> Result<(), AllocError> {
+    let (group, rest) = sides(&mut line.notes, rest, ' ');
+    let (name, words) = sides(&mut line.notes, rest, ' ');
+    let (topic, number) = name_of(&mut line.notes, name);
     let topic = Bytes::copy_from_slice(alloc, topic.as_bytes())?;
-    let parts = parts_of(alloc, notes, words)?;
+    let parts = parts_of(alloc, &mut line.notes, words)?;
     let offset = committed(alloc, parts.as_slice(), group.as_bytes(), &topic, number)?;
-    push_value(line, "", &offset)
+    push_value(&mut line.text, "", &offset)
 }
 
 /// Whether the topics of the words `TOPIC,TOPIC TOPIC` have the last one among them.
-fn has(alloc: Global, notes: &mut Notes, line: &mut String, rest: &str) -> Result<(), AllocError> {
-    let (topics, topic) = sides(notes, rest, ' ');
+fn has(alloc: Global, line: &mut Line, rest: &str) -> Result<(), AllocError> {
+    let (topics, topic) = sides(&mut line.notes, rest, ' ');
     let topics = topics_of(alloc, topics)?;
     let set = TopicSet::of(alloc, topics.as_slice())?;
-    push_value(line, "", &set.has(topic.as_bytes()))
+    push_value(&mut line.text, "", &set.has(topic.as_bytes()))
 }
 
 pub(super) fn answer<R: Threads + Sync>(
     rt: &R,
     alloc: Global,
-    notes: &mut Notes,
-    line: &mut String,
+    line: &mut Line,
     call: &str,
     rest: &str,
 ) -> Result<(), AllocError> {
     match call {
-        "commits_of" => commits(alloc, notes, line, rest),
-        "committed" => offset_of(alloc, notes, line, rest),
-        "topic_set" => has(alloc, notes, line, rest),
-        _ => of_apps(rt, alloc, notes, line, call, rest),
+        "commits_of" => commits(alloc, line, rest),
+        "committed" => offset_of(alloc, line, rest),
+        "topic_set" => has(alloc, line, rest),
+        _ => of_apps(rt, alloc, line, call, rest),
     }
 }

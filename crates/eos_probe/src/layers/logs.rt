@@ -3,7 +3,7 @@
 use super::orders::order_of;
 use super::parts::part_of;
 use super::verdicts::push_fault;
-use crate::words::{Notes, show};
+use crate::words::{Line, show};
 use eos_check::Fault;
 use eos_commits::is_visible;
 use eos_fold::{Part, PartitionFault};
@@ -73,15 +73,14 @@ fn tell(alloc: Global, line: &mut String, call: &str, part: &Part) -> Result<(),
 /// What is said of the words `ORDER PART`; without the first from the left.
 pub(super) fn answer(
     alloc: Global,
-    notes: &mut Notes,
-    line: &mut String,
+    line: &mut Line,
     call: &str,
     rest: &str,
 ) -> Result<(), AllocError> {
     let (order, word) = rest.split_once(' ').unwrap_or(("left", rest));
-    let order = order_of(notes, order);
-    match part_of(alloc, notes, order, word) {
-        Ok(part) => tell(alloc, line, call, &part),
+    let order = order_of(&mut line.notes, order);
+    match part_of(alloc, &mut line.notes, order, word) {
+        Ok(part) => tell(alloc, &mut line.text, call, &part),
         Err(error) => Err(error),
     }
 }

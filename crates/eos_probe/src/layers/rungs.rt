@@ -5,7 +5,7 @@ ghost use Rattle.eos_fold.specs.Standing.{AreOf};
 ghost use Rattle.eos_fold.specs.Sums.{IsFit};
 
 use super::parts::segment_of;
-use crate::words::{Notes, bad, name_of, number_of, sides};
+use crate::words::{Line, Notes, bad, name_of, number_of, sides};
 use bytes::Bytes;
 use eos_base::PartitionName;
 use eos_evidence::Segment;
@@ -66,22 +66,17 @@ fn push_id(line: &mut String, summary: &Summary, producer: i64) -> Result<(), Al
 }
 
 /// Writes what the segments of a partition say of the producer ids of the words `ID,ID PART`.
-pub(super) fn answer(
-    alloc: Global,
-    notes: &mut Notes,
-    line: &mut String,
-    words: &str,
-) -> Result<(), AllocError> {
-    let (ids, word) = sides(notes, words, ' ');
-    let (name, rest) = sides(notes, word, ':');
-    let (_, segments) = sides(notes, rest, ':');
-    let (topic, partition) = name_of(notes, name);
+pub(super) fn answer(alloc: Global, line: &mut Line, words: &str) -> Result<(), AllocError> {
+    let (ids, word) = sides(&mut line.notes, words, ' ');
+    let (name, rest) = sides(&mut line.notes, word, ':');
+    let (_, segments) = sides(&mut line.notes, rest, ':');
+    let (topic, partition) = name_of(&mut line.notes, name);
     let topic = Bytes::copy_from_slice(alloc, topic.as_bytes())?;
     let name = PartitionName { topic, partition };
-    let segments = segments_of(alloc, notes, &name, segments)?;
-    let summary = sum_of(alloc, notes, &name, segments.as_slice())?;
+    let segments = segments_of(alloc, &mut line.notes, &name, segments)?;
+    let summary = sum_of(alloc, &mut line.notes, &name, segments.as_slice())?;
     for id in ids.split(',') {
-        push_id(line, &summary, number_of(notes, id))?;
+        push_id(&mut line.text, &summary, number_of(&mut line.notes, id))?;
     }
     Ok(())
 }

@@ -2,7 +2,7 @@
 
 use super::parts::parts_of;
 use super::verdicts::push_fault;
-use crate::words::{Notes, or_bad, show, sides};
+use crate::words::{Line, or_bad, show, sides};
 use eos_check::Fault;
 use eos_fold::Part;
 use eos_log_faults::all_log_faults;
@@ -12,22 +12,29 @@ use eos_text::push_value;
 use eos_txnlog::Decision;
 use std::alloc::{AllocError, Global};
 
-/// Writes the least fault of a shard, of so many, if there is one.
+/// A shard, of so many.
+#[derive(Clone, Copy)]
+struct Shard {
+    number: u32,
+    of: u32,
+}
+
+/// Writes the least fault of a shard, if there is one.
 fn push_shard(
     alloc: Global,
     line: &mut String,
     table: &TxnTable,
     parts: &[Part],
-    shard: u32,
-    shards: u32,
+    shard: Shard,
 ) -> Result<(), AllocError> {
-    if shard >= shards {
+    let Shard { number, of } = shard;
+    if number >= of {
         return Ok(());
     }
-    match match_shard(alloc, table, parts, shard, shards) {
+    match match_shard(alloc, table, parts, number, of) {
         Ok(None) => Ok(()),
         Ok(Some(fault)) => {
-            push_value(line, "", &shard)?;
+            push_value(line, "", &number)?;
             line.push_str(": ")?;
             push_fault(alloc, line, Some(Fault::Match(fault)))
         }
@@ -43,8 +50,9 @@ fn push_shards(
     parts: &[Part],
     shards: u32,
 ) -> Result<(), AllocError> {
-    for shard in 0..shards {
-        push_shard(alloc, line, table, parts, shard, shards)?;
+    for number in 0..shards {
+        let shard = Shard { number, of: shards };
+        push_shard(alloc, line, table, parts, shard)?;
     }
     if line.is_empty() {
         line.push_str("none")?;
@@ -110,25 +118,24 @@ fn push_matches(alloc: Global, line: &mut String, parts: &[Part]) -> Result<(), 
 /// What is said of the words `PART PART ..`, or `SHARDS PART PART ..` of the shards.
 pub(super) fn answer(
     alloc: Global,
-    notes: &mut Notes,
-    line: &mut String,
+    line: &mut Line,
     call: &str,
     rest: &str,
 ) -> Result<(), AllocError> {
     if call == "txn_log" {
-        let parts = parts_of(alloc, notes, rest)?;
-        return tell(alloc, line, None, parts.as_slice());
+        let parts = parts_of(alloc, &mut line.notes, rest)?;
+        return tell(alloc, &mut line.text, None, parts.as_slice());
     }
     if call == "all_log_faults" {
-        let parts = parts_of(alloc, notes, rest)?;
-        return push_all(alloc, line, parts.as_slice());
+        let parts = parts_of(alloc, &mut line.notes, rest)?;
+        return push_all(alloc, &mut line.text, parts.as_slice());
     }
     if call == "all_match_faults" {
-        let parts = parts_of(alloc, notes, rest)?;
-        return push_matches(alloc, line, parts.as_slice());
+        let parts = parts_of(alloc, &mut line.notes, rest)?;
+        return push_matches(alloc, &mut line.text, parts.as_slice());
     }
-    let (shards, words) = sides(notes, rest, ' ');
-    let shards = or_bad(notes, shards.parse::<u32>().ok(), 0);
-    let parts = parts_of(alloc, notes, words)?;
-    tell(alloc, line, Some(shards), parts.as_slice())
+    let (shards, words) = sides(&mut line.notes, rest, ' ');
+    let shards = or_bad(&mut line.notes, shards.parse::<u32>().ok(), 0);
+    let parts = parts_of(alloc, &mut line.notes, words)?;
+    tell(alloc, &mut line.text, Some(shards), parts.as_slice())
 }

@@ -3,7 +3,7 @@
 use super::logs::fault_of;
 use super::orders::Order;
 use super::parts::part_of;
-use crate::words::{Notes, bad, number_of, place, show};
+use crate::words::{Line, bad, number_of, place, show};
 use eos_check::{Counts, Fault, Verdict};
 use eos_fold::Part;
 use eos_report::{verdict_json, verdict_line, write_verdict};
@@ -62,16 +62,11 @@ const YES: Verdict = Verdict::Yes(Counts {
 });
 
 /// What `write_verdict` answers where there is room for so many bytes, and what was written.
-pub(super) fn written(
-    alloc: Global,
-    notes: &mut Notes,
-    line: &mut String,
-    room: &str,
-) -> Result<(), AllocError> {
-    let room = place(number_of(notes, room));
+pub(super) fn written(alloc: Global, line: &mut Line, room: &str) -> Result<(), AllocError> {
+    let room = place(number_of(&mut line.notes, room));
     let taken = Vec::new(alloc);
     let mut writer = Full { taken, room };
-    tell_written(alloc, line, &mut writer)
+    tell_written(alloc, &mut line.text, &mut writer)
 }
 
 fn tell_written(alloc: Global, line: &mut String, writer: &mut Full) -> Result<(), AllocError> {
@@ -91,30 +86,20 @@ fn tell_both(alloc: Global, line: &mut String, verdict: &Verdict) -> Result<(), 
     line.push_str(&json)
 }
 
-fn tell_both_of(
-    alloc: Global,
-    notes: &mut Notes,
-    line: &mut String,
-    part: &Part,
-) -> Result<(), AllocError> {
+fn tell_both_of(alloc: Global, line: &mut Line, part: &Part) -> Result<(), AllocError> {
     match fault_of(part)? {
-        Some(fault) => tell_both(alloc, line, &Verdict::No(fault)),
-        None => bad(notes),
+        Some(fault) => tell_both(alloc, &mut line.text, &Verdict::No(fault)),
+        None => bad(&mut line.notes),
     }
 }
 
 /// Writes the texts of the verdict of a partition's fault, or of the one of counts where no partition is named.
-pub(super) fn both(
-    alloc: Global,
-    notes: &mut Notes,
-    line: &mut String,
-    word: &str,
-) -> Result<(), AllocError> {
+pub(super) fn both(alloc: Global, line: &mut Line, word: &str) -> Result<(), AllocError> {
     if word.is_empty() {
-        return tell_both(alloc, line, &YES);
+        return tell_both(alloc, &mut line.text, &YES);
     }
-    match part_of(alloc, notes, Order::FromTheLeft, word) {
-        Ok(part) => tell_both_of(alloc, notes, line, &part),
+    match part_of(alloc, &mut line.notes, Order::FromTheLeft, word) {
+        Ok(part) => tell_both_of(alloc, line, &part),
         Err(error) => Err(error),
     }
 }

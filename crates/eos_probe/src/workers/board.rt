@@ -4,7 +4,7 @@ ghost use Rattle.std.specs.Prelude.{◌≡◌, IfOk};
 ghost use Rattle.eos_fold.specs.Sums.{IsFit};
 
 use crate::layers::merged;
-use crate::words::{Notes, numbers_of, place};
+use crate::words::{Line, Notes, numbers_of, place};
 use crate::workers::pool::tell_runs;
 use eos_board::{Board, Receipt, Why};
 use eos_evidence::{Evidence, Segment};
@@ -27,6 +27,13 @@ enum Step {
     Pair,
     /// Puts back the runs of two pieces, made anew.
     Back(u64, u64),
+}
+
+/// A board, and the receipt of its one worker.
+#[derive(Drop)]
+struct Desk<L: Ledger> {
+    board: Board<L>,
+    receipt: Receipt<L>,
 }
 
 /// How many numbers a step has.
@@ -156,56 +163,45 @@ fn pair<L: Ledger>(line: &mut String, board: &mut Board<L>) -> Result<(), AllocE
     }
 }
 
-fn back<L: Ledger>(
-    alloc: Global,
-    line: &mut String,
-    evidence: &Evidence,
-    board: &mut Board<L>,
-    first: u64,
-    second: u64,
-) -> Result<(), AllocError> {
-    let before = named(alloc, evidence, first, first)?;
-    let after = named(alloc, evidence, second, second)?;
-    put_back(line, board, before, after)
-}
-
 /// Writes what a step does.
 fn happen<L: Ledger>(
     alloc: Global,
-    notes: &mut Notes,
-    line: &mut String,
+    line: &mut Line,
     evidence: &Evidence,
-    board: &mut Board<L>,
-    receipt: &mut Receipt<L>,
+    desk: &mut Desk<L>,
     step: Step,
 ) -> Result<(), AllocError> {
+    let Line { text, notes } = line;
+    let Desk { board, receipt } = desk;
     match step {
         Step::Post(number, piece) => {
             let run = named(alloc, evidence, number, piece)?;
-            line.push_str(post(board, receipt, run))
+            text.push_str(post(board, receipt, run))
         }
         Step::Twofold(piece) => {
             let run = twofold(alloc, notes, evidence, piece)?;
-            line.push_str(post(board, receipt, run))
+            text.push_str(post(board, receipt, run))
         }
-        Step::Join => push_value(line, "", &join_all(alloc, board, receipt)?),
-        Step::Pair => pair(line, board),
-        Step::Back(first, second) => back(alloc, line, evidence, board, first, second),
+        Step::Join => push_value(text, "", &join_all(alloc, board, receipt)?),
+        Step::Pair => pair(text, board),
+        Step::Back(first, second) => {
+            let before = named(alloc, evidence, first, first)?;
+            let after = named(alloc, evidence, second, second)?;
+            put_back(text, board, before, after)
+        }
     }
 }
 
 fn happen_all<L: Ledger>(
     alloc: Global,
-    notes: &mut Notes,
-    line: &mut String,
+    line: &mut Line,
     evidence: &Evidence,
-    board: &mut Board<L>,
-    receipt: &mut Receipt<L>,
+    desk: &mut Desk<L>,
     steps: &[Step],
 ) -> Result<(), AllocError> {
     for step in steps {
-        happen(alloc, notes, line, evidence, board, receipt, *step)?;
-        line.push_str("; ")?;
+        happen(alloc, line, evidence, desk, *step)?;
+        line.text.push_str("; ")?;
     }
     Ok(())
 }
@@ -231,8 +227,7 @@ fn tell_left<L: Ledger>(
 /// Writes what each step does to a new board with one receipt, and what is left.
 fn course<L: Ledger>(
     alloc: Global,
-    notes: &mut Notes,
-    line: &mut String,
+    line: &mut Line,
     evidence: &Evidence,
     blank: Blank,
     steps: &[Step],
@@ -240,37 +235,22 @@ fn course<L: Ledger>(
     requires name { blank.name ≡ L.name }
     requires parts { (blank.parts ≡ L.parts) × (L.parts ≡ 1) }
 {
-    let (mut board, mut receipts) = Board::<L>::new(alloc, blank, evidence, 1)?;
-    let Some(mut receipt) = receipts.pop() else {
+    let (board, mut receipts) = Board::<L>::new(alloc, blank, evidence, 1)?;
+    let Some(receipt) = receipts.pop() else {
         return Err(AllocError);
     };
-    happen_all(
-        alloc,
-        notes,
-        line,
-        evidence,
-        &mut board,
-        &mut receipt,
-        steps,
-    )?;
-    tell_left(alloc, line, board, receipt)
+    let mut desk = Desk { board, receipt };
+    happen_all(alloc, line, evidence, &mut desk, steps)?;
+    tell_left(alloc, &mut line.text, desk.board, desk.receipt)
 }
 
 /// The same with a ledger of its own. The words become steps first: a call that picks a ledger can't have a text.
 pub(super) fn run(
     alloc: Global,
-    notes: &mut Notes,
-    line: &mut String,
+    line: &mut Line,
     evidence: &Evidence,
     words: &str,
 ) -> Result<(), AllocError> {
-    let steps = steps_of(alloc, notes, words)?;
-    course::<Brand>(
-        alloc,
-        notes,
-        line,
-        evidence,
-        Blank::new(1),
-        steps.as_slice(),
-    )
+    let steps = steps_of(alloc, &mut line.notes, words)?;
+    course::<Brand>(alloc, line, evidence, Blank::new(1), steps.as_slice())
 }

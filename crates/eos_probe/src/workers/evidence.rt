@@ -69,14 +69,14 @@ fn builder_of(
     }
 }
 
-/// The segment of a word.
+/// The segment of a word, of the partition of this name.
 fn segment_of(
     alloc: Global,
     notes: &mut Notes,
-    topic: &str,
-    partition: i32,
+    name: (&str, i32),
     word: &str,
 ) -> Result<Segment, AllocError> {
+    let (topic, partition) = name;
     let (base, digits) = sides(notes, word, '/');
     let base = number_of(notes, base);
     let bytes = bytes_of(alloc, notes, digits)?;
@@ -93,11 +93,10 @@ fn add(
     alloc: Global,
     notes: &mut Notes,
     builder: &mut EvidenceBuilder,
-    topic: &str,
-    partition: i32,
+    name: (&str, i32),
     word: &str,
 ) -> Result<(), AllocError> {
-    let segment = segment_of(alloc, notes, topic, partition, word)?;
+    let segment = segment_of(alloc, notes, name, word)?;
     match builder.add(segment) {
         Ok(()) => Ok(()),
         Err(AddFault::OutOfMemory) => Err(AllocError),
@@ -114,9 +113,9 @@ fn add_all(
 ) -> Result<(), AllocError> {
     let (name, rest) = sides(notes, word, ':');
     let (_, segments) = sides(notes, rest, ':');
-    let (topic, partition) = name_of(notes, name);
+    let name = name_of(notes, name);
     for segment in segments.split_terminator(',') {
-        add(alloc, notes, builder, topic, partition, segment)?;
+        add(alloc, notes, builder, name, segment)?;
     }
     Ok(())
 }

@@ -1,7 +1,7 @@
 //! The check by workers behind a gate that holds some of them and notes what passes it, and by the caller alone.
 
 use crate::layers::push_verdict;
-use crate::words::{Notes, first_of, number_of, numbers_of, or_bad, place};
+use crate::words::{Line, Notes, first_of, number_of, numbers_of, or_bad, place};
 use eos_board::Gate;
 use eos_check::{Verdict, check, check_one};
 use eos_evidence::Evidence;
@@ -118,17 +118,16 @@ fn tell(
 pub(super) fn check_behind<R: Threads + Wait + Sync>(
     rt: &R,
     alloc: Global,
-    notes: &mut Notes,
-    line: &mut String,
+    line: &mut Line,
     evidence: &Evidence,
     words: &str,
 ) -> Result<(), AllocError> {
     let (workers, words) = first_of(words);
-    let count = place(number_of(notes, workers)) as u64;
-    let workers = or_bad(notes, Workers::new(count), Workers::one());
-    let gate = gate_of(notes, words);
+    let count = place(number_of(&mut line.notes, workers)) as u64;
+    let workers = or_bad(&mut line.notes, Workers::new(count), Workers::one());
+    let gate = gate_of(&mut line.notes, words);
     match check(alloc, rt, evidence, workers, &gate) {
-        Ok(verdict) => tell(alloc, line, &verdict, &gate),
+        Ok(verdict) => tell(alloc, &mut line.text, &verdict, &gate),
         Err(error) => Err(error),
     }
 }

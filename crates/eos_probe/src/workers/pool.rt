@@ -1,6 +1,6 @@
 //! The pool's core: it takes the events of workers one after another.
 
-use crate::words::{Notes, first_of, number_of, place, show};
+use crate::words::{Line, Notes, first_of, number_of, place, show};
 use eos_board::{PoolCore, PoolEvent, PoolReply};
 use eos_evidence::Evidence;
 use eos_fold::Named;
@@ -59,30 +59,28 @@ fn happen(notes: &mut Notes, core: &mut PoolCore, word: &str) -> PoolReply {
 
 fn tell_replies(
     alloc: Global,
-    notes: &mut Notes,
-    line: &mut String,
+    line: &mut Line,
     core: &mut PoolCore,
     words: &str,
 ) -> Result<(), AllocError> {
     let mut replies = Vec::new(alloc);
     for word in words.split_whitespace() {
-        replies.push(happen(notes, core, word))?;
+        replies.push(happen(&mut line.notes, core, word))?;
     }
-    show(line, replies)?;
-    line.push_str(" ")
+    show(&mut line.text, replies)?;
+    line.text.push_str(" ")
 }
 
 /// Writes the replies of a core to the events of these words, after the number of its workers; and the pieces of its runs.
 pub(super) fn run(
     alloc: Global,
-    notes: &mut Notes,
-    line: &mut String,
+    line: &mut Line,
     evidence: &Evidence,
     words: &str,
 ) -> Result<(), AllocError> {
     let (workers, words) = first_of(words);
-    let workers = place(number_of(notes, workers)).min(64) as u64;
+    let workers = place(number_of(&mut line.notes, workers)).min(64) as u64;
     let mut core = PoolCore::new(alloc, evidence, workers)?;
-    tell_replies(alloc, notes, line, &mut core, words)?;
-    tell_runs(alloc, line, core.into_runs().as_slice())
+    tell_replies(alloc, line, &mut core, words)?;
+    tell_runs(alloc, &mut line.text, core.into_runs().as_slice())
 }

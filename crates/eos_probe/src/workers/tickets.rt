@@ -2,7 +2,7 @@
 
 ghost use Rattle.std.specs.Prelude.{◌≡◌, false};
 
-use crate::words::{Notes, numbers_of, place};
+use crate::words::{Line, numbers_of, place};
 use eos_text::push_value;
 use eos_tickets::{MAX_TICKETS, MAX_WORKERS, Seat, Tickets};
 use std::alloc::{AllocError, Global};
@@ -77,11 +77,10 @@ fn tell_of(
 pub(super) fn tell<R: Threads + Sync>(
     rt: &R,
     alloc: Global,
-    notes: &mut Notes,
-    line: &mut String,
+    line: &mut Line,
     words: &str,
 ) -> Result<(), AllocError> {
-    let numbers = numbers_of(notes, words, 2);
+    let numbers = numbers_of(&mut line.notes, words, 2);
     let count = (place(numbers[0]) as u64).min(MAX_TICKETS);
     let workers = (place(numbers[1]) as u64).clamp(1, MAX_WORKERS);
     let (tickets, seats) = Tickets::new(alloc, count, workers)?;
@@ -92,5 +91,5 @@ pub(super) fn tell<R: Threads + Sync>(
             requires { (seat.of ≡ tickets) × (seat.is_done ≡ false) }
         { draw_all(alloc, &tickets, seat) },
     )?;
-    tell_of(alloc, line, lists.as_slice(), count)
+    tell_of(alloc, &mut line.text, lists.as_slice(), count)
 }
