@@ -1,0 +1,142 @@
+#!/usr/bin/env -S python3 -B
+"""What is said of the crates as a whole: their order, their entries, their place in the documents, and their functions' sizes.
+
+    python3 -B tests/shape.py
+
+Each crate of crates.txt stands below those that name it, and names none that its sources don't; it has one entry in
+docs/ARCHITECTURE.md, stands in the picture there, and CONTRIBUTING.md says which tests are its own. No function has more than
+five parameters. The last line is 'N passed, N failed'.
+"""
+import glob
+import os
+import re
+import sys
+
+MOST = 5
+# Crates that are nothing but tests.
+TESTS = {"eos_probe", "eos_tests"}
+COMMENTS = {"rt": re.compile(r"//.*"), "antt": re.compile(r"--.*")}
+TEXTS = re.compile(r'"(?:\\.|[^"\\])*"')
+OPENING = {"(": ")", "[": "]", "{": "}", "<": ">"}
+
+
+def read(path):
+    with open(path, encoding="utf-8") as file:
+        return file.read()
+
+
+def sources(crate, ending):
+    """The files of a crate with this ending, each without its comments."""
+    for path in sorted(glob.glob(f"crates/{crate}/**/*.{ending}", recursive=True)):
+        if f"crates/{crate}/out/" not in path:
+            yield path, COMMENTS[ending].sub("", read(path))
+
+
+def crates():
+    """Of each crate of crates.txt, in their order, those that it names."""
+    found = {}
+    for line in read("crates.txt").splitlines():
+        name, colon, below = line.partition("#")[0].partition(":")
+        if colon:
+            found[name.split()[0]] = below.split()
+    return found
+
+
+def close(text, at):
+    """The place of the bracket that closes the one at this place; an arrow closes none."""
+    waiting = []
+    for place in range(at, len(text)):
+        char = text[place]
+        if char in OPENING and not (char == "<" and text[place - 1] == " "):
+            waiting.append(OPENING[char])
+        elif waiting and char == waiting[-1] and not (char == ">" and text[place - 1] in "-="):
+            waiting.pop()
+            if not waiting:
+                return place
+    return len(text)
+
+
+def parameters(text, at):
+    """How many parameters stand in the brackets that open at this place."""
+    last = close(text, at)
+    count, place, begun = 0, at + 1, False
+    while place < last:
+        char = text[place]
+        if char in "([{<":
+            place = close(text, place)
+        elif char == ",":
+            count, begun = count + begun, False
+        elif not char.isspace():
+            begun = True
+        place += 1
+    return count + begun
+
+
+def functions(text):
+    """Each function's name, and how many parameters it has."""
+    for found in re.finditer(r"\bfn (\w+)", text):
+        at = found.end()
+        if text[at : at + 1] == "<":
+            at = close(text, at) + 1
+        if text[at : at + 1] == "(":
+            yield found.group(1), parameters(text, at)
+
+
+def of_list(found, say):
+    """crates.txt against the folders and the sources."""
+    folders = {os.path.basename(os.path.dirname(path)) for path in glob.glob("crates/*/src")}
+    for name in sorted(folders ^ set(found)):
+        say(False, f"{name} is a folder or a line of crates.txt, not both")
+    above = set()
+    for name, below in found.items():
+        words = set()
+        for ending in COMMENTS:
+            for _, text in sources(name, ending):
+                words.update(re.findall(r"\w+", text))
+        for it in below:
+            say(it not in found or it in above, f"crates.txt: {name} stands above {it}")
+            say(it in words, f"crates.txt: no source of {name} names {it}")
+        above.add(name)
+
+
+def of_documents(found, say):
+    """The documents that speak of each crate."""
+    architecture = read("docs/ARCHITECTURE.md")
+    picture = architecture.partition("## The crates")[0]
+    entries = re.findall(r"^- \*\*`(\w+)`\*\*", architecture, re.M)
+    tests = read("CONTRIBUTING.md")
+    for name in found:
+        say(entries.count(name) == 1, f"docs/ARCHITECTURE.md: not one entry of {name}")
+        say(re.search(rf"\b{name}\b", picture), f"docs/ARCHITECTURE.md: the picture lacks {name}")
+        say(name in TESTS or f"`{name}`" in tests, f"CONTRIBUTING.md: no tests of {name}")
+
+
+def of_functions(found, say):
+    """The sizes of functions."""
+    for crate in found:
+        for path, text in sources(crate, "rt"):
+            for name, count in functions(TEXTS.sub('""', text)):
+                say(count <= MOST, f"{path}: {name} has {count} parameters")
+
+
+def main():
+    passed, failures = 0, []
+
+    def say(holds, failure):
+        nonlocal passed
+        if holds:
+            passed += 1
+        else:
+            failures.append(failure)
+
+    found = crates()
+    of_list(found, say)
+    of_documents(found, say)
+    of_functions(found, say)
+    print(*failures, sep="\n", end="\n" * bool(failures))
+    print(f"{passed} passed, {len(failures)} failed")
+    return bool(failures)
+
+
+if __name__ == "__main__":
+    sys.exit(main())
