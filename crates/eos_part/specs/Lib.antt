@@ -1,4 +1,5 @@
 pub mod Items
 pub mod Parts
 pub mod Records
+pub mod Runs
 pub mod steps

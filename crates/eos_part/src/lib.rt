@@ -10,8 +10,10 @@ mod cursor;
 mod item;
 mod part;
 mod records;
+mod run;
 mod whole;
 
 pub use cursor::KeptCursor;
 pub use item::KeptItem;
 pub use part::Part;
+pub use run::{Asked, KeptRun};
