@@ -4,10 +4,11 @@
     tests/histories.py PROGRAM [REFUSE.SO]
 
 A folder is the same with a history and without one; its history's lines count up, and its totals are those that this file
-counts in the lines, and the transactions those of `check`. Run again, each history gives the same folder byte for byte: of 200
-seeds, and of 120 with random sizes, rates, switches and mishaps. Schedules written by hand have an answer worked out by hand.
-Lines that are cut, edited, broken or answered otherwise are told with their numbers, and nothing is left. With REFUSE.SO
-(tests/refuse.c, built) the allocations of a run are refused. Prints what is wrong, and as its last line 'N passed, N failed'.
+counts in the lines, the transactions those of `check`, and what was lost and repeated what the script's words say. Run again,
+each history gives the same folder byte for byte: of 200 seeds, and of 120 with random sizes, rates, switches and mishaps.
+Schedules written by hand have an answer worked out by hand. Lines that are cut, edited, broken or answered otherwise are told
+with their numbers, and nothing is left. With REFUSE.SO (tests/refuse.c, built) the allocations of a run are refused. Prints what
+is wrong, and as its last line 'N passed, N failed'.
 """
 import concurrent.futures
 import filecmp
@@ -123,6 +124,45 @@ def wrong_lines(lines, folder):
     if counts and tail["transactions"] < int(counts[1]):
         return f"{tail}, but {said}"
     return None
+
+
+def words_of(seed, count):
+    """The words of a script: those of PCG XSH RR 64/32, whose state and stream a seed gives by a PCG of its own."""
+    most, factor = (1 << 64) - 1, 6364136223846793005
+
+    def word_at(state):
+        word, turn = ((state >> 18 ^ state) >> 27) & 0xFFFFFFFF, state >> 59
+        return (word >> turn | word << (32 - turn)) & 0xFFFFFFFF
+
+    def next_of(state, step):
+        return (state * factor + step) & most
+
+    state, parts = seed, []
+    for _ in range(4):
+        state = next_of(state, 11634580027462260723)
+        parts.append(word_at(state))
+    step = parts[2] | parts[3] << 32 | 1
+    state = next_of((parts[0] | parts[1] << 32) + step, step)
+    words = []
+    for _ in range(count):
+        words.append(word_at(state))
+        state = next_of(state, step)
+    return words
+
+
+def totals():
+    """How often a message was lost and how often one came again, by the words that say so: some say it in vain, where no message
+    is on its way, or none was."""
+    for seed, lose, repeat in ((7, 0, 0), (8, 60, 0), (9, 0, 200), (10, 40, 150)):
+        folder, history, events = f"{scratch}/totals-{seed}", f"{scratch}/totals-{seed}.jsonl", 1500
+        run("simulate", "--seed", seed, "--events", events, "--lose", lose, "--repeat", repeat, "--history", history, folder)
+        found = lines_of(history)[-1]
+        places = [word % 32000 for word in words_of(seed, events)]
+        losing = sum(place < 32 * lose for place in places)
+        repeating = sum(32 * lose <= place < 32 * (lose + repeat) for place in places)
+        well = losing / 4 <= found["lost"] <= losing and repeating * 0.8 <= found["repeated"] <= repeating
+        expect(well, f"{losing} words lose a message and {repeating} repeat one: {found}")
+        shutil.rmtree(folder)
 
 
 def again(seed):
@@ -372,6 +412,7 @@ def main():
         expect(not it, it)
     made = found.count(None)
     expect(made > PLAIN + RANDOM / 2, f"only {made} of {len(found)} random scripts leave a folder")
+    totals()
     worked()
     refused()
     files()
