@@ -75,7 +75,7 @@ fn of_lineage(alloc: Global, faults: Vec<LineageFault>) -> Result<Vec<Fault>, Al
     Ok(list)
 }
 
-// The fourth phase, or else the fifth.
+/// The fourth phase, or else the fifth.
 fn lineage_faults(
     alloc: Global,
     spec: &Spec,
@@ -92,7 +92,7 @@ fn lineage_faults(
     Ok(list)
 }
 
-// Where no fault of the first three phases stands.
+/// Where no fault of the first three phases stands.
 fn after_matching(alloc: Global, spec: &Spec, logs: &[Part]) -> Result<Vec<Fault>, AllocError>
     ensures { (e : EvidenceParts) (of : AreLogsOf e.partitions logs.now) → IsEvidence e → e.spec ≡ spec.now
         → NoneStands (StandsInPartitions e.partitions logs.now of) → NoneStands (StandsInLog logs.now) → NoneStands (StandsInMatching logs.now)
@@ -103,7 +103,7 @@ fn after_matching(alloc: Global, spec: &Spec, logs: &[Part]) -> Result<Vec<Fault
     Ok(list)
 }
 
-// Where no fault of the first two phases stands.
+/// Where no fault of the first two phases stands.
 fn after_log(alloc: Global, spec: &Spec, logs: &[Part]) -> Result<Vec<Fault>, AllocError>
     ensures { (e : EvidenceParts) (of : AreLogsOf e.partitions logs.now) → IsEvidence e → e.spec ≡ spec.now
         → NoneStands (StandsInPartitions e.partitions logs.now of) → NoneStands (StandsInLog logs.now)
@@ -118,7 +118,7 @@ fn after_log(alloc: Global, spec: &Spec, logs: &[Part]) -> Result<Vec<Fault>, Al
     Ok(list)
 }
 
-// Where no fault of a partition by itself stands.
+/// Where no fault of a partition by itself stands.
 fn after_partitions(alloc: Global, spec: &Spec, logs: &[Part]) -> Result<Vec<Fault>, AllocError>
     ensures { (e : EvidenceParts) (of : AreLogsOf e.partitions logs.now) → IsEvidence e → e.spec ≡ spec.now
         → NoneStands (StandsInPartitions e.partitions logs.now of) → IfOk result (λ faults. AreAllFaults e logs.now of faults.items) }

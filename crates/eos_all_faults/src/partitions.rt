@@ -12,7 +12,7 @@ use eos_partition_faults::faults_of_partition;
 use eos_touch::PartitionFault;
 use std::alloc::{AllocError, Global};
 
-// Those of one partition after the other.
+/// Those of one partition after the other.
 fn faults_in(alloc: Global, partitions: &[Partition]) -> Result<Vec<PartitionFault>, AllocError>
     ensures { IfOk result (λ faults. AreFaultsIn partitions.now faults.items) }
 {

@@ -31,7 +31,7 @@ pub struct Page {
     pub next: &'static str,
 }
 
-// The first of these with this code.
+/// The first of these with this code.
 fn page_in(pages: &'static [Page], code: &str) -> Option<&'static Page>
     ensures { option_copied result ≡ page_in pages.now code.now }
 {

@@ -13,7 +13,7 @@ use std::alloc::{AllocError, Global};
 use std::thread;
 use std::thread::Threads;
 
-// The least fault so far, with a shard's.
+/// The least fault so far, with a shard's.
 fn with(best: Option<MatchFault>, answer: Option<MatchFault>) -> Option<MatchFault>
     ensures { result ≡ lesser_answer best answer }
 {
@@ -23,7 +23,7 @@ fn with(best: Option<MatchFault>, answer: Option<MatchFault>) -> Option<MatchFau
     }
 }
 
-// The least fault that one of the shards answered, or want of memory where one did.
+/// The least fault that one of the shards answered, or want of memory where one did.
 fn least_of(
     answers: Vec<Result<Option<MatchFault>, AllocError>>,
 ) -> Result<Option<MatchFault>, AllocError>

@@ -30,7 +30,7 @@ pub struct LentClaim<'a> {
     pub at: PlaceRef<'a>,
 }
 
-// The claim's fault of a kind.
+/// The claim's fault of a kind.
 fn fault_at<'a>(kind: OutputKind, claim: &LentClaim<'a>) -> Found<'a>
     ensures { plain_fault result ≡ claim_fault kind (plain_lent claim.entry.now) }
 {
@@ -42,7 +42,7 @@ fn fault_at<'a>(kind: OutputKind, claim: &LentClaim<'a>) -> Found<'a>
     }
 }
 
-// Neither in 1 to the count, nor the note 0 of 0.
+/// Neither in 1 to the count, nor the note 0 of 0.
 fn is_out_of_range(claim: &LentClaim<'_>) -> bool
     ensures { result ≡ is_out claim.now.of claim.now.output }
 {

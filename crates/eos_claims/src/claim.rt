@@ -42,7 +42,7 @@ pub struct ClaimRef<'a> {
     pub of: u32,
 }
 
-// What was seen of the five headers: nothing, null or more than one, or a value.
+/// What was seen of the five headers: nothing, null or more than one, or a value.
 #[derive(Clone, Copy)]
 struct Slots<'a> {
     topic: Option<Option<&'a [u8]>>,
@@ -64,7 +64,7 @@ fn blank<'a>() -> Slots<'a>
     }
 }
 
-// A slot after one more header with its key.
+/// A slot after one more header with its key.
 fn put<'a>(slot: Option<Option<&'a [u8]>>, value: Option<&'a [u8]>) -> Option<Option<&'a [u8]>>
     ensures { plain_slot result ≡ put_in (plain_slot slot.entry) (plain_value value.entry) }
 {
@@ -74,7 +74,7 @@ fn put<'a>(slot: Option<Option<&'a [u8]>>, value: Option<&'a [u8]>) -> Option<Op
     }
 }
 
-// A slot after one more header.
+/// A slot after one more header.
 fn kept<'a>(
     name: &[u8],
     key: &[u8],
@@ -98,7 +98,7 @@ fn keep<'a>(slots: &Slots<'a>, key: &[u8], value: Option<&'a [u8]>) -> Slots<'a>
     }
 }
 
-// An INT32 that takes the whole value and isn't below 0.
+/// An INT32 that takes the whole value and isn't below 0.
 fn int32(value: &[u8]) -> Option<u32>
     ensures number { result ≡ int32_of value.now }
     ensures below { IfSome result (λ n. n < 2 ^ 31) }
@@ -112,7 +112,7 @@ fn int32(value: &[u8]) -> Option<u32>
     }
 }
 
-// An INT64 that takes the whole value and isn't below 0.
+/// An INT64 that takes the whole value and isn't below 0.
 fn int64(value: &[u8]) -> Option<u64>
     ensures number { result ≡ int64_of value.now }
 {
@@ -125,7 +125,7 @@ fn int64(value: &[u8]) -> Option<u64>
     }
 }
 
-// The value in a slot, where it was seen once and isn't null.
+/// The value in a slot, where it was seen once and isn't null.
 fn the<'a>(slot: Option<Option<&'a [u8]>>) -> Option<&'a [u8]>
     ensures { plain_value result ≡ the_value (plain_slot slot.entry) }
 {
@@ -163,7 +163,7 @@ fn claim_from<'a>(slots: &Slots<'a>) -> Option<ClaimRef<'a>>
     })
 }
 
-// The value of a header, lent.
+/// The value of a header, lent.
 fn lent(value: &Option<Bytes>) -> Option<&[u8]>
     ensures { plain_value result ≡ value.now }
 {
@@ -187,7 +187,7 @@ pub fn view_claim<'a>(headers: HeaderRefs<'a>) -> Option<ClaimRef<'a>>
     claim_from(&slots)
 }
 
-// The slots of these headers.
+/// The slots of these headers.
 fn slots_of(headers: &[Header]) -> Slots<'_>
     ensures { plain_slots result ≡ fold keep_in nothing headers.now }
 {

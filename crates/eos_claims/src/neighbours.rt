@@ -20,7 +20,7 @@ pub struct NumberedClaim<'a> {
     pub of: u32,
 }
 
-// The claim's fault of a kind.
+/// The claim's fault of a kind.
 fn fault_at<'a>(kind: OutputKind, claim: &NumberedClaim<'a>) -> Found<'a>
     ensures { plain_fault result ≡ claim_fault kind (plain_claim claim.entry.now) }
 {
@@ -32,7 +32,7 @@ fn fault_at<'a>(kind: OutputKind, claim: &NumberedClaim<'a>) -> Found<'a>
     }
 }
 
-// An output of a claim's input that is missing.
+/// An output of a claim's input that is missing.
 fn missing<'a>(claim: &NumberedClaim<'a>, output: u32) -> Found<'a>
     ensures { plain_fault result ≡ missing_fault (plain_place claim.entry.now.source) output }
 {
@@ -68,7 +68,7 @@ fn is_of_one_source(claim: &NumberedClaim<'_>, next: &NumberedClaim<'_>) -> bool
     claim.source.cmp(&next.source).is_eq()
 }
 
-// The first claim of its source begins with output 1, or is a note.
+/// The first claim of its source begins with output 1, or is a note.
 fn at_start<'a>(best: Option<Found<'a>>, claim: &NumberedClaim<'a>) -> Option<Found<'a>>
     ensures { option_map plain_fault result ≡ fold (lesser_of fault_cmp) (option_map plain_fault best.entry) (start_of (plain_claim claim.entry.now)) }
 {
@@ -76,7 +76,7 @@ fn at_start<'a>(best: Option<Found<'a>>, claim: &NumberedClaim<'a>) -> Option<Fo
     with_tested(best, late, missing(claim, 1))
 }
 
-// The last claim of its source ends with the last output.
+/// The last claim of its source ends with the last output.
 fn at_end<'a>(best: Option<Found<'a>>, claim: &NumberedClaim<'a>) -> Option<Found<'a>>
     ensures { option_map plain_fault result ≡ fold (lesser_of fault_cmp) (option_map plain_fault best.entry) (end_of (plain_claim claim.entry.now)) }
 {
@@ -87,7 +87,7 @@ fn at_end<'a>(best: Option<Found<'a>>, claim: &NumberedClaim<'a>) -> Option<Foun
     }
 }
 
-// Two claims of one source agree in their counts, have two numbers, and no number between.
+/// Two claims of one source agree in their counts, have two numbers, and no number between.
 fn in_run<'a>(
     best: Option<Found<'a>>,
     claim: &NumberedClaim<'a>,
@@ -109,7 +109,7 @@ fn in_run<'a>(
     }
 }
 
-// What two neighbours show.
+/// What two neighbours show.
 fn between<'a>(
     best: Option<Found<'a>>,
     claim: &NumberedClaim<'a>,
@@ -125,7 +125,7 @@ fn between<'a>(
     }
 }
 
-// What the claims from one on show.
+/// What the claims from one on show.
 fn least_after<'a>(
     best: Option<Found<'a>>,
     first: &NumberedClaim<'a>,

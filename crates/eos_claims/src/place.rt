@@ -27,7 +27,7 @@ pub struct SourceRef<'a> {
     pub offset: u64,
 }
 
-// The same place.
+/// The same place.
 pub(crate) fn source_at<'a>(place: PlaceRef<'a>) -> SourceRef<'a>
     ensures { plain_source result ≡ plain_place place.entry }
 {

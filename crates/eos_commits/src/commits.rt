@@ -31,7 +31,7 @@ pub struct CommitRef<'a> {
     pub writer: Option<(i64, i16)>,
 }
 
-// The commit of this key, where its value reads.
+/// The commit of this key, where its value reads.
 pub(crate) fn commit_with<'a>(
     key: KeyRef<'a>,
     value: Option<&[u8]>,
@@ -51,14 +51,14 @@ pub(crate) fn commit_with<'a>(
     }
 }
 
-// Whether the key is of this group and one of these topics.
+/// Whether the key is of this group and one of these topics.
 fn is_of(group: &[u8], sources: &TopicSet<'_>, key: &KeyRef<'_>) -> bool
     ensures { result ≡ is_of_group group.now sources.now (plain_key key.now) }
 {
     is_same(group, key.group) && sources.has(key.topic)
 }
 
-// The commit that a visible record of the offsets log is, if it is one.
+/// The commit that a visible record of the offsets log is, if it is one.
 fn commit_of<'a>(group: &[u8], sources: &TopicSet<'_>, item: &ItemRef<'a>) -> Option<CommitRef<'a>>
     ensures { option_to_list (option_map plain_commit result) ≡ commit_under (is_of_group group.now sources.now) (key_of item.entry.now) item.entry.now }
 {
@@ -72,7 +72,7 @@ fn commit_of<'a>(group: &[u8], sources: &TopicSet<'_>, item: &ItemRef<'a>) -> Op
     }
 }
 
-// The commit that a record of the offsets log is, if it is one.
+/// The commit that a record of the offsets log is, if it is one.
 fn commit_at<'a>(group: &[u8], sources: &TopicSet<'_>, item: &ItemRef<'a>) -> Option<CommitRef<'a>>
     ensures { option_to_list (option_map plain_commit result) ≡ commit_in (is_of_group group.now sources.now) item.entry.now }
 {
@@ -83,7 +83,7 @@ fn commit_at<'a>(group: &[u8], sources: &TopicSet<'_>, item: &ItemRef<'a>) -> Op
     }
 }
 
-// Puts the commit at the end that a record of the offsets log is, if it is one.
+/// Puts the commit at the end that a record of the offsets log is, if it is one.
 fn push_commit<'a>(
     all: &mut Vec<CommitRef<'a>>,
     group: &[u8],
@@ -98,7 +98,7 @@ fn push_commit<'a>(
     Ok(())
 }
 
-// Puts a partition's commits at the end.
+/// Puts a partition's commits at the end.
 fn push_commits<'a>(
     all: &mut Vec<CommitRef<'a>>,
     group: &[u8],
@@ -117,7 +117,7 @@ fn push_commits<'a>(
     Ok(())
 }
 
-// The commits of a group that reads this set of topics.
+/// The commits of a group that reads this set of topics.
 fn commits_by_set<'a>(
     alloc: Global,
     group: &[u8],
@@ -151,7 +151,7 @@ pub fn commits_of<'a>(
     Ok(all)
 }
 
-// Whether the commit is of this partition.
+/// Whether the commit is of this partition.
 fn is_for(commit: &CommitRef<'_>, topic: &[u8], partition: i32) -> bool
     ensures { result ≡ is_eq (name_cmp (plain_commit commit.now).partition (record { topic = topic.now; partition = partition })) }
 {

@@ -46,7 +46,7 @@ impl VisibleFaultKind {
         self.row().1
     }
 
-    // The number and the name, a line for each kind.
+    /// The number and the name, a line for each kind.
     fn row(self) -> (u8, &'static str)
         ensures number { result.0 ≡ number_of self }
         ensures name { result.1.now ≡ name_of self }

@@ -38,7 +38,7 @@ struct Found {
     kind: VisibleFaultKind,
 }
 
-// What a value shows under a key of a group and a source topic.
+/// What a value shows under a key of a group and a source topic.
 fn kind_of_value(value: Option<&[u8]>, is_split: bool) -> Option<VisibleFaultKind>
     ensures { result ≡ value_kind (option_map read_value (option_map (λ s. s.now) value.entry)) is_split }
 {
@@ -61,7 +61,7 @@ fn kind_of_value(value: Option<&[u8]>, is_split: bool) -> Option<VisibleFaultKin
     }
 }
 
-// What a visible record of the offsets log shows.
+/// What a visible record of the offsets log shows.
 fn judge_commit<'a>(
     roles: &Roles<'_>,
     homes: &mut Homes<'a>,
@@ -89,7 +89,7 @@ fn judge_commit<'a>(
     Ok(kind_of_value(value, is_split))
 }
 
-// Whether the headers are no claim.
+/// Whether the headers are no claim.
 fn is_unclaimed(headers: HeaderRefs<'_>) -> bool
     ensures { result ≡ is_none (claim_of headers.entry) }
 {
@@ -99,7 +99,7 @@ fn is_unclaimed(headers: HeaderRefs<'_>) -> bool
     }
 }
 
-// What a visible record shows.
+/// What a visible record shows.
 fn judge_visible<'a>(
     roles: &Roles<'_>,
     part: PartRole,
@@ -119,7 +119,7 @@ fn judge_visible<'a>(
     Ok(None)
 }
 
-// What a record shows.
+/// What a record shows.
 fn judge_item<'a>(
     roles: &Roles<'_>,
     part: PartRole,
@@ -145,7 +145,7 @@ fn role_of(roles: &Roles<'_>, part: &Part) -> PartRole
     }
 }
 
-// The first fault of a partition's records.
+/// The first fault of a partition's records.
 fn judge_part<'a>(
     roles: &Roles<'_>,
     homes: &mut Homes<'a>,
@@ -180,7 +180,7 @@ fn fault_in(part: &Part, found: Found) -> Result<VisibleFault, AllocError>
     })
 }
 
-// The first fault of all records.
+/// The first fault of all records.
 fn first_fault(
     alloc: Global,
     roles: &Roles<'_>,

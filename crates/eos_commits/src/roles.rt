@@ -26,7 +26,7 @@ pub(crate) struct SourceRef<'a> {
     pub topic: &'a [u8],
 }
 
-// Puts these topics at the end.
+/// Puts these topics at the end.
 fn push_topics<'a>(all: &mut Vec<TopicRef<'a>>, topics: &'a [Bytes]) -> Result<(), AllocError>
     ensures { OnOk result (map plain_topic all.new.items ≡ map plain_topic all.old.items ++ topics.now) }
 {
@@ -38,7 +38,7 @@ fn push_topics<'a>(all: &mut Vec<TopicRef<'a>>, topics: &'a [Bytes]) -> Result<(
     Ok(())
 }
 
-// Puts the topics that an application reads at the end, each with its group.
+/// Puts the topics that an application reads at the end, each with its group.
 fn push_sources<'a>(all: &mut Vec<SourceRef<'a>>, app: &'a App) -> Result<(), AllocError>
     ensures { OnOk result (map plain_source all.new.items ≡ map plain_source all.old.items ++ sources_in app.now) }
 {
@@ -73,7 +73,7 @@ fn all_sources<'a>(alloc: Global, apps: &'a [App]) -> Result<Vec<SourceRef<'a>>,
     Ok(all)
 }
 
-// Whether the topic is among these, which are in order.
+/// Whether the topic is among these, which are in order.
 fn is_topic_in(keys: &[TopicRef<'_>], key: &TopicRef<'_>) -> bool
     requires { IsSorted by_topic keys.now }
     ensures { result ≡ is_found (slice_cmp nat_cmp) (map plain_topic keys.now) (plain_topic key.now) }
@@ -81,7 +81,7 @@ fn is_topic_in(keys: &[TopicRef<'_>], key: &TopicRef<'_>) -> bool
     holds(keys, key)
 }
 
-// Whether the group and topic are among these, which are in order.
+/// Whether the group and topic are among these, which are in order.
 fn is_source_in(keys: &[SourceRef<'_>], key: &SourceRef<'_>) -> bool
     requires { IsSorted by_source keys.now }
     ensures { result ≡ is_found source_cmp (map plain_source keys.now) (plain_source key.now) }

@@ -48,7 +48,7 @@ impl<'a> Model for CommitTable<'a> {
     ghost invariant = { λ t. IsSorted by_group t.entries.items };
 }
 
-// The commit with its group, if there is one.
+/// The commit with its group, if there is one.
 fn grouped<'a>(group: &'a [u8], commit: Option<CommitRef<'a>>) -> Option<Entry<'a>>
     ensures { option_to_list (option_map plain_entry result) ≡ map (λ c. (group.now, c)) (option_to_list (option_map plain_commit commit.entry)) }
 {
@@ -58,7 +58,7 @@ fn grouped<'a>(group: &'a [u8], commit: Option<CommitRef<'a>>) -> Option<Entry<'
     }
 }
 
-// The entry that a visible record of the offsets log is, if it is one.
+/// The entry that a visible record of the offsets log is, if it is one.
 fn entry_of<'a>(roles: &Roles<'_>, item: &ItemRef<'a>) -> Option<Entry<'a>>
     ensures { option_to_list (option_map plain_entry result) ≡ entry_under (is_read roles.now.sources) (key_of item.entry.now) item.entry.now }
 {
@@ -73,7 +73,7 @@ fn entry_of<'a>(roles: &Roles<'_>, item: &ItemRef<'a>) -> Option<Entry<'a>>
     }
 }
 
-// The entry that a record of the offsets log is, if it is one.
+/// The entry that a record of the offsets log is, if it is one.
 fn entry_at<'a>(roles: &Roles<'_>, item: &ItemRef<'a>) -> Option<Entry<'a>>
     ensures { option_to_list (option_map plain_entry result) ≡ entry_in (is_read roles.now.sources) item.entry.now }
 {
@@ -84,7 +84,7 @@ fn entry_at<'a>(roles: &Roles<'_>, item: &ItemRef<'a>) -> Option<Entry<'a>>
     }
 }
 
-// Puts the entry at the end that a record of the offsets log is, if it is one.
+/// Puts the entry at the end that a record of the offsets log is, if it is one.
 fn push_entry<'a>(
     all: &mut Vec<Entry<'a>>,
     roles: &Roles<'_>,
@@ -98,7 +98,7 @@ fn push_entry<'a>(
     Ok(())
 }
 
-// Puts a partition's entries at the end.
+/// Puts a partition's entries at the end.
 fn push_entries<'a>(
     all: &mut Vec<Entry<'a>>,
     roles: &Roles<'_>,
@@ -116,7 +116,7 @@ fn push_entries<'a>(
     Ok(())
 }
 
-// The entries of all partitions, in the order of the log.
+/// The entries of all partitions, in the order of the log.
 fn all_entries<'a>(
     alloc: Global,
     roles: &Roles<'_>,
@@ -131,7 +131,7 @@ fn all_entries<'a>(
     Ok(all)
 }
 
-// The entries by their groups, those of one group in the order in which they stood.
+/// The entries by their groups, those of one group in the order in which they stood.
 fn sorted_by_group<'a>(mut entries: Vec<Entry<'a>>) -> Result<Vec<Entry<'a>>, AllocError>
     ensures sorted { IfOk result (λ all. IsSorted by_group all.items) }
     ensures stable { IfOk result (λ all. (group : Group) → filter (is_under group) all.items ≡ filter (is_under group) entries.entry.items) }
@@ -146,7 +146,7 @@ fn is_before(entry: &Entry<'_>, group: &[u8]) -> bool
     entry.group.cmp(group).is_lt()
 }
 
-// How many entries are of groups before this one: a search by halves.
+/// How many entries are of groups before this one: a search by halves.
 fn count_before(entries: &[Entry<'_>], group: &[u8]) -> usize
     requires { IsSorted by_group entries.now }
     ensures bound { result ≤ length entries.now }
@@ -166,7 +166,7 @@ fn count_before(entries: &[Entry<'_>], group: &[u8]) -> usize
     low
 }
 
-// Puts the entry's commit at the end, if it is of one of these topics.
+/// Puts the entry's commit at the end, if it is of one of these topics.
 fn push_of_topics<'a>(
     all: &mut Vec<CommitRef<'a>>,
     sources: &TopicSet<'_>,
@@ -180,7 +180,7 @@ fn push_of_topics<'a>(
     Ok(())
 }
 
-// Whether the entry at this place is of this group.
+/// Whether the entry at this place is of this group.
 fn is_of_group_at(entries: &[Entry<'_>], at: usize, group: &[u8]) -> bool
     ensures { MatchBool result ((at < length entries.now) × ((d : Entry) → is_under group.now (slice_index_or entries.now at d) ≡ true))
         (at < length entries.now → (d : Entry) → is_under group.now (slice_index_or entries.now at d) ≡ false) }
@@ -188,7 +188,7 @@ fn is_of_group_at(entries: &[Entry<'_>], at: usize, group: &[u8]) -> bool
     at < entries.len() && is_same(group, entries[at].group)
 }
 
-// The commits of a group and a set of topics among these.
+/// The commits of a group and a set of topics among these.
 fn commits_from<'a>(
     alloc: Global,
     entries: &[Entry<'a>],

@@ -39,7 +39,7 @@ pub enum Answer {
     Fewer(u64),
 }
 
-// Each fault as the verdict that names it.
+/// Each fault as the verdict that names it.
 fn verdicts_of(alloc: Global, faults: Vec<Fault>) -> Result<Vec<Verdict>, AllocError>
     ensures { IfOk result (λ told. told.items ≡ map No faults.items) }
 {

@@ -64,7 +64,7 @@ fn write_answer(rt: &HostRuntime, text: &str, status: u8) -> u8 {
     )
 }
 
-// There are fewer faults than the number that was named.
+/// There are fewer faults than the number that was named.
 fn say_fewer(rt: &HostRuntime, count: u64) -> u8 {
     let _ = eprint!(rt; "eoscheck: there are {count} faults\n");
     2

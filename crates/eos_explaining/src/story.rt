@@ -16,7 +16,7 @@ use eos_story::{Scene, place_of, rows_of};
 use eos_story_text::{Story, story_text};
 use std::alloc::{AllocError, Global};
 
-// The catalogue's page of a kind of fault.
+/// The catalogue's page of a kind of fault.
 fn page_for(alloc: Global, fault: &Fault) -> Result<Option<&'static Page>, AllocError>
     ensures { IfOk result (λ page. IsPageOf (code_of fault.now) (option_copied page)) }
 {
@@ -26,7 +26,7 @@ fn page_for(alloc: Global, fault: &Fault) -> Result<Option<&'static Page>, Alloc
     Ok(page_of(code.as_str()))
 }
 
-// The story of the fault that this verdict names, which is one of these.
+/// The story of the fault that this verdict names, which is one of these.
 fn told_of(
     scene: &Scene<'_>,
     told: &[Verdict],

@@ -31,8 +31,8 @@ pub(crate) struct Tally {
     pub(crate) outputs: u64,
 }
 
-// The claims in their order, sorted in place: claims that are tied are equal, so none that takes memory to keep the order of
-// such is wanted.
+/// The claims in their order, sorted in place: claims that are tied are equal, so none that takes memory to keep the order of
+/// such is wanted.
 fn sorted<'a>(
     rt: &(impl Threads + Sync),
     workers: Workers,
@@ -45,7 +45,7 @@ fn sorted<'a>(
     claims
 }
 
-// The number of claims that are no notes.
+/// The number of claims that are no notes.
 fn count_outputs(claims: &[NumberedClaim<'_>]) -> u64
     ensures { result ≡ length (filter is_no_note (map plain_claim claims.now)) }
 {
@@ -58,7 +58,7 @@ fn count_outputs(claims: &[NumberedClaim<'_>]) -> u64
     count
 }
 
-// Whether the claim at this place is of the input.
+/// Whether the claim at this place is of the input.
 fn names_at<'a>(claims: &[NumberedClaim<'a>], place: usize, input: &PlaceRef<'a>) -> bool
     ensures { result ≡ true → is_named claims.now (plain_place input.now) ≡ true }
 {
@@ -68,8 +68,8 @@ fn names_at<'a>(claims: &[NumberedClaim<'a>], place: usize, input: &PlaceRef<'a>
     }
 }
 
-// Whether one of the claims, which are in order, is of the input: looked for first at a place where it may stand, then by
-// a binary search.
+/// Whether one of the claims, which are in order, is of the input: looked for first at a place where it may stand, then by
+/// a binary search.
 fn is_claimed<'a>(claims: &[NumberedClaim<'a>], near: usize, input: &PlaceRef<'a>) -> bool
     ensures { IsSorted by_source claims.now → result ≡ is_named claims.now (plain_place input.now) }
 {
@@ -81,8 +81,8 @@ fn is_claimed<'a>(claims: &[NumberedClaim<'a>], near: usize, input: &PlaceRef<'a
         .is_ok()
 }
 
-// From a place on, the first of the claims that isn't of a lesser input. Only a guess where the input's stand: it says
-// nothing of claims before the place.
+/// From a place on, the first of the claims that isn't of a lesser input. Only a guess where the input's stand: it says
+/// nothing of claims before the place.
 fn advanced<'a>(claims: &[NumberedClaim<'a>], from: usize, input: &PlaceRef<'a>) -> usize {
     let mut place = from;
     while place < claims.len() && claims[place].source.cmp(input).is_lt() {
@@ -98,7 +98,7 @@ fn one_where(test: bool) -> u64
     if test { 1 } else { 0 }
 }
 
-// The number of inputs below their committed offsets.
+/// The number of inputs below their committed offsets.
 fn count_inputs(tables: &Tables<'_, '_, '_, '_, '_, '_>) -> u64
     ensures { (a : Application) → AreTables a tables.now → result ≡ length (inputs_below a) }
 {
@@ -110,7 +110,7 @@ fn count_inputs(tables: &Tables<'_, '_, '_, '_, '_, '_>) -> u64
     count
 }
 
-// The lesser of the least so far and what an input shows.
+/// The lesser of the least so far and what an input shows.
 fn take_input<'a>(
     tables: &Tables<'_, '_, '_, '_, '_, 'a>,
     marks: &mut Marks,
@@ -127,7 +127,7 @@ fn take_input<'a>(
     least_of_input(best, *input, committed, claimed)
 }
 
-// The lesser of the least so far and what inputs show.
+/// The lesser of the least so far and what inputs show.
 fn take_inputs<'a>(
     tables: &Tables<'_, '_, '_, '_, '_, 'a>,
     claims: &[NumberedClaim<'a>],
@@ -144,7 +144,7 @@ fn take_inputs<'a>(
     best
 }
 
-// The place with a name of its own.
+/// The place with a name of its own.
 fn own_place(place: &PlaceRef<'_>) -> Result<Place, AllocError>
     ensures { IfOk result (λ p. p ≡ plain_place place.now) }
 {
@@ -167,7 +167,7 @@ fn own_place_if(place: &Option<PlaceRef<'_>>) -> Result<Option<Place>, AllocErro
     }
 }
 
-// The source with a name of its own.
+/// The source with a name of its own.
 fn own_source(alloc: Global, source: &SourceRef<'_>) -> Result<Place, AllocError>
     ensures { IfOk result (λ p. p ≡ plain_source source.now) }
 {
@@ -180,7 +180,7 @@ fn own_source(alloc: Global, source: &SourceRef<'_>) -> Result<Place, AllocError
     })
 }
 
-// The fault with names of its own.
+/// The fault with names of its own.
 fn published(alloc: Global, found: &Found<'_>) -> Result<OutputFault, AllocError>
     ensures { IfOk result (λ f. f ≡ plain_fault found.now) }
 {

@@ -28,7 +28,7 @@ use eos_workers::Workers;
 use std::alloc::{AllocError, Global};
 use std::thread::Threads;
 
-// The outputs of the application with this pipeline.
+/// The outputs of the application with this pipeline.
 fn check_application(
     alloc: Global,
     rt: &(impl Threads + Sync),
@@ -55,7 +55,7 @@ fn check_application(
     make_tally(alloc, rt, workers, &tables, outputs.as_slice())
 }
 
-// The group that a fault of an application's outputs names.
+/// The group that a fault of an application's outputs names.
 fn group_of(apps: &[App], app: &App) -> Result<Option<GroupId>, AllocError>
     ensures { IfOk result (λ group. group ≡ named_group apps.now app.now) }
 {
@@ -66,14 +66,14 @@ fn group_of(apps: &[App], app: &App) -> Result<Option<GroupId>, AllocError>
     }
 }
 
-// No machine has memory for as many records as 64 bits can't count.
+/// No machine has memory for as many records as 64 bits can't count.
 fn sum(a: u64, b: u64) -> Result<u64, AllocError>
     ensures { IfOk result (λ s. s ≡ a + b) }
 {
     a.checked_add(b).ok_or(AllocError)
 }
 
-// The outputs of the applications, one after the other.
+/// The outputs of the applications, one after the other.
 fn check_each(
     alloc: Global,
     rt: &(impl Threads + Sync),
@@ -101,7 +101,7 @@ fn check_each(
     Ok(Ok(LineageCounts { inputs, outputs }))
 }
 
-// The outputs of the applications over these partitions.
+/// The outputs of the applications over these partitions.
 fn check_outputs(
     alloc: Global,
     rt: &(impl Threads + Sync),

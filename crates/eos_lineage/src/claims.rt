@@ -42,14 +42,14 @@ struct PlacedRef<'a> {
     writer: Option<(i64, i16)>,
 }
 
-// What threads walk over: the partitions, with the tables beside them.
+/// What threads walk over: the partitions, with the tables beside them.
 #[derive(Clone, Copy)]
 struct Ground<'n, 's, 'i, 'o, 'p, 'g, 'a> {
     tables: Tables<'n, 's, 'i, 'o, 'p, 'a>,
     outputs: &'g [Output<'a>],
 }
 
-// Keeps a claim of an input that is below its committed offset.
+/// Keeps a claim of an input that is below its committed offset.
 fn keep_below<'a>(
     below: &mut Vec<NumberedClaim<'a>>,
     known: &Option<Known<'a>>,
@@ -87,7 +87,7 @@ fn lent_of<'a>(placed: &PlacedRef<'a>) -> LentClaim<'a>
     }
 }
 
-// Takes a claim.
+/// Takes a claim.
 fn take_claim<'a>(
     walk: &mut Walk<'a>,
     tables: &Tables<'_, '_, '_, '_, '_, 'a>,
@@ -103,7 +103,7 @@ fn take_claim<'a>(
     keep_below(&mut walk.below, &known, &lent)
 }
 
-// Takes the claim of a record, if it is visible and one.
+/// Takes the claim of a record, if it is visible and one.
 fn take_item<'a>(
     walk: &mut Walk<'a>,
     tables: &Tables<'_, '_, '_, '_, '_, 'a>,
@@ -130,7 +130,7 @@ fn take_item<'a>(
     }
 }
 
-// Takes the claims of a partition.
+/// Takes the claims of a partition.
 fn take_part<'a>(
     walk: &mut Walk<'a>,
     tables: &Tables<'_, '_, '_, '_, '_, 'a>,
@@ -170,7 +170,7 @@ pub(crate) fn outputs_of<'a>(
     Ok(outputs)
 }
 
-// Takes the claims of the first of these partitions, at most so many of them.
+/// Takes the claims of the first of these partitions, at most so many of them.
 fn take_first<'a>(
     alloc: Global,
     tables: &Tables<'_, '_, '_, '_, '_, 'a>,
@@ -189,7 +189,7 @@ fn take_first<'a>(
     Ok(walk)
 }
 
-// Takes the claims of a chunk of the partitions, which are cut into chunks of this size.
+/// Takes the claims of a chunk of the partitions, which are cut into chunks of this size.
 fn take_chunk<'a>(
     alloc: Global,
     ground: &Ground<'_, '_, '_, '_, '_, '_, 'a>,
@@ -203,7 +203,7 @@ fn take_chunk<'a>(
     take_first(alloc, &ground.tables, outputs, size)
 }
 
-// The lesser of the least so far and what another walk found.
+/// The lesser of the least so far and what another walk found.
 fn lesser_of_both<'a>(best: Option<Found<'a>>, found: Option<Found<'a>>) -> Option<Found<'a>>
     ensures { option_map plain_fault result ≡ lesser_found (option_map plain_fault best.entry) (option_map plain_fault found.entry) }
 {
@@ -213,7 +213,7 @@ fn lesser_of_both<'a>(best: Option<Found<'a>>, found: Option<Found<'a>>) -> Opti
     }
 }
 
-// Puts a walk at the end of another one.
+/// Puts a walk at the end of another one.
 fn join_walk<'a>(walk: &mut Walk<'a>, next: Walk<'a>) -> Result<(), AllocError>
     ensures { OnOk result (plain_walk walk.new ≡ joined_walk (plain_walk walk.old) (plain_walk next.entry)) }
 {
@@ -226,7 +226,7 @@ fn join_walk<'a>(walk: &mut Walk<'a>, next: Walk<'a>) -> Result<(), AllocError>
     walk.below.append(&mut below)
 }
 
-// The walks one after the other, or want of memory where one of them is.
+/// The walks one after the other, or want of memory where one of them is.
 fn join_walks<'a>(
     alloc: Global,
     walks: Vec<Result<Walk<'a>, AllocError>>,

@@ -12,7 +12,7 @@ use eos_fold::Part;
 use eos_items::ItemRef;
 use std::alloc::{AllocError, Global};
 
-// Puts the place of a record at the end, if it is visible.
+/// Puts the place of a record at the end, if it is visible.
 fn push_input<'a>(
     all: &mut Vec<PlaceRef<'a>>,
     name: &'a PartitionName,
@@ -29,7 +29,7 @@ fn push_input<'a>(
     Ok(())
 }
 
-// Puts the places of a partition's visible records at the end, if it is of one of these topics.
+/// Puts the places of a partition's visible records at the end, if it is of one of these topics.
 fn push_inputs<'a>(
     all: &mut Vec<PlaceRef<'a>>,
     sources: &TopicSet<'_>,

@@ -20,7 +20,7 @@ fn set_offset(offsets: &mut Vec<i64>, place: usize, offset: i64)
     offsets[place] = offset;
 }
 
-// Sets the offset of a commit's partition, if it is there.
+/// Sets the offset of a commit's partition, if it is there.
 fn commit_one(offsets: &mut Vec<i64>, names: &Names<'_>, commit: &CommitRef<'_>)
     requires { length offsets.old.items ≡ length names.now }
     ensures len { length offsets.new.items ≡ length names.now }
@@ -31,7 +31,7 @@ fn commit_one(offsets: &mut Vec<i64>, names: &Names<'_>, commit: &CommitRef<'_>)
     }
 }
 
-// Nothing is committed yet.
+/// Nothing is committed yet.
 fn none_committed(alloc: Global, names: &[PartitionName]) -> Result<Vec<i64>, AllocError>
     ensures { IfOk result (λ offsets. offsets.items ≡ map (committed_offset []) names.now) }
 {

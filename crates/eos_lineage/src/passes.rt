@@ -45,7 +45,7 @@ impl<'a> Model for PassTable<'a> {
     ghost invariant = { λ t. IsSorted by_pass t.passes.items };
 }
 
-// The last offset below a committed one, if there is one.
+/// The last offset below a committed one, if there is one.
 fn last_below(offset: i64) -> Option<u64>
     ensures { result ≡ last_offset_below offset }
 {
@@ -56,7 +56,7 @@ fn last_below(offset: i64) -> Option<u64>
     }
 }
 
-// What a commit passes: nothing where it is of no transaction or commits offset 0.
+/// What a commit passes: nothing where it is of no transaction or commits offset 0.
 fn pass_of<'a>(commit: &CommitRef<'a>) -> Option<Pass<'a>>
     ensures { option_map plain_pass result ≡ pass_of_commit (plain_commit commit.entry.now) }
 {
@@ -73,7 +73,7 @@ fn pass_of<'a>(commit: &CommitRef<'a>) -> Option<Pass<'a>>
     })
 }
 
-// Puts at the end what a commit passes.
+/// Puts at the end what a commit passes.
 fn push_pass<'a>(all: &mut Vec<Pass<'a>>, commit: &CommitRef<'a>) -> Result<(), AllocError>
     ensures { OnOk result (map plain_pass all.new.items ≡ map plain_pass all.old.items ++ passes_of (plain_commit commit.now)) }
 {
@@ -104,7 +104,7 @@ impl<'a> PassTable<'a> {
         })
     }
 
-    // Whether one of them has this key, and an offset of at least its.
+    /// Whether one of them has this key, and an offset of at least its.
     fn reaches(&self, wanted: &Pass<'_>) -> bool
         ensures { result ≡ list_any (reaches (plain_pass wanted.now)) self.now }
     {
@@ -117,7 +117,7 @@ impl<'a> PassTable<'a> {
         }
     }
 
-    // Whether the one at this place has this key, and an offset of at least its.
+    /// Whether the one at this place has this key, and an offset of at least its.
     fn reaches_at(&self, place: usize, wanted: &Pass<'_>) -> bool
         ensures { result ≡ true → list_any (reaches (plain_pass wanted.now)) self.now ≡ true }
     {
@@ -127,7 +127,7 @@ impl<'a> PassTable<'a> {
         }
     }
 
-    // Where one with this key and offset stands, or would stand.
+    /// Where one with this key and offset stands, or would stand.
     fn place_for(&self, wanted: &Pass<'_>) -> usize {
         match self.passes.binary_search(wanted) {
             Ok(place) => place,
@@ -135,7 +135,7 @@ impl<'a> PassTable<'a> {
         }
     }
 
-    // Whether one of them has this key, and an offset of at least its: looked for first where the last one stood.
+    /// Whether one of them has this key, and an offset of at least its: looked for first where the last one stood.
     fn reaches_near(&self, mark: &mut usize, wanted: &Pass<'_>) -> bool
         ensures { result ≡ list_any (reaches (plain_pass wanted.now)) self.now }
     {

@@ -60,14 +60,14 @@ impl Marks {
         }
     }
 
-    // Where the input at this offset stands, if it is of the last one's partition and none is missing between.
+    /// Where the input at this offset stands, if it is of the last one's partition and none is missing between.
     fn input_near(&self, offset: u64) -> usize {
         self.input
             .wrapping_add(offset.wrapping_sub(self.offset) as usize)
     }
 }
 
-// Whether the item at this place is tied with the key.
+/// Whether the item at this place is tied with the key.
 fn stands_at<T: Ord>(items: &[T], place: usize, key: &T) -> bool
     ensures { result ≡ true → is_found T.cmp items.now key.now ≡ true }
 {
@@ -77,8 +77,8 @@ fn stands_at<T: Ord>(items: &[T], place: usize, key: &T) -> bool
     }
 }
 
-// Where an item stands that is tied with the key, if there is one: looked for first at a place where it may stand, then
-// by a binary search, of items in order.
+/// Where an item stands that is tied with the key, if there is one: looked for first at a place where it may stand, then
+/// by a binary search, of items in order.
 fn place_of<T: Ord>(items: &[T], near: usize, key: &T) -> Option<usize>
     ensures { IsSorted T.cmp items.now → is_some result ≡ is_found T.cmp items.now key.now }
 {
@@ -88,7 +88,7 @@ fn place_of<T: Ord>(items: &[T], near: usize, key: &T) -> Option<usize>
     items.binary_search(key).ok()
 }
 
-// Whether the place is one of the inputs.
+/// Whether the place is one of the inputs.
 fn is_input(inputs: &[PlaceRef<'_>], marks: &mut Marks, place: &PlaceRef<'_>) -> bool
     ensures { IsSorted by_place inputs.now → result ≡ is_found by_place inputs.now place.now }
 {
@@ -102,7 +102,7 @@ fn is_input(inputs: &[PlaceRef<'_>], marks: &mut Marks, place: &PlaceRef<'_>) ->
     }
 }
 
-// Whether the offset is below the one that stands at this place.
+/// Whether the offset is below the one that stands at this place.
 fn is_below_at(offsets: &[i64], place: usize, offset: u64) -> bool
     ensures { result ≡ is_below_in (slice_get offsets.now place) offset }
 {
@@ -145,7 +145,7 @@ pub(crate) fn known_of<'a>(
     Some(known_at(tables, marks, part, source.offset))
 }
 
-// Whether it is an input, and whether that is below its committed offset.
+/// Whether it is an input, and whether that is below its committed offset.
 fn flags(known: &Option<Known<'_>>) -> (bool, bool)
     ensures { result ≡ flags_of known.now }
 {
@@ -174,7 +174,7 @@ pub(crate) fn tests_of(
     }
 }
 
-// The same place.
+/// The same place.
 fn source_of<'a>(place: &PlaceRef<'a>) -> SourceRef<'a>
     ensures { plain_source result ≡ plain_place place.entry.now }
 {

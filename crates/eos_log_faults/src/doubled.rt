@@ -77,7 +77,7 @@ fn push_split(faults: &mut Vec<LogFault>, mark: &Mark, home: Option<i32>) -> Res
     Ok(())
 }
 
-// The record's id in a lesser partition.
+/// The record's id in a lesser partition.
 fn take_home(faults: &mut Vec<LogFault>, homes: &mut Homes, mark: &Mark) -> Result<(), AllocError>
     ensures faults { (before : List Mark) → AreHomes homes.old before → OnOk result (faults.new.items ≡ faults.old.items ++ split_at mark.now (home_in before mark.now.id)) }
     ensures homes { (before : List Mark) → AreHomes homes.old before → OnOk result (AreHomes homes.new (before ++ mark.now ∷ [])) }
@@ -128,7 +128,7 @@ fn push_shared(faults: &mut Vec<LogFault>, mark: &Mark, is_shared: bool) -> Resu
     Ok(())
 }
 
-// The record's producer id under another id.
+/// The record's producer id under another id.
 fn take_producer(
     faults: &mut Vec<LogFault>,
     producers: &mut Producers,

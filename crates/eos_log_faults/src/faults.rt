@@ -13,7 +13,7 @@ use eos_fold::Part;
 use eos_table::LogFault;
 use std::alloc::{AllocError, Global};
 
-// The faults as they are found, one perhaps more than once.
+/// The faults as they are found, one perhaps more than once.
 fn found(alloc: Global, parts: &[Part]) -> Result<Vec<LogFault>, AllocError>
     ensures { IfOk result (λ faults. faults.items ≡ gathered (transaction_parts parts.now)) }
 {

@@ -37,7 +37,7 @@ impl Model for Reading {
 /// The value of the last unskipped record of each transactional id of a partition; none is a tombstone.
 type LastValues = BTreeMap<Bytes, Option<TxnValue>>;
 
-// Takes up an unskipped record.
+/// Takes up an unskipped record.
 fn take_step(
     reading: &mut Reading,
     place: Place,
@@ -73,7 +73,7 @@ fn last_value<'a>(last: &'a LastValues, id: &Bytes) -> Option<Option<&'a TxnValu
     }
 }
 
-// Takes up what a record says, its transactional id and the value, unless it is skipped.
+/// Takes up what a record says, its transactional id and the value, unless it is skipped.
 fn take_value(
     alloc: Global,
     reading: &mut Reading,
@@ -135,7 +135,7 @@ fn take_records(
     Ok(())
 }
 
-// Where the partition is declared to end.
+/// Where the partition is declared to end.
 fn end_of(part: &Part) -> Place
     ensures partition { result.partition ≡ part.now.number }
     ensures offset { result.offset ≡ unsigned_abs part.now.end }
@@ -172,7 +172,7 @@ fn push_open_id(
     Ok(())
 }
 
-// What is left unfinished at the end of a partition.
+/// What is left unfinished at the end of a partition.
 fn push_open(
     faults: &mut Vec<LogFault>,
     last: &LastValues,
@@ -187,7 +187,7 @@ fn push_open(
     Ok(())
 }
 
-// Is it a partition of the transaction log?
+/// Is it a partition of the transaction log?
 fn is_of_log(part: &Part) -> bool
     ensures { result ≡ is_transaction_part part.now }
 {
@@ -204,7 +204,7 @@ impl Reading {
         }
     }
 
-    // Takes up a partition of the log.
+    /// Takes up a partition of the log.
     fn take_part(&mut self, alloc: Global, part: &Part) -> Result<(), AllocError>
         ensures { OnOk result (self.new ≡ after self.old (steps_of part.now) (own_faults part.now)) }
     {

@@ -17,7 +17,7 @@ use eos_table::MatchFault;
 use eos_txnlog::Decision;
 use std::alloc::{AllocError, Global};
 
-// What the decisions and their data show, one fault perhaps more than once.
+/// What the decisions and their data show, one fault perhaps more than once.
 fn push_by_decision(
     alloc: Global,
     faults: &mut Vec<MatchFault>,
@@ -33,7 +33,7 @@ fn push_by_decision(
     Ok(())
 }
 
-// What the end markers show.
+/// What the end markers show.
 fn push_by_marker(
     alloc: Global,
     faults: &mut Vec<MatchFault>,
@@ -47,7 +47,7 @@ fn push_by_marker(
     Ok(())
 }
 
-// What the partitions that decisions list show.
+/// What the partitions that decisions list show.
 fn push_by_name(
     alloc: Global,
     faults: &mut Vec<MatchFault>,
@@ -62,7 +62,7 @@ fn push_by_name(
     Ok(())
 }
 
-// The faults as they are found, one perhaps more than once.
+/// The faults as they are found, one perhaps more than once.
 fn found(
     alloc: Global,
     decisions: &[Decision],

@@ -33,7 +33,7 @@ fn kind_of_status(status: Status) -> Option<Kind>
     }
 }
 
-// Puts what a record decides at the end.
+/// Puts what a record decides at the end.
 fn push_decision(
     decisions: &mut Vec<Decision>,
     id: &Bytes,
@@ -68,7 +68,7 @@ fn last_value<'a>(last: &'a LastValues, id: &Bytes) -> Option<Option<&'a TxnValu
     }
 }
 
-// Takes up a record of a transactional id, unless it is skipped.
+/// Takes up a record of a transactional id, unless it is skipped.
 fn take_value(
     alloc: Global,
     decisions: &mut Vec<Decision>,
@@ -119,7 +119,7 @@ fn take_records(
     Ok(())
 }
 
-// Takes up a partition of the log.
+/// Takes up a partition of the log.
 fn take_part(alloc: Global, decisions: &mut Vec<Decision>, part: &Part) -> Result<(), AllocError>
     ensures { OnOk result (decisions.new.items ≡ decisions.old.items ++ decided_in part.now) }
 {
@@ -128,7 +128,7 @@ fn take_part(alloc: Global, decisions: &mut Vec<Decision>, part: &Part) -> Resul
     Ok(())
 }
 
-// Is it a partition of the transaction log?
+/// Is it a partition of the transaction log?
 fn is_of_log(part: &Part) -> bool
     ensures { result ≡ is_transaction_part part.now }
 {

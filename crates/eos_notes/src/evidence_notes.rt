@@ -51,7 +51,7 @@ struct Committed<'a> {
     offsets: &'a [i64],
 }
 
-// What an application's group has committed, by its source topics.
+/// What an application's group has committed, by its source topics.
 fn take_commits(
     found: &mut Found,
     app: &App,
@@ -75,7 +75,7 @@ fn take_commits(
     Ok(())
 }
 
-// What an application's group has committed.
+/// What an application's group has committed.
 fn take_app(
     alloc: Global,
     found: &mut Found,
@@ -101,7 +101,7 @@ fn take_app(
     Ok(())
 }
 
-// What the applications' groups have committed.
+/// What the applications' groups have committed.
 fn found_of(alloc: Global, apps: &[App], parts: &[Part]) -> Result<Found, AllocError>
     requires { AreInOrder parts.now }
     ensures past_ends { IfOk result (λ f. f.past_ends.items ≡ past_ends parts.now apps.now) }
@@ -116,14 +116,14 @@ fn found_of(alloc: Global, apps: &[App], parts: &[Part]) -> Result<Found, AllocE
     Ok(found)
 }
 
-// Puts these behind the others.
+/// Puts these behind the others.
 fn append(all: &mut Vec<Note>, notes: &mut Vec<Note>) -> Result<(), AllocError>
     ensures { OnOk result (all.new.items ≡ all.old.items ++ notes.old.items) }
 {
     all.append(notes)
 }
 
-// Puts the notes behind those of partitions that aren't in `ends`.
+/// Puts the notes behind those of partitions that aren't in `ends`.
 fn push_all(
     alloc: Global,
     all: &mut Vec<Note>,

@@ -128,7 +128,7 @@ pub(crate) fn push_behind(
     Ok(())
 }
 
-// No machine has memory for as many records as 64 bits can't count.
+/// No machine has memory for as many records as 64 bits can't count.
 fn sum(a: u64, b: u64) -> Result<u64, AllocError>
     ensures { IfOk result (λ s. s ≡ a + b) }
 {
@@ -141,7 +141,7 @@ fn is_below(offset: u64, committed: i64) -> bool
     committed > 0 && offset < committed as u64
 }
 
-// With one record more.
+/// With one record more.
 fn counted(count: Count, item: &ItemRef<'_>, committed: i64) -> Result<Count, AllocError>
     ensures inputs { IfOk result (λ c. c.inputs ≡ count.inputs + count_visible (item.now ∷ [])) }
     ensures below { IfOk result (λ c. c.below ≡ count.below + count_below committed (item.now ∷ [])) }
@@ -157,7 +157,7 @@ fn counted(count: Count, item: &ItemRef<'_>, committed: i64) -> Result<Count, Al
     Ok(Count { below, inputs })
 }
 
-// With the records of a partition.
+/// With the records of a partition.
 fn count_part(count: Count, part: &Part, committed: i64) -> Result<Count, AllocError>
     ensures inputs { IfOk result (λ c. c.inputs ≡ count.inputs + count_visible part.now.items) }
     ensures below { IfOk result (λ c. c.below ≡ count.below + count_below committed part.now.items) }
@@ -170,7 +170,7 @@ fn count_part(count: Count, part: &Part, committed: i64) -> Result<Count, AllocE
     Ok(so_far)
 }
 
-// With the records of a partition, if it is of one of these topics.
+/// With the records of a partition, if it is of one of these topics.
 fn count_part_if(
     count: Count,
     sources: &TopicSet<'_>,

@@ -15,7 +15,7 @@ use std::alloc::{AllocError, Global};
 
 // ---- topics
 
-// The topic of each end.
+/// The topic of each end.
 fn topics_of_ends(alloc: Global, ends: &[End]) -> Result<Vec<Bytes>, AllocError>
     ensures { IfOk result (λ topics. topics.items ≡ map (λ e. e.topic) ends.now) }
 {
@@ -26,7 +26,7 @@ fn topics_of_ends(alloc: Global, ends: &[End]) -> Result<Vec<Bytes>, AllocError>
     Ok(topics)
 }
 
-// Puts these topics at the end.
+/// Puts these topics at the end.
 fn push_topics(all: &mut Vec<Bytes>, topics: &[Bytes]) -> Result<(), AllocError>
     ensures { OnOk result (all.new.items ≡ all.old.items ++ topics.now) }
 {
@@ -36,7 +36,7 @@ fn push_topics(all: &mut Vec<Bytes>, topics: &[Bytes]) -> Result<(), AllocError>
     Ok(())
 }
 
-// Puts what an application reads and writes at the end.
+/// Puts what an application reads and writes at the end.
 fn push_topics_of(all: &mut Vec<Bytes>, app: &App) -> Result<(), AllocError>
     ensures { OnOk result (all.new.items ≡ all.old.items ++ topics_of app.now) }
 {
@@ -45,7 +45,7 @@ fn push_topics_of(all: &mut Vec<Bytes>, app: &App) -> Result<(), AllocError>
     Ok(())
 }
 
-// The topics that the applications read and write.
+/// The topics that the applications read and write.
 fn used_topics(alloc: Global, apps: &[App]) -> Result<Vec<Bytes>, AllocError>
     ensures { IfOk result (λ topics. topics.items ≡ flat_map topics_of apps.now) }
 {
@@ -154,7 +154,7 @@ fn has_above(numbers: &[i32], n: u64) -> bool
     numbers.iter().any(|number| is_above(*number, n))
 }
 
-// Whether it isn't one of the numbers, but one of them is greater.
+/// Whether it isn't one of the numbers, but one of them is greater.
 fn is_gap(numbers: &[i32], n: u64) -> bool
     ensures { result ≡ is_gap_of numbers.now n }
 {
@@ -184,14 +184,14 @@ fn has_lesser(ends: &[End], end: &End) -> bool
     ends.iter().any(|other| is_lesser(end, other))
 }
 
-// Whether no partition of its topic has a lesser number.
+/// Whether no partition of its topic has a lesser number.
 fn is_least(ends: &[End], end: &End) -> bool
     ensures { result ≡ is_least_of ends.now end.now }
 {
     !has_lesser(ends, end)
 }
 
-// The numbers of a topic's partitions.
+/// The numbers of a topic's partitions.
 fn numbers_in(alloc: Global, ends: &[End], topic: &Bytes) -> Result<Vec<i32>, AllocError>
     ensures { IfOk result (λ numbers. numbers.items ≡ numbers_of ends.now topic.now) }
 {

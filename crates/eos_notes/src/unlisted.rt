@@ -27,7 +27,7 @@ pub(crate) struct NameRef<'a> {
     pub(crate) partition: i32,
 }
 
-// The partitions that have a declared end.
+/// The partitions that have a declared end.
 fn listed_names<'a>(alloc: Global, ends: &'a [End]) -> Result<Vec<NameRef<'a>>, AllocError>
     ensures { IfOk result (λ names. map plain_name names.items ≡ map end_name ends.now) }
 {
@@ -41,7 +41,7 @@ fn listed_names<'a>(alloc: Global, ends: &'a [End]) -> Result<Vec<NameRef<'a>>, 
     Ok(names)
 }
 
-// Whether the name is among these, which are in order.
+/// Whether the name is among these, which are in order.
 fn is_listed(listed: &[NameRef<'_>], name: &NameRef<'_>) -> bool
     requires { IsSorted by_name listed.now }
     ensures { result ≡ is_found name_cmp (map plain_name listed.now) (plain_name name.now) }
@@ -58,7 +58,7 @@ fn name_of<'a>(commit: &CommitRef<'a>) -> NameRef<'a>
     }
 }
 
-// The partitions of these commits that aren't among the listed ones, which are in order.
+/// The partitions of these commits that aren't among the listed ones, which are in order.
 fn unlisted_names<'a>(
     alloc: Global,
     listed: &[NameRef<'_>],
@@ -77,7 +77,7 @@ fn unlisted_names<'a>(
     Ok(names)
 }
 
-// The items in order, of those that are tied one.
+/// The items in order, of those that are tied one.
 fn distinct_in_order<T: Ord + Drop>(mut items: Vec<T>) -> Vec<T>
     ensures ascend { IsStrictlySortedBy T.cmp result.items }
     ensures sound { (x : T) → Contains result.items x → Contains items.items x }
@@ -88,7 +88,7 @@ fn distinct_in_order<T: Ord + Drop>(mut items: Vec<T>) -> Vec<T>
     items
 }
 
-// Each name once, in order.
+/// Each name once, in order.
 fn each_once<'a>(names: Vec<NameRef<'a>>) -> Vec<NameRef<'a>>
     ensures { AreEachOnce (map plain_name names.entry.items) (map plain_name result.items) }
 {
@@ -134,7 +134,7 @@ fn push_notes(
     Ok(())
 }
 
-// The notes of one group, by its commits and the names that have a declared end, behind the others.
+/// The notes of one group, by its commits and the names that have a declared end, behind the others.
 fn push_group(
     alloc: Global,
     all: &mut Vec<Note>,
@@ -152,7 +152,7 @@ fn push_group(
     Ok(())
 }
 
-// The notes of the applications, by the names that have a declared end, in order.
+/// The notes of the applications, by the names that have a declared end, in order.
 fn notes_by(
     alloc: Global,
     apps: &[App],

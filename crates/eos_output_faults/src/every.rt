@@ -44,7 +44,7 @@ fn faults_of<'a>(
     )
 }
 
-// The group that a fault of an application's outputs names.
+/// The group that a fault of an application's outputs names.
 fn group_of(apps: &[App], app: &App) -> Result<Option<GroupId>, AllocError>
     ensures { IfOk result (λ group. group ≡ named_group apps.now app.now) }
 {
@@ -55,7 +55,7 @@ fn group_of(apps: &[App], app: &App) -> Result<Option<GroupId>, AllocError>
     }
 }
 
-// Puts an application's faults at the end.
+/// Puts an application's faults at the end.
 fn push_faults(
     list: &mut Vec<LineageFault>,
     apps: &[App],
@@ -71,7 +71,7 @@ fn push_faults(
     Ok(())
 }
 
-// The faults of the applications, one after the other.
+/// The faults of the applications, one after the other.
 fn each_app(alloc: Global, apps: &[App], parts: &[Part]) -> Result<Vec<LineageFault>, AllocError>
     ensures { AreInOrder parts.now → IfOk result (λ list. AreTaken apps.now parts.now apps.now list.items) }
 {

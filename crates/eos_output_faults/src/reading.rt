@@ -21,7 +21,7 @@ fn name_of<'a>(part: &'a Part) -> LentName<'a>
     }
 }
 
-// Puts the place of a record at the end, if it is visible.
+/// Puts the place of a record at the end, if it is visible.
 fn push_input<'a>(
     all: &mut Vec<LentPlace<'a>>,
     partition: LentName<'a>,
@@ -38,7 +38,7 @@ fn push_input<'a>(
     Ok(())
 }
 
-// Puts the places of a partition's visible records at the end, if it is of one of these topics.
+/// Puts the places of a partition's visible records at the end, if it is of one of these topics.
 fn push_inputs<'a>(
     all: &mut Vec<LentPlace<'a>>,
     sources: &TopicSet<'_>,
@@ -94,7 +94,7 @@ fn visible_claim<'a>(
     }
 }
 
-// Puts the claim of a record at the end, if it is visible and one.
+/// Puts the claim of a record at the end, if it is visible and one.
 fn push_claim<'a>(
     all: &mut Vec<VisibleClaim<'a>>,
     partition: LentName<'a>,
@@ -116,7 +116,7 @@ fn push_claim<'a>(
     Ok(())
 }
 
-// Puts the claims of a partition at the end, if it is of one of these topics.
+/// Puts the claims of a partition at the end, if it is of one of these topics.
 fn push_claims<'a>(
     all: &mut Vec<VisibleClaim<'a>>,
     outputs: &TopicSet<'_>,

@@ -16,7 +16,7 @@ use eos_base::PartitionName;
 use eos_claims::{OutputFault, OutputKind, Place};
 use std::alloc::{AllocError, Global};
 
-// The place with a name of its own.
+/// The place with a name of its own.
 fn own_place(alloc: Global, place: &LentPlace<'_>) -> Result<Place, AllocError>
     ensures { IfOk result (λ p. p ≡ place_at place.now) }
 {
@@ -29,7 +29,7 @@ fn own_place(alloc: Global, place: &LentPlace<'_>) -> Result<Place, AllocError>
     })
 }
 
-// Puts the claim's fault of this kind at the end, where it stands.
+/// Puts the claim's fault of this kind at the end, where it stands.
 fn push_when(
     alloc: Global,
     faults: &mut Vec<OutputFault>,
@@ -53,7 +53,7 @@ fn push_when(
     Ok(())
 }
 
-// What a claim shows by the place that it names.
+/// What a claim shows by the place that it names.
 fn push_placed<'a>(
     alloc: Global,
     faults: &mut Vec<OutputFault>,
@@ -80,7 +80,7 @@ fn push_placed<'a>(
     Ok(())
 }
 
-// Neither in 1 to the count, nor the note 0 of 0.
+/// Neither in 1 to the count, nor the note 0 of 0.
 fn is_out_of_range(claim: &VisibleClaim<'_>) -> bool
     ensures { result ≡ is_out claim.now.of claim.now.output }
 {
@@ -91,7 +91,7 @@ fn is_out_of_range(claim: &VisibleClaim<'_>) -> bool
     }
 }
 
-// What a claim shows by its number and its count.
+/// What a claim shows by its number and its count.
 fn push_numbered<'a>(
     alloc: Global,
     faults: &mut Vec<OutputFault>,
@@ -122,7 +122,7 @@ fn push_claim<'a>(
     Ok(())
 }
 
-// Puts an output that an input lacks at the end, if there is one.
+/// Puts an output that an input lacks at the end, if there is one.
 fn push_missing(
     alloc: Global,
     faults: &mut Vec<OutputFault>,

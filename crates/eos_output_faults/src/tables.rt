@@ -27,7 +27,7 @@ pub(crate) struct Tables<'a> {
     pub places: Places<'a>,
 }
 
-// Whether the offset is below the committed one.
+/// Whether the offset is below the committed one.
 fn is_below(offset: u64, committed: Offset) -> bool
     ensures { result ≡ int_lt (pos offset) committed.offset }
 {
@@ -79,7 +79,7 @@ fn goes_past(reach: Option<Offset>, offset: u64) -> bool
     }
 }
 
-// Whether the transaction commits an offset of its partition past this one.
+/// Whether the transaction commits an offset of its partition past this one.
 fn is_reached<'a>(tables: &Tables<'a>, key: Option<PassKey<'a>>, offset: u64) -> bool
     ensures { (a : Application) → AreTables a tables.now → result ≡ is_reached_in (option_map pass_view key.entry) offset a.commits }
 {

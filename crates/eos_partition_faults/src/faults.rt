@@ -14,14 +14,14 @@ use eos_fault_list::distinct_in_order;
 use eos_touch::PartitionFault;
 use std::alloc::{AllocError, Global};
 
-// Whether the sequences of a topic are checked: not those of the internal topics.
+/// Whether the sequences of a topic are checked: not those of the internal topics.
 fn is_checked(topic: &[u8]) -> bool
     ensures { result ≡ not (is_internal topic.now) }
 {
     topic != b"__consumer_offsets".as_slice() && topic != b"__transaction_state".as_slice()
 }
 
-// The same of this partition.
+/// The same of this partition.
 fn of_partition(
     alloc: Global,
     topic: &Bytes,

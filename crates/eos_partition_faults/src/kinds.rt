@@ -10,7 +10,7 @@ use eos_touch::{PairFault, Touch};
 /// Sequences count modulo this: after 2147483647 comes 0.
 const SEQUENCES: i64 = 2147483648;
 
-// The sequence that comes so many records after a base sequence.
+/// The sequence that comes so many records after a base sequence.
 fn sequence_after(base: i32, count: u32) -> i32
     ensures { result ≡ sequence_at base count }
 {
@@ -27,7 +27,7 @@ fn epoch_of(touch: Touch) -> i16
     }
 }
 
-// Data of no transaction.
+/// Data of no transaction.
 fn is_plain(touch: Touch) -> bool
     ensures { result ≡ is_plain touch }
 {

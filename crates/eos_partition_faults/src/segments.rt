@@ -17,7 +17,7 @@ use eos_items::read_head;
 use eos_wire::are_bytes;
 use std::alloc::{AllocError, Global};
 
-// What reading refuses, unless it is for want of memory.
+/// What reading refuses, unless it is for want of memory.
 fn refusal(fault: BatchFault) -> Result<BatchFault, AllocError>
     ensures same { IfOk result (λ refusal. refusal ≡ fault) }
     ensures real { IfOk result (λ refusal. refusal ≢ WantOfMemory) }
@@ -28,7 +28,7 @@ fn refusal(fault: BatchFault) -> Result<BatchFault, AllocError>
     }
 }
 
-// Passes the batch at this byte of a segment and gives its size, or says why the front ends there.
+/// Passes the batch at this byte of a segment and gives its size, or says why the front ends there.
 fn pass_next(
     alloc: Global,
     walk: &mut Walk,
@@ -61,7 +61,7 @@ fn pass_next(
     }
 }
 
-// Passes the batches of a segment, up to its end or the front's, and says why it ends.
+/// Passes the batches of a segment, up to its end or the front's, and says why it ends.
 fn pass_segment(alloc: Global, walk: &mut Walk, bytes: &Bytes) -> Result<Stop, AllocError>
     ensures { (sequenced : Bool) (front : List Batch) → HasPassed sequenced front walk.old → IfOk result (HasPassedSegment sequenced front bytes.now walk.new) }
 {
@@ -77,14 +77,14 @@ fn pass_segment(alloc: Global, walk: &mut Walk, bytes: &Bytes) -> Result<Stop, A
     Ok(Stop::AtEnd)
 }
 
-// A segment's name, the offset of its first record.
+/// A segment's name, the offset of its first record.
 fn begin_of(segment: &Segment) -> u64
     ensures { result ≡ base_of segment.now }
 {
     segment.base.unsigned_abs()
 }
 
-// Whether a front uses all bytes.
+/// Whether a front uses all bytes.
 fn is_at_end(stop: Stop) -> bool
     ensures at_end { result ≡ true → stop ≡ AtEnd }
     ensures other { result ≡ false → stop ≢ AtEnd }

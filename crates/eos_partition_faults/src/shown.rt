@@ -27,7 +27,7 @@ impl Model for Shown {
     ghost view = { λ s. (s.offset, s.kind) };
 }
 
-// The producer id that is named.
+/// The producer id that is named.
 fn producer_of(kind: PartitionFaultKind) -> i64
     ensures { result ≡ producer_of kind }
 {

@@ -15,7 +15,7 @@ use eos_touch::{PartitionFaultKind, Touch};
 use std::alloc::AllocError;
 use std::collections::BTreeMap;
 
-// Whether a producer id whose last touch this is is left open.
+/// Whether a producer id whose last touch this is is left open.
 fn is_left_open(last: Option<Touch>) -> bool
     ensures { result ≡ is_left_open last }
 {
@@ -25,7 +25,7 @@ fn is_left_open(last: Option<Touch>) -> bool
     }
 }
 
-// Whether a front ends where its log was declared to end.
+/// Whether a front ends where its log was declared to end.
 fn is_declared(next: u64, end: i64) -> bool
     ensures { result ≡ int_eq (pos next) end }
 {

@@ -35,7 +35,7 @@ pub(crate) struct Walk {
     pub(crate) shown: Vec<Shown>,
 }
 
-// Puts a fault at the end of the list where it stands.
+/// Puts a fault at the end of the list where it stands.
 fn push_if(
     shown: &mut Vec<Shown>,
     is_there: bool,
@@ -50,7 +50,7 @@ fn push_if(
     Ok(())
 }
 
-// What a touch shows after the one of its producer id before it.
+/// What a touch shows after the one of its producer id before it.
 fn push_pairs(
     shown: &mut Vec<Shown>,
     is_sequenced: bool,
@@ -81,7 +81,7 @@ fn push_pairs(
     Ok(())
 }
 
-// Puts a producer id into the list where it is new.
+/// Puts a producer id into the list where it is new.
 fn put_id(last: &BTreeMap<i64, Touch>, ids: &mut Vec<i64>, producer: i64) -> Result<(), AllocError>
     ensures there { AreIdsOf last.now ids.old.items → OnOk result (Has ids.new.items producer) }
     ensures kept { AreIdsOf last.now ids.old.items → OnOk result (AreIdsOf last.now ids.new.items) }
@@ -93,7 +93,7 @@ fn put_id(last: &BTreeMap<i64, Touch>, ids: &mut Vec<i64>, producer: i64) -> Res
     Ok(())
 }
 
-// Puts the touch of a producer id into the table.
+/// Puts the touch of a producer id into the table.
 fn put_touch(last: &mut BTreeMap<i64, Touch>, producer: i64, touch: Touch) -> Result<(), AllocError>
     ensures { OnOk result ((id : ℤ) → get int_cmp last.new id ≡ cond (is_eq (int_cmp producer id)) (Some touch) (get int_cmp last.old id)) }
 {

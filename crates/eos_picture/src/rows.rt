@@ -66,7 +66,7 @@ fn is_of_fault(scene: Scene<'_>, part: &Part, column: &Column, sign: &Sign) -> b
     false
 }
 
-// Puts a sign at the end.
+/// Puts a sign at the end.
 fn push_mark(
     marks: &mut Vec<Mark>,
     scene: Scene<'_>,

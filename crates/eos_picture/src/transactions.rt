@@ -44,7 +44,7 @@ struct Place {
     offset: u64,
 }
 
-// Puts the transaction at the end that a record decides, if it decides one.
+/// Puts the transaction at the end that a record decides, if it decides one.
 fn push_decided(
     columns: &mut Vec<Column>,
     place: Place,
@@ -92,7 +92,7 @@ struct State {
     value: Option<TxnValue>,
 }
 
-// Takes up a record of a transactional id, unless it is skipped.
+/// Takes up a record of a transactional id, unless it is skipped.
 fn take_value(
     alloc: Global,
     columns: &mut Vec<Column>,

@@ -32,7 +32,7 @@ fn push_placed(
     Ok(())
 }
 
-// The batches of these segments that are wanted, one segment after the other.
+/// The batches of these segments that are wanted, one segment after the other.
 fn placed_of(alloc: Global, segments: &[Segment], wanted: Wanted) -> Result<Vec<Placed>, AllocError>
     ensures { IfOk result (λ all. ArePlacedIn segments.now wanted all.items) }
 {

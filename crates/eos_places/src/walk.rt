@@ -15,7 +15,7 @@ use eos_items::read_head;
 use eos_wire::are_bytes;
 use std::alloc::{AllocError, Global};
 
-// Whether reading was refused for the bytes, and not for want of memory.
+/// Whether reading was refused for the bytes, and not for want of memory.
 fn of_the_bytes(fault: BatchFault) -> Result<(), AllocError>
     ensures { OnOk result (fault ≢ WantOfMemory) }
 {
@@ -25,7 +25,7 @@ fn of_the_bytes(fault: BatchFault) -> Result<(), AllocError>
     }
 }
 
-// The batch at this byte, where it begins at this offset; None where the segment's batches end there.
+/// The batch at this byte, where it begins at this offset; None where the segment's batches end there.
 fn next_standing(
     alloc: Global,
     bytes: &Bytes,
@@ -63,7 +63,7 @@ fn push_wanted(
     Ok(())
 }
 
-// A segment's name, the offset of its first record.
+/// A segment's name, the offset of its first record.
 fn begin_of(segment: &Segment) -> u64
     ensures { result ≡ base_of segment.now }
 {

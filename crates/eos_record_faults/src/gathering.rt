@@ -40,7 +40,7 @@ fn push_fault(
     Ok(())
 }
 
-// Puts a fault at the end where the test holds.
+/// Puts a fault at the end where the test holds.
 fn push_tested(
     faults: &mut Vec<VisibleFault>,
     test: bool,

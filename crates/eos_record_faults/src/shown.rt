@@ -58,7 +58,7 @@ fn refused(fault: RecordFault) -> Shown
     }
 }
 
-// Under a key of a group and a source topic.
+/// Under a key of a group and a source topic.
 fn by_value(value: Option<&[u8]>, is_split: bool) -> Shown
     ensures { result ≡ by_value (option_map read_value (option_map (λ s. s.now) value.entry)) is_split }
 {

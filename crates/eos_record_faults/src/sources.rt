@@ -19,7 +19,7 @@ pub(crate) struct SourceRef<'a> {
     pub topic: &'a [u8],
 }
 
-// Puts the topics that an application reads at the end, each with its group.
+/// Puts the topics that an application reads at the end, each with its group.
 fn push_sources<'a>(all: &mut Vec<SourceRef<'a>>, app: &'a App) -> Result<(), AllocError>
     ensures { OnOk result (map plain_source all.new.items ≡ map plain_source all.old.items ++ sources_in app.now) }
 {
@@ -44,7 +44,7 @@ fn all_sources<'a>(alloc: Global, apps: &'a [App]) -> Result<Vec<SourceRef<'a>>,
     Ok(all)
 }
 
-// Whether the group and topic are among these, which are in order.
+/// Whether the group and topic are among these, which are in order.
 fn is_source_in(keys: &[SourceRef<'_>], key: &SourceRef<'_>) -> bool
     requires { IsSorted by_source keys.now }
     ensures { result ≡ is_found source_cmp (map plain_source keys.now) (plain_source key.now) }
@@ -89,7 +89,7 @@ impl<'a> Sources<'a> {
     }
 }
 
-// Puts these topics at the end.
+/// Puts these topics at the end.
 fn push_topics(all: &mut Vec<Bytes>, topics: &[Bytes]) -> Result<(), AllocError>
     ensures { OnOk result (all.new.items ≡ all.old.items ++ topics.now) }
 {

@@ -39,7 +39,7 @@ fn find_at(alloc: Global, part: &Part, i: usize) -> Result<Find, AllocError>
     Ok(Find { partition, item })
 }
 
-// With one more.
+/// With one more.
 fn keep(alloc: Global, finds: &mut Finds, part: &Part, i: usize) -> Result<(), AllocError>
     requires { i < length part.now.items }
     ensures most { finds.new.most ≡ finds.old.most }
@@ -59,7 +59,7 @@ struct Numbered<'a> {
     item: ItemRef<'a>,
 }
 
-// With one record more, if it is sought.
+/// With one record more, if it is sought.
 fn take_item(
     alloc: Global,
     finds: &mut Finds,
@@ -78,7 +78,7 @@ fn take_item(
     Ok(())
 }
 
-// With those of a partition.
+/// With those of a partition.
 fn take_part(
     alloc: Global,
     finds: &mut Finds,

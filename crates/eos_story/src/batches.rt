@@ -94,7 +94,7 @@ fn push_batch(
     Ok(())
 }
 
-// Those of them that are to be shown.
+/// Those of them that are to be shown.
 fn push_each(
     scene: &Scene<'_>,
     rows: &mut Vec<Row>,
@@ -111,7 +111,7 @@ fn push_each(
     Ok(())
 }
 
-// How many of these begin below an offset.
+/// How many of these begin below an offset.
 fn count_below(batches: &[Placed], offset: u64) -> usize
     ensures count { result ≡ count_below offset batches.now }
     ensures within { result ≤ length batches.now }
@@ -125,7 +125,7 @@ fn count_below(batches: &[Placed], offset: u64) -> usize
     count
 }
 
-// The last batch before a place of the list, or the first of all.
+/// The last batch before a place of the list, or the first of all.
 fn batch_before(batches: &[Placed], at: usize) -> Option<Placed>
     requires { at ≤ length batches.now }
     ensures { result ≡ slice_get batches.now (at - 1) }

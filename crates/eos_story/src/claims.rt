@@ -20,7 +20,7 @@ use eos_places::{Placed, Wanted};
 use eos_sought::{Find, Sought, find_records};
 use std::alloc::AllocError;
 
-// Adds the decision of an end marker, if there is one.
+/// Adds the decision of an end marker, if there is one.
 fn push_decision(
     scene: &Scene<'_>,
     rows: &mut Vec<Row>,
@@ -37,7 +37,7 @@ fn push_decision(
     Ok(())
 }
 
-// Adds the end of the transaction of a record: the next marker of its producer id, and the decision of it.
+/// Adds the end of the transaction of a record: the next marker of its producer id, and the decision of it.
 fn push_fate(
     scene: &Scene<'_>,
     rows: &mut Vec<Row>,
@@ -56,7 +56,7 @@ fn push_fate(
     Ok(())
 }
 
-// Adds the end of the transaction of a record, if it is in one.
+/// Adds the end of the transaction of a record, if it is in one.
 fn push_end(scene: &Scene<'_>, rows: &mut Vec<Row>, find: &Find) -> Result<(), AllocError>
     ensures { OnOk result (Tells scene.now rows.old.items rows.new.items (IsEndShown scene.now.logs.now find.now.partition find.now.item.offset find.now.item.writer)) }
 {
@@ -68,7 +68,7 @@ fn push_end(scene: &Scene<'_>, rows: &mut Vec<Row>, find: &Find) -> Result<(), A
     }
 }
 
-// Adds a claim, and the end of its transaction.
+/// Adds a claim, and the end of its transaction.
 fn push_claim(
     scene: &Scene<'_>,
     rows: &mut Vec<Row>,

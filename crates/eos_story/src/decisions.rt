@@ -82,7 +82,7 @@ fn listed_by(alloc: Global, find: &Find) -> Result<Vec<PartitionName>, AllocErro
     }
 }
 
-// The partitions that the first of these records lists.
+/// The partitions that the first of these records lists.
 fn listed(alloc: Global, finds: &[Find]) -> Result<Vec<PartitionName>, AllocError>
     ensures { IfOk result (λ names. names.items ≡ listed_by (slice_get finds.now 0)) }
 {
@@ -92,7 +92,7 @@ fn listed(alloc: Global, finds: &[Find]) -> Result<Vec<PartitionName>, AllocErro
     listed_by(alloc, &finds[0])
 }
 
-// Of each of these partitions, six at most, the first batch that is wanted.
+/// Of each of these partitions, six at most, the first batch that is wanted.
 fn push_each(
     scene: &Scene<'_>,
     rows: &mut Vec<Row>,
@@ -108,7 +108,7 @@ fn push_each(
     Ok(())
 }
 
-// How many partitions the record that is sought lists, where there are more than are told of.
+/// How many partitions the record that is sought lists, where there are more than are told of.
 fn push_rest(
     scene: &Scene<'_>,
     rows: &mut Vec<Row>,
@@ -134,7 +134,7 @@ fn push_rest(
     Ok(())
 }
 
-// Of each of these partitions, which the record that is sought lists, the first batch that is wanted, and how many more there are.
+/// Of each of these partitions, which the record that is sought lists, the first batch that is wanted, and how many more there are.
 fn push_listed(
     scene: &Scene<'_>,
     rows: &mut Vec<Row>,
@@ -150,7 +150,7 @@ fn push_listed(
     Ok(())
 }
 
-// The decision whose markers have this producer id and epoch, if there is one; and the partitions that it lists.
+/// The decision whose markers have this producer id and epoch, if there is one; and the partitions that it lists.
 fn decision_of(scene: &Scene<'_>, producer: i64, epoch: i16) -> Result<Vec<Find>, AllocError>
     ensures { IfOk result (λ found. slice_get found.items 0 ≡ decision producer epoch scene.now.logs.now) }
 {
@@ -183,7 +183,7 @@ pub(crate) fn push_listing(
     Ok(())
 }
 
-// The partitions that the last of the records that are sought lists.
+/// The partitions that the last of the records that are sought lists.
 fn listed_last(scene: &Scene<'_>, sought: &Sought) -> Result<Vec<PartitionName>, AllocError>
     ensures { IfOk result (λ names. names.items ≡ listed_by (last_of sought.now scene.now.logs.now)) }
 {
@@ -194,7 +194,7 @@ fn listed_last(scene: &Scene<'_>, sought: &Sought) -> Result<Vec<PartitionName>,
     listed(scene.alloc, from_on(states, before))
 }
 
-// The partitions that the last state of a producer id lists.
+/// The partitions that the last state of a producer id lists.
 fn last_listed(scene: &Scene<'_>, producer: i64) -> Result<Vec<PartitionName>, AllocError>
     ensures { IfOk result (λ names. names.items ≡ listed_open scene.now.logs.now producer Rattle.std.specs.Prelude.None) }
 {
@@ -203,7 +203,7 @@ fn last_listed(scene: &Scene<'_>, producer: i64) -> Result<Vec<PartitionName>, A
     Ok(names)
 }
 
-// The partitions that the decision lists, or else those that the last state of the producer id lists.
+/// The partitions that the decision lists, or else those that the last state of the producer id lists.
 fn listed_open(
     scene: &Scene<'_>,
     producer: i64,
@@ -217,7 +217,7 @@ fn listed_open(
     listed_by(scene.alloc, &found[0])
 }
 
-// The records by which the partitions of a transaction are known: the decision, or else the states of the producer id.
+/// The records by which the partitions of a transaction are known: the decision, or else the states of the producer id.
 fn lister(producer: i64, epoch: i16, found: &[Find]) -> Sought
     ensures { result ≡ lister producer epoch (slice_get found.now 0) }
 {

@@ -20,7 +20,7 @@ use eos_evidence::{Partition, Segment};
 use eos_places::{Wanted, partition_named};
 use std::alloc::AllocError;
 
-// How many of these segments begin at an offset or before it.
+/// How many of these segments begin at an offset or before it.
 fn count_begun(segments: &[Segment], offset: u64) -> usize
     ensures count { result ≡ count_begun offset segments.now }
     ensures within { result ≤ length segments.now }
@@ -34,7 +34,7 @@ fn count_begun(segments: &[Segment], offset: u64) -> usize
     count
 }
 
-// A segment's name, the offset of its first record.
+/// A segment's name, the offset of its first record.
 fn base_of(segment: &Segment) -> u64
     ensures { result ≡ base_of segment.now }
 {
@@ -73,7 +73,7 @@ fn push_segment(
     Ok(())
 }
 
-// These of its segments.
+/// These of its segments.
 fn push_each(
     scene: &Scene<'_>,
     rows: &mut Vec<Row>,
@@ -91,7 +91,7 @@ fn push_each(
     Ok(())
 }
 
-// How many segments a partition has, where there are more than are shown.
+/// How many segments a partition has, where there are more than are shown.
 fn push_more(
     scene: &Scene<'_>,
     rows: &mut Vec<Row>,
@@ -119,8 +119,8 @@ fn push_more(
     Ok(())
 }
 
-// The segments around an offset: the last that begins there or before, the one before it, and the next; and how many more there
-// are.
+/// The segments around an offset: the last that begins there or before, the one before it, and the next; and how many more there
+/// are.
 fn push_segments(
     scene: &Scene<'_>,
     rows: &mut Vec<Row>,
@@ -154,7 +154,7 @@ fn push_end(
     Ok(())
 }
 
-// The batch that holds the record before an offset.
+/// The batch that holds the record before an offset.
 fn push_last(
     scene: &Scene<'_>,
     rows: &mut Vec<Row>,
@@ -171,7 +171,7 @@ fn push_last(
     Ok(())
 }
 
-// Where the partition is declared to end, and its segments around an offset; nothing where there is no such partition.
+/// Where the partition is declared to end, and its segments around an offset; nothing where there is no such partition.
 fn push_rest(
     scene: &Scene<'_>,
     rows: &mut Vec<Row>,

@@ -46,7 +46,7 @@ impl HeaderName {
     }
 }
 
-// With the value of one header more, if it has this key.
+/// With the value of one header more, if it has this key.
 fn keep_value(
     values: &mut Listed<Option<Bytes>>,
     key: &str,

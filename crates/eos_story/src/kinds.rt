@@ -41,7 +41,7 @@ fn log_rows(scene: &Scene<'_>, rows: &mut Vec<Row>, fault: &LogFault) -> Result<
     Ok(())
 }
 
-// The first data of a transaction whose end markers have this epoch, and its marker, in a partition.
+/// The first data of a transaction whose end markers have this epoch, and its marker, in a partition.
 fn push_in(
     scene: &Scene<'_>,
     rows: &mut Vec<Row>,
@@ -75,7 +75,7 @@ fn push_there(
     }
 }
 
-// The epoch of the markers of the transaction that a fault between decisions and logs is about.
+/// The epoch of the markers of the transaction that a fault between decisions and logs is about.
 fn marker_epoch(kind: MatchFaultKind, epoch: i16) -> i16
     ensures { result ≡ marker_epoch kind epoch }
 {
@@ -100,7 +100,7 @@ fn push_about(
     }
 }
 
-// Of the transaction whose end markers have this epoch.
+/// Of the transaction whose end markers have this epoch.
 fn ended_rows(
     scene: &Scene<'_>,
     rows: &mut Vec<Row>,

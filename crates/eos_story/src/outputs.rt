@@ -24,7 +24,7 @@ use std::alloc::{AllocError, Global};
 
 // ---- phase 4
 
-// The group of the first of these records, if its key names one.
+/// The group of the first of these records, if its key names one.
 fn group_in(alloc: Global, finds: &[Find]) -> Result<Option<Bytes>, AllocError>
     ensures { IfOk result (λ group. group ≡ group_of_find (slice_get finds.now 0)) }
 {
@@ -47,7 +47,7 @@ fn push_group(
     }
 }
 
-// The commits of the group of the record of this place.
+/// The commits of the group of the record of this place.
 fn group_rows(scene: &Scene<'_>, rows: &mut Vec<Row>, place: Place) -> Result<(), AllocError>
     ensures { OnOk result (TellsEach scene.now rows.old.items rows.new.items (of_group scene.now.logs.now place)) }
 {
@@ -105,7 +105,7 @@ fn first_group(scene: &Scene<'_>) -> Result<Option<Bytes>, AllocError>
     Ok(Some(bytes))
 }
 
-// The group that is named, or else that of the first application.
+/// The group that is named, or else that of the first application.
 fn group_bytes(scene: &Scene<'_>, group: &Option<GroupId>) -> Result<Option<Bytes>, AllocError>
     ensures { IfOk result (λ meant. meant ≡ group_meant scene.now.evidence.now.spec.apps group.now) }
 {
@@ -118,7 +118,7 @@ fn group_bytes(scene: &Scene<'_>, group: &Option<GroupId>) -> Result<Option<Byte
     }
 }
 
-// How many commits of a group go past an input.
+/// How many commits of a group go past an input.
 fn count_past(scene: &Scene<'_>, group: &Bytes, place: &Place) -> Result<u64, AllocError>
     ensures { IfOk result (λ count. count ≡ length (all_of (Passing group.now place.now) scene.now.logs.now)) }
 {
@@ -129,7 +129,7 @@ fn count_past(scene: &Scene<'_>, group: &Bytes, place: &Place) -> Result<u64, Al
     count_of(scene, &by_group)
 }
 
-// The commits of others that go past an input, where the group has none.
+/// The commits of others that go past an input, where the group has none.
 fn push_others(
     scene: &Scene<'_>,
     rows: &mut Vec<Row>,
@@ -146,7 +146,7 @@ fn push_others(
     Ok(())
 }
 
-// The commits that go past an input: those of the group, or else those of others.
+/// The commits that go past an input: those of the group, or else those of others.
 fn push_commits(
     scene: &Scene<'_>,
     rows: &mut Vec<Row>,

@@ -31,7 +31,7 @@ fn ending_epoch(head: BatchHead) -> i16
     }
 }
 
-// The decision that ended, or has to end, the transaction of a batch.
+/// The decision that ended, or has to end, the transaction of a batch.
 fn push_ending(
     scene: &Scene<'_>,
     rows: &mut Vec<Row>,
@@ -87,7 +87,7 @@ fn pair_rows(
     Ok(())
 }
 
-// The offset of the last end marker of a producer id in a partition; 0 where there is none.
+/// The offset of the last end marker of a producer id in a partition; 0 where there is none.
 fn last_end(scene: &Scene<'_>, name: &PartitionName, producer: i64) -> Result<u64, AllocError>
     ensures { IfOk result (λ end. (markers : List Batch) × AreBatchesOf scene.now.evidence.now.partitions name.now (Ending producer 0) markers × (end ≡ last_end markers)) }
 {
@@ -101,7 +101,7 @@ fn last_end(scene: &Scene<'_>, name: &PartitionName, producer: i64) -> Result<u6
     Ok(0)
 }
 
-// The decision of an open transaction, which of its partitions have their markers, and the last states of its producer id.
+/// The decision of an open transaction, which of its partitions have their markers, and the last states of its producer id.
 fn push_open(
     scene: &Scene<'_>,
     rows: &mut Vec<Row>,

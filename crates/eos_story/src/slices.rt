@@ -2,7 +2,7 @@
 
 ghost use Rattle.std.specs.Prelude.{◌≡◌, ◌≤◌, ◌+◌, ◌-◌, min, length, take, drop};
 
-// So many more than these, or as many as there are.
+/// So many more than these, or as many as there are.
 fn up_to(count: usize, more: usize, all: usize) -> usize
     requires { count ≤ all }
     ensures { result ≡ min (count + more) all }

@@ -70,7 +70,7 @@ pub(crate) fn push_last(
 
 // ---- of a transactional id
 
-// The last of them before a place.
+/// The last of them before a place.
 fn push_before(
     scene: &Scene<'_>,
     rows: &mut Vec<Row>,
@@ -90,7 +90,7 @@ fn push_before(
     Ok(())
 }
 
-// What the first of these records says, if it is a state.
+/// What the first of these records says, if it is a state.
 fn state_in(alloc: Global, finds: &[Find]) -> Result<Option<TxnValue>, AllocError>
     ensures { IfOk result (λ state. state ≡ state_said (slice_get finds.now 0)) }
 {
@@ -100,7 +100,7 @@ fn state_in(alloc: Global, finds: &[Find]) -> Result<Option<TxnValue>, AllocErro
     state_of(alloc, bytes_of(&finds[0].item.value))
 }
 
-// The last state of a transactional id.
+/// The last state of a transactional id.
 fn last_state(scene: &Scene<'_>, id: &Bytes) -> Result<Option<TxnValue>, AllocError>
     ensures { IfOk result (λ state. state ≡ state_said (last_of (OfId id.now) scene.now.logs.now)) }
 {
@@ -112,7 +112,7 @@ fn last_state(scene: &Scene<'_>, id: &Bytes) -> Result<Option<TxnValue>, AllocEr
     state_in(scene.alloc, from_on(states, before))
 }
 
-// Beside those before the place, which is in another partition, the first of all.
+/// Beside those before the place, which is in another partition, the first of all.
 fn push_split(
     scene: &Scene<'_>,
     rows: &mut Vec<Row>,
@@ -140,7 +140,7 @@ fn push_by_producer(
     }
 }
 
-// Those of the producer id of the record of this place.
+/// Those of the producer id of the record of this place.
 fn push_holders(scene: &Scene<'_>, rows: &mut Vec<Row>, place: Place) -> Result<(), AllocError>
     ensures { OnOk result (TellsEach scene.now rows.old.items rows.new.items (by_holder scene.now.logs.now place)) }
 {
@@ -150,7 +150,7 @@ fn push_holders(scene: &Scene<'_>, rows: &mut Vec<Row>, place: Place) -> Result<
     Ok(())
 }
 
-// Beside those before the place, the first ones of the producer id that stands there.
+/// Beside those before the place, the first ones of the producer id that stands there.
 fn push_shared(
     scene: &Scene<'_>,
     rows: &mut Vec<Row>,
@@ -175,7 +175,7 @@ fn markers_epoch(state: &TxnValue) -> i16
     }
 }
 
-// The decision of the transaction that a state is of, and which of its partitions have their markers.
+/// The decision of the transaction that a state is of, and which of its partitions have their markers.
 fn push_transaction(
     scene: &Scene<'_>,
     rows: &mut Vec<Row>,
@@ -189,7 +189,7 @@ fn push_transaction(
     }
 }
 
-// The last ones, and of their transaction which partitions have their markers.
+/// The last ones, and of their transaction which partitions have their markers.
 fn push_unfinished(
     scene: &Scene<'_>,
     rows: &mut Vec<Row>,

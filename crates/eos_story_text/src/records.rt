@@ -31,7 +31,7 @@ fn role_of(sought: &Sought) -> &'static str
     }
 }
 
-// As what the records of a topic are read: those of the internal logs alone.
+/// As what the records of a topic are read: those of the internal logs alone.
 fn reading_at(topic: &[u8]) -> Option<Reading>
     ensures { result ≡ reading_at topic.now }
 {

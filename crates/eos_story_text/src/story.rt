@@ -55,7 +55,7 @@ fn push_lines(
     Ok(())
 }
 
-// That there are more than are shown, if so.
+/// That there are more than are shown, if so.
 fn push_rest(out: &mut String, shown: usize, all: usize) -> Result<(), AllocError>
     ensures { OnOk result (Adds (string_bytes out.old) (string_bytes out.new) (rest_text shown all)) }
 {

@@ -32,7 +32,7 @@ fn place_of(mark: &Mark) -> Place
     }
 }
 
-// The record's id in a lesser partition.
+/// The record's id in a lesser partition.
 fn after_home(best: &mut Option<LogFault>, homes: &mut Homes, mark: &Mark) -> Result<(), AllocError>
     ensures best { (before : List Mark) → AreHomes homes.old before → OnOk result (best.new ≡ fold (lesser_of log_cmp) best.old (split_at mark.now (home_in before mark.now.id))) }
     ensures homes { (before : List Mark) → AreHomes homes.old before → OnOk result (AreHomes homes.new (before ++ mark.now ∷ [])) }
@@ -55,7 +55,7 @@ fn after_home(best: &mut Option<LogFault>, homes: &mut Homes, mark: &Mark) -> Re
     }
 }
 
-// The record's producer id under another id.
+/// The record's producer id under another id.
 fn after_owner(
     best: &mut Option<LogFault>,
     owners: &mut Owners,

@@ -70,7 +70,7 @@ impl LogFaultKind {
         self.row().2
     }
 
-    // The number, the name and the transactional id, a line for each kind.
+    /// The number, the name and the transactional id, a line for each kind.
     fn row(&self) -> (u8, &'static str, Option<&Bytes>)
         ensures number { result.0 ≡ number_of self.now }
         ensures name { result.1.now ≡ name_of self.now }

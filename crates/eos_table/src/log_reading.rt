@@ -65,7 +65,7 @@ fn kind_of_status(status: Status) -> Option<Kind>
     }
 }
 
-// Puts what a record decides at the end.
+/// Puts what a record decides at the end.
 fn push_decision(
     decisions: &mut Vec<Decision>,
     id: &Bytes,
@@ -91,7 +91,7 @@ fn push_decision(
     Ok(())
 }
 
-// Takes up an unskipped record.
+/// Takes up an unskipped record.
 fn take_step(
     reading: &mut LogReading,
     place: Place,
@@ -128,7 +128,7 @@ fn last_value<'a>(last: &'a LastValues, id: &Bytes) -> Option<Option<&'a TxnValu
     }
 }
 
-// Takes up a record of a transactional id, unless it is skipped.
+/// Takes up a record of a transactional id, unless it is skipped.
 fn take_value(
     alloc: Global,
     reading: &mut LogReading,
@@ -194,7 +194,7 @@ fn take_records(
     Ok(())
 }
 
-// Where the partition is declared to end.
+/// Where the partition is declared to end.
 fn end_of(part: &Part) -> Place
     ensures partition { result.partition ≡ part.now.number }
     ensures offset { result.offset ≡ unsigned_abs part.now.end }
@@ -205,7 +205,7 @@ fn end_of(part: &Part) -> Place
     }
 }
 
-// The lesser of the least so far and what is left unfinished at the end of a partition.
+/// The lesser of the least so far and what is left unfinished at the end of a partition.
 fn least_open(
     best: &mut Option<LogFault>,
     last: &LastValues,

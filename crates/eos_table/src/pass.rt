@@ -19,7 +19,7 @@ use eos_batch::Marker;
 use eos_fold::{Close, Part};
 use eos_txnlog::{Decision, TopicPartitions};
 
-// The least so far, with what one place gives.
+/// The least so far, with what one place gives.
 fn with<'a>(
     best: Option<Found<'a>>,
     producer: i64,

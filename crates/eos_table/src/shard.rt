@@ -16,7 +16,7 @@ use eos_fold::Part;
 use eos_txnlog::Decision;
 use std::alloc::{AllocError, Global};
 
-// The least that was decided twice.
+/// The least that was decided twice.
 fn twice_found<'a>(keys: &[(i64, i16)]) -> Option<Found<'a>>
     ensures { IsTwice keys.now (option_map plain result) }
 {
@@ -48,7 +48,7 @@ fn least<'a>(
     Ok(names_of(at_markers, &present, decisions, shard))
 }
 
-// The fault with a name of its own.
+/// The fault with a name of its own.
 fn published(found: &Found<'_>) -> Result<MatchFault, AllocError>
     ensures { IfOk result (λ f. f ≡ plain found.now) }
 {

@@ -14,7 +14,7 @@ use eos_fold::Part;
 use eos_txnlog::Decision;
 use std::alloc::{AllocError, Global};
 
-// Is it a partition of the transaction log?
+/// Is it a partition of the transaction log?
 fn is_of_log(part: &Part) -> bool
     ensures { result ≡ is_transaction_part part.now }
 {

@@ -21,7 +21,7 @@ struct Front {
     batches: u64,
 }
 
-// Whether reading was refused for the bytes, and not for want of memory.
+/// Whether reading was refused for the bytes, and not for want of memory.
 fn of_the_bytes(fault: BatchFault) -> Result<(), AllocError>
     ensures { OnOk result (fault ≢ WantOfMemory) }
 {
@@ -31,7 +31,7 @@ fn of_the_bytes(fault: BatchFault) -> Result<(), AllocError>
     }
 }
 
-// The front with the batch at this byte, and the batch's size; None where the front ends there.
+/// The front with the batch at this byte, and the batch's size; None where the front ends there.
 fn pass_batch(
     alloc: Global,
     front: Front,
@@ -59,7 +59,7 @@ fn pass_batch(
     }
 }
 
-// The front with those batches of a segment that are of it, and whether these are all of its bytes.
+/// The front with those batches of a segment that are of it, and whether these are all of its bytes.
 fn pass_segment(alloc: Global, before: Front, bytes: &Bytes) -> Result<(Front, bool), AllocError>
     requires { Fits before }
     ensures { IfOk result (λ r. HasPassedSegment bytes.now before r.1 r.0) }
@@ -77,7 +77,7 @@ fn pass_segment(alloc: Global, before: Front, bytes: &Bytes) -> Result<(Front, b
     Ok((front, true))
 }
 
-// A segment's name, the offset of its first record.
+/// A segment's name, the offset of its first record.
 fn begin_of(segment: &Segment) -> u64
     ensures { result ≡ base_of segment.now }
 {

@@ -31,7 +31,7 @@ fn tally_of_source(part: &Part, committed: i64) -> Result<SourceTally, AllocErro
     })
 }
 
-// Puts a partition at the end, if it is of one of these topics.
+/// Puts a partition at the end, if it is of one of these topics.
 fn push_source(
     all: &mut Vec<SourceTally>,
     sources: &TopicSet<'_>,
@@ -46,7 +46,7 @@ fn push_source(
     Ok(())
 }
 
-// The partitions of these topics, by the committed offset of each part.
+/// The partitions of these topics, by the committed offset of each part.
 fn source_tallies(
     alloc: Global,
     sources: &TopicSet<'_>,
@@ -64,7 +64,7 @@ fn source_tallies(
     Ok(all)
 }
 
-// Of an application, by its source topics and the committed offset of each part.
+/// Of an application, by its source topics and the committed offset of each part.
 fn group_tally_by(
     alloc: Global,
     app: &App,

@@ -21,7 +21,7 @@ use std::alloc::{AllocError, Global};
 
 // ---- roles
 
-// Puts these topics at the end.
+/// Puts these topics at the end.
 fn push_topics(all: &mut Vec<Bytes>, topics: &[Bytes]) -> Result<(), AllocError>
     ensures { OnOk result (all.new.items ≡ all.old.items ++ topics.now) }
 {
@@ -57,7 +57,7 @@ fn is_same(a: &[u8], b: &[u8]) -> bool
     a.cmp(b).is_eq()
 }
 
-// By the topics that the applications read and those that they write.
+/// By the topics that the applications read and those that they write.
 fn roles_in(sources: &TopicSet<'_>, outputs: &TopicSet<'_>, topic: &[u8]) -> TopicRoles
     ensures { result ≡ roles_by (is_found (slice_cmp nat_cmp) sources.now) (is_found (slice_cmp nat_cmp) outputs.now) topic.now }
 {
@@ -81,7 +81,7 @@ fn count_bytes(segments: &[Segment]) -> Result<u64, AllocError>
     Ok(count)
 }
 
-// The visible records, where the log has no fault.
+/// The visible records, where the log has no fault.
 fn visible_of(log: &Part) -> Result<Option<u64>, AllocError>
     ensures { IfOk result (AreVisibleIn log.now) }
 {

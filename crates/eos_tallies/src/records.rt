@@ -17,7 +17,7 @@ pub(crate) fn sum(a: u64, b: u64) -> Result<u64, AllocError>
     a.checked_add(b).ok_or(AllocError)
 }
 
-// With one record more.
+/// With one record more.
 fn with_visible(count: u64, item: &ItemRef<'_>) -> Result<u64, AllocError>
     ensures { IfOk result (λ n. n ≡ count + visible_among (item.now ∷ [])) }
 {
@@ -49,7 +49,7 @@ fn is_below(offset: u64, committed: i64) -> bool
     committed > 0 && offset < committed as u64
 }
 
-// With one record more.
+/// With one record more.
 fn with_below(count: u64, item: &ItemRef<'_>, committed: i64) -> Result<u64, AllocError>
     ensures { IfOk result (λ n. n ≡ count + below_among committed (item.now ∷ [])) }
 {
