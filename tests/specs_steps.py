@@ -5,9 +5,8 @@
 
 Public contracts are the clauses of the functions and traits that a crate exports (of a program, of all that its modules
 share), what a type that it exports is by its Model (value, view and invariant), and what an impl of another trait says in its
-ghost items, as the rule of a table. From these the definitions are followed, crate by crate. Those that are not reached are
-listed in tests/specs_steps.txt, a line 'CRATE FILE NAME' each; the test fails where one more strays, and where a line of the
-list isn't needed any more, so that the list only shrinks. The last line is 'N passed, N failed'.
+ghost items, as the rule of a table. From these the definitions are followed, crate by crate. The test fails where
+one is not reached. The last line is 'N passed, N failed'.
 """
 import collections
 import glob
@@ -15,7 +14,6 @@ import os
 import re
 import sys
 
-LIST = "tests/specs_steps.txt"
 # A word of antt or of a clause, with what it is named after.
 WORD = re.compile(r"[A-Za-z_][\w'-]*(?:\.[A-Za-z_][\w'-]*)*")
 USE = re.compile(r"^ *(?:pub |ghost )*use Rattle\.([\w.]+?)(?:\.\{([^}]*)\}| as (\w+))?;?$", re.M)
@@ -167,18 +165,12 @@ def main():
             reached.add(key)
             waiting += definitions.words[key]
     strays = {key for key in definitions.words if key not in reached and ".specs.steps" not in key[0]}
-    rows = {f"{key[0].split('.')[0]} {definitions.place[key].split('/specs/')[1]} {key[1]}" for key in strays}
-    with open(LIST, encoding="utf-8") as file:
-        known = {it.strip() for it in file if it.strip() and not it.startswith("#")}
-    for it in sorted(rows - known):
-        print(f"{it}: no public contract reaches it, so it stands in specs/steps")
-    for it in sorted(known - rows):
-        print(f"{it}: {LIST} lists it, and needn't any more")
-    failed = len(rows ^ known)
+    for key in sorted(strays):
+        print(f"{definitions.place[key]} {key[1]}: no public contract reaches it, so it stands in specs/steps")
     strayed = sum(definitions.lines[key] for key in strays)
     print(f"{len(strays)} of {len(definitions.words)} definitions stray, {strayed} of {sum(definitions.lines.values())} lines")
-    print(f"{len(definitions.words) - failed} passed, {failed} failed")
-    return 1 if failed or len(reached) < 100 else 0
+    print(f"{len(definitions.words) - len(strays)} passed, {len(strays)} failed")
+    return 1 if strays or len(reached) < 100 else 0
 
 
 if __name__ == "__main__":

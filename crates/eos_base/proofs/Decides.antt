@@ -4,7 +4,7 @@ use Rattle.std.specs.Ordering.{int_eq}
 use Rattle.std.proofs.lemmas.Bool.{cases_eq}
 use Rattle.std.proofs.lemmas.Bool.Decides.{Decides-int_eq, not_from_Decides}
 use Rattle.eos_base.specs.Members.{Has}
-use Rattle.eos_base.specs.Decided.{Decided}
+use Rattle.eos_base.specs.steps.Decided.{Decided}
 
 pub both : {P Q : Type 0} → Decided P → Decided Q → Decided (P × Q)
 both (inl p) (inl q) = inl (p, q)

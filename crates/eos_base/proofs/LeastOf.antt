@@ -6,7 +6,8 @@ use Rattle.std.specs.declared.cmp.Ordering.{Ordering}
 use Rattle.std.specs.declared.cmp.Ordering.TheVariants.{Less, Equal, Greater}
 use Rattle.std.proofs.lemmas.Cmp.{upto, tied_itself}
 use Rattle.eos_base.specs.Members.{Has}
-use Rattle.eos_base.specs.Least.{IsExact, UpTo, IsLeast, IsLeastOrNone, lesser_of}
+use Rattle.eos_base.specs.Least.{UpTo, IsLeast, IsLeastOrNone, lesser_of}
+use Rattle.eos_base.specs.steps.Least.{IsExact}
 use Rattle.eos_base.proofs.Decides.{differs}
 
 -- the lesser of two is that of what they stand for, if these are ordered alike

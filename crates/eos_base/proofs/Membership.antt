@@ -8,7 +8,7 @@ use Rattle.std.specs.declared.cmp.Ordering.TheVariants.{Less, Equal, Greater}
 use Rattle.std.proofs.lemmas.Cmp.{tied_itself}
 use Rattle.std.proofs.lemmas.List.Sorted.{list_any-IsPermutation}
 use Rattle.eos_base.specs.Members.{Has, is_found}
-use Rattle.eos_base.specs.Least.{IsExact}
+use Rattle.eos_base.specs.steps.Least.{IsExact}
 
 pub append_cases : {X : Type 0} (xs ys : List X) (y : X) → Has (xs ++ ys) y → Has xs y ⊎ Has ys y
 append_cases [] ys y h = inr h

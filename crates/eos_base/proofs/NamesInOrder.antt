@@ -3,7 +3,7 @@ use Rattle.std.proofs.lemmas.Cmp.{nat_list_cmp_total, int_cmp_total, then_total,
 use Rattle.std.specs.Cmp.{IsTotalOrder}
 use Rattle.std.specs.Cmp.Lexicographic.{slice_cmp}
 use Rattle.std.specs.Ordering.{nat_cmp, int_cmp}
-use Rattle.eos_base.specs.Least.{IsExact}
+use Rattle.eos_base.specs.steps.Least.{IsExact}
 use Rattle.eos_base.specs.PartitionNames.{name_cmp}
 use Rattle.eos_base.proofs.Exact.{then_parts, bytes_exact, int_exact}
 

@@ -4,7 +4,7 @@ use Rattle.eos_base.specs.declared.record_fault.RecordFault.{RecordFault}
 use Rattle.eos_base.specs.declared.record_fault.RecordFault.TheVariants as records
 use Rattle.eos_base.specs.contracts.record_fault.RecordFaultOrd.TheImpl.{ghosts}
 use Rattle.eos_base.specs.FaultNames.{record_number}
-use Rattle.eos_base.specs.Least.{IsExact}
+use Rattle.eos_base.specs.steps.Least.{IsExact}
 
 -- the n-th of a list, from 1, or else the given one
 abbrev pub nth : {X : Type 0} → X → List X → ℕ → X

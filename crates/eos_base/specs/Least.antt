@@ -2,11 +2,6 @@
 use Rattle.std.specs.Prelude.{◌≡◌, Option, Some, None, MatchOption, false, if◌then◌else◌}
 use Rattle.std.specs.Ordering.{is_gt}
 use Rattle.std.specs.declared.cmp.Ordering.{Ordering}
-use Rattle.std.specs.declared.cmp.Ordering.TheVariants.{Equal}
-
--- values that are tied are equal
-abbrev pub IsExact : {X : Type 0} → (X → X → Ordering) → Type 0
-IsExact {X} cmp = (x y : X) → cmp x y ≡ Equal → x ≡ y
 
 -- the first is not greater
 abbrev pub UpTo : {X : Type 0} → (X → X → Ordering) → X → X → Type 0

@@ -1,7 +1,7 @@
 pub mod Members
-pub mod Decided
 pub mod Least
 pub mod PartitionNames
 pub mod FaultNames
-pub mod Steps
+pub mod Fallible
 pub mod Records
+pub mod steps

@@ -1,8 +1,8 @@
 -- The words of both internal logs for reading and writing the keys and values of their records.
-use Rattle.std.specs.Prelude.{◌≡◌, ℕ, true, List, length, Option, Result, Ok, Err, ◌==◌, is_ok, ⊤}
+use Rattle.std.specs.Prelude.{◌≡◌, ℕ, true, List, length, Option, Result, Ok, Err, ◌==◌, is_ok}
 use Rattle.eos_base.specs.declared.record_fault.RecordFault.{RecordFault}
 use Rattle.eos_base.specs.declared.record_fault.RecordFault.TheVariants as faults
-use Rattle.eos_base.specs.Steps.{◌>>=◌, or_fault, must}
+use Rattle.eos_base.specs.Fallible.{◌>>=◌, or_fault, must}
 
 -- ---- steps of reading
 
@@ -33,20 +33,6 @@ Refuses faults.Trailing said = said ≡ Err faults.Trailing
 abbrev pub Parses : {X : Type 0} → Result X RecordFault → List ℕ → Result (X × List ℕ) RecordFault → Type 0
 Parses (Ok x) rest read = read ≡ Ok (x, rest)
 Parses (Err e) rest read = Refuses e read
-
--- A fault is the one that is said, unless memory ran out.
-abbrev pub Fails : {Y : Type 0} → RecordFault → Result Y RecordFault → Type 0
-Fails faults.OutOfMemory said = ⊤
-Fails faults.Short said = said ≡ Err faults.Short
-Fails faults.Version said = said ≡ Err faults.Version
-Fails faults.Status said = said ≡ Err faults.Status
-Fails faults.Length said = said ≡ Err faults.Length
-Fails faults.Trailing said = said ≡ Err faults.Trailing
-
--- The answer and the bytes that are left are what reading gives, unless memory ran out.
-abbrev pub Gives : {X : Type 0} → Result X RecordFault → List ℕ → Result (X × List ℕ) RecordFault → Type 0
-Gives (Ok x) rest read = read ≡ Ok (x, rest)
-Gives (Err e) rest read = Fails e read
 
 -- The answer is what is said. Want of memory is answered only where nothing is refused: a refusal comes before memory.
 abbrev pub Settles : {X : Type 0} → Result X RecordFault → Result X RecordFault → Type 0

@@ -17,7 +17,7 @@ use Rattle.eos_batch.specs.declared.decode.Head.{Head}
 use Rattle.eos_batch.specs.Attributes.{is_compressed}
 use Rattle.eos_batch.specs.Rules.{IsCounted, HasWidths}
 use Rattle.eos_batch.specs.Text.{AreRecordTexts, IsCoveredText}
-use Rattle.eos_base.specs.Steps.{or_fault}
+use Rattle.eos_base.specs.Fallible.{or_fault}
 use Rattle.eos_batch.specs.Reading.{length_from, frame_at, sealed_at, head_at, count_fits, offsets_fit, records_at, all_records_at, with_records, covered_at}
 use Rattle.eos_batch.proofs.TextParts.{bind_ok, done, ok_is, must_ok, must_bind, or_fault_ok}
 use Rattle.eos_batch.proofs.RecordTexts.{records_sound, records_whole}

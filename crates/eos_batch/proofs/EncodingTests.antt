@@ -11,7 +11,7 @@ use Rattle.eos_batch.specs.declared.batch.Batch.{Batch}
 use Rattle.eos_batch.specs.Attributes.{is_compressed}
 use Rattle.eos_batch.specs.Marker.{has_right_control}
 use Rattle.eos_batch.specs.Rules.{IsCounted, has_right_producer}
-use Rattle.eos_base.specs.Steps.{◌>>=◌, must}
+use Rattle.eos_base.specs.Fallible.{◌>>=◌, must}
 use Rattle.eos_batch.specs.Text.{IsBatchText}
 use Rattle.eos_batch.specs.Encoding.{records_text, covered_text, text_with, batch_text_of, is_counted, is_short, tested}
 use Rattle.eos_batch.specs.steps.Writing.{HasCoveredWidths, capped}

@@ -7,10 +7,11 @@ use Rattle.eos_batch.specs.declared.record.Header.{Header}
 use Rattle.eos_batch.specs.declared.record.Record.{Record}
 use Rattle.eos_batch.specs.declared.view.Parts.{Parts}
 use Rattle.eos_batch.specs.Real.{IsReal}
-use Rattle.eos_base.specs.Steps.{or_fault}
+use Rattle.eos_base.specs.Fallible.{or_fault}
 use Rattle.eos_batch.specs.Answers.{Fails}
 use Rattle.eos_batch.specs.Reading.{used_up, int_at, long_at, optional_at, count_at, bytes_at, header_at, headers_at, body_at}
-use Rattle.eos_batch.specs.Places.{whole_at, found_at, parts_at, read_headers}
+use Rattle.eos_batch.specs.Places.{whole_at, found_at, read_headers}
+use Rattle.eos_batch.specs.steps.Places.{parts_at}
 use Rattle.eos_batch.proofs.TextParts.{bind_ok, done, ok_is, must_ok}
 use Rattle.eos_batch.proofs.ReadLoops.{real_fault}
 

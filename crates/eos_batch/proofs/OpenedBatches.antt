@@ -10,7 +10,7 @@ use Rattle.eos_batch.specs.declared.fault.BatchFault.{BatchFault}
 use Rattle.eos_batch.specs.declared.fault.BatchFault.TheVariants as faults
 use Rattle.eos_batch.specs.declared.decode.Head.{Head}
 use Rattle.eos_batch.specs.Attributes.{is_compressed}
-use Rattle.eos_base.specs.Steps.{◌>>=◌}
+use Rattle.eos_base.specs.Fallible.{◌>>=◌}
 use Rattle.eos_batch.specs.Reading.{used_up, with_records, frame_at, sealed_at, head_at, count_fits, offsets_fit, records_at, covered_at, batch_at}
 use Rattle.eos_batch.specs.Places.{IsOpened}
 use Rattle.eos_batch.proofs.BatchTexts.{IsBytes-drop}

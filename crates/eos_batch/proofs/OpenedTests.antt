@@ -10,7 +10,7 @@ use Rattle.eos_batch.specs.Attributes.{is_control}
 use Rattle.eos_batch.specs.Marker.{has_right_control}
 use Rattle.eos_batch.specs.Rules.{has_right_producer}
 use Rattle.eos_batch.specs.Answers.{Fails}
-use Rattle.eos_base.specs.Steps.{◌>>=◌, must}
+use Rattle.eos_base.specs.Fallible.{◌>>=◌, must}
 use Rattle.eos_batch.specs.Reading.{used_up, record_at, records_at, with_records, batch_at}
 use Rattle.eos_batch.specs.Places.{IsOpened, finished, records_in, found_at}
 use Rattle.eos_batch.specs.Real.{IsReal}

@@ -13,7 +13,7 @@ use Rattle.eos_batch.specs.declared.fault.BatchFault.TheVariants as faults
 use Rattle.eos_batch.specs.declared.record.Header.{Header}
 use Rattle.eos_batch.specs.declared.record.Record.{Record}
 use Rattle.eos_batch.specs.Text.{IsOptionalText, IsHeaderText, AreHeaderTexts, IsBodyText, IsRecordText, AreRecordTexts}
-use Rattle.eos_base.specs.Steps.{or_fault}
+use Rattle.eos_base.specs.Fallible.{or_fault}
 use Rattle.eos_batch.specs.Reading.{int_at, long_at, count_at, bytes_at, optional_at, header_at, headers_at, body_at, used_up, placed_at, record_at, records_at}
 use Rattle.eos_batch.proofs.TextParts.{bind_ok, done, ok_is, must_ok, or_fault_ok, Taken, IsCount, IsSound, IsWhole, glue, int_sound, int_whole, long_sound, long_whole, count_sound, count_whole, bytes_sound, bytes_whole, optional_sound, optional_whole}
 

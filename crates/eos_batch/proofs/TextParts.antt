@@ -9,7 +9,7 @@ use Rattle.eos_wire.proofs.VarintTexts.{Front, front-drop, varint_sound, varint_
 use Rattle.eos_batch.specs.declared.fault.BatchFault.{BatchFault}
 use Rattle.eos_batch.specs.declared.fault.BatchFault.TheVariants as faults
 use Rattle.eos_batch.specs.Text.{IsBytesText, IsOptionalText}
-use Rattle.eos_base.specs.Steps.{◌>>=◌, or_fault, must}
+use Rattle.eos_base.specs.Fallible.{◌>>=◌, or_fault, must}
 use Rattle.eos_batch.specs.Reading.{number_from, int_at, long_at, count_from, count_at, take_at as take_bytes, bytes_at, optional_from, optional_at}
 
 -- ---- steps

@@ -1,5 +1,5 @@
 -- What a contract says of an answer, beside what reading or writing gives: the words that every codec has for its faults.
-use Rattle.std.specs.Prelude.{◌≡◌, ◌⊎◌, ℕ, List, Result, Ok, Err, ⊤}
+use Rattle.std.specs.Prelude.{◌≡◌, ◌⊎◌, Result, Ok, Err, ⊤}
 use Rattle.eos_batch.specs.declared.fault.BatchFault.{BatchFault}
 use Rattle.eos_batch.specs.declared.fault.BatchFault.TheVariants as faults
 
@@ -23,11 +23,6 @@ Fails faults.Producer read = read ≡ Err faults.Producer
 abbrev pub Answers : {X : Type 0} → Result X BatchFault → Result X BatchFault → Type 0
 Answers (Ok x) read = read ≡ Ok x
 Answers (Err e) read = Fails e read
-
--- The answer and the bytes that are left are what reading gives, unless memory ran out.
-abbrev pub Gives : {X : Type 0} → Result X BatchFault → List ℕ → Result (X × List ℕ) BatchFault → Type 0
-Gives (Ok x) rest read = read ≡ Ok (x, rest)
-Gives (Err e) rest read = Fails e read
 
 -- The answer is what writing gives, unless memory runs out. A refusal comes before any memory is taken.
 abbrev pub IsWritten : {X : Type 0} → Result X BatchFault → Result X BatchFault → Type 0

@@ -19,7 +19,7 @@ use Rattle.eos_batch.specs.Attributes.{is_compressed}
 use Rattle.eos_batch.specs.Marker.{has_right_control}
 use Rattle.eos_batch.specs.Rules.{has_right_producer}
 use Rattle.eos_batch.specs.Text.{last_offset_delta, IsBatchText}
-use Rattle.eos_base.specs.Steps.{◌>>=◌, must}
+use Rattle.eos_base.specs.Fallible.{◌>>=◌, must}
 
 -- a length and that many bytes
 unfoldable pub bytes_text : List ℕ → List ℕ

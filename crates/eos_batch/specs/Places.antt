@@ -3,13 +3,11 @@ use Rattle.std.specs.Prelude.{◌≡◌, ◌≤◌, ◌<◌, ◌-◌, ◌^◌, �
 use Rattle.eos_batch.specs.declared.fault.BatchFault.{BatchFault}
 use Rattle.eos_batch.specs.declared.fault.BatchFault.TheVariants as faults
 use Rattle.eos_batch.specs.declared.record.Record.{Record}
-use Rattle.eos_wire.specs.Numbers.{i8_at}
 use Rattle.eos_batch.specs.declared.record.Header.{Header}
-use Rattle.eos_batch.specs.declared.view.Parts.{Parts}
 use Rattle.eos_batch.specs.declared.batch.Batch.{Batch}
 use Rattle.eos_batch.specs.declared.walk.Opened.{Opened}
-use Rattle.eos_base.specs.Steps.{◌>>=◌, must, or_fault}
-use Rattle.eos_batch.specs.Reading.{used_up, int_at, long_at, optional_at, count_at, bytes_at, body_at, record_at, records_at, with_records, batch_at}
+use Rattle.eos_base.specs.Fallible.{◌>>=◌, must}
+use Rattle.eos_batch.specs.Reading.{used_up, bytes_at, body_at, record_at, records_at, with_records, batch_at}
 use Rattle.eos_batch.specs.Marker.{has_right_control}
 use Rattle.eos_batch.specs.Rules.{has_right_producer}
 
@@ -54,17 +52,6 @@ pub record IsOpened (bytes : List ℕ) (at : ℕ) (o : Opened) : Type 0 where
   pub first : pos 0 ≤ℤ o.batch.base_offset
   pub last : (o.batch.base_offset +ℤ pos o.count) ≤ℤ pos (2 ^ 63)
   pub goes_on : batch_at (drop at bytes) ≡ (records_in bytes o.begin o.end o.count >>= finished o.batch (o.end - at))
-
--- the fields of a record before its headers, and what is left for these
-unfoldable pub parts_at : List ℕ → Result Parts BatchFault
-parts_at bytes = do
-  attributes ← or_fault faults.Record (i8_at bytes)
-  timestamp ← long_at attributes.1
-  delta ← int_at timestamp.1
-  key ← optional_at delta.1
-  value ← optional_at key.1
-  count ← count_at value.1
-  Ok (record { attributes = attributes.0; timestamp_delta = timestamp.0; key = key.0; value = value.0; count = count.0; rest = count.1 })
 
 abbrev pub read_headers : Result (List Header × List ℕ) BatchFault → List Header
 read_headers (Ok x) = x.0

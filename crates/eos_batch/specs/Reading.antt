@@ -15,7 +15,7 @@
 -- A length of 49 or more has all fields of the header, so none of them is ever missing where it is read.
 use Rattle.std.specs.Prelude.{ℕ, zero, suc, ◌+◌, ◌-◌, ℤ, pos, negsuc, ◌+ℤ◌, List, [], ◌∷◌, length, take, drop, Option, Some, None, Result, Ok, Err, Bool, nat_lt, ◌==◌, ◌&&◌, ◌^◌, not, int_lt, int_le, if◌then◌else◌}
 use Rattle.std.specs.Ordering.{int_eq}
-use Rattle.eos_base.specs.Steps.{◌>>=◌, or_fault, must}
+use Rattle.eos_base.specs.Fallible.{◌>>=◌, or_fault, must}
 use Rattle.eos_wire.specs.Varint.{varint_at, varlong_at}
 use Rattle.eos_wire.specs.Numbers.{i8_at, i16_at, i32_at, i64_at, u32_at}
 use Rattle.eos_wire.specs.Crc.{crc32c_of}

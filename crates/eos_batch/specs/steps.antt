@@ -1,2 +1,5 @@
 pub mod Reading
+pub mod Answers
+pub mod Places
+pub mod Reading
 pub mod Writing

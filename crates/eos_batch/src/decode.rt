@@ -22,7 +22,8 @@ ghost use Rattle.std.specs.Prelude.{◌≡◌, ◌≤◌, ℕ, length, drop, Ok,
 ghost use Rattle.eos_batch.specs.declared.batch.Batch.{Batch};
 ghost use Rattle.eos_batch.specs.Text.{HasTextAt};
 ghost use Rattle.eos_batch.specs.Attributes.{is_compressed};
-ghost use Rattle.eos_batch.specs.Answers.{Answers, Gives};
+ghost use Rattle.eos_batch.specs.Answers.{Answers};
+ghost use Rattle.eos_batch.specs.steps.Answers.{Gives};
 ghost use Rattle.eos_batch.specs.Real.{IsReal};
 ghost use Rattle.eos_batch.specs.Reading.{count_fits, offsets_fit, frame_at, sealed_at, head_at, batch_at};
 

@@ -8,7 +8,7 @@
 //! | optional bytes | the same, or the length -1 for null | a record's key and value, a header's value |
 
 ghost use Rattle.eos_batch.specs.Real.{IsReal};
-ghost use Rattle.eos_batch.specs.Answers.{Gives};
+ghost use Rattle.eos_batch.specs.steps.Answers.{Gives};
 ghost use Rattle.eos_batch.specs.Reading.{int_at, long_at, count_at, take_at, bytes_at, optional_at};
 ghost use Rattle.std.specs.Prelude.{IfErr};
 

@@ -16,7 +16,7 @@
 //! is believed only where its bytes stand there, and nothing is reserved for a count.
 
 ghost use Rattle.std.specs.Prelude.{◌≡◌, IfOk};
-ghost use Rattle.eos_batch.specs.Answers.{Gives};
+ghost use Rattle.eos_batch.specs.steps.Answers.{Gives};
 ghost use Rattle.eos_batch.specs.steps.Reading.{Pushes, PushesFrom};
 ghost use Rattle.eos_batch.specs.Reading.{header_at, headers_at, placed_at, record_at, records_at};
 

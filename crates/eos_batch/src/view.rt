@@ -5,9 +5,11 @@ ghost use Rattle.std.specs.Option.{option_map};
 ghost use Rattle.eos_batch.specs.declared.record.Header.{Header};
 ghost use Rattle.eos_batch.specs.declared.record.Record.{Record};
 ghost use Rattle.eos_batch.specs.Real.{IsReal};
-ghost use Rattle.eos_batch.specs.Answers.{Answers, Gives};
+ghost use Rattle.eos_batch.specs.Answers.{Answers};
+ghost use Rattle.eos_batch.specs.steps.Answers.{Gives};
 ghost use Rattle.eos_batch.specs.Reading.{header_at};
-ghost use Rattle.eos_batch.specs.Places.{whole_at, found_at, parts_at};
+ghost use Rattle.eos_batch.specs.Places.{whole_at, found_at};
+ghost use Rattle.eos_batch.specs.steps.Places.{parts_at};
 
 use crate::fault::BatchFault;
 use crate::field::{read_bytes, read_count, read_int, read_long, read_optional};

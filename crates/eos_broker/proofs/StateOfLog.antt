@@ -9,7 +9,8 @@ use Rattle.eos_machine.specs.declared.item.Item.{Item}
 use Rattle.eos_machine.specs.declared.state.Producer.{Producer}
 use Rattle.eos_machine.specs.Logs.{mark_in, marks_of, unseen, is_epoch, after_mark, producer_from, producer_of}
 use Rattle.eos_machine.proofs.Brokers.{producer_push}
-use Rattle.eos_broker.specs.Kept.{AreKept, noted}
+use Rattle.eos_broker.specs.Kept.{AreKept}
+use Rattle.eos_broker.specs.steps.Kept.{noted}
 
 -- an item that is no mark of the application, or is one
 pub pass : (a : ℕ) (log : List Item) (x : Item) → mark_in a x ≡ None → marks_of a (log ++ x ∷ []) ≡ marks_of a log

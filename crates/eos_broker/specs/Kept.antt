@@ -1,11 +1,10 @@
 -- What a broker keeps: each producer id's state as a function of the log, and of all that is asked of it what it accepts.
 -- Sources: KIP-98, "Idempotent Producer Guarantees" (sequences and epochs), and KIP-890 (a marker's epoch is above its data's).
-use Rattle.std.specs.Prelude.{◌≡◌, ℕ, ◌<◌, ◌==◌, nat_lt, Bool, true, not, ◌&&◌, ◌||◌, List, [], ◌∷◌, ◌++◌, length, slice_index_or, slice_set, if◌then◌else◌}
+use Rattle.std.specs.Prelude.{◌≡◌, ℕ, ◌<◌, ◌==◌, nat_lt, Bool, true, not, ◌&&◌, ◌||◌, List, [], ◌∷◌, ◌++◌, length, slice_index_or, if◌then◌else◌}
 use Rattle.eos_machine.specs.declared.item.Item.{Item}
 use Rattle.eos_machine.specs.declared.item.Item.TheVariants.{Fed, State, Output, Offset, Marker}
 use Rattle.eos_machine.specs.declared.state.Producer.{Producer}
-use Rattle.eos_machine.specs.Application.{Mark}
-use Rattle.eos_machine.specs.Logs.{marks_of, unseen, producer_of, next_sequence, not_above, after_mark}
+use Rattle.eos_machine.specs.Logs.{marks_of, unseen, producer_of, next_sequence, not_above}
 
 -- a partition's log, as contracts see it
 pub record LogView : Type 0 where
@@ -18,10 +17,6 @@ pub record LogView : Type 0 where
 -- each producer id's state is what the log says
 abbrev pub AreKept : List Producer → List Item → Type 0
 AreKept ps log = (a : ℕ) → a < length ps → slice_index_or ps a unseen ≡ producer_of (marks_of a log)
-
--- a mark is taken into the state of its application's producer id, where that is kept
-abbrev pub noted : List Producer → ℕ → Mark → List Producer
-noted ps a t = slice_set ps a (after_mark (slice_index_or ps a unseen) t)
 
 -- ---- what a broker accepts after this log
 

@@ -5,7 +5,8 @@ ghost use Rattle.std.specs.List.{All};
 ghost use Rattle.eos_machine.specs.declared.item.Item.{Item};
 ghost use Rattle.eos_machine.specs.Application.{Batch, End};
 ghost use Rattle.eos_machine.specs.Logs.{marks_of, producer_of};
-ghost use Rattle.eos_broker.specs.Kept.{AreKept, LogView, noted};
+ghost use Rattle.eos_broker.specs.Kept.{AreKept, LogView};
+ghost use Rattle.eos_broker.specs.steps.Kept.{noted};
 
 use crate::producer::{after_data, after_marker, unseen};
 use eos_batch::Kind;

@@ -3,7 +3,7 @@ use Rattle.std.proofs.Common.{◌≡◌, ◌≢◌, ℕ, ◌≤◌, ℤ, Bool, t
 use Rattle.std.specs.Int.{w32, w64, cast_signed, from_be_bytes}
 use Rattle.std.proofs.lemmas.Bool.{le-ltb, ltb-false}
 use Rattle.std.proofs.lemmas.List.{take_at, drop_at, take-append-drop, length-append, length-take-le}
-use Rattle.eos_base.specs.Steps.{◌>>=◌, or_fault, must}
+use Rattle.eos_base.specs.Fallible.{◌>>=◌, or_fault, must}
 use Rattle.eos_wire.specs.Numbers.{number_at, i64_at, i32_at}
 use Rattle.eos_batch.specs.declared.fault.BatchFault.{BatchFault}
 use Rattle.eos_batch.specs.declared.fault.BatchFault.TheVariants as faults

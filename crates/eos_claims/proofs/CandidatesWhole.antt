@@ -8,7 +8,7 @@ use Rattle.std.specs.declared.cmp.Ordering.TheVariants.{Less, Equal, Greater}
 use Rattle.std.proofs.lemmas.Bool.{eqb-true, eq-eqb, lt-ltb, and_from}
 use Rattle.std.proofs.lemmas.Int.{ints}
 use Rattle.eos_base.specs.Members.{Has}
-use Rattle.eos_base.specs.Decided.{Decided}
+use Rattle.eos_base.specs.steps.Decided.{Decided}
 use Rattle.eos_base.specs.Least.{UpTo, IsLeastOrNone, lesser_of}
 use Rattle.eos_base.proofs.Decides.{both, nat_decided}
 use Rattle.eos_base.proofs.LeastOf.{upto_itself, upto_trans, least_by_candidates}

@@ -7,7 +7,8 @@ use Rattle.std.specs.declared.cmp.Ordering.TheVariants.{Less, Equal, Greater}
 use Rattle.std.specs.Cmp.{IsTotalOrder}
 use Rattle.std.proofs.lemmas.Cmp.{nat_cmp_total, on_total, then_total}
 use Rattle.eos_base.specs.PartitionNames.{name_cmp}
-use Rattle.eos_base.specs.Least.{IsExact, IsLeast, UpTo}
+use Rattle.eos_base.specs.Least.{IsLeast, UpTo}
+use Rattle.eos_base.specs.steps.Least.{IsExact}
 use Rattle.eos_base.proofs.Exact.{then_parts, nat_exact, option_exact}
 use Rattle.eos_base.proofs.LeastOf.{one_least}
 use Rattle.eos_base.proofs.NamesInOrder.{name_exact}

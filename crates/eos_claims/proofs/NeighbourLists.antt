@@ -3,7 +3,7 @@ use Rattle.std.proofs.Common.{◌≡◌, List, [], ◌∷◌, refl, sym, subst, 
 use Rattle.std.specs.Cmp.{IsTotalOrder}
 use Rattle.std.specs.declared.cmp.Ordering.{Ordering}
 use Rattle.eos_base.specs.Members.{Has}
-use Rattle.eos_base.specs.Decided.{Decided}
+use Rattle.eos_base.specs.steps.Decided.{Decided}
 use Rattle.eos_base.specs.Least.{UpTo}
 use Rattle.eos_base.proofs.LeastOf.{upto_itself, upto_trans, upto_same}
 use Rattle.eos_claims.specs.Candidates.{IsInOrder}

@@ -9,7 +9,7 @@ use Rattle.std.proofs.lemmas.Int.{ints}
 use Rattle.std.proofs.lemmas.Cmp.{upto, tied_itself}
 use Rattle.eos_base.specs.declared.partition_name.PartitionName.{PartitionName}
 use Rattle.eos_base.specs.Members.{Has}
-use Rattle.eos_base.specs.Decided.{Decided}
+use Rattle.eos_base.specs.steps.Decided.{Decided}
 use Rattle.eos_base.specs.Least.{UpTo, NoneStands}
 use Rattle.eos_base.proofs.Decides.{both, from_both, nat_decided, int_decided, bytes_decided, has_decided, find_or}
 use Rattle.eos_base.proofs.LeastOf.{upto_itself, other_way}

@@ -5,7 +5,8 @@ use Rattle.eos_machine.specs.declared.config.Config.{Config}
 use Rattle.eos_machine.specs.declared.event.Event.{Event}
 use Rattle.eos_machine.specs.World.{World, opening}
 use Rattle.eos_machine.specs.Answers.{Answer, when}
-use Rattle.eos_machine.specs.Machine.{happens, counted, step, run}
+use Rattle.eos_machine.specs.Machine.{counted, step, run}
+use Rattle.eos_machine.specs.steps.Machine.{happens}
 use Rattle.eos_cluster.specs.Courses.{IsReached}
 
 chosen : (b : Bool) (x y : Answer) (n : ℕ) → n ≤ x.0.events → n ≤ y.0.events → n ≤ (when b x y).0.events

@@ -35,7 +35,8 @@ use Rattle.eos_logs.proofs.ReachedItems.{writable}
 use Rattle.eos_logs.specs.Schedules.{IsOfSchedule}
 use Rattle.eos_store.specs.steps.Proper.{IsProper}
 use Rattle.eos_cluster.specs.Courses.{Course, IsTaken, IsTakenUnder, UnlessMemory, IsStep, IsStepUnder, IsCounted as IsCountedStep, IsReached, IsReachedUnder}
-use Rattle.eos_store.specs.Named.{IsNamed, IsSmall, Needs}
+use Rattle.eos_store.specs.Named.{IsNamed, IsSmall}
+use Rattle.eos_store.specs.steps.Named.{Needs}
 use Rattle.eos_store.specs.Held.{Held, becomes}
 
 -- ---- what holds

@@ -2,7 +2,7 @@
 
 ghost use Rattle.std.specs.Prelude.{◌≡◌, OnErr, IfOk};
 ghost use Rattle.eos_machine.specs.Machine.{restart_broker, happens_under};
-ghost use Rattle.eos_store.specs.Named.{Needs};
+ghost use Rattle.eos_store.specs.steps.Named.{Needs};
 
 use bytes::Bytes;
 use eos_deliveries::{deliver, restart};

@@ -10,7 +10,7 @@ use Rattle.std.proofs.lemmas.Cmp.{nat_cmp_total, nat_list_cmp_total, int_ranked,
 use Rattle.eos_base.specs.Members.{Has}
 use Rattle.eos_base.specs.Least.{UpTo, IsLeastOrNone}
 use Rattle.eos_base.specs.PartitionNames.{name_cmp}
-use Rattle.eos_base.specs.Steps.{◌>>=◌}
+use Rattle.eos_base.specs.Fallible.{◌>>=◌}
 use Rattle.eos_base.proofs.Exact.{bytes_exact, is_tied}
 use Rattle.eos_base.proofs.NamesInOrder.{name_total}
 use Rattle.eos_claims.proofs.ClaimTests.{less_is, is_less_int}

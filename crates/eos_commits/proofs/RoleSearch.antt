@@ -7,7 +7,7 @@ use Rattle.std.specs.declared.cmp.Ordering.{Ordering}
 use Rattle.std.proofs.lemmas.Cmp.{nat_list_cmp_total, on_total, then_total}
 use Rattle.std.proofs.lemmas.List.Sorted.{list_any-IsPermutation}
 use Rattle.eos_base.specs.Members.{Has, is_found}
-use Rattle.eos_base.specs.Least.{IsExact}
+use Rattle.eos_base.specs.steps.Least.{IsExact}
 use Rattle.eos_base.proofs.Exact.{then_parts, bytes_exact}
 use Rattle.eos_base.proofs.Membership.{found_by, found_has, has_found, flat_has, has_flat, map_has, has_map}
 use Rattle.eos_evidence.specs.declared.application.App.{App}

@@ -7,7 +7,7 @@ use Rattle.std.specs.declared.cmp.Ordering.TheVariants.{Less}
 use Rattle.std.proofs.lemmas.Cmp.{tied_itself}
 use Rattle.eos_base.specs.Members.{Has}
 use Rattle.eos_base.specs.PartitionNames.{name_cmp}
-use Rattle.eos_base.specs.Steps.{◌>>=◌}
+use Rattle.eos_base.specs.Fallible.{◌>>=◌}
 use Rattle.eos_base.proofs.Membership.{append_cases, flat_has, has_flat, map_has, has_map, has_filter, filter_has}
 use Rattle.eos_base.proofs.NamesInOrder.{name_total}
 use Rattle.eos_items.specs.declared.item.Item.{Item}

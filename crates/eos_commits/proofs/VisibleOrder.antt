@@ -3,7 +3,7 @@ use Rattle.std.proofs.Common.{refl, ap}
 use Rattle.std.specs.Ordering.{nat_cmp}
 use Rattle.std.specs.Cmp.{IsTotalOrder}
 use Rattle.std.specs.declared.cmp.Ordering.{Ordering}
-use Rattle.eos_base.specs.Least.{IsExact}
+use Rattle.eos_base.specs.steps.Least.{IsExact}
 use Rattle.eos_base.specs.PartitionNames.{name_cmp}
 use Rattle.eos_base.proofs.RecordFaults.{record_exact}
 use Rattle.eos_base.proofs.Exact.{then_parts, nat_exact}

@@ -3,7 +3,7 @@
 use Rattle.std.specs.Prelude.{ℕ, ℤ, List, Option, Some, None, Result, Ok, Err, codes}
 use Rattle.eos_base.specs.FaultNames.{record_fault_name}
 use Rattle.eos_base.specs.Records.{present}
-use Rattle.eos_base.specs.Steps.{◌>>=◌}
+use Rattle.eos_base.specs.Fallible.{◌>>=◌}
 use Rattle.eos_base.specs.declared.record_fault.RecordFault.{RecordFault}
 use Rattle.eos_batch.specs.declared.record.Record.{Record}
 use Rattle.eos_claims.specs.declared.claim.Claim.{Claim}

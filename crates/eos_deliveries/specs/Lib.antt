@@ -1,2 +1,1 @@
-pub mod Restarting
 pub mod steps

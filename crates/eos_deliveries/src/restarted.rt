@@ -6,7 +6,7 @@ ghost use Rattle.eos_machine.specs.World.{fresh, with_messages};
 ghost use Rattle.eos_machine.specs.Logs.{entries_of, last_state};
 ghost use Rattle.eos_machine.specs.Machine.{reread, due_again, restarted};
 ghost use Rattle.eos_store.specs.Held.{becomes};
-ghost use Rattle.eos_deliveries.specs.Restarting.{said_by, due_message};
+ghost use Rattle.eos_deliveries.specs.steps.Restarting.{said_by, due_message};
 
 use crate::deliver_marker::EndMarker;
 use eos_machine::{Coordinator, Entry, Item, Message, Status};

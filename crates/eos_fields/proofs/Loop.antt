@@ -3,8 +3,9 @@ use Rattle.std.proofs.Common.{◌≡◌, ℕ, suc, ◌+◌, ◌-◌, ◌≤◌, 
 use Rattle.std.proofs.lemmas.List.{append-nil}
 use Rattle.eos_base.specs.declared.record_fault.RecordFault.{RecordFault}
 use Rattle.eos_base.specs.declared.record_fault.RecordFault.TheVariants as faults
-use Rattle.eos_base.specs.Steps.{◌>>=◌}
-use Rattle.eos_base.specs.Records.{Fails, Refuses, skipped}
+use Rattle.eos_base.specs.Fallible.{◌>>=◌}
+use Rattle.eos_base.specs.Records.{Refuses, skipped}
+use Rattle.eos_base.specs.steps.Records.{Fails}
 use Rattle.eos_fields.specs.Reading.{many_from}
 use Rattle.eos_fields.proofs.Takes.{done}
 

@@ -12,7 +12,8 @@ use Rattle.eos_machine.specs.Machine.{step, run, replies}
 use Rattle.eos_cluster.specs.Courses.{Course, IsTaken, IsStep, IsCounted}
 use Rattle.eos_history.specs.declared.history.Entry.{Entry}
 use Rattle.eos_history.specs.declared.history.Call.{Call}
-use Rattle.eos_history.specs.Replay.{IsReplay, events_of, is_stored, recorded, PassView, new_pass, new_passes}
+use Rattle.eos_history.specs.Replay.{IsReplay, events_of, is_stored, PassView, new_pass, new_passes}
+use Rattle.eos_history.specs.steps.Replay.{recorded}
 
 -- ---- an event more
 

@@ -8,7 +8,6 @@ use Rattle.eos_machine.specs.declared.event.Reply.{Reply}
 use Rattle.eos_machine.specs.declared.event.Reply.TheVariants.{Done, Fenced, OutOfOrder, DuplicateKept, WrongState, Busy, StaleGeneration, EpochsSpent, Unknown, OutOfMemory, Full}
 use Rattle.eos_machine.specs.World.{World, opening}
 use Rattle.eos_machine.specs.Machine.{run, replies}
-use Rattle.eos_cluster.specs.Courses.{Course}
 use Rattle.eos_history.specs.declared.history.Entry.{Entry}
 use Rattle.eos_history.specs.declared.history.Call.{Call}
 use Rattle.eos_history.specs.declared.history.Called.{Called}
@@ -42,10 +41,6 @@ is_stored Unknown = true
 is_stored OutOfMemory = false
 is_stored Full = false
 
--- the entries after a call by the pass of this number
-abbrev pub recorded : List Entry → ℕ → Event → Reply → List Entry
-recorded es n e r = if is_stored r then es ++ record { pass = n; event = e; reply = r } ∷ [] else es
-
 -- a caller's own calls after one more, with the place that it was told
 abbrev pub noted : List Call → Event → Called → List Call
 noted cs e x = if is_stored x.reply then cs ++ record { place = x.place; event = e; reply = x.reply } ∷ [] else cs
@@ -66,11 +61,6 @@ new_pass n = record { number = n; calls = [] }
 -- so many passes, numbered from 0, that have called nothing
 abbrev pub new_passes : ℕ → List PassView
 new_passes n = map new_pass (range_with_len 0 n)
-
--- what lies under the lock
-pub record HistoryView : Type 0 where
-  pub course : Course
-  pub entries : List Entry
 
 -- ---- what the passes say against the history
 

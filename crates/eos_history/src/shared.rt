@@ -5,7 +5,8 @@ ghost use Rattle.std.specs.Prelude.{◌≡◌, ◌↔◌, ◌+◌, ◌≤◌, �
 ghost use Rattle.std.specs.List.{sum_by};
 ghost use Rattle.std.specs.Result.{OnOk};
 ghost use Rattle.eos_cluster.specs.Courses.{IsStep, IsCounted};
-ghost use Rattle.eos_history.specs.Replay.{IsReplay, is_stored, recorded, noted, told, new_passes, call_at, calls_of, Agree};
+ghost use Rattle.eos_history.specs.Replay.{IsReplay, is_stored, noted, told, new_passes, call_at, calls_of, Agree};
+ghost use Rattle.eos_history.specs.steps.Replay.{recorded};
 
 use crate::history::{Call, Called, Entry, Finished};
 use eos_base::Listed;
@@ -70,7 +71,8 @@ struct History<L: Ledger> {
 
 impl<L: Ledger> Model for History<L> {
     ghost use Rattle.std.specs.Prelude.{◌≡◌, true, length};
-    ghost use Rattle.eos_history.specs.Replay.{HistoryView, IsReplay};
+    ghost use Rattle.eos_history.specs.Replay.{IsReplay};
+    ghost use Rattle.eos_history.specs.steps.Replay.{HistoryView};
 
     ghost Value = { HistoryView };
 

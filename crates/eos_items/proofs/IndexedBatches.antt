@@ -12,7 +12,7 @@ use Rattle.eos_batch.specs.Attributes.{is_control}
 use Rattle.eos_batch.specs.Marker.{has_right_control}
 use Rattle.eos_batch.specs.Rules.{has_right_producer}
 use Rattle.eos_batch.specs.Answers.{Fails}
-use Rattle.eos_base.specs.Steps.{◌>>=◌}
+use Rattle.eos_base.specs.Fallible.{◌>>=◌}
 use Rattle.eos_batch.specs.Reading.{with_records, batch_at}
 use Rattle.eos_batch.specs.Places.{finished, records_in, IsOpened}
 use Rattle.eos_batch.proofs.OpenedTests.{counted, is_fault}

@@ -10,7 +10,8 @@ use Rattle.std.proofs.lemmas.Cmp.{then_total, on_total, nat_cmp_total}
 use Rattle.std.proofs.lemmas.List.Sorted.{sorted_far, list_any-IsPermutation, IsPermutation-map}
 use Rattle.std.proofs.lemmas.List.MinMax.{ranks_by}
 use Rattle.eos_base.specs.Members.{Has}
-use Rattle.eos_base.specs.Least.{IsExact, UpTo}
+use Rattle.eos_base.specs.Least.{UpTo}
+use Rattle.eos_base.specs.steps.Least.{IsExact}
 use Rattle.eos_base.proofs.Exact.{then_parts, nat_exact}
 use Rattle.eos_base.proofs.Membership.{found_has, has_found, map_has, has_map, filter_has, has_filter}
 use Rattle.eos_claims.specs.declared.neighbours.NumberedClaim.{NumberedClaim}

@@ -8,7 +8,8 @@ use Rattle.std.specs.declared.cmp.Ordering.{Ordering}
 use Rattle.std.specs.declared.cmp.Ordering.TheVariants.{Equal}
 use Rattle.std.proofs.lemmas.Cmp.{nat_cmp_total, nat_list_cmp_total, then_total, on_total, tied_itself}
 use Rattle.eos_base.specs.Members.{Has}
-use Rattle.eos_base.specs.Least.{IsExact, NoneStands, IsLeast}
+use Rattle.eos_base.specs.Least.{NoneStands, IsLeast}
+use Rattle.eos_base.specs.steps.Least.{IsExact}
 use Rattle.eos_base.proofs.Exact.{then_parts, nat_exact, bytes_exact, is_tied}
 use Rattle.eos_base.proofs.Decides.{differs}
 use Rattle.eos_base.proofs.LeastOf.{both_least, one_least}

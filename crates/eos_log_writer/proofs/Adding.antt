@@ -1,7 +1,7 @@
 -- The segments of a log added one after the other.
 use Rattle.std.proofs.Common.{◌≡◌, ◌∷◌, ℕ, ◌+◌, ◌-◌, ◌<◌, suc, List, map, length, Result, Ok, ◌∙◌, sym, ap, arith}
 use Rattle.std.specs.List.{range_with_len}
-use Rattle.eos_base.specs.Steps.{◌>>=◌}
+use Rattle.eos_base.specs.Fallible.{◌>>=◌}
 use Rattle.eos_evidence.specs.declared.segment.Segment.{Segment}
 use Rattle.eos_evidence.specs.declared.fault.AddFault.{AddFault}
 use Rattle.eos_evidence.specs.Evidence.{EvidenceParts, added}

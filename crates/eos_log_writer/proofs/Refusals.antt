@@ -18,7 +18,7 @@ use Rattle.eos_txnlog.specs.declared.partitions.TopicPartitions.{TopicPartitions
 use Rattle.eos_machine.specs.declared.item.Entry.{Entry}
 use Rattle.eos_machine.specs.Rest.{producer_id, status_of, by_topic, value_of}
 use Rattle.eos_log_writer.proofs.Adding.{range_step}
-use Rattle.eos_base.specs.Steps.{◌>>=◌}
+use Rattle.eos_base.specs.Fallible.{◌>>=◌}
 use Rattle.eos_base.specs.Records.{Settles}
 use Rattle.eos_base.specs.declared.record_fault.RecordFault.{RecordFault}
 use Rattle.eos_base.specs.declared.record_fault.RecordFault.TheVariants as faults

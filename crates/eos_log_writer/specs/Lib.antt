@@ -1,3 +1,2 @@
-pub mod Grouping
 pub mod Names
 pub mod steps

@@ -8,7 +8,7 @@ ghost use Rattle.eos_offsets.specs.Writing as offsets;
 ghost use Rattle.eos_machine.specs.Places.{IsConfig, final_topic, input_topic, output_topic};
 ghost use Rattle.eos_machine.specs.Rest.{status_of, by_topic, value_of, with_number};
 ghost use Rattle.eos_txnlog.specs.declared.partitions.TopicPartitions.{TopicPartitions};
-ghost use Rattle.eos_log_writer.specs.Grouping.{starts_with};
+ghost use Rattle.eos_log_writer.specs.steps.Grouping.{starts_with};
 ghost use Rattle.std.specs.Int.{w64, cast_signed};
 ghost use Rattle.std.specs.List.{All};
 ghost use Rattle.eos_base.specs.declared.record_fault.RecordFault.{RecordFault};

@@ -2,7 +2,7 @@
 use Rattle.std.proofs.Common.{◌≡◌, ℕ, ◌+◌, ◌^◌, ◌<◌, ◌≤◌, ◌==◌, ◌&&◌, Bool, true, false, ℤ, pos, List, [], ◌∷◌, ◌++◌, length, flat_map, Ok, refl, sym, ap, subst, ◌∙◌, arith, nat_le, nat_lt, if◌then◌else◌, FitsSigned, w32}
 use Rattle.std.specs.List.{All, list_all}
 use Rattle.std.proofs.lemmas.List.Elements.{All-nil, All-cons, All-head, All-tail, All-weaker}
-use Rattle.eos_base.specs.Steps.{must}
+use Rattle.eos_base.specs.Fallible.{must}
 use Rattle.eos_base.specs.declared.record_fault.RecordFault.TheVariants as faults
 use Rattle.eos_wire.specs.Numbers.{IsBytes, i8_text, i16_text, i32_text, i64_text}
 use Rattle.eos_wire.specs.Writing.{uvarint_of}
@@ -10,7 +10,7 @@ use Rattle.eos_wire.proofs.NumberTexts.{IsBytes-append}
 use Rattle.eos_txnlog.specs.declared.partitions.TopicPartitions.{TopicPartitions}
 use Rattle.eos_txnlog.specs.declared.value.TxnValue.{TxnValue}
 use Rattle.eos_txnlog.specs.Status.{status_number}
-use Rattle.eos_txnlog.specs.Text.{FitNumbers, IsInRange}
+use Rattle.eos_txnlog.specs.steps.Text.{FitNumbers, IsInRange}
 use Rattle.eos_txnlog.specs.Reading.{read_value}
 use Rattle.eos_txnlog.specs.Writing.{head_text, write_value}
 use Rattle.eos_txnlog.proofs.ValueTexts.{value_whole}

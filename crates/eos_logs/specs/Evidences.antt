@@ -1,7 +1,7 @@
 -- The evidence of a cluster: all its logs, cut into segments of the configured number of records, with true ends.
 use Rattle.std.specs.Prelude.{◌≡◌, ℕ, ◌+◌, ◌-◌, ◌*◌, ◌/◌, ◌≤◌, ◌<◌, pos, List, [], ◌∷◌, map, length, take, drop, Result, Ok, if◌then◌else◌}
 use Rattle.std.specs.List.{flat_map, range_with_len}
-use Rattle.eos_base.specs.Steps.{◌>>=◌}
+use Rattle.eos_base.specs.Fallible.{◌>>=◌}
 use Rattle.eos_evidence.specs.declared.application.App.{App}
 use Rattle.eos_evidence.specs.declared.ends.End.{End}
 use Rattle.eos_evidence.specs.declared.segment.Segment.{Segment}

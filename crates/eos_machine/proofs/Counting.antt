@@ -16,7 +16,8 @@ use Rattle.eos_machine.specs.Tests.{is_ongoing, has, ongoing_partitions}
 use Rattle.eos_machine.specs.Answers.{Answer, when}
 use Rattle.eos_machine.specs.Sessions.{produce, commit_offset, commit, end_session, resume_ended, resume, fetch}
 use Rattle.eos_machine.specs.Deliveries.{with_partition, accept, ticked_off, deliver}
-use Rattle.eos_machine.specs.Machine.{happens, step, run}
+use Rattle.eos_machine.specs.Machine.{step, run}
+use Rattle.eos_machine.specs.steps.Machine.{happens}
 use Rattle.eos_machine.proofs.Worlds.{each}
 use Rattle.eos_machine.proofs.Resting.{no_log}
 

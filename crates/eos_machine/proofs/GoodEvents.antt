@@ -22,7 +22,8 @@ use Rattle.eos_machine.specs.Tests.{is_ongoing, is_prepare, has, is_nil, is_comm
 use Rattle.eos_machine.specs.Answers.{Answer, when}
 use Rattle.eos_machine.specs.Sessions.{claimed_topic, new_session, after_output, after_offset, after_end, after_resume, sent, produce, commit_offset, commit, end_session, resume_ended, resume, fetch}
 use Rattle.eos_machine.specs.Deliveries.{with_partition, accept, deliver_output, deliver_offset, deliver_end, without, ticked_off, deliver_marker, deliver}
-use Rattle.eos_machine.specs.Machine.{feed, start_session, start, reread, due_again, queued_again, restarted, happens, counted, step, run}
+use Rattle.eos_machine.specs.Machine.{feed, start_session, start, reread, due_again, queued_again, restarted, counted, step, run}
+use Rattle.eos_machine.specs.steps.Machine.{happens}
 use Rattle.eos_machine.specs.Rest.{decisions_of}
 use Rattle.eos_machine.proofs.Apps.{App, waited, MayBeOpen, Orders, Invariant}
 use Rattle.eos_machine.proofs.AppSteps.{IsUnder, IsSettled, Grows, IsCurrent, begun_keeps, joined_keeps, appended_keeps, decided_keeps, marked_keeps, ticked_keeps, completed_keeps, waited_keeps}

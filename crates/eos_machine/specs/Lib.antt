@@ -14,3 +14,4 @@ pub mod Runs
 pub mod SwitchedRuns
 pub mod Bounds
 pub mod Formed
+pub mod steps

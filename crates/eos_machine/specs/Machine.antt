@@ -73,10 +73,6 @@ happens_under u c w (events.BrokerRestart t p) = restart_broker c w t p
 happens_under u c w events.CoordinatorRestart = (restarted c w, Done 0)
 happens_under u c w (events.Deliver n) = deliver u c w n (slice_get w.messages n)
 
--- with no switch, as in an honest cluster
-abbrev pub happens : Config → World → Event → Answer
-happens c w e = happens_under none c w e
-
 -- an event was taken
 abbrev pub counted : ℕ → Answer → Answer
 counted n x = (record x.0 { events = n + 1 }, x.1)

@@ -9,7 +9,7 @@ use Rattle.eos_txnlog.specs.declared.status.Status.{Status as TxnStatus}
 use Rattle.eos_txnlog.specs.declared.status.Status.TheVariants as statuses
 use Rattle.eos_txnlog.specs.declared.value.TxnValue.{TxnValue}
 use Rattle.eos_txnlog.specs.declared.partitions.TopicPartitions.{TopicPartitions}
-use Rattle.eos_txnlog.specs.Steps.{step_verdict}
+use Rattle.eos_txnlog.specs.Following.{step_verdict}
 use Rattle.eos_machine.specs.Places.{Config, txn_place, topic_of, number_of, is_topic, is_sequenced}
 use Rattle.eos_machine.specs.World.{World, Status, Empty, Ongoing, Prepare, Complete, Entry, Item, Fed, State, Output, Offset, Marker, fresh, coord_at, log_at}
 use Rattle.eos_machine.specs.Application.{Mark, Decision, IsAtomic}

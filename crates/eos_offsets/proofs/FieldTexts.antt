@@ -13,7 +13,7 @@ use Rattle.eos_offsets.specs.Text.{IsMetadata, IfPresent, IsInt32, IsInt64}
 use Rattle.eos_fields.specs.declared.form.Form.TheVariants.{Plain}
 use Rattle.eos_fields.specs.Texts.{IsStringText}
 use Rattle.eos_fields.proofs.Takes.{ok_is, glue, Taken, Cut, cut_sound, cut_whole}
-use Rattle.eos_base.specs.Steps.{◌>>=◌, must}
+use Rattle.eos_base.specs.Fallible.{◌>>=◌, must}
 use Rattle.eos_base.specs.Records.{present, ended, Settles}
 use Rattle.eos_offsets.specs.Reading.{after_metadata_from, after_metadata, after_field}
 

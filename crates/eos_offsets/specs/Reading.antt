@@ -1,9 +1,9 @@
 -- Reading a key or a value of `__consumer_offsets` (Kafka's schemas OffsetCommitKey and OffsetCommitValue) from left to
 -- right, with the first fault that is met.
-use Rattle.std.specs.Prelude.{◌≡◌, ℕ, zero, suc, ℤ, pos, negsuc, Bool, true, false, ◌&&◌, ◌||◌, int_le, List, Option, Some, None, Result, Ok, Err, if◌then◌else◌, ⊤}
+use Rattle.std.specs.Prelude.{ℕ, zero, suc, ℤ, pos, negsuc, Bool, true, false, ◌&&◌, ◌||◌, int_le, List, Option, Some, None, Result, Ok, Err, if◌then◌else◌, ⊤}
 use Rattle.std.specs.Ordering.{int_eq}
 use Rattle.eos_wire.specs.Numbers.{bytes_at, i16_at, i32_at, i64_at}
-use Rattle.eos_base.specs.Steps.{◌>>=◌}
+use Rattle.eos_base.specs.Fallible.{◌>>=◌}
 use Rattle.eos_base.specs.Records.{present, ended}
 use Rattle.eos_base.specs.declared.record_fault.RecordFault.{RecordFault}
 use Rattle.eos_base.specs.declared.record_fault.RecordFault.TheVariants as faults
@@ -28,11 +28,6 @@ IsNotStatus faults.Status = ⊥
 IsNotStatus faults.Length = ⊤
 IsNotStatus faults.Trailing = ⊤
 IsNotStatus faults.OutOfMemory = ⊤
-
--- What a function returned, and what it left of its input, are what reading says, whatever it went past.
-abbrev pub Passes : Result (Unit {0}) RecordFault → List ℕ → Result (List ℕ) RecordFault → Type 0
-Passes (Ok _) rest read = read ≡ Ok rest
-Passes (Err e) rest read = read ≡ Err e
 
 -- what follows the metadata
 abbrev pub after_metadata_from : ℤ → List ℕ → Result (List ℕ) RecordFault

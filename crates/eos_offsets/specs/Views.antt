@@ -1,22 +1,11 @@
 -- What a key or a value says that is read where it stands.
-use Rattle.std.specs.Borrow.{Bor}
-use Rattle.std.specs.Prelude.{◌≡◌, ℕ, List, Option, Some, None, Result, Ok, Err}
+use Rattle.std.specs.Prelude.{◌≡◌, Option, Some, None, Result, Ok, Err}
 use Rattle.eos_base.specs.declared.record_fault.RecordFault.{RecordFault}
 use Rattle.eos_offsets.specs.declared.key.OffsetKey.{OffsetKey}
 use Rattle.eos_offsets.specs.declared.view.KeyRef.{KeyRef}
 
 abbrev pub plain_key : KeyRef → OffsetKey
 plain_key k = record { group = k.group.now; topic = k.topic.now; partition = k.partition }
-
--- The lent bytes and those that are left are what reading gives.
-abbrev pub Lends : Result (Bor (List ℕ)) RecordFault → List ℕ → Result (List ℕ × List ℕ) RecordFault → Type 0
-Lends (Ok text) rest read = read ≡ Ok (text.now, rest)
-Lends (Err e) rest read = read ≡ Err e
-
--- The lent key is the key that is said.
-abbrev pub LendsKey : Result KeyRef RecordFault → Result OffsetKey RecordFault → Type 0
-LendsKey (Ok key) said = said ≡ Ok (plain_key key)
-LendsKey (Err e) said = said ≡ Err e
 
 abbrev pub LendsAnyKey : Result (Option KeyRef) RecordFault → Result (Option OffsetKey) RecordFault → Type 0
 LendsAnyKey (Ok (Some key)) said = said ≡ Ok (Some (plain_key key))

@@ -15,7 +15,8 @@
 ghost use Rattle.std.specs.Prelude.{◌≡◌, ◌↔◌, ◌++◌, ℤ, OnOk, IfOk, IfErr};
 ghost use Rattle.eos_base.specs.Records.{Settles};
 ghost use Rattle.eos_offsets.specs.Text.{IsValueText};
-ghost use Rattle.eos_offsets.specs.Reading.{IsNotStatus, IsOfBytes, Passes, after_metadata, is_value_version, value_fields_of, read_value};
+ghost use Rattle.eos_offsets.specs.Reading.{IsNotStatus, IsOfBytes, after_metadata, is_value_version, value_fields_of, read_value};
+ghost use Rattle.eos_offsets.specs.steps.Reading.{Passes};
 ghost use Rattle.eos_offsets.specs.Writing.{leader_epoch_text, expire_timestamp_text, value_bytes, write_value};
 
 use bytes::{BufMut, Bytes, BytesMut};

@@ -4,7 +4,8 @@ ghost use Rattle.std.specs.Prelude.{◌≡◌, IfErr};
 ghost use Rattle.eos_fields.specs.declared.form.Form.TheVariants.{Plain};
 ghost use Rattle.eos_fields.specs.Reading.{string_from};
 ghost use Rattle.eos_offsets.specs.Reading.{IsOfBytes, key_fields_of, read_key, read_value};
-ghost use Rattle.eos_offsets.specs.Views.{Lends, LendsKey, LendsAnyKey};
+ghost use Rattle.eos_offsets.specs.Views.{LendsAnyKey};
+ghost use Rattle.eos_offsets.specs.steps.Views.{Lends, LendsKey};
 
 use crate::value::read_value;
 use eos_base::RecordFault;

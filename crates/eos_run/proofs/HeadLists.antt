@@ -6,7 +6,7 @@ use Rattle.eos_items.specs.declared.head.DataHead.{DataHead}
 use Rattle.eos_items.specs.Batches.{DataBatch, set_ending}
 use Rattle.eos_items.specs.Heads.{data_head}
 use Rattle.eos_summary.specs.Settling.{waiting_from, waiting_in}
-use Rattle.eos_summary.specs.Endings.{set_endings}
+use Rattle.eos_summary.specs.steps.Endings.{set_endings}
 use Rattle.eos_summary.proofs.FatesSet.{ending_next}
 use Rattle.std.proofs.lemmas.List.{drop_all}
 use Rattle.eos_run.specs.Runs.{heads_of}

@@ -11,10 +11,12 @@ use Rattle.eos_summary.specs.declared.ends.Ends.{Ends}
 use Rattle.eos_summary.specs.declared.fault.Fault.{Fault}
 use Rattle.eos_summary.specs.declared.summary.BatchSummary.{BatchSummary}
 use Rattle.eos_summary.specs.Settling.{data_in, data_after, waiting_in}
-use Rattle.eos_summary.specs.Tables.{Table, ends_in, ends_at, IsReadyFor}
-use Rattle.eos_summary.specs.Faults.{IsSettled, IsLeastOf, earlier}
+use Rattle.eos_summary.specs.Tables.{Table, ends_in, ends_at}
+use Rattle.eos_summary.specs.steps.Tables.{IsReadyFor}
+use Rattle.eos_summary.specs.Faults.{IsSettled, IsLeastOf}
+use Rattle.eos_summary.specs.steps.Faults.{earlier}
 use Rattle.eos_summary.specs.Summaries.{IsSummary, SameEnds}
-use Rattle.eos_summary.specs.Joins.{rest_of, Starts, IsTaking}
+use Rattle.eos_summary.specs.steps.Joins.{rest_of, Starts, IsTaking}
 use Rattle.eos_summary.proofs.Waiting.{all_below}
 use Rattle.eos_summary.proofs.TakingOver.{all_ends, all_places, all_items, all_faults}
 use Rattle.eos_summary.proofs.JoinedSummaries.{same_summary, can_take, starts}

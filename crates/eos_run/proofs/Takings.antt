@@ -9,9 +9,10 @@ use Rattle.eos_items.specs.Batches.{DataBatch}
 use Rattle.eos_summary.specs.declared.ends.Ends.{Ends}
 use Rattle.eos_summary.specs.declared.fault.Fault.{Fault}
 use Rattle.eos_summary.specs.Settling.{waiting_in, settled}
-use Rattle.eos_summary.specs.Tables.{Table, ends_at, IsJoined}
-use Rattle.eos_summary.specs.Summaries.{only, TakesFault}
-use Rattle.eos_summary.specs.Joins.{Rest, IsTaking, Took}
+use Rattle.eos_summary.specs.Tables.{Table, ends_at}
+use Rattle.eos_summary.specs.steps.Tables.{IsJoined}
+use Rattle.eos_summary.specs.steps.Summaries.{only, TakesFault}
+use Rattle.eos_summary.specs.steps.Joins.{Rest, IsTaking, Took}
 use Rattle.eos_summary.proofs.Waiting.{all_below}
 use Rattle.eos_summary.proofs.TakingOver.{start, taking_step, taken_step, took}
 use Rattle.eos_run.specs.Runs.{heads_of}

@@ -1,7 +1,7 @@
 //! What a run says of one producer id.
 
 ghost use Rattle.std.specs.Prelude.{◌≡◌, ◌+◌, ◌≤◌, ◌<◌, ◌^◌, [], None, length, All, IfOk, OnOk};
-ghost use Rattle.eos_summary.specs.Tables.{IsJoined, HasRoom, AreEndsOf};
+ghost use Rattle.eos_summary.specs.steps.Tables.{IsJoined, HasRoom, AreEndsOf};
 ghost use Rattle.eos_summary.specs.Summaries.{SameEnds};
 
 use crate::mark::mark_in;

@@ -1,7 +1,8 @@
 //! The faults of pairs of touches, at the seam of two runs.
 
 ghost use Rattle.std.specs.Prelude.{◌≡◌};
-ghost use Rattle.eos_summary.specs.Faults.{IsLeastOf, StandsAt, earlier, earlier_of};
+ghost use Rattle.eos_summary.specs.Faults.{IsLeastOf, StandsAt};
+ghost use Rattle.eos_summary.specs.steps.Faults.{earlier, earlier_of};
 
 use eos_summary::Fault;
 use eos_touch::{Touch, pair_ok};

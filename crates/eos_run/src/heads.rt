@@ -4,9 +4,9 @@ ghost use Rattle.std.specs.Prelude.{◌≡◌, ◌+◌, ◌<◌, ◌≤◌, ◌^
 ghost use Rattle.eos_batch.specs.declared.batch.Batch.{Batch};
 ghost use Rattle.eos_batch.specs.Heads.{head_of};
 ghost use Rattle.eos_items.specs.Batches.{DataBatch, set_ending};
-ghost use Rattle.eos_summary.specs.Endings.{set_endings};
+ghost use Rattle.eos_summary.specs.steps.Endings.{set_endings};
 ghost use Rattle.eos_summary.specs.Settling.{data_in, settled, waiting_in};
-ghost use Rattle.eos_summary.specs.Summaries.{only};
+ghost use Rattle.eos_summary.specs.steps.Summaries.{only};
 ghost use Rattle.eos_run.specs.Runs.{heads_of};
 
 use crate::mark::ended;

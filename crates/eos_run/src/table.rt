@@ -4,7 +4,8 @@ ghost use Rattle.std.specs.Prelude.{◌≡◌, ◌+◌, ◌≤◌, ℤ, length, 
 ghost use Rattle.std.specs.Ordering.{int_cmp};
 ghost use Rattle.std.specs.BTreeMap.{get};
 ghost use Rattle.eos_summary.specs.declared.ends.Ends.{Ends};
-ghost use Rattle.eos_summary.specs.Tables.{ends_at, IsReadyFor};
+ghost use Rattle.eos_summary.specs.Tables.{ends_at};
+ghost use Rattle.eos_summary.specs.steps.Tables.{IsReadyFor};
 ghost use Rattle.eos_summary.specs.Summaries.{SameEnds};
 
 use crate::ends::ProducerEnds;

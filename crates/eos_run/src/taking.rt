@@ -6,9 +6,10 @@ ghost use Rattle.std.specs.BTreeMap.{get};
 ghost use Rattle.eos_batch.specs.declared.batch.Batch.{Batch};
 ghost use Rattle.eos_items.specs.Batches.{DataBatch};
 ghost use Rattle.eos_summary.specs.Settling.{waiting_in, settled};
-ghost use Rattle.eos_summary.specs.Tables.{ends_at, IsJoined, HasRoom};
-ghost use Rattle.eos_summary.specs.Joins.{rest_of};
-ghost use Rattle.eos_summary.specs.Summaries.{TakesFault, only};
+ghost use Rattle.eos_summary.specs.Tables.{ends_at};
+ghost use Rattle.eos_summary.specs.steps.Tables.{IsJoined, HasRoom};
+ghost use Rattle.eos_summary.specs.steps.Joins.{rest_of};
+ghost use Rattle.eos_summary.specs.steps.Summaries.{TakesFault, only};
 ghost use Rattle.eos_run.specs.Runs.{heads_of};
 ghost use Rattle.eos_run.specs.steps.Taking.{CanTake, Begins, HasTaken};
 

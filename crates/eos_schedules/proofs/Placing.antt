@@ -25,7 +25,8 @@ use Rattle.eos_machine.specs.Answers.{Answer, when}
 use Rattle.eos_machine.specs.Sessions.{produce, commit_offset, commit, end_session, resume_ended, resume, fetch}
 use Rattle.eos_machine.specs.Deliveries.{with_partition, accept, ticked_off, deliver}
 use Rattle.eos_machine.proofs.Written.{written_after}
-use Rattle.eos_machine.specs.Machine.{start_session, start, happens, counted, step, run}
+use Rattle.eos_machine.specs.Machine.{start_session, start, counted, step, run}
+use Rattle.eos_machine.specs.steps.Machine.{happens}
 
 -- a state stands in the transaction log of its application, data elsewhere
 abbrev pub IsHere : Config → ℕ → Item → Type 0

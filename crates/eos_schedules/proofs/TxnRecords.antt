@@ -11,7 +11,7 @@ use Rattle.std.proofs.lemmas.Map.Text.{is_eq-slice_cmp}
 use Rattle.std.proofs.lemmas.List.Elements.{All-head, All-tail}
 use Rattle.eos_base.specs.Members.{Has}
 use Rattle.eos_base.specs.declared.record_fault.RecordFault.{RecordFault}
-use Rattle.eos_base.specs.Steps.{◌>>=◌, must}
+use Rattle.eos_base.specs.Fallible.{◌>>=◌, must}
 use Rattle.eos_base.proofs.Membership.{append_cases}
 use Rattle.eos_batch.specs.declared.batch.Batch.{Batch}
 use Rattle.eos_txnlog.specs.declared.value.TxnValue.{TxnValue}

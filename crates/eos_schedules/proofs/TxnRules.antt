@@ -16,7 +16,7 @@ use Rattle.eos_txnlog.specs.declared.value.TxnValue.{TxnValue}
 use Rattle.eos_txnlog.specs.Status.{status_number, same_status, is_open}
 use Rattle.eos_txnlog.specs.Skips.{means_nothing, says_the_same, is_skipped}
 use Rattle.eos_txnlog.specs.PartitionSets.{is_same_set}
-use Rattle.eos_txnlog.specs.Steps.{step_verdict}
+use Rattle.eos_txnlog.specs.Following.{step_verdict}
 use Rattle.eos_table.specs.TransactionLog.{Unskipped, flat, is_unfinished, kind_of_status, decided_as, decision_between, decision_of}
 use Rattle.eos_machine.specs.declared.config.Config.{Config}
 use Rattle.eos_machine.specs.declared.item.Status.{Status}

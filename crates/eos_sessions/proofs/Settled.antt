@@ -14,7 +14,7 @@ use Rattle.eos_machine.specs.World.{World, log_at}
 use Rattle.eos_machine.specs.Logs.{marks_of, mark_in, unseen, after_mark, producer_from, producer_of, kind_in, first_kind, is_open, is_committed, begins_at, has_open_commit}
 use Rattle.eos_machine.proofs.Worlds.{is_same}
 use Rattle.eos_sessions.specs.declared.fetches.Fetched.{Fetched}
-use Rattle.eos_sessions.specs.Fetching.{AreEnds, IsFetched, IsThere, IsSettled, IsNotOf, HasNone}
+use Rattle.eos_sessions.specs.steps.Fetching.{AreEnds, IsFetched, IsThere, IsSettled, IsNotOf, HasNone}
 use Rattle.eos_store.specs.Named.{IsFrom}
 
 -- ---- an application whose producer id has no data has no offset

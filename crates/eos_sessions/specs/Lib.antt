@@ -1,1 +1,1 @@
-pub mod Fetching
+pub mod steps

@@ -6,7 +6,7 @@ ghost use Rattle.eos_machine.specs.Places.{application_count, offsets_place};
 ghost use Rattle.eos_machine.specs.World.{log_at};
 ghost use Rattle.eos_machine.specs.Logs.{begins_at};
 ghost use Rattle.eos_machine.specs.Sessions.{fetch};
-ghost use Rattle.eos_sessions.specs.Fetching.{AreEnds, IsFetched, IsSettled};
+ghost use Rattle.eos_sessions.specs.steps.Fetching.{AreEnds, IsFetched, IsSettled};
 ghost use Rattle.eos_store.specs.Named.{IsFrom};
 
 use eos_batch::Kind;

@@ -1,1 +1,4 @@
 pub mod Proper
+pub mod Listing
+pub mod Named
+pub mod Proper

@@ -11,8 +11,9 @@ use Rattle.eos_summary.specs.declared.mark.EndMark.{EndMark}
 use Rattle.eos_summary.specs.declared.ends.Ends.{Ends}
 use Rattle.eos_summary.specs.Ends.{is_data, placed, mark_for, mark_of, first_placed, last_placed, first_marker, marks_of}
 use Rattle.eos_summary.specs.Settling.{ending_by, resolved, settled, data_after, data_in}
-use Rattle.eos_summary.specs.Tables.{AreEnds, IsJoined}
-use Rattle.eos_summary.specs.Summaries.{only}
+use Rattle.eos_summary.specs.Tables.{AreEnds}
+use Rattle.eos_summary.specs.steps.Tables.{IsJoined}
+use Rattle.eos_summary.specs.steps.Summaries.{only}
 use Rattle.eos_summary.proofs.TableWrites.{same_id}
 
 or-assoc : {X : Type 0} (a b c : Option X) → option_or (option_or a b) c ≡ option_or a (option_or b c)

@@ -4,7 +4,7 @@ use Rattle.std.proofs.lemmas.List.Edits.{map_over_more}
 use Rattle.eos_items.specs.declared.entry.Ending.{Ending}
 use Rattle.eos_items.specs.Batches.{DataBatch, set_ending}
 use Rattle.eos_items.proofs.BeginPlaces.{set_ending-length}
-use Rattle.eos_summary.specs.Endings.{set_endings}
+use Rattle.eos_summary.specs.steps.Endings.{set_endings}
 
 one_more : (i : ℕ) → suc (i + 1) ≡ suc i + 1
 one_more i = omega arith

@@ -9,10 +9,12 @@ use Rattle.eos_summary.specs.declared.ends.Ends.{Ends}
 use Rattle.eos_summary.specs.declared.fault.Fault.{Fault}
 use Rattle.eos_summary.specs.declared.summary.BatchSummary.{BatchSummary}
 use Rattle.eos_summary.specs.Settling.{data_in, waiting_in}
-use Rattle.eos_summary.specs.Tables.{Table, ends_in, ends_at, AreEnds, KeepsPlaces, IsReadyFor}
-use Rattle.eos_summary.specs.Faults.{IsSettled, IsLeastOf, earlier}
+use Rattle.eos_summary.specs.Tables.{Table, ends_in, ends_at, AreEnds, KeepsPlaces}
+use Rattle.eos_summary.specs.steps.Tables.{IsReadyFor}
+use Rattle.eos_summary.specs.Faults.{IsSettled, IsLeastOf}
+use Rattle.eos_summary.specs.steps.Faults.{earlier}
 use Rattle.eos_summary.specs.Summaries.{IsSummary, SameEnds, SameSummary}
-use Rattle.eos_summary.specs.Joins.{rest_of, Starts, IsTaking, IsTaken}
+use Rattle.eos_summary.specs.steps.Joins.{rest_of, Starts, IsTaking, IsTaken}
 use Rattle.eos_summary.proofs.Waiting.{all_below}
 use Rattle.eos_summary.proofs.SettledFaults.{least_or}
 use Rattle.eos_summary.proofs.TakingOver.{all_ends, all_places, all_items, all_faults}

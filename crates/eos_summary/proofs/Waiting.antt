@@ -11,8 +11,8 @@ use Rattle.eos_items.specs.declared.entry.Ending.TheVariants.{Plain, Ended, Wait
 use Rattle.eos_items.specs.Batches.{DataBatch, with_ending, set_ending}
 use Rattle.eos_summary.specs.declared.mark.EndMark.{EndMark}
 use Rattle.eos_summary.specs.Settling.{ended, ending_by, resolved, settled, waits, waiting_from, waiting_in}
-use Rattle.eos_summary.specs.Endings.{set_endings}
-use Rattle.eos_summary.specs.Summaries.{only}
+use Rattle.eos_summary.specs.steps.Endings.{set_endings}
+use Rattle.eos_summary.specs.steps.Summaries.{only}
 
 pub waiting_from-append : (at : ℕ) (id : ℤ) (xs ys : List DataBatch) → waiting_from at id (xs ++ ys) ≡ waiting_from at id xs ++ waiting_from (at + length xs) id ys
 waiting_from-append at id [] ys = ap (λ n. waiting_from n id ys) (omega arith)

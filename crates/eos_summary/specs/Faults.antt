@@ -1,6 +1,6 @@
 -- The faults of pairs of touches that a list of batches settles by itself: those at a touch that has another one of its
 -- id before it in the list.
-use Rattle.std.specs.Prelude.{◌≡◌, ℕ, ◌<◌, ◌≤◌, ◌⊎◌, ℤ, Bool, true, List, [], ◌∷◌, Option, Some, None, if◌then◌else◌, nat_lt, nat_le}
+use Rattle.std.specs.Prelude.{◌≡◌, ℕ, ◌<◌, ◌≤◌, ◌⊎◌, ℤ, Bool, true, List, [], ◌∷◌, Option, Some, None}
 use Rattle.std.specs.Option.{option_or}
 use Rattle.eos_touch.specs.declared.touch.Touch.{Touch}
 use Rattle.eos_touch.specs.declared.pair.PairFault.{PairFault}
@@ -8,9 +8,6 @@ use Rattle.eos_touch.specs.Pair.{stands, number_of}
 use Rattle.eos_batch.specs.declared.batch.Batch.{Batch}
 use Rattle.eos_summary.specs.declared.fault.Fault.{Fault}
 use Rattle.eos_summary.specs.Ends.{placed}
-
-abbrev pub Claims : Type 1
-Claims = ℕ → ℤ → PairFault → Type 0
 
 -- a fault at the second of two touches of an id
 abbrev pub StandsAt : Bool → Option (ℕ × Touch) → Option (ℕ × Touch) → ℕ → PairFault → Type 0
@@ -34,11 +31,3 @@ IsLeastOf P None = (offset : ℕ) (id : ℤ) (kind : PairFault) → P offset id 
 IsLeastOf P (Some f) =
     P f.offset f.producer f.kind × ((offset : ℕ) (id : ℤ) (kind : PairFault) → P offset id kind
     → (f.offset < offset) ⊎ ((f.offset ≡ offset) × (number_of f.kind ≤ number_of kind)))
-
-abbrev pub earlier_of : Fault → Fault → Fault
-earlier_of a b = if nat_lt a.offset b.offset then a else if nat_lt b.offset a.offset then b else if nat_le (number_of a.kind) (number_of b.kind) then a else b
-
-abbrev pub earlier : Option Fault → Option Fault → Option Fault
-earlier None b = b
-earlier (Some a) None = Some a
-earlier (Some a) (Some b) = Some (earlier_of a b)

@@ -1,11 +1,10 @@
 pub mod Place
-pub mod Endings
 pub mod Ends
 pub mod Settling
 pub mod Tables
 pub mod Faults
 pub mod Summaries
-pub mod Joins
 pub mod NextMarker
 pub mod Pushes
 pub mod Whole
+pub mod steps

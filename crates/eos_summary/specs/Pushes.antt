@@ -1,21 +1,12 @@
 -- A summary that takes one batch more.
-use Rattle.std.specs.Prelude.{◌≡◌, ◌≢◌, ℕ, Bool, List, [], ◌∷◌, ◌++◌, drop, Option, None, Ok}
+use Rattle.std.specs.Prelude.{◌≡◌, ◌≢◌, ℕ, List, [], ◌∷◌, ◌++◌, drop, Ok}
 use Rattle.eos_batch.specs.declared.batch.Batch.{Batch}
 use Rattle.eos_batch.specs.Reading.{batch_at}
 use Rattle.eos_batch.specs.Rules.{IsProducerRight}
-use Rattle.eos_items.specs.Batches.{DataBatch}
 use Rattle.eos_batch.specs.declared.head.BatchHead.{BatchHead}
-use Rattle.eos_summary.specs.declared.fault.Fault.{Fault}
 use Rattle.eos_summary.specs.declared.summary.BatchSummary.{BatchSummary}
-use Rattle.eos_summary.specs.Settling.{data_in}
-use Rattle.eos_summary.specs.Tables.{Table}
-use Rattle.eos_summary.specs.Joins.{IsTaken}
 use Rattle.eos_summary.specs.Summaries.{IsSummary, SameSummary}
 use Rattle.eos_batch.specs.Heads.{head_of}
-
--- a batch was taken over, which already stands behind the others
-abbrev pub IsTakenFrom : List Batch → Batch → Bool → Table → List DataBatch → Option Fault → Type 0
-IsTakenFrom xs h s t js f = (out : List DataBatch) × (js ≡ out ++ data_in (h ∷ [])) × IsTaken xs (h ∷ []) s t out f (λ _. None)
 
 -- the next batch was taken over
 pub record Takes (batch : Batch) (size : ℕ) (old new : BatchSummary) : Type 0 where

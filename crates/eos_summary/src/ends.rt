@@ -1,7 +1,8 @@
 //! What a run of a log says of one producer id.
 
 ghost use Rattle.std.specs.Prelude.{◌≡◌, ◌+◌, ◌<◌, ◌^◌, [], None, All, IfOk};
-ghost use Rattle.eos_summary.specs.Tables.{ends_in, IsJoined, HasRoom, AreEndsOf};
+ghost use Rattle.eos_summary.specs.Tables.{ends_in};
+ghost use Rattle.eos_summary.specs.steps.Tables.{IsJoined, HasRoom, AreEndsOf};
 
 use crate::mark::{EndMark, mark_in};
 use crate::places::Places;

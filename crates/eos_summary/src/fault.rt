@@ -2,7 +2,8 @@
 
 ghost use Rattle.std.specs.Prelude.{◌≡◌};
 ghost use Rattle.eos_touch.specs.Pair.{number_of};
-ghost use Rattle.eos_summary.specs.Faults.{IsLeastOf, StandsAt, earlier, earlier_of};
+ghost use Rattle.eos_summary.specs.Faults.{IsLeastOf, StandsAt};
+ghost use Rattle.eos_summary.specs.steps.Faults.{earlier, earlier_of};
 
 use eos_touch::{PairFault, Touch, pair_ok};
 

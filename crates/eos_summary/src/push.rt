@@ -7,9 +7,10 @@ ghost use Rattle.eos_batch.specs.Answers.{Fails};
 ghost use Rattle.eos_batch.specs.Reading.{batch_at};
 ghost use Rattle.eos_summary.specs.Settling.{data_in};
 ghost use Rattle.eos_summary.specs.Tables.{KeepsPlaces};
-ghost use Rattle.eos_summary.specs.Joins.{TakesFrom};
+ghost use Rattle.eos_summary.specs.steps.Joins.{TakesFrom};
 ghost use Rattle.eos_summary.specs.Summaries.{SameSummary};
-ghost use Rattle.eos_summary.specs.Pushes.{IsTakenFrom, ReadsNext};
+ghost use Rattle.eos_summary.specs.Pushes.{ReadsNext};
+ghost use Rattle.eos_summary.specs.steps.Pushes.{IsTakenFrom};
 ghost use Rattle.eos_batch.specs.Heads.{head_of};
 ghost use Rattle.eos_batch.specs.Rules.{IsProducerRight};
 

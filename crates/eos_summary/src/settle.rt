@@ -1,9 +1,9 @@
 //! What waits for a marker, and the marker that comes.
 
 ghost use Rattle.std.specs.Prelude.{◌≡◌, ◌<◌, ◌++◌, [], ℤ, List, map, length, All, IsSome};
-ghost use Rattle.eos_summary.specs.Endings.{set_endings};
+ghost use Rattle.eos_summary.specs.steps.Endings.{set_endings};
 ghost use Rattle.eos_summary.specs.Settling.{settled, waiting_in};
-ghost use Rattle.eos_summary.specs.Summaries.{only};
+ghost use Rattle.eos_summary.specs.steps.Summaries.{only};
 ghost use Rattle.eos_items.specs.Batches.{DataBatch};
 
 use crate::mark::{EndMark, ended};

@@ -7,9 +7,11 @@ ghost use Rattle.eos_batch.specs.declared.batch.Batch.{Batch};
 ghost use Rattle.eos_items.specs.Batches.{DataBatch};
 ghost use Rattle.eos_summary.specs.declared.ends.Ends.{Ends};
 ghost use Rattle.eos_summary.specs.Settling.{waiting_in, settled};
-ghost use Rattle.eos_summary.specs.Tables.{ends_at, IsJoined, HasRoom, KeepsPlaces, IsReadyFor};
-ghost use Rattle.eos_summary.specs.Joins.{rest_of, Starts, IsTaking, IsTaken};
-ghost use Rattle.eos_summary.specs.Summaries.{IsSummary, SameEnds, SameSummary, FitsBehind, TakesFault, only};
+ghost use Rattle.eos_summary.specs.Tables.{ends_at, KeepsPlaces};
+ghost use Rattle.eos_summary.specs.steps.Tables.{IsJoined, HasRoom, IsReadyFor};
+ghost use Rattle.eos_summary.specs.steps.Joins.{rest_of, Starts, IsTaking, IsTaken};
+ghost use Rattle.eos_summary.specs.Summaries.{IsSummary, SameEnds, SameSummary};
+ghost use Rattle.eos_summary.specs.steps.Summaries.{FitsBehind, TakesFault, only};
 
 use crate::ends::Ends;
 use crate::fault::{Fault, at_seam, earlier};

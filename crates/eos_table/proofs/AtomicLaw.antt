@@ -7,7 +7,7 @@ use Rattle.std.proofs.lemmas.Bool.{and_parts}
 use Rattle.std.proofs.lemmas.Bool.Decides.{Decides-int_eq}
 use Rattle.eos_base.specs.declared.partition_name.PartitionName.{PartitionName}
 use Rattle.eos_base.specs.Members.{Has}
-use Rattle.eos_base.specs.Decided.{Decided}
+use Rattle.eos_base.specs.steps.Decided.{Decided}
 use Rattle.eos_base.specs.Least.{NoneStands}
 use Rattle.eos_base.proofs.Decides.{both, find_or, has_decided}
 use Rattle.eos_base.proofs.Membership.{has_filter, filter_has}

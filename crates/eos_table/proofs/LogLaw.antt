@@ -11,7 +11,7 @@ use Rattle.eos_base.specs.Least.{NoneStands}
 use Rattle.eos_base.proofs.Decides.{differs, bytes_decided}
 use Rattle.eos_txnlog.specs.declared.value.TxnValue.{TxnValue}
 use Rattle.eos_txnlog.specs.declared.step.TxnFault.{TxnFault}
-use Rattle.eos_txnlog.specs.Steps.{step_verdict, StepResult}
+use Rattle.eos_txnlog.specs.Following.{step_verdict, StepResult}
 use Rattle.eos_fold.specs.Parts.{PartLog}
 use Rattle.eos_table.specs.declared.log_fault.LogFault.{LogFault}
 use Rattle.eos_table.specs.declared.log_fault.LogFaultKind.{LogFaultKind}

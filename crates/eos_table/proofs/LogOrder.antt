@@ -3,7 +3,7 @@ use Rattle.std.proofs.Common.{refl, ap}
 use Rattle.std.specs.Ordering.{nat_cmp, int_cmp}
 use Rattle.std.specs.Cmp.{IsTotalOrder}
 use Rattle.std.specs.Cmp.Lexicographic.{slice_cmp}
-use Rattle.eos_base.specs.Least.{IsExact}
+use Rattle.eos_base.specs.steps.Least.{IsExact}
 use Rattle.eos_base.proofs.RecordFaults.{record_exact}
 use Rattle.eos_base.proofs.Exact.{then_parts, nat_exact, int_exact, bytes_exact}
 use Rattle.eos_txnlog.specs.declared.step.TxnFault.TheVariants as steps

@@ -1,7 +1,7 @@
 -- How decisions stand to data and markers can be decided.
 use Rattle.std.proofs.Common.{◌≡◌, refl, inl, inr, ap}
 use Rattle.eos_base.specs.declared.partition_name.PartitionName.{PartitionName}
-use Rattle.eos_base.specs.Decided.{Decided}
+use Rattle.eos_base.specs.steps.Decided.{Decided}
 use Rattle.eos_base.proofs.Decides.{both, from_both, int_decided, bytes_decided}
 use Rattle.eos_batch.specs.declared.marker.Kind.{Kind}
 use Rattle.eos_batch.specs.declared.marker.Kind.TheVariants.{Commit, Abort}

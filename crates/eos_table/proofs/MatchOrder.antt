@@ -4,7 +4,7 @@ use Rattle.std.specs.Option.{option_cmp}
 use Rattle.std.specs.Ordering.{int_cmp, ordering_then}
 use Rattle.std.specs.Cmp.{IsTotalOrder}
 use Rattle.std.specs.declared.cmp.Ordering.{Ordering}
-use Rattle.eos_base.specs.Least.{IsExact}
+use Rattle.eos_base.specs.steps.Least.{IsExact}
 use Rattle.eos_base.specs.PartitionNames.{name_cmp}
 use Rattle.eos_base.proofs.Exact.{then_parts, int_exact, option_exact}
 use Rattle.eos_base.proofs.NamesInOrder.{name_exact}

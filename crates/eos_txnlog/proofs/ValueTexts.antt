@@ -19,7 +19,7 @@ use Rattle.eos_txnlog.specs.declared.value.TxnValue.{TxnValue}
 use Rattle.eos_txnlog.specs.Status.{status_number, all_statuses, status_of}
 use Rattle.eos_fields.specs.Texts.{IsCountText, IsNullText, IsStringText, AreTexts, IsListText}
 use Rattle.eos_txnlog.specs.Text.{form_of, IsKeyText, IsTopicText, IsPartitionsText, IsBodyText, IsValueText, IsNumberText}
-use Rattle.eos_base.specs.Steps.{must}
+use Rattle.eos_base.specs.Fallible.{must}
 use Rattle.eos_base.specs.Records.{present, ended, Settles}
 use Rattle.eos_fields.specs.Reading.{count_from, string_from, section_from}
 use Rattle.eos_txnlog.specs.Reading.{known_status, status_from, numbers_from, topic_from, partitions_from, body_from, known_form, read_value, id_from, read_key}

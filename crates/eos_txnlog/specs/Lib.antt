@@ -1,8 +1,9 @@
 pub mod Names
 pub mod Status
-pub mod Steps
+pub mod Following
 pub mod PartitionSets
 pub mod Skips
 pub mod Text
 pub mod Reading
 pub mod Writing
+pub mod steps

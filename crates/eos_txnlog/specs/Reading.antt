@@ -3,7 +3,7 @@
 use Rattle.std.specs.Prelude.{ℕ, ℤ, pos, List, Option, Some, None, unwrap_or, Result, Ok, if◌then◌else◌}
 use Rattle.std.specs.Ordering.{int_eq}
 use Rattle.eos_wire.specs.Numbers.{i8_at, i16_at, i32_at, i64_at}
-use Rattle.eos_base.specs.Steps.{◌>>=◌, or_fault}
+use Rattle.eos_base.specs.Fallible.{◌>>=◌, or_fault}
 use Rattle.eos_base.specs.Records.{present, ended}
 use Rattle.eos_base.specs.declared.record_fault.RecordFault.{RecordFault}
 use Rattle.eos_base.specs.declared.record_fault.RecordFault.TheVariants as faults

@@ -1,6 +1,6 @@
 -- Which bytes are a key or a value of `__transaction_state`: Kafka's schemas `TransactionLogKey` (version 0) and
 -- `TransactionLogValue` (version 0, and version 1 in KIP-482's flexible form). Fixed numbers are big-endian.
-use Rattle.std.specs.Prelude.{◌≡◌, ℕ, ℤ, pos, List, [], ◌++◌, Option, Some, None, FitsSigned, All, ◌⊎◌, if◌then◌else◌}
+use Rattle.std.specs.Prelude.{◌≡◌, ℕ, ℤ, pos, List, [], ◌++◌, Option, Some, None, FitsSigned, ◌⊎◌, if◌then◌else◌}
 use Rattle.std.specs.Int.{w16, w32, w64}
 use Rattle.std.specs.Ordering.{int_eq}
 use Rattle.eos_wire.specs.Numbers.{i8_text, i16_text, i32_text, i64_text}
@@ -74,13 +74,3 @@ pub record IsValueText (text : List ℕ) (value : TxnValue) : Type 0 where
   pub known : form_of version ≡ Some form
   pub body_text : IsBodyText form body value
   pub parts : text ≡ i16_text version ++ body
-
--- the numbers of a topic's partitions are INT32
-abbrev pub FitNumbers : TopicPartitions → Type 0
-FitNumbers topic = All (FitsSigned w32) topic.numbers
-
--- each number of a value fits its field
-pub record IsInRange (value : TxnValue) : Type 0 where
-  pub head : FitsHead value
-  pub tail : FitsTail value
-  pub numbers : All FitNumbers value.partitions

@@ -4,7 +4,7 @@
 use Rattle.std.specs.Prelude.{ℕ, ℤ, pos, Bool, ◌&&◌, List, ◌++◌, length, flat_map, Result}
 use Rattle.std.specs.List.{list_all}
 use Rattle.eos_wire.specs.Numbers.{i8_text, i16_text, i32_text, i64_text}
-use Rattle.eos_base.specs.Steps.{◌>>=◌, must}
+use Rattle.eos_base.specs.Fallible.{◌>>=◌, must}
 use Rattle.eos_base.specs.declared.record_fault.RecordFault.{RecordFault}
 use Rattle.eos_base.specs.declared.record_fault.RecordFault.TheVariants as faults
 use Rattle.eos_fields.specs.declared.form.Form.{Form}

@@ -17,7 +17,8 @@
 //! nothing is reserved by a count.
 
 ghost use Rattle.std.specs.Prelude.{Ok, IfOk};
-ghost use Rattle.eos_base.specs.Records.{Gives, Parses, Settles, skipped};
+ghost use Rattle.eos_base.specs.Records.{Parses, Settles, skipped};
+ghost use Rattle.eos_base.specs.steps.Records.{Gives};
 ghost use Rattle.eos_txnlog.specs.declared.value.TxnValue.{TxnValue};
 ghost use Rattle.eos_txnlog.specs.Text.{IsValueText};
 ghost use Rattle.eos_fields.specs.Reading.{many_from};

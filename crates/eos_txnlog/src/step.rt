@@ -5,7 +5,7 @@ ghost use Rattle.std.specs.Option.{option_copied};
 ghost use Rattle.std.specs.List.{list_any};
 ghost use Rattle.eos_txnlog.specs.Names.{step_fault_name};
 ghost use Rattle.eos_txnlog.specs.Status.{same_status};
-ghost use Rattle.eos_txnlog.specs.Steps.{next_statuses, changes_producer, keeps_epoch, status_in, value_verdict, step_verdict};
+ghost use Rattle.eos_txnlog.specs.Following.{next_statuses, changes_producer, keeps_epoch, status_in, value_verdict, step_verdict};
 
 use crate::status::Status;
 use crate::value::TxnValue;

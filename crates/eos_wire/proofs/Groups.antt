@@ -7,7 +7,8 @@ use Rattle.std.proofs.Math.Nat.{one-le-pow}
 use Rattle.std.proofs.lemmas.List.{drop_more}
 use Rattle.std.proofs.lemmas.Nat.{pow-add}
 use Rattle.eos_wire.specs.Numbers.{IsBytes}
-use Rattle.eos_wire.specs.Varint.{with_group, groups_at, FitsWord}
+use Rattle.eos_wire.specs.Varint.{with_group, groups_at}
+use Rattle.eos_wire.specs.steps.Varint.{FitsWord}
 
 -- what was read before, and what is still read
 abbrev pub shifted : ℕ → ℕ → Option (ℕ × ℕ) → Option (ℕ × ℕ)

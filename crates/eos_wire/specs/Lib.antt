@@ -3,3 +3,4 @@ pub mod Fields
 pub mod Numbers
 pub mod Varint
 pub mod Writing
+pub mod steps

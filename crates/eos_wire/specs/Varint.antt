@@ -52,10 +52,3 @@ varlong_at bytes = option_map with_sign (groups_at 10 1 bytes)
 
 unfoldable pub uvarint_at : List ℕ → Option (ℕ × ℕ)
 uvarint_at bytes = groups_at 5 15 bytes
-
--- so many groups, the last of them at most `top`, fit 64 bits
-pub record FitsWord (most top : ℕ) : Type 0 where
-  pub some : 1 ≤ most
-  pub few : most ≤ 10
-  pub small : top < 128
-  pub last : most ≡ 10 → top ≤ 1

@@ -10,7 +10,8 @@
 //! are read.
 
 ghost use Rattle.std.specs.Prelude.{◌≡◌, ◌≤◌, ◌<◌, ◌*◌, ◌^◌, length, IfSome};
-ghost use Rattle.eos_wire.specs.Varint.{groups_at, unzigzag, FitsWord, IsVarint, IsVarlong, IsUvarint, ReadsFront, varint_at, varlong_at, uvarint_at};
+ghost use Rattle.eos_wire.specs.Varint.{groups_at, unzigzag, IsVarint, IsVarlong, IsUvarint, ReadsFront, varint_at, varlong_at, uvarint_at};
+ghost use Rattle.eos_wire.specs.steps.Varint.{FitsWord};
 
 /// The most groups of a number of 32 bits.
 const MOST_32: usize = 5;

@@ -5,7 +5,7 @@ use Rattle.std.specs.Ordering.{nat_cmp}
 use Rattle.std.specs.Cmp.Lexicographic.{slice_cmp}
 use Rattle.eos_base.specs.declared.record_fault.RecordFault.{RecordFault}
 use Rattle.eos_base.specs.Members.{is_found}
-use Rattle.eos_base.specs.Steps.{◌>>=◌}
+use Rattle.eos_base.specs.Fallible.{◌>>=◌}
 use Rattle.eos_offsets.specs.declared.key.OffsetKey.{OffsetKey}
 use Rattle.eos_items.specs.declared.item.Item.{Item}
 use Rattle.eos_fold.specs.Parts.{part_name, PartLog}

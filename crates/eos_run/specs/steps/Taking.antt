@@ -5,7 +5,7 @@ use Rattle.eos_items.specs.declared.head.DataHead.{DataHead}
 use Rattle.eos_items.specs.Batches.{DataBatch}
 use Rattle.eos_summary.specs.declared.fault.Fault.{Fault}
 use Rattle.eos_summary.specs.Tables.{Table, KeepsPlaces}
-use Rattle.eos_summary.specs.Joins.{Rest, Starts, IsTaking, IsTaken, TakesFrom}
+use Rattle.eos_summary.specs.steps.Joins.{Rest, Starts, IsTaking, IsTaken, TakesFrom}
 use Rattle.eos_run.specs.Runs.{heads_of}
 
 -- data batches with these heads can take over what is left

@@ -1,7 +1,7 @@
 use Rattle.std.proofs.Common.{◌≡◌, drop}
 use Rattle.eos_machine.specs.declared.state.Coordinator.{Coordinator}
 use Rattle.eos_machine.specs.Logs.{last_state, entries_of}
-use Rattle.eos_deliveries.specs.Restarting.{said_by}
+use Rattle.eos_deliveries.specs.steps.Restarting.{said_by}
 use Rattle.eos_deliveries.proofs.restarted.last_entry.Given as goal
 
 abbrev pub invariant-loop-i : goal.invariant-loop-i

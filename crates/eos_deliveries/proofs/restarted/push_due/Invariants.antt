@@ -1,6 +1,6 @@
 use Rattle.std.proofs.Common.{◌≡◌, ◌++◌, map, take}
 use Rattle.eos_machine.specs.World.{due_markers}
-use Rattle.eos_deliveries.specs.Restarting.{due_message}
+use Rattle.eos_deliveries.specs.steps.Restarting.{due_message}
 use Rattle.eos_deliveries.proofs.restarted.push_due.Given as goal
 
 abbrev pub invariant-loop-place : goal.invariant-loop-place

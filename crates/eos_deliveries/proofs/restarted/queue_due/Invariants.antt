@@ -1,7 +1,7 @@
 use Rattle.std.proofs.Common.{◌≡◌, map, take}
 use Rattle.eos_machine.specs.World.{with_messages}
 use Rattle.eos_store.specs.Held.{becomes}
-use Rattle.eos_deliveries.specs.Restarting.{due_message}
+use Rattle.eos_deliveries.specs.steps.Restarting.{due_message}
 use Rattle.eos_deliveries.proofs.restarted.queue_due.Given as goal
 
 abbrev pub invariant-loop-marker : goal.invariant-loop-marker

@@ -1,7 +1,7 @@
 use Rattle.std.proofs.Common.{◌≡◌, map}
 use Rattle.std.specs.List.{flat_map, range_with_len}
 use Rattle.eos_machine.specs.Machine.{reread, queued_again}
-use Rattle.eos_deliveries.specs.Restarting.{due_message}
+use Rattle.eos_deliveries.specs.steps.Restarting.{due_message}
 use Rattle.eos_deliveries.proofs.restarted.restart.Given as goal
 
 abbrev pub invariant-loop-application : goal.invariant-loop-application

@@ -3,7 +3,8 @@ use Rattle.std.specs.Ordering.{int_cmp}
 use Rattle.std.specs.Map.{lookup}
 use Rattle.std.specs.BTreeMap.{get, is_at}
 use Rattle.eos_summary.specs.declared.ends.Ends.{Ends}
-use Rattle.eos_summary.specs.Tables.{ends_at, IsReadyFor}
+use Rattle.eos_summary.specs.Tables.{ends_at}
+use Rattle.eos_summary.specs.steps.Tables.{IsReadyFor}
 use Rattle.eos_summary.specs.Summaries.{SameEnds}
 use Rattle.eos_run.proofs.table.make_room.Given as goal
 

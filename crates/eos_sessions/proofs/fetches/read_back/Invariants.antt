@@ -1,6 +1,6 @@
 use Rattle.std.proofs.Common.{◌≡◌, drop, vec_len}
 use Rattle.eos_machine.specs.Places.{application_count}
-use Rattle.eos_sessions.specs.Fetching.{AreEnds, IsFetched}
+use Rattle.eos_sessions.specs.steps.Fetching.{AreEnds, IsFetched}
 use Rattle.eos_sessions.proofs.fetches.read_back.Given as goal
 
 abbrev pub invariant-loop-i : goal.invariant-loop-i

@@ -1,6 +1,6 @@
 use Rattle.std.proofs.Common.{◌≡◌, ◌++◌, drop}
 use Rattle.eos_machine.specs.Places.{listed}
-use Rattle.eos_store.specs.Listing.{rest_of}
+use Rattle.eos_store.specs.steps.Listing.{rest_of}
 use Rattle.eos_store.proofs.copies.listed.Given as goal
 
 abbrev pub invariant-loop-i : goal.invariant-loop-i

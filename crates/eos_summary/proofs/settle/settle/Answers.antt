@@ -1,6 +1,6 @@
 use Rattle.std.proofs.Common.{◌<◌, ℕ, List, refl, length, sym, ap, subst, ◌∙◌, arith, ◌+◌, drop, slice_index_or}
 use Rattle.eos_items.specs.Batches.{DataBatch}
-use Rattle.eos_summary.specs.Endings.{set_endings}
+use Rattle.eos_summary.specs.steps.Endings.{set_endings}
 use Rattle.eos_items.proofs.BeginPlaces.{set_ending-length}
 use Rattle.eos_summary.proofs.FatesSet.{ending_next}
 use Rattle.eos_summary.proofs.settle.settle.Goals as goal

@@ -1,5 +1,5 @@
 use Rattle.std.proofs.Common.{◌≡◌, drop, length}
-use Rattle.eos_summary.specs.Endings.{set_endings}
+use Rattle.eos_summary.specs.steps.Endings.{set_endings}
 use Rattle.eos_summary.proofs.settle.settle.Given as goal
 
 abbrev pub invariant-loop-place : goal.invariant-loop-place

@@ -4,10 +4,10 @@ use Rattle.std.specs.Prelude.{Option, is_some}
 use Rattle.eos_items.specs.Batches.{DataBatch}
 use Rattle.eos_items.specs.declared.entry.Ending.{Ending}
 use Rattle.eos_summary.specs.declared.mark.EndMark.{EndMark}
-use Rattle.eos_summary.specs.Endings.{set_endings}
+use Rattle.eos_summary.specs.steps.Endings.{set_endings}
 use Rattle.eos_summary.specs.Settling.{settled}
 use Rattle.eos_summary.specs.Settling as spec
-use Rattle.eos_summary.specs.Summaries.{only}
+use Rattle.eos_summary.specs.steps.Summaries.{only}
 use Rattle.eos_summary.proofs.Waiting.{set_endings-settled, settled_none}
 use Rattle.eos_summary.proofs.settle.settle_by.Goals as goal
 

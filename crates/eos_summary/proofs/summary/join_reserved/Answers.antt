@@ -1,6 +1,6 @@
 use Rattle.std.proofs.Common.{sym, subst, Option}
 use Rattle.eos_summary.specs.declared.fault.Fault.{Fault}
-use Rattle.eos_summary.specs.Joins.{Starts, rest_of}
+use Rattle.eos_summary.specs.steps.Joins.{Starts, rest_of}
 use Rattle.eos_summary.proofs.JoinedSummaries.{starts, ends_taken}
 use Rattle.eos_summary.proofs.summary.join_reserved.Goals as goal
 

@@ -1,6 +1,6 @@
 use Rattle.std.proofs.Common.{◌++◌, ap, subst, ◌∙◌}
 use Rattle.eos_txnlog.specs.declared.partitions.TopicPartitions.{TopicPartitions}
-use Rattle.eos_txnlog.specs.Text.{FitNumbers}
+use Rattle.eos_txnlog.specs.steps.Text.{FitNumbers}
 use Rattle.eos_txnlog.specs.Writing.{topic_text}
 use Rattle.eos_txnlog.proofs.Appended.{piece_more, each_more}
 use Rattle.eos_txnlog.proofs.writing.write_many_topics.Goals as goal

@@ -1,6 +1,6 @@
 use Rattle.std.proofs.Common.{◌≡◌, ℕ, ◌<◌, ◌++◌, take, get_or, flat_map}
 use Rattle.eos_txnlog.specs.declared.partitions.TopicPartitions.{TopicPartitions}
-use Rattle.eos_txnlog.specs.Text.{FitNumbers}
+use Rattle.eos_txnlog.specs.steps.Text.{FitNumbers}
 use Rattle.eos_txnlog.specs.Writing.{topic_text}
 use Rattle.eos_txnlog.proofs.writing.write_many_topics.Given as goal
 

@@ -7,9 +7,10 @@ use Rattle.std.proofs.lemmas.Int.{to_z-of_z}
 use mir.Val.{SFits, to_z, of_z}
 use Rattle.eos_summary.specs.declared.ends.Ends.{Ends}
 use Rattle.std.specs.Prelude.{IsSome}
-use Rattle.eos_summary.specs.Tables.{ends_at, HasRoom}
-use Rattle.eos_summary.specs.Summaries.{TakesFault}
-use Rattle.eos_summary.specs.Joins.{Rest, rest_of}
+use Rattle.eos_summary.specs.Tables.{ends_at}
+use Rattle.eos_summary.specs.steps.Tables.{HasRoom}
+use Rattle.eos_summary.specs.steps.Summaries.{TakesFault}
+use Rattle.eos_summary.specs.steps.Joins.{Rest, rest_of}
 use Rattle.eos_summary.proofs.TakingOver.{nothing_left}
 use Rattle.eos_run.specs.steps.Taking.{HasTaken}
 use Rattle.eos_run.proofs.Takings.{begun, inside, can_next, taken_next}

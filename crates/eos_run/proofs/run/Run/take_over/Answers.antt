@@ -8,11 +8,12 @@ use Rattle.eos_summary.specs.declared.ends.Ends.{Ends}
 use Rattle.eos_touch.specs.declared.touch.Touch.{Touch}
 use Rattle.eos_summary.specs.declared.mark.EndMark.{EndMark}
 use Rattle.eos_summary.specs.Place.{PlacesView}
-use Rattle.eos_summary.specs.Tables.{ends_in, HasRoom}
+use Rattle.eos_summary.specs.Tables.{ends_in}
+use Rattle.eos_summary.specs.steps.Tables.{HasRoom}
 use Rattle.eos_run.specs.Runs.{heads_of}
 use Rattle.eos_summary.specs.Settling.{waiting_in, settled}
 use Rattle.eos_summary.specs.Faults.{IsLeastOf, StandsAt}
-use Rattle.eos_summary.specs.Summaries.{TakesFault, only}
+use Rattle.eos_summary.specs.steps.Summaries.{TakesFault, only}
 use Rattle.eos_summary.proofs.TableWrites.{no_entry}
 use Rattle.eos_run.proofs.run.Run.take_over.Goals as goal
 

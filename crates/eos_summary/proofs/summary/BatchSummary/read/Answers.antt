@@ -2,7 +2,7 @@ use Rattle.std.proofs.Common.{◌≡◌, ◌++◌, ◌∷◌, [], List, take, dr
 use Rattle.std.proofs.lemmas.List.{take_at, drop_at}
 use Rattle.eos_items.specs.Batches.{DataBatch}
 use Rattle.eos_summary.specs.Settling.{data_in}
-use Rattle.eos_summary.specs.Joins.{TakesFrom}
+use Rattle.eos_summary.specs.steps.Joins.{TakesFrom}
 use Rattle.eos_summary.proofs.TouchKinds.{data_is}
 use Rattle.eos_summary.proofs.OneBatch.{pushed}
 use Rattle.eos_summary.proofs.summary.BatchSummary.read.Goals as goal

@@ -9,10 +9,11 @@ use Rattle.std.proofs.lemmas.Int.{to_z-of_z}
 use mir.Val.{SFits, to_z, of_z}
 use Rattle.eos_summary.specs.declared.ends.Ends.{Ends}
 use Rattle.std.specs.Prelude.{IsSome}
-use Rattle.eos_summary.specs.Tables.{ends_at, HasRoom}
+use Rattle.eos_summary.specs.Tables.{ends_at}
+use Rattle.eos_summary.specs.steps.Tables.{HasRoom}
 use Rattle.eos_summary.specs.Settling.{waiting_in}
-use Rattle.eos_summary.specs.Summaries.{TakesFault}
-use Rattle.eos_summary.specs.Joins.{Rest, Took, IsTaken, rest_of}
+use Rattle.eos_summary.specs.steps.Summaries.{TakesFault}
+use Rattle.eos_summary.specs.steps.Joins.{Rest, Took, IsTaken, rest_of}
 use Rattle.eos_summary.proofs.TakingOver.{start, taking_step, taken_step, took, nothing_left}
 use Rattle.eos_summary.proofs.summary.BatchSummary.take_all.Goals as goal
 

@@ -1,7 +1,7 @@
 use Rattle.std.proofs.Common.{◌≡◌, List}
 use Rattle.std.specs.BTreeMap.{btree_map_len}
 use Rattle.eos_batch.specs.declared.batch.Batch.{Batch}
-use Rattle.eos_summary.specs.Joins.{rest_of, Starts, IsTaking, IsTaken}
+use Rattle.eos_summary.specs.steps.Joins.{rest_of, Starts, IsTaking, IsTaken}
 use Rattle.eos_summary.proofs.summary.BatchSummary.take_all.Given as goal
 
 abbrev pub invariant-loop-producer : goal.invariant-loop-producer

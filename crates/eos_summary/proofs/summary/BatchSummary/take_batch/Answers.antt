@@ -9,9 +9,10 @@ use mir.Val.{SFits}
 use Rattle.eos_batch.specs.declared.head.BatchHead.{BatchHead}
 use Rattle.eos_items.specs.Batches.{DataBatch}
 use Rattle.eos_summary.specs.Settling.{waiting_in, settled}
-use Rattle.eos_summary.specs.Summaries.{only}
-use Rattle.eos_summary.specs.Tables.{rest_alone, KeepsPlaces, IsReadyFor, ends_at}
-use Rattle.eos_summary.specs.Joins.{Took, IsTaking}
+use Rattle.eos_summary.specs.steps.Summaries.{only}
+use Rattle.eos_summary.specs.Tables.{KeepsPlaces, ends_at}
+use Rattle.eos_summary.specs.steps.Tables.{rest_alone, IsReadyFor}
+use Rattle.eos_summary.specs.steps.Joins.{Took, IsTaking}
 use Rattle.eos_touch.specs.Touches as spec
 use Rattle.eos_summary.proofs.Waiting.{all_below}
 use Rattle.eos_summary.proofs.TouchKinds.{marks_no_data}

@@ -5,10 +5,11 @@ use Rattle.std.specs.BTreeMap.{get}
 use Rattle.std.proofs.lemmas.Int.{to_z-of_z}
 use mir.Val.{SFits}
 use Rattle.eos_summary.specs.declared.ends.Ends.{Ends}
-use Rattle.eos_summary.specs.Tables.{ends_in, HasRoom}
+use Rattle.eos_summary.specs.Tables.{ends_in}
+use Rattle.eos_summary.specs.steps.Tables.{HasRoom}
 use Rattle.eos_summary.specs.Settling.{waiting_in}
 use Rattle.eos_summary.specs.Faults.{IsLeastOf, StandsAt}
-use Rattle.eos_summary.specs.Summaries.{TakesFault}
+use Rattle.eos_summary.specs.steps.Summaries.{TakesFault}
 use Rattle.eos_summary.proofs.TableWrites.{no_entry}
 use Rattle.eos_summary.proofs.summary.BatchSummary.take_over.Goals as goal
 
