@@ -1,5 +1,5 @@
+-- What only private functions promise: steps towards what the public calls say.
 pub mod Reading
 pub mod Answers
 pub mod Places
-pub mod Reading
 pub mod Writing

@@ -61,7 +61,7 @@ struct Parts<'a> {
     rest: Cursor<'a>,
 }
 
-#[tactic(auto, unfolding(crate::specs::Places::parts_at))]
+#[tactic(auto, unfolding(crate::specs::steps::Places::parts_at))]
 fn parts_of<'a>(mut rest: Cursor<'a>) -> Result<Parts<'a>, BatchFault>
     ensures gives { Answers result (parts_at rest.entry) }
     ensures real { IfErr result IsReal }

@@ -5,7 +5,7 @@ use Rattle.eos_batch.specs.declared.fault.BatchFault.TheVariants as faults
 use Rattle.eos_batch.specs.declared.record.Record.{Record}
 use Rattle.eos_wire.specs.Numbers.{i8_at}
 use Rattle.eos_batch.specs.declared.view.Parts.{Parts}
-use Rattle.eos_base.specs.Fallible.{or_fault}
+use Rattle.eos_base.specs.Fallible.{◌>>=◌, or_fault}
 use Rattle.eos_batch.specs.Reading.{int_at, long_at, optional_at, count_at}
 
 -- the fields of a record before its headers, and what is left for these
