@@ -6,6 +6,7 @@ use Rattle.eos_machine.specs.declared.item.Item.{Item}
 use Rattle.eos_machine.specs.declared.item.Item.TheVariants.{Fed, State, Output, Offset, Marker}
 use Rattle.eos_machine.specs.declared.state.Session.{Session}
 use Rattle.eos_machine.specs.declared.state.Message.{Message}
+pub use Rattle.eos_machine.specs.Formed.{Names}
 
 abbrev pub IsNamed : Config → Option Message → Type 0
 IsNamed c None = ⊤
