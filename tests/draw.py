@@ -9,6 +9,7 @@ hostile texts are among them. Where rsvg-convert or chromium is there, some are 
 The last line is 'N passed, N failed'.
 """
 import collections
+import json
 import os
 import random
 import resource
@@ -359,6 +360,30 @@ def no_bytes():
     resource.setrlimit(resource.RLIMIT_FSIZE, (100, 100))
 
 
+def refused_folders(good):
+    """Folders that `check` refuses: those of tests/evidence, one that isn't there, and a good one with another manifest, or none."""
+    with open("tests/evidence/expected.tsv", encoding="utf-8") as file:
+        yield from (f"tests/evidence/{row[0]}" for row in (line.split("\t") for line in file) if row[1] == "2")
+    yield "absent"
+    with open(os.path.join(good, "evidence.json"), encoding="utf-8") as file:
+        manifest = file.read().rstrip()
+    changed = {
+        "comma": manifest[:-1] + ",}",
+        "text": json.dumps({**json.loads(manifest), "ends": {name: str(end) for name, end in json.loads(manifest)["ends"].items()}}),
+        "version": json.dumps({**json.loads(manifest), "version": 3}),
+        "none": None,
+    }
+    for name, text_of_it in changed.items():
+        folder = os.path.join(scratch, f"manifest-{name}")
+        shutil.copytree(good, folder)
+        path = os.path.join(folder, "evidence.json")
+        os.remove(path)
+        if text_of_it is not None:
+            with open(path, "w", encoding="utf-8") as file:
+                file.write(text_of_it)
+        yield folder
+
+
 def refusals():
     good, bad = "tests/evidence/row-yes-2", "tests/stories/34-dup-across-transactions"
     there, new = os.path.join(scratch, "there.svg"), os.path.join(scratch, "new.svg")
@@ -372,14 +397,12 @@ def refusals():
     refused("a fault at yes", ["draw", "--fault", "1", good, new], "eoscheck: there are 0 faults")
     refused("a fault past the list", ["draw", "--fault", "2", bad, new], "eoscheck: there are 1 faults")
     refused("a fault far past it", ["draw", "--fault", str(2**64 - 1), bad, new], "eoscheck: there are 1 faults")
-    for name in "28-end-as-string", "29-json-comma":
-        folder = os.path.join("tests/stories", name)
-        if os.path.isdir(folder):
-            status, _, told = run("check", folder)
-            found = run("draw", folder, new)
-            same(f"{name}: as check", found, (status, "", told))
-    status, _, told = run("check", "absent")
-    same("no folder: as check", run("draw", "absent", new), (status, "", told))
+    for folder in refused_folders(good):
+        status, printed, told = run("check", folder)
+        same(f"{folder}: check refuses it", (status, printed, told.startswith("eoscheck: ")), (2, "", True))
+        for words in [], ["--fault", "1"], ["--around", "2"]:
+            found = run("draw", *words, folder, new)
+            same(f"{folder} {words}: as check", (*found, os.path.exists(new)), (status, "", told, False))
     for words in ["draw", good], ["draw"], ["draw", "--fault", "0", good, new], ["draw", "--around", "0", good, new], ["draw", "--around", "101", good, new]:
         found = run(*words)
         same(" ".join(words), (found[0], found[1], os.path.exists(new)), (2, "", False))
