@@ -41,54 +41,18 @@ fn push_finding(out: &mut String, finding: &Finding<'_>) -> Result<(), AllocErro
         Finding::Absent(place) => push_place(out, place, " is absent"),
         Finding::Another(place, value, wanted) => push_another(out, place, value, wanted),
         Finding::Version(value) => push_number(out, "version is ", value, "; 1 or 2 is wanted"),
-        Finding::NoTopic(place, topic) => {
-            push_named(out, place, topic, "; a topic's name is wanted")
-        }
+        Finding::NoTopic(place, topic) => push_unfit(out, place, topic, "a topic's name"),
         Finding::Internal(place, topic) => {
-            push_named(
-                out,
-                place,
-                topic,
-                "; a topic that isn't Kafka's own is wanted",
-            )
+            push_unfit(out, place, topic, "a topic that isn't Kafka's own")
         }
-        Finding::TopicAgain(place, topic) => {
-            push_named(
-                out,
-                place,
-                topic,
-                " again; an application names a topic once",
-            )
-        }
-        Finding::GroupAgain(group) => push_quoted(out, "two applications have the group ", group),
-        Finding::OutputAgain(topic) => {
-            push_quoted(out, "two applications have the output topic ", topic)
-        }
+        Finding::TopicAgain(place, topic) => push_topic_again(out, place, topic),
+        Finding::GroupAgain(group) => push_shared(out, "the group ", group),
+        Finding::OutputAgain(topic) => push_shared(out, "the output topic ", topic),
         Finding::NoPartition(place) => push_place(out, place, " isn't a partition's name"),
-        Finding::NoTopicOfPartition(place) => {
-            push_place(
-                out,
-                place,
-                " isn't a partition's name, since its topic's isn't one",
-            )
-        }
+        Finding::NoTopicOfPartition(place) => push_no_topic_of_partition(out, place),
         Finding::NoEnd(place, value) => push_no_end(out, place, value),
-        Finding::ManyApps(count) => push_count(
-            out,
-            "apps has ",
-            count,
-            " items; at most ",
-            MAX_APPS,
-        ),
-        Finding::ManyEnds(count) => {
-            push_count(
-                out,
-                "ends has ",
-                count,
-                " members; at most ",
-                MAX_PARTITIONS,
-            )
-        }
+        Finding::ManyApps(count) => push_count(out, "apps has ", count, " items", MAX_APPS),
+        Finding::ManyEnds(count) => push_count(out, "ends has ", count, " members", MAX_PARTITIONS),
         Finding::OutOfMemory => push_text(out, "out of memory"),
     }
 }
@@ -117,6 +81,41 @@ fn push_named(
     push_text(out, more)
 }
 
+/// Adds a name that stands there, and what is wanted in its place.
+fn push_unfit(
+    out: &mut String,
+    place: Place<'_>,
+    name: &str,
+    wanted: &str,
+) -> Result<(), AllocError> {
+    push_named(out, place, name, "; ")?;
+    push_text(out, wanted)?;
+    push_text(out, " is wanted")
+}
+
+fn push_topic_again(out: &mut String, place: Place<'_>, topic: &str) -> Result<(), AllocError> {
+    push_named(
+        out,
+        place,
+        topic,
+        " again; an application names a topic once",
+    )
+}
+
+/// Adds what two applications have.
+fn push_shared(out: &mut String, what: &str, name: &str) -> Result<(), AllocError> {
+    push_text(out, "two applications have ")?;
+    push_quoted(out, what, name)
+}
+
+fn push_no_topic_of_partition(out: &mut String, place: Place<'_>) -> Result<(), AllocError> {
+    push_place(
+        out,
+        place,
+        " isn't a partition's name, since its topic's isn't one",
+    )
+}
+
 fn push_no_end(out: &mut String, place: Place<'_>, value: &Value) -> Result<(), AllocError> {
     push_place(out, place, "")?;
     push_number(out, " is ", value, "")?;
@@ -134,6 +133,7 @@ fn push_number(out: &mut String, label: &str, value: &Value, more: &str) -> Resu
     push_text(out, more)
 }
 
+/// Adds how many there are of something, and how many may be.
 fn push_count(
     out: &mut String,
     label: &str,
@@ -142,7 +142,8 @@ fn push_count(
     most: usize,
 ) -> Result<(), AllocError> {
     push_value(out, label, &count)?;
-    push_value(out, what, &most)?;
+    push_text(out, what)?;
+    push_value(out, "; at most ", &most)?;
     push_text(out, " are allowed")
 }
 
