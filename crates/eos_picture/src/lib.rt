@@ -4,6 +4,7 @@
 
 mod content;
 mod mark;
+mod marks;
 mod passes;
 mod picture;
 mod rows;

@@ -8,8 +8,9 @@ ghost use Rattle.eos_picture.specs.Window.{IsWindow, place_of};
 ghost use Rattle.eos_picture.specs.steps.Spots.{StartsAt};
 
 use crate::mark::{Column, Picture};
+use crate::marks::Scene;
 use crate::passes::passes_of;
-use crate::rows::{Scene, rows_of};
+use crate::rows::rows_of;
 use crate::spots::{Spot, spots_of};
 use crate::transactions::columns_of;
 use crate::window::{middle_of, window_of};

@@ -1,6 +1,6 @@
 use Rattle.eos_picture.proofs.TrueMarks.{one_more_in}
 use Rattle.eos_picture.proofs.WholeRows.{keeps_more, shows_more}
-use Rattle.eos_picture.proofs.rows.push_mark.Goals as goal
+use Rattle.eos_picture.proofs.marks.push_mark.Goals as goal
 
 pub returns-clause-so : goal.returns-clause-so
 returns-clause-so c = λ h. one_more_in c.args.part.now c.args.scene.columns.now c.args.marks.now.items c.push.new.self.items _ c.in_ok-push.ensures.items c.requires h

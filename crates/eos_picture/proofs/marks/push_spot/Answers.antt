@@ -1,7 +1,7 @@
 use Rattle.std.proofs.Common.{slice_get}
 use Rattle.eos_picture.proofs.TrueMarks.{one_more_in, spot_true}
 use Rattle.eos_picture.proofs.WholeRows.{keeps_more}
-use Rattle.eos_picture.proofs.rows.push_spot.Goals as goal
+use Rattle.eos_picture.proofs.marks.push_spot.Goals as goal
 
 pub returns-clause-so : goal.returns-clause-so
 returns-clause-so c =

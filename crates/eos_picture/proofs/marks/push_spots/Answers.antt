@@ -1,5 +1,5 @@
 use Rattle.eos_picture.proofs.WholeRows.{keeps_all}
-use Rattle.eos_picture.proofs.rows.push_spots.Goals as goal
+use Rattle.eos_picture.proofs.marks.push_spots.Goals as goal
 
 pub loop-spot-preserved : goal.loop-spot-preserved
 loop-spot-preserved c = record {

@@ -1,6 +1,6 @@
 use Rattle.eos_picture.specs.Marks.{AreTrue}
 use Rattle.eos_picture.specs.steps.Kept.{Keeps}
-use Rattle.eos_picture.proofs.rows.push_spots.Given as goal
+use Rattle.eos_picture.proofs.marks.push_spots.Given as goal
 
 abbrev pub invariant-loop-spot : goal.invariant-loop-spot
 invariant-loop-spot l = record {
