@@ -1,23 +1,27 @@
 #!/usr/bin/env -S python3 -B
-"""What is said of the crates as a whole: their order, their entries, their place in the documents, and their functions' sizes.
+"""What is said of the crates as a whole: their order, their entries, their place in the documents, and how long things get.
 
     python3 -B tests/shape.py
 
 Each crate of crates.txt stands below those that name it, and names none that its sources don't; it has one entry in
 docs/ARCHITECTURE.md, stands in the picture there, and CONTRIBUTING.md says which tests are its own. No function has more than
-five parameters. The last line is 'N passed, N failed'.
+five parameters or 45 lines, its contract and its body together, and no file more than 400 lines. The last line is
+'N passed, N failed'.
 """
 import glob
 import os
 import re
 import sys
 
-MOST = 5
+MOST_PARAMETERS = 5
+MOST_LINES = 45
+MOST_LINES_OF_A_FILE = 400
 # Crates that are nothing but tests.
 TESTS = {"eos_probe", "eos_tests"}
 COMMENTS = {"rt": re.compile(r"//.*"), "antt": re.compile(r"--.*")}
 TEXTS = re.compile(r'"(?:\\.|[^"\\])*"')
 OPENING = {"(": ")", "[": "]", "{": "}", "<": ">"}
+HEAD = re.compile(r"( *)(?:pub(?:\(\w+\))? )?(?:const )?(?:unsafe )?fn (\w+)")
 
 
 def read(path):
@@ -111,12 +115,31 @@ def of_documents(found, say):
         say(name in TESTS or f"`{name}`" in tests, f"CONTRIBUTING.md: no tests of {name}")
 
 
-def of_functions(found, say):
-    """The sizes of functions."""
+def bodies(text):
+    """Each function's name, and how many lines it has from its head to the bracket that closes it, which stands below the head
+    in the layout of rt fmt. A method without a body is left out."""
+    name = None
+    for line in text.splitlines():
+        head = HEAD.match(line)
+        if head:
+            margin, name, count = head.group(1), head.group(2), 0
+        if name:
+            count += 1
+            if line in (f"{margin}}}", f"{margin}{{}}") or head and line.endswith("}"):
+                yield name, count
+                name = None
+
+
+def of_sizes(found, say):
+    """The sizes of files and functions."""
     for crate in found:
         for path, text in sources(crate, "rt"):
+            lines = len(text.splitlines())
+            say(lines <= MOST_LINES_OF_A_FILE, f"{path} has {lines} lines")
+            for name, count in bodies(text):
+                say(count <= MOST_LINES, f"{path}: {name} has {count} lines")
             for name, count in functions(TEXTS.sub('""', text)):
-                say(count <= MOST, f"{path}: {name} has {count} parameters")
+                say(count <= MOST_PARAMETERS, f"{path}: {name} has {count} parameters")
 
 
 def main():
@@ -132,7 +155,7 @@ def main():
     found = crates()
     of_list(found, say)
     of_documents(found, say)
-    of_functions(found, say)
+    of_sizes(found, say)
     print(*failures, sep="\n", end="\n" * bool(failures))
     print(f"{passed} passed, {len(failures)} failed")
     return bool(failures)
