@@ -5,14 +5,13 @@ ghost use Rattle.eos_wire.specs.Numbers.{i32_text, i64_text, i16_text};
 ghost use Rattle.eos_txnlog.specs.Reading.{read_value};
 ghost use Rattle.eos_txnlog.specs.Writing as txnlog;
 ghost use Rattle.eos_offsets.specs.Writing as offsets;
-ghost use Rattle.eos_machine.specs.Places.{IsConfig, final_topic, input_topic, output_topic};
+ghost use Rattle.eos_machine.specs.Places.{IsConfig, place_count, final_topic, input_topic, output_topic};
 ghost use Rattle.eos_machine.specs.Rest.{status_of, by_topic, value_of, with_number};
 ghost use Rattle.eos_txnlog.specs.declared.partitions.TopicPartitions.{TopicPartitions};
 ghost use Rattle.eos_log_writer.specs.steps.Grouping.{starts_with};
 ghost use Rattle.std.specs.Int.{w64, cast_signed};
 ghost use Rattle.std.specs.List.{All};
 ghost use Rattle.eos_base.specs.declared.record_fault.RecordFault.{RecordFault};
-ghost use Rattle.eos_machine.specs.Places.{place_count};
 ghost use Rattle.eos_logs.specs.Fitting.{AreAllThere};
 ghost use Rattle.eos_logs.specs.Batches.{group, second_group, transactional_id, bytes_of, header, claim_headers, headers_of, source_key, commit_of, commit_value, control_type};
 
