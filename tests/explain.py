@@ -7,8 +7,8 @@ Of each folder of tests/evidence and of the stories: the first line of the K-th 
 story has 40 lines at most; each place is one at which the plain reader finds that batch, of that producer and epoch, with that
 record in it, and what a row says of it is what the plain reader reads there; that nothing is there is so; the claims, markers,
 decisions and commits of a fault of an output are those that the second program finds, and so is the first batch of what was left
-open. With 1 and 4 workers alike; a yes, a refused folder, a number past the list and output that can't be written. The last line
-is 'N passed, N failed'.
+open. With 1 and 4 workers alike; a yes, a refused folder, a number past the list, any number where it is a yes, and output that
+can't be written. The last line is 'N passed, N failed'.
 """
 import collections
 import os
@@ -214,6 +214,11 @@ def look_at_folder(program, folder):
     status, text, said = run(program, "check", folder)
     if status != 1:
         expect(run(program, "explain", folder) == (status, text, said), f"{folder}: not as check")
+        # A yes has no fault of any number; a folder that is refused is refused first.
+        wanted = (2, "", "eoscheck: there are 0 faults\n") if status == 0 else (status, text, said)
+        for number in 1, 2, 2**64 - 1:
+            ran = run(program, "explain", "--fault", str(number), folder)
+            expect(ran == wanted, f"{folder} --fault {number}: {ran}")
         return
     faults = reference.listed(folder)
     for number in sorted({*range(1, 6), len(faults)} & set(range(1, len(faults) + 1))):

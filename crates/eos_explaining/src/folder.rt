@@ -35,10 +35,13 @@ fn tell(
 ) -> u8 {
     let asked = Asked {
         workers: words.workers,
-        number: words.fault,
+        number: words.fault.unwrap_or(1),
     };
     match explain(rt.alloc(), threads, evidence, asked, progress) {
-        Ok(Answer::Yes { line, notes }) => write_yes(rt, line.as_str(), notes.as_str()),
+        Ok(Answer::Yes { line, notes }) => match words.fault {
+            None => write_yes(rt, line.as_str(), notes.as_str()),
+            Some(_) => say_fewer(rt, 0),
+        },
         Ok(Answer::Story(text)) => write_answer(rt, text.as_str(), 1),
         Ok(Answer::Fewer(count)) => say_fewer(rt, count),
         Err(_) => end(rt, Ending::OutOfMemory),

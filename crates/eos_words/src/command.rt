@@ -197,7 +197,7 @@ fn read_explain<'a>(inner: &ArgMatches<'a>) -> Option<Request<'a>> {
     let folder = inner.get_str("folder")?;
     Some(Request::Story(Explain {
         workers: read_workers(inner)?,
-        fault: inner.get_one::<u64>("fault").unwrap_or(1),
+        fault: inner.get_one::<u64>("fault"),
         folder,
     }))
 }

@@ -49,8 +49,8 @@ pub struct Listing<'a> {
 #[derive(Clone, Copy)]
 pub struct Explain<'a> {
     pub workers: Workers,
-    /// The number of the fault in the list of all, from 1 on.
-    pub fault: u64,
+    /// The number of the fault in the list of all, from 1, if that is said.
+    pub fault: Option<u64>,
     pub folder: &'a str,
 }
 
