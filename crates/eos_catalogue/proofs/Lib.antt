@@ -1,1 +1,2 @@
 pub mod PagesFound
+pub mod KindsListed

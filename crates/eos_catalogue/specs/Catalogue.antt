@@ -1,13 +1,14 @@
--- Which codes have a page in the catalogue.
-use Rattle.std.specs.Prelude.{◌≡◌, ℕ, List, [], ◌∷◌, Option, Some, None, Bool, true, false, bytes_eq, codes}
+-- Which pages the catalogue has, and of which codes.
+use Rattle.std.specs.Prelude.{◌≡◌, ℕ, List, [], ◌∷◌, Option, Some, None, Bool, true, false, ◌&&◌, nat_lt, nat_le, length, bytes_eq, codes}
+use Rattle.std.specs.Borrow.{Bor}
 use Rattle.std.specs.List.{list_any}
 use Rattle.eos_catalogue.specs.declared.page.Page.{Page}
 
 -- the codes of the kinds of faults, in the order of the pages
 unfoldable pub page_codes : List (List ℕ)
 page_codes =
-    codes "1.1" ∷ codes "1.2" ∷ codes "1.10" ∷ codes "1.11" ∷
-    codes "1.3" ∷ codes "1.4" ∷ codes "1.5" ∷ codes "1.6" ∷ codes "1.7" ∷ codes "1.8" ∷ codes "1.9" ∷
+    codes "1.1" ∷ codes "1.2" ∷ codes "1.3" ∷ codes "1.4" ∷ codes "1.5" ∷ codes "1.6" ∷ codes "1.7" ∷ codes "1.8" ∷ codes "1.9" ∷
+    codes "1.10" ∷ codes "1.11" ∷
     codes "2.1" ∷ codes "2.2" ∷ codes "2.3" ∷ codes "2.4" ∷ codes "2.5" ∷
     codes "3.1" ∷ codes "3.2" ∷ codes "3.3" ∷ codes "3.4" ∷ codes "3.5" ∷ codes "3.6" ∷ codes "3.7" ∷
     codes "4.1" ∷ codes "4.2" ∷ codes "4.3" ∷ codes "4.4" ∷
@@ -18,7 +19,17 @@ page_codes =
 abbrev pub is_one_of : List (List ℕ) → List ℕ → Bool
 is_one_of all code = list_any (λ c. bytes_eq c code) all
 
--- a code that a kind has gives its page, and another gives none
+abbrev pub is_line : List ℕ → Bool
+is_line line = nat_lt 0 (length line) && nat_le (length line) 56
+
+-- one line or two
+abbrev pub is_brief : List (Bor (List ℕ)) → Bool
+is_brief [] = false
+is_brief (a ∷ []) = is_line a.now
+is_brief (a ∷ b ∷ []) = is_line a.now && is_line b.now
+is_brief (a ∷ b ∷ c ∷ more) = false
+
+-- a code that a kind has gives its page, which says in a line or two what the kind is, and another gives none
 abbrev pub IsPageOf : List ℕ → Option Page → Type 0
 IsPageOf code None = is_one_of page_codes code ≡ false
-IsPageOf code (Some page) = (page.code.now ≡ code) × (is_one_of page_codes code ≡ true)
+IsPageOf code (Some page) = (page.code.now ≡ code) × (is_one_of page_codes code ≡ true) × (is_brief page.brief.now ≡ true)

@@ -1,3 +1,4 @@
 pub mod Catalogue
+pub mod Kinds
 pub mod Pages
 pub mod steps

@@ -6,6 +6,7 @@ pub(crate) static OUTPUTS: [Page; 8] = [
     Page {
         code: "5.5",
         name: "ForeignSource",
+        brief: &["an output names a topic that isn't a source"],
         says: "A visible output names as its input a record of a topic that is no source of
 the application.",
         means: "It is the output of something else, or its header is written wrongly.",
@@ -17,6 +18,7 @@ the application.",
     Page {
         code: "5.6",
         name: "NoSuchInput",
+        brief: &["an output names an input that isn't there or was aborted"],
         says: "A visible output names an input that isn't there, or was aborted.",
         means: "It was made from a record that readers of committed records never got.",
         causes: "- The source's partition isn't in `ends`.
@@ -28,6 +30,7 @@ the application.",
     Page {
         code: "5.7",
         name: "Early",
+        brief: &["an output of an input that isn't committed yet"],
         says: "A visible output names an input at or above the group's committed offset.",
         means: "The output is visible and its input would be processed again.",
         causes: "- At the very first input: the manifest names another group than ran.
@@ -40,6 +43,7 @@ the application.",
     Page {
         code: "5.8",
         name: "CountDisagrees",
+        brief: &["two outputs of an input name different counts"],
         says: "Two outputs of one input name different numbers of outputs.",
         means: "How many outputs the input has isn't known, so none can be called missing.",
         causes: "- `eo.of` is the count so far, not the count of all: it has to be known before
@@ -50,6 +54,7 @@ the application.",
     Page {
         code: "5.9",
         name: "NumberRange",
+        brief: &["an output's number isn't in 1 to its count"],
         says: "An output's number isn't one of 1 to its count, or is 0 and no note.",
         means: "The numbering is wrong; number 0 is only the note of an input without outputs.",
         causes: "- Outputs are numbered from 0.",
@@ -58,6 +63,7 @@ the application.",
     Page {
         code: "5.10",
         name: "Repeated",
+        brief: &["an output stands twice: the input was processed twice"],
         says: "One output of an input stands twice, and both are visible.",
         means: "The input was processed twice, each time in a committed transaction. No rule
 of the brokers need be broken.",
@@ -72,6 +78,7 @@ between them. To repair: the second output is the surplus one.",
     Page {
         code: "5.11",
         name: "Missing",
+        brief: &["a committed input lacks an output"],
         says: "An input below the group's committed offset lacks an output, or has none and
 no note.",
         means: "The input was passed and its outputs aren't visible: lost, or never made.",
@@ -88,6 +95,10 @@ something else committed past it. Who committed that offset?",
     Page {
         code: "5.12",
         name: "OtherTransaction",
+        brief: &[
+            "an output from another transaction than one that",
+            "committed past its input",
+        ],
         says: "An output is visible, and its transaction isn't one that committed past its
 input.",
         means: "Output and progress didn't go in one transaction: a crash between them loses

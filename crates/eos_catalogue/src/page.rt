@@ -8,7 +8,7 @@ ghost use Rattle.eos_catalogue.specs.Pages.{title_text, section_text, sections_t
 ghost use Rattle.eos_catalogue.specs.steps.Found.{page_in};
 
 use crate::outputs::OUTPUTS;
-use crate::partitions::{LOGS, PRODUCERS};
+use crate::partitions::PARTITIONS;
 use crate::records::RECORDS;
 use crate::transactions::{DECISIONS, TRANSACTION_LOG};
 use eos_text::push_text;
@@ -21,6 +21,8 @@ pub struct Page {
     pub code: &'static str,
     /// Its name, as a verdict's line has it.
     pub name: &'static str,
+    /// The same in few words, as a list of all kinds has it: one line or two of at most 56 columns.
+    pub brief: &'static [&'static str],
     /// What stands in the logs.
     pub says: &'static str,
     /// What follows from that, and what doesn't.
@@ -47,8 +49,7 @@ fn page_in(pages: &'static [Page], code: &str) -> Option<&'static Page>
 pub fn page_of(code: &str) -> Option<&'static Page>
     ensures { IsPageOf code.now (option_copied result) }
 {
-    page_in(LOGS.as_slice(), code)
-        .or(page_in(PRODUCERS.as_slice(), code))
+    page_in(PARTITIONS.as_slice(), code)
         .or(page_in(TRANSACTION_LOG.as_slice(), code))
         .or(page_in(DECISIONS.as_slice(), code))
         .or(page_in(RECORDS.as_slice(), code))

@@ -2,11 +2,11 @@
 
 use crate::page::Page;
 
-/// Logs that aren't whole.
-pub(crate) static LOGS: [Page; 4] = [
+pub(crate) static PARTITIONS: [Page; 11] = [
     Page {
         code: "1.1",
         name: "BadBatch",
+        brief: &["no batch begins there: see `eoscheck dump --help`"],
         says: "At `byte` of the segment no record batch begins: `batch` names the first test
 that failed. All batches before it were read, up to `offset`.",
         means: "The file isn't what a broker would serve from there on. Of what lies behind
@@ -24,6 +24,10 @@ before the run. `eoscheck dump SEGMENT` lists what stands before the place.",
     Page {
         code: "1.2",
         name: "Gap",
+        brief: &[
+            "another offset or segment than the next: a lost or",
+            "misnamed file, or a compacted log",
+        ],
         says: "The next batch, or the next segment by its name, begins at `found` and not at
 `offset`.",
         means: "Offsets are missing or stand twice. A log that is judged begins at 0 and has
@@ -38,39 +42,9 @@ no gap, since a gap could hide anything.",
 topics.",
     },
     Page {
-        code: "1.10",
-        name: "End",
-        says: "All bytes were read, and the log has `offset` records, not `end` as the
-manifest says.",
-        means: "The log and the manifest don't speak of the same moment, so records may be
-missing at the end.",
-        causes: "- offset=0: the partition has no folder, or one with another name.
-- Fewer records: the last segment wasn't copied, or copied before its end.
-- More records: the end was asked before the last write. End markers and
-  aborted records count too.",
-        next: "Ask for the ends after the application stands still (`kafka-get-offsets.sh`),
-then copy. Compare the log's size with the broker's.",
-    },
-    Page {
-        code: "1.11",
-        name: "OpenAtEnd",
-        says: "The producer id's last batch is of a transaction, and no end marker follows
-it.",
-        means: "Whether these records count can't be known from the log. Nothing else is wrong
-with it.",
-        causes: "- The logs were collected while a transaction was open.
-- A transaction hangs: the coordinator never wrote its marker to this
-  partition.",
-        next: "Collect again after `transaction.timeout.ms`. If it still is open, look with
-`kafka-transactions.sh find-hanging`, and at the coordinator's log.",
-    },
-];
-
-/// What one producer id may write after what it wrote.
-pub(crate) static PRODUCERS: [Page; 7] = [
-    Page {
         code: "1.3",
         name: "FirstSequence",
+        brief: &["a producer's epoch doesn't begin at sequence 0"],
         says: "The first batch of a producer's epoch doesn't begin at sequence 0.",
         means: "Records of that epoch before it are missing, or the broker took a batch that
 it had to refuse.",
@@ -83,6 +57,7 @@ replicas; look in the broker's log for the loading of producer snapshots.",
     Page {
         code: "1.4",
         name: "Sequence",
+        brief: &["a sequence is missing or repeated"],
         says: "A batch's base sequence isn't the one after the last sequence of its producer
 epoch.",
         means: "A smaller one: records stand twice, a retry was taken as new. A greater one:
@@ -98,6 +73,7 @@ and look for an unclean leader election at that time.",
     Page {
         code: "1.5",
         name: "ZombieEpoch",
+        brief: &["a producer wrote with an older epoch than before"],
         says: "A producer id wrote with a lower epoch than it had in this log before.",
         means: "Fencing failed: an older instance wrote after a newer one had begun.",
         causes: "- A broker that lost the producer's epoch, by a restart or a change of leader.",
@@ -108,6 +84,7 @@ outputs.",
     Page {
         code: "1.6",
         name: "EpochWhileOpen",
+        brief: &["a new epoch began while a transaction was open"],
         says: "Transactional data of a greater epoch stands where the lower epoch's
 transaction has no end marker yet.",
         means: "The end marker of the earlier transaction never came into this log, or was
@@ -122,6 +99,10 @@ leader?",
     Page {
         code: "1.7",
         name: "NoBump",
+        brief: &[
+            "an end marker has the epoch of its data: transaction",
+            "version 2 was off",
+        ],
         says: "An end marker has the epoch of its data, not a greater one.",
         means: "The transaction ran by version 1: a late batch of it can't be told from the
 next transaction's, so a fenced log can't be promised.",
@@ -134,6 +115,7 @@ next transaction's, so a fenced log can't be promised.",
     Page {
         code: "1.8",
         name: "MixedProducer",
+        brief: &["a producer wrote both inside and outside transactions"],
         says: "One producer id wrote inside and outside of transactions.",
         means: "A producer is one or the other for life: here two clients share an id, or
 bytes were written by hand.",
@@ -145,11 +127,41 @@ at the two batches with `eoscheck dump`.",
     Page {
         code: "1.9",
         name: "MarkerKind",
+        brief: &["one transaction has both a commit and an abort"],
         says: "Two end markers of one producer epoch, one a commit and one an abort.",
         means: "The same transaction ended in both ways: readers of committed records saw it
 or not, depending on when they read.",
         causes: "- A coordinator that decided again after a change of its leader.
 - A marker that an operator wrote (`kafka-transactions.sh abort`).",
         next: "Look at the decision in __transaction_state, and who wrote the second marker.",
+    },
+    Page {
+        code: "1.10",
+        name: "End",
+        brief: &["the log has another number of records than `ends` says"],
+        says: "All bytes were read, and the log has `offset` records, not `end` as the
+manifest says.",
+        means: "The log and the manifest don't speak of the same moment, so records may be
+missing at the end.",
+        causes: "- offset=0: the partition has no folder, or one with another name.
+- Fewer records: the last segment wasn't copied, or copied before its end.
+- More records: the end was asked before the last write. End markers and
+  aborted records count too.",
+        next: "Ask for the ends after the application stands still (`kafka-get-offsets.sh`),
+then copy. Compare the log's size with the broker's.",
+    },
+    Page {
+        code: "1.11",
+        name: "OpenAtEnd",
+        brief: &["a transaction is open at the end: collect later"],
+        says: "The producer id's last batch is of a transaction, and no end marker follows
+it.",
+        means: "Whether these records count can't be known from the log. Nothing else is wrong
+with it.",
+        causes: "- The logs were collected while a transaction was open.
+- A transaction hangs: the coordinator never wrote its marker to this
+  partition.",
+        next: "Collect again after `transaction.timeout.ms`. If it still is open, look with
+`kafka-transactions.sh find-hanging`, and at the coordinator's log.",
     },
 ];

@@ -6,6 +6,7 @@ pub(crate) static RECORDS: [Page; 4] = [
     Page {
         code: "4.1",
         name: "BadLineage",
+        brief: &["an output record lacks a lineage header, or it is wrong"],
         says: "A visible record of an output topic doesn't say of which input it is: one of
 the five headers is absent, null, repeated, of another length, or below 0.",
         means: "The output can't be matched with an input. The others weren't judged yet.",
@@ -21,6 +22,7 @@ the five headers is absent, null, repeated, of another length, or below 0.",
     Page {
         code: "4.2",
         name: "BadOffset",
+        brief: &["a record of __consumer_offsets doesn't read"],
         says: "A visible record of __consumer_offsets doesn't read: `record` names the first
 test that failed.",
         means: "What was committed there isn't known.",
@@ -31,6 +33,7 @@ test that failed.",
     Page {
         code: "4.3",
         name: "SplitGroup",
+        brief: &["a group's offsets stand in two partitions"],
         says: "One group has commits in two partitions of __consumer_offsets.",
         means: "A group lies in one partition, by its hash. Which commit is the last can't be
 said.",
@@ -41,6 +44,7 @@ said.",
     Page {
         code: "4.4",
         name: "OffsetDeleted",
+        brief: &["a committed offset was deleted"],
         says: "A tombstone stands under a committed offset of a group that is judged.",
         means: "From there on the group would begin anew, so its committed offsets say
 nothing.",

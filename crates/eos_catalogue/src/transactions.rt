@@ -7,6 +7,7 @@ pub(crate) static TRANSACTION_LOG: [Page; 5] = [
     Page {
         code: "2.1",
         name: "BadRecord",
+        brief: &["a record of __transaction_state doesn't read"],
         says: "A record of __transaction_state doesn't read: `record` names the first test
 that failed.",
         means: "What the coordinator decided there isn't known.",
@@ -18,6 +19,7 @@ neighbours.",
     Page {
         code: "2.2",
         name: "Step",
+        brief: &["a transaction's state may not follow the one before"],
         says: "A state of a transactional id may not follow the one before it: `why` names
 the rule.",
         means: "The coordinator's log contradicts itself: a step is missing, or two
@@ -31,6 +33,7 @@ coordinators wrote.",
     Page {
         code: "2.3",
         name: "SplitId",
+        brief: &["a transactional id stands in two partitions"],
         says: "One transactional id has records in two partitions of __transaction_state.",
         means: "An id lies in one partition, by its hash. Two coordinators worked for it.",
         causes: "- Logs of two clusters, or of before and after a change of the number of
@@ -40,6 +43,7 @@ coordinators wrote.",
     Page {
         code: "2.4",
         name: "SharedProducer",
+        brief: &["two transactional ids have one producer id"],
         says: "Two transactional ids have one producer id.",
         means: "What the producer wrote can't be told apart: neither id's transactions can be
 judged.",
@@ -50,6 +54,7 @@ judged.",
     Page {
         code: "2.5",
         name: "Unfinished",
+        brief: &["a transaction goes on at the end: collect later"],
         says: "At the partition's end a transactional id is ongoing, or prepared and not
 complete.",
         means: "The logs end in the middle of its transaction.",
@@ -65,6 +70,7 @@ pub(crate) static DECISIONS: [Page; 7] = [
     Page {
         code: "3.1",
         name: "TwiceDecided",
+        brief: &["a transaction was decided twice"],
         says: "Two decisions of one producer id and epoch.",
         means: "A transaction was decided twice, so its end depends on who is asked.",
         causes: "- A coordinator that forgot its first decision: its log lost records.
@@ -75,6 +81,7 @@ __transaction_state).",
     Page {
         code: "3.2",
         name: "Undecided",
+        brief: &["data of a transaction that nobody decided"],
         says: "Records of a transaction have an end marker, and no decision of their producer
 epoch stands in the transaction log.",
         means: "Nobody who may decide did, as far as these logs say.",
@@ -88,6 +95,7 @@ is a hash.",
     Page {
         code: "3.3",
         name: "WrongKind",
+        brief: &["data ended in another way than was decided"],
         says: "Records ended by a commit where an abort was decided, or the other way round.",
         means: "A part of the transaction is visible and another isn't: not atomic.",
         causes: "- A coordinator whose decision changed after markers were sent.
@@ -98,6 +106,7 @@ show them.",
     Page {
         code: "3.4",
         name: "NotListed",
+        brief: &["data in a partition that its transaction doesn't list"],
         says: "Records of a transaction stand in a partition that its decision doesn't list.",
         means: "The partition was never added to the transaction, or the list was lost: its
 marker came by another way.",
@@ -108,6 +117,7 @@ marker came by another way.",
     Page {
         code: "3.5",
         name: "StrayMarker",
+        brief: &["an end marker that nobody decided"],
         says: "An end marker of no decision that lists its partition.",
         means: "Something was ended that nobody decided, as far as these logs say.",
         causes: "- The same as of 3.2: a partition of __transaction_state isn't in `ends`, or
@@ -119,6 +129,7 @@ marker.",
     Page {
         code: "3.6",
         name: "AbsentPartition",
+        brief: &["a transaction lists a partition that isn't in `ends`"],
         says: "A decision lists a partition that isn't in `ends`.",
         means: "What the transaction wrote there isn't known, so it can't be called whole.",
         causes: "- A partition was forgotten, often the group's of __consumer_offsets.
@@ -129,6 +140,7 @@ marker.",
     Page {
         code: "3.7",
         name: "MissingMarker",
+        brief: &["a listed partition lacks the end marker"],
         says: "A decision lists a partition, and its end marker doesn't stand there.",
         means: "The transaction was decided and not ended everywhere: readers of that
 partition wait, or never see it.",
