@@ -1,10 +1,10 @@
-"""The catalogue of faults: each kind of docs/YES.md has a page, and docs/FAULTS.md and the help of check have all of them.
+"""The catalogue of faults: each kind of docs/YES.md has a page, docs/FAULTS.md has all pages, and the help of check lists all kinds.
 
     python3 -B tests/fault_pages.py PROGRAM            compares
     python3 -B tests/fault_pages.py PROGRAM --write    writes docs/FAULTS.md
 
-The kinds and their names are those of docs/YES.md, which another test holds against the definitions. The last line is
-'N passed, N failed'.
+The kinds, their names and their order are those of docs/YES.md, which another test holds against the definitions. The last line
+is 'N passed, N failed'.
 """
 import re
 import subprocess
@@ -26,6 +26,8 @@ PHASES = {
     "4": "Phase 4: single visible records",
     "5": "Phase 5: the outputs",
 }
+# where the help says what a kind is
+COLUMN = 24
 HEADINGS = ["What it says", "What it means", "What makes it happen, the likeliest first", "What to look at"]
 
 
@@ -48,6 +50,24 @@ def markdown(text):
     return "\n".join(said)
 
 
+def listed(helped):
+    """The kinds that the help lists, phase by phase: of each its code, its name and the lines of what it is; None for another line."""
+    phases = []
+    for block in helped.rstrip("\n").split("\n\n"):
+        if re.match(r"  \d\.\d+ ", block):
+            found = []
+            for line in block.split("\n"):
+                row = re.fullmatch(r"  (\d\.\d+) (\w+)( *)(\S.*)", line)
+                if row and len(line) - len(row[4]) == COLUMN:
+                    found.append((row[1], row[2], [row[4]]))
+                elif found and found[-1] and re.fullmatch(rf" {{{COLUMN}}}\S.*", line):
+                    found[-1][2].append(line[COLUMN:])
+                else:
+                    found.append(None)
+            phases.append(found)
+    return phases
+
+
 def main():
     program = sys.argv[1]
     passed, wrong, pages, phase = 0, [], [HEAD], ""
@@ -65,7 +85,6 @@ def main():
         expect(ran.stdout.startswith(f"{code} {name}\n"), f"{code}: its page isn't that of {name}")
         expect([it.partition("\n")[0] for it in ran.stdout.split("\n\n")[1:]] == HEADINGS, f"{code}: other sections")
         expect(max(map(len, ran.stdout.splitlines())) <= 78, f"{code}: a line is too long")
-        expect(re.search(rf"^  {re.escape(code)} +{name} ", helped, re.M), f"{code}: not in the help of check")
         if code[0] != phase:
             phase = code[0]
             pages.append(f"## {PHASES[phase]}\n")
@@ -76,7 +95,16 @@ def main():
             file.write(text)
     with open(PAGE, encoding="utf-8") as file:
         expect(file.read() == text, f"{PAGE} isn't what the program's pages say: write it by --write")
-    expect(len(re.findall(r"^  [1-5]\.\d+ +[A-Z]", helped, re.M)) == len(kinds()), "the help of check names other kinds")
+    phases = listed(helped)
+    rows = [row for phase in phases for row in phase]
+    expect(None not in rows, f"the help of check has a line of another form: {rows}")
+    rows = [row for row in rows if row]
+    expect([row[:2] for row in rows] == kinds(), f"the help of check lists other kinds: {[row[:2] for row in rows]}")
+    expect([{row[0][0] for row in phase if row} for phase in phases] == [{it} for it in PHASES], "its empty lines aren't between phases")
+    for code, _, lines in rows:
+        expect(len(lines) <= 2 and max(map(len, lines)) <= 80 - COLUMN, f"{code}: the help says more than two lines: {lines}")
+    expect(len({" ".join(lines) for _, _, lines in rows}) == len(rows), "the help says the same of two kinds")
+    expect(rows and helped.endswith(f"{rows[-1][2][-1]}\n"), "the help goes on behind its list")
     for code in ("", "0.1", "1.12", "5.1", "6.1", "5.100", "510", "Repeated", "5.10 "):
         ran = run(program, "explain", "--code", code)
         want = (2, "", f"eoscheck: no fault has the code {code}\n")

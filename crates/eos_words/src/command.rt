@@ -1,13 +1,15 @@
 //! The command line, and how its words are read.
 
-use crate::arguments::{Argument, Form, Subcommand};
-use crate::help::{ABOUT, STATUSES};
+use crate::arguments::{Argument, Form, Presence};
+use crate::help::{ABOUT, CHECK_ANSWERS, STATUSES};
 use crate::request::{
     Answer, Check, Draw, Explain, Init, Listing, NoRequest, Request, Simulation, Sizes, Thousandths,
 };
+use crate::subcommands::{SUBCOMMANDS, Subcommand};
 use clap::builder::ValueParser;
 use clap::error::{Error, ErrorKind};
 use clap::{Arg, ArgAction, ArgMatches, Command};
+use eos_catalogue::push_kinds;
 use eos_workers::Workers;
 use std::alloc::{AllocError, Global};
 
@@ -30,16 +32,40 @@ pub fn read_words<'a, R: Print + Eprint>(
     alloc: Global,
     words: &'a [String],
 ) -> Result<Request<'a>, NoRequest> {
-    match requested(alloc, words) {
+    match requested(alloc, words, CHECK_ANSWERS) {
         Ok(Some(request)) => Ok(request),
         Ok(None) => Err(NoRequest::BadWords),
+        Err(e) if e.kind() == ErrorKind::DisplayHelp => Err(print_help(rt, alloc, words)),
         Err(e) => Err(explain(rt, &e)),
     }
 }
 
-fn requested<'a>(alloc: Global, words: &'a [String]) -> Result<Option<Request<'a>>, Error> {
-    let matches = make_command(alloc)?.try_get_matches_from(words)?;
+/// The last are the details of the help of `check`.
+fn requested<'a>(
+    alloc: Global,
+    words: &'a [String],
+    details: &'a str,
+) -> Result<Option<Request<'a>>, Error> {
+    let matches = make_command(alloc, details)?.try_get_matches_from(words)?;
     Ok(read_request(alloc, &matches)?)
+}
+
+/// Prints the help that was asked for. The details of `check` list the kinds of faults, in a text that has to live as long as
+/// what is read: so it is made for the help alone, and the words are read again.
+fn print_help<R: Print + Eprint>(rt: &R, alloc: Global, words: &[String]) -> NoRequest {
+    let Ok(details) = check_details(alloc) else {
+        return NoRequest::OutOfMemory;
+    };
+    if let Err(e) = requested(alloc, words, details.as_str()) {
+        return explain(rt, &e);
+    }
+    NoRequest::BadWords
+}
+
+fn check_details(alloc: Global) -> Result<String, AllocError> {
+    let mut details = String::from_str(alloc, CHECK_ANSWERS)?;
+    push_kinds(&mut details)?;
+    Ok(details)
 }
 
 /// Prints why there are no words to act on: help that was asked for, or a mistake.
@@ -58,8 +84,8 @@ fn explain<R: Print + Eprint>(rt: &R, e: &Error) -> NoRequest {
 }
 
 /// The command line of the program.
-fn make_command<'a>(alloc: Global) -> Result<Command<'a>, AllocError> {
-    let subcommands = make_subcommands(alloc)?;
+fn make_command<'a>(alloc: Global, details: &'a str) -> Result<Command<'a>, AllocError> {
+    let subcommands = make_subcommands(alloc, details)?;
     Command::new(alloc, "eoscheck")
         .version(VERSION)
         .about(ABOUT)
@@ -67,56 +93,55 @@ fn make_command<'a>(alloc: Global) -> Result<Command<'a>, AllocError> {
         .subcommands(subcommands)
 }
 
-fn make_subcommands<'a>(alloc: Global) -> Result<Vec<Command<'a>>, AllocError> {
+fn make_subcommands<'a>(alloc: Global, details: &'a str) -> Result<Vec<Command<'a>>, AllocError> {
     let mut made = Vec::new(alloc);
-    for it in [
-        Subcommand::Check,
-        Subcommand::Dump,
-        Subcommand::Chain,
-        Subcommand::Explain,
-        Subcommand::Draw,
-        Subcommand::Init,
-        Subcommand::Simulate,
-    ] {
-        made.push(make_subcommand(alloc, it)?)?;
+    for it in &SUBCOMMANDS {
+        made.push(make_subcommand(alloc, it, details)?)?;
     }
     Ok(made)
 }
 
-fn make_subcommand<'a>(alloc: Global, it: Subcommand) -> Result<Command<'a>, AllocError> {
+fn make_subcommand<'a>(
+    alloc: Global,
+    it: &Subcommand,
+    details: &'a str,
+) -> Result<Command<'a>, AllocError> {
     let mut arguments = Vec::new(alloc);
-    for argument in it.arguments() {
-        arguments.push(make_argument(alloc, *argument)?)?;
+    for argument in it.arguments {
+        arguments.push(make_argument(alloc, argument)?)?;
     }
-    Command::new(alloc, it.name())
-        .about(it.about())
-        .after_help(it.details())
+    Command::new(alloc, it.name)
+        .about(it.about)
+        .after_help(it.details.unwrap_or(details))
         .args(arguments)
 }
 
-fn make_argument<'a>(alloc: Global, it: Argument) -> Result<Arg<'a>, AllocError> {
-    make_form(alloc, it).conflicts_with_all(it.excluded())
+fn make_argument<'a>(alloc: Global, it: &Argument) -> Result<Arg<'a>, AllocError> {
+    let argument = make_form(alloc, it);
+    match it.presence {
+        Presence::Required => Ok(argument.required(true)),
+        Presence::Optional => Ok(argument),
+        Presence::Without(others) => argument.conflicts_with_all(others),
+    }
 }
 
-fn make_form<'a>(alloc: Global, it: Argument) -> Arg<'a> {
-    let argument = Arg::new(alloc, it.name())
-        .help(it.help())
-        .required(it.is_required());
-    match it.form() {
-        Form::Alone => argument.value_name(it.value_name()),
-        Form::Several => argument
-            .value_name(it.value_name())
+fn make_form<'a>(alloc: Global, it: &Argument) -> Arg<'a> {
+    let argument = Arg::new(alloc, it.name).help(it.help);
+    match it.form {
+        Form::Alone(value) => argument.value_name(value),
+        Form::Several(value) => argument
+            .value_name(value)
             .action(ArgAction::Append)
             .num_args(1..)
             .value_parser(ValueParser::NonEmptyString),
-        Form::Flag => argument.long(it.name()).action(ArgAction::SetTrue),
-        Form::Valued(values) => argument
-            .long(it.name())
-            .value_name(it.value_name())
+        Form::Flag => argument.long(it.name).action(ArgAction::SetTrue),
+        Form::Valued(value, values) => argument
+            .long(it.name)
+            .value_name(value)
             .value_parser(values),
-        Form::Repeated(values) => argument
-            .long(it.name())
-            .value_name(it.value_name())
+        Form::Repeated(value, values) => argument
+            .long(it.name)
+            .value_name(value)
             .value_parser(values)
             .action(ArgAction::Append),
     }

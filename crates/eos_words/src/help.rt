@@ -6,6 +6,7 @@ pub(crate) const ABOUT: &str =
 pub(crate) const CHECK: &str =
     "Checks whether the promise of exactly once was kept in a folder of logs";
 
+/// After it stands the list of the kinds of faults.
 pub(crate) const CHECK_ANSWERS: &str =
     "FOLDER holds `evidence.json` (docs/EVIDENCE.md) and for each partition that it
 names in `ends` a folder TOPIC-N with the partition's segments, each a file of
@@ -46,49 +47,7 @@ With --report FILE the verdict, the notes and how long the check took are also
 written to FILE, as one JSON object (docs/report.schema.json). FILE may not be
 there before; it is made before the check begins, and taken away where there is
 no verdict. --report goes with one FOLDER.
-
-  1.1 BadBatch          no batch begins there: see `eoscheck dump --help`
-  1.2 Gap               another offset or segment than the next: a lost or
-                        misnamed file, or a compacted log
-  1.3 FirstSequence     a producer's epoch doesn't begin at sequence 0
-  1.4 Sequence          a sequence is missing or repeated
-  1.5 ZombieEpoch       a producer wrote with an older epoch than before
-  1.6 EpochWhileOpen    a new epoch began while a transaction was open
-  1.7 NoBump            an end marker has the epoch of its data: transaction
-                        version 2 was off
-  1.8 MixedProducer     a producer wrote both inside and outside transactions
-  1.9 MarkerKind        one transaction has both a commit and an abort
-  1.10 End              the log has another number of records than `ends` says
-  1.11 OpenAtEnd        a transaction is open at the end: collect later
-
-  2.1 BadRecord         a record of __transaction_state doesn't read
-  2.2 Step              a transaction's state may not follow the one before
-  2.3 SplitId           a transactional id stands in two partitions
-  2.4 SharedProducer    two transactional ids have one producer id
-  2.5 Unfinished        a transaction goes on at the end: collect later
-
-  3.1 TwiceDecided      a transaction was decided twice
-  3.2 Undecided         data of a transaction that nobody decided
-  3.3 WrongKind         data ended in another way than was decided
-  3.4 NotListed         data in a partition that its transaction doesn't list
-  3.5 StrayMarker       an end marker that nobody decided
-  3.6 AbsentPartition   a transaction lists a partition that isn't in `ends`
-  3.7 MissingMarker     a listed partition lacks the end marker
-
-  4.1 BadLineage        an output record lacks a lineage header, or it is wrong
-  4.2 BadOffset         a record of __consumer_offsets doesn't read
-  4.3 SplitGroup        a group's offsets stand in two partitions
-  4.4 OffsetDeleted     a committed offset was deleted
-
-  5.5 ForeignSource     an output names a topic that isn't a source
-  5.6 NoSuchInput       an output names an input that isn't there or was aborted
-  5.7 Early             an output of an input that isn't committed yet
-  5.8 CountDisagrees    two outputs of an input name different counts
-  5.9 NumberRange       an output's number isn't in 1 to its count
-  5.10 Repeated         an output stands twice: the input was processed twice
-  5.11 Missing          a committed input lacks an output
-  5.12 OtherTransaction an output from another transaction than one that
-                        committed past its input";
+";
 
 pub(crate) const STATUSES: &str = "Exit status:
   0  the answer is good: the verdict is yes, the listing ends at the end, the

@@ -5,6 +5,7 @@ mod arguments;
 mod command;
 mod help;
 mod request;
+mod subcommands;
 
 pub use command::{VERSION, read_words};
 pub use request::{
