@@ -7,6 +7,7 @@ mod parts;
 mod phases;
 mod pool;
 mod shards;
+mod tied_evidence;
 mod verdict;
 mod workers;
 

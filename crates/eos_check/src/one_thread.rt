@@ -11,6 +11,7 @@ ghost use Rattle.eos_lineage.specs.Faults.{IsAnswer};
 
 use crate::parts::parts_from;
 use crate::phases::transactions;
+use crate::tied_evidence::TiedEvidence;
 use crate::verdict::{Counts, Fault, Verdict};
 use eos_board_core::Pieces;
 use eos_evidence::Evidence;
@@ -18,7 +19,7 @@ use eos_fold::Part;
 use eos_lineage::{LineageCounts, LineageFault, check_lineage_by};
 use eos_workers::Workers;
 use std::alloc::{AllocError, Global};
-use std::marker::Brand;
+use std::marker::{Brand, PhantomData};
 use std::thread::Threads;
 
 /// The verdict of logs in which no partition, no transaction log and none of so many transactions has a fault, by what the lineage
@@ -67,7 +68,11 @@ fn parts_alone<E: Pieces>(alloc: Global, evidence: &Evidence) -> Result<Vec<Part
     requires { E.pieces ≡ Some (segments_of evidence.now.partitions) }
     ensures { IfOk result (λ parts. AreLogsOf evidence.now.partitions parts.items) }
 {
-    parts_from::<E>(alloc, evidence, Vec::new(alloc))
+    let evidence = TiedEvidence {
+        evidence,
+        of: PhantomData,
+    };
+    parts_from::<E>(alloc, &evidence, Vec::new(alloc))
 }
 
 /// The verdict of an evidence: yes with three counts exactly where each log is whole and fenced, no sequence is repeated or

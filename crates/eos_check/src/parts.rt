@@ -1,16 +1,17 @@
 //! The logs of an evidence, each folded from its segments: out of the runs that workers made and, where none is there, by this
 //! thread's own work. Whose segments a run has is known by its type, so that only the numbers of its pieces are looked at.
 
-ghost use Rattle.std.specs.Prelude.{◌≡◌, ◌+◌, ◌<◌, ◌≤◌, ◌^◌, ◌++◌, [], ◌∷◌, length, Some, IfOk, IfSome, IsTrue};
+ghost use Rattle.std.specs.Prelude.{◌≡◌, ◌+◌, ◌<◌, ◌^◌, ◌++◌, [], ◌∷◌, length, IfOk, IfSome, IsTrue};
 ghost use Rattle.eos_lineage.specs.EvidenceLogs.{IsLogOf, AreLogsOf};
 ghost use Rattle.eos_board_core.specs.Ties.{IsPiece};
 ghost use Rattle.eos_check.specs.steps.Runs.{AreAt, AreOwn, IsBehind, IsRunOf};
-ghost use Rattle.eos_evidence.specs.Evidence.{IsPartition, segments_of};
+ghost use Rattle.eos_evidence.specs.Evidence.{IsPartition};
 ghost use Rattle.eos_fold.specs.Sums.{IsFit};
 ghost use Rattle.eos_fold.specs.Whole.{segments_in};
 
+use crate::tied_evidence::TiedEvidence;
 use eos_board_core::{Pieces, Tied};
-use eos_evidence::{Evidence, Partition, Segment};
+use eos_evidence::{Partition, Segment};
 use eos_fold::Part;
 use std::alloc::{AllocError, Global};
 
@@ -143,16 +144,15 @@ fn part_of<E: Pieces>(
 /// out here.
 pub(crate) fn parts_from<E: Pieces>(
     alloc: Global,
-    evidence: &Evidence,
+    evidence: &TiedEvidence<'_, E>,
     mut runs: Vec<Tied<E>>,
 ) -> Result<Vec<Part>, AllocError>
-    requires { E.pieces ≡ Some (segments_of evidence.now.partitions) }
     ensures { IfOk result (λ parts. AreLogsOf evidence.now.partitions parts.items) }
 {
     runs.reverse();
     let mut parts = Vec::new(alloc);
     let mut first = 0;
-    let partitions = evidence.partitions();
+    let partitions = evidence.evidence.partitions();
     for i in 0..partitions.len() {
         let partition = &partitions[i];
         parts.push(part_of(alloc, &mut runs, first, partition)?)?;

@@ -1,15 +1,18 @@
 //! The workers: each draws pieces and summarises them, and then joins runs that lie side by side.
 
-ghost use Rattle.std.specs.Prelude.{◌≡◌, ◌<◌, ◌≤◌, true, false, vec_len, length, slice_get, All, IfOk, IfSome, Some};
+ghost use Rattle.std.specs.Prelude.{◌≡◌, ◌<◌, ◌≤◌, true, vec_len, length, All, IfOk, IfSome};
+ghost use Rattle.eos_board_core.specs.Ties.{IsPiece};
 ghost use Rattle.eos_evidence.specs.Evidence.{segments_of};
 ghost use Rattle.eos_fold.specs.Sums.{IsFit, Follows};
 ghost use Rattle.eos_tickets.specs.Places.{IsFresh, AreBelow};
 
+use crate::tied_evidence::TiedEvidence;
 use eos_board_core::{Board, Gate, Pieces, Receipt, Tied};
-use eos_evidence::{Evidence, Segment};
+use eos_evidence::Segment;
 use eos_tickets::{Drawn, Seat, Tickets};
 use eos_workers::Workers;
 use std::alloc::{AllocError, Global};
+use std::marker::{Model, PhantomData};
 use std::sync::ledger::{Blank, Ledger};
 use std::sync::{Mutex, Wait};
 use std::thread;
@@ -18,43 +21,81 @@ use std::thread::Threads;
 /// A board takes fewer posts than this.
 const MAX_POSTS: u64 = 1 << 63;
 
-/// The evidence whose pieces are folded, and the gate that each worker passes.
+/// What the workers share. There are as many tickets as the evidence has pieces; contracts see the tickets.
 #[derive(Drop)]
-pub(crate) struct Task<'t, G> {
-    pub(crate) evidence: &'t Evidence,
-    pub(crate) gate: &'t G,
-}
-
-/// What the workers share.
-#[derive(Drop)]
-struct Shared<'s, L: Ledger, E: Pieces, G> {
-    evidence: &'s Evidence,
+struct Workplace<'s, L: Ledger, E: Pieces, G> {
+    evidence: &'s TiedEvidence<'s, E>,
     gate: &'s G,
-    tickets: &'s Tickets,
-    board: &'s Mutex<Board<L, E>>,
+    tickets: Tickets,
+    board: Mutex<Board<L, E>>,
 }
 
-/// What a worker starts with.
+impl<'s, L: Ledger, E: Pieces, G> Model for Workplace<'s, L, E, G> {
+    ghost use Rattle.std.specs.Prelude.{◌≡◌, length};
+    ghost use Rattle.eos_evidence.specs.Evidence.{segments_of};
+    ghost use Rattle.eos_tickets.specs.Places.{Counter};
+
+    ghost Value = { Counter };
+
+    ghost view = { λ w. w.tickets };
+
+    ghost invariant = { λ w. w.tickets.count ≡ length (segments_of w.evidence.now.partitions) };
+}
+
+/// A worker, with a seat of its workplace's tickets that isn't done, and with its receipt. Contracts see these tickets.
 #[derive(Drop)]
-struct Job<L: Ledger> {
+struct Worker<'s, L: Ledger, E: Pieces, G> {
+    place: &'s Workplace<'s, L, E, G>,
     seat: Seat,
     receipt: Receipt<L>,
 }
 
+impl<'s, L: Ledger, E: Pieces, G> Model for Worker<'s, L, E, G> {
+    ghost use Rattle.std.specs.Prelude.{◌≡◌, false};
+    ghost use Rattle.eos_tickets.specs.Places.{Counter};
+
+    ghost Value = { Counter };
+
+    ghost view = { λ w. w.place.now };
+
+    ghost invariant = { λ w. (w.seat.of ≡ w.place.now) × (w.seat.is_done ≡ false) };
+}
+
+/// How many workers there are, and the new ledger of their receipts, which is `L` and has a part for each. Contracts see the number.
+#[derive(Drop)]
+pub(crate) struct Staff<L: Ledger> {
+    pub(crate) workers: Workers,
+    pub(crate) blank: Blank,
+    pub(crate) of: PhantomData<L>,
+}
+
+impl<L: Ledger> Model for Staff<L> {
+    ghost use Rattle.std.specs.Prelude.{◌≡◌, ℕ};
+
+    ghost Value = { ℕ };
+
+    ghost view = { λ s. s.workers };
+
+    ghost invariant = { λ s. (s.blank.name ≡ L.name) × (s.blank.parts ≡ L.parts) × (L.parts ≡ s.workers) };
+}
+
 /// The segment of this piece, which is within the limits.
-fn segment_of(evidence: &Evidence, piece: u64) -> &Segment
+fn segment_of<'t, E: Pieces>(evidence: &'t TiedEvidence<'t, E>, piece: u64) -> &'t Segment
     requires { piece < length (segments_of evidence.now.partitions) }
     ensures fit { IsFit result.now }
-    ensures piece { slice_get (segments_of evidence.now.partitions) piece ≡ Some result.now }
+    ensures piece { IsPiece E.pieces piece result.now }
 {
-    let _partitions = evidence.partitions();
-    evidence.piece(piece)
+    let _partitions = evidence.evidence.partitions();
+    evidence.evidence.piece(piece)
 }
 
 /// The run of a piece, or none where memory is refused: the piece is then left to others.
-fn summarised<E: Pieces>(alloc: Global, evidence: &Evidence, piece: u64) -> Option<Tied<E>>
-    requires tie { E.pieces ≡ Some (segments_of evidence.now.partitions) }
-    requires known { piece < length (segments_of evidence.now.partitions) }
+fn summarised<E: Pieces>(
+    alloc: Global,
+    evidence: &TiedEvidence<'_, E>,
+    piece: u64,
+) -> Option<Tied<E>>
+    requires { piece < length (segments_of evidence.now.partitions) }
 {
     let Ok(segment) = segment_of(evidence, piece).copy() else {
         return None;
@@ -120,87 +161,83 @@ fn join_pairs<L: Ledger, E: Pieces, G: Gate>(
     }
 }
 
-/// A worker: draws, summarises and posts until all pieces are drawn, and then joins pairs until there are none. It holds the
-/// lock only to post and to take. It gives its seat back, with which it has drawn until there was no number left.
-fn work<L: Ledger, E: Pieces, G: Gate>(
-    alloc: Global,
-    rt: &impl Wait,
-    shared: &Shared<'_, L, E, G>,
-    job: Job<L>,
-) -> Seat
-    requires tie { E.pieces ≡ Some (segments_of shared.now.evidence.now.partitions) }
-    requires made { job.seat.of ≡ shared.now.tickets.now }
-    requires open { job.seat.is_done ≡ false }
-    requires pieces { shared.now.tickets.now.count ≡ length (segments_of shared.now.evidence.now.partitions) }
-    ensures made { result.of ≡ shared.now.tickets.now }
-    ensures done { result.is_done ≡ true }
-{
-    let Job {
-        mut seat,
-        mut receipt,
-    } = job;
-    for _ in rt.forever() {
-        let Some(piece) = shared.tickets.draw(&mut seat) else {
-            break;
-        };
-        shared.gate.pass(piece);
-        if let Some(run) = summarised(alloc, shared.evidence, piece) {
-            shared.gate.made(run.named());
-            post(rt, shared.board, &mut receipt, run);
+impl<'s, L: Ledger, E: Pieces, G: Gate> Worker<'s, L, E, G> {
+    /// Draws, summarises and posts until all pieces are drawn, and then joins pairs until there are none. It holds the lock only to
+    /// post and to take. It gives its seat back, with which it has drawn until there was no number left.
+    fn work(self, alloc: Global, rt: &impl Wait) -> Seat
+        ensures made { result.of ≡ self.entry }
+        ensures done { result.is_done ≡ true }
+    {
+        let Worker {
+            place,
+            mut seat,
+            mut receipt,
+        } = self;
+        for _ in rt.forever() {
+            let Some(piece) = place.tickets.draw(&mut seat) else {
+                break;
+            };
+            place.gate.pass(piece);
+            if let Some(run) = summarised(alloc, place.evidence, piece) {
+                place.gate.made(run.named());
+                post(rt, &place.board, &mut receipt, run);
+            }
         }
+        join_pairs(alloc, rt, &place.board, place.gate, &mut receipt);
+        seat
     }
-    join_pairs(alloc, rt, shared.board, shared.gate, &mut receipt);
-    seat
 }
 
-/// A seat and a receipt for each worker.
-fn jobs_of<L: Ledger>(
+/// A worker for each seat, with a receipt.
+fn workers_of<'s, L: Ledger, E: Pieces, G>(
     alloc: Global,
-    tickets: &Tickets,
+    place: &'s Workplace<'s, L, E, G>,
     mut seats: Vec<Seat>,
     mut receipts: Vec<Receipt<L>>,
-) -> Result<Vec<Job<L>>, AllocError>
-    requires seats { All (IsFresh tickets.now) seats.items }
+) -> Result<Vec<Worker<'s, L, E, G>>, AllocError>
+    requires seats { All (IsFresh place.now) seats.items }
     requires same { vec_len receipts ≡ vec_len seats }
-    ensures number { IfOk result (λ jobs. vec_len jobs ≡ vec_len seats) }
-    ensures ready { IfOk result (λ jobs. All (λ job. (job.seat.of ≡ tickets.now) × (job.seat.is_done ≡ false)) jobs.items) }
+    ensures number { IfOk result (λ workers. vec_len workers ≡ vec_len seats) }
+    ensures here { IfOk result (λ workers. All (λ worker. worker ≡ place.now) workers.items) }
 {
-    let mut jobs = Vec::new(alloc);
+    let mut workers = Vec::new(alloc);
     while let Some(seat) = seats.pop() {
         let Some(receipt) = receipts.pop() else {
             unreachable!()
         };
-        jobs.push(Job { seat, receipt })?;
+        workers.push(Worker {
+            place,
+            seat,
+            receipt,
+        })?;
     }
-    Ok(jobs)
+    Ok(workers)
 }
 
-/// Sets a worker on each job, each in a thread of its own. What they drew together are all pieces, each once.
-fn run_jobs<R: Threads + Wait + Sync, L: Ledger + Send + Sync, E: Pieces + Send + Sync, G: Gate>(
+/// Sets all of a place's workers to work, each in a thread of its own. What they drew together are the
+/// numbers of its tickets, each once.
+fn run_all<R: Threads + Wait + Sync, L: Ledger + Send + Sync, E: Pieces + Send + Sync, G: Gate>(
     alloc: Global,
     rt: &R,
-    shared: &Shared<'_, L, E, G>,
-    jobs: Vec<Job<L>>,
+    place: &Workplace<'_, L, E, G>,
+    workers: Vec<Worker<'_, L, E, G>>,
 ) -> Result<Drawn, AllocError>
-    requires tie { E.pieces ≡ Some (segments_of shared.now.evidence.now.partitions) }
-    requires some { (1 ≤ vec_len jobs) × (vec_len jobs ≡ shared.now.tickets.now.workers) }
-    requires ready { All (λ job. (job.seat.of ≡ shared.now.tickets.now) × (job.seat.is_done ≡ false)) jobs.items }
-    requires pieces { shared.now.tickets.now.count ≡ length (segments_of shared.now.evidence.now.partitions) }
-    ensures { IfOk result (AreBelow (length (segments_of shared.now.evidence.now.partitions))) }
+    requires all { (1 ≤ vec_len workers) × (vec_len workers ≡ place.now.workers) }
+    requires here { All (λ worker. worker ≡ place.now) workers.items }
+    ensures { IfOk result (AreBelow place.now.count) }
 {
     let seats = thread::map_vec(
         rt,
-        jobs,
-        &|job: Job<L>| -> Seat
-            requires { (job.seat.of ≡ shared.now.tickets.now) × (job.seat.is_done ≡ false) × (shared.now.tickets.now.count ≡ length (segments_of shared.now.evidence.now.partitions)) × (E.pieces ≡ Some (segments_of shared.now.evidence.now.partitions)) }
-            ensures { (result.of ≡ shared.entry.now.tickets.now) × (result.is_done ≡ true) }
-        { work(alloc, rt, shared, job) },
+        workers,
+        &|worker: Worker<'_, L, E, G>| -> Seat
+            ensures { (result.of ≡ worker.entry) × (result.is_done ≡ true) }
+        { worker.work(alloc, rt) },
     )?;
-    Ok(shared.tickets.gather(seats))
+    Ok(place.tickets.gather(seats))
 }
 
-/// The runs that so many workers make of the evidence, in piece order, beside what all workers drew: each piece once. A piece
-/// may be in none of the runs. Each has the segments of its pieces, by its type.
+/// The runs that the workers make of the evidence, in piece order, beside what all workers drew: each piece once. A piece may be in
+/// none of the runs. Each has the segments of its pieces, by its type.
 pub(crate) fn runs_of<
     R: Threads + Wait + Sync,
     L: Ledger + Send + Sync,
@@ -209,27 +246,24 @@ pub(crate) fn runs_of<
 >(
     alloc: Global,
     rt: &R,
-    task: &Task<'_, G>,
-    workers: Workers,
-    blank: Blank,
+    evidence: &TiedEvidence<'_, E>,
+    gate: &G,
+    staff: Staff<L>,
 ) -> Result<(Vec<Tied<E>>, Drawn), AllocError>
-    requires tie { E.pieces ≡ Some (segments_of task.now.evidence.now.partitions) }
-    requires name { blank.name ≡ L.name }
-    requires parts { (blank.parts ≡ L.parts) × (L.parts ≡ workers) }
-    ensures { IfOk result (λ r. AreBelow (length (segments_of task.now.evidence.now.partitions)) r.1) }
+    ensures { IfOk result (λ r. AreBelow (length (segments_of evidence.now.partitions)) r.1) }
 {
-    let evidence = task.evidence;
+    let Staff { workers, blank, .. } = staff;
     let count = workers.get();
-    let (tickets, seats) = Tickets::new(alloc, evidence.pieces(), count)?;
-    let (board, receipts) = Board::<L, E>::new(alloc, blank, evidence, count)?;
-    let jobs = jobs_of(alloc, &tickets, seats, receipts)?;
-    let board = Mutex::new(board);
-    let shared = Shared {
+    let (tickets, seats) = Tickets::new(alloc, evidence.evidence.pieces(), count)?;
+    let (board, receipts) = Board::<L, E>::new(alloc, blank, evidence.evidence, count)?;
+    let place = Workplace {
         evidence,
-        gate: task.gate,
-        tickets: &tickets,
-        board: &board,
+        gate,
+        tickets,
+        board: Mutex::new(board),
     };
-    let drawn = run_jobs(alloc, rt, &shared, jobs)?;
+    let workers = workers_of(alloc, &place, seats, receipts)?;
+    let drawn = run_all(alloc, rt, &place, workers)?;
+    let Workplace { board, .. } = place;
     Ok((board.into_inner().into_runs(), drawn))
 }

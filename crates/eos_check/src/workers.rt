@@ -7,17 +7,25 @@ ghost use Rattle.eos_evidence.specs.Evidence.{segments_of};
 
 use crate::one_thread::verdict_of;
 use crate::parts::parts_from;
-use crate::pool::{Task, runs_of};
+use crate::pool::{Staff, runs_of};
+use crate::tied_evidence::TiedEvidence;
 use crate::verdict::Verdict;
 use eos_board_core::{Gate, Pieces};
 use eos_evidence::Evidence;
 use eos_fold::Part;
 use eos_workers::Workers;
 use std::alloc::{AllocError, Global};
-use std::marker::Brand;
+use std::marker::{Brand, PhantomData};
 use std::sync::Wait;
 use std::sync::ledger::{Blank, Ledger};
 use std::thread::Threads;
+
+/// The evidence whose logs are folded, and the gate that each worker passes.
+#[derive(Drop)]
+struct Task<'t, G> {
+    evidence: &'t Evidence,
+    gate: &'t G,
+}
 
 /// The verdict of an evidence, as `check_one` gives it, by so many workers.
 ///
@@ -62,7 +70,7 @@ pub fn logs_of<R: Threads + Wait + Sync, G: Gate>(
     logs_by::<R, Brand, Brand, G>(alloc, rt, &task, workers, blank)
 }
 
-/// The same, by runs that are tied to the evidence's pieces.
+/// The same, by runs that are tied to the evidence's pieces, by `E`, and receipts of this ledger, by `L`: the call picks both.
 fn logs_by<R: Threads + Wait + Sync, L: Ledger + Send + Sync, E: Pieces + Send + Sync, G: Gate>(
     alloc: Global,
     rt: &R,
@@ -75,6 +83,15 @@ fn logs_by<R: Threads + Wait + Sync, L: Ledger + Send + Sync, E: Pieces + Send +
     requires parts { (blank.parts ≡ L.parts) × (L.parts ≡ workers) }
     ensures { IfOk result (λ logs. AreLogsOf task.now.evidence.now.partitions logs.items) }
 {
-    let (runs, _drawn) = runs_of::<R, L, E, G>(alloc, rt, task, workers, blank)?;
-    parts_from(alloc, task.evidence, runs)
+    let evidence = TiedEvidence {
+        evidence: task.evidence,
+        of: PhantomData,
+    };
+    let staff = Staff {
+        workers,
+        blank,
+        of: PhantomData,
+    };
+    let (runs, _drawn) = runs_of::<R, L, E, G>(alloc, rt, &evidence, task.gate, staff)?;
+    parts_from(alloc, &evidence, runs)
 }

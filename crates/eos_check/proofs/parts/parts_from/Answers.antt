@@ -12,7 +12,7 @@ part_of-requires-clause-few g c =
 
 pub part_of-requires-clause-at : goal.part_of-requires-clause-at
 part_of-requires-clause-at g c =
-    let pieces = c.requires ∙ ap (λ (ps : List Partition). Some (segments_of ps)) (sym c.partitions-partitions.ensures.value) in
+    let pieces = c.evidence.invariant ∙ ap (λ (ps : List Partition). Some (segments_of ps)) (sym c.partitions-partitions.ensures.value) in
     partition_at g.E.Pieces.pieces c.partitions-partitions.result.now c.loop-i.first c.loop-i.i c.index-partitions-i.result pieces c.loop-i-test.true c.index-partitions-i.is c.loop-i.invariant.0
 
 pub loop-i-preserved : goal.loop-i-preserved
