@@ -1,4 +1,4 @@
-use Rattle.std.proofs.Common.{◌≡◌, ◌++◌, ◌∷◌, [], ◌∙◌, refl, ap, List, ℕ, Bool, true, string_bytes}
+use Rattle.std.proofs.Common.{◌≡◌, ◌∷◌, [], refl, List, true}
 use Rattle.eos_text.proofs.Appended.{then}
 use Rattle.eos_catalogue.specs.Catalogue.{page_codes}
 use Rattle.eos_catalogue.specs.Kinds.{all_of, codes_of, have_briefs}
@@ -17,5 +17,5 @@ returns c =
       phases = phases;
       every = every;
       briefs = briefs;
-      adds = record { whole = all.whole ∙ ap (λ (l : List ℕ). _ ++ l) (five c.as_slice.result.now c.as_slice-2.result.now c.as_slice-3.result.now c.as_slice-4.result.now c.as_slice-5.result.now) };
+      adds = five c.as_slice.result.now c.as_slice-2.result.now c.as_slice-3.result.now c.as_slice-4.result.now c.as_slice-5.result.now all;
     }

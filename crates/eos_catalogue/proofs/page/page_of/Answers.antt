@@ -1,4 +1,4 @@
-use Rattle.std.proofs.Common.{◌≡◌, ℕ, ◌++◌, ◌∙◌, refl, sym, ap, Bor, Option, List, Some, None, Bool, true}
+use Rattle.std.proofs.Common.{◌≡◌, ℕ, ◌++◌, ◌∙◌, refl, sym, ap, Bor, Option, List, Some, None, true}
 use Rattle.std.specs.Option.{option_copied, option_or}
 use Rattle.eos_catalogue.specs.Catalogue.{page_codes}
 use Rattle.eos_catalogue.specs.Kinds.{codes_of, have_briefs}
