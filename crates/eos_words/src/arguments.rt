@@ -1,40 +1,7 @@
-//! The arguments of the subcommands.
+//! The arguments of the subcommands. Each table is lent by a function: a proof that saw all of them at once would compute too long.
 
+use crate::argument::{Argument, Form, Presence};
 use clap::builder::ValueParser;
-
-/// An argument of a subcommand.
-#[derive(Clone, Copy)]
-pub(crate) struct Argument {
-    /// The name by which it is asked for, and written where it isn't written alone.
-    pub(crate) name: &'static str,
-    pub(crate) help: &'static str,
-    pub(crate) presence: Presence,
-    pub(crate) form: Form,
-}
-
-/// Whether an argument has to be there.
-#[derive(Clone, Copy)]
-pub(crate) enum Presence {
-    Required,
-    Optional,
-    /// Not this one; and beside it none of these may stand, of which one that has to be there may then be left out.
-    Without(&'static [&'static str]),
-}
-
-/// How an argument is written, with what help shows for its value.
-#[derive(Clone, Copy)]
-pub(crate) enum Form {
-    /// Alone.
-    Alone(&'static str),
-    /// Alone, once or more often, and none of them empty.
-    Several(&'static str),
-    /// After two hyphens.
-    Flag,
-    /// After two hyphens, and then such a value.
-    Valued(&'static str, ValueParser<'static>),
-    /// The same, as often as wanted.
-    Repeated(&'static str, ValueParser<'static>),
-}
 
 const SWITCHES: &[&str] = &[
     "keep-duplicates",
@@ -102,7 +69,7 @@ const ONE_FOLDER: Argument = Argument {
     form: Form::Alone("FOLDER"),
 };
 
-pub(crate) static CHECK_ARGUMENTS: [Argument; 7] = [
+static CHECK_ARGUMENTS: [Argument; 7] = [
     WORKERS,
     Argument {
         name: "json",
@@ -142,7 +109,11 @@ pub(crate) static CHECK_ARGUMENTS: [Argument; 7] = [
     },
 ];
 
-pub(crate) static DUMP_ARGUMENTS: [Argument; 6] = [
+pub(crate) fn check_arguments() -> &'static [Argument] {
+    CHECK_ARGUMENTS.as_slice()
+}
+
+static DUMP_ARGUMENTS: [Argument; 6] = [
     Argument {
         name: "headers",
         help: "Prints below each record its timestamp and headers",
@@ -176,9 +147,17 @@ pub(crate) static DUMP_ARGUMENTS: [Argument; 6] = [
     FILE,
 ];
 
-pub(crate) static CHAIN_ARGUMENTS: [Argument; 1] = [FILE];
+pub(crate) fn dump_arguments() -> &'static [Argument] {
+    DUMP_ARGUMENTS.as_slice()
+}
 
-pub(crate) static EXPLAIN_ARGUMENTS: [Argument; 4] = [
+static CHAIN_ARGUMENTS: [Argument; 1] = [FILE];
+
+pub(crate) fn chain_arguments() -> &'static [Argument] {
+    CHAIN_ARGUMENTS.as_slice()
+}
+
+static EXPLAIN_ARGUMENTS: [Argument; 4] = [
     Argument {
         name: "code",
         help: "The code of a kind of fault, such as 5.10; no FOLDER",
@@ -190,7 +169,11 @@ pub(crate) static EXPLAIN_ARGUMENTS: [Argument; 4] = [
     ONE_FOLDER,
 ];
 
-pub(crate) static DRAW_ARGUMENTS: [Argument; 4] = [
+pub(crate) fn explain_arguments() -> &'static [Argument] {
+    EXPLAIN_ARGUMENTS.as_slice()
+}
+
+static DRAW_ARGUMENTS: [Argument; 4] = [
     FAULT,
     Argument {
         name: "around",
@@ -207,7 +190,11 @@ pub(crate) static DRAW_ARGUMENTS: [Argument; 4] = [
     },
 ];
 
-pub(crate) static INIT_ARGUMENTS: [Argument; 5] = [
+pub(crate) fn draw_arguments() -> &'static [Argument] {
+    DRAW_ARGUMENTS.as_slice()
+}
+
+static INIT_ARGUMENTS: [Argument; 5] = [
     Argument {
         name: "version1",
         help: "Wants a manifest of version 1, which takes one --app",
@@ -240,7 +227,11 @@ pub(crate) static INIT_ARGUMENTS: [Argument; 5] = [
     },
 ];
 
-pub(crate) static SIMULATE_ARGUMENTS: [Argument; 22] = [
+pub(crate) fn init_arguments() -> &'static [Argument] {
+    INIT_ARGUMENTS.as_slice()
+}
+
+static SIMULATE_ARGUMENTS: [Argument; 22] = [
     Argument {
         name: "seed",
         help: "What the script is drawn from, 0 to 2^64 - 1",
@@ -374,3 +365,7 @@ pub(crate) static SIMULATE_ARGUMENTS: [Argument; 22] = [
         form: Form::Alone("FOLDER"),
     },
 ];
+
+pub(crate) fn simulate_arguments() -> &'static [Argument] {
+    SIMULATE_ARGUMENTS.as_slice()
+}

@@ -1,11 +1,11 @@
 //! The command line, and how its words are read.
 
-use crate::arguments::{Argument, Form, Presence};
+use crate::argument::{Argument, Form, Presence};
 use crate::help::{ABOUT, CHECK_ANSWERS, STATUSES};
 use crate::request::{
     Answer, Check, Draw, Explain, Init, Listing, NoRequest, Request, Simulation, Sizes, Thousandths,
 };
-use crate::subcommands::{SUBCOMMANDS, Subcommand};
+use crate::subcommands::Subcommand;
 use clap::builder::ValueParser;
 use clap::error::{Error, ErrorKind};
 use clap::{Arg, ArgAction, ArgMatches, Command};
@@ -85,17 +85,25 @@ fn explain<R: Print + Eprint>(rt: &R, e: &Error) -> NoRequest {
 
 /// The command line of the program.
 fn make_command<'a>(alloc: Global, details: &'a str) -> Result<Command<'a>, AllocError> {
-    let subcommands = make_subcommands(alloc, details)?;
+    let made = make_subcommands(alloc, details)?;
     Command::new(alloc, "eoscheck")
         .version(VERSION)
         .about(ABOUT)
         .after_help(STATUSES)
-        .subcommands(subcommands)
+        .subcommands(made)
 }
 
 fn make_subcommands<'a>(alloc: Global, details: &'a str) -> Result<Vec<Command<'a>>, AllocError> {
     let mut made = Vec::new(alloc);
-    for it in &SUBCOMMANDS {
+    for it in [
+        Subcommand::Check,
+        Subcommand::Dump,
+        Subcommand::Chain,
+        Subcommand::Explain,
+        Subcommand::Draw,
+        Subcommand::Init,
+        Subcommand::Simulate,
+    ] {
         made.push(make_subcommand(alloc, it, details)?)?;
     }
     Ok(made)
@@ -103,16 +111,16 @@ fn make_subcommands<'a>(alloc: Global, details: &'a str) -> Result<Vec<Command<'
 
 fn make_subcommand<'a>(
     alloc: Global,
-    it: &Subcommand,
+    it: Subcommand,
     details: &'a str,
 ) -> Result<Command<'a>, AllocError> {
     let mut arguments = Vec::new(alloc);
-    for argument in it.arguments {
+    for argument in it.arguments() {
         arguments.push(make_argument(alloc, argument)?)?;
     }
-    Command::new(alloc, it.name)
-        .about(it.about)
-        .after_help(it.details.unwrap_or(details))
+    Command::new(alloc, it.name())
+        .about(it.about())
+        .after_help(it.details().unwrap_or(details))
         .args(arguments)
 }
 

@@ -1,6 +1,7 @@
 //! The words of the command line: what they ask for, and what help says.
 #![tactic(auto)]
 
+mod argument;
 mod arguments;
 mod command;
 mod help;

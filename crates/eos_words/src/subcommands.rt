@@ -1,8 +1,9 @@
 //! The subcommands.
 
+use crate::argument::Argument;
 use crate::arguments::{
-    Argument, CHAIN_ARGUMENTS, CHECK_ARGUMENTS, DRAW_ARGUMENTS, DUMP_ARGUMENTS, EXPLAIN_ARGUMENTS,
-    INIT_ARGUMENTS, SIMULATE_ARGUMENTS,
+    chain_arguments, check_arguments, draw_arguments, dump_arguments, explain_arguments,
+    init_arguments, simulate_arguments,
 };
 use crate::help::{
     CHAIN, CHAIN_ANSWERS, CHECK, DRAW, DRAW_SHOWS, DUMP, DUMP_COLUMNS, EXPLAIN, EXPLAIN_SAYS, INIT,
@@ -11,57 +12,65 @@ use crate::help::{
 
 /// A subcommand.
 #[derive(Clone, Copy)]
-pub(crate) struct Subcommand {
-    pub(crate) name: &'static str,
-    /// What it does, in one sentence.
-    pub(crate) about: &'static str,
-    /// What its help says below the arguments, where that isn't made of the catalogue of faults.
-    pub(crate) details: Option<&'static str>,
-    /// In the order of its help.
-    pub(crate) arguments: &'static [Argument],
+pub(crate) enum Subcommand {
+    Check,
+    Dump,
+    Chain,
+    Explain,
+    Draw,
+    Init,
+    Simulate,
 }
 
-pub(crate) static SUBCOMMANDS: [Subcommand; 7] = [
-    Subcommand {
-        name: "check",
-        about: CHECK,
-        details: None,
-        arguments: &CHECK_ARGUMENTS,
-    },
-    Subcommand {
-        name: "dump",
-        about: DUMP,
-        details: Some(DUMP_COLUMNS),
-        arguments: &DUMP_ARGUMENTS,
-    },
-    Subcommand {
-        name: "chain",
-        about: CHAIN,
-        details: Some(CHAIN_ANSWERS),
-        arguments: &CHAIN_ARGUMENTS,
-    },
-    Subcommand {
-        name: "explain",
-        about: EXPLAIN,
-        details: Some(EXPLAIN_SAYS),
-        arguments: &EXPLAIN_ARGUMENTS,
-    },
-    Subcommand {
-        name: "draw",
-        about: DRAW,
-        details: Some(DRAW_SHOWS),
-        arguments: &DRAW_ARGUMENTS,
-    },
-    Subcommand {
-        name: "init",
-        about: INIT,
-        details: Some(INIT_WRITES),
-        arguments: &INIT_ARGUMENTS,
-    },
-    Subcommand {
-        name: "simulate",
-        about: SIMULATE,
-        details: Some(SIMULATE_WRITES),
-        arguments: &SIMULATE_ARGUMENTS,
-    },
-];
+impl Subcommand {
+    pub(crate) fn name<'a>(self) -> &'a str {
+        match self {
+            Subcommand::Check => "check",
+            Subcommand::Dump => "dump",
+            Subcommand::Chain => "chain",
+            Subcommand::Explain => "explain",
+            Subcommand::Draw => "draw",
+            Subcommand::Init => "init",
+            Subcommand::Simulate => "simulate",
+        }
+    }
+
+    /// What it does, in one sentence.
+    pub(crate) fn about<'a>(self) -> &'a str {
+        match self {
+            Subcommand::Check => CHECK,
+            Subcommand::Dump => DUMP,
+            Subcommand::Chain => CHAIN,
+            Subcommand::Explain => EXPLAIN,
+            Subcommand::Draw => DRAW,
+            Subcommand::Init => INIT,
+            Subcommand::Simulate => SIMULATE,
+        }
+    }
+
+    /// What its help says below the arguments, where that isn't made of the catalogue of faults.
+    pub(crate) fn details<'a>(self) -> Option<&'a str> {
+        match self {
+            Subcommand::Check => None,
+            Subcommand::Dump => Some(DUMP_COLUMNS),
+            Subcommand::Chain => Some(CHAIN_ANSWERS),
+            Subcommand::Explain => Some(EXPLAIN_SAYS),
+            Subcommand::Draw => Some(DRAW_SHOWS),
+            Subcommand::Init => Some(INIT_WRITES),
+            Subcommand::Simulate => Some(SIMULATE_WRITES),
+        }
+    }
+
+    /// Its arguments, in the order of its help.
+    pub(crate) fn arguments(self) -> &'static [Argument] {
+        match self {
+            Subcommand::Check => check_arguments(),
+            Subcommand::Dump => dump_arguments(),
+            Subcommand::Chain => chain_arguments(),
+            Subcommand::Explain => explain_arguments(),
+            Subcommand::Draw => draw_arguments(),
+            Subcommand::Init => init_arguments(),
+            Subcommand::Simulate => simulate_arguments(),
+        }
+    }
+}

@@ -1,0 +1,37 @@
+//! What is said of an argument.
+
+use clap::builder::ValueParser;
+
+/// An argument of a subcommand.
+#[derive(Clone, Copy)]
+pub(crate) struct Argument {
+    /// The name by which it is asked for, and written where it isn't written alone.
+    pub(crate) name: &'static str,
+    pub(crate) help: &'static str,
+    pub(crate) presence: Presence,
+    pub(crate) form: Form,
+}
+
+/// Whether an argument has to be there.
+#[derive(Clone, Copy)]
+pub(crate) enum Presence {
+    Required,
+    Optional,
+    /// Not this one; and beside it none of these may stand, of which one that has to be there may then be left out.
+    Without(&'static [&'static str]),
+}
+
+/// How an argument is written, with what help shows for its value.
+#[derive(Clone, Copy)]
+pub(crate) enum Form {
+    /// Alone.
+    Alone(&'static str),
+    /// Alone, once or more often, and none of them empty.
+    Several(&'static str),
+    /// After two hyphens.
+    Flag,
+    /// After two hyphens, and then such a value.
+    Valued(&'static str, ValueParser<'static>),
+    /// The same, as often as wanted.
+    Repeated(&'static str, ValueParser<'static>),
+}
