@@ -1,5 +1,7 @@
 pub mod ItemsUnder
+pub mod HeadPlaces
 pub mod ItemsWanted
 pub mod RecordsKept
 pub mod RecordsLent
+pub mod RecordsSaid
 pub mod PartsMade

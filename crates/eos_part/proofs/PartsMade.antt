@@ -1,6 +1,7 @@
 -- A partition, made of the front of its segments and of what is kept of its records.
-use Rattle.std.proofs.Common.{◌≡◌, ◌≢◌, ◌↔◌, ℕ, ℤ, List, [], ◌∷◌, map, not, Option, Some, None, refl, sym, ap, subst, ◌∙◌, arith}
+use Rattle.std.proofs.Common.{◌≡◌, ◌≢◌, ◌↔◌, ℕ, ℤ, List, [], ◌∷◌, length, map, not, Option, Some, None, refl, sym, ap, subst, ◌∙◌, arith}
 use Rattle.std.specs.Prelude.{All}
+use Rattle.std.proofs.lemmas.List.{length-map}
 use Rattle.eos_base.specs.Members.{Has}
 use Rattle.eos_batch.specs.declared.batch.Batch.{Batch}
 use Rattle.eos_batch.specs.declared.marker.Marker.{Marker}
@@ -52,11 +53,12 @@ use Rattle.eos_wanted.proofs.ClaimHeaders.{back}
 use Rattle.eos_part.specs.declared.records.Records.{Records}
 use Rattle.eos_part.specs.Parts.{AreKept, IsWantedPart}
 use Rattle.eos_part.specs.steps.Closes.{closes_under}
-use Rattle.eos_part.specs.steps.Fronts.{AreRead, IsWholeFront, AreWhole, IsChecked, IsApart}
+use Rattle.eos_part.specs.steps.Fronts.{records_of, AreRead, IsWholeFront, AreWhole, IsChecked, IsApart}
 use Rattle.eos_part.specs.Items.{items_under, Fits}
-use Rattle.eos_part.specs.Records.{output_record, records_in}
+use Rattle.eos_part.specs.Records.{output_record, records_in, SayClaims}
 use Rattle.eos_part.proofs.ItemsWanted.{items_wanted}
 use Rattle.eos_part.proofs.RecordsKept.{kept_records, kept_all, heads_fit, closes_told}
+use Rattle.eos_part.proofs.RecordsSaid.{all_said, items_length}
 
 -- ---- the least fault: the front's summary has the same
 
@@ -143,6 +145,16 @@ module _ (w : Wanted) (segments : List Segment) (f : Front) (kept : Records) (m 
       let b = m.whole.begin in
       let l = m.whole.keeps.fits in
       subst (λ (hs : List DataHead). All Fits hs) (sym all_heads) (heads_fit 0 m.batches continues (omega (arith, n, b, l)))
+
+  pub said_so : SayClaims (records_in kept)
+  said_so = subst SayClaims (sym m.wanted) (all_said w (records_of (data_in m.batches)))
+
+  pub whole_so : length (items_under heads 0 (records_in kept)) ≡ length (records_in kept)
+  whole_so =
+      let ds = data_in m.batches in
+      let told = ap length items_told in
+      let kept_so = ap length m.wanted in
+      omega (arith, told, kept_so, length-map (items_of ds) (wanted_item w), length-map (records_of ds) (wanted_record w), items_length ds)
 
   pub part_made : (end : End) (closes : List Close) (markers : List Marker) (fault : Option PartitionFault) → AreCloses (closes_under heads) closes → markers ≡ f.markers.items
       → IsPartitionFault end.topic end.partition end.end m.batches f.stop fault

@@ -1,9 +1,11 @@
 -- The records that are kept, each with what is wanted of it.
-use Rattle.std.specs.Prelude.{ℕ, List, None, map, All, ⊤}
+use Rattle.std.specs.Prelude.{◌≡◌, ℕ, List, None, map, All, ⊤}
 use Rattle.eos_batch.specs.declared.record.Record.{Record}
+use Rattle.eos_claims.specs.Headers.{claim_of}
 use Rattle.eos_keeping.specs.declared.output.KeptOutput.{KeptOutput}
 use Rattle.eos_keeping.specs.Outputs.{claim_kept}
 use Rattle.eos_keeping.specs.Records.{record_of, ReadsBack}
+use Rattle.eos_wanted.specs.Wanted.{wanted_headers}
 use Rattle.eos_part.specs.declared.records.Records.{Records}
 use Rattle.eos_part.specs.declared.records.Records.TheVariants.{Presence, Claims, Texts}
 
@@ -21,3 +23,10 @@ abbrev pub ReadBack : Records → Type 0
 ReadBack (Presence kept) = ⊤
 ReadBack (Claims topics kept) = All (λ one. ReadsBack (claim_kept topics.items one)) kept.items
 ReadBack (Texts kept) = ⊤
+
+-- a record's headers say its claim, and nothing else
+abbrev pub SaysClaim : Record → Type 0
+SaysClaim r = r.headers ≡ wanted_headers (claim_of r.headers)
+
+abbrev pub SayClaims : List Record → Type 0
+SayClaims rs = All SaysClaim rs

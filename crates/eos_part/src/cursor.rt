@@ -4,7 +4,7 @@ ghost use Rattle.std.specs.Prelude.{◌≡◌, ◌<◌, [], ◌∷◌, List, All
 ghost use Rattle.eos_batch.specs.declared.record.Record.{Record};
 ghost use Rattle.eos_items.specs.declared.head.DataHead.{DataHead};
 ghost use Rattle.eos_part.specs.Items.{items_under, Fits};
-ghost use Rattle.eos_part.specs.Records.{records_in, ReadBack};
+ghost use Rattle.eos_part.specs.Records.{records_in, ReadBack, SayClaims};
 
 use crate::item::KeptItem;
 use crate::records::Records;
@@ -28,13 +28,13 @@ impl<'a> Model for KeptCursor<'a> {
     ghost use Rattle.std.specs.Prelude.{List, All, drop};
     ghost use Rattle.eos_items.specs.declared.item.Item.{Item};
     ghost use Rattle.eos_part.specs.Items.{items_under, Fits};
-    ghost use Rattle.eos_part.specs.Records.{records_in, ReadBack};
+    ghost use Rattle.eos_part.specs.Records.{records_in, ReadBack, SayClaims};
 
     ghost Value = { List Item };
 
     ghost view = { λ c. items_under (drop c.head c.heads.now) c.place (drop c.passed (records_in c.records.now)) };
 
-    ghost invariant = { λ c. All Fits c.heads.now × ReadBack c.records.now };
+    ghost invariant = { λ c. All Fits c.heads.now × ReadBack c.records.now × SayClaims (records_in c.records.now) };
 }
 
 /// The same place, named by the batch of its record, or the end.
@@ -58,6 +58,7 @@ impl<'a> KeptCursor<'a> {
     pub(crate) fn new(heads: &'a [DataHead], records: &'a Records) -> KeptCursor<'a>
         requires fits { All Fits heads.now }
         requires claims { ReadBack records.now }
+        requires said { SayClaims (records_in records.now) }
         ensures { result ≡ items_under heads.now 0 (records_in records.now) }
     {
         KeptCursor {

@@ -1,13 +1,17 @@
 //! A data record of a partition's log, with what is kept of it.
 
-ghost use Rattle.std.specs.Prelude.{◌≡◌, ◌<◌, ◌≤◌, option_map};
+ghost use Rattle.std.specs.Prelude.{◌≡◌, ◌<◌, ◌≤◌, option_map, IfOk};
 ghost use Rattle.eos_claims.specs.Headers.{claim_of};
 ghost use Rattle.eos_claims.specs.Slots.{plain_claim};
 ghost use Rattle.eos_part.specs.Items.{item_at, Fits};
+ghost use Rattle.eos_part.specs.Records.{SaysClaim};
 
+use crate::headers::headers_of;
+use bytes::Bytes;
 use eos_claims::ClaimRef;
-use eos_items::{DataHead, Fate};
+use eos_items::{DataHead, Fate, Item};
 use eos_keeping::KeptRecord;
+use std::alloc::{AllocError, Global};
 use std::marker::Model;
 
 /// A data record with what is kept of it, lent, which contracts see as an `Item` that has no more than that.
@@ -21,10 +25,23 @@ pub struct KeptItem<'a> {
 
 impl<'a> Model for KeptItem<'a> {
     ghost use Rattle.eos_items.specs.declared.item.Item.{Item};
+    ghost use Rattle.eos_part.specs.Records.{SaysClaim};
 
     ghost Value = { Item };
 
     ghost view = { λ i. record { offset = i.offset; fate = i.fate; writer = i.writer; key = i.kept.key; value = i.kept.value; headers = i.kept.headers } };
+
+    ghost invariant = { λ i. SaysClaim i.kept };
+}
+
+/// A copy of a text's bytes.
+fn copy_of(alloc: Global, text: Option<&[u8]>) -> Result<Option<Bytes>, AllocError>
+    ensures { IfOk result (λ copy. copy ≡ option_map (λ s. s.now) text.entry) }
+{
+    match text {
+        None => Ok(None),
+        Some(text) => Ok(Some(Bytes::copy_from_slice(alloc, text)?)),
+    }
 }
 
 impl<'a> KeptItem<'a> {
@@ -32,6 +49,7 @@ impl<'a> KeptItem<'a> {
     pub(crate) fn new(head: &DataHead, place: usize, kept: KeptRecord<'a>) -> KeptItem<'a>
         requires fits { Fits head.now }
         requires inside { place < head.now.count }
+        requires said { SaysClaim kept }
         ensures { result ≡ item_at head.now place kept.entry }
     {
         KeptItem {
@@ -80,5 +98,21 @@ impl<'a> KeptItem<'a> {
         ensures { option_map plain_claim result ≡ claim_of self.now.headers }
     {
         self.kept.claim()
+    }
+    /// The same as a value of its own, whose headers are those that say its claim.
+    ///
+    /// # Errors
+    /// Only want of memory.
+    pub fn to_item(&self, alloc: Global) -> Result<Item, AllocError>
+        ensures { IfOk result (λ item. item ≡ self.now) }
+    {
+        Ok(Item {
+            offset: self.offset,
+            fate: self.fate,
+            writer: self.writer,
+            key: copy_of(alloc, self.kept.key())?,
+            value: copy_of(alloc, self.kept.value())?,
+            headers: headers_of(alloc, self.kept.claim())?,
+        })
     }
 }

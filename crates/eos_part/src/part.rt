@@ -14,14 +14,13 @@ ghost use Rattle.eos_wanted.specs.declared.wanted.Wanted.TheVariants.{Presence, 
 
 use crate::apart::apart;
 use crate::close::closes_of;
-use crate::cursor::KeptCursor;
+use crate::items::KeptItems;
 use crate::records::Records;
 use crate::whole::{least_fault, of_all};
 use bytes::Bytes;
 use eos_batch::Marker;
 use eos_evidence::End;
 use eos_fold::Close;
-use eos_items::DataHead;
 use eos_keeping::{KeptOutput, KeptText};
 use eos_kept::{Front, Kept};
 use eos_touch::PartitionFault;
@@ -32,23 +31,20 @@ use std::marker::Model;
 #[derive(Drop)]
 pub struct Part {
     end: End,
-    heads: Vec<DataHead>,
-    records: Records,
+    items: KeptItems,
     closes: Vec<Close>,
     markers: Vec<Marker>,
 }
 
 impl Model for Part {
-    ghost use Rattle.std.specs.Prelude.{[], All};
+    ghost use Rattle.std.specs.Prelude.{[]};
     ghost use Rattle.eos_fold.specs.Parts.{PartLog, Rises, Ascends};
-    ghost use Rattle.eos_part.specs.Items.{items_under, Fits};
-    ghost use Rattle.eos_part.specs.Records.{records_in, ReadBack};
 
     ghost Value = { PartLog };
 
-    ghost view = { λ p. record { topic = p.end.topic; number = p.end.partition; end = p.end.end; segments = []; items = items_under p.heads.items 0 (records_in p.records); closes = p.closes.items; markers = p.markers.items } };
+    ghost view = { λ p. record { topic = p.end.topic; number = p.end.partition; end = p.end.end; segments = []; items = p.items; closes = p.closes.items; markers = p.markers.items } };
 
-    ghost invariant = { λ p. Rises (items_under p.heads.items 0 (records_in p.records)) × Ascends p.closes.items × All Fits p.heads.items × ReadBack p.records };
+    ghost invariant = { λ p. Rises p.items × Ascends p.closes.items };
 }
 
 /// The log of a partition that is declared to end here, of a front and what is kept of its records, and the least fault.
@@ -69,8 +65,7 @@ fn made(
     let closes = closes_of(alloc, heads.as_slice())?;
     let part = Part {
         end,
-        heads,
-        records: kept,
+        items: KeptItems::new(heads, kept),
         closes,
         markers,
     };
@@ -149,12 +144,12 @@ impl Part {
         self.end.end
     }
 
-    /// Over the data records, by offset, each lent.
-    pub fn items(&self) -> KeptCursor<'_>
-        ensures items { result ≡ self.now.items }
+    /// The data records, by offset.
+    pub fn items(&self) -> &KeptItems
+        ensures items { result.now ≡ self.now.items }
         ensures rise { Rises self.now.items }
     {
-        KeptCursor::new(self.heads.as_slice(), &self.records)
+        &self.items
     }
 
     /// Of each transactional data batch and its next end marker, each unequal four once, in ascending order.

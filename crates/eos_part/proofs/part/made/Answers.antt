@@ -1,20 +1,39 @@
-use Rattle.std.proofs.Common.{◌≡◌, ℕ, List, refl, sym, subst}
+use Rattle.std.proofs.Common.{◌≡◌, ℕ, List, [], refl, sym, subst}
+use Rattle.eos_fold.specs.Parts.{PartLog, Rises}
 use Rattle.eos_fold.specs.Standing.{IsPartitionFault, AreOf}
 use Rattle.eos_fold.specs.steps.Whole.{AreCloses}
 use Rattle.eos_items.specs.declared.head.DataHead.{DataHead}
 use Rattle.eos_part.specs.steps.Closes.{closes_under}
 use Rattle.eos_part.specs.steps.Fronts.{IsChecked}
-use Rattle.eos_part.proofs.PartsMade.{items_rise_so, heads_fit_so, part_made}
+use Rattle.eos_items.specs.declared.item.Item.{Item}
+use Rattle.eos_part.specs.Parts.{IsWantedPart}
+use Rattle.eos_part.proofs.PartsMade.{items_rise_so, heads_fit_so, said_so, whole_so, part_made}
 use Rattle.eos_part.proofs.part.made.Goals as goal
+
+pub new-requires-clause-fits : goal.new-requires-clause-fits
+new-requires-clause-fits c =
+    let known = c.requires.known in
+    let m = c.of_all-front.ensures.whole known.0 known.1 known.2 in
+    heads_fit_so known.0 known.1 c.of_all-front.result c.of_all-front.new.kept m c.into_heads-heads.result.items c.into_heads-heads.ensures
+
+pub new-requires-clause-said : goal.new-requires-clause-said
+new-requires-clause-said c =
+    let known = c.requires.known in
+    let m = c.of_all-front.ensures.whole known.0 known.1 known.2 in
+    said_so known.0 known.1 c.of_all-front.result c.of_all-front.new.kept m c.into_heads-heads.result.items c.into_heads-heads.ensures
+
+pub new-requires-clause-whole : goal.new-requires-clause-whole
+new-requires-clause-whole c =
+    let known = c.requires.known in
+    let m = c.of_all-front.ensures.whole known.0 known.1 known.2 in
+    whole_so known.0 known.1 c.of_all-front.result c.of_all-front.new.kept m c.into_heads-heads.result.items c.into_heads-heads.ensures
 
 pub invariant_of-part : goal.invariant_of-part
 invariant_of-part c =
     let known = c.requires.known in
-    let f = c.of_all-front.result in
-    let kept = c.of_all-front.new.kept in
-    let heads = c.into_heads-heads.result.items in
     let m = c.of_all-front.ensures.whole known.0 known.1 known.2 in
-    (items_rise_so known.0 known.1 f kept m heads c.into_heads-heads.ensures, c.in_ok-closes.ensures.ascend, heads_fit_so known.0 known.1 f kept m heads c.into_heads-heads.ensures, c.of_all-front.ensures.claims)
+    let rise = items_rise_so known.0 known.1 c.of_all-front.result c.of_all-front.new.kept m c.into_heads-heads.result.items c.into_heads-heads.ensures in
+    (subst Rises (sym c.new.ensures) rise, c.in_ok-closes.ensures.ascend)
 
 pub returns : goal.returns
 returns c = λ w segments read of.
@@ -28,5 +47,7 @@ returns c = λ w segments read of.
     let closes = subst (λ (hs : List DataHead). AreCloses (closes_under hs) c.in_ok-closes.closes.items) c.as_slice-2.ensures.value c.in_ok-closes.ensures in
     let cloned : c.in_ok-clone.field-0 ≡ end.topic = c.in_ok-clone.ensures.cases in
     let least = c.least_fault-fault.ensures segments m.batches m.whole (subst (λ (t : List ℕ). IsChecked t f) (sym cloned) checked) in
-    part_made w segments f kept m heads c.into_heads-heads.ensures end c.in_ok-closes.closes.items f.markers.items c.least_fault-fault.result closes refl
-    (subst (λ (t : List ℕ). IsPartitionFault t end.partition end.end m.batches f.stop c.least_fault-fault.result) cloned least)
+    let part : List Item → PartLog = λ items. record { topic = end.topic; number = end.partition; end = end.end; segments = []; items = items; closes = c.in_ok-closes.closes.items; markers = f.markers.items } in
+    subst (λ (items : List Item). IsWantedPart w end segments (part items) c.least_fault-fault.result) (sym c.new.ensures)
+    (part_made w segments f kept m heads c.into_heads-heads.ensures end c.in_ok-closes.closes.items f.markers.items c.least_fault-fault.result closes refl
+    (subst (λ (t : List ℕ). IsPartitionFault t end.partition end.end m.batches f.stop c.least_fault-fault.result) cloned least))

@@ -6,6 +6,7 @@ use Rattle.eos_items.specs.declared.item.Item.{Item}
 use Rattle.eos_part.specs.Items.{items_under}
 use Rattle.eos_part.specs.Records.{records_in}
 use Rattle.eos_part.proofs.ItemsUnder.{past, used_up, taken}
+use Rattle.eos_part.proofs.RecordsSaid.{said_at}
 use Rattle.eos_part.proofs.cursor.KeptCursor.next.Goals.{then-head-heads-via-then-head-heads, then-head-heads-via-else-head-heads+then-passed-len}
 use Rattle.eos_part.proofs.cursor.KeptCursor.next.Goals as goal
 
@@ -41,6 +42,9 @@ new-requires-clause-inside c =
     let k = c.skip_ended-head.result.0 in
     let lt : k < length heads = omega (arith, c.if-head-heads.false) in
     c.skip_ended-head.ensures.inside (slice_index_or heads k none) (slice_get-get_or heads k none lt)
+
+pub new-requires-clause-said : goal.new-requires-clause-said
+new-requires-clause-said c = said_at (records_in c.self.inside.records.now) c.self.inside.passed c.view.result c.view.ensures c.self.invariant.2
 
 pub returns-clause-some : goal.returns-clause-some
 returns-clause-some c =
