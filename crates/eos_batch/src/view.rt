@@ -24,19 +24,20 @@ use std::marker::Model;
 ///
 /// # Errors
 /// Want of memory, or the first test that fails where no record stands there.
-#[tactic(auto, unfolding(crate::specs::Places::found_at, crate::specs::Places::whole_at, crate::specs::Reading::body_at))]
+#[tactic(auto, unfolding(crate::specs::Places::found_at, crate::specs::Places::whole_at, crate::specs::Reading::body_at, crate::specs::steps::Places::parts_at))]
 pub fn own_record(alloc: Global, bytes: &Bytes, at: usize) -> Result<Record, BatchFault>
     requires { at ≤ length bytes.now }
     ensures { Answers result (found_at at bytes.now) }
 {
     let mut all = Cursor::starting_at(bytes, at);
-    let mut rest = read_bytes(&mut all)?;
-    let attributes = rest.i8().ok_or(BatchFault::Record)?;
-    let timestamp_delta = read_long(&mut rest)?;
-    let _delta = read_int(&mut rest)?;
-    let key = read_optional(&mut rest)?;
-    let value = read_optional(&mut rest)?;
-    let count = read_count(&mut rest)?;
+    let Parts {
+        attributes,
+        timestamp_delta,
+        key,
+        value,
+        count,
+        mut rest,
+    } = parts_of(read_bytes(&mut all)?)?;
     let headers = headers_of(alloc, &mut rest, count)?;
     if !rest.is_empty() {
         return Err(BatchFault::Record);
@@ -61,6 +62,7 @@ struct Parts<'a> {
     rest: Cursor<'a>,
 }
 
+#[inline(always)]
 #[tactic(auto, unfolding(crate::specs::steps::Places::parts_at))]
 fn parts_of<'a>(mut rest: Cursor<'a>) -> Result<Parts<'a>, BatchFault>
     ensures gives { Answers result (parts_at rest.entry) }

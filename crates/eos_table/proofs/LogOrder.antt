@@ -1,5 +1,6 @@
 -- The order of the faults of the log is total, and only equal faults are tied in it.
-use Rattle.std.proofs.Common.{refl, ap}
+use Rattle.std.proofs.Common.{◌≡◌, refl, ap}
+use Rattle.std.specs.declared.cmp.Ordering.TheVariants.{Less, Equal, Greater}
 use Rattle.std.specs.Ordering.{nat_cmp, int_cmp}
 use Rattle.std.specs.Cmp.{IsTotalOrder}
 use Rattle.std.specs.Cmp.Lexicographic.{slice_cmp}
@@ -12,6 +13,12 @@ use Rattle.eos_table.specs.declared.log_fault.LogFaultKind.TheVariants.{BadRecor
 use Rattle.eos_table.specs.contracts.log_fault.LogFaultKindOrd.TheImpl.{ghosts as kind_ghosts}
 use Rattle.eos_table.specs.contracts.log_fault.LogFaultOrd.TheImpl.Laws.{total-law}
 use Rattle.eos_table.specs.LogFaults.{log_cmp}
+
+less_apart : {X : Type 0} → Less ≡ Equal → X
+less_apart e = absurd cc
+
+greater_apart : {X : Type 0} → Greater ≡ Equal → X
+greater_apart e = absurd cc
 
 why_exact : IsExact why_ghosts.cmp
 why_exact steps.Order steps.Order e = refl
@@ -29,7 +36,26 @@ kind_exact (Step a v) (Step b w) e =
 kind_exact (SplitId a) (SplitId b) e = ap SplitId (bytes_exact a b e)
 kind_exact (SharedProducer a) (SharedProducer b) e = ap SharedProducer (bytes_exact a b e)
 kind_exact (Unfinished a) (Unfinished b) e = ap Unfinished (bytes_exact a b e)
-kind_exact k l e = absurd cc
+kind_exact (BadRecord a) (Step b bw) e = less_apart e
+kind_exact (BadRecord a) (SplitId b) e = less_apart e
+kind_exact (BadRecord a) (SharedProducer b) e = less_apart e
+kind_exact (BadRecord a) (Unfinished b) e = less_apart e
+kind_exact (Step a aw) (BadRecord b) e = greater_apart e
+kind_exact (Step a aw) (SplitId b) e = less_apart e
+kind_exact (Step a aw) (SharedProducer b) e = less_apart e
+kind_exact (Step a aw) (Unfinished b) e = less_apart e
+kind_exact (SplitId a) (BadRecord b) e = greater_apart e
+kind_exact (SplitId a) (Step b bw) e = greater_apart e
+kind_exact (SplitId a) (SharedProducer b) e = less_apart e
+kind_exact (SplitId a) (Unfinished b) e = less_apart e
+kind_exact (SharedProducer a) (BadRecord b) e = greater_apart e
+kind_exact (SharedProducer a) (Step b bw) e = greater_apart e
+kind_exact (SharedProducer a) (SplitId b) e = greater_apart e
+kind_exact (SharedProducer a) (Unfinished b) e = less_apart e
+kind_exact (Unfinished a) (BadRecord b) e = greater_apart e
+kind_exact (Unfinished a) (Step b bw) e = greater_apart e
+kind_exact (Unfinished a) (SplitId b) e = greater_apart e
+kind_exact (Unfinished a) (SharedProducer b) e = greater_apart e
 
 pub log_exact : IsExact log_cmp
 log_exact f g e =
