@@ -14,7 +14,7 @@ use Rattle.eos_check.proofs.FirstFault.{least_of_first}
 use Rattle.eos_wanted_verdict.specs.KeptVerdicts.{AreFaultsIn, first_of}
 
 -- a log's fault is its partition's
-fault_of : (p : Partition) (l : PartLog) → IsLogOf p l → (f : Option PartitionFault) → IsFaultIn p.end.topic p.end.partition p.end.end p.segments f → IsFaultOf l f
+pub fault_of : (p : Partition) (l : PartLog) → IsLogOf p l → (f : Option PartitionFault) → IsFaultIn p.end.topic p.end.partition p.end.end p.segments f → IsFaultOf l f
 fault_of p l of f h =
     let topic = subst (λ (t : List ℕ). IsFaultIn t p.end.partition p.end.end p.segments f) (sym of.log.of_topic) h in
     let number = subst (λ (n : ℤ). IsFaultIn l.topic n p.end.end p.segments f) (sym of.log.of_number) topic in
@@ -25,7 +25,7 @@ behind : (l : PartLog) (ls : List PartLog) (f : Option PartitionFault) → IsFau
 behind l ls None here others = (here, others)
 behind l ls (Some f) here others = inr (here, others)
 
-first_named : (ps : List Partition) (ls : List PartLog) → AreLogsOf ps ls → (fs : List (Option PartitionFault)) → AreFaultsIn ps fs → IsFirstFault ls (first_of fs)
+pub first_named : (ps : List Partition) (ls : List PartLog) → AreLogsOf ps ls → (fs : List (Option PartitionFault)) → AreFaultsIn ps fs → IsFirstFault ls (first_of fs)
 first_named [] [] of [] h = tt
 first_named [] [] of (f ∷ fs) h = absurd h
 first_named [] (l ∷ ls) of fs h = absurd of

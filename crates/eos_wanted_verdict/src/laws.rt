@@ -13,8 +13,10 @@ ghost use Rattle.eos_check.specs.declared.verdict.Verdict.TheVariants.{Yes, No};
 ghost use Rattle.eos_commits.specs.Faults as commits;
 ghost use Rattle.eos_evidence.specs.Evidence.{EvidenceParts, IsEvidence};
 ghost use Rattle.eos_evidence.specs.declared.application.App.{App};
+ghost use Rattle.eos_evidence.specs.declared.partition.Partition.{Partition};
+ghost use Rattle.eos_fold.specs.LeastFaults.{IsFaultIn, IsFaultOf, IsFirstFault};
 ghost use Rattle.eos_fold.specs.Parts.{PartLog};
-ghost use Rattle.eos_lineage.specs.EvidenceLogs.{AreLogsOf};
+ghost use Rattle.eos_lineage.specs.EvidenceLogs.{IsLogOf, AreLogsOf};
 ghost use Rattle.eos_lineage.specs.Faults as lineage;
 ghost use Rattle.eos_lineage.specs.Lineage.{application_of, count_inputs, count_outputs, LineageKept};
 ghost use Rattle.eos_lineage.specs.declared.fault.LineageFault.{LineageFault};
@@ -35,6 +37,14 @@ ghost use Rattle.eos_wanted_verdict.specs.KeptVerdicts.{StandAlike, kept_of, Sta
 pub fn partitions()
     ensures { (e : EvidenceParts) (parts : List PartLog) (of : AreLogsOf e.partitions parts) (faults : List (Option PartitionFault)) → IsEvidence e
         → AreFaultsIn e.partitions faults → IsLeastOrNone partition_cmp (StandsInPartitions e.partitions parts of) (first_of faults) }
+{}
+
+/// A fault that was named of a partition's segments is that of its log, and the first of those that were named is that of the logs.
+pub fn named()
+    ensures log { (p : Partition) (part : PartLog) → IsLogOf p part → (fault : Option PartitionFault) → IsFaultIn p.end.topic p.end.partition p.end.end p.segments fault
+        → IsFaultOf part fault }
+    ensures first { (partitions : List Partition) (parts : List PartLog) → AreLogsOf partitions parts → (faults : List (Option PartitionFault))
+        → AreFaultsIn partitions faults → IsFirstFault parts (first_of faults) }
 {}
 
 /// The partitions stand in order, and so do those of the transaction log, as they did.
