@@ -25,6 +25,7 @@ use Rattle.eos_reading.proofs.KeptLists.{taken_back}
 use Rattle.eos_run.specs.declared.run.Run.{Run}
 use Rattle.eos_kept.specs.declared.front.Front.{Front}
 use Rattle.eos_kept.specs.Kept.{KeptView, IsKept}
+use Rattle.eos_kept.specs.Sizes.{AreSized}
 use Rattle.eos_kept.specs.steps.Passing.{EndsBefore, GoesAlong, Passes}
 use Rattle.eos_kept.specs.steps.Folding.{FoldView, IsOpenAt, IsFolding, EndsAt, CutsAt}
 use Rattle.eos_kept.proofs.PassedHeads.{parted, left_none, left_next, kept_of-length}
@@ -87,23 +88,24 @@ chunk {K} keep begin sequenced fed waiting more buffer v w front hs kept taken c
     let reads : HasHeads buffer (p.passed ++ p.others) run.more (drop taken buffer) = subst (λ (bs : List Batch). HasHeads buffer bs run.more (drop taken buffer)) p.parts run.reads in
     let q = parted buffer p.passed p.others run.more (drop taken buffer) reads in
     let number : w.place + length (drop taken buffer) ≡ length (fed ++ more) =
-    let a = length-drop taken buffer in let b = ap length bytes in let c = length-append f.rest more in let d = length-append fed more in omega (arith, a, b, c, d, place, o.2, run.within) in
+    let a = length-drop taken buffer in let b = ap length bytes in let c = length-append f.rest more in let d = length-append fed more in let t = f.taken in let w = ap length is in let s = length-append waiting more in omega (arith, a, b, c, d, w, s, t, place, run.within) in
     record {
       begins = at.begin ∙ (begins ∙ f.begins);
       sequenced_is = ap (λ (r : Run). r.sequenced) at.run ∙ (checked ∙ f.sequenced_is);
       batches = f.batches ++ p.passed;
       rest = q.mid;
       texts = splits_join (fed ++ more) f.batches p.passed buffer q.mid before q.texts;
-      along = same_along (f.batches ++ p.passed) front w.front at.begin at.next at.markers at.run (p.along f.batches f.along);
+      along = same_along (f.batches ++ p.passed) front w.front at.begin at.next at.batches at.markers at.run (p.along f.batches f.along);
       kept_is = kept_joined keep f.batches p.passed v.kept (kept_of keep p.passed) w.kept f.kept_is refl (kept_is ∙ (kept_passed keep run.batches p.passed p.others v.kept kept count p.parts run.kept_is p.counted).0);
+      taken = number;
       ends = opened q.mid (drop taken buffer) (fed ++ more) p.others q.more front w.front w.place fault q.left p.ends at run.ends number;
     }
 
 -- ---- a front that has ended
 
-still : (st : Stop) (f : Front) (place : ℕ) (fed more rest waiting left : List ℕ) → st ≢ AtEnd → IsOpenAt st f place fed rest waiting → IsOpenAt st f place (fed ++ more) (rest ++ more) left
-still AtEnd f place fed more rest waiting left ne o = absurd (ne refl)
-still (NoBatch s b k) f place fed more rest waiting left ne o =
+still : (st : Stop) (f : Front) (place place' : ℕ) (fed more rest waiting left : List ℕ) → st ≢ AtEnd → IsOpenAt st f place fed rest waiting → IsOpenAt st f place' (fed ++ more) (rest ++ more) left
+still AtEnd f place place' fed more rest waiting left ne o = absurd (ne refl)
+still (NoBatch s b k) f place place' fed more rest waiting left ne o =
     let stays : batch_at rest ≢ Err faults.Truncated = λ q. o.1 (let both : Err k ≡ Err faults.Truncated = sym o.0.1 ∙ q in cc) in
     let there : batch_at (rest ++ more) ≡ Err k = batch_more rest more stays ∙ o.0.1 in (
       (
@@ -114,11 +116,12 @@ still (NoBatch s b k) f place fed more rest waiting left ne o =
       ),
       o.1,
     )
-still (Elsewhere n) f place fed more rest waiting left ne o =
+still (Elsewhere n) f place place' fed more rest waiting left ne o =
     (o.0, (o.1.0, o.1.1 ++ more, o.1.2, ap (λ (xs : List ℕ). xs ++ more) o.1.3 ∙ append_assoc o.1.0 o.1.1 more), o.2, o.3)
 
-pub chunk_behind : {K : Type 0} (keep : ℕ → Record → K) (begin : ℕ) (sequenced : Bool) (fed waiting more left : List ℕ) (v : FoldView K) → v.front.stop ≢ AtEnd → IsFolding keep begin sequenced fed waiting v → IsFolding keep begin sequenced (fed ++ more) left v
-chunk_behind keep begin sequenced fed waiting more left v ne f = record {
+pub chunk_behind : {K : Type 0} (keep : ℕ → Record → K) (begin : ℕ) (sequenced : Bool) (fed waiting more buffer : List ℕ) (v w : FoldView K) (taken : ℕ) → v.front.stop ≢ AtEnd → buffer ≡ waiting ++ more → taken ≡ length buffer
+    → w.front ≡ v.front → w.kept ≡ v.kept → w.place ≡ v.place + taken → IsFolding keep begin sequenced fed waiting v → IsFolding keep begin sequenced (fed ++ more) (drop taken buffer) w
+chunk_behind {K} keep begin sequenced fed waiting more buffer v w taken ne is all front kept place f = subst (λ (x : FoldView K). IsFolding keep begin sequenced (fed ++ more) (drop taken buffer) x) so (record {
   begins = f.begins;
   sequenced_is = f.sequenced_is;
   batches = f.batches;
@@ -126,8 +129,12 @@ chunk_behind keep begin sequenced fed waiting more left v ne f = record {
   texts = splits_more fed f.batches f.rest more f.texts;
   along = f.along;
   kept_is = f.kept_is;
-  ends = still v.front.stop v.front v.place fed more f.rest waiting left ne f.ends;
-}
+  taken = let a = length-drop taken buffer in let b = ap length is in let c = length-append waiting more in let d = length-append fed more in let t = f.taken in omega (arith, a, all, b, c, d, t);
+  ends = still v.front.stop v.front v.place (v.place + taken) fed more f.rest waiting (drop taken buffer) ne f.ends;
+})
+  where
+    so : ◌≡◌ {A = FoldView K} (record { front = v.front; kept = v.kept; place = v.place + taken }) (record { front = w.front; kept = w.kept; place = w.place })
+    so = cc (front, kept, place)
 
 -- ---- the first byte and the end
 
@@ -141,6 +148,7 @@ chunk_none keep begin sequenced v begins checked stop along kept place = record 
   texts = refl;
   along = along;
   kept_is = kept;
+  taken = omega (arith, place);
   ends = subst (λ (st : Stop). IsOpenAt st v.front v.place [] [] []) (sym stop) (refl, batch_none, omega (arith, place));
 }
 
@@ -150,16 +158,17 @@ stops_so (NoBatch s b k) f place fed rest waiting none o = o.0
 stops_so (Elsewhere n) f place fed rest waiting none o = o
 
 module _ {K : Type 0} (keep : ℕ → Record → K) (segment : Segment) (waiting : List ℕ) (v : FoldView K) (w : KeptView K) (f : IsFolding keep (base_of segment) (is_checked segment) segment.bytes waiting v)
-    (begin : w.front.begin ≡ v.front.begin) (next : w.front.next ≡ v.front.next) (markers : w.front.markers ≡ v.front.markers) (run : w.front.run ≡ v.front.run) (kept : w.kept ≡ v.kept) where
+    (begin : w.front.begin ≡ v.front.begin) (next : w.front.next ≡ v.front.next) (counted : w.front.batches ≡ v.front.batches) (markers : w.front.markers ≡ v.front.markers) (run : w.front.run ≡ v.front.run) (kept : w.kept ≡ v.kept) (sizes : AreSized (segment ∷ []) w.sizes) where
   whole : StopsAt v.front.begin v.front.next segment.bytes f.rest w.front.stop → IsKept keep (segment ∷ []) w
   whole stops =
-      let along = same_along f.batches v.front w.front begin next markers run f.along in
+      let along = same_along f.batches v.front w.front begin next counted markers run f.along in
       let there : StopsAt w.front.begin (w.front.begin + records_in f.batches) segment.bytes f.rest w.front.stop =
       subst (λ (n : ℕ). StopsAt w.front.begin n segment.bytes f.rest w.front.stop) (sym next ∙ along.keeps.next) (subst (λ (n : ℕ). StopsAt n v.front.next segment.bytes f.rest w.front.stop) (sym begin) stops) in
       record {
         batches = f.batches;
         front = of_one segment f.batches w.front (begin ∙ f.begins) (ap (λ (r : Run). r.sequenced) run ∙ f.sequenced_is) (record { rest = f.rest; texts = f.texts; continuous = along.continuous; stops = there }) along.keeps;
         kept = kept ∙ f.kept_is;
+        sizes = sizes;
       }
 
   -- it ended before, or all its bytes are used
@@ -173,10 +182,13 @@ module _ {K : Type 0} (keep : ℕ → Record → K) (segment : Segment) (waiting
       whole (subst (λ (st : Stop). StopsAt v.front.begin v.front.next segment.bytes f.rest st) (sym stop) ((λ none. some (o.0 ∙ none)), o.1, refl, o.2))
 
 pub finished : {K : Type 0} (keep : ℕ → Record → K) (segment : Segment) (rest : List ℕ) (waiting : ℕ) (v : FoldView K) (w : KeptView K) → length rest ≡ waiting → IsFolding keep (base_of segment) (is_checked segment) segment.bytes rest v
-    → CutsAt v.place waiting v.front w.front → w.kept ≡ v.kept → IsKept keep (segment ∷ []) w
-finished keep segment rest waiting v w len f c kept = by_stop c.stop
+    → CutsAt v.place waiting v.front w.front → w.kept ≡ v.kept → w.sizes.segments ≡ 1 → w.sizes.bytes ≡ v.place + waiting → IsKept keep (segment ∷ []) w
+finished keep segment rest waiting v w len f c kept one bytes = by_stop c.stop
   where
+    sizes : AreSized (segment ∷ []) w.sizes
+    sizes = record { counted = one; bytes_are = let t = f.taken in omega (arith, bytes, t, len) }
+
     by_stop : ((waiting ≡ 0) × (w.front.stop ≡ v.front.stop)) ⊎ (((v.front.stop ≢ AtEnd) × (w.front.stop ≡ v.front.stop)) ⊎ ((v.front.stop ≡ AtEnd) × (waiting ≢ 0) × (w.front.stop ≡ NoBatch v.front.begin v.place faults.Truncated))) → IsKept keep (segment ∷ []) w
-    by_stop (inl x) = ended keep segment rest v w f c.begin c.next c.markers c.run kept x.1 (λ _. nil_from_length rest (len ∙ x.0))
-    by_stop (inr (inl x)) = ended keep segment rest v w f c.begin c.next c.markers c.run kept x.1 (λ e. absurd (x.0 e))
-    by_stop (inr (inr x)) = cut keep segment rest v w f c.begin c.next c.markers c.run kept x.2 x.0 (λ none. x.1 (sym len ∙ ap (λ (xs : List ℕ). length xs) none))
+    by_stop (inl x) = ended keep segment rest v w f c.begin c.next c.batches c.markers c.run kept sizes x.1 (λ _. nil_from_length rest (len ∙ x.0))
+    by_stop (inr (inl x)) = ended keep segment rest v w f c.begin c.next c.batches c.markers c.run kept sizes x.1 (λ e. absurd (x.0 e))
+    by_stop (inr (inr x)) = cut keep segment rest v w f c.begin c.next c.batches c.markers c.run kept sizes x.2 x.0 (λ none. x.1 (sym len ∙ ap (λ (xs : List ℕ). length xs) none))

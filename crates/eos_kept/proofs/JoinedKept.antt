@@ -1,6 +1,6 @@
 -- Fronts of two lists of segments, and what is kept of both.
-use Rattle.std.proofs.Common.{◌≡◌, ◌≢◌, ℕ, ◌+◌, inr, Bool, List, [], ◌∷◌, ◌++◌, refl, sym, ap, subst, ◌∙◌, arith}
-use Rattle.std.proofs.lemmas.List.{append-nil}
+use Rattle.std.proofs.Common.{◌≡◌, ◌≢◌, ℕ, ◌+◌, inr, Bool, List, [], ◌∷◌, ◌++◌, length, refl, sym, ap, subst, ◌∙◌, arith}
+use Rattle.std.proofs.lemmas.List.{append-nil, length-append}
 use Rattle.std.proofs.lemmas.Grind.{flat_map-append}
 use Rattle.eos_batch.specs.declared.batch.Batch.{Batch}
 use Rattle.eos_batch.specs.declared.marker.Marker.{Marker}
@@ -19,6 +19,8 @@ use Rattle.eos_reading.specs.Kept.{kept_in, kept_of}
 use Rattle.eos_run.specs.declared.run.Run.{Run}
 use Rattle.eos_run.specs.Runs.{IsRunOf}
 use Rattle.eos_kept.specs.declared.front.Front.{Front}
+use Rattle.eos_kept.specs.declared.sizes.Sizes.{Sizes}
+use Rattle.eos_kept.specs.Sizes.{AreSized}
 use Rattle.eos_kept.specs.Kept.{KeepsFront, IsFrontOf, KeptView, IsKept}
 use Rattle.eos_kept.specs.steps.Passing.{GoesAlong}
 
@@ -40,24 +42,25 @@ stops_before xs ys bs f ne h = record {
 }
 
 -- the same, with another stop
-pub keeps_same : (bs : List Batch) (f g : Front) → g.begin ≡ f.begin → g.next ≡ f.next → g.markers ≡ f.markers → g.run ≡ f.run → KeepsFront bs f → KeepsFront bs g
-keeps_same bs f g begin next markers run h = record {
+pub keeps_same : (bs : List Batch) (f g : Front) → g.begin ≡ f.begin → g.next ≡ f.next → g.batches ≡ f.batches → g.markers ≡ f.markers → g.run ≡ f.run → KeepsFront bs f → KeepsFront bs g
+keeps_same bs f g begin next counted markers run h = record {
+  counted = counted ∙ h.counted;
   next = next ∙ (h.next ∙ ap (λ (n : ℕ). n + records_in bs) (sym begin));
   fits = let e = h.fits in omega (arith, next, e);
   markers = ap (λ m. m.items) markers ∙ h.markers;
   run = subst (λ (r : Run). IsRunOf bs r) (sym run) h.run;
 }
 
-pub same_along : (bs : List Batch) (f g : Front) → g.begin ≡ f.begin → g.next ≡ f.next → g.markers ≡ f.markers → g.run ≡ f.run → GoesAlong bs f → GoesAlong bs g
-same_along bs f g begin next markers run h = record {
-  keeps = keeps_same bs f g begin next markers run h.keeps;
+pub same_along : (bs : List Batch) (f g : Front) → g.begin ≡ f.begin → g.next ≡ f.next → g.batches ≡ f.batches → g.markers ≡ f.markers → g.run ≡ f.run → GoesAlong bs f → GoesAlong bs g
+same_along bs f g begin next counted markers run h = record {
+  keeps = keeps_same bs f g begin next counted markers run h.keeps;
   continuous = subst (λ (n : ℕ). ContinuesFrom n bs) (sym begin) h.continuous;
 }
 
 -- a segment of another name comes
-pub stops_between : (xs ys : List Segment) (bs cs : List Batch) (f g r : Front) → f.stop ≡ AtEnd → g.begin ≢ f.next → r.begin ≡ f.begin → r.next ≡ f.next → r.stop ≡ Elsewhere g.begin → r.markers ≡ f.markers → r.run ≡ f.run
+pub stops_between : (xs ys : List Segment) (bs cs : List Batch) (f g r : Front) → f.stop ≡ AtEnd → g.begin ≢ f.next → r.begin ≡ f.begin → r.next ≡ f.next → r.batches ≡ f.batches → r.stop ≡ Elsewhere g.begin → r.markers ≡ f.markers → r.run ≡ f.run
     → IsFrontOf xs bs f → IsFrontOf ys cs g → IsFrontOf (xs ++ ys) bs r
-stops_between xs ys bs cs f g r end ne begin next stop markers run h k = record {
+stops_between xs ys bs cs f g r end ne begin next counted stop markers run h k = record {
   begins = subst (λ (n : ℕ). BeginsAt (xs ++ ys) n) (sym begin) (begins_more xs ys f.begin h.begins);
   sequenced = subst (λ (x : Run). AreChecked (xs ++ ys) x.sequenced) (sym run) (checked_more xs ys f.run.sequenced h.sequenced);
   front =
@@ -65,13 +68,13 @@ stops_between xs ys bs cs f g r end ne begin next stop markers run h k = record 
       let b : IsFront (f.begin + records_in bs) ys [] (Elsewhere g.begin) = other_name (f.begin + records_in bs) ys g.begin k.begins (λ e. ne (e ∙ sym h.keeps.next)) in
       let both = front_goes f.begin xs ys bs [] (Elsewhere g.begin) a b in
       subst (λ (n : ℕ). IsFront n (xs ++ ys) bs r.stop) (sym begin) (subst (λ (st : Stop). IsFront f.begin (xs ++ ys) bs st) (sym stop) (subst (λ (ds : List Batch). IsFront f.begin (xs ++ ys) ds (Elsewhere g.begin)) (append-nil bs) both));
-  keeps = keeps_same bs f r begin next markers run h.keeps;
+  keeps = keeps_same bs f r begin next counted markers run h.keeps;
 }
 
 -- the second goes on where the first ends
-pub goes_on : (xs ys : List Segment) (bs cs : List Batch) (f g r : Front) → f.stop ≡ AtEnd → g.begin ≡ f.next → r.begin ≡ f.begin → r.next ≡ g.next → r.stop ≡ g.stop → r.markers.items ≡ f.markers.items ++ g.markers.items
+pub goes_on : (xs ys : List Segment) (bs cs : List Batch) (f g r : Front) → f.stop ≡ AtEnd → g.begin ≡ f.next → r.begin ≡ f.begin → r.next ≡ g.next → r.batches ≡ f.batches + g.batches → r.stop ≡ g.stop → r.markers.items ≡ f.markers.items ++ g.markers.items
     → r.run.sequenced ≡ f.run.sequenced → IsRunOf (bs ++ cs) r.run → IsFrontOf xs bs f → IsFrontOf ys cs g → IsFrontOf (xs ++ ys) (bs ++ cs) r
-goes_on xs ys bs cs f g r end joint begin next stop markers sequenced run h k = record {
+goes_on xs ys bs cs f g r end joint begin next counted stop markers sequenced run h k = record {
   begins = subst (λ (n : ℕ). BeginsAt (xs ++ ys) n) (sym begin) (begins_more xs ys f.begin h.begins);
   sequenced = subst (λ (b : Bool). AreChecked (xs ++ ys) b) (sym sequenced) (checked_more xs ys f.run.sequenced h.sequenced);
   front =
@@ -81,6 +84,7 @@ goes_on xs ys bs cs f g r end joint begin next stop markers sequenced run h k = 
   keeps = record {
     next = let a = records_in-append bs cs in let p = h.keeps.next in let q = k.keeps.next in omega (arith, a, p, q, next, joint, begin);
     fits = let e = k.keeps.fits in omega (arith, next, e);
+    counted = let l = length-append bs cs in let p = h.keeps.counted in let q = k.keeps.counted in omega (arith, counted, l, p, q);
     markers = markers ∙ (ap (λ (ms : List Marker). ms ++ g.markers.items) h.keeps.markers ∙ (ap (λ (ms : List Marker). markers_of bs ++ ms) k.keeps.markers ∙ sym (markers_of-append bs cs)));
     run = run;
   };
@@ -105,21 +109,24 @@ of_one x bs f begins checked front keeps = record {
 pub kept_joined : {K : Type 0} (keep : ℕ → Record → K) (bs cs : List Batch) (ks ls ms : List K) → ks ≡ kept_of keep bs → ls ≡ kept_of keep cs → ms ≡ ks ++ ls → ms ≡ kept_of keep (bs ++ cs)
 kept_joined {K} keep bs cs ks ls ms e f g = g ∙ (ap (λ (xs : List K). xs ++ ls) e ∙ (ap (λ (xs : List K). kept_of keep bs ++ xs) f ∙ sym (flat_map-append (kept_in keep) bs cs)))
 
-pub kept_before : {K : Type 0} (keep : ℕ → Record → K) (xs ys : List Segment) (v : KeptView K) → v.front.stop ≢ AtEnd → IsKept keep xs v → IsKept keep (xs ++ ys) v
-kept_before keep xs ys v ne h = record { batches = h.batches; front = stops_before xs ys h.batches v.front ne h.front; kept = h.kept }
+pub kept_before : {K : Type 0} (keep : ℕ → Record → K) (xs ys : List Segment) (v w : KeptView K) (sizes : Sizes) → v.front.stop ≢ AtEnd → (AreSized xs v.sizes → AreSized ys w.sizes → AreSized (xs ++ ys) sizes) → IsKept keep xs v → IsKept keep ys w
+    → IsKept keep (xs ++ ys) (record { front = v.front; kept = v.kept; sizes = sizes })
+kept_before keep xs ys v w sizes ne sized h k = record { batches = h.batches; front = stops_before xs ys h.batches v.front ne h.front; kept = h.kept; sizes = sized h.sizes k.sizes }
 
-pub kept_between : {K : Type 0} (keep : ℕ → Record → K) (xs ys : List Segment) (v w r : KeptView K) → v.front.stop ≡ AtEnd → w.front.begin ≢ v.front.next → r.front.begin ≡ v.front.begin → r.front.next ≡ v.front.next → r.front.stop ≡ Elsewhere w.front.begin
-    → r.front.markers ≡ v.front.markers → r.front.run ≡ v.front.run → r.kept ≡ v.kept → IsKept keep xs v → IsKept keep ys w → IsKept keep (xs ++ ys) r
-kept_between keep xs ys v w r end ne begin next stop markers run kept h k = record {
+pub kept_between : {K : Type 0} (keep : ℕ → Record → K) (xs ys : List Segment) (v w r : KeptView K) → v.front.stop ≡ AtEnd → w.front.begin ≢ v.front.next → r.front.begin ≡ v.front.begin → r.front.next ≡ v.front.next → r.front.batches ≡ v.front.batches → r.front.stop ≡ Elsewhere w.front.begin
+    → r.front.markers ≡ v.front.markers → r.front.run ≡ v.front.run → r.kept ≡ v.kept → (AreSized xs v.sizes → AreSized ys w.sizes → AreSized (xs ++ ys) r.sizes) → IsKept keep xs v → IsKept keep ys w → IsKept keep (xs ++ ys) r
+kept_between keep xs ys v w r end ne begin next counted stop markers run kept sized h k = record {
   batches = h.batches;
-  front = stops_between xs ys h.batches k.batches v.front w.front r.front end ne begin next stop markers run h.front k.front;
+  front = stops_between xs ys h.batches k.batches v.front w.front r.front end ne begin next counted stop markers run h.front k.front;
   kept = kept ∙ h.kept;
+  sizes = sized h.sizes k.sizes;
 }
 
 pub kept_on : {K : Type 0} (keep : ℕ → Record → K) (xs ys : List Segment) (v w r : KeptView K) → ((bs cs : List Batch) → IsFrontOf xs bs v.front → IsFrontOf ys cs w.front → IsFrontOf (xs ++ ys) (bs ++ cs) r.front) → r.kept ≡ v.kept ++ w.kept
-    → IsKept keep xs v → IsKept keep ys w → IsKept keep (xs ++ ys) r
-kept_on keep xs ys v w r front kept h k = record {
+    → (AreSized xs v.sizes → AreSized ys w.sizes → AreSized (xs ++ ys) r.sizes) → IsKept keep xs v → IsKept keep ys w → IsKept keep (xs ++ ys) r
+kept_on keep xs ys v w r front kept sized h k = record {
   batches = h.batches ++ k.batches;
   front = front h.batches k.batches h.front k.front;
   kept = kept_joined keep h.batches k.batches v.kept w.kept r.kept h.kept k.kept kept;
+  sizes = sized h.sizes k.sizes;
 }

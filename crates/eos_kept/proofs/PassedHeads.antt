@@ -69,9 +69,9 @@ kept_of-length keep (b ∷ bs) =
 
 -- ---- one batch after the other
 
-pub front_more : (before : List Batch) (b : Batch) (head : BatchHead) (old new : Front) (count : ℕ) → IsRealHead b head → head.offset ≡ old.next → count ≡ head.count → new.begin ≡ old.begin → new.next ≡ old.next + count
+pub front_more : (before : List Batch) (b : Batch) (head : BatchHead) (old new : Front) (count : ℕ) → IsRealHead b head → head.offset ≡ old.next → count ≡ head.count → new.begin ≡ old.begin → new.next ≡ old.next + count → new.batches ≡ old.batches + 1
     → new.markers.items ≡ old.markers.items ++ option_to_list head.marker → (IsRunOf before old.run → IsRunOf (before ++ b ∷ []) new.run) → GoesAlong before old → GoesAlong (before ++ b ∷ []) new
-front_more before b head old new count h eq number begin next markers run g =
+front_more before b head old new count h eq number begin next counted markers run g =
     let is = h.of.is in
     let o : offset_of b ≡ old.next = sym (ap (λ (x : BatchHead). x.offset) is) ∙ eq in
     let base : b.base_offset ≡ pos old.next = abs_pos b.base_offset h.counted.first ∙ ap pos o in
@@ -80,6 +80,7 @@ front_more before b head old new count h eq number begin next markers run g =
     record {
       keeps = record {
         next = let p = records_in-push before b in omega (arith, next, begin, n, p, g.keeps.next);
+        counted = let l = length-append before (b ∷ []) in omega (arith, counted, l, g.keeps.counted);
         fits = let f = fits_on b.base_offset old.next (length b.records) base h.counted.last in omega (arith, next, n, f);
         markers = markers ∙ (ap (λ (ms : List Marker). ms ++ option_to_list head.marker) g.keeps.markers ∙ (ap (λ (m : BatchHead). markers_of before ++ option_to_list m.marker) is ∙ sym all));
         run = run g.keeps.run;

@@ -10,10 +10,12 @@ ghost use Rattle.eos_kept.specs.steps.Folding.{IsFolding, EndsAt, CutsAt};
 
 use crate::front::{Front, is_at_end};
 use crate::pass::pass_all;
+use crate::sizes::Sizes;
 use crate::summary::Kept;
 use bytes::Bytes;
 use eos_batch::{BatchFault, BatchHead};
 use eos_chunks::ByteFold;
+use eos_evidence::MAX_SEGMENT_BYTES;
 use eos_fold::Stop;
 use eos_reading::{Reading, keep_batches};
 use std::alloc::{AllocError, Global};
@@ -34,7 +36,7 @@ pub(crate) struct Asked<K> {
 pub(crate) struct SegmentFold<K: Reading> {
     front: Front,
     kept: Vec<K::Kept>,
-    /// The byte after the last batch.
+    /// How many bytes were taken: up to the last batch, or all behind a front's end.
     place: u64,
     /// The heads of a chunk's batches.
     heads: Vec<BatchHead>,
@@ -113,6 +115,10 @@ impl<K: Reading> ByteFold for SegmentFold<K> {
         buffer: &Bytes,
     ) -> Result<usize, AllocError> {
         if !is_at_end(self.front.stop) {
+            let Some(place) = self.place.checked_add(buffer.len() as u64) else {
+                return Err(AllocError);
+            };
+            self.place = place;
             return Ok(buffer.len());
         }
         let before = self.kept.len();
@@ -151,6 +157,7 @@ impl<K: Reading> SegmentFold<K> {
 
     /// What the whole segment gives, of which so many bytes still wait.
     pub(crate) fn finish(self, waiting: usize) -> Kept<K::Kept>
+        requires { self.place + waiting ≤ MAX_SEGMENT_BYTES }
         ensures { (keep : ℕ → Record → K.Kept) (segment : Segment) (rest : List ℕ) → length rest ≡ waiting
             → IsFolding keep (base_of segment) (is_checked segment) segment.bytes rest self → IsKept keep (segment ∷ []) result }
     {
@@ -161,6 +168,10 @@ impl<K: Reading> SegmentFold<K> {
             ..
         } = self;
         cut_at(&mut front, place, waiting);
-        Kept::new(front, kept)
+        let sizes = Sizes {
+            segments: 1,
+            bytes: place + waiting as u64,
+        };
+        Kept::new(front, kept, sizes)
     }
 }

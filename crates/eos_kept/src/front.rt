@@ -22,6 +22,8 @@ pub struct Front {
     pub next: u64,
     /// Why it ends.
     pub stop: Stop,
+    /// The number of its batches.
+    pub batches: u64,
     /// Its end markers.
     pub markers: Vec<Marker>,
     pub run: Run,
@@ -65,12 +67,14 @@ impl Front {
             begin,
             next: begin,
             stop: Stop::AtEnd,
+            batches: 0,
             markers: Vec::new(alloc),
             run: Run::new(alloc, sequenced),
         }
     }
 
-    /// Joins two fronts of which the second begins where the first ends. Where memory is refused both are handed back.
+    /// Joins two fronts of which the second begins where the first ends. Where memory is refused, or a u64 doesn't hold the
+    /// number of batches, both are handed back.
     pub(crate) fn join(
         alloc: Global,
         mut before: Front,
@@ -86,6 +90,9 @@ impl Front {
         ensures ok { (xs ys : List Segment) (bs cs : List Batch) → IsFrontOf xs bs before → IsFrontOf ys cs after → IfOk result (IsFrontOf (xs ++ ys) (bs ++ cs)) }
         ensures err { IfErr result (λ back. SameFront before back.0 × SameFront after back.1) }
     {
+        let Some(batches) = before.batches.checked_add(after.batches) else {
+            return Err((before, after));
+        };
         if before.markers.reserve(after.markers.len()).is_err() {
             return Err((before, after));
         }
@@ -98,6 +105,7 @@ impl Front {
                     begin: before.begin,
                     next: after.next,
                     stop: after.stop,
+                    batches,
                     markers: before.markers,
                     run,
                 })

@@ -24,8 +24,12 @@ fn pass_next(alloc: Global, front: &mut Front, head: &BatchHead) -> Result<(), A
     ensures fits { OnOk result (front.new.next ≤ 2 ^ 63) }
     ensures passed { (batches : List Batch) (b : Batch) → IsRealHead b head.now → GoesAlong batches front.old → OnOk result (GoesAlong (batches ++ b ∷ []) front.new) }
 {
+    let Some(batches) = front.batches.checked_add(1) else {
+        return Err(AllocError);
+    };
     front.run.take(alloc, head)?;
     push_marker(&mut front.markers, head.marker)?;
+    front.batches = batches;
     front.next += u64::from(head.count);
     Ok(())
 }

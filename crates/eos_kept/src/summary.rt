@@ -7,17 +7,19 @@ ghost use Rattle.eos_run.specs.Runs.{IsRun};
 ghost use Rattle.eos_kept.specs.Kept.{IsKept, SameKept};
 
 use crate::front::{Front, is_at_end};
+use crate::sizes::Sizes;
 use eos_batch::Marker;
 use eos_fold::Stop;
 use eos_run::DataHead;
 use std::alloc::Global;
 use std::marker::Model;
 
-/// What is kept of a list of segments: their front, and of each data record of it what a reading keeps.
+/// What is kept of a list of segments: their front, of each data record of it what a reading keeps, and how large they are.
 #[derive(Drop)]
 pub struct Kept<T> {
     front: Front,
     kept: Vec<T>,
+    sizes: Sizes,
 }
 
 impl<T> Model for Kept<T> {
@@ -30,18 +32,19 @@ impl<T> Model for Kept<T> {
 
     ghost coded = { Prim.hlevel (codes, of_front.the_row.coded) };
 
-    ghost view = { λ k. record { front = k.front; kept = k.kept.items } };
+    ghost view = { λ k. record { front = k.front; kept = k.kept.items; sizes = k.sizes } };
 
     ghost invariant = { λ k. IsRun k.front.run };
 }
 
 impl<T> Kept<T> {
-    pub(crate) fn new(front: Front, kept: Vec<T>) -> Kept<T>
+    pub(crate) fn new(front: Front, kept: Vec<T>, sizes: Sizes) -> Kept<T>
         requires { IsRun front.run }
         ensures front { result.front ≡ front }
         ensures kept { result.kept ≡ kept.items }
+        ensures sizes { result.sizes ≡ sizes }
     {
-        Kept { front, kept }
+        Kept { front, kept, sizes }
     }
 
     /// The heads of the front's data batches, in order, each with its ending as far as these segments say. What is kept of a
@@ -80,6 +83,20 @@ impl<T> Kept<T> {
         self.front.stop
     }
 
+    /// The number of the front's batches, control batches too.
+    pub fn batches(&self) -> u64
+        ensures { result ≡ self.now.front.batches }
+    {
+        self.front.batches
+    }
+
+    /// How large the segments are, whatever of them is of the front.
+    pub fn sizes(&self) -> Sizes
+        ensures { result ≡ self.now.sizes }
+    {
+        self.sizes
+    }
+
     /// The front, and what is kept of its data records.
     pub fn into_parts(self) -> (Front, Vec<T>)
         ensures front { result.0 ≡ self.front }
@@ -90,8 +107,8 @@ impl<T> Kept<T> {
 }
 
 impl<T: Drop> Kept<T> {
-    /// What is kept of two lists of segments of one partition, of which the second follows the first. Where memory is refused
-    /// both are handed back.
+    /// What is kept of two lists of segments of one partition, of which the second follows the first. Where memory is refused, or
+    /// a u64 doesn't hold a count, both are handed back.
     pub fn join(
         alloc: Global,
         mut before: Kept<T>,
@@ -102,13 +119,18 @@ impl<T: Drop> Kept<T> {
         ensures sequenced { IfOk result (λ k. k.front.run.sequenced ≡ before.front.run.sequenced) }
         ensures err { IfErr result (λ back. SameKept before back.0 × SameKept after back.1) }
     {
+        let Some(sizes) = before.sizes.plus(after.sizes) else {
+            return Err((before, after));
+        };
         if !is_at_end(before.front.stop) {
+            before.sizes = sizes;
             return Ok(before);
         }
         if after.front.begin != before.front.next {
             before.front.stop = Stop::Elsewhere {
                 found: after.front.begin,
             };
+            before.sizes = sizes;
             return Ok(before);
         }
         if before.kept.reserve(after.kept.len()).is_err() {
@@ -122,6 +144,7 @@ impl<T: Drop> Kept<T> {
                 Ok(Kept {
                     front,
                     kept: before.kept,
+                    sizes,
                 })
             }
             Err((front, front_after)) => {

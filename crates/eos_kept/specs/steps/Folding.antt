@@ -13,7 +13,7 @@ use Rattle.eos_reading.specs.Kept.{kept_of}
 use Rattle.eos_kept.specs.declared.front.Front.{Front}
 use Rattle.eos_kept.specs.steps.Passing.{GoesAlong}
 
--- the front, what is kept of its data records, and the byte after its last batch
+-- the front, what is kept of its data records, and how many bytes were taken: up to its last batch, or behind its end all
 pub record FoldView (K : Type 0) : Type 0 where
   pub front : Front
   pub kept : List K
@@ -34,12 +34,14 @@ pub record IsFolding {K : Type 0} (keep : ℕ → Record → K) (begin : ℕ) (s
   pub texts : Splits fed batches rest
   pub along : GoesAlong batches v.front
   pub kept_is : v.kept ≡ kept_of keep batches
+  pub taken : v.place + length waiting ≡ length fed
   pub ends : IsOpenAt v.front.stop v.front v.place fed rest waiting
 
 -- the front ends at this byte where no batch stands there and none can; only its stop changes
 pub record EndsAt (place : ℕ) (fault : BatchFault) (f g : Front) : Type 0 where
   pub begin : g.begin ≡ f.begin
   pub next : g.next ≡ f.next
+  pub batches : g.batches ≡ f.batches
   pub markers : g.markers ≡ f.markers
   pub run : g.run ≡ f.run
   pub stop : ((f.stop ≢ AtEnd) × (g.stop ≡ f.stop)) ⊎ (((fault ≡ faults.Truncated) × (g.stop ≡ f.stop)) ⊎ ((f.stop ≡ AtEnd) × (fault ≢ faults.Truncated) × (g.stop ≡ NoBatch f.begin place fault)))
@@ -48,6 +50,7 @@ pub record EndsAt (place : ℕ) (fault : BatchFault) (f g : Front) : Type 0 wher
 pub record CutsAt (place waiting : ℕ) (f g : Front) : Type 0 where
   pub begin : g.begin ≡ f.begin
   pub next : g.next ≡ f.next
+  pub batches : g.batches ≡ f.batches
   pub markers : g.markers ≡ f.markers
   pub run : g.run ≡ f.run
   pub stop : ((waiting ≡ 0) × (g.stop ≡ f.stop)) ⊎ (((f.stop ≢ AtEnd) × (g.stop ≡ f.stop)) ⊎ ((f.stop ≡ AtEnd) × (waiting ≢ 0) × (g.stop ≡ NoBatch f.begin place faults.Truncated)))

@@ -13,7 +13,7 @@ returns-then-head-front-clause-passed c = λ bs a.
     let i = c.loop-i.i in
     let n : c.len-i-end.result ≡ length hs = search rules in
     let at = slice_get_read hs (length hs) i c.index.result.now refl (omega (arith, n, c.loop-i-test.true)) c.index.ensures in
-    passed_stop bs hs i c.index.result.now c.args.front.now c.loop-i.front _ c.loop-i.count a at c.if-head-front.true refl refl (λ before g. same_along before c.loop-i.front _ refl refl refl refl g) (c.loop-i.invariant.passed bs a)
+    passed_stop bs hs i c.index.result.now c.args.front.now c.loop-i.front _ c.loop-i.count a at c.if-head-front.true refl refl (λ before g. same_along before c.loop-i.front _ refl refl refl refl refl g) (c.loop-i.invariant.passed bs a)
 
 pub pass_next-requires-clause-head : goal.pass_next-requires-clause-head
 pass_next-requires-clause-head c =

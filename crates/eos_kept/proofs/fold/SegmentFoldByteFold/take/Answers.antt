@@ -1,4 +1,4 @@
-use Rattle.std.proofs.Common.{◌≡◌, ◌≢◌, ◌+◌, ◌++◌, List, length, take, sym, ap, subst, ◌∙◌, rules}
+use Rattle.std.proofs.Common.{◌≡◌, ◌≢◌, ◌+◌, ◌++◌, List, length, take, refl, sym, ap, subst, ◌∙◌, rules}
 use Rattle.eos_batch.specs.declared.head.BatchHead.{BatchHead}
 use Rattle.eos_fold.specs.declared.stop.Stop.TheVariants.{AtEnd}
 use Rattle.eos_reading.specs.Runs as read
@@ -11,7 +11,12 @@ use Rattle.eos_kept.proofs.fold.SegmentFoldByteFold.take.Goals as goal
 pub returns-then-not-is_at_end-clause-goes_on : goal.returns-then-not-is_at_end-clause-goes_on
 returns-then-not-is_at_end-clause-goes_on g c = λ fed waiting more f is.
     let stopped : c.self.inside.front.stop ≢ AtEnd = search rules in
-    chunk_behind (g.K.Reading.kept c.args.told.now.reading) c.args.told.now.begin c.args.told.now.sequenced fed waiting more _ c.args.self.now (subst (λ v. v.front.stop ≢ AtEnd) c.self.view_is stopped) f
+    let buffer = c.args.buffer.now in
+    let v = c.self.inside in
+    let all : c.len-then-not-is_at_end.result ≡ length buffer = search rules in
+    let place : c.in-Some.place ≡ v.place + c.len-then-not-is_at_end.result = search rules in
+    chunk_behind (g.K.Reading.kept c.args.told.now.reading) c.args.told.now.begin c.args.told.now.sequenced fed waiting more buffer _ _ c.len-then-not-is_at_end.result stopped is all refl refl place
+    (subst (λ v. IsFolding (g.K.Reading.kept c.args.told.now.reading) c.args.told.now.begin c.args.told.now.sequenced fed waiting v) (sym c.self.view_is) f)
 
 pub pass_all-requires-clause-heads : goal.pass_all-requires-clause-heads
 pass_all-requires-clause-heads g c =
@@ -30,7 +35,7 @@ returns-clause-goes_on g c = λ fed waiting more f is.
     let heads = subst (λ (hs : List BatchHead). AreHeads run.batches hs) (sym same) (are_heads buffer run.batches run.more _ run.reads) in
     let end : v.front.stop ≡ AtEnd = search rules in
     let before : c.len-before.result ≡ length v.kept.items = search rules in
-    let place : c.in-Some.place ≡ v.place + c.in_ok-taken.taken = search rules in
+    let place : c.in-Some-checked_add.place ≡ v.place + c.in_ok-taken.taken = search rules in
     let kept = c.in_ok-keep_first.ensures ∙ ap (λ n. take (n + c.in_ok-count.count) c.keep_batches.new.kept.items) before in
     chunk keep c.args.told.now.begin c.args.told.now.sequenced fed waiting more buffer _ _ c.pass_all.new.front _ _ c.in_ok-taken.taken c.in_ok-count.count c.in_ok-taken.fault is end run
     (c.in_ok-count.ensures.passed run.batches heads) c.pass_all.ensures.begin c.pass_all.ensures.sequenced kept place c.end_at.ensures

@@ -1,4 +1,4 @@
-use Rattle.std.proofs.Common.{List, ◌++◌, refl, ap, ◌∙◌}
+use Rattle.std.proofs.Common.{◌≡◌, ◌+◌, List, ◌++◌, refl, ap, ◌∙◌, rules}
 use Rattle.eos_batch.specs.declared.marker.Marker.{Marker}
 use Rattle.eos_kept.proofs.JoinedKept.{goes_on}
 use Rattle.eos_kept.proofs.front.Front.join.Goals as goal
@@ -13,5 +13,6 @@ pub returns-in-Ok-append-clause-ok : goal.returns-in-Ok-append-clause-ok
 returns-in-Ok-append-clause-ok c = λ xs ys bs cs h k.
     let f = c.args.before in
     let g = c.args.after in
-    goes_on xs ys bs cs f g _ c.requires.end c.requires.next refl refl refl (c.in-Ok-append.ensures.items ∙ ap (λ (ms : List Marker). ms ++ g.markers.items) c.reserve.ensures.items) c.in-Ok.ensures.sequenced
+    let counted : c.in-Some.batches ≡ f.batches + g.batches = search rules in
+    goes_on xs ys bs cs f g _ c.requires.end c.requires.next refl refl counted refl (c.in-Ok-append.ensures.items ∙ ap (λ (ms : List Marker). ms ++ g.markers.items) c.reserve.ensures.items) c.in-Ok.ensures.sequenced
     (c.in-Ok.ensures.ok bs cs h.keeps.run k.keeps.run) h k

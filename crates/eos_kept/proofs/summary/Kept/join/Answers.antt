@@ -8,12 +8,12 @@ use Rattle.eos_kept.proofs.summary.Kept.join.Goals as goal
 pub returns-then-not-is_at_end-clause-ok : goal.returns-then-not-is_at_end-clause-ok
 returns-then-not-is_at_end-clause-ok g c = λ keep xs ys h k.
     let stopped : c.before-2.inside.front.stop ≢ AtEnd = search rules in
-    kept_before keep xs ys c.args.before (subst (λ v. v.front.stop ≢ AtEnd) c.before-2.view_is stopped) h
+    kept_before keep xs ys _ _ c.in-Some.sizes stopped (c.in-Some.ensures xs ys) (subst (λ v. IsKept keep xs v) (sym c.before-2.view_is) h) (subst (λ v. IsKept keep ys v) (sym c.after.view_is) k)
 
 pub returns-then-after-before-clause-ok : goal.returns-then-after-before-clause-ok
 returns-then-after-before-clause-ok g c = λ keep xs ys h k.
     let end : c.before-2.inside.front.stop ≡ AtEnd = search rules in
-    kept_between keep xs ys _ _ _ end c.if-after-before.true refl refl refl refl refl refl (subst (λ v. IsKept keep xs v) (sym c.before-2.view_is) h) (subst (λ v. IsKept keep ys v) (sym c.after.view_is) k)
+    kept_between keep xs ys _ _ _ end c.if-after-before.true refl refl refl refl refl refl refl (c.in-Some.ensures xs ys) (subst (λ v. IsKept keep xs v) (sym c.before-2.view_is) h) (subst (λ v. IsKept keep ys v) (sym c.after.view_is) k)
 
 pub invariant_of-before-in-Err : goal.invariant_of-before-in-Err
 invariant_of-before-in-Err g c = some_run c.before-2.inside.front.run _ c.in-Err.ensures.err.0.run c.before-2.invariant
@@ -23,5 +23,5 @@ invariant_of-after g c = some_run c.after.inside.front.run _ c.in-Err.ensures.er
 
 pub returns-in-Ok-append-clause-ok : goal.returns-in-Ok-append-clause-ok
 returns-in-Ok-append-clause-ok g c = λ keep xs ys h k.
-    kept_on keep xs ys _ _ _ (λ bs cs p q. c.in-Ok.ensures.ok xs ys bs cs p q) (c.in-Ok-append.ensures.items ∙ ap (λ ks. ks ++ c.after.inside.kept.items) c.reserve.ensures.items) (subst (λ v. IsKept keep xs v) (sym c.before-2.view_is) h)
+    kept_on keep xs ys _ _ _ (λ bs cs p q. c.in-Ok.ensures.ok xs ys bs cs p q) (c.in-Ok-append.ensures.items ∙ ap (λ ks. ks ++ c.after.inside.kept.items) c.reserve.ensures.items) (c.in-Some.ensures xs ys) (subst (λ v. IsKept keep xs v) (sym c.before-2.view_is) h)
     (subst (λ v. IsKept keep ys v) (sym c.after.view_is) k)
