@@ -39,7 +39,9 @@ use Rattle.eos_fold.proofs.SteadyFronts.{front_steady}
 use Rattle.eos_run.specs.declared.run.Run.{Run}
 use Rattle.eos_run.specs.Runs.{heads_of, summary_with, IsRunOf}
 use Rattle.eos_kept.specs.declared.front.Front.{Front}
+use Rattle.eos_kept.specs.declared.sizes.Sizes.{Sizes}
 use Rattle.eos_kept.specs.Kept.{KeptView, KeepsFront}
+use Rattle.eos_kept.specs.Sizes.{AreSized}
 use Rattle.eos_claims.specs.Headers.{claim_of}
 use Rattle.eos_wanted.specs.declared.wanted.Wanted.{Wanted}
 use Rattle.eos_wanted.specs.declared.wanted.Wanted.TheVariants as wants
@@ -51,7 +53,7 @@ use Rattle.eos_keeping.specs.Records.{record_of, wanted_record, ReadsBack}
 use Rattle.eos_keeping.proofs.ExactClaims.{exact_claim}
 use Rattle.eos_wanted.proofs.ClaimHeaders.{back}
 use Rattle.eos_part.specs.declared.records.Records.{Records}
-use Rattle.eos_part.specs.Parts.{AreKept, IsWantedPart}
+use Rattle.eos_part.specs.Parts.{AreKept, HasBatches, IsWantedPart}
 use Rattle.eos_part.specs.steps.Closes.{closes_under}
 use Rattle.eos_part.specs.steps.Fronts.{records_of, AreRead, IsWholeFront, AreWhole, IsChecked, IsApart}
 use Rattle.eos_part.specs.Items.{items_under, Fits}
@@ -181,19 +183,26 @@ module _ (w : Wanted) (segments : List Segment) (f : Front) (kept : Records) (m 
     least = record { batches = m.batches; stop = f.stop; front = m.whole.front; least = least };
   }
 
+  pub batches_told : (count : ℕ) → count ≡ f.batches → HasBatches segments count
+  batches_told count e = record { batches = m.batches; stop = f.stop; front = m.whole.front; counted = e ∙ m.whole.keeps.counted }
+
 -- ---- what is kept of segments, taken apart
 
 pub read_of : {K : Type 0} (w : Wanted) (keep : ℕ → Record → K) (f : K → Record) → ((n : ℕ) (r : Record) → f (keep n r) ≡ wanted_record w r)
-    → (segments : List Segment) (run : Option (KeptView K)) (front : Option Front) (items : List K) (kept : Records) → IsApart run front items → records_in kept ≡ map f items → AreKept keep segments run → AreRead w segments front kept
-read_of {K} w keep f h segments None front items kept a e k = subst (λ (o : Option Front). AreRead w segments o kept) (sym a.0) (k, e ∙ ap (map f) a.1)
-read_of {K} w keep f h segments (Some v) front items kept a e k =
+    → (segments : List Segment) (run : Option (KeptView K)) (front : Option Front) (items : List K) (sizes : Sizes) (kept : Records) → IsApart run front items sizes → records_in kept ≡ map f items → AreKept keep segments run → AreRead w segments front kept
+read_of {K} w keep f h segments None front items sizes kept a e k = subst (λ (o : Option Front). AreRead w segments o kept) (sym a.0) (k, e ∙ ap (map f) a.1)
+read_of {K} w keep f h segments (Some v) front items sizes kept a e k =
     subst (λ (o : Option Front). AreRead w segments o kept) (sym a.0)
     (k.batches, k.front, e ∙ (ap (map f) a.1 ∙ (ap (map f) k.kept ∙ kept_records keep w f h k.batches)))
 
 pub all_kept : {K : Type 0} (keep : ℕ → Record → K) (P : K → Type 0) → ((n : ℕ) (r : Record) → P (keep n r))
-    → (segments : List Segment) (run : Option (KeptView K)) (front : Option Front) (items : List K) → IsApart run front items → AreKept keep segments run → All P items
-all_kept {K} keep P h segments None front items a k = subst (λ (xs : List K). All P xs) (sym a.1) (kept_all keep P h [])
-all_kept {K} keep P h segments (Some v) front items a k = subst (λ (xs : List K). All P xs) (sym (a.1 ∙ k.kept)) (kept_all keep P h k.batches)
+    → (segments : List Segment) (run : Option (KeptView K)) (front : Option Front) (items : List K) (sizes : Sizes) → IsApart run front items sizes → AreKept keep segments run → All P items
+all_kept {K} keep P h segments None front items sizes a k = subst (λ (xs : List K). All P xs) (sym a.1) (kept_all keep P h [])
+all_kept {K} keep P h segments (Some v) front items sizes a k = subst (λ (xs : List K). All P xs) (sym (a.1 ∙ k.kept)) (kept_all keep P h k.batches)
+
+pub sized_of : {K : Type 0} (keep : ℕ → Record → K) (segments : List Segment) (run : Option (KeptView K)) (front : Option Front) (items : List K) (sizes : Sizes) → IsApart run front items sizes → AreKept keep segments run → AreSized segments sizes
+sized_of keep segments None front items sizes a k = subst (λ (ss : List Segment). AreSized ss sizes) (sym k) a.2
+sized_of keep segments (Some v) front items sizes a k = subst (λ (s : Sizes). AreSized segments s) (sym a.2) k.sizes
 
 pub map_same : {X : Type 0} (xs : List X) → map (λ (x : X). x) xs ≡ xs
 map_same [] = refl
@@ -201,20 +210,20 @@ map_same {X} (x ∷ xs) = ap (λ (ys : List X). x ∷ ys) (map_same xs)
 
 -- ---- the three kinds of wanting
 
-pub presence_read : (segments : List Segment) (run : Option (KeptView (Unit {0}))) (front : Option Front) (items : List (Unit {0})) (kept : Records) → IsApart run front items
+pub presence_read : (segments : List Segment) (run : Option (KeptView (Unit {0}))) (front : Option Front) (items : List (Unit {0})) (sizes : Sizes) (kept : Records) → IsApart run front items sizes
     → records_in kept ≡ map (λ (one : Unit {0}). record_of None None None) items → AreKept (λ (n : ℕ) (r : Record). tt) segments run → AreRead wants.Presence segments front kept
 presence_read = read_of wants.Presence (λ (n : ℕ) (r : Record). tt) (λ (one : Unit {0}). record_of None None None) (λ n r. refl)
 
 module _ (topics : List (List ℕ)) where
-  pub outputs_read : (segments : List Segment) (run : Option (KeptView KeptOutput)) (front : Option Front) (items : List KeptOutput) (kept : Records) → IsApart run front items
+  pub outputs_read : (segments : List Segment) (run : Option (KeptView KeptOutput)) (front : Option Front) (items : List KeptOutput) (sizes : Sizes) (kept : Records) → IsApart run front items sizes
       → records_in kept ≡ map (output_record topics) items → AreKept (λ (n : ℕ) (r : Record). kept_output topics (claim_of r.headers)) segments run → AreRead wants.Claims segments front kept
   outputs_read = read_of wants.Claims (λ (n : ℕ) (r : Record). kept_output topics (claim_of r.headers)) (output_record topics) (λ n r. ap (record_of None None) (exact_claim topics (claim_of r.headers)))
 
-  pub outputs_back : (segments : List Segment) (run : Option (KeptView KeptOutput)) (front : Option Front) (items : List KeptOutput) → IsApart run front items
+  pub outputs_back : (segments : List Segment) (run : Option (KeptView KeptOutput)) (front : Option Front) (items : List KeptOutput) (sizes : Sizes) → IsApart run front items sizes
       → AreKept (λ (n : ℕ) (r : Record). kept_output topics (claim_of r.headers)) segments run → All (λ (one : KeptOutput). ReadsBack (claim_kept topics one)) items
   outputs_back = all_kept (λ (n : ℕ) (r : Record). kept_output topics (claim_of r.headers)) (λ (one : KeptOutput). ReadsBack (claim_kept topics one))
       (λ n r. subst ReadsBack (sym (exact_claim topics (claim_of r.headers))) (back r.headers))
 
-pub texts_read : (segments : List Segment) (run : Option (KeptView Record)) (front : Option Front) (items : List Record) (kept : Records) → IsApart run front items
+pub texts_read : (segments : List Segment) (run : Option (KeptView Record)) (front : Option Front) (items : List Record) (sizes : Sizes) (kept : Records) → IsApart run front items sizes
     → records_in kept ≡ items → AreKept (λ (n : ℕ) (r : Record). wanted_record wants.Texts r) segments run → AreRead wants.Texts segments front kept
-texts_read segments run front items kept a e k = read_of wants.Texts (λ (n : ℕ) (r : Record). wanted_record wants.Texts r) (λ (r : Record). r) (λ n r. refl) segments run front items kept a (e ∙ sym (map_same items)) k
+texts_read segments run front items sizes kept a e k = read_of wants.Texts (λ (n : ℕ) (r : Record). wanted_record wants.Texts r) (λ (r : Record). r) (λ n r. refl) segments run front items sizes kept a (e ∙ sym (map_same items)) k

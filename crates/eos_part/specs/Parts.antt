@@ -1,17 +1,22 @@
 -- What is said of a partition of which is kept what is wanted of its log: there is the log of its segments, and this is what is
--- wanted of it. Its least fault is told beside it, since it is one of the segments' bytes.
-use Rattle.std.specs.Prelude.{◌≡◌, ℕ, List, [], Option, Some, None}
+-- wanted of it. Its least fault, its batches, and how large its segments are, is told beside it, since it is said of their bytes.
+use Rattle.std.specs.Prelude.{◌≡◌, ℕ, List, [], length, Option, Some, None}
+use Rattle.eos_batch.specs.declared.batch.Batch.{Batch}
 use Rattle.eos_batch.specs.declared.record.Record.{Record}
 use Rattle.eos_evidence.specs.declared.segment.Segment.{Segment}
 use Rattle.eos_evidence.specs.declared.ends.End.{End}
 use Rattle.eos_touch.specs.declared.fault.PartitionFault.{PartitionFault}
+use Rattle.eos_fold.specs.declared.stop.Stop.{Stop}
+use Rattle.eos_fold.specs.Fronts.{IsFront}
 use Rattle.eos_fold.specs.LeastFaults.{IsFaultIn}
 use Rattle.eos_fold.specs.Parts.{PartLog}
 use Rattle.eos_fold.specs.Standing.{AreOf}
 use Rattle.eos_fold.specs.Whole.{IsPartOf}
 use Rattle.eos_kept.specs.Kept.{KeptView, IsKept}
+use Rattle.eos_kept.specs.Sizes.{AreSized}
 use Rattle.eos_wanted.specs.declared.wanted.Wanted.{Wanted}
 use Rattle.eos_wanted.specs.Wanted.{wanted_log}
+use Rattle.eos_part.specs.declared.part.Told.{Told}
 
 -- what is kept of these segments, or there are none
 abbrev pub AreKept : {K : Type 0} → (ℕ → Record → K) → List Segment → Option (KeptView K) → Type 0
@@ -25,6 +30,19 @@ pub record IsWantedPart (w : Wanted) (end : End) (segments : List Segment) (part
   pub wanted : part ≡ wanted_log w log
   pub least : IsFaultIn end.topic end.partition end.end segments fault
 
+-- the front of these segments has so many batches
+pub record HasBatches (segments : List Segment) (count : ℕ) : Type 0 where
+  pub batches : List Batch
+  pub stop : Stop
+  pub front : IsFront 0 segments batches stop
+  pub counted : count ≡ length batches
+
+-- the same with the batches of its front, and how large these segments are
+pub record IsTold (w : Wanted) (end : End) (segments : List Segment) (told : Told) : Type 0 where
+  pub part : IsWantedPart w end segments told.part told.fault
+  pub batches : HasBatches segments told.batches
+  pub sizes : AreSized segments told.sizes
+
 -- so it is for all segments of this partition of which this is kept
-abbrev pub IsMade : {K : Type 0} → Wanted → (ℕ → Record → K) → End → Option (KeptView K) → PartLog × Option PartitionFault → Type 0
-IsMade w keep end run made = (segments : List Segment) → AreKept keep segments run → AreOf end.topic end.partition segments → IsWantedPart w end segments made.0 made.1
+abbrev pub IsMade : {K : Type 0} → Wanted → (ℕ → Record → K) → End → Option (KeptView K) → Told → Type 0
+IsMade w keep end run told = (segments : List Segment) → AreKept keep segments run → AreOf end.topic end.partition segments → IsTold w end segments told

@@ -3,18 +3,25 @@
 ghost use Rattle.std.specs.Prelude.{◌≡◌};
 ghost use Rattle.eos_part.specs.steps.Fronts.{IsApart};
 
-use eos_kept::{Front, Kept};
+use eos_kept::{Front, Kept, Sizes};
 use std::alloc::Global;
 
-/// The front and what is kept of its records; of no segment no front and no records.
-pub(crate) fn apart<T: Drop>(alloc: Global, run: Option<Kept<T>>) -> (Option<Front>, Vec<T>)
-    ensures { IsApart run result.0 result.1.items }
+/// The front, what is kept of its records, and how large the segments are; of no segment no front and no records.
+pub(crate) fn apart<T: Drop>(alloc: Global, run: Option<Kept<T>>) -> (Option<Front>, Vec<T>, Sizes)
+    ensures { IsApart run result.0 result.1.items result.2 }
 {
     match run {
-        None => (None, Vec::new(alloc)),
+        None => {
+            let sizes = Sizes {
+                segments: 0,
+                bytes: 0,
+            };
+            (None, Vec::new(alloc), sizes)
+        }
         Some(run) => {
+            let sizes = run.sizes();
             let (front, kept) = run.into_parts();
-            (Some(front), kept)
+            (Some(front), kept, sizes)
         }
     }
 }

@@ -18,5 +18,5 @@ mod whole;
 pub use cursor::KeptCursor;
 pub use item::KeptItem;
 pub use items::KeptItems;
-pub use part::Part;
+pub use part::{Part, Told};
 pub use run::{Asked, KeptRun};

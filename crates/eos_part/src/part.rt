@@ -22,7 +22,7 @@ use eos_batch::Marker;
 use eos_evidence::End;
 use eos_fold::Close;
 use eos_keeping::{KeptOutput, KeptText};
-use eos_kept::{Front, Kept};
+use eos_kept::{Front, Kept, Sizes};
 use eos_touch::PartitionFault;
 use std::alloc::{AllocError, Global};
 use std::marker::Model;
@@ -47,20 +47,38 @@ impl Model for Part {
     ghost invariant = { λ p. Rises p.items × Ascends p.closes.items };
 }
 
-/// The log of a partition that is declared to end here, of a front and what is kept of its records, and the least fault.
+/// What is wanted of a partition's log, and what is said of its bytes, which are gone.
+#[derive(Drop)]
+pub struct Told {
+    pub part: Part,
+    /// The least fault of the bytes.
+    pub fault: Option<PartitionFault>,
+    /// The number of batches of the front of the segments, control batches too.
+    pub batches: u64,
+    /// How large the segments are, whatever of them is of the front.
+    pub sizes: Sizes,
+}
+
+/// The log of a partition that is declared to end here, of a front, what is kept of its records, and how large its segments are.
 fn made(
     alloc: Global,
     end: End,
     front: Option<Front>,
     mut kept: Records,
-) -> Result<(Part, Option<PartitionFault>), AllocError>
+    sizes: Sizes,
+) -> Result<Told, AllocError>
     requires known { (w : Wanted) × (segments : List Segment) × AreRead w segments front kept }
     requires claims { ReadBack kept }
-    ensures { IfOk result (IsPartFrom end front kept) }
+    ensures { IfOk result (IsPartFrom end front kept sizes) }
 {
     let front = of_all(alloc, end.topic.as_slice(), front, &mut kept);
     let fault = least_fault(&front, end.topic.clone()?, &end);
-    let Front { markers, run, .. } = front;
+    let Front {
+        batches,
+        markers,
+        run,
+        ..
+    } = front;
     let heads = run.into_heads();
     let closes = closes_of(alloc, heads.as_slice())?;
     let part = Part {
@@ -69,25 +87,26 @@ fn made(
         closes,
         markers,
     };
-    Ok((part, fault))
+    Ok(Told {
+        part,
+        fault,
+        batches,
+        sizes,
+    })
 }
 
 impl Part {
-    /// The log of a partition that is declared to end here, of whose records it is kept that they are there, and the least fault
-    /// of its bytes. What is kept counts as that of the whole list of its segments.
+    /// The log of a partition that is declared to end here, of whose records it is kept that they are there. What is kept counts as
+    /// that of the whole list of its segments.
     ///
     /// # Errors
     /// Only want of memory.
-    pub fn of_presence(
-        alloc: Global,
-        end: End,
-        run: Option<Kept<()>>,
-    ) -> Result<(Part, Option<PartitionFault>), AllocError>
+    pub fn of_presence(alloc: Global, end: End, run: Option<Kept<()>>) -> Result<Told, AllocError>
         requires { (segments : List Segment) × AreKept (λ offset r. tt) segments run }
         ensures { IfOk result (IsMade Presence (λ offset r. tt) end run) }
     {
-        let (front, kept) = apart(alloc, run);
-        made(alloc, end, front, Records::Presence(kept))
+        let (front, kept, sizes) = apart(alloc, run);
+        made(alloc, end, front, Records::Presence(kept), sizes)
     }
 
     /// The same of an output, of whose records the claims are kept. The topics are those that were asked for.
@@ -99,12 +118,12 @@ impl Part {
         end: End,
         topics: Vec<Bytes>,
         run: Option<Kept<KeptOutput>>,
-    ) -> Result<(Part, Option<PartitionFault>), AllocError>
+    ) -> Result<Told, AllocError>
         requires { (segments : List Segment) × AreKept (λ offset r. kept_output topics.items (claim_of r.headers)) segments run }
         ensures { IfOk result (IsMade Claims (λ offset r. kept_output topics.items (claim_of r.headers)) end run) }
     {
-        let (front, kept) = apart(alloc, run);
-        made(alloc, end, front, Records::Claims { topics, kept })
+        let (front, kept, sizes) = apart(alloc, run);
+        made(alloc, end, front, Records::Claims { topics, kept }, sizes)
     }
 
     /// The same of one of Kafka's own logs, of whose records keys and values are kept.
@@ -115,12 +134,12 @@ impl Part {
         alloc: Global,
         end: End,
         run: Option<Kept<KeptText>>,
-    ) -> Result<(Part, Option<PartitionFault>), AllocError>
+    ) -> Result<Told, AllocError>
         requires { (segments : List Segment) × AreKept (λ offset r. wanted_record Texts r) segments run }
         ensures { IfOk result (IsMade Texts (λ offset r. wanted_record Texts r) end run) }
     {
-        let (front, kept) = apart(alloc, run);
-        made(alloc, end, front, Records::Texts(kept))
+        let (front, kept, sizes) = apart(alloc, run);
+        made(alloc, end, front, Records::Texts(kept), sizes)
     }
 
     /// The topic's bytes.

@@ -40,6 +40,7 @@ fn nothing(alloc: Global, topic: &[u8], stop: Stop) -> Front
         begin: 0,
         next: 0,
         stop,
+        batches: 0,
         markers: Vec::new(alloc),
         run: Run::new(alloc, is_checked(topic)),
     }

@@ -8,16 +8,17 @@ use Rattle.eos_evidence.specs.declared.segment.Segment.{Segment}
 use Rattle.eos_evidence.specs.declared.ends.End.{End}
 use Rattle.eos_evidence.specs.Topics.{is_internal}
 use Rattle.eos_summary.specs.Settling.{data_in}
-use Rattle.eos_touch.specs.declared.fault.PartitionFault.{PartitionFault}
 use Rattle.eos_fold.specs.Fronts.{IsFront}
-use Rattle.eos_fold.specs.Parts.{PartLog}
 use Rattle.eos_fold.specs.Standing.{AreOf}
 use Rattle.eos_kept.specs.declared.front.Front.{Front}
+use Rattle.eos_kept.specs.declared.sizes.Sizes.{Sizes}
 use Rattle.eos_kept.specs.Kept.{KeptView, KeepsFront, IsFrontOf}
+use Rattle.eos_kept.specs.Sizes.{AreSized}
 use Rattle.eos_wanted.specs.declared.wanted.Wanted.{Wanted}
 use Rattle.eos_keeping.specs.Records.{wanted_record}
 use Rattle.eos_part.specs.declared.records.Records.{Records}
-use Rattle.eos_part.specs.Parts.{IsWantedPart}
+use Rattle.eos_part.specs.declared.part.Told.{Told}
+use Rattle.eos_part.specs.Parts.{IsTold}
 use Rattle.eos_part.specs.Records.{records_in}
 
 -- the records of data batches, in order
@@ -50,10 +51,10 @@ abbrev pub IsChecked : List ℕ → Front → Type 0
 IsChecked topic f = f.run.sequenced ≡ not (is_internal topic)
 
 -- what is kept of segments, or of none, taken apart
-abbrev pub IsApart : {K : Type 0} → Option (KeptView K) → Option Front → List K → Type 0
-IsApart None front kept = (front ≡ None) × (kept ≡ [])
-IsApart (Some run) front kept = (front ≡ Some run.front) × (kept ≡ run.kept)
+abbrev pub IsApart : {K : Type 0} → Option (KeptView K) → Option Front → List K → Sizes → Type 0
+IsApart None front kept sizes = (front ≡ None) × (kept ≡ []) × AreSized [] sizes
+IsApart (Some run) front kept sizes = (front ≡ Some run.front) × (kept ≡ run.kept) × (sizes ≡ run.sizes)
 
--- what is wanted of the log of the segments of this front, and its least fault
-abbrev pub IsPartFrom : End → Option Front → Records → PartLog × Option PartitionFault → Type 0
-IsPartFrom end front kept made = (w : Wanted) (segments : List Segment) → AreRead w segments front kept → AreOf end.topic end.partition segments → IsWantedPart w end segments made.0 made.1
+-- what is wanted of the log of the segments of this front, and what is said of their bytes
+abbrev pub IsPartFrom : End → Option Front → Records → Sizes → Told → Type 0
+IsPartFrom end front kept sizes told = (w : Wanted) (segments : List Segment) → AreRead w segments front kept → AreSized segments sizes → AreOf end.topic end.partition segments → IsTold w end segments told

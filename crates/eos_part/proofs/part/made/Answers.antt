@@ -7,7 +7,7 @@ use Rattle.eos_part.specs.steps.Closes.{closes_under}
 use Rattle.eos_part.specs.steps.Fronts.{IsChecked}
 use Rattle.eos_items.specs.declared.item.Item.{Item}
 use Rattle.eos_part.specs.Parts.{IsWantedPart}
-use Rattle.eos_part.proofs.PartsMade.{items_rise_so, heads_fit_so, said_so, whole_so, part_made}
+use Rattle.eos_part.proofs.PartsMade.{items_rise_so, heads_fit_so, said_so, whole_so, part_made, batches_told}
 use Rattle.eos_part.proofs.part.made.Goals as goal
 
 pub new-requires-clause-fits : goal.new-requires-clause-fits
@@ -36,7 +36,7 @@ invariant_of-part c =
     (subst Rises (sym c.new.ensures) rise, c.in_ok-closes.ensures.ascend)
 
 pub returns : goal.returns
-returns c = λ w segments read of.
+returns c = λ w segments read sized of.
     let end = c.args.end in
     let f = c.of_all-front.result in
     let kept = c.of_all-front.new.kept in
@@ -48,6 +48,7 @@ returns c = λ w segments read of.
     let cloned : c.in_ok-clone.field-0 ≡ end.topic = c.in_ok-clone.ensures.cases in
     let least = c.least_fault-fault.ensures segments m.batches m.whole (subst (λ (t : List ℕ). IsChecked t f) (sym cloned) checked) in
     let part : List Item → PartLog = λ items. record { topic = end.topic; number = end.partition; end = end.end; segments = []; items = items; closes = c.in_ok-closes.closes.items; markers = f.markers.items } in
-    subst (λ (items : List Item). IsWantedPart w end segments (part items) c.least_fault-fault.result) (sym c.new.ensures)
+    let wanted = subst (λ (items : List Item). IsWantedPart w end segments (part items) c.least_fault-fault.result) (sym c.new.ensures)
     (part_made w segments f kept m heads c.into_heads-heads.ensures end c.in_ok-closes.closes.items f.markers.items c.least_fault-fault.result closes refl
-    (subst (λ (t : List ℕ). IsPartitionFault t end.partition end.end m.batches f.stop c.least_fault-fault.result) cloned least))
+    (subst (λ (t : List ℕ). IsPartitionFault t end.partition end.end m.batches f.stop c.least_fault-fault.result) cloned least)) in
+    record { part = wanted; batches = batches_told w segments f kept m heads c.into_heads-heads.ensures f.batches refl; sizes = sized }
