@@ -2,3 +2,4 @@ pub mod SameThrough
 pub mod ClaimHeaders
 pub mod WantedItems
 pub mod TopicSearch
+pub mod NamedHeaders

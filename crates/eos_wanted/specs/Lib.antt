@@ -1,2 +1,3 @@
 pub mod Names
 pub mod Wanted
+pub mod Named

@@ -1,0 +1,11 @@
+use Rattle.eos_wanted.proofs.NamedHeaders.{values_same, claim_same, named_twice}
+use Rattle.eos_wanted.proofs.laws.named.Goals as goal
+
+pub returns-clause-values : goal.returns-clause-values
+returns-clause-values c = values_same
+
+pub returns-clause-claim : goal.returns-clause-claim
+returns-clause-claim c = claim_same
+
+pub returns-clause-twice : goal.returns-clause-twice
+returns-clause-twice c = named_twice
