@@ -13,7 +13,7 @@ use Rattle.eos_wanted.specs.Wanted.{claim_headers, wanted_headers}
 
 -- ---- what was read is small
 
-bind_some : {A B : Type 0} (o : Option A) (f : A → Option B) (y : B) → (o >>= f) ≡ Some y → (x : A) × (o ≡ Some x) × (f x ≡ Some y)
+pub bind_some : {A B : Type 0} (o : Option A) (f : A → Option B) (y : B) → (o >>= f) ≡ Some y → (x : A) × (o ≡ Some x) × (f x ≡ Some y)
 bind_some (Some x) f y e = (x, refl, e)
 bind_some None f y e = absurd cc
 
@@ -51,7 +51,7 @@ int64_small value n e = natural_some w64 8 value n e
 
 -- ---- a claim that was read
 
-abbrev claim_with : List ℕ → ℕ → ℕ → ℕ → ℕ → Claim
+abbrev pub claim_with : List ℕ → ℕ → ℕ → ℕ → ℕ → Claim
 claim_with topic partition offset output of = record { topic = topic; partition = pos partition; offset = offset; output = output; of = of }
 
 record IsRead (x : Claim) : Type 0 where

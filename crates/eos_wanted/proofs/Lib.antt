@@ -3,3 +3,4 @@ pub mod ClaimHeaders
 pub mod WantedItems
 pub mod TopicSearch
 pub mod NamedHeaders
+pub mod SaidClaims

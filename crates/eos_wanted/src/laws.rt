@@ -1,13 +1,14 @@
 //! What is wanted of a log says as much as the log does. These functions do nothing; their contracts are theorems.
 
-ghost use Rattle.std.specs.Prelude.{◌≡◌, ◌↔◌, ℕ, List};
+ghost use Rattle.std.specs.Prelude.{◌≡◌, ◌↔◌, ℕ, List, Some};
 ghost use Rattle.eos_base.specs.Members.{Has};
 ghost use Rattle.eos_batch.specs.declared.record.Header.{Header};
+ghost use Rattle.eos_claims.specs.declared.claim.Claim.{Claim};
 ghost use Rattle.eos_claims.specs.Headers.{values_of, claim_of};
 ghost use Rattle.eos_fold.specs.Parts.{PartLog, Rises};
 ghost use Rattle.eos_items.specs.declared.item.Item.{Item};
-ghost use Rattle.eos_wanted.specs.Named.{claim_names, named_headers};
-ghost use Rattle.eos_wanted.specs.Wanted.{wanted_headers, wanted_item, wanted_log};
+ghost use Rattle.eos_wanted.specs.Named.{claim_names, named_headers, AreTexts};
+ghost use Rattle.eos_wanted.specs.Wanted.{claim_headers, wanted_headers, wanted_item, wanted_log};
 ghost use Rattle.eos_wanted.specs.declared.wanted.Wanted.{Wanted};
 ghost use Rattle.eos_wanted.specs.declared.wanted.Wanted.TheVariants.{Presence, Claims, Texts};
 
@@ -25,10 +26,12 @@ pub fn claims()
     ensures texts { (x : Item) → claim_of (wanted_item Texts x).headers ≡ claim_of x.headers }
 {}
 
-/// The headers that stand under one of the five names of a claim say what all headers say of it, a claim or not.
+/// The headers that stand under one of the five names of a claim say what all headers say of it, a claim or not; where they say
+/// one, they are the five that say it.
 pub fn named()
     ensures values { (headers : List Header) (name : List ℕ) → Has claim_names name → values_of name (named_headers headers) ≡ values_of name headers }
     ensures claim { (headers : List Header) → claim_of (named_headers headers) ≡ claim_of headers }
+    ensures said { (headers : List Header) (claim : Claim) → AreTexts headers → claim_of headers ≡ Some claim → named_headers headers ≡ claim_headers claim }
     ensures twice { (headers : List Header) → named_headers (named_headers headers) ≡ named_headers headers }
 {}
 

@@ -1,4 +1,5 @@
 use Rattle.eos_wanted.proofs.NamedHeaders.{values_same, claim_same, named_twice}
+use Rattle.eos_wanted.proofs.SaidClaims.{claim_said}
 use Rattle.eos_wanted.proofs.laws.named.Goals as goal
 
 pub returns-clause-values : goal.returns-clause-values
@@ -9,3 +10,6 @@ returns-clause-claim c = claim_same
 
 pub returns-clause-twice : goal.returns-clause-twice
 returns-clause-twice c = named_twice
+
+pub returns-clause-said : goal.returns-clause-said
+returns-clause-said c = claim_said
