@@ -11,7 +11,7 @@ ghost use Rattle.eos_story.specs.steps.Telling.{Tells, TellsEach};
 
 use crate::batches::push_first;
 use crate::copies::copy_place;
-use crate::records::{count_of, push_find, push_records, push_rest};
+use crate::records::{count_sought, push_find, push_records, push_rest};
 use crate::row::Row;
 use crate::scene::Scene;
 use eos_base::PartitionName;
@@ -100,6 +100,21 @@ fn push_each(
 
 /// Adds the first claims that are sought, so many at most, each with the end of its transaction, and how many more there are, or
 /// that there is none.
+fn push_sought(
+    scene: &Scene<'_>,
+    rows: &mut Vec<Row>,
+    sought: &Sought,
+    most: u64,
+) -> Result<(), AllocError>
+    ensures { OnOk result (TellsEach scene.now rows.old.items rows.new.items (Claims sought.now most ∷ [])) }
+{
+    let finds = find_records(scene.alloc, scene.logs, sought, most)?;
+    push_each(scene, rows, sought, finds.first.as_slice())?;
+    push_rest(scene, rows, sought, most, finds.count)?;
+    Ok(())
+}
+
+/// The same, of what is sought for this alone.
 pub(crate) fn push_claims(
     scene: &Scene<'_>,
     rows: &mut Vec<Row>,
@@ -108,10 +123,7 @@ pub(crate) fn push_claims(
 ) -> Result<(), AllocError>
     ensures { OnOk result (TellsEach scene.now rows.old.items rows.new.items (Claims sought most ∷ [])) }
 {
-    let finds = find_records(scene.alloc, scene.logs, &sought, most)?;
-    push_each(scene, rows, &sought, finds.first.as_slice())?;
-    push_rest(scene, rows, &sought, most, finds.count)?;
-    Ok(())
+    push_sought(scene, rows, &sought, most)
 }
 
 /// Adds the first claims of an input that no reader of committed records is given, two at most, each with the end of its
@@ -133,6 +145,6 @@ pub(crate) fn push_unseen(
 fn count_hidden(scene: &Scene<'_>, place: &Place) -> Result<u64, AllocError>
     ensures { IfOk result (λ count. count ≡ length (all_of (Hidden place.now) scene.now.logs.now)) }
 {
-    let sought = Sought::Hidden(copy_place(place)?);
-    count_of(scene, &sought)
+    let place = copy_place(place)?;
+    count_sought(scene, Sought::Hidden(place))
 }

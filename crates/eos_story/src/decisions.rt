@@ -12,7 +12,7 @@ ghost use Rattle.std.specs.Prelude.{Some};
 
 use crate::batches::push_first;
 use crate::copies::copy_sought;
-use crate::records::push_records;
+use crate::records::{first_found, push_records};
 use crate::row::{Row, add_row};
 use crate::scene::Scene;
 use crate::slices::from_on;
@@ -150,13 +150,50 @@ fn push_listed(
     Ok(())
 }
 
+/// The same, of what is sought for this alone.
+fn push_listed_by(
+    scene: &Scene<'_>,
+    rows: &mut Vec<Row>,
+    sought: Sought,
+    names: &[PartitionName],
+    wanted: Wanted,
+) -> Result<(), AllocError>
+    requires { 6 < length names.now → AreListed scene.now.logs.now sought (length names.now) }
+    ensures { OnOk result (TellsEach scene.now rows.old.items rows.new.items (in_each sought wanted names.now)) }
+{
+    push_listed(scene, rows, &sought, names, wanted)
+}
+
 /// The decision whose markers have this producer id and epoch, if there is one; and the partitions that it lists.
 fn decision_of(scene: &Scene<'_>, producer: i64, epoch: i16) -> Result<Vec<Find>, AllocError>
     ensures { IfOk result (λ found. slice_get found.items 0 ≡ decision producer epoch scene.now.logs.now) }
 {
-    let sought = Sought::Deciding { producer, epoch };
-    let finds = find_records(scene.alloc, scene.logs, &sought, 1)?;
-    Ok(finds.first)
+    first_found(scene, Sought::Deciding { producer, epoch })
+}
+
+/// Adds the first record that is found, which is the decision, and of each partition that it lists what `push_listing` says.
+fn push_decided(
+    scene: &Scene<'_>,
+    rows: &mut Vec<Row>,
+    producer: i64,
+    epoch: i16,
+    found: &[Find],
+) -> Result<(), AllocError>
+    requires { slice_get found.now 0 ≡ decision producer epoch scene.now.logs.now }
+    ensures { OnOk result (TellsEach scene.now rows.old.items rows.new.items (listing scene.now.logs.now producer epoch)) }
+{
+    push_records(scene, rows, Sought::Deciding { producer, epoch }, 1)?;
+    let names = listed(scene.alloc, found)?;
+    let marking = Wanted::Marking { producer, epoch };
+    let decided = Sought::Deciding { producer, epoch };
+    push_listed_by(scene, rows, decided, names.as_slice(), marking)?;
+    let data = Wanted::Data {
+        producer,
+        epoch: epoch_before(epoch),
+    };
+    let decided = Sought::Deciding { producer, epoch };
+    push_listed_by(scene, rows, decided, names.as_slice(), data)?;
+    Ok(())
 }
 
 /// Adds the decision whose markers have this producer id and epoch, and of each partition that it lists the marker, or that there
@@ -170,16 +207,7 @@ pub(crate) fn push_listing(
     ensures { OnOk result (TellsEach scene.now rows.old.items rows.new.items (listing scene.now.logs.now producer epoch)) }
 {
     let found = decision_of(scene, producer, epoch)?;
-    let names = listed(scene.alloc, found.as_slice())?;
-    push_records(scene, rows, Sought::Deciding { producer, epoch }, 1)?;
-    let decided = Sought::Deciding { producer, epoch };
-    let marking = Wanted::Marking { producer, epoch };
-    push_listed(scene, rows, &decided, names.as_slice(), marking)?;
-    let data = Wanted::Data {
-        producer,
-        epoch: epoch_before(epoch),
-    };
-    push_listed(scene, rows, &decided, names.as_slice(), data)?;
+    push_decided(scene, rows, producer, epoch, found.as_slice())?;
     Ok(())
 }
 
@@ -227,6 +255,25 @@ fn lister(producer: i64, epoch: i16, found: &[Find]) -> Sought
     Sought::Deciding { producer, epoch }
 }
 
+/// Adds the first record that is found, which is the decision, and of each partition what `push_markers` says.
+fn push_marked(
+    scene: &Scene<'_>,
+    rows: &mut Vec<Row>,
+    producer: i64,
+    epoch: i16,
+    found: &[Find],
+) -> Result<(), AllocError>
+    requires { slice_get found.now 0 ≡ decision producer epoch scene.now.logs.now }
+    ensures { OnOk result (TellsEach scene.now rows.old.items rows.new.items (markers_of scene.now.logs.now producer epoch)) }
+{
+    push_records(scene, rows, Sought::Deciding { producer, epoch }, 1)?;
+    let names = listed_open(scene, producer, found)?;
+    let sought = lister(producer, epoch, found);
+    let marking = Wanted::Marking { producer, epoch };
+    push_listed_by(scene, rows, sought, names.as_slice(), marking)?;
+    Ok(())
+}
+
 /// Adds the decision whose markers have this producer id and epoch, and of each partition that is listed for the transaction the
 /// marker, or that there is none; and how many more partitions there are.
 pub(crate) fn push_markers(
@@ -238,10 +285,6 @@ pub(crate) fn push_markers(
     ensures { OnOk result (TellsEach scene.now rows.old.items rows.new.items (markers_of scene.now.logs.now producer epoch)) }
 {
     let found = decision_of(scene, producer, epoch)?;
-    let names = listed_open(scene, producer, found.as_slice())?;
-    let sought = lister(producer, epoch, found.as_slice());
-    push_records(scene, rows, Sought::Deciding { producer, epoch }, 1)?;
-    let marking = Wanted::Marking { producer, epoch };
-    push_listed(scene, rows, &sought, names.as_slice(), marking)?;
+    push_marked(scene, rows, producer, epoch, found.as_slice())?;
     Ok(())
 }

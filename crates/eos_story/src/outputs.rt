@@ -11,7 +11,7 @@ use crate::claims::{push_claims, push_unseen};
 use crate::copies::{copy_bytes, copy_name, copy_place};
 use crate::decisions::bytes_of;
 use crate::headers::push_headers;
-use crate::records::{count_of, push_records};
+use crate::records::{count_sought, first_found, push_records};
 use crate::row::Row;
 use crate::scene::Scene;
 use bytes::Bytes;
@@ -19,7 +19,7 @@ use eos_claims::{OutputFault, Place};
 use eos_commits::{VisibleFault, VisibleFaultKind};
 use eos_evidence::GroupId;
 use eos_lineage::LineageFault;
-use eos_sought::{Find, Sought, find_records, group_of};
+use eos_sought::{Find, Sought, group_of};
 use std::alloc::{AllocError, Global};
 
 // ---- phase 4
@@ -51,8 +51,8 @@ fn push_group(
 fn group_rows(scene: &Scene<'_>, rows: &mut Vec<Row>, place: Place) -> Result<(), AllocError>
     ensures { OnOk result (TellsEach scene.now rows.old.items rows.new.items (of_group scene.now.logs.now place)) }
 {
-    let finds = find_records(scene.alloc, scene.logs, &Sought::At(place), 1)?;
-    let group = group_in(scene.alloc, finds.first.as_slice())?;
+    let found = first_found(scene, Sought::At(place))?;
+    let group = group_in(scene.alloc, found.as_slice())?;
     push_group(scene, rows, group)?;
     Ok(())
 }
@@ -122,11 +122,9 @@ fn group_bytes(scene: &Scene<'_>, group: &Option<GroupId>) -> Result<Option<Byte
 fn count_past(scene: &Scene<'_>, group: &Bytes, place: &Place) -> Result<u64, AllocError>
     ensures { IfOk result (λ count. count ≡ length (all_of (Passing group.now place.now) scene.now.logs.now)) }
 {
-    let by_group = Sought::Passing {
-        group: copy_bytes(group)?,
-        place: copy_place(place)?,
-    };
-    count_of(scene, &by_group)
+    let group = copy_bytes(group)?;
+    let place = copy_place(place)?;
+    count_sought(scene, Sought::Passing { group, place })
 }
 
 /// The commits of others that go past an input, where the group has none.

@@ -34,6 +34,21 @@ pub(crate) fn count_of(scene: &Scene<'_>, sought: &Sought) -> Result<u64, AllocE
     Ok(finds.count)
 }
 
+/// The same, of what is sought for this alone.
+pub(crate) fn count_sought(scene: &Scene<'_>, sought: Sought) -> Result<u64, AllocError>
+    ensures { IfOk result (λ count. count ≡ length (all_of sought scene.now.logs.now)) }
+{
+    count_of(scene, &sought)
+}
+
+/// The first data record that is sought, if there is one.
+pub(crate) fn first_found(scene: &Scene<'_>, sought: Sought) -> Result<Vec<Find>, AllocError>
+    ensures { IfOk result (λ found. slice_get found.items 0 ≡ slice_get (all_of sought scene.now.logs.now) 0) }
+{
+    let finds = find_records(scene.alloc, scene.logs, &sought, 1)?;
+    Ok(finds.first)
+}
+
 /// Adds a data record that is sought.
 pub(crate) fn push_find(
     scene: &Scene<'_>,
@@ -100,6 +115,21 @@ fn push_finds(
 }
 
 /// Adds the first data records that are sought, so many at most, and how many more there are, or that there is none.
+pub(crate) fn push_sought(
+    scene: &Scene<'_>,
+    rows: &mut Vec<Row>,
+    sought: &Sought,
+    most: u64,
+) -> Result<(), AllocError>
+    ensures { OnOk result (TellsEach scene.now rows.old.items rows.new.items (Records sought.now most ∷ [])) }
+{
+    let finds = find_records(scene.alloc, scene.logs, sought, most)?;
+    push_finds(scene, rows, sought, finds.first.as_slice())?;
+    push_rest(scene, rows, sought, most, finds.count)?;
+    Ok(())
+}
+
+/// The same, of what is sought for this alone.
 pub(crate) fn push_records(
     scene: &Scene<'_>,
     rows: &mut Vec<Row>,
@@ -108,10 +138,7 @@ pub(crate) fn push_records(
 ) -> Result<(), AllocError>
     ensures { OnOk result (TellsEach scene.now rows.old.items rows.new.items (Records sought most ∷ [])) }
 {
-    let finds = find_records(scene.alloc, scene.logs, &sought, most)?;
-    push_finds(scene, rows, &sought, finds.first.as_slice())?;
-    push_rest(scene, rows, &sought, most, finds.count)?;
-    Ok(())
+    push_sought(scene, rows, &sought, most)
 }
 
 /// Adds how many data records are sought so, where there are more than so many, or that there is none; and the last of them.
@@ -132,4 +159,16 @@ pub(crate) fn push_latest(
     let last = from_on(all, all.len().saturating_sub(most));
     push_finds(scene, rows, sought, last)?;
     Ok(())
+}
+
+/// The same, of what is sought for this alone.
+pub(crate) fn push_last_of(
+    scene: &Scene<'_>,
+    rows: &mut Vec<Row>,
+    sought: Sought,
+    most: usize,
+) -> Result<(), AllocError>
+    ensures { OnOk result (TellsEach scene.now rows.old.items rows.new.items (LatestOf sought most ∷ [])) }
+{
+    push_latest(scene, rows, &sought, most)
 }

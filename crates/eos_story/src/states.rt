@@ -9,7 +9,7 @@ ghost use Rattle.eos_table.specs.declared.log_fault.LogFaultKind.TheVariants.{Sp
 
 use crate::copies::{copy_bytes, copy_place};
 use crate::decisions::{bytes_of, epoch_after, push_markers};
-use crate::records::{push_latest, push_records};
+use crate::records::{first_found, push_last_of, push_records};
 use crate::row::Row;
 use crate::scene::Scene;
 use crate::slices::from_on;
@@ -63,9 +63,7 @@ pub(crate) fn push_last(
 ) -> Result<(), AllocError>
     ensures { OnOk result (TellsEach scene.now rows.old.items rows.new.items (Latest (OfProducer producer) 4 ∷ [])) }
 {
-    let states = Sought::OfProducer(producer);
-    push_latest(scene, rows, &states, 4)?;
-    Ok(())
+    push_last_of(scene, rows, Sought::OfProducer(producer), 4)
 }
 
 // ---- of a transactional id
@@ -86,7 +84,7 @@ fn push_before(
         id: named,
         place: end,
     };
-    push_latest(scene, rows, &states, most)?;
+    push_last_of(scene, rows, states, most)?;
     Ok(())
 }
 
@@ -100,16 +98,23 @@ fn state_in(alloc: Global, finds: &[Find]) -> Result<Option<TxnValue>, AllocErro
     state_of(alloc, bytes_of(&finds[0].item.value))
 }
 
+/// The last of the states that are sought.
+fn last_sought(scene: &Scene<'_>, sought: &Sought) -> Result<Option<TxnValue>, AllocError>
+    ensures { IfOk result (λ state. state ≡ state_said (last_of sought.now scene.now.logs.now)) }
+{
+    let count = find_records(scene.alloc, scene.logs, sought, 0)?.count;
+    let finds = find_records(scene.alloc, scene.logs, sought, count)?;
+    let states = finds.first.as_slice();
+    let before = states.len().saturating_sub(1);
+    state_in(scene.alloc, from_on(states, before))
+}
+
 /// The last state of a transactional id.
 fn last_state(scene: &Scene<'_>, id: &Bytes) -> Result<Option<TxnValue>, AllocError>
     ensures { IfOk result (λ state. state ≡ state_said (last_of (OfId id.now) scene.now.logs.now)) }
 {
-    let sought = Sought::OfId(copy_bytes(id)?);
-    let count = find_records(scene.alloc, scene.logs, &sought, 0)?.count;
-    let finds = find_records(scene.alloc, scene.logs, &sought, count)?;
-    let states = finds.first.as_slice();
-    let before = states.len().saturating_sub(1);
-    state_in(scene.alloc, from_on(states, before))
+    let id = copy_bytes(id)?;
+    last_sought(scene, &Sought::OfId(id))
 }
 
 /// Beside those before the place, which is in another partition, the first of all.
@@ -144,8 +149,8 @@ fn push_by_producer(
 fn push_holders(scene: &Scene<'_>, rows: &mut Vec<Row>, place: Place) -> Result<(), AllocError>
     ensures { OnOk result (TellsEach scene.now rows.old.items rows.new.items (by_holder scene.now.logs.now place)) }
 {
-    let finds = find_records(scene.alloc, scene.logs, &Sought::At(place), 1)?;
-    let state = state_in(scene.alloc, finds.first.as_slice())?;
+    let found = first_found(scene, Sought::At(place))?;
+    let state = state_in(scene.alloc, found.as_slice())?;
     push_by_producer(scene, rows, state)?;
     Ok(())
 }
@@ -200,7 +205,7 @@ fn push_unfinished(
 {
     let state = last_state(scene, id)?;
     let named = copy_bytes(id)?;
-    push_latest(scene, rows, &Sought::OfId(named), 4)?;
+    push_last_of(scene, rows, Sought::OfId(named), 4)?;
     push_transaction(scene, rows, state)?;
     Ok(())
 }

@@ -10,4 +10,4 @@ returns c =
     let id = c.args.id.now in
     let place = c.args.place.now in
     let most = c.args.most in
-    each_as (Latest (Before id place) most ∷ []) (ap (λ (g : List ℕ). Latest (Before g c.in_ok-end.end) most ∷ []) c.in_ok-named.ensures ∙ ap (λ (p : Place). Latest (Before id p) most ∷ []) c.in_ok-end.ensures) c.in_ok-push_latest.ensures
+    each_as (Latest (Before id place) most ∷ []) (ap (λ (g : List ℕ). Latest (Before g c.in_ok-end.end) most ∷ []) c.in_ok-named.ensures ∙ ap (λ (p : Place). Latest (Before id p) most ∷ []) c.in_ok-end.ensures) c.in_ok-push_last_of.ensures

@@ -8,5 +8,5 @@ pub returns : goal.returns
 returns c =
     let logs = c.args.scene.now.logs.now in
     let id = c.args.id.now in
-    then (each_as (Latest (OfId id) 4 ∷ []) (ap (λ (g : List ℕ). Latest (OfId g) 4 ∷ []) c.in_ok-named.ensures) c.in_ok-push_latest.ensures)
+    then (each_as (Latest (OfId id) 4 ∷ []) (ap (λ (g : List ℕ). Latest (OfId g) 4 ∷ []) c.in_ok-named.ensures) c.in_ok-push_last_of.ensures)
     (each_as (of_state logs (state_said (last_of (OfId id) logs))) (ap (of_state logs) c.in_ok-state.ensures) c.in_ok-push_transaction.ensures)

@@ -2,7 +2,7 @@ use Rattle.std.proofs.Common.{◌∙◌, refl, ap, take}
 use Rattle.eos_sought.specs.Finds.{all_of}
 use Rattle.eos_story.proofs.RowsPushed.{all_kept}
 use Rattle.eos_story.proofs.RowsTold.{records_told}
-use Rattle.eos_story.proofs.records.push_records.Goals as goal
+use Rattle.eos_story.proofs.records.push_sought.Goals as goal
 
 pub push_finds-requires : goal.push_finds-requires
 push_finds-requires c = all_kept _ c.in_ok-finds.finds _ c.in_ok-finds.ensures.1 c.as_slice.ensures.value
@@ -12,5 +12,5 @@ push_rest-requires c = c.in_ok-finds.ensures.1.number
 
 pub returns : goal.returns
 returns c =
-    records_told c.args.sought c.args.most c.in_ok-finds.finds.count c.as_slice.result.now (all_of c.args.sought c.args.scene.now.logs.now) refl c.in_ok-finds.ensures.1.number c.in_ok-push_finds.ensures c.in_ok-push_rest.ensures
-    (c.as_slice.ensures.value ∙ (c.in_ok-finds.ensures.1.kept ∙ ap (λ n. take n (all_of c.args.sought c.args.scene.now.logs.now)) c.in_ok-finds.ensures.0))
+    records_told c.args.sought.now c.args.most c.in_ok-finds.finds.count c.as_slice.result.now (all_of c.args.sought.now c.args.scene.now.logs.now) refl c.in_ok-finds.ensures.1.number c.in_ok-push_finds.ensures c.in_ok-push_rest.ensures
+    (c.as_slice.ensures.value ∙ (c.in_ok-finds.ensures.1.kept ∙ ap (λ n. take n (all_of c.args.sought.now c.args.scene.now.logs.now)) c.in_ok-finds.ensures.0))
