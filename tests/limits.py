@@ -4,10 +4,12 @@
     tests/limits.py PROGRAM
 
 Runs `dump` and `chain` with a bound on the address space or on the time, and compares what they print with the plain
-reading of tests/mutants.py. Prints what is wrong, and as its last line 'N passed, N failed'.
+reading of tests/mutants.py; and of evidence that is large looks how much memory `check` takes. Prints what is wrong, and as its
+last line 'N passed, N failed'.
 """
 import os
 import resource
+import shutil
 import struct
 import subprocess
 import sys
@@ -23,6 +25,12 @@ LIMIT = 2**30
 SMALL = 64 * MIB
 # What a run may take that does work in proportion to its input. The slowest takes a tenth of it on a slow machine.
 SECONDS = 60
+
+# Runs a program, and says on standard error how many KiB it held at its peak.
+PEAK = """import resource, subprocess, sys
+done = subprocess.run(sys.argv[1:])
+print(resource.getrusage(resource.RUSAGE_CHILDREN).ru_maxrss, file=sys.stderr)
+sys.exit(done.returncode)"""
 
 TABLE = []
 for i in range(256):
@@ -181,6 +189,20 @@ def answers_the_largest(cases):
         cases.compare("2^30 + 1 bytes", command, path, (2, b"", said))
 
 
+def answers_evidence_in_little_memory(cases):
+    """Evidence of 256 MiB, in which each record has 100 bytes and each output a claim: at its peak `check` holds much less."""
+    top = os.path.dirname(os.path.dirname(os.path.abspath(__file__)))
+    maker, path = os.path.join(cases.folder, "maker"), os.path.join(cases.folder, "evidence")
+    subprocess.run(["cc", "-O2", "-o", maker, os.path.join(top, "bench/folder.c")], check=True)
+    made = subprocess.run([maker, path, "256", "7"], stdout=subprocess.PIPE, check=True)
+    verdict = made.stdout.split(b"\n")[0] + b"\n"
+    # Of a process that was forked off a large one the peak would be that one's, so a small one runs the program.
+    done = subprocess.run([sys.executable, "-c", PEAK, cases.program, "check", path], capture_output=True)
+    right = (done.returncode, done.stdout) == (0, verdict) and int(done.stderr) * 1024 < 0.7 * 256 * MIB
+    cases.tell("256 MiB of evidence", None if right else f"{done.returncode} {done.stdout!r} {done.stderr!r} KiB at the peak")
+    shutil.rmtree(path)
+
+
 def main():
     with tempfile.TemporaryDirectory() as folder:
         cases = Cases(os.path.abspath(sys.argv[1]), folder)
@@ -188,6 +210,7 @@ def main():
         answers_large_records(cases)
         answers_many_batches(cases)
         answers_the_largest(cases)
+        answers_evidence_in_little_memory(cases)
     print(f"{cases.passed} passed, {cases.failed} failed")
     sys.exit(1 if cases.failed else 0)
 

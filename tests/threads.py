@@ -2,9 +2,9 @@
 """How many threads `check` starts, which only its speed depends on, and how many work at once: never more than there are workers.
 The caller does one share of each step itself, so a step in n shares starts n - 1, and with one worker none is started.
 
-With N workers, over P files and O partitions of output topics, these are: reading in as many shares as runs of P / N files, rounded
-up, make; the workers' own pieces in N, the matching in N shards, the claims in as many shares as runs of O / N partitions, rounded
-up, make; and where there are 4,096 claims or more, the sort of these, in at most N.
+With N workers, over O partitions of output topics, these are: those that draw pieces and read them, N, the matching in N shards, the
+claims in as many shares as runs of O / N partitions, rounded up, make; and where there are 4,096 claims or more, the sort of these, in
+at most N.
 
 Without `--workers` there are four. Who asks `check_lineage` and names no number gets at most 64: the probe does.
 
@@ -53,7 +53,7 @@ def large(folder):
 
 
 def shares(things, workers):
-    """In how many runs of equal length, but the last, the files or the partitions are cut."""
+    """In how many runs of equal length, but the last, the partitions are cut."""
     run = -(-things // workers)
     return -(-things // run)
 
@@ -70,12 +70,12 @@ def check_runs(program, library):
     """For each run of `check` whether it starts so many threads, and a text."""
     with tempfile.TemporaryDirectory() as made:
         said = large(made)
-        # A folder, its answer, its files, its outputs' partitions, its workers, and in how many shares at most the claims are sorted.
-        cases = [(SMALL, "yes transactions=1 inputs=2 outputs=3\n", 5, 2, workers, 1) for workers in (None, 1, 2, 4, 8, 64)]
-        cases += [(made, said, 3 + OUTPUTS, OUTPUTS, workers, workers) for workers in (1, 2, 3, 8)]
-        for folder, answer, files, outputs, named, sorting in cases:
+        # A folder, its answer, its outputs' partitions, its workers, and in how many shares at most the claims are sorted.
+        cases = [(SMALL, "yes transactions=1 inputs=2 outputs=3\n", 2, workers, 1) for workers in (None, 1, 2, 4, 8, 64)]
+        cases += [(made, said, OUTPUTS, workers, workers) for workers in (1, 2, 3, 8)]
+        for folder, answer, outputs, named, sorting in cases:
             workers = named or 4
-            least = shares(files, workers) - 1 + 2 * (workers - 1) + shares(outputs, workers) - 1 + min(sorting - 1, 1)
+            least = 2 * (workers - 1) + shares(outputs, workers) - 1 + min(sorting - 1, 1)
             greatest = least + max(sorting - 2, 0)
             words = ["--workers", str(named)] if named else []
             done, started, most = counted([program, "check", *words, folder], library)

@@ -25,7 +25,6 @@ use Rattle.eos_lineage.proofs.LogsInOrder.{sorted}
 use Rattle.eos_check.specs.declared.verdict.Fault.TheVariants.{Partition as InPartition, Log, Match}
 use Rattle.eos_check.specs.Verdicts.{StandsInPartitions, StandsInLog, StandsInMatching, partition_cmp}
 use Rattle.eos_check.proofs.FirstFault.{least_of_first}
-use Rattle.eos_check.proofs.PhaseAnswers.{partition_none}
 use Rattle.eos_fault_list.specs.AllOf.{IsAllOf}
 use Rattle.eos_fault_list.proofs.WholeList.{none_listed, plain_rises}
 use Rattle.eos_output_faults.specs.LineageFaults.{IsLaterOf, AreLineageFaults}
@@ -67,7 +66,7 @@ module _ (e : EvidenceParts) (ls : List PartLog) (of : AreLogsOf e.partitions ls
     found_in_partitions f first (x ∷ xs) all = partition_list e ls of x xs all
 
     pub none_in_partitions : IsFirstFault ls None → NoneStands (StandsInPartitions e.partitions ls of)
-    none_in_partitions first = partition_none e ls of is first
+    none_in_partitions first = least_of_first e.partitions ls of (sorted e is) None first
 
 -- ---- those of records, where one stands
 

@@ -8,6 +8,7 @@ ghost use Rattle.eos_lineage.specs.declared.fault.LineageFault.TheVariants.{Reco
 ghost use Rattle.eos_lineage.specs.EvidenceLogs.{AreLogsOf};
 ghost use Rattle.eos_check.specs.declared.verdict.Fault.TheVariants.{Partition as InPartition, Log, Match, Lineage};
 ghost use Rattle.eos_check.specs.Verdicts.{StandsInPartitions, StandsInLog, StandsInMatching};
+ghost use Rattle.eos_partitions.specs.Faults.{AreFaultsIn};
 ghost use Rattle.eos_output_faults.specs.LineageFaults.{AreLineageFaults};
 ghost use Rattle.eos_all_faults.specs.AllFaults.{AreAllFaults};
 
@@ -15,11 +16,12 @@ use crate::partitions::all_partition_faults;
 use eos_check::Fault;
 use eos_commits::VisibleFault;
 use eos_evidence::{Evidence, Spec};
-use eos_fold::{Part, first_fault};
 use eos_lineage::LineageFault;
 use eos_log_faults::all_log_faults;
 use eos_match_faults::all_match_faults;
 use eos_output_faults::all_output_faults;
+use eos_partition::Part;
+use eos_partitions::Logs;
 use eos_record_faults::all_record_faults;
 use eos_table::{LogFault, MatchFault};
 use eos_touch::PartitionFault;
@@ -141,19 +143,16 @@ fn after_partitions(alloc: Global, spec: &Spec, logs: &[Part]) -> Result<Vec<Fau
 ///
 /// # Errors
 /// Only want of memory.
-pub fn all_faults(
-    alloc: Global,
-    evidence: &Evidence,
-    logs: &[Part],
-) -> Result<Vec<Fault>, AllocError>
-    ensures { (of : AreLogsOf evidence.now.partitions logs.now) → IfOk result (λ faults. AreAllFaults evidence.now logs.now of faults.items) }
+pub fn all_faults(alloc: Global, evidence: &Evidence, logs: &Logs) -> Result<Vec<Fault>, AllocError>
+    ensures { (of : AreLogsOf evidence.now.partitions logs.now.parts.items) → AreFaultsIn evidence.now.partitions logs.now.faults.items
+        → IfOk result (λ faults. AreAllFaults evidence.now logs.now.parts.items of faults.items) }
 {
     let spec = evidence.spec();
-    if let Some(_fault) = first_fault(logs) {
+    if let Some(_fault) = logs.first_fault() {
         let faults = all_partition_faults(alloc, evidence)?;
         let list = of_partitions(alloc, faults)?;
         return Ok(list);
     }
-    let list = after_partitions(alloc, spec, logs)?;
+    let list = after_partitions(alloc, spec, logs.parts.as_slice())?;
     Ok(list)
 }

@@ -12,6 +12,7 @@ pub mod PiecesTied
 pub mod PiecesFit
 pub mod PiecesDrawn
 pub mod SettledShards
+pub mod NamedFaults
 pub mod PhaseAnswers
 pub mod FrontsUnique
 pub mod WholeTexts

@@ -72,7 +72,7 @@ module _ (e : EvidenceParts) (is : IsEvidence e) where
         (record { stands = m.stands.3; least = λ h s. m.least (Lineage h) (m.stands.0, m.stands.1, m.stands.2, s) })
         (record { stands = n.stands.3; least = λ h s. n.least (Lineage h) (m.stands.0, m.stands.1, m.stands.2, s) }))
 
-    one_count : (c d : Counts) → AreCounts e ls c → AreCounts e ls d → c ≡ d
+    one_count : (c d : Counts) → AreCounts e.spec.apps ls c → AreCounts e.spec.apps ls d → c ≡ d
     one_count c d h k =
         let transactions = h.transactions ∙ sym k.transactions in
         let inputs = h.inputs ∙ sym k.inputs in

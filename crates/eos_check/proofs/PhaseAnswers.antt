@@ -1,29 +1,33 @@
 -- What the phases answer, put together.
-use Rattle.std.proofs.Common.{◌≡◌, ℕ, List, Some, None, Result, Ok, Err, length, sym, ap, subst, ◌∙◌}
+use Rattle.std.proofs.Common.{◌≡◌, ℕ, List, Option, Some, None, Result, Ok, Err, length, sym, ap, subst, ◌∙◌}
 use Rattle.std.specs.Prelude.{IfOk}
 use Rattle.std.specs.Result.{MatchResult}
-use Rattle.eos_base.specs.Least.{NoneStands, IsLeast}
+use Rattle.eos_base.specs.Least.{NoneStands, IsLeast, IsLeastOrNone}
+use Rattle.eos_evidence.specs.declared.application.App.{App}
 use Rattle.eos_evidence.specs.Evidence.{EvidenceParts, IsEvidence}
 use Rattle.eos_touch.specs.declared.fault.PartitionFault.{PartitionFault}
-use Rattle.eos_fold.specs.LeastFaults.{IsFirstFault}
 use Rattle.eos_fold.specs.Parts.{PartLog}
 use Rattle.eos_txnlog.specs.declared.decision.Decision.{Decision}
-use Rattle.eos_table.specs.declared.log_fault.LogFault.{LogFault}
-use Rattle.eos_table.specs.TransactionLog.{transaction_parts, decisions_of, AreInOrder}
-use Rattle.eos_table.specs.LogFaults as logs
+use Rattle.eos_table.specs.TransactionLog.{transaction_parts, decisions_of}
+use Rattle.eos_table.specs.TransactionLog as table
 use Rattle.eos_table.specs.MatchFaults as matches
-use Rattle.eos_check.specs.declared.verdict.Fault.{Fault}
-use Rattle.eos_commits.specs.Faults as commits
+use Rattle.eos_commits.specs.Faults.{AreInOrder}
 use Rattle.eos_lineage.specs.declared.counts.LineageCounts.{LineageCounts}
 use Rattle.eos_lineage.specs.declared.fault.LineageFault.{LineageFault}
-use Rattle.eos_lineage.specs.Faults as lineage
-use Rattle.eos_check.specs.declared.verdict.Fault.TheVariants.{Partition as InPartition, Log, Lineage}
+use Rattle.eos_lineage.specs.Faults.{IsAnswer}
+use Rattle.eos_partitions.specs.declared.logs.Logs.{Logs}
+use Rattle.eos_partitions.specs.Faults.{first_of}
+use Rattle.eos_check.specs.declared.verdict.Fault.{Fault}
+use Rattle.eos_check.specs.declared.verdict.Fault.TheVariants.{Partition as InPartition, Log, Match, Lineage}
+use Rattle.eos_check.specs.declared.verdict.Verdict.{Verdict}
 use Rattle.eos_check.specs.declared.verdict.Verdict.TheVariants.{Yes, No}
 use Rattle.eos_lineage.specs.EvidenceLogs.{AreLogsOf}
-use Rattle.eos_check.specs.Verdicts.{StandsInPartitions, StandsInLog, StandsInMatching, IsVerdictOf, IsVerdict}
+use Rattle.eos_check.specs.Verdicts.{StandsInPartitions, StandsInLog, StandsInMatching, partition_cmp, IsVerdictOf, IsVerdict}
+use Rattle.eos_check.specs.Judged.{IsVerdictOver, IsJudged}
+use Rattle.eos_check.specs.WholeLogs.{AreWholeLogs}
 use Rattle.eos_check.specs.steps.Phases.{IsMatched, IsTransacted}
-use Rattle.eos_check.proofs.FirstFault.{least_of_first}
-use Rattle.eos_lineage.proofs.LogsInOrder.{sorted, in_order}
+use Rattle.eos_lineage.proofs.LogsInOrder.{in_order}
+use Rattle.eos_check.proofs.NamedFaults.{least_named}
 use Rattle.eos_check.proofs.TransactionLogInOrder.{log_in_order}
 use Rattle.eos_check.proofs.VerdictsMade.{no_partition, no_log, no_match, no_lineage, yes}
 
@@ -34,47 +38,53 @@ if_ok (Err e) P Q f h = h
 pub match_ok : {X E : Type 0} (P : X → Type 0) (Q : E → Type 0) (r : Result X E) (x : X) → r ≡ Ok x → MatchResult r P Q → P x
 match_ok P Q r x e h = subst (λ s. MatchResult s P Q) e h
 
-pub partition_found : (e : EvidenceParts) (ls : List PartLog) (of : AreLogsOf e.partitions ls) → IsEvidence e → (f : PartitionFault) → IsFirstFault ls (Some f)
-    → IsVerdictOf e ls of (No (InPartition f))
-partition_found e ls of is f first = no_partition e ls of f (least_of_first e.partitions ls of (sorted e is) (Some f) first)
+-- ---- the transaction log and the matching
 
-pub partition_none : (e : EvidenceParts) (ls : List PartLog) (of : AreLogsOf e.partitions ls) → IsEvidence e → IsFirstFault ls None
-    → NoneStands (StandsInPartitions e.partitions ls of)
-partition_none e ls of is first = least_of_first e.partitions ls of (sorted e is) None first
-
-pub log_found : (e : EvidenceParts) (ls : List PartLog) (of : AreLogsOf e.partitions ls) → IsEvidence e → IsFirstFault ls None → (f : LogFault)
-    → (AreInOrder (transaction_parts ls) → IsLeast logs.log_cmp (StandsInLog ls) f) → IsVerdictOf e ls of (No (Log f))
-log_found e ls of is at f least = no_log e ls of f (partition_none e ls of is at) (least (log_in_order ls (in_order e ls is of)))
-
-pub matched_found : (e : EvidenceParts) (ls : List PartLog) (of : AreLogsOf e.partitions ls) → IsEvidence e → IsFirstFault ls None → (ds : List Decision)
-    → (AreInOrder (transaction_parts ls) → NoneStands (StandsInLog ls) × (ds ≡ decisions_of (transaction_parts ls)))
-    → (r : Result ℕ Fault) → IsMatched ds ls r → IsTransacted e ls of r
-matched_found e ls of is at ds read (Ok n) m =
-    let log = read (log_in_order ls (in_order e ls is of)) in
+pub matched_found : (ls : List PartLog) → AreInOrder ls → (ds : List Decision)
+    → (table.AreInOrder (transaction_parts ls) → NoneStands (StandsInLog ls) × (ds ≡ decisions_of (transaction_parts ls)))
+    → (r : Result ℕ Fault) → IsMatched ds ls r → IsTransacted ls r
+matched_found ls is ds read (Ok n) m =
+    let log = read (log_in_order ls is) in
     let matched : NoneStands (StandsInMatching ls) = subst (λ (xs : List Decision). NoneStands (matches.Stands xs ls)) log.1 m.1 in
-    (m.0 ∙ ap length log.1, partition_none e ls of is at, log.0, matched)
-matched_found e ls of is at ds read (Err f) m =
-    let log = read (log_in_order ls (in_order e ls is of)) in
+    (m.0 ∙ ap length log.1, log.0, matched)
+matched_found ls is ds read (Err f) m =
+    let log = read (log_in_order ls is) in
     let least : IsLeast matches.fault_cmp (StandsInMatching ls) m.0 = subst (λ (xs : List Decision). IsLeast matches.fault_cmp (matches.Stands xs ls) m.0) log.1 m.2 in
-    subst (λ (g : Fault). IsVerdictOf e ls of (No g)) (sym m.1) (no_match e ls of m.0 (partition_none e ls of is at) log.0 least)
+    λ apps. subst (λ (g : Fault). IsVerdictOver apps ls (No g)) (sym m.1) (log.0, least)
 
--- ---- the last two phases
+-- ---- what is judged
 
-pub lineage_found : (e : EvidenceParts) (ls : List PartLog) (of : AreLogsOf e.partitions ls) → IsEvidence e → (n : ℕ) → IsTransacted e ls of (Ok n) → (f : LineageFault)
-    → (commits.AreInOrder ls → IsLeast (lineage.lineage_cmp e.spec.apps) (lineage.Stands e.spec.apps ls) f) → IsVerdictOf e ls of (No (Lineage f))
-lineage_found e ls of is n t f least = no_lineage e ls of f t.1 t.2 t.3 (least (in_order e ls is of))
+unnamed : (apps : List App) (ls : List PartLog) (o : Option PartitionFault) (v : Verdict) → o ≡ None → (AreInOrder ls → IsVerdictOver apps ls v) → IsJudged apps ls o v
+unnamed apps ls o v e h = subst (λ (x : Option PartitionFault). IsJudged apps ls x v) (sym e) h
 
-pub lineage_kept : (e : EvidenceParts) (ls : List PartLog) (of : AreLogsOf e.partitions ls) → IsEvidence e → (n : ℕ) → IsTransacted e ls of (Ok n) → (counts : LineageCounts)
-    → (commits.AreInOrder ls → lineage.IsAnswer e.spec.apps ls (Ok counts))
-    → IsVerdictOf e ls of (Yes (record { transactions = n; inputs = counts.inputs; outputs = counts.outputs }))
-lineage_kept e ls of is n t counts answer =
-    let a = answer (in_order e ls is of) in
-    yes e ls of (record { transactions = n; inputs = counts.inputs; outputs = counts.outputs }) is t.1 t.2 t.3 a.0 (record { transactions = t.0; inputs = a.1; outputs = a.2 })
+module _ (apps : List App) (ls parts : List PartLog) (same : parts ≡ ls) (o : Option PartitionFault) (none : o ≡ None) (r : Result ℕ Fault) (transacted : AreInOrder parts → IsTransacted parts r) where
+  over_parts : (v : Verdict) → (AreInOrder parts → IsVerdictOver apps parts v) → IsJudged apps ls o v
+  over_parts v h = unnamed apps ls o v none (subst (λ (ps : List PartLog). AreInOrder ps → IsVerdictOver apps ps v) same h)
 
--- ---- the verdict
+  pub refused : (f : Fault) → r ≡ Err f → IsJudged apps ls o (No f)
+  refused f is = over_parts (No f) (λ at. let t : IsTransacted parts (Err f) = subst (IsTransacted parts) is (transacted at) in t apps)
 
-pub refused : (e : EvidenceParts) (ls : List PartLog) (of : AreLogsOf e.partitions ls) (r : Result ℕ Fault) (f : Fault) → r ≡ Err f → IsTransacted e ls of r → IsVerdict e (No f)
-refused e ls of r f at h = (ls, of, subst (IsTransacted e ls of) at h)
+  pub answered : (n : ℕ) → r ≡ Ok n → (l : Result LineageCounts LineageFault) → (AreInOrder parts → IsAnswer apps parts l) → (v : Verdict)
+      → (IsTransacted parts (Ok n) → IsAnswer apps parts l → IsVerdictOver apps parts v) → IsJudged apps ls o v
+  answered n is l lineage v h = over_parts v (λ at. h (subst (IsTransacted parts) is (transacted at)) (lineage at))
 
-pub transacted : (e : EvidenceParts) (ls : List PartLog) (of : AreLogsOf e.partitions ls) (r : Result ℕ Fault) (n : ℕ) → r ≡ Ok n → IsTransacted e ls of r → IsTransacted e ls of (Ok n)
-transacted e ls of r n at h = subst (IsTransacted e ls of) at h
+-- ---- the verdict of logs whose partitions have no fault by themselves, or this one as the least
+
+module _ (e : EvidenceParts) (ls : List PartLog) (of : AreLogsOf e.partitions ls) (is : IsEvidence e) where
+  over : NoneStands (StandsInPartitions e.partitions ls of) → (v : Verdict) → IsVerdictOver e.spec.apps ls v → IsVerdictOf e ls of v
+  over p (No (InPartition f)) h = absurd h
+  over p (No (Log f)) h = no_log e ls of f p h
+  over p (No (Match f)) h = no_match e ls of f p h.0 h.1
+  over p (No (Lineage f)) h = no_lineage e ls of f p h.0 h.1 h.2
+  over p (Yes c) h = yes e ls of c is p h.0 h.1 h.2 h.3
+
+  judged_by : (o : Option PartitionFault) → IsLeastOrNone partition_cmp (StandsInPartitions e.partitions ls of) o → (v : Verdict) → IsJudged e.spec.apps ls o v → IsVerdictOf e ls of v
+  judged_by None p v h = over p v (h (in_order e ls is of))
+  judged_by (Some f) p v h = subst (IsVerdictOf e ls of) (sym h) (no_partition e ls of f p)
+
+pub judged : (e : EvidenceParts) → IsEvidence e → (logs : Logs) → AreWholeLogs e.partitions logs → (v : Verdict)
+    → IsJudged e.spec.apps logs.parts.items (first_of logs.faults.items) v → IsVerdict e v
+judged e is logs whole v h =
+    let ls = logs.parts.items in
+    let fault = first_of logs.faults.items in
+    (ls, whole.parts, judged_by e ls whole.parts is fault (least_named e ls whole.parts logs.faults.items is whole.faults) v h)

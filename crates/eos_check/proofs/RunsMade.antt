@@ -86,12 +86,15 @@ logs_push [] (m ∷ ls) p l h k = absurd h
 logs_push (q ∷ ps) [] p l h k = absurd h
 logs_push (q ∷ ps) (m ∷ ls) p l h k = (h.0, logs_push ps ls p l h.1 k)
 
+pub take_next : (ps : List Partition) (i : ℕ) (p : Partition) → i < length ps → p ≡ get_or ps i p → take (i + 1) ps ≡ take i ps ++ p ∷ []
+take_next ps i p lt e =
+    let step : i + 1 ≡ suc i = omega arith in
+    ap (λ (n : ℕ). take n ps) step ∙ (take-suc ps i p lt ∙ ap (λ (q : Partition). take i ps ++ q ∷ []) (sym e))
+
 pub logs_next : (ps : List Partition) (i : ℕ) (ls : List PartLog) (p : Partition) (l : PartLog) → i < length ps → p ≡ get_or ps i p
     → AreLogsOf (take i ps) ls → IsLogOf p l → AreLogsOf (take (i + 1) ps) (ls ++ l ∷ [])
 logs_next ps i ls p l lt e h k =
-    let step : i + 1 ≡ suc i = omega arith in
-    let one : take (i + 1) ps ≡ take i ps ++ p ∷ [] = ap (λ (n : ℕ). take n ps) step ∙ (take-suc ps i p lt ∙ ap (λ (q : Partition). take i ps ++ q ∷ []) (sym e)) in
-    subst (λ (qs : List Partition). AreLogsOf qs (ls ++ l ∷ [])) (sym one) (logs_push (take i ps) ls p l h k)
+    subst (λ (qs : List Partition). AreLogsOf qs (ls ++ l ∷ [])) (sym (take_next ps i p lt e)) (logs_push (take i ps) ls p l h k)
 
 -- ---- the pieces of the partitions before
 

@@ -58,7 +58,7 @@ module _ (e : EvidenceParts) (ls : List PartLog) (of : AreLogsOf e.partitions ls
       up_to (Lineage g) s = m.least g s.3
 
   pub yes : (c : Counts) → IsEvidence e → NoneStands (StandsInPartitions e.partitions ls of) → NoneStands (StandsInLog ls) → NoneStands (StandsInMatching ls)
-      → NoneStands (lineage.Stands e.spec.apps ls) → AreCounts e ls c → IsVerdictOf e ls of (Yes c)
+      → NoneStands (lineage.Stands e.spec.apps ls) → AreCounts e.spec.apps ls c → IsVerdictOf e ls of (Yes c)
   yes c is p l t m counts = ((law e ls of is).1 none, counts)
     where
       none : (g : Fault) → Stands e ls of g → ⊥

@@ -83,14 +83,14 @@ verdict_cmp apps (Lineage f) (Lineage g) = lineage.lineage_cmp apps f g
 
 -- ---- the verdict
 
-pub record AreCounts (e : EvidenceParts) (ls : List PartLog) (c : Counts) : Type 0 where
+pub record AreCounts (apps : List App) (ls : List PartLog) (c : Counts) : Type 0 where
   pub transactions : c.transactions ≡ length (decisions_of (transaction_parts ls))
-  pub inputs : c.inputs ≡ count_inputs e.spec.apps ls
-  pub outputs : c.outputs ≡ count_outputs e.spec.apps ls
+  pub inputs : c.inputs ≡ count_inputs apps ls
+  pub outputs : c.outputs ≡ count_outputs apps ls
 
 -- of the evidence whose logs these are
 abbrev pub IsVerdictOf : (e : EvidenceParts) (ls : List PartLog) → AreLogsOf e.partitions ls → Verdict → Type 0
-IsVerdictOf e ls of (Yes counts) = Good e ls × AreCounts e ls counts
+IsVerdictOf e ls of (Yes counts) = Good e ls × AreCounts e.spec.apps ls counts
 IsVerdictOf e ls of (No fault) = IsLeast (verdict_cmp e.spec.apps) (Stands e ls of) fault
 
 abbrev pub IsVerdict : EvidenceParts → Verdict → Type 0

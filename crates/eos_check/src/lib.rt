@@ -1,6 +1,7 @@
 //! The verdict over evidence: was the promise of exactly once kept, and if not, which is the first fault?
 #![tactic(auto)]
 
+mod judging;
 pub mod laws;
 mod one_thread;
 mod parts;
@@ -11,6 +12,7 @@ mod tied_evidence;
 mod verdict;
 mod workers;
 
+pub use judging::judge;
 pub use one_thread::{check_one, verdict_of};
 pub use verdict::{Counts, Fault, Verdict};
 pub use workers::{check, logs_of};

@@ -1,42 +1,21 @@
 //! The check of an evidence by one thread.
 
-ghost use Rattle.std.specs.Prelude.{◌≡◌, List, IfOk, Ok, Some};
-ghost use Rattle.eos_lineage.specs.EvidenceLogs.{AreLogsOf};
-ghost use Rattle.eos_check.specs.Verdicts.{IsVerdict, IsVerdictOf};
-ghost use Rattle.eos_check.specs.steps.Phases.{IsTransacted};
-ghost use Rattle.eos_commits.specs.Faults.{AreInOrder};
-ghost use Rattle.eos_evidence.specs.Evidence.{EvidenceParts, IsEvidence, segments_of};
-ghost use Rattle.eos_fold.specs.Parts.{PartLog};
-ghost use Rattle.eos_lineage.specs.Faults.{IsAnswer};
+ghost use Rattle.std.specs.Prelude.{◌≡◌, IfOk, Some};
+ghost use Rattle.eos_check.specs.Verdicts.{IsVerdict};
+ghost use Rattle.eos_check.specs.WholeLogs.{AreWholeLogs};
+ghost use Rattle.eos_evidence.specs.Evidence.{segments_of};
 
+use crate::judging::judge;
 use crate::parts::parts_from;
-use crate::phases::transactions;
 use crate::tied_evidence::TiedEvidence;
-use crate::verdict::{Counts, Fault, Verdict};
+use crate::verdict::Verdict;
 use eos_board_core::Pieces;
 use eos_evidence::Evidence;
-use eos_fold::Part;
-use eos_lineage::{LineageCounts, LineageFault, check_lineage_by};
+use eos_partitions::Logs;
 use eos_workers::Workers;
 use std::alloc::{AllocError, Global};
 use std::marker::{Brand, PhantomData};
 use std::thread::Threads;
-
-/// The verdict of logs in which no partition, no transaction log and none of so many transactions has a fault, by what the lineage
-/// answers.
-fn of_lineage(transactions: u64, lineage: Result<LineageCounts, LineageFault>) -> Verdict
-    ensures { (e : EvidenceParts) (logs : List PartLog) (of : AreLogsOf e.partitions logs) → IsEvidence e → IsTransacted e logs of (Ok transactions)
-        → (AreInOrder logs → IsAnswer e.spec.apps logs lineage) → IsVerdictOf e logs of result }
-{
-    match lineage {
-        Err(fault) => Verdict::No(Fault::Lineage(fault)),
-        Ok(counts) => Verdict::Yes(Counts {
-            transactions,
-            inputs: counts.inputs,
-            outputs: counts.outputs,
-        }),
-    }
-}
 
 /// The verdict of the evidence whose logs these are, by at most so many threads, with the transactions matched in as many
 /// shards: `check_one` of it.
@@ -47,26 +26,20 @@ pub fn verdict_of<R: Threads + Sync>(
     alloc: Global,
     rt: &R,
     evidence: &Evidence,
-    logs: &[Part],
+    logs: &Logs,
     workers: Workers,
 ) -> Result<Verdict, AllocError>
-    requires { AreLogsOf evidence.now.partitions logs.now }
+    requires { AreWholeLogs evidence.now.partitions logs.now }
     ensures { IfOk result (IsVerdict evidence.now) }
 {
     let spec = evidence.spec();
-    match transactions(alloc, rt, logs, workers)? {
-        Err(fault) => Ok(Verdict::No(fault)),
-        Ok(transactions) => {
-            let lineage = check_lineage_by(alloc, rt, workers, spec, logs)?;
-            Ok(of_lineage(transactions, lineage))
-        }
-    }
+    judge(alloc, rt, spec, logs, workers)
 }
 
 /// The logs of the evidence's partitions, in order, of which no run was made.
-fn parts_alone<E: Pieces>(alloc: Global, evidence: &Evidence) -> Result<Vec<Part>, AllocError>
+fn logs_alone<E: Pieces>(alloc: Global, evidence: &Evidence) -> Result<Logs, AllocError>
     requires { E.pieces ≡ Some (segments_of evidence.now.partitions) }
-    ensures { IfOk result (λ parts. AreLogsOf evidence.now.partitions parts.items) }
+    ensures { IfOk result (AreWholeLogs evidence.now.partitions) }
 {
     let evidence = TiedEvidence {
         evidence,
@@ -91,6 +64,6 @@ pub fn check_one<R: Threads + Sync>(
 ) -> Result<Verdict, AllocError>
     ensures { IfOk result (IsVerdict evidence.now) }
 {
-    let parts = parts_alone::<Brand>(alloc, evidence)?;
-    verdict_of(alloc, rt, evidence, parts.as_slice(), Workers::one())
+    let logs = logs_alone::<Brand>(alloc, evidence)?;
+    verdict_of(alloc, rt, evidence, &logs, Workers::one())
 }

@@ -2,17 +2,21 @@
 //! thread's own work. Whose segments a run has is known by its type, so that only the numbers of its pieces are looked at.
 
 ghost use Rattle.std.specs.Prelude.{◌≡◌, ◌+◌, ◌<◌, ◌^◌, ◌++◌, [], ◌∷◌, length, IfOk, IfSome, IsTrue};
-ghost use Rattle.eos_lineage.specs.EvidenceLogs.{IsLogOf, AreLogsOf};
+ghost use Rattle.eos_lineage.specs.EvidenceLogs.{IsLogOf};
 ghost use Rattle.eos_board_core.specs.Ties.{IsPiece};
+ghost use Rattle.eos_check.specs.WholeLogs.{AreWholeLogs};
 ghost use Rattle.eos_check.specs.steps.Runs.{AreAt, AreOwn, IsBehind, IsRunOf};
 ghost use Rattle.eos_evidence.specs.Evidence.{IsPartition};
+ghost use Rattle.eos_fold.specs.LeastFaults.{IsFaultOf};
 ghost use Rattle.eos_fold.specs.Sums.{IsFit};
 ghost use Rattle.eos_fold.specs.Whole.{segments_in};
 
+use crate::phases::copied;
 use crate::tied_evidence::TiedEvidence;
 use eos_board_core::{Pieces, Tied};
 use eos_evidence::{Partition, Segment};
-use eos_fold::Part;
+use eos_fold::{Part, PartitionFault};
+use eos_partitions::Logs;
 use std::alloc::{AllocError, Global};
 
 /// The run of one piece, worked out here.
@@ -140,23 +144,36 @@ fn part_of<E: Pieces>(
     Part::new(alloc, end.topic.clone()?, end.partition, end.end, named)
 }
 
+/// The least fault of this log, if one stands.
+fn fault_of(part: &Part) -> Result<Option<PartitionFault>, AllocError>
+    ensures { IfOk result (IsFaultOf part.now) }
+{
+    match part.fault() {
+        None => Ok(None),
+        Some(fault) => Ok(Some(copied(fault)?)),
+    }
+}
+
 /// The logs of the evidence's partitions, in order, out of these runs, which stand by their pieces. What no run holds is worked
 /// out here.
 pub(crate) fn parts_from<E: Pieces>(
     alloc: Global,
     evidence: &TiedEvidence<'_, E>,
     mut runs: Vec<Tied<E>>,
-) -> Result<Vec<Part>, AllocError>
-    ensures { IfOk result (λ parts. AreLogsOf evidence.now.partitions parts.items) }
+) -> Result<Logs, AllocError>
+    ensures { IfOk result (AreWholeLogs evidence.now.partitions) }
 {
     runs.reverse();
     let mut parts = Vec::new(alloc);
+    let mut faults = Vec::new(alloc);
     let mut first = 0;
     let partitions = evidence.evidence.partitions();
     for i in 0..partitions.len() {
         let partition = &partitions[i];
-        parts.push(part_of(alloc, &mut runs, first, partition)?)?;
+        let part = part_of(alloc, &mut runs, first, partition)?;
+        faults.push(fault_of(&part)?)?;
+        parts.push(eos_partition::Part::whole(part))?;
         first += partition.segments.len() as u64;
     }
-    Ok(parts)
+    Ok(Logs { parts, faults })
 }

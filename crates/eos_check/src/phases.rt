@@ -1,13 +1,13 @@
 //! The phases of the check over the logs, one after the other.
 
 ghost use Rattle.std.specs.Prelude.{◌≡◌, IfOk};
-ghost use Rattle.eos_lineage.specs.EvidenceLogs.{AreLogsOf};
 ghost use Rattle.eos_check.specs.steps.Phases.{IsMatched, IsTransacted};
-ghost use Rattle.eos_evidence.specs.Evidence.{EvidenceParts, IsEvidence};
+ghost use Rattle.eos_commits.specs.Faults.{AreInOrder};
 
 use crate::shards::least_fault;
 use crate::verdict::Fault;
-use eos_fold::{Part, PartitionFault, first_fault};
+use eos_fold::PartitionFault;
+use eos_partition::Part;
 use eos_table::{TxnTable, txn_log};
 use eos_txnlog::Decision;
 use eos_workers::Workers;
@@ -15,7 +15,7 @@ use std::alloc::{AllocError, Global};
 use std::thread::Threads;
 
 /// An equal fault, which shares the bytes.
-fn copied(fault: &PartitionFault) -> Result<PartitionFault, AllocError>
+pub(crate) fn copied(fault: &PartitionFault) -> Result<PartitionFault, AllocError>
     ensures { IfOk result (λ copy. copy ≡ fault.now) }
 {
     Ok(PartitionFault {
@@ -44,19 +44,16 @@ fn matched<R: Threads + Sync>(
     }
 }
 
-/// The number of transactions, or the least fault of the partitions, the transaction log and the matching, which runs in as many
-/// shards as there are workers.
+/// The number of transactions, or the least fault of the transaction log and the matching, which runs in as many shards as there
+/// are workers.
 pub(crate) fn transactions<R: Threads + Sync>(
     alloc: Global,
     rt: &R,
     parts: &[Part],
     workers: Workers,
 ) -> Result<Result<u64, Fault>, AllocError>
-    ensures { (e : EvidenceParts) (of : AreLogsOf e.partitions parts.now) → IsEvidence e → IfOk result (IsTransacted e parts.now of) }
+    ensures { AreInOrder parts.now → IfOk result (IsTransacted parts.now) }
 {
-    if let Some(fault) = first_fault(parts) {
-        return Ok(Err(Fault::Partition(copied(fault)?)));
-    }
     match txn_log(alloc, parts)? {
         Err(fault) => Ok(Err(Fault::Log(fault))),
         Ok(decisions) => matched(alloc, rt, decisions, parts, workers),

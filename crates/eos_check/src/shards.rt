@@ -6,7 +6,7 @@ ghost use Rattle.eos_table.specs.MatchFaults.{fault_cmp, Stands};
 ghost use Rattle.eos_check.specs.steps.Shards.{lesser_answer, AreSettled};
 
 use eos_base::lesser;
-use eos_fold::Part;
+use eos_partition::Part;
 use eos_table::{MatchFault, TxnTable, match_shard};
 use eos_workers::Workers;
 use std::alloc::{AllocError, Global};

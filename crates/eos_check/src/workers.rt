@@ -1,8 +1,8 @@
 //! The check of an evidence by workers.
 
 ghost use Rattle.std.specs.Prelude.{◌≡◌, IfOk, Some};
-ghost use Rattle.eos_lineage.specs.EvidenceLogs.{AreLogsOf};
 ghost use Rattle.eos_check.specs.Verdicts.{IsVerdict};
+ghost use Rattle.eos_check.specs.WholeLogs.{AreWholeLogs};
 ghost use Rattle.eos_evidence.specs.Evidence.{segments_of};
 
 use crate::one_thread::verdict_of;
@@ -12,7 +12,7 @@ use crate::tied_evidence::TiedEvidence;
 use crate::verdict::Verdict;
 use eos_board_core::{Gate, Pieces};
 use eos_evidence::Evidence;
-use eos_fold::Part;
+use eos_partitions::Logs;
 use eos_workers::Workers;
 use std::alloc::{AllocError, Global};
 use std::marker::{Brand, PhantomData};
@@ -49,7 +49,7 @@ pub fn check<R: Threads + Wait + Sync, G: Gate>(
     ensures { IfOk result (IsVerdict evidence.now) }
 {
     let logs = logs_of(alloc, rt, evidence, workers, gate)?;
-    verdict_of(alloc, rt, evidence, logs.as_slice(), workers)
+    verdict_of(alloc, rt, evidence, &logs, workers)
 }
 
 /// The logs of an evidence's partitions, in their order, which so many workers fold, as `check` says.
@@ -62,8 +62,8 @@ pub fn logs_of<R: Threads + Wait + Sync, G: Gate>(
     evidence: &Evidence,
     workers: Workers,
     gate: &G,
-) -> Result<Vec<Part>, AllocError>
-    ensures { IfOk result (λ logs. AreLogsOf evidence.now.partitions logs.items) }
+) -> Result<Logs, AllocError>
+    ensures { IfOk result (AreWholeLogs evidence.now.partitions) }
 {
     let task = Task { evidence, gate };
     let blank = Blank::new(workers.get());
@@ -77,11 +77,11 @@ fn logs_by<R: Threads + Wait + Sync, L: Ledger + Send + Sync, E: Pieces + Send +
     task: &Task<'_, G>,
     workers: Workers,
     blank: Blank,
-) -> Result<Vec<Part>, AllocError>
+) -> Result<Logs, AllocError>
     requires tie { E.pieces ≡ Some (segments_of task.now.evidence.now.partitions) }
     requires name { blank.name ≡ L.name }
     requires parts { (blank.parts ≡ L.parts) × (L.parts ≡ workers) }
-    ensures { IfOk result (λ logs. AreLogsOf task.now.evidence.now.partitions logs.items) }
+    ensures { IfOk result (AreWholeLogs task.now.evidence.now.partitions) }
 {
     let evidence = TiedEvidence {
         evidence: task.evidence,

@@ -4,7 +4,7 @@ ghost use Rattle.std.specs.Prelude.{◌≡◌, ◌++◌, true, Err, IfOk, OnErr,
 ghost use Rattle.std.specs.Io.KnownBytes.{Keeps};
 ghost use Rattle.eos_text.specs.Writing.{Writes, WritesFrontOf};
 ghost use Rattle.eos_check.specs.Verdicts.{IsVerdict};
-ghost use Rattle.eos_lineage.specs.EvidenceLogs.{AreLogsOf};
+ghost use Rattle.eos_check.specs.WholeLogs.{AreWholeLogs};
 ghost use Rattle.eos_report.specs.VerdictTexts.{status_of};
 ghost use Rattle.eos_checking.specs.Checking.{AreTold, IsCheckAnswer, IsReportAsked, verdict_answer, list_answer, answer_text};
 ghost use Rattle.eos_ending.specs.Subjects.{subject_text};
@@ -17,9 +17,9 @@ use eos_board_core::Gate;
 use eos_check::{Fault, Verdict, logs_of, verdict_of};
 use eos_ending::Subject;
 use eos_evidence::Evidence;
-use eos_fold::Part;
 use eos_json_report::About;
 use eos_notes::lines_of;
+use eos_partitions::Logs;
 use eos_report::{fault_list, fault_list_json, verdict_json, verdict_line};
 use eos_segment::RunFault;
 use eos_text::{finish, push_text, push_value};
@@ -63,7 +63,7 @@ pub struct Said {
 #[derive(Clone, Copy)]
 pub(crate) struct Judged<'a> {
     pub evidence: &'a Evidence,
-    pub logs: &'a [Part],
+    pub logs: &'a Logs,
     pub verdict: &'a Verdict,
     pub faults: &'a [Fault],
 }
@@ -104,19 +104,19 @@ fn answer<G: Gate + Timed>(
     ensures report { IfOk result (λ r. IsReportAsked evidence.now asked.now.all asked.now.report (option_map string_bytes r.1.report)) }
 {
     let logs = logs_of(alloc, rt, evidence, asked.workers, asked.gate)?;
-    let verdict = verdict_of(alloc, rt, evidence, logs.as_slice(), asked.workers)?;
-    answer_of(alloc, evidence, logs.as_slice(), &verdict, asked)
+    let verdict = verdict_of(alloc, rt, evidence, &logs, asked.workers)?;
+    answer_of(alloc, evidence, &logs, &verdict, asked)
 }
 
 /// The same of an evidence whose logs and verdict these are.
 fn answer_of<T: Timed>(
     alloc: Global,
     evidence: &Evidence,
-    logs: &[Part],
+    logs: &Logs,
     verdict: &Verdict,
     asked: &Asked<'_, T>,
 ) -> Result<(String, Said), AllocError>
-    requires logs { AreLogsOf evidence.now.partitions logs.now }
+    requires logs { AreWholeLogs evidence.now.partitions logs.now }
     requires verdict { IsVerdict evidence.now verdict.now }
     ensures lines { IfOk result (λ r. IsCheckAnswer (subject_text asked.now.subject) evidence.now asked.now.json asked.now.all (string_bytes r.0) r.1.status) }
     ensures notes { IfOk result (λ r. IsNotesText evidence.now asked.now.quiet (string_bytes r.1.notes)) }
@@ -160,7 +160,7 @@ fn told<T: Timed>(
     judged: Judged<'_>,
     asked: &Asked<'_, T>,
 ) -> Result<(String, Said), AllocError>
-    requires logs { AreLogsOf judged.evidence.now.partitions judged.logs.now }
+    requires logs { AreWholeLogs judged.evidence.now.partitions judged.logs.now }
     requires verdict { IsVerdict judged.evidence.now judged.verdict.now }
     requires told { AreTold judged.evidence.now asked.now.all judged.verdict.now judged.faults.now }
     ensures lines { IfOk result (λ r. IsCheckAnswer (subject_text asked.now.subject) judged.entry.evidence.now asked.now.json asked.now.all (string_bytes r.0) r.1.status) }
@@ -178,14 +178,14 @@ fn said_of<T: Timed>(
     judged: Judged<'_>,
     asked: &Asked<'_, T>,
 ) -> Result<Said, AllocError>
-    requires logs { AreLogsOf judged.evidence.now.partitions judged.logs.now }
+    requires logs { AreWholeLogs judged.evidence.now.partitions judged.logs.now }
     requires verdict { IsVerdict judged.evidence.now judged.verdict.now }
     requires told { AreTold judged.evidence.now asked.now.all judged.verdict.now judged.faults.now }
     ensures status { IfOk result (λ said. said.status ≡ status_of judged.entry.verdict.now) }
     ensures notes { IfOk result (λ said. IsNotesText judged.entry.evidence.now asked.now.quiet (string_bytes said.notes)) }
     ensures report { IfOk result (λ said. IsReportAsked judged.entry.evidence.now asked.now.all asked.now.report (option_map string_bytes said.report)) }
 {
-    let notes = lines_of(alloc, judged.evidence, judged.logs, asked.quiet)?;
+    let notes = lines_of(alloc, judged.evidence.spec(), judged.logs, asked.quiet)?;
     let report = report_of(alloc, judged, asked)?;
     Ok(Said {
         status: status_of(judged.verdict),
@@ -210,7 +210,7 @@ fn lines_told<T>(
 }
 
 /// The words that say which folder a line is about.
-fn about_of(alloc: Global, subject: Subject<'_>) -> Result<String, AllocError>
+pub(crate) fn about_of(alloc: Global, subject: Subject<'_>) -> Result<String, AllocError>
     ensures { IfOk result (λ text. string_bytes text ≡ subject_text subject.entry) }
 {
     let mut text = String::new(alloc);
@@ -235,7 +235,7 @@ fn list_lines(
 }
 
 /// The line of a verdict after these words.
-fn line_about(
+pub(crate) fn line_about(
     alloc: Global,
     about: &str,
     json: bool,
@@ -271,7 +271,7 @@ fn json_line(alloc: Global, verdict: &Verdict) -> Result<String, AllocError>
 }
 
 /// The exit status of a verdict.
-fn status_of(verdict: &Verdict) -> u8
+pub(crate) fn status_of(verdict: &Verdict) -> u8
     ensures { result ≡ status_of verdict.now }
 {
     match verdict {

@@ -1,12 +1,15 @@
 //! `check` of folders: reads them one after the other, and tells of each its verdict and what else is wanted.
 
 use crate::check::{Asked, check_to};
+use crate::source::{Pieces, SourceAnswer, answer_source};
 use eos_ending::{Ending, STANDARD, Subject, end_about, fill_file, make_file};
 use eos_evidence::Evidence;
-use eos_folder::{Cause, read_folder};
+use eos_folder::{Cause, FolderFault, Shape, read_folder, read_shape};
+use eos_folder_source::FolderSource;
 use eos_json_report::About;
 use eos_progress::{Meter, Progress, end_unread, say_notes};
 use eos_segment::RunFault;
+use eos_text::finish;
 use eos_words::{Check, VERSION};
 use std::io;
 use std::io::IsTerminal;
@@ -86,7 +89,74 @@ impl Done {
     }
 }
 
+/// No more of a folder is held than its verdict wants; where all faults are asked for and one stands, it is read once more, and whole.
 fn check_folder(
+    rt: &HostRuntime,
+    threads: &(impl Threads + Wait + Sync),
+    words: &Check<'_>,
+    folder: &str,
+    progress: &Progress<'_>,
+) -> Done {
+    let asked = asked_by(words, folder, progress);
+    let answered = match read_shape(rt, folder, progress) {
+        Ok(shape) => answer_shape(rt, threads, folder, shape, &asked),
+        Err(fault) => Err(fault),
+    };
+    match answered {
+        Ok(answer) if words.all && answer.status != 0 => {
+            check_whole(rt, threads, words, folder, progress)
+        }
+        Ok(answer) => tell(rt, progress, answer),
+        Err(fault) => Done::with_status(end_unread(rt, progress.subject, &fault)),
+    }
+}
+
+/// Reads the segments of a folder whose shape this is, and answers.
+fn answer_shape<'x>(
+    rt: &'x HostRuntime,
+    threads: &(impl Threads + Wait + Sync),
+    folder: &'x str,
+    shape: Shape,
+    asked: &Asked<'x, Progress<'_>>,
+) -> Result<SourceAnswer, FolderFault> {
+    let Shape { evidence, listed } = shape;
+    let source = FolderSource {
+        rt,
+        folder,
+        shape: &evidence,
+        watch: asked.gate,
+    };
+    let pieces = Pieces {
+        source: &source,
+        shape: &evidence,
+    };
+    let answer = answer_source(rt.alloc(), threads, pieces, asked)?;
+    listed?;
+    Ok(answer)
+}
+
+/// Prints an answer, and then the notes.
+fn tell(rt: &HostRuntime, progress: &Progress<'_>, answer: SourceAnswer) -> Done {
+    progress.end();
+    match finish(&mut io::writer(rt), answer.line.as_bytes()) {
+        Ok(()) => {
+            say_notes(rt, progress.subject, answer.notes.as_str());
+            Done {
+                status: end_about(rt, progress.subject, Ending::Answered(answer.status)),
+                is_last: false,
+                report: answer.report,
+            }
+        }
+        Err(_) => Done {
+            status: end_about(rt, progress.subject, Ending::CannotWrite(STANDARD)),
+            is_last: true,
+            report: None,
+        },
+    }
+}
+
+/// The same of the whole evidence in memory.
+fn check_whole(
     rt: &HostRuntime,
     threads: &(impl Threads + Wait + Sync),
     words: &Check<'_>,

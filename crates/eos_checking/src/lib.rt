@@ -5,7 +5,9 @@
 mod check;
 mod folders;
 mod report;
+mod source;
 
 pub use check::{Asked, Said, check_to};
 pub use folders::check_words;
 pub use report::Timed;
+pub use source::{Pieces, SourceAnswer, answer_source};

@@ -15,9 +15,8 @@ ghost use Rattle.eos_commits.specs.steps.CommitLists.{commit_at as commit_in, co
 use crate::roles::TopicSet;
 use crate::visible::{is_of_offsets, is_same, is_visible};
 use bytes::Bytes;
-use eos_fold::Part;
-use eos_items::ItemRef;
 use eos_offsets::{KeyRef, view_key, view_value};
+use eos_partition::{ItemRef, Part};
 use std::alloc::{AllocError, Global};
 
 /// An offset that a group has committed for a partition that it reads. The topic is lent.

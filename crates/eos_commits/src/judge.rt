@@ -13,12 +13,9 @@ use crate::homes::Homes;
 use crate::roles::Roles;
 use crate::visible::{is_of_offsets, is_visible};
 use eos_base::{PartitionName, RecordFault};
-use eos_batch::HeaderRefs;
-use eos_claims::view_claim;
 use eos_evidence::App;
-use eos_fold::Part;
-use eos_items::ItemRef;
 use eos_offsets::{view_key, view_value};
+use eos_partition::{ItemRef, Part};
 use std::alloc::{AllocError, Global};
 
 /// What is asked of a partition's records.
@@ -89,11 +86,11 @@ fn judge_commit<'a>(
     Ok(kind_of_value(value, is_split))
 }
 
-/// Whether the headers are no claim.
-fn is_unclaimed(headers: HeaderRefs<'_>) -> bool
-    ensures { result ≡ is_none (claim_of headers.entry) }
+/// Whether the record's headers are no claim.
+fn is_unclaimed(item: ItemRef<'_>) -> bool
+    ensures { result ≡ is_none (claim_of item.entry.headers) }
 {
-    match view_claim(headers) {
+    match item.into_claim() {
         None => true,
         Some(_) => false,
     }
@@ -110,7 +107,7 @@ fn judge_visible<'a>(
 {
     let key = item.key();
     let value = item.value();
-    if part.output && is_unclaimed(item.into_headers()) {
+    if part.output && is_unclaimed(item) {
         return Ok(Some(VisibleFaultKind::BadLineage));
     }
     if part.offsets {

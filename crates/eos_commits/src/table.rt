@@ -17,9 +17,8 @@ use crate::commits::{CommitRef, commit_with};
 use crate::roles::{Roles, TopicSet};
 use crate::visible::{is_of_offsets, is_same, is_visible};
 use eos_evidence::App;
-use eos_fold::Part;
-use eos_items::ItemRef;
 use eos_offsets::view_key;
+use eos_partition::{ItemRef, Part};
 use std::alloc::{AllocError, Global};
 use std::marker::Model;
 

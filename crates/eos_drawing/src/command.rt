@@ -4,9 +4,9 @@ use eos_all_faults::all_faults;
 use eos_check::{Fault, Verdict, logs_of, verdict_of};
 use eos_ending::{Ending, STANDARD, Subject, end, fill_file, make_file};
 use eos_evidence::Evidence;
-use eos_fold::Part;
 use eos_folder::read_folder;
 use eos_layout::drawing_of;
+use eos_partitions::Logs;
 use eos_picture::picture_of;
 use eos_progress::{Meter, Progress, end_unread};
 use eos_report::verdict_line;
@@ -105,20 +105,18 @@ fn answer_of(
 ) -> Result<Answer, AllocError> {
     let workers = Workers::standard();
     let logs = logs_of(alloc, threads, evidence, workers, progress)?;
-    let verdict = verdict_of(alloc, threads, evidence, logs.as_slice(), workers)?;
+    let verdict = verdict_of(alloc, threads, evidence, &logs, workers)?;
     match verdict {
         Verdict::Yes(counts) => match words.fault {
             Some(_) => Ok(Answer::TooFew(0)),
             None => {
                 let verdict = Verdict::Yes(counts);
-                outcome_of(alloc, evidence, logs.as_slice(), words, verdict)
+                outcome_of(alloc, evidence, &logs, words, verdict)
             }
         },
         Verdict::No(first) => match words.fault {
-            None | Some(1) => {
-                outcome_of(alloc, evidence, logs.as_slice(), words, Verdict::No(first))
-            }
-            Some(number) => outcome_of_later(alloc, evidence, logs.as_slice(), words, number),
+            None | Some(1) => { outcome_of(alloc, evidence, &logs, words, Verdict::No(first)) }
+            Some(number) => outcome_of_later(alloc, evidence, &logs, words, number),
         },
     }
 }
@@ -127,7 +125,7 @@ fn answer_of(
 fn outcome_of_later(
     alloc: Global,
     evidence: &Evidence,
-    logs: &[Part],
+    logs: &Logs,
     words: &Draw<'_>,
     number: u64,
 ) -> Result<Answer, AllocError> {
@@ -154,14 +152,14 @@ fn fault_of(verdict: &Verdict) -> Option<&Fault> {
 fn outcome_of(
     alloc: Global,
     evidence: &Evidence,
-    logs: &[Part],
+    logs: &Logs,
     words: &Draw<'_>,
     verdict: Verdict,
 ) -> Result<Answer, AllocError> {
     let fault = fault_of(&verdict);
     let around = words.around.unwrap_or(AROUND) as usize;
     let apps = evidence.spec().apps().as_slice();
-    let picture = picture_of(alloc, apps, logs, fault, around)?;
+    let picture = picture_of(alloc, apps, logs.parts.as_slice(), fault, around)?;
     let title = title_of(alloc, &verdict)?;
     let drawing = drawing_of(alloc, &picture, title)?;
     Ok(Answer::Drawn(Drawn {

@@ -1,9 +1,11 @@
 //! The answer of `explain` for an evidence.
 
-ghost use Rattle.std.specs.Prelude.{◌≡◌, ◌<◌, IfOk, OnErr, Err, map, string_bytes};
+ghost use Rattle.std.specs.Prelude.{◌≡◌, ◌<◌, false, IfOk, OnErr, Err, map, string_bytes};
 ghost use Rattle.eos_check.specs.declared.verdict.Verdict.TheVariants.{No};
 ghost use Rattle.eos_check.specs.Verdicts.{IsVerdict};
-ghost use Rattle.eos_lineage.specs.EvidenceLogs.{AreLogsOf};
+ghost use Rattle.eos_check.specs.WholeLogs.{AreWholeLogs};
+ghost use Rattle.eos_notes.specs.Lines.{IsNotesText};
+ghost use Rattle.eos_notes.specs.Notes.{AreNotes};
 ghost use Rattle.eos_explaining.specs.Explaining.{IsAnswer};
 
 use crate::story::story_at;
@@ -11,8 +13,8 @@ use eos_all_faults::all_faults;
 use eos_board_core::Gate;
 use eos_check::{Fault, Verdict, logs_of, verdict_of};
 use eos_evidence::Evidence;
-use eos_fold::Part;
-use eos_notes::lines_of;
+use eos_notes::{Note, lines_of, notes};
+use eos_partitions::Logs;
 use eos_report::verdict_line;
 use eos_story::Scene;
 use eos_workers::Workers;
@@ -50,13 +52,31 @@ fn verdicts_of(alloc: Global, faults: Vec<Fault>) -> Result<Vec<Verdict>, AllocE
     Ok(told)
 }
 
+/// The notes of the evidence.
+fn noted(alloc: Global, evidence: &Evidence, logs: &Logs) -> Result<Vec<Note>, AllocError>
+    requires { AreWholeLogs evidence.now.partitions logs.now }
+    ensures { IfOk result (λ found. AreNotes evidence.now found.items) }
+{
+    let found = notes(alloc, evidence.spec(), logs)?;
+    Ok(found)
+}
+
+/// The lines of these notes.
+fn noted_lines(alloc: Global, evidence: &Evidence, logs: &Logs) -> Result<String, AllocError>
+    requires { AreWholeLogs evidence.now.partitions logs.now }
+    ensures { IfOk result (λ text. IsNotesText evidence.now false (string_bytes text)) }
+{
+    let text = lines_of(alloc, evidence.spec(), logs, false)?;
+    Ok(text)
+}
+
 fn of_faults(
     alloc: Global,
     evidence: &Evidence,
-    logs: &[Part],
+    logs: &Logs,
     number: u64,
 ) -> Result<Answer, AllocError>
-    requires { AreLogsOf evidence.now.partitions logs.now }
+    requires { AreWholeLogs evidence.now.partitions logs.now }
     ensures { IfOk result (IsAnswer evidence.now number) }
 {
     let faults = all_faults(alloc, evidence, logs)?;
@@ -68,27 +88,29 @@ fn of_faults(
     let scene = Scene {
         alloc,
         evidence,
-        logs,
+        logs: logs.parts.as_slice(),
     };
-    let story = story_at(&scene, told.as_slice(), (number - 1) as usize)?;
+    let found = noted(alloc, evidence, logs)?;
+    let place = (number - 1) as usize;
+    let story = story_at(&scene, told.as_slice(), place, found.as_slice())?;
     Ok(Answer::Story(story))
 }
 
 fn of_verdict(
     alloc: Global,
     evidence: &Evidence,
-    logs: &[Part],
+    logs: &Logs,
     verdict: &Verdict,
     number: u64,
 ) -> Result<Answer, AllocError>
-    requires logs { AreLogsOf evidence.now.partitions logs.now }
+    requires logs { AreWholeLogs evidence.now.partitions logs.now }
     requires verdict { IsVerdict evidence.now verdict.now }
     ensures { IfOk result (IsAnswer evidence.now number) }
 {
     match verdict {
         Verdict::Yes(_) => {
             let line = verdict_line(alloc, verdict)?;
-            let notes = lines_of(alloc, evidence, logs, false)?;
+            let notes = noted_lines(alloc, evidence, logs)?;
             Ok(Answer::Yes { line, notes })
         }
         Verdict::No(_) => of_faults(alloc, evidence, logs, number),
@@ -110,6 +132,6 @@ pub fn explain<G: Gate>(
     ensures { IfOk result (IsAnswer evidence.now asked.number) }
 {
     let logs = logs_of(alloc, rt, evidence, asked.workers, gate)?;
-    let verdict = verdict_of(alloc, rt, evidence, logs.as_slice(), asked.workers)?;
-    of_verdict(alloc, evidence, logs.as_slice(), &verdict, asked.number)
+    let verdict = verdict_of(alloc, rt, evidence, &logs, asked.workers)?;
+    of_verdict(alloc, evidence, &logs, &verdict, asked.number)
 }

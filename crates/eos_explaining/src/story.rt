@@ -7,11 +7,12 @@ ghost use Rattle.eos_check.specs.declared.verdict.Fault.{Fault as AFault};
 ghost use Rattle.eos_check.specs.declared.verdict.Verdict.{Verdict as Named};
 ghost use Rattle.eos_check.specs.declared.verdict.Verdict.TheVariants.{No};
 ghost use Rattle.eos_lineage.specs.EvidenceLogs.{AreLogsOf};
+ghost use Rattle.eos_notes.specs.Notes.{AreNotes};
 ghost use Rattle.eos_explaining.specs.Explaining.{IsStoryOf, code_of};
 
 use eos_catalogue::{Page, page_of};
 use eos_check::{Fault, Verdict};
-use eos_notes::notes;
+use eos_notes::Note;
 use eos_story::{Scene, place_of, rows_of};
 use eos_story_text::{Story, story_text};
 use std::alloc::{AllocError, Global};
@@ -32,13 +33,14 @@ fn told_of(
     told: &[Verdict],
     verdict: &Verdict,
     fault: &Fault,
+    notes: &[Note],
 ) -> Result<String, AllocError>
     requires logs { AreLogsOf scene.now.evidence.now.partitions scene.now.logs.now }
+    requires notes { AreNotes scene.now.evidence.now notes.now }
     requires names { verdict.now ≡ No fault.now }
     ensures { IfOk result (λ text. IsStoryOf scene.now.evidence.now scene.now.logs.now told.now verdict.now (string_bytes text)) }
 {
     let rows = rows_of(scene, fault)?;
-    let notes = notes(scene.alloc, scene.evidence, scene.logs)?;
     let place = place_of(scene.alloc, fault)?;
     let page = page_for(scene.alloc, fault)?;
     let story = Story {
@@ -47,7 +49,7 @@ fn told_of(
         rows: rows.as_slice(),
         page,
         told,
-        notes: notes.as_slice(),
+        notes,
     };
     story_text(scene.alloc, &story)
 }
@@ -56,8 +58,14 @@ fn told_of(
 ///
 /// # Errors
 /// Only want of memory.
-pub(crate) fn story_at(scene: &Scene<'_>, told: &[Verdict], i: usize) -> Result<String, AllocError>
+pub(crate) fn story_at(
+    scene: &Scene<'_>,
+    told: &[Verdict],
+    i: usize,
+    notes: &[Note],
+) -> Result<String, AllocError>
     requires logs { AreLogsOf scene.now.evidence.now.partitions scene.now.logs.now }
+    requires notes { AreNotes scene.now.evidence.now notes.now }
     requires inside { i < length told.now }
     requires faults { (faults : List AFault) × (told.now ≡ map No faults) }
     ensures { IfOk result (λ text. (verdict : Named) × (slice_get told.now i ≡ Some verdict) × IsStoryOf scene.now.evidence.now scene.now.logs.now told.now verdict (string_bytes text)) }
@@ -65,6 +73,6 @@ pub(crate) fn story_at(scene: &Scene<'_>, told: &[Verdict], i: usize) -> Result<
     let verdict = &told[i];
     match verdict {
         Verdict::Yes(_) => unreachable!(),
-        Verdict::No(fault) => told_of(scene, told, verdict, fault),
+        Verdict::No(fault) => told_of(scene, told, verdict, fault, notes),
     }
 }

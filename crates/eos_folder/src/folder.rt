@@ -4,17 +4,17 @@ ghost use Rattle.std.specs.Prelude.{◌≡◌};
 ghost use Rattle.eos_folder.specs.declared.folder.FolderFault.TheVariants.{OutOfMemory};
 
 use crate::cause::Cause;
+use crate::files::{NamedFile, open_segment};
 use crate::paths::{manifest_path, partition_path, segment_path};
 use crate::watch::Watch;
 use bytes::Bytes;
 use eos_evidence::{
-    AddFault, End, Evidence, EvidenceBuilder, MAX_SEGMENTS, ReadFault, Segment, Spec, SpecFault,
-    parse_spec, read_segment,
+    AddFault, End, Evidence, EvidenceBuilder, MAX_SEGMENTS, Segment, Spec, SpecFault, parse_spec,
 };
 use eos_manifest_cause::explain_spec;
 use eos_workers::Workers;
 use std::alloc::{AllocError, AllocFailed, Global};
-use std::fs::{DirEntry, File};
+use std::fs::DirEntry;
 use std::io::{Error, ErrorKind};
 use std::thread::Threads;
 use std::{fs, thread};
@@ -55,17 +55,51 @@ impl<T: Drop> From<AllocFailed<T>> for FolderFault {
     }
 }
 
+/// Which evidence a folder has, before its segments are read.
+#[derive(Drop)]
+pub struct Shape {
+    /// The evidence with the names of its segments, which have no bytes.
+    pub evidence: Evidence,
+    /// Why no more segments than these are listed, if that was refused. What refuses one of these comes before it.
+    pub listed: Result<(), FolderFault>,
+}
+
+/// What a folder lists.
+#[derive(Drop)]
+struct Listing {
+    spec: Spec,
+    /// The segments in order, without their bytes.
+    names: Vec<Segment>,
+    /// Why these are not all, if that was refused.
+    listed: Result<(), FolderFault>,
+}
+
 /// A file that is named as a segment of a partition.
 #[derive(Drop)]
-struct SegmentFile<'a> {
-    end: &'a End,
-    base: i64,
+struct SegmentFile {
+    /// The segment without its bytes.
+    name: Segment,
     /// What was read of it. Before that it counts as one for which there was no memory.
     bytes: Result<Bytes, FolderFault>,
 }
 
-/// Reads the evidence of a folder: its manifest, and for each partition of it the segments in the folder `TOPIC-N`, by at most
-/// as many threads as there are workers. A partition without a folder has no segments.
+/// Reads which evidence a folder has: its manifest, and for each partition of it the names of the segments in the folder
+/// `TOPIC-N`. A partition without a folder has no segments. No segment is read.
+pub fn read_shape<W: Watch>(
+    rt: &HostRuntime,
+    folder: &str,
+    watch: &W,
+) -> Result<Shape, FolderFault> {
+    let Listing {
+        spec,
+        names,
+        listed,
+    } = list_folder(rt, folder, watch)?;
+    let evidence = evidence_of(rt, spec, names)?;
+    Ok(Shape { evidence, listed })
+}
+
+/// Reads the evidence of a folder: its shape, and the bytes of each segment, by at most as many threads as there are workers.
 pub fn read_folder<W: Watch>(
     rt: &HostRuntime,
     threads: &(impl Threads + Sync),
@@ -73,25 +107,42 @@ pub fn read_folder<W: Watch>(
     workers: Workers,
     watch: &W,
 ) -> Result<Evidence, FolderFault> {
-    let spec = read_manifest(rt, folder)?;
-    let ends = spec.ends().clone()?;
-    let mut files = Vec::new(rt.alloc());
-    let listed = list_segments(rt, folder, ends.as_slice(), &mut files);
-    watch.found(files.len() as u64);
+    let Listing {
+        spec,
+        names,
+        listed,
+    } = list_folder(rt, folder, watch)?;
+    let mut files = unread(rt.alloc(), names)?;
     thread::for_each_mut(
         threads,
         files.as_mut_slice(),
         workers.get() as usize,
-        &|_, file: &mut SegmentFile<'_>| { file.read(rt, folder, watch) },
+        &|_, file: &mut SegmentFile| { file.read(rt, folder, watch) },
     );
-    let evidence = evidence_of(rt, spec, files)?;
+    let evidence = evidence_of(rt, spec, segments_of(rt.alloc(), files)?)?;
     listed?;
     Ok(evidence)
 }
 
+fn list_folder<W: Watch>(
+    rt: &HostRuntime,
+    folder: &str,
+    watch: &W,
+) -> Result<Listing, FolderFault> {
+    let spec = read_manifest(rt, folder)?;
+    let mut names = Vec::new(rt.alloc());
+    let listed = list_segments(rt, folder, spec.ends().as_slice(), &mut names);
+    watch.found(names.len() as u64);
+    Ok(Listing {
+        spec,
+        names,
+        listed,
+    })
+}
+
 fn read_manifest(rt: &HostRuntime, folder: &str) -> Result<Spec, FolderFault> {
     let path = manifest_path(rt.alloc(), folder)?;
-    let manifest = read_file(rt, path)?;
+    let manifest = NamedFile::open(rt, path)?.read_whole(rt.alloc())?;
     match parse_spec(rt.alloc(), manifest.as_slice()) {
         Ok(spec) => Ok(spec),
         Err(SpecFault::OutOfMemory) => Err(FolderFault::OutOfMemory),
@@ -109,61 +160,47 @@ fn cause_of_refusal(alloc: Global, manifest: &[u8], fault: SpecFault) -> Cause {
     }
 }
 
-/// The evidence of the files in order, or the first refusal among them.
+/// The evidence of the segments in order.
 fn evidence_of(
     rt: &HostRuntime,
     spec: Spec,
-    files: Vec<SegmentFile<'_>>,
+    segments: Vec<Segment>,
 ) -> Result<Evidence, FolderFault> {
     let mut builder = EvidenceBuilder::new(rt.alloc(), spec)?;
-    for file in files {
-        let SegmentFile { end, base, bytes } = file;
-        add_segment(&mut builder, end, base, bytes?)?;
-    }
-    Ok(builder.finish())
-}
-
-fn add_segment(
-    builder: &mut EvidenceBuilder,
-    end: &End,
-    base: i64,
-    bytes: Bytes,
-) -> Result<(), FolderFault> {
-    let segment = Segment {
-        topic: end.topic.clone()?,
-        partition: end.partition,
-        base,
-        bytes,
-    };
-    match builder.add(segment) {
-        Ok(()) => Ok(()),
-        Err(AddFault::OutOfMemory) => Err(FolderFault::OutOfMemory),
-        Err(AddFault::Limit | AddFault::Name | AddFault::Duplicate) => {
-            Err(FolderFault::Limit(Cause::Unknown))
+    for segment in segments {
+        match builder.add(segment) {
+            Ok(()) => {}
+            Err(AddFault::OutOfMemory) => return Err(FolderFault::OutOfMemory),
+            Err(AddFault::Limit | AddFault::Name | AddFault::Duplicate) => {
+                return Err(FolderFault::Limit(Cause::Unknown));
+            }
         }
     }
+    Ok(builder.finish())
 }
 
 // ---- which segments there are
 
 /// Adds the segments of the partitions in order, each partition's by base. Where it is refused, those before that place were
 /// added.
-fn list_segments<'a>(
+fn list_segments(
     rt: &HostRuntime,
     folder: &str,
-    ends: &'a [End],
-    files: &mut Vec<SegmentFile<'a>>,
+    ends: &[End],
+    names: &mut Vec<Segment>,
 ) -> Result<(), FolderFault> {
     for end in ends {
+        let topic = end.topic.as_slice();
         for base in bases_of(rt, folder, end)? {
-            if files.len() as u64 >= MAX_SEGMENTS {
-                let path = segment_path(rt.alloc(), folder, end, base)?;
+            if names.len() as u64 >= MAX_SEGMENTS {
+                let path = segment_path(rt.alloc(), folder, topic, end.partition, base)?;
                 return Err(FolderFault::Limit(Cause::ManySegments(path)));
             }
-            files.push(SegmentFile {
-                end,
+            names.push(Segment {
+                topic: end.topic.clone()?,
+                partition: end.partition,
                 base,
-                bytes: Err(FolderFault::OutOfMemory),
+                bytes: Bytes::new(),
             })?;
         }
     }
@@ -172,7 +209,7 @@ fn list_segments<'a>(
 
 /// The base offsets of a partition's segments, in order. A partition without a folder has none; any other folder must be read.
 pub fn bases_of(rt: &HostRuntime, folder: &str, end: &End) -> Result<Vec<i64>, FolderFault> {
-    let path = partition_path(rt.alloc(), folder, end)?;
+    let path = partition_path(rt.alloc(), folder, end.topic.as_slice(), end.partition)?;
     match list_bases(rt, &path) {
         Ok(bases) => Ok(bases),
         Err(e) if e.kind() == ErrorKind::OutOfMemory => Err(FolderFault::OutOfMemory),
@@ -235,44 +272,43 @@ fn base_of_name(name: &[u8]) -> Option<i64> {
 
 // ---- what is in them
 
-impl SegmentFile<'_> {
+/// The files of these names, of which none is read yet.
+fn unread(alloc: Global, names: Vec<Segment>) -> Result<Vec<SegmentFile>, AllocError> {
+    let mut files = Vec::new(alloc);
+    for name in names {
+        files.push(SegmentFile {
+            name,
+            bytes: Err(FolderFault::OutOfMemory),
+        })?;
+    }
+    Ok(files)
+}
+
+impl SegmentFile {
     /// Reads the file, and says so.
     fn read<W: Watch>(&mut self, rt: &HostRuntime, folder: &str, watch: &W) {
-        self.bytes = read_segment_file(rt, folder, self.end, self.base);
+        self.bytes = bytes_of(rt, folder, &self.name);
         if let Ok(bytes) = &self.bytes {
             watch.read(bytes.len() as u64);
         }
     }
 }
 
-/// The bytes of a partition's segment, at most as many as a segment may have.
-pub fn read_segment_file(
-    rt: &HostRuntime,
-    folder: &str,
-    end: &End,
-    base: i64,
-) -> Result<Bytes, FolderFault> {
-    let path = segment_path(rt.alloc(), folder, end, base)?;
-    read_file(rt, path)
+fn bytes_of(rt: &HostRuntime, folder: &str, name: &Segment) -> Result<Bytes, FolderFault> {
+    open_segment(rt, folder, name)?.read_whole(rt.alloc())
 }
 
-/// The bytes of a file, at most as many as a segment may have.
-fn read_file(rt: &HostRuntime, path: String) -> Result<Bytes, FolderFault> {
-    let mut file = match File::open(rt, path.as_str()) {
-        Ok(file) => file,
-        Err(e) if e.kind() == ErrorKind::OutOfMemory => return Err(FolderFault::OutOfMemory),
-        Err(e) => {
-            let cause = Cause::of_error(rt.alloc(), &e);
-            return Err(FolderFault::CannotRead(path, cause));
-        }
-    };
-    match read_segment(rt.alloc(), &mut file) {
-        Ok(bytes) => Ok(bytes),
-        Err(ReadFault::Read) => {
-            let cause = Cause::of_reader(rt.alloc(), &mut file);
-            Err(FolderFault::CannotRead(path, cause))
-        }
-        Err(ReadFault::Limit) => Err(FolderFault::Limit(Cause::LongFile(path))),
-        Err(ReadFault::OutOfMemory) => Err(FolderFault::OutOfMemory),
+/// The segments of the files in order, or the first refusal among them.
+fn segments_of(alloc: Global, files: Vec<SegmentFile>) -> Result<Vec<Segment>, FolderFault> {
+    let mut segments = Vec::new(alloc);
+    for file in files {
+        let SegmentFile { name, bytes } = file;
+        segments.push(Segment {
+            topic: name.topic,
+            partition: name.partition,
+            base: name.base,
+            bytes: bytes?,
+        })?;
     }
+    Ok(segments)
 }

@@ -1,6 +1,5 @@
 //! Where the files of evidence lie in its folder.
 
-use eos_evidence::End;
 use std::alloc::{AllocError, Global};
 
 /// The path of the manifest.
@@ -9,9 +8,13 @@ pub fn manifest_path(alloc: Global, folder: &str) -> Result<String, AllocError> 
 }
 
 /// The path of a partition's folder.
-pub(crate) fn partition_path(alloc: Global, folder: &str, end: &End) -> Result<String, AllocError> {
-    let topic = String::from_utf8_lossy(alloc, end.topic.as_slice())?;
-    let number = end.partition;
+pub(crate) fn partition_path(
+    alloc: Global,
+    folder: &str,
+    topic: &[u8],
+    number: i32,
+) -> Result<String, AllocError> {
+    let topic = String::from_utf8_lossy(alloc, topic)?;
     format!(in alloc; "{folder}/{topic}-{number}")
 }
 
@@ -19,9 +22,10 @@ pub(crate) fn partition_path(alloc: Global, folder: &str, end: &End) -> Result<S
 pub(crate) fn segment_path(
     alloc: Global,
     folder: &str,
-    end: &End,
+    topic: &[u8],
+    number: i32,
     base: i64,
 ) -> Result<String, AllocError> {
-    let partition = partition_path(alloc, folder, end)?;
+    let partition = partition_path(alloc, folder, topic, number)?;
     format!(in alloc; "{partition}/{base:020}.log")
 }

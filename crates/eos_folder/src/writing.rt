@@ -49,10 +49,12 @@ fn write_partition(
     folder: &str,
     partition: &Partition,
 ) -> Result<(), WritingFault> {
-    let path = partition_path(rt.alloc(), folder, &partition.end)?;
+    let topic = partition.end.topic.as_slice();
+    let number = partition.end.partition;
+    let path = partition_path(rt.alloc(), folder, topic, number)?;
     make_folder(rt, &path)?;
     for segment in partition.segments.as_slice() {
-        let path = segment_path(rt.alloc(), folder, &partition.end, segment.base)?;
+        let path = segment_path(rt.alloc(), folder, topic, number, segment.base)?;
         write_file(rt, &path, segment.bytes.as_slice())?;
     }
     Ok(())

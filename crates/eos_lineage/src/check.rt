@@ -23,7 +23,7 @@ use crate::pipeline::Pipeline;
 use crate::tables::Tables;
 use eos_commits::{CommitTable, least_visible_fault};
 use eos_evidence::{App, GroupId, Spec};
-use eos_fold::Part;
+use eos_partition::Part;
 use eos_workers::Workers;
 use std::alloc::{AllocError, Global};
 use std::thread::Threads;

@@ -8,12 +8,9 @@ ghost use Rattle.eos_lineage.specs.steps.Walks.{kept_of, counted_ref, AreTables,
 
 use crate::tables::{Known, Marks, Tables, known_of, tests_of};
 use eos_base::{PartitionName, lesser};
-use eos_claims::{
-    ClaimRef, Found, LentClaim, NumberedClaim, PlaceRef, SourceRef, least_of_claim, view_claim,
-};
+use eos_claims::{ClaimRef, Found, LentClaim, NumberedClaim, PlaceRef, SourceRef, least_of_claim};
 use eos_commits::{TopicSet, is_visible};
-use eos_fold::Part;
-use eos_items::ItemRef;
+use eos_partition::{ItemRef, Part};
 use eos_workers::Workers;
 use std::alloc::{AllocError, Global};
 use std::thread;
@@ -121,7 +118,7 @@ fn take_item<'a>(
         offset: item.offset(),
     };
     let writer = item.writer();
-    match view_claim(item.into_headers()) {
+    match item.into_claim() {
         None => Ok(()),
         Some(claim) => {
             let placed = PlacedRef { claim, at, writer };

@@ -12,7 +12,7 @@ use crate::places::{push_closes, push_decisions, push_markers, push_names};
 use crate::reading::read_decisions;
 use crate::tables::{ended_in_order, listed_in_order, marked_in_order, names_in_order};
 use eos_fault_list::distinct_in_order;
-use eos_fold::Part;
+use eos_partition::Part;
 use eos_table::MatchFault;
 use eos_txnlog::Decision;
 use std::alloc::{AllocError, Global};

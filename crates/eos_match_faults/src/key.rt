@@ -8,7 +8,7 @@ ghost use Rattle.eos_match_faults.specs.steps.Keys.{plain_name, listed, plain_li
 
 use bytes::Bytes;
 use eos_batch::Kind;
-use eos_fold::Part;
+use eos_partition::Part;
 use eos_txnlog::{Decision, TopicPartitions};
 use std::alloc::{AllocError, Global};
 

@@ -5,7 +5,7 @@ ghost use Rattle.eos_match_faults.specs.steps.Keys.{plain_name, listed, plain_li
 
 use crate::key::{Ended, Listed, NameRef, ended_keys, listed_keys, marked_keys, name_keys};
 use eos_base::Sorted;
-use eos_fold::Part;
+use eos_partition::Part;
 use eos_txnlog::Decision;
 use std::alloc::{AllocError, Global};
 

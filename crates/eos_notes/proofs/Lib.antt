@@ -4,3 +4,5 @@ pub mod LeastGaps
 pub mod EachOnce
 pub mod UnlistedNotes
 pub mod PartTables
+pub mod FirstNamed
+pub mod Whole

@@ -1,11 +1,18 @@
 -- The lines of an evidence's notes.
 use Rattle.std.specs.Prelude.{◌≡◌, ℕ, List, [], Bool, true, false}
 use Rattle.eos_evidence.specs.Evidence.{EvidenceParts}
+use Rattle.eos_evidence.specs.Parts.{Parts}
+use Rattle.eos_fold.specs.Parts.{PartLog}
 use Rattle.eos_notes.specs.declared.note.Note.{Note}
-use Rattle.eos_notes.specs.Notes.{AreNotes}
+use Rattle.eos_notes.specs.Notes.{AreNotesBy, AreNotes}
 use Rattle.eos_notes.specs.Texts.{note_lines}
 
 -- the lines of the notes, or nothing where they are left out
 abbrev pub IsNotesText : EvidenceParts → Bool → List ℕ → Type 0
 IsNotesText e true text = text ≡ []
 IsNotesText e false text = (notes : List Note) × AreNotes e notes × (text ≡ note_lines notes)
+
+-- the same by the manifest, the logs, and whether one of these has a fault
+abbrev pub IsNotesTextBy : Parts → List PartLog → Bool → Bool → List ℕ → Type 0
+IsNotesTextBy spec logs faulty true text = text ≡ []
+IsNotesTextBy spec logs faulty false text = (notes : List Note) × AreNotesBy spec logs faulty notes × (text ≡ note_lines notes)

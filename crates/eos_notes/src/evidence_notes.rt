@@ -1,26 +1,27 @@
 //! The notes of an evidence, in their order.
 
-ghost use Rattle.std.specs.Prelude.{◌≡◌, ◌++◌, [], false, List, map, IfOk, OnOk, IsPermutation};
+ghost use Rattle.std.specs.Prelude.{◌≡◌, ◌++◌, [], false, is_some, List, map, IfOk, OnOk, IsPermutation};
 ghost use Rattle.eos_base.specs.Members.{Has};
-ghost use Rattle.eos_lineage.specs.EvidenceLogs.{AreLogsOf, commits_for};
-ghost use Rattle.eos_claims.specs.Outputs.{committed_offset};
+ghost use Rattle.eos_lineage.specs.EvidenceLogs.{commits_for};
 ghost use Rattle.eos_commits.specs.Faults.{AreInOrder};
 ghost use Rattle.eos_commits.specs.Plain.{plain_commit};
 ghost use Rattle.eos_commits.specs.Tables.{IsTableOf};
 ghost use Rattle.eos_evidence.specs.declared.application.App.{App as AppOf};
-ghost use Rattle.eos_fold.specs.Parts.{part_name};
+ghost use Rattle.eos_partitions.specs.Faults.{first_of};
 ghost use Rattle.eos_notes.specs.CommitNotes.{past_ends_in, nothing_in, behind_in, past_ends, nothing_committed, behind};
 ghost use Rattle.eos_notes.specs.ManifestNotes.{absent_topics, gaps, absent_internals};
-ghost use Rattle.eos_notes.specs.Notes.{of_manifest, AreNotesBy, AreNotes};
+ghost use Rattle.eos_notes.specs.Notes.{of_manifest, AreNotesBy};
+ghost use Rattle.eos_notes.specs.steps.Counted.{AreOffsetsFor};
 
 use crate::groups::{count_inputs, push_behind, push_nothing, push_past_ends};
 use crate::manifest::{push_absent_topics, push_gaps, push_internals};
 use crate::note::Note;
 use crate::unlisted::unlisted_notes;
 use eos_commits::{CommitRef, CommitTable, TopicSet};
-use eos_evidence::{App, End, Evidence, Spec};
-use eos_fold::{Part, first_fault};
+use eos_evidence::{App, End, Spec};
 use eos_lineage::committed_offsets;
+use eos_partition::Part;
+use eos_partitions::Logs;
 use std::alloc::{AllocError, Global};
 
 /// What was found of what groups have committed, by the kind of note.
@@ -61,10 +62,11 @@ fn take_commits(
 ) -> Result<(), AllocError>
     requires sources { IsPermutation app.now.sources sources.now }
     requires commits { map plain_commit committed.now.commits.now ≡ commits_for parts.now app.now }
-    requires offsets { committed.now.offsets.now ≡ map (committed_offset (commits_for parts.now app.now)) (map part_name parts.now) }
-    ensures past_ends { OnOk result (found.new.past_ends.items ≡ found.old.past_ends.items ++ past_ends_in parts.now app.now) }
+    ensures past_ends { AreOffsetsFor parts.now app.now committed.now.offsets.now
+        → OnOk result (found.new.past_ends.items ≡ found.old.past_ends.items ++ past_ends_in parts.now app.now) }
     ensures nothing { OnOk result (found.new.nothing.items ≡ found.old.nothing.items ++ nothing_in parts.now app.now) }
-    ensures behind { OnOk result (found.new.behind.items ≡ found.old.behind.items ++ behind_in parts.now app.now) }
+    ensures behind { AreOffsetsFor parts.now app.now committed.now.offsets.now
+        → OnOk result (found.new.behind.items ≡ found.old.behind.items ++ behind_in parts.now app.now) }
 {
     let group = &app.group;
     let offsets = committed.offsets;
@@ -83,11 +85,10 @@ fn take_app(
     table: &CommitTable<'_>,
     parts: &[Part],
 ) -> Result<(), AllocError>
-    requires order { AreInOrder parts.now }
-    requires table { (apps : List AppOf) × IsTableOf apps parts.now table.now × Has apps app.now }
-    ensures past_ends { OnOk result (found.new.past_ends.items ≡ found.old.past_ends.items ++ past_ends_in parts.now app.now) }
+    requires { (apps : List AppOf) × IsTableOf apps parts.now table.now × Has apps app.now }
+    ensures past_ends { AreInOrder parts.now → OnOk result (found.new.past_ends.items ≡ found.old.past_ends.items ++ past_ends_in parts.now app.now) }
     ensures nothing { OnOk result (found.new.nothing.items ≡ found.old.nothing.items ++ nothing_in parts.now app.now) }
-    ensures behind { OnOk result (found.new.behind.items ≡ found.old.behind.items ++ behind_in parts.now app.now) }
+    ensures behind { AreInOrder parts.now → OnOk result (found.new.behind.items ≡ found.old.behind.items ++ behind_in parts.now app.now) }
 {
     let sources = TopicSet::of(alloc, app.sources.as_slice())?;
     let commits = table.commits_of(alloc, app)?;
@@ -103,10 +104,9 @@ fn take_app(
 
 /// What the applications' groups have committed.
 fn found_of(alloc: Global, apps: &[App], parts: &[Part]) -> Result<Found, AllocError>
-    requires { AreInOrder parts.now }
-    ensures past_ends { IfOk result (λ f. f.past_ends.items ≡ past_ends parts.now apps.now) }
+    ensures past_ends { AreInOrder parts.now → IfOk result (λ f. f.past_ends.items ≡ past_ends parts.now apps.now) }
     ensures nothing { IfOk result (λ f. f.nothing.items ≡ nothing_committed parts.now apps.now) }
-    ensures behind { IfOk result (λ f. f.behind.items ≡ behind parts.now apps.now) }
+    ensures behind { AreInOrder parts.now → IfOk result (λ f. f.behind.items ≡ behind parts.now apps.now) }
 {
     let table = CommitTable::of(alloc, apps, parts)?;
     let mut found = Found::new(alloc);
@@ -171,8 +171,7 @@ fn manifest_notes(alloc: Global, spec: &Spec) -> Result<Vec<Note>, AllocError>
 }
 
 fn all_notes(alloc: Global, spec: &Spec, parts: &[Part]) -> Result<Vec<Note>, AllocError>
-    requires { AreInOrder parts.now }
-    ensures { IfOk result (λ all. AreNotesBy spec.now parts.now false all.items) }
+    ensures { AreInOrder parts.now → IfOk result (λ all. AreNotesBy spec.now parts.now false all.items) }
 {
     let apps = spec.apps().as_slice();
     let ends = spec.ends().as_slice();
@@ -182,20 +181,20 @@ fn all_notes(alloc: Global, spec: &Spec, parts: &[Part]) -> Result<Vec<Note>, Al
     Ok(all)
 }
 
-/// The notes of an evidence whose logs these are: signs that it isn't the one that was meant. Where the log of a partition has a
-/// fault, it isn't known which records are visible, and only those are looked for that the manifest alone shows.
+/// The notes of an evidence with this manifest and these logs, whole ones or what is kept of them: signs that it isn't the one that
+/// was meant. Where the log of a partition has a fault, it isn't known which records are visible, and only those are looked for
+/// that the manifest alone shows.
 ///
 /// # Errors
 /// Only want of memory.
-pub fn notes(alloc: Global, evidence: &Evidence, logs: &[Part]) -> Result<Vec<Note>, AllocError>
-    requires { AreLogsOf evidence.now.partitions logs.now }
-    ensures { IfOk result (λ notes. AreNotes evidence.now notes.items) }
+pub fn notes(alloc: Global, spec: &Spec, logs: &Logs) -> Result<Vec<Note>, AllocError>
+    ensures { AreInOrder logs.now.parts.items
+        → IfOk result (λ notes. AreNotesBy spec.now logs.now.parts.items (is_some (first_of logs.now.faults.items)) notes.items) }
 {
-    let spec = evidence.spec();
-    if let Some(_fault) = first_fault(logs) {
+    if logs.first_fault().is_some() {
         let notes = manifest_notes(alloc, spec)?;
         return Ok(notes);
     }
-    let notes = all_notes(alloc, spec, logs)?;
+    let notes = all_notes(alloc, spec, logs.parts.as_slice())?;
     Ok(notes)
 }

@@ -1,6 +1,6 @@
 //! The notes of what a group has committed.
 
-ghost use Rattle.std.specs.Prelude.{◌≡◌, ◌++◌, ◌+◌, ℤ, pos, int_lt, [], ◌∷◌, map, flat_map, length, IfOk, OnOk, if◌then◌else◌};
+ghost use Rattle.std.specs.Prelude.{◌≡◌, ◌++◌, ◌+◌, ℤ, pos, int_lt, [], ◌∷◌, map, flat_map, length, get_or, IfOk, OnOk, if◌then◌else◌};
 ghost use Rattle.eos_base.specs.declared.partition_name.PartitionName.{PartitionName as Name};
 ghost use Rattle.eos_claims.specs.Outputs.{Application, committed_offset};
 ghost use Rattle.eos_commits.specs.Plain.{plain_commit};
@@ -13,8 +13,7 @@ use crate::note::Note;
 use eos_base::PartitionName;
 use eos_commits::{CommitRef, TopicSet, is_visible};
 use eos_evidence::GroupId;
-use eos_fold::Part;
-use eos_items::ItemRef;
+use eos_partition::{ItemRef, Part};
 use std::alloc::AllocError;
 
 /// So many visible records, and so many of them below a group's committed offsets.
@@ -22,6 +21,13 @@ use std::alloc::AllocError;
 pub(crate) struct Count {
     pub(crate) below: u64,
     pub(crate) inputs: u64,
+}
+
+/// The offset that is committed for the part at this place.
+fn offset_at(offsets: &[i64], i: usize) -> i64
+    ensures { result ≡ get_or offsets.now i (pos 0) }
+{
+    if i < offsets.len() { offsets[i] } else { 0 }
 }
 
 // ---- past the end
@@ -74,12 +80,11 @@ pub(crate) fn push_past_ends(
     parts: &[Part],
     offsets: &[i64],
 ) -> Result<(), AllocError>
-    requires { length offsets.now ≡ length parts.now }
     ensures { OnOk result ((committed : Name → ℤ) → offsets.now ≡ map committed (map part_name parts.now)
         → all.new.items ≡ all.old.items ++ flat_map (past_end_if sources.now group.now committed) parts.now) }
 {
     for i in 0..parts.len() {
-        push_past_end_if(all, group, sources, &parts[i], offsets[i])?;
+        push_past_end_if(all, group, sources, &parts[i], offset_at(offsets, i))?;
     }
     Ok(())
 }
@@ -196,7 +201,6 @@ pub(crate) fn count_inputs(
     parts: &[Part],
     offsets: &[i64],
 ) -> Result<Count, AllocError>
-    requires { length offsets.now ≡ length parts.now }
     ensures { IfOk result (λ c. (a : Application) → offsets.now ≡ map (committed_offset a.commits) (map part_name parts.now)
         → a.inputs ≡ flat_map inputs_in (parts_of sources.now parts.now)
         → (c.below ≡ length (inputs_below a)) × (c.inputs ≡ length a.inputs)) }
@@ -206,7 +210,7 @@ pub(crate) fn count_inputs(
         inputs: 0,
     };
     for i in 0..parts.len() {
-        count = count_part_if(count, sources, &parts[i], offsets[i])?;
+        count = count_part_if(count, sources, &parts[i], offset_at(offsets, i))?;
     }
     Ok(count)
 }

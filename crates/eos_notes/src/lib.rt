@@ -6,6 +6,7 @@
 
 mod evidence_notes;
 mod groups;
+pub mod laws;
 mod lines;
 mod manifest;
 mod note;

@@ -1,40 +1,36 @@
 //! The lines of an evidence's notes, as commands print them on standard error.
 
-ghost use Rattle.std.specs.Prelude.{false, IfOk, string_bytes};
-ghost use Rattle.eos_lineage.specs.EvidenceLogs.{AreLogsOf};
-ghost use Rattle.eos_notes.specs.Lines.{IsNotesText};
+ghost use Rattle.std.specs.Prelude.{false, is_some, IfOk, string_bytes};
+ghost use Rattle.eos_commits.specs.Faults.{AreInOrder};
+ghost use Rattle.eos_partitions.specs.Faults.{first_of};
+ghost use Rattle.eos_notes.specs.Lines.{IsNotesTextBy};
 
 use crate::evidence_notes::notes;
 use crate::text::note_lines;
-use eos_evidence::Evidence;
-use eos_fold::Part;
+use eos_evidence::Spec;
+use eos_partitions::Logs;
 use std::alloc::{AllocError, Global};
 
-/// The lines of the notes of an evidence whose logs these are, or nothing where they are left out.
+/// The lines of the notes of an evidence with this manifest and these logs, or nothing where they are left out.
 ///
 /// # Errors
 /// Only want of memory.
-pub fn lines_of(
-    alloc: Global,
-    evidence: &Evidence,
-    logs: &[Part],
-    quiet: bool,
-) -> Result<String, AllocError>
-    requires { AreLogsOf evidence.now.partitions logs.now }
-    ensures { IfOk result (λ text. IsNotesText evidence.now quiet (string_bytes text)) }
+pub fn lines_of(alloc: Global, spec: &Spec, logs: &Logs, quiet: bool) -> Result<String, AllocError>
+    ensures { AreInOrder logs.now.parts.items
+        → IfOk result (λ text. IsNotesTextBy spec.now logs.now.parts.items (is_some (first_of logs.now.faults.items)) quiet (string_bytes text)) }
 {
     if quiet {
         Ok(String::new(alloc))
     } else {
-        found_lines(alloc, evidence, logs)
+        found_lines(alloc, spec, logs)
     }
 }
 
-fn found_lines(alloc: Global, evidence: &Evidence, logs: &[Part]) -> Result<String, AllocError>
-    requires { AreLogsOf evidence.now.partitions logs.now }
-    ensures { IfOk result (λ text. IsNotesText evidence.now false (string_bytes text)) }
+fn found_lines(alloc: Global, spec: &Spec, logs: &Logs) -> Result<String, AllocError>
+    ensures { AreInOrder logs.now.parts.items
+        → IfOk result (λ text. IsNotesTextBy spec.now logs.now.parts.items (is_some (first_of logs.now.faults.items)) false (string_bytes text)) }
 {
-    let found = notes(alloc, evidence, logs)?;
+    let found = notes(alloc, spec, logs)?;
     let lines = note_lines(alloc, found.as_slice())?;
     Ok(lines)
 }

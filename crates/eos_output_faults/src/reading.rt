@@ -7,9 +7,9 @@ ghost use Rattle.eos_output_faults.specs.steps.Claimed.{claimed};
 ghost use Rattle.eos_output_faults.specs.steps.Plain.{claim_at, name_at, place_at};
 
 use crate::lent::{LentName, LentPlace, VisibleClaim};
-use eos_claims::{ClaimRef, view_claim};
+use eos_claims::ClaimRef;
 use eos_commits::{TopicSet, is_visible};
-use eos_fold::{ItemRef, Part};
+use eos_partition::{ItemRef, Part};
 use std::alloc::{AllocError, Global};
 
 fn name_of<'a>(part: &'a Part) -> LentName<'a>
@@ -110,7 +110,7 @@ fn push_claim<'a>(
         offset: item.offset(),
     };
     let writer = item.writer();
-    if let Some(claim) = view_claim(item.into_headers()) {
+    if let Some(claim) = item.into_claim() {
         all.push(visible_claim(&claim, at, writer))?;
     }
     Ok(())

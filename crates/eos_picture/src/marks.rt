@@ -10,7 +10,7 @@ use crate::passes::Pass;
 use crate::spots::{At, Spot, is_of};
 use crate::window::{column_of_spot, is_named};
 use eos_commits::is_visible;
-use eos_fold::Part;
+use eos_partition::Part;
 use std::alloc::AllocError;
 
 /// What a row is made of.

@@ -16,7 +16,7 @@ use crate::transactions::columns_of;
 use crate::window::{middle_of, window_of};
 use eos_check::Fault;
 use eos_evidence::App;
-use eos_fold::Part;
+use eos_partition::Part;
 use std::alloc::{AllocError, Global};
 
 fn spots_in(

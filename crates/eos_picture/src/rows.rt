@@ -18,7 +18,8 @@ use crate::window::column_of;
 use bytes::Bytes;
 use eos_base::PartitionName;
 use eos_batch::Marker;
-use eos_fold::{Close, ItemRef, Part};
+use eos_fold::Close;
+use eos_partition::{ItemRef, Part};
 use std::alloc::{AllocError, Global};
 
 // ---- the signs

@@ -10,11 +10,11 @@ use crate::mark::Column;
 use bytes::Bytes;
 use eos_base::PartitionName;
 use eos_check::Fault;
-use eos_claims::{OutputFault, OutputKind, view_claim};
+use eos_claims::{OutputFault, OutputKind};
 use eos_commits::{TopicSet, is_visible};
 use eos_evidence::{App, GroupId};
-use eos_fold::{ItemRef, Part};
 use eos_lineage::LineageFault;
+use eos_partition::{ItemRef, Part};
 use eos_table::MatchFault;
 use std::alloc::{AllocError, Global};
 
@@ -122,7 +122,7 @@ fn is_claim_of(fault: &OutputFault, item: ItemRef<'_>) -> bool {
         return false;
     }
     let source = &fault.source;
-    match view_claim(item.into_headers()) {
+    match item.into_claim() {
         None => false,
         Some(claim) => {
             claim.topic == source.partition.topic.as_slice()

@@ -13,7 +13,7 @@ use crate::mark::Column;
 use crate::spots::{At, Spot, is_of};
 use crate::transactions::is_of_transaction_log;
 use eos_base::PartitionName;
-use eos_fold::Part;
+use eos_partition::Part;
 
 fn is_written_by(column: &Column, writer: (i64, i16)) -> bool
     ensures yes { result ≡ true → writer ≡ (column.now.producer, column.now.epoch) }

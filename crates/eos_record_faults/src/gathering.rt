@@ -9,8 +9,7 @@ use crate::shown::{Role, Shown, by_commit, is_unclaimed};
 use crate::sources::Sources;
 use eos_base::{PartitionName, RecordFault};
 use eos_commits::{TopicSet, VisibleFault, VisibleFaultKind, is_visible};
-use eos_fold::Part;
-use eos_items::ItemRef;
+use eos_partition::{ItemRef, Part};
 use std::alloc::{AllocError, Global};
 use std::collections::BTreeMap;
 
@@ -98,7 +97,7 @@ fn take_visible<'a>(
     let faults = &mut gathering.faults;
     let offset = item.offset();
     let shown = by_commit(sources, &mut gathering.homes, role, &item)?;
-    let unclaimed = role.is_output && is_unclaimed(item.into_headers());
+    let unclaimed = role.is_output && is_unclaimed(item);
     push_tested(
         faults,
         unclaimed,

@@ -11,10 +11,8 @@ ghost use Rattle.eos_record_faults.specs.steps.Lent.{homes_of};
 use crate::homes::{Homes, enter};
 use crate::sources::Sources;
 use eos_base::RecordFault;
-use eos_batch::HeaderRefs;
-use eos_claims::view_claim;
-use eos_items::ItemRef;
 use eos_offsets::{view_key, view_value};
+use eos_partition::ItemRef;
 use std::alloc::AllocError;
 
 /// What is asked of a partition's records.
@@ -117,9 +115,9 @@ pub(crate) fn by_commit<'a>(
     Ok(nothing())
 }
 
-/// Whether the headers are no claim.
-pub(crate) fn is_unclaimed(headers: HeaderRefs<'_>) -> bool
-    ensures { result ≡ is_none (claim_of headers.entry) }
+/// Whether the record's headers are no claim.
+pub(crate) fn is_unclaimed(item: ItemRef<'_>) -> bool
+    ensures { result ≡ is_none (claim_of item.entry.headers) }
 {
-    view_claim(headers).is_none()
+    item.into_claim().is_none()
 }

@@ -12,9 +12,9 @@ ghost use Rattle.eos_sought.specs.Passing.{is_of_group, passes, is_passed};
 use crate::commits::{is_of_group, is_passed, passes};
 use crate::reading::{id_of, is_named, is_of, is_same, state_of};
 use bytes::Bytes;
-use eos_claims::{ClaimRef, Place, view_claim};
+use eos_claims::{ClaimRef, Place};
 use eos_commits::is_visible;
-use eos_fold::{ItemRef, Part};
+use eos_partition::{ItemRef, Part};
 use eos_txnlog::TxnValue;
 use std::alloc::{AllocError, Global};
 
@@ -81,13 +81,13 @@ fn claims(place: &Place, claim: Option<ClaimRef<'_>>) -> bool
 fn is_claiming(place: &Place, item: ItemRef<'_>) -> bool
     ensures { result ≡ (is_visible_fate item.entry.fate && claims place.now (claim_of item.entry.headers)) }
 {
-    is_visible(item.fate()) && claims(place, view_claim(item.into_headers()))
+    is_visible(item.fate()) && claims(place, item.into_claim())
 }
 
 fn is_hidden(place: &Place, item: ItemRef<'_>) -> bool
     ensures { result ≡ (not (is_visible_fate item.entry.fate) && claims place.now (claim_of item.entry.headers)) }
 {
-    !is_visible(item.fate()) && claims(place, view_claim(item.into_headers()))
+    !is_visible(item.fate()) && claims(place, item.into_claim())
 }
 
 fn is_id(id: &[u8], found: Option<Bytes>) -> bool

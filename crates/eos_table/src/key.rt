@@ -8,7 +8,8 @@ ghost use Rattle.eos_table.specs.steps.Keys.{plain_name, decided, judged, listed
 use crate::one_shard::Shard;
 use bytes::Bytes;
 use eos_batch::Kind;
-use eos_fold::{Close, Part};
+use eos_fold::Close;
+use eos_partition::Part;
 use eos_txnlog::{Decision, TopicPartitions};
 use std::alloc::{AllocError, Global};
 

@@ -12,7 +12,7 @@ use crate::ordered::{data_keys, ended_in_order, present_keys};
 use crate::pass::{closes_of, markers_of, names_of};
 use crate::table::TxnTable;
 use eos_base::PartitionName;
-use eos_fold::Part;
+use eos_partition::Part;
 use eos_txnlog::Decision;
 use std::alloc::{AllocError, Global};
 

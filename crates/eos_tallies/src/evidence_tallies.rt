@@ -1,27 +1,32 @@
 //! The tables of an evidence.
 
 ghost use Rattle.std.specs.Prelude.{◌≡◌, IfOk};
-ghost use Rattle.eos_lineage.specs.EvidenceLogs.{AreLogsOf};
-ghost use Rattle.eos_tallies.specs.Tallies.{AreTallies};
+ghost use Rattle.eos_commits.specs.Faults.{AreInOrder};
+ghost use Rattle.eos_tallies.specs.TalliesByLogs.{tallies_by};
 
 use crate::groups::group_tallies_of;
 use crate::partitions::partition_tallies_of;
-use crate::tally::Tallies;
-use eos_evidence::Evidence;
-use eos_fold::Part;
+use crate::tally::{Counted, Tallies};
+use eos_evidence::Spec;
+use eos_partitions::Logs;
 use std::alloc::{AllocError, Global};
 
-/// The tables of an evidence whose logs these are. It reads the segments once more, for their batches.
+/// The tables of an evidence with this manifest and these logs, whole ones or what is kept of them, of whose segments so much is
+/// counted.
 ///
 /// # Errors
 /// Only want of memory.
-pub fn tallies_of(alloc: Global, evidence: &Evidence, logs: &[Part]) -> Result<Tallies, AllocError>
-    requires { AreLogsOf evidence.now.partitions logs.now }
-    ensures { IfOk result (λ tallies. AreTallies evidence.now tallies) }
+pub fn tallies_of(
+    alloc: Global,
+    spec: &Spec,
+    logs: &Logs,
+    counted: &[Counted],
+) -> Result<Tallies, AllocError>
+    ensures { AreInOrder logs.now.parts.items
+        → IfOk result (λ tallies. tallies ≡ tallies_by spec.now.apps logs.now.parts.items logs.now.faults.items counted.now) }
 {
-    let spec = evidence.spec();
     let apps = spec.apps().as_slice();
-    let partitions = partition_tallies_of(alloc, apps, evidence.partitions(), logs)?;
+    let partitions = partition_tallies_of(alloc, apps, logs, counted)?;
     let groups = group_tallies_of(alloc, apps, logs)?;
     Ok(Tallies { partitions, groups })
 }

@@ -1,13 +1,15 @@
 //! The table of groups.
 
-ghost use Rattle.std.specs.Prelude.{◌≡◌, ◌++◌, ◌∷◌, [], ℤ, map, filter, length, IfOk, OnOk, IsPermutation};
+ghost use Rattle.std.specs.Prelude.{◌≡◌, ◌++◌, ◌∷◌, [], ℤ, pos, is_some, map, filter, get_or, IfOk, OnOk, IsPermutation};
 ghost use Rattle.eos_base.specs.declared.partition_name.PartitionName.{PartitionName as Name};
 ghost use Rattle.eos_claims.specs.Outputs.{committed_offset};
 ghost use Rattle.eos_commits.specs.Faults.{AreInOrder};
 ghost use Rattle.eos_fold.specs.Parts.{part_name};
 ghost use Rattle.eos_lineage.specs.Lineage.{is_part_of};
 ghost use Rattle.eos_lineage.specs.EvidenceLogs.{commits_for};
-ghost use Rattle.eos_tallies.specs.GroupTallies.{source_tally, source_tally_at, group_tally as tally_of_group, AreGroupTallies};
+ghost use Rattle.eos_partitions.specs.Faults.{first_of};
+ghost use Rattle.eos_tallies.specs.GroupTallies.{source_tally, source_tally_at, group_tally as tally_of_group};
+ghost use Rattle.eos_tallies.specs.TalliesByLogs.{group_tallies};
 ghost use Rattle.eos_tallies.specs.steps.Counted.{source_if};
 
 use crate::records::count_below;
@@ -15,8 +17,9 @@ use crate::tally::{GroupTally, SourceTally};
 use eos_base::Listed;
 use eos_commits::{TopicSet, commits_of};
 use eos_evidence::App;
-use eos_fold::{Part, first_fault};
 use eos_lineage::committed_offsets;
+use eos_partition::Part;
+use eos_partitions::Logs;
 use std::alloc::{AllocError, Global};
 
 fn tally_of_source(part: &Part, committed: i64) -> Result<SourceTally, AllocError>
@@ -46,6 +49,13 @@ fn push_source(
     Ok(())
 }
 
+/// The offset that is committed for the part at this place.
+fn offset_at(offsets: &[i64], i: usize) -> i64
+    ensures { result ≡ get_or offsets.now i (pos 0) }
+{
+    if i < offsets.len() { offsets[i] } else { 0 }
+}
+
 /// The partitions of these topics, by the committed offset of each part.
 fn source_tallies(
     alloc: Global,
@@ -53,13 +63,12 @@ fn source_tallies(
     parts: &[Part],
     offsets: &[i64],
 ) -> Result<Vec<SourceTally>, AllocError>
-    requires { length offsets.now ≡ length parts.now }
     ensures { IfOk result (λ all. (committed : Name → ℤ) → offsets.now ≡ map committed (map part_name parts.now)
         → all.items ≡ map (source_tally committed) (filter (is_part_of sources.now) parts.now)) }
 {
     let mut all = Vec::new(alloc);
     for i in 0..parts.len() {
-        push_source(&mut all, sources, &parts[i], offsets[i])?;
+        push_source(&mut all, sources, &parts[i], offset_at(offsets, i))?;
     }
     Ok(all)
 }
@@ -72,9 +81,8 @@ fn group_tally_by(
     parts: &[Part],
     offsets: &[i64],
 ) -> Result<GroupTally, AllocError>
-    requires sources { IsPermutation app.now.sources sources.now }
-    requires offsets { offsets.now ≡ map (committed_offset (commits_for parts.now app.now)) (map part_name parts.now) }
-    ensures { IfOk result (λ t. t ≡ tally_of_group parts.now app.now) }
+    requires { IsPermutation app.now.sources sources.now }
+    ensures { offsets.now ≡ map (committed_offset (commits_for parts.now app.now)) (map part_name parts.now) → IfOk result (λ t. t ≡ tally_of_group parts.now app.now) }
 {
     let sources = source_tallies(alloc, sources, parts, offsets)?;
     Ok(GroupTally {
@@ -84,8 +92,7 @@ fn group_tally_by(
 }
 
 fn group_tally(alloc: Global, app: &App, parts: &[Part]) -> Result<GroupTally, AllocError>
-    requires { AreInOrder parts.now }
-    ensures { IfOk result (λ t. t ≡ tally_of_group parts.now app.now) }
+    ensures { AreInOrder parts.now → IfOk result (λ t. t ≡ tally_of_group parts.now app.now) }
 {
     let topics = app.sources.as_slice();
     let sources = TopicSet::of(alloc, topics)?;
@@ -97,8 +104,7 @@ fn group_tally(alloc: Global, app: &App, parts: &[Part]) -> Result<GroupTally, A
 }
 
 fn all_groups(alloc: Global, apps: &[App], parts: &[Part]) -> Result<Vec<GroupTally>, AllocError>
-    requires { AreInOrder parts.now }
-    ensures { IfOk result (λ all. all.items ≡ map (tally_of_group parts.now) apps.now) }
+    ensures { AreInOrder parts.now → IfOk result (λ all. all.items ≡ map (tally_of_group parts.now) apps.now) }
 {
     let mut all = Vec::new(alloc);
     for app in apps {
@@ -114,14 +120,14 @@ fn all_groups(alloc: Global, apps: &[App], parts: &[Part]) -> Result<Vec<GroupTa
 pub(crate) fn group_tallies_of(
     alloc: Global,
     apps: &[App],
-    logs: &[Part],
+    logs: &Logs,
 ) -> Result<Option<Listed<GroupTally>>, AllocError>
-    requires { AreInOrder logs.now }
-    ensures { IfOk result (AreGroupTallies logs.now apps.now) }
+    ensures { AreInOrder logs.now.parts.items
+        → IfOk result (λ groups. groups ≡ group_tallies (is_some (first_of logs.now.faults.items)) logs.now.parts.items apps.now) }
 {
-    if let Some(_fault) = first_fault(logs) {
+    if logs.first_fault().is_some() {
         return Ok(None);
     }
-    let all = all_groups(alloc, apps, logs)?;
+    let all = all_groups(alloc, apps, logs.parts.as_slice())?;
     Ok(Some(Listed::new(all)))
 }

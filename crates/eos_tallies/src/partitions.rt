@@ -1,22 +1,24 @@
 //! The table of partitions.
 
-ghost use Rattle.std.specs.Prelude.{◌≡◌, ◌++◌, ◌∷◌, [], flat_map, length, IfOk, OnOk};
+ghost use Rattle.std.specs.Prelude.{◌≡◌, ◌≤◌, ◌++◌, ◌∷◌, [], None, Some, is_some, if◌then◌else◌, map, flat_map, length, IfOk, OnOk};
 ghost use Rattle.std.specs.Ordering.{nat_cmp};
 ghost use Rattle.std.specs.Cmp.Lexicographic.{slice_cmp};
 ghost use Rattle.eos_base.specs.Members.{is_found};
-ghost use Rattle.eos_lineage.specs.EvidenceLogs.{AreLogsOf};
 ghost use Rattle.eos_commits.specs.Commits.{is_same as is_same_text};
+ghost use Rattle.eos_commits.specs.Visible.{visible};
 ghost use Rattle.eos_evidence.specs.Parts.{outputs_of as outputs_in};
-ghost use Rattle.eos_tallies.specs.PartitionTallies.{sources_of as sources_in, roles_by, bytes_in, AreVisibleIn, IsPartitionTally, roles_of, ArePartitionTallies};
+ghost use Rattle.eos_tallies.specs.PartitionTallies.{sources_of as sources_in, roles_by, roles_of};
+ghost use Rattle.eos_tallies.specs.TalliesByLogs.{beside, partition_tally as tally_of_partition};
 
-use crate::fronts::count_batches;
-use crate::records::{count_visible, sum};
-use crate::tally::{PartitionTally, TopicRoles};
+use crate::records::count_visible;
+use crate::tally::{Counted, PartitionTally, TopicRoles};
 use bytes::Bytes;
 use eos_base::Listed;
 use eos_commits::TopicSet;
-use eos_evidence::{App, Partition, Segment};
-use eos_fold::Part;
+use eos_evidence::App;
+use eos_partition::Part;
+use eos_partitions::Logs;
+use eos_touch::PartitionFault;
 use std::alloc::{AllocError, Global};
 
 // ---- roles
@@ -71,21 +73,11 @@ fn roles_in(sources: &TopicSet<'_>, outputs: &TopicSet<'_>, topic: &[u8]) -> Top
 
 // ---- a partition
 
-fn count_bytes(segments: &[Segment]) -> Result<u64, AllocError>
-    ensures { IfOk result (λ n. n ≡ bytes_in segments.now) }
-{
-    let mut count = 0;
-    for segment in segments {
-        count = sum(count, segment.bytes.len() as u64)?;
-    }
-    Ok(count)
-}
-
 /// The visible records, where the log has no fault.
-fn visible_of(log: &Part) -> Result<Option<u64>, AllocError>
-    ensures { IfOk result (AreVisibleIn log.now) }
+fn visible_of(log: &Part, fault: &Option<PartitionFault>) -> Result<Option<u64>, AllocError>
+    ensures { IfOk result (λ n. n ≡ (if is_some fault.now then None else Some (length (visible log.now)))) }
 {
-    if let Some(_fault) = log.fault() {
+    if fault.is_some() {
         return Ok(None);
     }
     let count = count_visible(log)?;
@@ -93,60 +85,72 @@ fn visible_of(log: &Part) -> Result<Option<u64>, AllocError>
 }
 
 fn partition_tally(
-    alloc: Global,
     sources: &TopicSet<'_>,
     outputs: &TopicSet<'_>,
-    partition: &Partition,
     log: &Part,
+    fault: &Option<PartitionFault>,
+    counted: &Counted,
 ) -> Result<PartitionTally, AllocError>
-    ensures { IfOk result (λ t. IsPartitionTally (roles_by (is_found (slice_cmp nat_cmp) sources.now) (is_found (slice_cmp nat_cmp) outputs.now)) partition.now log.now t) }
+    ensures { IfOk result (λ t. t ≡ tally_of_partition (roles_by (is_found (slice_cmp nat_cmp) sources.now) (is_found (slice_cmp nat_cmp) outputs.now)) (log.now, (fault.now, counted.now))) }
 {
-    let end = &partition.end;
-    let segments = partition.segments.as_slice();
     Ok(PartitionTally {
-        topic: end.topic.clone()?,
-        partition: end.partition,
-        roles: roles_in(sources, outputs, end.topic.as_slice()),
-        end: end.end,
-        batches: count_batches(alloc, segments)?,
+        topic: log.topic().clone()?,
+        partition: log.partition(),
+        roles: roles_in(sources, outputs, log.topic().as_slice()),
+        end: log.end(),
+        batches: counted.batches,
         data_records: log.items().len() as u64,
-        visible_records: visible_of(log)?,
-        segments: segments.len() as u64,
-        bytes: count_bytes(segments)?,
+        visible_records: visible_of(log, fault)?,
+        segments: counted.segments,
+        bytes: counted.bytes,
     })
 }
 
 // ---- all
 
+/// How many logs have their fault and their counts beside them.
+fn rows_of(parts: &[Part], faults: &[Option<PartitionFault>], counted: &[Counted]) -> usize
+    ensures rows { result ≡ length (beside parts.now faults.now counted.now) }
+    ensures parts { result ≤ length parts.now }
+    ensures faults { result ≤ length faults.now }
+    ensures counted { result ≤ length counted.now }
+{
+    let others = faults.len().min(counted.len());
+    parts.len().min(others)
+}
+
 fn tallies_by(
     alloc: Global,
     sources: &TopicSet<'_>,
     outputs: &TopicSet<'_>,
-    partitions: &[Partition],
-    logs: &[Part],
+    logs: &Logs,
+    counted: &[Counted],
 ) -> Result<Vec<PartitionTally>, AllocError>
-    requires { length logs.now ≡ length partitions.now }
-    ensures { IfOk result (λ all. ArePartitionTallies (roles_by (is_found (slice_cmp nat_cmp) sources.now) (is_found (slice_cmp nat_cmp) outputs.now)) partitions.now logs.now all.items) }
+    ensures { IfOk result (λ all. all.items ≡ map (tally_of_partition (roles_by (is_found (slice_cmp nat_cmp) sources.now) (is_found (slice_cmp nat_cmp) outputs.now)))
+        (beside logs.now.parts.items logs.now.faults.items counted.now)) }
 {
+    let parts = logs.parts.as_slice();
+    let faults = logs.faults.as_slice();
     let mut all = Vec::new(alloc);
-    for i in 0..partitions.len() {
-        all.push(partition_tally(alloc, sources, outputs, &partitions[i], &logs[i])?)?;
+    let rows = rows_of(parts, faults, counted);
+    for i in 0..rows {
+        let tally = partition_tally(sources, outputs, &parts[i], &faults[i], &counted[i])?;
+        all.push(tally)?;
     }
     Ok(all)
 }
 
-/// One for each partition, in order.
+/// One for each log, in order.
 ///
 /// # Errors
 /// Only want of memory.
 pub(crate) fn partition_tallies_of(
     alloc: Global,
     apps: &[App],
-    partitions: &[Partition],
-    logs: &[Part],
+    logs: &Logs,
+    counted: &[Counted],
 ) -> Result<Listed<PartitionTally>, AllocError>
-    requires { AreLogsOf partitions.now logs.now }
-    ensures { IfOk result (λ all. ArePartitionTallies (roles_of apps.now) partitions.now logs.now all) }
+    ensures { IfOk result (λ all. all ≡ map (tally_of_partition (roles_of apps.now)) (beside logs.now.parts.items logs.now.faults.items counted.now)) }
 {
     let all_read = sources_of(alloc, apps)?;
     let all_written = outputs_of(alloc, apps)?;
@@ -154,6 +158,6 @@ pub(crate) fn partition_tallies_of(
     let written = all_written.as_slice();
     let sources = TopicSet::of(alloc, read)?;
     let outputs = TopicSet::of(alloc, written)?;
-    let all = tallies_by(alloc, &sources, &outputs, partitions, logs)?;
+    let all = tallies_by(alloc, &sources, &outputs, logs, counted)?;
     Ok(Listed::new(all))
 }

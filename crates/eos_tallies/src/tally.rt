@@ -1,8 +1,15 @@
 //! What the tables of a report say.
 
+ghost use Rattle.std.specs.Prelude.{List};
+ghost use Rattle.eos_evidence.specs.declared.segment.Segment.{Segment};
+ghost use Rattle.eos_kept.specs.Sizes.{AreSized};
+ghost use Rattle.eos_part.specs.Parts.{HasBatches};
+ghost use Rattle.eos_tallies.specs.Counts.{IsCounted};
+
 use bytes::Bytes;
 use eos_base::Listed;
 use eos_evidence::GroupId;
+use eos_kept::Sizes;
 
 /// What a topic is for the applications and for Kafka.
 #[derive(Clone, Copy, Debug, PartialEq, Eq)]
@@ -15,6 +22,29 @@ pub struct TopicRoles {
     pub offsets_log: bool,
     /// It is `__transaction_state`.
     pub transaction_log: bool,
+}
+
+/// What is counted of a partition's segments, which a log that is kept has no more.
+#[derive(Clone, Copy, Debug)]
+pub struct Counted {
+    /// The batches of the front: data batches and control batches.
+    pub batches: u64,
+    pub segments: u64,
+    /// The bytes of all segments, whether or not they are batches.
+    pub bytes: u64,
+}
+
+impl Counted {
+    /// Of segments that were read before, of which this was told.
+    pub fn told(batches: u64, sizes: Sizes) -> Counted
+        ensures { (segments : List Segment) → HasBatches segments batches → AreSized segments sizes → IsCounted segments result }
+    {
+        Counted {
+            batches,
+            segments: sizes.segments,
+            bytes: sizes.bytes,
+        }
+    }
 }
 
 /// How much a partition holds. Where its log has a fault, its batches and records are those of its front: those that stand before

@@ -1,8 +1,10 @@
 -- The verdict over what is kept is the verdict.
-use Rattle.std.proofs.Common.{◌≡◌, ◌↔◌, List, sym, ap, ◌∙◌, subst, length}
-use Rattle.eos_base.specs.Least.{NoneStands, IsLeast}
+use Rattle.std.proofs.Common.{◌≡◌, ◌↔◌, List, Option, Some, None, sym, ap, ◌∙◌, subst, length}
+use Rattle.eos_base.specs.Least.{NoneStands, IsLeast, IsLeastOrNone}
 use Rattle.eos_evidence.specs.Evidence.{EvidenceParts, IsEvidence}
+use Rattle.eos_touch.specs.declared.fault.PartitionFault.{PartitionFault}
 use Rattle.eos_fold.specs.Parts.{PartLog}
+use Rattle.eos_partitions.specs.Faults.{AreFaultsIn, first_of}
 use Rattle.eos_txnlog.specs.declared.decision.Decision.{Decision}
 use Rattle.eos_table.specs.declared.log_fault.LogFault.{LogFault}
 use Rattle.eos_table.specs.declared.match_fault.MatchFault.{MatchFault}
@@ -16,10 +18,14 @@ use Rattle.eos_check.specs.declared.verdict.Fault.TheVariants.{Partition as InPa
 use Rattle.eos_check.specs.declared.verdict.Counts.{Counts}
 use Rattle.eos_check.specs.declared.verdict.Verdict.{Verdict}
 use Rattle.eos_check.specs.declared.verdict.Verdict.TheVariants.{Yes, No}
-use Rattle.eos_check.specs.Verdicts.{StandsInPartitions, StandsInLog, StandsInMatching, Stands, verdict_cmp, AreCounts, IsVerdictOf}
+use Rattle.eos_check.specs.Verdicts.{StandsInPartitions, StandsInLog, StandsInMatching, Stands, partition_cmp, verdict_cmp, AreCounts, IsVerdictOf}
+use Rattle.eos_check.specs.Judged.{IsVerdictOver, IsJudged}
+use Rattle.eos_lineage.proofs.LogsInOrder.{in_order}
 use Rattle.eos_check.proofs.GoodLaw.{law as good_law}
-use Rattle.eos_check.proofs.VerdictsMade.{no_log, no_match, no_lineage, yes}
+use Rattle.eos_check.proofs.NamedFaults.{least_named}
+use Rattle.eos_check.proofs.VerdictsMade.{no_partition, no_log, no_match, no_lineage, yes}
 use Rattle.eos_wanted_verdict.specs.KeptVerdicts.{StandAlike, kept_of, StandsKept, IsKeptVerdict}
+use Rattle.eos_wanted_verdict.proofs.KeptOrder.{all_kept}
 use Rattle.eos_wanted_verdict.proofs.StandingAlike.{back, none_from, least_from}
 use Rattle.eos_wanted_verdict.proofs.KeptTransactions as transactions
 use Rattle.eos_wanted_verdict.proofs.KeptMatching as matching
@@ -53,14 +59,14 @@ module _ (e : EvidenceParts) (ls : List PartLog) (of : AreLogsOf e.partitions ls
 
   -- ---- counts
 
-  counts_from : (c : Counts) → AreCounts e (kept_of e ls) c → AreCounts e ls c
+  counts_from : (c : Counts) → AreCounts e.spec.apps (kept_of e ls) c → AreCounts e.spec.apps ls c
   counts_from c h = record {
     transactions = h.transactions ∙ ap length decisions;
     inputs = h.inputs ∙ lineages.count_inputs_kept e.spec.apps ls;
     outputs = h.outputs ∙ lineages.count_outputs_kept e.spec.apps ls;
   }
 
-  counts_back : (c : Counts) → AreCounts e ls c → AreCounts e (kept_of e ls) c
+  counts_back : (c : Counts) → AreCounts e.spec.apps ls c → AreCounts e.spec.apps (kept_of e ls) c
   counts_back c h = record {
     transactions = h.transactions ∙ sym (ap length decisions);
     inputs = h.inputs ∙ sym (lineages.count_inputs_kept e.spec.apps ls);
@@ -91,6 +97,22 @@ module _ (e : EvidenceParts) (ls : List PartLog) (of : AreLogsOf e.partitions ls
   lineage_answers f p l t m = no_lineage e ls of f p (none_from in_log l) (none_from in_matching t) (least_from (lineage.lineage_cmp e.spec.apps) in_lineage f m)
 
   pub yes_answers : (c : Counts) → IsEvidence e → NoneStands (StandsInPartitions e.partitions ls of) → NoneStands (StandsInLog (kept_of e ls))
-      → NoneStands (StandsInMatching (kept_of e ls)) → NoneStands (lineage.Stands e.spec.apps (kept_of e ls)) → AreCounts e (kept_of e ls) c
+      → NoneStands (StandsInMatching (kept_of e ls)) → NoneStands (lineage.Stands e.spec.apps (kept_of e ls)) → AreCounts e.spec.apps (kept_of e ls) c
       → IsVerdictOf e ls of (Yes c)
   yes_answers c is p l t m counts = yes e ls of c is p (none_from in_log l) (none_from in_matching t) (none_from in_lineage m) (counts_from c counts)
+
+  over : IsEvidence e → NoneStands (StandsInPartitions e.partitions ls of) → (v : Verdict) → IsVerdictOver e.spec.apps (kept_of e ls) v → IsVerdictOf e ls of v
+  over is p (No (InPartition f)) h = absurd h
+  over is p (No (Log f)) h = log_answers f p h
+  over is p (No (Match f)) h = matching_answers f p h.0 h.1
+  over is p (No (Lineage f)) h = lineage_answers f p h.0 h.1 h.2
+  over is p (Yes c) h = yes_answers c is p h.0 h.1 h.2 h.3
+
+  judged_by : IsEvidence e → (o : Option PartitionFault) → IsLeastOrNone partition_cmp (StandsInPartitions e.partitions ls of) o → (v : Verdict)
+      → IsJudged e.spec.apps (kept_of e ls) o v → IsVerdictOf e ls of v
+  judged_by is None p v h = over is p v (h ((all_kept e.spec.apps ls).1 (in_order e ls is of)))
+  judged_by is (Some f) p v h = subst (IsVerdictOf e ls of) (sym h) (no_partition e ls of f p)
+
+pub judged : (e : EvidenceParts) (ls : List PartLog) (of : AreLogsOf e.partitions ls) (fs : List (Option PartitionFault)) (v : Verdict) → IsEvidence e → AreFaultsIn e.partitions fs
+    → IsJudged e.spec.apps (kept_of e ls) (first_of fs) v → IsVerdictOf e ls of v
+judged e ls of fs v is named h = judged_by e ls of is (first_of fs) (least_named e ls of fs is named) v h

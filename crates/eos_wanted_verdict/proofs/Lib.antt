@@ -6,5 +6,4 @@ pub mod KeptTransactions
 pub mod KeptMatching
 pub mod KeptVisible
 pub mod KeptLineage
-pub mod NamedFaults
 pub mod KeptAnswers

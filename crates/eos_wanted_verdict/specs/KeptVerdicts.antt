@@ -1,11 +1,8 @@
 -- The verdict over kept logs. Partitions by themselves are judged when they are read, and the phases behind look at what was
 -- kept.
-use Rattle.std.specs.Prelude.{◌↔◌, List, [], ◌∷◌, Option, Some, None, ⊤}
+use Rattle.std.specs.Prelude.{◌↔◌, List}
 use Rattle.eos_base.specs.Least.{NoneStands, IsLeast}
-use Rattle.eos_evidence.specs.declared.partition.Partition.{Partition}
 use Rattle.eos_evidence.specs.Evidence.{EvidenceParts}
-use Rattle.eos_touch.specs.declared.fault.PartitionFault.{PartitionFault}
-use Rattle.eos_fold.specs.LeastFaults.{IsFaultIn}
 use Rattle.eos_fold.specs.Parts.{PartLog}
 use Rattle.eos_lineage.specs.Faults as lineage
 use Rattle.eos_lineage.specs.EvidenceLogs.{AreLogsOf}
@@ -36,20 +33,5 @@ StandsKept e logs of (Lineage f) =
 
 -- the counts where no fault stands, else the least one
 abbrev pub IsKeptVerdict : (e : EvidenceParts) (logs : List PartLog) → AreLogsOf e.partitions logs → Verdict → Type 0
-IsKeptVerdict e logs of (Yes counts) = NoneStands (StandsKept e logs of) × AreCounts e (kept_of e logs) counts
+IsKeptVerdict e logs of (Yes counts) = NoneStands (StandsKept e logs of) × AreCounts e.spec.apps (kept_of e logs) counts
 IsKeptVerdict e logs of (No fault) = IsLeast (verdict_cmp e.spec.apps) (StandsKept e logs of) fault
-
--- ---- the first phase
-
--- the least fault of each of these partitions, in order
-abbrev pub AreFaultsIn : List Partition → List (Option PartitionFault) → Type 0
-AreFaultsIn [] [] = ⊤
-AreFaultsIn [] (f ∷ fs) = ⊥
-AreFaultsIn (p ∷ ps) [] = ⊥
-AreFaultsIn (p ∷ ps) (f ∷ fs) = IsFaultIn p.end.topic p.end.partition p.end.end p.segments f × AreFaultsIn ps fs
-
--- the first that there is
-abbrev pub first_of : List (Option PartitionFault) → Option PartitionFault
-first_of [] = None
-first_of (None ∷ fs) = first_of fs
-first_of (Some f ∷ fs) = Some f

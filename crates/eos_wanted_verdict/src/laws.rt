@@ -5,6 +5,7 @@
 ghost use Rattle.std.specs.Prelude.{◌≡◌, ◌↔◌, List, Option};
 ghost use Rattle.eos_base.specs.Least.{NoneStands, IsLeast, IsLeastOrNone};
 ghost use Rattle.eos_base.specs.Members.{Has};
+ghost use Rattle.eos_check.specs.Judged.{IsJudged};
 ghost use Rattle.eos_check.specs.Verdicts.{StandsInPartitions, StandsInLog, StandsInMatching, Stands, partition_cmp, AreCounts, IsVerdictOf};
 ghost use Rattle.eos_check.specs.declared.verdict.Counts.{Counts};
 ghost use Rattle.eos_check.specs.declared.verdict.Fault.TheVariants.{Partition as InPartition, Log, Match, Lineage};
@@ -20,6 +21,7 @@ ghost use Rattle.eos_lineage.specs.EvidenceLogs.{IsLogOf, AreLogsOf};
 ghost use Rattle.eos_lineage.specs.Faults as lineage;
 ghost use Rattle.eos_lineage.specs.Lineage.{application_of, count_inputs, count_outputs, LineageKept};
 ghost use Rattle.eos_lineage.specs.declared.fault.LineageFault.{LineageFault};
+ghost use Rattle.eos_partitions.specs.Faults.{AreFaultsIn, first_of};
 ghost use Rattle.eos_table.specs.Atomic.{Atomic};
 ghost use Rattle.eos_table.specs.LogFaults as logs;
 ghost use Rattle.eos_table.specs.MatchFaults as matches;
@@ -30,7 +32,7 @@ ghost use Rattle.eos_table.specs.declared.match_fault.MatchFault.{MatchFault};
 ghost use Rattle.eos_touch.specs.declared.fault.PartitionFault.{PartitionFault};
 ghost use Rattle.eos_txnlog.specs.declared.decision.Decision.{Decision};
 ghost use Rattle.eos_wanted.specs.Wanted.{wanted_logs};
-ghost use Rattle.eos_wanted_verdict.specs.KeptVerdicts.{StandAlike, kept_of, StandsKept, IsKeptVerdict, AreFaultsIn, first_of};
+ghost use Rattle.eos_wanted_verdict.specs.KeptVerdicts.{StandAlike, kept_of, StandsKept, IsKeptVerdict};
 
 /// Of the partitions' least faults, each of which was named when its segments were read, the first is the least that stands in the
 /// logs; and none stands where none was named.
@@ -102,5 +104,12 @@ pub fn answers()
         → IsLeast (lineage.lineage_cmp e.spec.apps) (lineage.Stands e.spec.apps (kept_of e parts)) f → IsVerdictOf e parts of (No (Lineage f)) }
     ensures yes { (e : EvidenceParts) (parts : List PartLog) (of : AreLogsOf e.partitions parts) (counts : Counts) → IsEvidence e
         → NoneStands (StandsInPartitions e.partitions parts of) → NoneStands (StandsInLog (kept_of e parts)) → NoneStands (StandsInMatching (kept_of e parts))
-        → NoneStands (lineage.Stands e.spec.apps (kept_of e parts)) → AreCounts e (kept_of e parts) counts → IsVerdictOf e parts of (Yes counts) }
+        → NoneStands (lineage.Stands e.spec.apps (kept_of e parts)) → AreCounts e.spec.apps (kept_of e parts) counts → IsVerdictOf e parts of (Yes counts) }
+{}
+
+/// What is judged of the kept logs, beside the faults that were named of the partitions when their segments were read, is the
+/// verdict of the evidence.
+pub fn judged()
+    ensures { (e : EvidenceParts) (parts : List PartLog) (of : AreLogsOf e.partitions parts) (faults : List (Option PartitionFault)) (v : Verdict) → IsEvidence e
+        → AreFaultsIn e.partitions faults → IsJudged e.spec.apps (kept_of e parts) (first_of faults) v → IsVerdictOf e parts of v }
 {}

@@ -1,7 +1,7 @@
 -- What the check makes and looks at on its way. For its private steps.
 use Rattle.std.specs.Prelude.{◌≡◌, ℕ, List, length, Result, Ok, Err}
 use Rattle.eos_base.specs.Least.{NoneStands, IsLeast}
-use Rattle.eos_evidence.specs.Evidence.{EvidenceParts}
+use Rattle.eos_evidence.specs.declared.application.App.{App}
 use Rattle.eos_fold.specs.Parts.{PartLog}
 use Rattle.eos_txnlog.specs.declared.decision.Decision.{Decision}
 use Rattle.eos_table.specs.declared.match_fault.MatchFault.{MatchFault}
@@ -10,16 +10,15 @@ use Rattle.eos_table.specs.TransactionLog.{transaction_parts, decisions_of}
 use Rattle.eos_check.specs.declared.verdict.Fault.{Fault}
 use Rattle.eos_check.specs.declared.verdict.Fault.TheVariants.{Match}
 use Rattle.eos_check.specs.declared.verdict.Verdict.TheVariants.{No}
-use Rattle.eos_lineage.specs.EvidenceLogs.{AreLogsOf}
-use Rattle.eos_check.specs.Verdicts.{StandsInPartitions, StandsInLog, StandsInMatching, IsVerdictOf}
+use Rattle.eos_check.specs.Judged.{IsVerdictOver}
+use Rattle.eos_check.specs.Verdicts.{StandsInLog, StandsInMatching}
 
 -- what the matching of these decisions answers: their number, or the least fault
 abbrev pub IsMatched : List Decision → List PartLog → Result ℕ Fault → Type 0
 IsMatched ds ls (Ok n) = (n ≡ length ds) × NoneStands (matches.Stands ds ls)
 IsMatched ds ls (Err f) = (m : MatchFault) × (f ≡ Match m) × IsLeast matches.fault_cmp (matches.Stands ds ls) m
 
--- what the first three phases answer: the number of transactions, or the verdict
-abbrev pub IsTransacted : (e : EvidenceParts) (ls : List PartLog) → AreLogsOf e.partitions ls → Result ℕ Fault → Type 0
-IsTransacted e ls of (Ok n) =
-    (n ≡ length (decisions_of (transaction_parts ls))) × NoneStands (StandsInPartitions e.partitions ls of) × NoneStands (StandsInLog ls) × NoneStands (StandsInMatching ls)
-IsTransacted e ls of (Err f) = IsVerdictOf e ls of (No f)
+-- what the second and the third phase answer: the number of transactions, or the verdict, whatever the applications
+abbrev pub IsTransacted : List PartLog → Result ℕ Fault → Type 0
+IsTransacted ls (Ok n) = (n ≡ length (decisions_of (transaction_parts ls))) × NoneStands (StandsInLog ls) × NoneStands (StandsInMatching ls)
+IsTransacted ls (Err f) = (apps : List App) → IsVerdictOver apps ls (No f)

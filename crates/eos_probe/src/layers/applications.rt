@@ -11,9 +11,9 @@ use eos_commits::{
     CommitRef, TopicSet, commits_of, committed, last_committed, least_visible_fault,
 };
 use eos_evidence::{App, GroupId, Spec, SpecFault};
-use eos_fold::Part;
 use eos_lineage::{LineageFault, check_lineage};
 use eos_output_faults::all_output_faults;
+use eos_partition::Part;
 use eos_text::push_value;
 use std::alloc::{AllocError, Global};
 use std::thread::Threads;

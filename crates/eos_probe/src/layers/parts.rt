@@ -117,10 +117,11 @@ pub(super) fn parts_of(
     alloc: Global,
     notes: &mut Notes,
     words: &str,
-) -> Result<Vec<Part>, AllocError> {
+) -> Result<Vec<eos_partition::Part>, AllocError> {
     let mut parts = Vec::new(alloc);
     for word in words.split_whitespace() {
-        parts.push(part_of(alloc, notes, Order::FromTheLeft, word)?)?;
+        let part = part_of(alloc, notes, Order::FromTheLeft, word)?;
+        parts.push(eos_partition::Part::whole(part))?;
     }
     Ok(parts)
 }

@@ -1,21 +1,27 @@
-use Rattle.std.proofs.Common.{Some, None, sym, subst, rules}
+use Rattle.std.proofs.Common.{◌≡◌, Some, None, sym, subst, rules}
 use Rattle.eos_fold.specs.LeastFaults.{IsFirstFault}
+use Rattle.eos_partitions.specs.Faults.{first_of}
+use Rattle.eos_check.proofs.NamedFaults.{first_named}
 use Rattle.eos_all_faults.specs.AllFaults.{AreAllFaults}
 use Rattle.eos_all_faults.proofs.AllPhases.{none_in_partitions, found_in_partitions}
 use Rattle.eos_all_faults.proofs.all.all_faults.Goals as goal
 
 pub returns-in-Some : goal.returns-in-Some
-returns-in-Some c = λ of.
+returns-in-Some c = λ of faults.
     let e = c.args.evidence.now in
-    let logs = c.args.logs.now in
+    let logs = c.args.logs.now.parts.items in
     let is = c.spec-spec.ensures.evidence in
-    let first : IsFirstFault logs (Some c.in-Some._fault.now) = search rules in
+    let found : first_of c.args.logs.now.faults.items ≡ Some c.in-Some._fault.now = search rules in
+    let first : IsFirstFault logs (Some c.in-Some._fault.now) = subst (IsFirstFault logs) found (first_named e.partitions logs of c.args.logs.now.faults.items faults) in
     subst (AreAllFaults e logs of) (sym c.in_ok-list.ensures)
     (found_in_partitions e logs of is c.in-Some._fault.now first c.in_ok-faults.faults.items (c.in_ok-faults.ensures logs of))
 
 pub returns : goal.returns
-returns c = λ of.
+returns c = λ of faults.
     let e = c.args.evidence.now in
+    let logs = c.args.logs.now.parts.items in
     let is = c.spec-spec.ensures.evidence in
-    let none : IsFirstFault c.args.logs.now None = search rules in
-    c.in_ok-list-2.ensures e of is (sym c.spec-spec.ensures.value) (none_in_partitions e c.args.logs.now of is none)
+    let found : first_of c.args.logs.now.faults.items ≡ None = search rules in
+    let none : IsFirstFault logs None = subst (IsFirstFault logs) found (first_named e.partitions logs of c.args.logs.now.faults.items faults) in
+    let listed = rw c.as_slice.ensures.value at c.in_ok-list-2.ensures in
+    listed e of is (sym c.spec-spec.ensures.value) (none_in_partitions e logs of is none)

@@ -1,6 +1,7 @@
 use Rattle.std.proofs.Common.{List, Some, sym, ap, ◌∙◌, arith, rules}
 use Rattle.eos_evidence.specs.declared.partition.Partition.{Partition}
 use Rattle.eos_evidence.specs.Evidence.{segments_of}
+use Rattle.eos_check.proofs.NamedFaults.{faults_next}
 use Rattle.eos_check.proofs.PiecesTied.{partition_at}
 use Rattle.eos_check.proofs.RunsMade.{logs_next, pieces_next, pieces_few}
 use Rattle.eos_check.proofs.parts.parts_from.Goals as goal
@@ -19,7 +20,8 @@ pub loop-i-preserved : goal.loop-i-preserved
 loop-i-preserved g c =
     let next = pieces_next c.partitions-partitions.result.now c.loop-i.i c.index-partitions-i.result c.loop-i-test.true c.index-partitions-i.is in (
       search (arith, rules, next),
-      search (rules, logs_next c.partitions-partitions.result.now c.loop-i.i c.loop-i.parts.items c.index-partitions-i.result c.in_ok-part_of.field-0 c.loop-i-test.true c.index-partitions-i.is c.loop-i.invariant.1),
+      search (rules, logs_next c.partitions-partitions.result.now c.loop-i.i c.loop-i.parts.items c.index-partitions-i.result c.in_ok-part.part c.loop-i-test.true c.index-partitions-i.is c.loop-i.invariant.1),
+      search (rules, faults_next c.partitions-partitions.result.now c.loop-i.i c.loop-i.faults.items c.index-partitions-i.result c.in_ok-part.part c.in_ok-fault_of.field-0 c.loop-i-test.true c.index-partitions-i.is c.loop-i.invariant.2),
     )
 
 pub overflow_add-first : goal.overflow_add-first

@@ -1,28 +1,21 @@
-use Rattle.std.proofs.Common.{◌≡◌, Some, None, rules}
+use Rattle.std.proofs.Common.{◌≡◌, rules}
 use Rattle.eos_base.specs.Least.{NoneStands, IsLeast}
 use Rattle.eos_table.specs.TransactionLog.{transaction_parts, decisions_of, AreInOrder}
 use Rattle.eos_table.specs.LogFaults.{log_cmp}
-use Rattle.eos_fold.specs.LeastFaults.{IsFirstFault}
 use Rattle.eos_check.specs.Verdicts.{StandsInLog}
 use Rattle.eos_check.specs.steps.Phases.{IsMatched, IsTransacted}
-use Rattle.eos_check.proofs.PhaseAnswers.{if_ok, match_ok, partition_found, log_found, matched_found}
+use Rattle.eos_check.proofs.PhaseAnswers.{if_ok, match_ok, matched_found}
+use Rattle.eos_check.proofs.TransactionLogInOrder.{log_in_order}
 use Rattle.eos_check.proofs.phases.transactions.Goals as goal
 
-pub returns-in-Some : goal.returns-in-Some
-returns-in-Some g c = λ e of is.
-    let at : IsFirstFault c.args.parts.now (Some c.in_ok-copied.field-0) = search rules in
-    partition_found e c.args.parts.now of is c.in_ok-copied.field-0 at
-
 pub returns-in-Err : goal.returns-in-Err
-returns-in-Err g c = λ e of is.
-    let at : IsFirstFault c.args.parts.now None = search rules in
+returns-in-Err g c = λ is apps.
     let least : AreInOrder (transaction_parts c.args.parts.now) → IsLeast log_cmp (StandsInLog c.args.parts.now) c.in-Err.fault = search rules in
-    log_found e c.args.parts.now of is at c.in-Err.fault least
+    least (log_in_order c.args.parts.now is)
 
 pub returns-in-Ok : goal.returns-in-Ok
-returns-in-Ok g c = λ e of is.
-    let at : IsFirstFault c.args.parts.now None = search rules in
+returns-in-Ok g c = λ is.
     let read : AreInOrder (transaction_parts c.args.parts.now) → NoneStands (StandsInLog c.args.parts.now) × (c.in-Ok.decisions.items ≡ decisions_of (transaction_parts c.args.parts.now)) =
     λ h. match_ok _ _ c.in_ok-fault.field-0 c.in-Ok.decisions c.in-Ok.is (c.in_ok-fault.ensures h) in
-    if_ok c.matched.result (IsMatched c.in-Ok.decisions.items c.args.parts.now) (IsTransacted e c.args.parts.now of)
-    (matched_found e c.args.parts.now of is at c.in-Ok.decisions.items read) c.matched.ensures
+    if_ok c.matched.result (IsMatched c.in-Ok.decisions.items c.args.parts.now) (IsTransacted c.args.parts.now)
+    (matched_found c.args.parts.now is c.in-Ok.decisions.items read) c.matched.ensures

@@ -7,9 +7,9 @@ returns-then-number-eq0 c =
     let told = c.in_ok-told.told in
     let counted : c.len-count.result ≡ length told.items = omega (arith, told.ok.0, c.len-count.ensures) in
     record {
-      logs = c.args.logs.now;
+      logs = c.args.logs.now.parts.items;
       told = told.items;
-      are = record { faults = c.in_ok-faults.faults.items; of = c.requires; are = c.in_ok-faults.ensures c.requires; named = c.in_ok-told.ensures };
+      are = record { faults = c.in_ok-faults.faults.items; of = c.requires.parts; are = c.in_ok-faults.ensures c.requires.parts c.requires.faults; named = c.in_ok-told.ensures };
       counted = counted;
       fewer = elim c.then-number-eq0.branch [
         | then-number-eq0-via-then-number-eq0 w ↦ inl (omega (arith, w.if-number-eq0.true))
@@ -19,11 +19,11 @@ returns-then-number-eq0 c =
 
 pub returns : goal.returns
 returns c =
-    let story = c.in_ok-story.ensures in
+    let story = rw c.as_slice.ensures.value at c.in_ok-story.ensures in
     record {
-      logs = c.args.logs.now;
-      told = c.as_slice.result.now;
-      are = record { faults = c.in_ok-faults.faults.items; of = c.requires; are = c.in_ok-faults.ensures c.requires; named = c.as_slice.ensures.value ∙ c.in_ok-told.ensures };
+      logs = c.args.logs.now.parts.items;
+      told = c.as_slice-2.result.now;
+      are = record { faults = c.in_ok-faults.faults.items; of = c.requires.parts; are = c.in_ok-faults.ensures c.requires.parts c.requires.faults; named = c.as_slice-2.ensures.value ∙ c.in_ok-told.ensures };
       before = c.args.number - 1;
       numbered = omega (arith, c.if-number-eq0.false);
       verdict = story.0;

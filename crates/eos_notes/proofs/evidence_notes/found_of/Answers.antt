@@ -12,11 +12,11 @@ loop-app-preserved c =
     let lt = c.loop-app-test.true in
     let now = c.in_ok-take_app.ensures in
     let so_far = c.loop-app.invariant in (
-      made_more (past_ends_in logs) _ _ apps i app lt c.app-item.is so_far.0 now.past_ends,
+      λ order. made_more (past_ends_in logs) _ _ apps i app lt c.app-item.is (so_far.0 order) (now.past_ends order),
       made_more (nothing_in logs) _ _ apps i app lt c.app-item.is so_far.1 now.nothing,
-      made_more (behind_in logs) _ _ apps i app lt c.app-item.is so_far.2 now.behind,
+      λ order. made_more (behind_in logs) _ _ apps i app lt c.app-item.is (so_far.2 order) (now.behind order),
     )
 
-pub take_app-requires-clause-table : goal.take_app-requires-clause-table
-take_app-requires-clause-table c =
+pub take_app-requires : goal.take_app-requires
+take_app-requires c =
     (c.args.apps.now, c.in_ok-table.ensures, item_has c.args.apps.now c.loop-app.app-index c.app-item.result c.loop-app-test.true c.app-item.is)

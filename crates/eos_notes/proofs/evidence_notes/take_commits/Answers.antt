@@ -8,15 +8,15 @@ use Rattle.eos_notes.proofs.PartTables.{past_filtered, same_inputs}
 use Rattle.eos_notes.proofs.evidence_notes.take_commits.Goals as goal
 
 pub returns-clause-past_ends : goal.returns-clause-past_ends
-returns-clause-past_ends c =
+returns-clause-past_ends c = λ offsets.
     let logs = c.args.parts.now in
     let app = c.args.app.now in
-    let pushed = c.in_ok-push_past_ends.ensures (committed_offset (commits_for logs app)) c.requires.offsets in
+    let pushed = c.in_ok-push_past_ends.ensures (committed_offset (commits_for logs app)) offsets in
     pushed ∙ ap (λ (notes : List Note). c.args.found.now.past_ends.items ++ notes) (past_filtered logs app c.args.sources.now c.requires.sources)
 
 pub returns-clause-behind : goal.returns-clause-behind
-returns-clause-behind c =
+returns-clause-behind c = λ offsets.
     let logs = c.args.parts.now in
     let app = c.args.app.now in
-    let counts = c.in_ok-count.ensures (application_of app logs) c.requires.offsets (same_inputs logs app c.args.sources.now c.requires.sources) in
+    let counts = c.in_ok-count.ensures (application_of app logs) offsets (same_inputs logs app c.args.sources.now c.requires.sources) in
     c.in_ok-push_behind.ensures ∙ (λ i. c.args.found.now.behind.items ++ behind_by app.group (counts.0 i) (counts.1 i))

@@ -1,4 +1,4 @@
-use Rattle.eos_wanted_verdict.proofs.NamedFaults.{fault_of, first_named}
+use Rattle.eos_check.proofs.NamedFaults.{fault_of, first_named}
 use Rattle.eos_wanted_verdict.proofs.laws.named.Goals as goal
 
 pub returns-clause-log : goal.returns-clause-log

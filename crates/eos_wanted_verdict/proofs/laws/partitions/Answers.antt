@@ -1,4 +1,4 @@
-use Rattle.eos_wanted_verdict.proofs.NamedFaults.{least_named}
+use Rattle.eos_check.proofs.NamedFaults.{least_named}
 use Rattle.eos_wanted_verdict.proofs.laws.partitions.Goals as goal
 
 pub returns : goal.returns

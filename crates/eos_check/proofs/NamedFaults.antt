@@ -1,0 +1,64 @@
+-- The least faults of the partitions, each named by itself, and the least of all.
+use Rattle.std.proofs.Common.{◌≡◌, ℕ, ◌+◌, ◌<◌, ℤ, List, [], ◌∷◌, ◌++◌, length, take, get_or, Option, Some, None, sym, subst, inl, inr}
+use Rattle.eos_base.specs.Least.{IsLeastOrNone}
+use Rattle.eos_evidence.specs.declared.partition.Partition.{Partition}
+use Rattle.eos_evidence.specs.declared.segment.Segment.{Segment}
+use Rattle.eos_evidence.specs.Evidence.{EvidenceParts, IsEvidence}
+use Rattle.eos_touch.specs.declared.fault.PartitionFault.{PartitionFault}
+use Rattle.eos_fold.specs.LeastFaults.{IsFaultIn, IsFaultOf, IsFirstFault}
+use Rattle.eos_fold.specs.Parts.{PartLog}
+use Rattle.eos_lineage.specs.EvidenceLogs.{IsLogOf, AreLogsOf}
+use Rattle.eos_lineage.proofs.LogsInOrder.{sorted}
+use Rattle.eos_check.specs.Verdicts.{StandsInPartitions, partition_cmp}
+use Rattle.eos_check.proofs.FirstFault.{least_of_first}
+use Rattle.eos_check.proofs.RunsMade.{take_next}
+use Rattle.eos_partitions.specs.Faults.{AreFaultsIn, first_of}
+
+-- a log's fault is its partition's
+pub fault_of : (p : Partition) (l : PartLog) → IsLogOf p l → (f : Option PartitionFault) → IsFaultIn p.end.topic p.end.partition p.end.end p.segments f → IsFaultOf l f
+fault_of p l of f h =
+    let topic = subst (λ (t : List ℕ). IsFaultIn t p.end.partition p.end.end p.segments f) (sym of.log.of_topic) h in
+    let number = subst (λ (n : ℤ). IsFaultIn l.topic n p.end.end p.segments f) (sym of.log.of_number) topic in
+    let end = subst (λ (z : ℤ). IsFaultIn l.topic l.number z p.segments f) (sym of.log.until) number in
+    subst (λ (ss : List Segment). IsFaultIn l.topic l.number l.end ss f) (sym of.log.of_segments) end
+
+-- and the other way
+fault_in : (p : Partition) (l : PartLog) → IsLogOf p l → (f : Option PartitionFault) → IsFaultOf l f → IsFaultIn p.end.topic p.end.partition p.end.end p.segments f
+fault_in p l of f h =
+    let topic = subst (λ (t : List ℕ). IsFaultIn t l.number l.end l.segments f) of.log.of_topic h in
+    let number = subst (λ (n : ℤ). IsFaultIn p.end.topic n l.end l.segments f) of.log.of_number topic in
+    let end = subst (λ (z : ℤ). IsFaultIn p.end.topic p.end.partition z l.segments f) of.log.until number in
+    subst (λ (ss : List Segment). IsFaultIn p.end.topic p.end.partition p.end.end ss f) of.log.of_segments end
+
+-- ---- one partition more
+
+faults_push : (ps : List Partition) (fs : List (Option PartitionFault)) (p : Partition) (f : Option PartitionFault) → AreFaultsIn ps fs
+    → IsFaultIn p.end.topic p.end.partition p.end.end p.segments f → AreFaultsIn (ps ++ p ∷ []) (fs ++ f ∷ [])
+faults_push [] [] p f h k = (k, tt)
+faults_push [] (g ∷ fs) p f h k = absurd h
+faults_push (q ∷ ps) [] p f h k = absurd h
+faults_push (q ∷ ps) (g ∷ fs) p f h k = (h.0, faults_push ps fs p f h.1 k)
+
+pub faults_next : (ps : List Partition) (i : ℕ) (fs : List (Option PartitionFault)) (p : Partition) (l : PartLog) (f : Option PartitionFault) → i < length ps → p ≡ get_or ps i p
+    → AreFaultsIn (take i ps) fs → IsLogOf p l → IsFaultOf l f → AreFaultsIn (take (i + 1) ps) (fs ++ f ∷ [])
+faults_next ps i fs p l f lt e h of k =
+    subst (λ (qs : List Partition). AreFaultsIn qs (fs ++ f ∷ [])) (sym (take_next ps i p lt e)) (faults_push (take i ps) fs p f h (fault_in p l of f k))
+
+-- ---- the first of all
+
+behind : (l : PartLog) (ls : List PartLog) (f : Option PartitionFault) → IsFaultOf l None → IsFirstFault ls f → IsFirstFault (l ∷ ls) f
+behind l ls None here others = (here, others)
+behind l ls (Some f) here others = inr (here, others)
+
+pub first_named : (ps : List Partition) (ls : List PartLog) → AreLogsOf ps ls → (fs : List (Option PartitionFault)) → AreFaultsIn ps fs → IsFirstFault ls (first_of fs)
+first_named [] [] of [] h = tt
+first_named [] [] of (f ∷ fs) h = absurd h
+first_named [] (l ∷ ls) of fs h = absurd of
+first_named (p ∷ ps) [] of fs h = absurd of
+first_named (p ∷ ps) (l ∷ ls) of [] h = absurd h
+first_named (p ∷ ps) (l ∷ ls) of (None ∷ fs) h = behind l ls (first_of fs) (fault_of p l of.0 None h.0) (first_named ps ls of.1 fs h.1)
+first_named (p ∷ ps) (l ∷ ls) of (Some f ∷ fs) h = inl (fault_of p l of.0 (Some f) h.0)
+
+pub least_named : (e : EvidenceParts) (ls : List PartLog) (of : AreLogsOf e.partitions ls) (fs : List (Option PartitionFault)) → IsEvidence e → AreFaultsIn e.partitions fs
+    → IsLeastOrNone partition_cmp (StandsInPartitions e.partitions ls of) (first_of fs)
+least_named e ls of fs is h = least_of_first e.partitions ls of (sorted e is) (first_of fs) (first_named e.partitions ls of fs h)

@@ -1,0 +1,98 @@
+-- A report by logs, whole or kept ones, is one on the evidence whose logs they are.
+use Rattle.std.proofs.Common.{◌≡◌, ℕ, Bool, false, List, Option, Some, None, is_some, refl, sym, subst, ◌∙◌}
+use Rattle.eos_check.specs.WholeLogs.{AreWholeLogs}
+use Rattle.eos_check.specs.declared.verdict.Verdict.{Verdict}
+use Rattle.eos_check.specs.declared.verdict.Verdict.TheVariants.{Yes, No}
+use Rattle.eos_check.specs.Verdicts.{IsVerdict}
+use Rattle.eos_commits.specs.Faults.{AreInOrder}
+use Rattle.eos_evidence.specs.Evidence.{EvidenceParts, IsEvidence}
+use Rattle.eos_evidence.specs.Parts.{Parts}
+use Rattle.eos_fold.specs.Parts.{PartLog}
+use Rattle.eos_json_report.specs.declared.about.About.{About}
+use Rattle.eos_lineage.proofs.LogsInOrder.{in_order}
+use Rattle.eos_notes.specs.Notes.{AreNotesBy}
+use Rattle.eos_notes.proofs.Whole.{notes_are}
+use Rattle.eos_partitions.specs.Faults.{first_of}
+use Rattle.eos_partitions.specs.declared.logs.Logs.{Logs}
+use Rattle.eos_tallies.specs.Counts.{AreCounted}
+use Rattle.eos_tallies.specs.Tallies.{AreTallies}
+use Rattle.eos_tallies.specs.TalliesByLogs.{tallies_by}
+use Rattle.eos_tallies.proofs.Whole.{tallies_are}
+use Rattle.eos_wanted.specs.Wanted.{wanted_logs}
+use Rattle.eos_wanted_notes.proofs.KeptNotes.{whole_notes}
+use Rattle.eos_wanted_notes.proofs.KeptTallies.{whole_tables}
+use Rattle.eos_source_check.specs.Judged.{AreKeptOf}
+use Rattle.eos_source_check.specs.declared.judged.Judged.{Judged}
+use Rattle.eos_checking.specs.Checking.{AreTold, IsReport, IsReportAsked}
+use Rattle.eos_checking.specs.declared.report.Told.{Told}
+use Rattle.eos_checking.specs.steps.Tellings.{IsReportBy, ReportsOf, first_alone}
+
+-- by whole logs
+pub whole_report : (e : EvidenceParts) (told : Told) (all : Bool) (about : About) (text : List ℕ) → IsEvidence e → told.spec.now ≡ e.spec
+    → AreWholeLogs e.partitions told.logs.now → AreCounted e.partitions told.counted.now → IsVerdict e told.verdict.now → AreTold e all told.verdict.now told.faults.now
+    → (AreInOrder told.logs.now.parts.items → IsReportBy told about text) → IsReport e all about text
+whole_report e told all about text is spec logs counted verdict faults by =
+    let parts = told.logs.now.parts.items in
+    let named = told.logs.now.faults.items in
+    let r = by (in_order e parts is logs.parts) in
+    let notes : AreNotesBy e.spec parts (is_some (first_of named)) r.notes = subst (λ (s : Parts). AreNotesBy s parts (is_some (first_of named)) r.notes) spec r.by in
+    let tables : AreTallies e (tallies_by told.spec.now.apps parts named told.counted.now) =
+    subst (λ (s : Parts). AreTallies e (tallies_by s.apps parts named told.counted.now)) (sym spec) (tallies_are e parts named told.counted.now logs.parts logs.faults counted) in
+    record {
+      verdict = told.verdict.now;
+      faults = told.faults.now;
+      told = faults;
+      notes = r.notes;
+      is = verdict;
+      are = notes_are e parts named r.notes logs.parts logs.faults notes;
+      tallies = tallies_by told.spec.now.apps parts named told.counted.now;
+      tabled = tables;
+      says = r.says;
+    }
+
+-- ---- by kept logs
+
+told_alone : (e : EvidenceParts) (v : Verdict) → AreTold e false v (first_alone v)
+told_alone e (Yes counts) = refl
+told_alone e (No first) = refl
+
+by_kept : (e : EvidenceParts) (logs : Logs) (told : Told) (about : About) (text : List ℕ) → AreKeptOf e logs → told.spec.now ≡ e.spec → told.logs.now ≡ logs
+    → AreCounted e.partitions told.counted.now → IsVerdict e told.verdict.now → told.faults.now ≡ first_alone told.verdict.now → IsReportBy told about text → IsReport e false about text
+by_kept e logs told about text k spec same counted verdict faults r =
+    let named = told.logs.now.faults.items in
+    let is_faults = subst (λ (l : Logs). Rattle.eos_partitions.specs.Faults.AreFaultsIn e.partitions l.faults.items) (sym same) k.faults in
+    let parts : told.logs.now.parts.items ≡ wanted_logs e.spec.apps k.whole = (λ i. (same i).parts.items) ∙ k.parts in
+    let kept = wanted_logs e.spec.apps k.whole in
+    let noted : AreNotesBy e.spec kept (is_some (first_of named)) r.notes =
+    subst (λ (ls : List PartLog). AreNotesBy e.spec ls (is_some (first_of named)) r.notes) parts
+    (subst (λ (s : Parts). AreNotesBy s told.logs.now.parts.items (is_some (first_of named)) r.notes) spec r.by) in
+    let over_kept : AreTallies e (tallies_by e.spec.apps kept named told.counted.now) = whole_tables e k.whole named told.counted.now k.of is_faults counted in
+    let over_parts : AreTallies e (tallies_by e.spec.apps told.logs.now.parts.items named told.counted.now) =
+    subst (λ (ls : List PartLog). AreTallies e (tallies_by e.spec.apps ls named told.counted.now)) (sym parts) over_kept in
+    let tables : AreTallies e (tallies_by told.spec.now.apps told.logs.now.parts.items named told.counted.now) =
+    subst (λ (s : Parts). AreTallies e (tallies_by s.apps told.logs.now.parts.items named told.counted.now)) (sym spec) over_parts in
+    record {
+      verdict = told.verdict.now;
+      faults = told.faults.now;
+      told = subst (AreTold e false told.verdict.now) (sym faults) (told_alone e told.verdict.now);
+      notes = r.notes;
+      is = verdict;
+      are = whole_notes e k.whole named r.notes k.of is_faults noted;
+      tallies = tallies_by told.spec.now.apps told.logs.now.parts.items named told.counted.now;
+      tabled = tables;
+      says = r.says;
+    }
+
+pub kept_report : (e : EvidenceParts) (spec : Parts) (j : Judged) (about : Option About) (text : Option (List ℕ)) → e.spec ≡ spec → AreKeptOf e j.logs
+    → AreCounted e.partitions j.counted.items → IsVerdict e j.verdict → ReportsOf spec j about text → IsReportAsked e false about text
+kept_report e spec j None text same k counted verdict r = r
+kept_report e spec j (Some about) None same k counted verdict r = absurd r
+kept_report e spec j (Some about) (Some text) same k counted verdict r =
+    let told = r.0 in
+    by_kept e j.logs told about text k (r.1 ∙ sym same) r.2 (subst (AreCounted e.partitions) (sym r.3) counted) (subst (IsVerdict e) (sym r.4) verdict)
+    (r.5 ∙ (λ i. first_alone (sym r.4 i))) r.6
+
+pub reports : (spec : Parts) (j : Judged) (asked : Option About) (about : About) (text : List ℕ) (told : Told) → asked ≡ Some about → told.spec.now ≡ spec → told.logs.now ≡ j.logs
+    → told.counted.now ≡ j.counted.items → told.verdict.now ≡ j.verdict → told.faults.now ≡ first_alone j.verdict → IsReportBy told about text → ReportsOf spec j asked (Some text)
+reports spec j asked about text told is of_spec of_logs of_counted of_verdict of_faults by =
+    subst (λ (o : Option About). ReportsOf spec j o (Some text)) (sym is) (told, of_spec, of_logs, of_counted, of_verdict, of_faults, by)

@@ -1,0 +1,12 @@
+use Rattle.std.proofs.Common.{subst}
+use Rattle.eos_evidence.specs.Parts.{Parts}
+use Rattle.eos_checking.specs.steps.Tellings.{TellsOf}
+use Rattle.eos_checking.proofs.SourceAnswers.{answer_is}
+use Rattle.eos_checking.proofs.source.answer_source.Goals as goal
+
+pub returns : goal.returns
+returns g c =
+    let asked = c.args.asked.now in
+    let judged = c.in_ok-judged.judged in
+    let tells = subst (λ (s : Parts). TellsOf s judged asked.subject asked.json asked.quiet asked.report c.in_ok-answer.answer) c.spec.ensures.value c.in_ok-answer.ensures in
+    answer_is _ c.args.pieces.shape.now asked.subject asked.json asked.quiet asked.report judged _ c.in_ok-judged.ensures tells

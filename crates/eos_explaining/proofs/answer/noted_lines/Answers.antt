@@ -1,0 +1,15 @@
+use Rattle.std.proofs.Common.{false, is_some, subst, string_bytes}
+use Rattle.eos_evidence.specs.Parts.{Parts}
+use Rattle.eos_lineage.proofs.LogsInOrder.{in_order}
+use Rattle.eos_notes.specs.Lines.{IsNotesTextBy}
+use Rattle.eos_notes.proofs.Whole.{text_is}
+use Rattle.eos_partitions.specs.Faults.{first_of}
+use Rattle.eos_explaining.proofs.answer.noted_lines.Goals as goal
+
+pub returns : goal.returns
+returns c =
+    let e = c.args.evidence.now in
+    let logs = c.args.logs.now in
+    let order = in_order e logs.parts.items c.spec.ensures.evidence c.requires.parts in
+    let by = subst (λ (s : Parts). IsNotesTextBy s logs.parts.items (is_some (first_of logs.faults.items)) false (string_bytes c.in_ok-text.text)) c.spec.ensures.value (c.in_ok-text.ensures order) in
+    text_is e logs.parts.items logs.faults.items false (string_bytes c.in_ok-text.text) c.requires.parts c.requires.faults by

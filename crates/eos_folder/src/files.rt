@@ -1,0 +1,88 @@
+//! Files that are read: how they are opened, and why they can't be read.
+
+use crate::cause::Cause;
+use crate::folder::FolderFault;
+use crate::paths::segment_path;
+use bytes::Bytes;
+use eos_evidence::{End, ReadFault, Segment, read_segment};
+use std::alloc::Global;
+use std::fs::File;
+use std::io;
+use std::io::{ErrorKind, Read};
+
+/// A file that is read, with the path that a refusal of it names.
+#[derive(Drop)]
+pub struct NamedFile {
+    path: String,
+    file: File,
+}
+
+impl Read for NamedFile {
+    fn read(&mut self, buf: &mut [u8]) -> io::Result<usize> {
+        self.file.read(buf)
+    }
+}
+
+impl NamedFile {
+    /// Opens the file of this path.
+    pub fn open(rt: &HostRuntime, path: String) -> Result<NamedFile, FolderFault> {
+        match File::open(rt, path.as_str()) {
+            Ok(file) => Ok(NamedFile { path, file }),
+            Err(e) if e.kind() == ErrorKind::OutOfMemory => Err(FolderFault::OutOfMemory),
+            Err(e) => {
+                let cause = Cause::of_error(rt.alloc(), &e);
+                Err(FolderFault::CannotRead(path, cause))
+            }
+        }
+    }
+
+    /// Its bytes, at most as many as a segment may have.
+    pub(crate) fn read_whole(mut self, alloc: Global) -> Result<Bytes, FolderFault> {
+        match read_segment(alloc, &mut self) {
+            Ok(bytes) => Ok(bytes),
+            Err(why) => Err(self.refusal(alloc, why)),
+        }
+    }
+
+    /// Why reading it ended so.
+    pub fn refusal(&mut self, alloc: Global, why: ReadFault) -> FolderFault {
+        let Ok(path) = self.path.clone() else {
+            return FolderFault::OutOfMemory;
+        };
+        match why {
+            ReadFault::Read => {
+                FolderFault::CannotRead(path, Cause::of_reader(alloc, &mut self.file))
+            }
+            ReadFault::Limit => FolderFault::Limit(Cause::LongFile(path)),
+            ReadFault::OutOfMemory => FolderFault::OutOfMemory,
+        }
+    }
+}
+
+/// Opens the file of a segment. Of the segment itself only the name counts: its topic, partition and base.
+pub fn open_segment(
+    rt: &HostRuntime,
+    folder: &str,
+    name: &Segment,
+) -> Result<NamedFile, FolderFault> {
+    let topic = name.topic.as_slice();
+    let path = segment_path(rt.alloc(), folder, topic, name.partition, name.base)?;
+    NamedFile::open(rt, path)
+}
+
+/// The bytes of a partition's segment, at most as many as a segment may have.
+pub fn read_segment_file(
+    rt: &HostRuntime,
+    folder: &str,
+    end: &End,
+    base: i64,
+) -> Result<Bytes, FolderFault> {
+    let path = segment_path(
+        rt.alloc(),
+        folder,
+        end.topic.as_slice(),
+        end.partition,
+        base,
+    )?;
+    NamedFile::open(rt, path)?.read_whole(rt.alloc())
+}

@@ -1,0 +1,22 @@
+//! What notes of a manifest and logs are to an evidence. These functions do nothing; their contracts are theorems.
+
+ghost use Rattle.std.specs.Prelude.{ℕ, Bool, is_some, List, Option};
+ghost use Rattle.eos_commits.specs.Faults.{AreInOrder};
+ghost use Rattle.eos_evidence.specs.Evidence.{EvidenceParts, IsEvidence};
+ghost use Rattle.eos_fold.specs.Parts.{PartLog};
+ghost use Rattle.eos_lineage.specs.EvidenceLogs.{AreLogsOf};
+ghost use Rattle.eos_notes.specs.Lines.{IsNotesTextBy, IsNotesText};
+ghost use Rattle.eos_notes.specs.Notes.{AreNotesBy, AreNotes};
+ghost use Rattle.eos_notes.specs.declared.note.Note.{Note as NoteOf};
+ghost use Rattle.eos_partitions.specs.Faults.{AreFaultsIn, first_of};
+ghost use Rattle.eos_touch.specs.declared.fault.PartitionFault.{PartitionFault};
+
+/// The logs of an evidence stand in order, and the notes by its manifest and these logs, with the first of its partitions' faults,
+/// are the evidence's; so is their text.
+pub fn whole()
+    ensures order { (e : EvidenceParts) (logs : List PartLog) → IsEvidence e → AreLogsOf e.partitions logs → AreInOrder logs }
+    ensures notes { (e : EvidenceParts) (logs : List PartLog) (faults : List (Option PartitionFault)) (notes : List NoteOf)
+        → AreLogsOf e.partitions logs → AreFaultsIn e.partitions faults → AreNotesBy e.spec logs (is_some (first_of faults)) notes → AreNotes e notes }
+    ensures text { (e : EvidenceParts) (logs : List PartLog) (faults : List (Option PartitionFault)) (quiet : Bool) (text : List ℕ)
+        → AreLogsOf e.partitions logs → AreFaultsIn e.partitions faults → IsNotesTextBy e.spec logs (is_some (first_of faults)) quiet text → IsNotesText e quiet text }
+{}

@@ -1,0 +1,5 @@
+mod PartitionsTold
+mod PiecesJoined
+mod PiecesRead
+mod ShapesFilled
+mod SlotsRead

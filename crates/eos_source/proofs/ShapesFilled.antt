@@ -1,0 +1,107 @@
+-- An evidence of a shape is one.
+use Rattle.std.proofs.Common.{◌≡◌, ℕ, suc, ◌+◌, ◌^◌, List, [], ◌∷◌, length, map, Option, refl, sym, ap, subst, ◌∙◌, arith, ℤ, pos}
+use Rattle.std.specs.Prelude.{All, bytes_eq, ◌≤ℤ◌, ◌<ℤ◌, ◌&&◌}
+use Rattle.std.specs.Ordering.{int_cmp, int_eq, on}
+use Rattle.std.specs.declared.cmp.Ordering.TheVariants.{Less}
+use Rattle.std.specs.List.{AllByRecursion}
+use Rattle.std.specs.List.Sorted.{IsStrictlySortedBy}
+use Rattle.std.proofs.lemmas.List.{length-append}
+use Rattle.std.proofs.lemmas.Bool.{and_parts}
+use Rattle.std.proofs.lemmas.Bool.Decides.{Decides-int_eq}
+use Rattle.std.proofs.lemmas.Slice.Eq.{bytes_eq-Decides}
+use Rattle.std.proofs.lemmas.List.Elements.{All-nil, All-cons}
+use Rattle.eos_evidence.specs.declared.ends.End.{End}
+use Rattle.eos_evidence.specs.declared.partition.Partition.{Partition}
+use Rattle.eos_evidence.specs.declared.segment.Segment.{Segment}
+use Rattle.eos_evidence.specs.Evidence.{EvidenceParts, IsEvidence, IsPartition, IsOwn, IsRising, segments_of}
+use Rattle.eos_fold.specs.Standing.{AreOf}
+use Rattle.eos_source.specs.Shapes.{IsPiece, ArePieces, ArePartitions}
+
+module _ (known : ℕ → Option (List ℕ)) where
+  own : (e : End) (piece : ℕ) (name s : Segment) → IsPiece known piece name s → IsOwn e name → IsOwn e s
+  own e piece name s h k = record {
+    named = ap (λ (t : List ℕ). bytes_eq t e.topic && int_eq s.partition e.partition) h.topic ∙ (ap (λ (n : ℤ). bytes_eq name.topic e.topic && int_eq n e.partition) h.partition ∙ k.named);
+    base = subst (λ (n : ℤ). pos 0 ≤ℤ n) (sym h.base) k.base;
+    width = subst (λ (n : ℤ). n <ℤ pos (2 ^ 63)) (sym h.base) k.width;
+    size = h.size;
+  }
+
+  own_all : (e : End) (piece : ℕ) (names ss : List Segment) → ArePieces known piece names ss → AllByRecursion (IsOwn e) names → AllByRecursion (IsOwn e) ss
+  own_all e piece [] [] h k = tt
+  own_all e piece [] (s ∷ ss) h k = absurd h
+  own_all e piece (n ∷ names) [] h k = absurd h
+  own_all e piece (n ∷ names) (s ∷ ss) h k = (own e piece n s h.0 k.0, own_all e (suc piece) names ss h.1 k.1)
+
+  above : (piece : ℕ) (least : Segment) (m : ℤ) (names ss : List Segment) → least.base ≡ m → ArePieces known piece names ss → AllByRecursion (λ y. int_cmp m y.base ≡ Less) names → AllByRecursion (λ y. on (λ s. s.base) int_cmp least y ≡ Less) ss
+  above piece least m [] [] e h k = tt
+  above piece least m [] (s ∷ ss) e h k = absurd h
+  above piece least m (n ∷ names) [] e h k = absurd h
+  above piece least m (n ∷ names) (s ∷ ss) e h k =
+      (ap (λ (x : ℤ). int_cmp x s.base) e ∙ (ap (λ (x : ℤ). int_cmp m x) h.0.base ∙ k.0), above (suc piece) least m names ss e h.1 k.1)
+
+  rising : (piece : ℕ) (names ss : List Segment) → ArePieces known piece names ss → IsRising names → IsRising ss
+  unfolding IsStrictlySortedBy
+  rising piece [] [] h k = tt
+  rising piece [] (s ∷ ss) h k = absurd h
+  rising piece (n ∷ names) [] h k = absurd h
+  rising piece (n ∷ names) (s ∷ ss) h k = (above (suc piece) s n.base names ss h.0.base h.1 k.0, rising (suc piece) names ss h.1 k.1)
+
+  lengths : (piece : ℕ) (names ss : List Segment) → ArePieces known piece names ss → length ss ≡ length names
+  lengths piece [] [] h = refl
+  lengths piece [] (s ∷ ss) h = absurd h
+  lengths piece (n ∷ names) [] h = absurd h
+  lengths piece (n ∷ names) (s ∷ ss) h = ap suc (lengths (suc piece) names ss h.1)
+
+  all_ends : (piece : ℕ) (shapes ps : List Partition) → ArePartitions known piece shapes ps → map (λ (p : Partition). p.end) ps ≡ map (λ (p : Partition). p.end) shapes
+  all_ends piece [] [] h = refl
+  all_ends piece [] (p ∷ ps) h = absurd h
+  all_ends piece (q ∷ shapes) [] h = absurd h
+  all_ends piece (q ∷ shapes) (p ∷ ps) h = ap (λ (e : End). e ∷ map (λ (x : Partition). x.end) ps) h.0 ∙ ap (λ (es : List End). q.end ∷ es) (all_ends (piece + length q.segments) shapes ps h.2)
+
+  each : (piece : ℕ) (shapes ps : List Partition) → ArePartitions known piece shapes ps → AllByRecursion IsPartition shapes → AllByRecursion IsPartition ps
+  each piece [] [] h k = tt
+  each piece [] (p ∷ ps) h k = absurd h
+  each piece (q ∷ shapes) [] h k = absurd h
+  each piece (q ∷ shapes) (p ∷ ps) h k = (
+    record { own = subst (λ (e : End). AllByRecursion (IsOwn e) p.segments) (sym h.0) (own_all q.end piece q.segments p.segments h.1 k.0.own); rising = rising piece q.segments p.segments h.1 k.0.rising },
+    each (piece + length q.segments) shapes ps h.2 k.1,
+  )
+
+  as_many : (piece : ℕ) (shapes ps : List Partition) → ArePartitions known piece shapes ps → length (segments_of ps) ≡ length (segments_of shapes)
+  as_many piece [] [] h = refl
+  as_many piece [] (p ∷ ps) h = absurd h
+  as_many piece (q ∷ shapes) [] h = absurd h
+  as_many piece (q ∷ shapes) (p ∷ ps) h =
+      omega (arith, length-append p.segments (segments_of ps), length-append q.segments (segments_of shapes), lengths piece q.segments p.segments h.1, as_many (piece + length q.segments) shapes ps h.2)
+
+  pub evidence_of : (shape : EvidenceParts) (ps : List Partition) → IsEvidence shape → ArePartitions known 0 shape.partitions ps → IsEvidence (record { spec = shape.spec; partitions = ps })
+  evidence_of shape ps s h =
+      record {
+        accepted = s.accepted;
+        ends = all_ends 0 shape.partitions ps h ∙ s.ends;
+        each = each 0 shape.partitions ps h s.each;
+        few = omega (arith, as_many 0 shape.partitions ps h, s.few);
+      }
+
+  -- segments of names in one partition
+  pub of_names : (topic : List ℕ) (number : ℤ) (piece : ℕ) (names ss : List Segment) → ArePieces known piece names ss → AreOf topic number names → AreOf topic number ss
+  of_names topic number piece [] [] h k = k
+  of_names topic number piece [] (s ∷ ss) h k = absurd h
+  of_names topic number piece (n ∷ names) [] h k = absurd h
+  of_names topic number piece (n ∷ names) (s ∷ ss) h k =
+      let first = k 0 n (omega arith) in
+      All-cons (λ x. (x.topic ≡ topic) × (x.partition ≡ number)) s ss (h.0.topic ∙ first.0, h.0.partition ∙ first.1)
+      (of_names topic number (suc piece) names ss h.1 (λ i d lt. k (suc i) d (omega (arith, lt))))
+
+named_own : (e : End) (ss : List Segment) → AllByRecursion (IsOwn e) ss → AreOf e.topic e.partition ss
+named_own e [] h = All-nil (λ s. (s.topic ≡ e.topic) × (s.partition ≡ e.partition))
+named_own e (s ∷ ss) h =
+    let both = and_parts (bytes_eq s.topic e.topic) (int_eq s.partition e.partition) h.0.named in
+    All-cons (λ s. (s.topic ≡ e.topic) × (s.partition ≡ e.partition)) s ss
+    ((bytes_eq-Decides s.topic e.topic).0 both.0, (Decides-int_eq s.partition e.partition).0 both.1) (named_own e ss h.1)
+
+pub are_of : (p : Partition) → IsPartition p → AreOf p.end.topic p.end.partition p.segments
+are_of p h = named_own p.end p.segments h.own
+
+pub of_topic : (p : Partition) → IsPartition p → All (λ s. s.topic ≡ p.end.topic) p.segments
+of_topic p h = λ i d lt. (are_of p h i d lt).0

@@ -1,0 +1,37 @@
+-- The kept logs of an evidence, of whose pieces no more is known than a source and the shape say: there is an evidence of this
+-- shape, with the bytes that are known, and this is what is kept of its logs.
+use Rattle.std.specs.Prelude.{◌≡◌, ℕ, List, [], ◌∷◌, map, Option, ⊤}
+use Rattle.eos_evidence.specs.declared.application.App.{App}
+use Rattle.eos_evidence.specs.declared.partition.Partition.{Partition}
+use Rattle.eos_evidence.specs.Evidence.{EvidenceParts, IsEvidence}
+use Rattle.eos_part.specs.declared.part.Told.{Told}
+use Rattle.eos_part.specs.Parts.{IsTold}
+use Rattle.eos_wanted.specs.Wanted.{wanted_of}
+use Rattle.eos_source.specs.declared.logs.KeptLogs.{KeptLogs}
+use Rattle.eos_source.specs.declared.logs.Tally.{Tally}
+use Rattle.eos_source.specs.Shapes.{IsOfShape}
+
+-- of each of these partitions what these applications want of its log, its least fault, and how much there is of it
+abbrev pub AreTold : List App → List Partition → List Told → Type 0
+AreTold apps [] [] = ⊤
+AreTold apps [] (t ∷ ts) = ⊥
+AreTold apps (p ∷ ps) [] = ⊥
+AreTold apps (p ∷ ps) (t ∷ ts) = IsTold (wanted_of apps p.end.topic) p.end p.segments t × AreTold apps ps ts
+
+abbrev pub tally_of : Told → Tally
+tally_of t = record { batches = t.batches; sizes = t.sizes }
+
+-- the same, column by column
+pub record AreColumns (told : List Told) (logs : KeptLogs) : Type 0 where
+  pub parts : logs.parts.items ≡ map (λ t. t.part) told
+  pub faults : logs.faults.items ≡ map (λ t. t.fault) told
+  pub tallies : logs.tallies.items ≡ map tally_of told
+
+-- these are the logs of an evidence of this shape, as they are kept for its applications
+pub record AreKeptLogs (known : ℕ → Option (List ℕ)) (shape : EvidenceParts) (logs : KeptLogs) : Type 0 where
+  pub evidence : EvidenceParts
+  pub of_shape : IsOfShape known shape evidence
+  pub is_evidence : IsEvidence evidence
+  pub told : List Told
+  pub each : AreTold evidence.spec.apps evidence.partitions told
+  pub columns : AreColumns told logs

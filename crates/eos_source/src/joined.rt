@@ -1,0 +1,50 @@
+//! The runs of a partition's pieces, joined in order.
+
+ghost use Rattle.std.specs.Prelude.{◌≡◌, ◌+◌, ◌++◌, ℕ, List, Option, length, All, IfOk};
+ghost use Rattle.std.specs.Vec.Iter.{into_iter_items};
+ghost use Rattle.eos_evidence.specs.declared.application.App.{App};
+ghost use Rattle.eos_evidence.specs.declared.segment.Segment.{Segment};
+ghost use Rattle.eos_source.specs.steps.Runs.{Asking, asking, IsRead, AreRead, AreSlots};
+
+use eos_evidence::Segment;
+use eos_part::KeptRun;
+use std::alloc::{AllocError, Global};
+use std::vec::IntoIter;
+
+/// The run with the next one behind it.
+fn longer(alloc: Global, run: Option<KeptRun>, next: KeptRun) -> Result<KeptRun, AllocError>
+    requires { (known : ℕ → Option (List ℕ)) × (a : Asking) × (piece : ℕ) × (names : List Segment) × (more : List Segment)
+        × AreRead known a piece names run × IsRead known a (piece + length names) more next }
+    ensures { (known : ℕ → Option (List ℕ)) (a : Asking) (piece : ℕ) (names more : List Segment)
+        → AreRead known a piece names run → IsRead known a (piece + length names) more next → IfOk result (IsRead known a piece (names ++ more)) }
+{
+    let Some(run) = run else {
+        return Ok(next);
+    };
+    match KeptRun::join(alloc, run, next) {
+        Ok(run) => Ok(run),
+        Err(_) => Err(AllocError),
+    }
+}
+
+/// The run of the pieces of these names, which are of one topic, out of the next slots; or the first refusal among them.
+pub(crate) fn next_run<F: From<AllocError> + Drop>(
+    alloc: Global,
+    names: &[Segment],
+    slots: &mut IntoIter<Result<KeptRun, F>>,
+) -> Result<Option<KeptRun>, F>
+    requires { (known : ℕ → Option (List ℕ)) × (topics : List (List ℕ)) × (apps : List App) × (topic : List ℕ) × (piece : ℕ) × (later : List Segment)
+        × All (λ s. s.topic ≡ topic) names.now × AreSlots known topics apps piece (names.now ++ later) (into_iter_items slots.old) }
+    ensures { (known : ℕ → Option (List ℕ)) (topics : List (List ℕ)) (apps : List App) (topic : List ℕ) (piece : ℕ) (later : List Segment)
+        → All (λ s. s.topic ≡ topic) names.now → AreSlots known topics apps piece (names.now ++ later) (into_iter_items slots.old)
+        → IfOk result (λ run. AreRead known (asking topics apps topic) piece names.now run × AreSlots known topics apps (piece + length names.now) later (into_iter_items slots.new)) }
+{
+    let mut run = None;
+    for _ in 0..names.len() {
+        let Some(slot) = slots.next() else {
+            unreachable!()
+        };
+        run = Some(longer(alloc, run, slot?)?);
+    }
+    Ok(run)
+}

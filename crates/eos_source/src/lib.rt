@@ -1,0 +1,20 @@
+//! The kept logs of an evidence whose pieces are read from a source, each once and never whole: a piece is read chunk by chunk,
+//! of its data records is kept what is wanted, and the runs of a partition are joined.
+//!
+//! The source may be a folder of files or an evidence in memory. Of which pieces there are the shape says: an evidence whose
+//! segments have their names and no bytes. In memory is what is kept, and for each thread what reading one segment takes.
+#![tactic(auto)]
+
+mod joined;
+mod logs;
+mod memory;
+mod piece;
+mod plan;
+mod seats;
+mod slots;
+mod source;
+mod told;
+
+pub use logs::{KeptLogs, Tally, kept_logs};
+pub use memory::{MemoryFault, MemorySource};
+pub use source::Source;

@@ -1,0 +1,138 @@
+//! The kept logs of all partitions.
+
+ghost use Rattle.std.specs.Prelude.{◌≡◌, ◌+◌, ◌++◌, ◌∷◌, [], ℕ, List, length, IfOk, OnOk, IsPermutation};
+ghost use Rattle.std.specs.Vec.Iter.{into_iter_items};
+ghost use Rattle.eos_evidence.specs.Evidence.{IsPartition, segments_of};
+ghost use Rattle.eos_evidence.specs.Parts.{outputs_of};
+ghost use Rattle.eos_evidence.specs.declared.segment.Segment.{Segment};
+ghost use Rattle.eos_source.specs.Logs.{AreKeptLogs, tally_of};
+ghost use Rattle.eos_source.specs.steps.Partitions.{IsToldOf, AreToldOf};
+ghost use Rattle.eos_source.specs.steps.Runs.{AreSlots};
+
+use crate::joined::next_run;
+use crate::plan::{Plan, source_topics};
+use crate::slots::read_all;
+use crate::source::Source;
+use crate::told::told_of;
+use eos_evidence::{Evidence, Partition};
+use eos_kept::Sizes;
+use eos_part::{KeptRun, Part, Told};
+use eos_touch::PartitionFault;
+use eos_wanted::Wants;
+use eos_workers::Workers;
+use std::alloc::{AllocError, Global};
+use std::thread::Threads;
+use std::vec::IntoIter;
+
+/// How much there is of a partition's log: the batches of its front, control batches too, and its segments with their bytes.
+#[derive(Clone, Copy, Debug)]
+pub struct Tally {
+    pub batches: u64,
+    pub sizes: Sizes,
+}
+
+/// What is kept of the logs of an evidence's partitions, in order; of each one its place in every list.
+#[derive(Drop)]
+pub struct KeptLogs {
+    /// What is wanted of them.
+    pub parts: Vec<Part>,
+    /// The least fault of each one's bytes.
+    pub faults: Vec<Option<PartitionFault>>,
+    pub tallies: Vec<Tally>,
+}
+
+impl KeptLogs {
+    fn new(alloc: Global) -> KeptLogs
+        ensures parts { result.parts.items ≡ [] }
+        ensures faults { result.faults.items ≡ [] }
+        ensures tallies { result.tallies.items ≡ [] }
+    {
+        KeptLogs {
+            parts: Vec::new(alloc),
+            faults: Vec::new(alloc),
+            tallies: Vec::new(alloc),
+        }
+    }
+
+    /// Puts a partition at the end.
+    fn push(&mut self, told: Told) -> Result<(), AllocError>
+        ensures parts { OnOk result (self.new.parts.items ≡ self.old.parts.items ++ told.part ∷ []) }
+        ensures faults { OnOk result (self.new.faults.items ≡ self.old.faults.items ++ told.fault ∷ []) }
+        ensures tallies { OnOk result (self.new.tallies.items ≡ self.old.tallies.items ++ tally_of told ∷ []) }
+    {
+        let tally = Tally {
+            batches: told.batches,
+            sizes: told.sizes,
+        };
+        self.parts.push(told.part)?;
+        self.faults.push(told.fault)?;
+        self.tallies.push(tally)?;
+        Ok(())
+    }
+}
+
+/// What is told of a partition of this shape, out of the next slots.
+fn next_told<S: Source>(
+    alloc: Global,
+    plan: &Plan<'_, S>,
+    shape: &Partition,
+    slots: &mut IntoIter<Result<KeptRun, S::Fault>>,
+) -> Result<Told, S::Fault>
+    requires wants { IsPermutation (outputs_of plan.now.shape.now.spec.apps) plan.now.wants }
+    requires partition { IsPartition shape.now }
+    requires slots { (piece : ℕ) × (later : List Segment)
+        × AreSlots (S.bytes plan.now.source.now) plan.now.topics.now plan.now.shape.now.spec.apps piece (shape.now.segments ++ later) (into_iter_items slots.old) }
+    ensures { (piece : ℕ) (later : List Segment)
+        → AreSlots (S.bytes plan.now.source.now) plan.now.topics.now plan.now.shape.now.spec.apps piece (shape.now.segments ++ later) (into_iter_items slots.old)
+        → IfOk result (λ told. IsToldOf (S.bytes plan.now.source.now) plan.now.shape.now.spec.apps piece shape.now told
+        × AreSlots (S.bytes plan.now.source.now) plan.now.topics.now plan.now.shape.now.spec.apps (piece + length shape.now.segments) later (into_iter_items slots.new)) }
+{
+    let run = next_run(alloc, shape.segments.as_slice(), slots)?;
+    let asked = plan.asked_of(shape.end.topic.as_slice());
+    Ok(told_of(alloc, shape.end.clone()?, asked, run)?)
+}
+
+/// What is told of all partitions, out of the slots of all pieces.
+fn logs_of<S: Source>(
+    alloc: Global,
+    plan: &Plan<'_, S>,
+    slots: Vec<Result<KeptRun, S::Fault>>,
+) -> Result<KeptLogs, S::Fault>
+    requires wants { IsPermutation (outputs_of plan.now.shape.now.spec.apps) plan.now.wants }
+    requires slots { AreSlots (S.bytes plan.now.source.now) plan.now.topics.now plan.now.shape.now.spec.apps 0 (segments_of plan.now.shape.now.partitions) slots.items }
+    ensures { IfOk result (AreToldOf (S.bytes plan.now.source.now) plan.now.shape.now.spec.apps plan.now.shape.now.partitions) }
+{
+    let mut logs = KeptLogs::new(alloc);
+    let mut slots = slots.into_iter();
+    let partitions = plan.shape.partitions();
+    for i in 0..partitions.len() {
+        logs.push(next_told(alloc, plan, &partitions[i], &mut slots)?)?;
+    }
+    Ok(logs)
+}
+
+/// Reads each piece of an evidence of this shape from the source, by at most as many threads as there are workers, and makes of
+/// each partition its kept log. What a piece is not wanted for is forgotten while it is read.
+///
+/// # Errors
+/// The fault of the first piece, in order, that isn't there; or want of memory.
+pub fn kept_logs<S: Source, R: Threads + Sync>(
+    alloc: Global,
+    rt: &R,
+    source: &S,
+    shape: &Evidence,
+    workers: Workers,
+) -> Result<KeptLogs, S::Fault>
+    ensures { IfOk result (AreKeptLogs (S.bytes source.now) shape.now) }
+{
+    let apps = shape.spec().apps().as_slice();
+    let topics = source_topics(alloc, apps)?;
+    let plan = Plan {
+        source,
+        shape,
+        wants: Wants::of(alloc, apps)?,
+        topics: topics.as_slice(),
+    };
+    let slots = read_all(alloc, rt, &plan, workers)?;
+    logs_of(alloc, &plan, slots)
+}

@@ -1,0 +1,65 @@
+//! What is asked of the pieces of an evidence.
+
+ghost use Rattle.std.specs.Prelude.{◌≡◌, ◌<◌, length, slice_get, Some, IsPermutation};
+ghost use Rattle.eos_evidence.specs.Evidence.{segments_of};
+ghost use Rattle.eos_evidence.specs.Parts.{outputs_of};
+ghost use Rattle.eos_evidence.specs.declared.segment.Segment.{Segment};
+ghost use Rattle.eos_source.specs.steps.Runs.{IsSlot};
+ghost use Rattle.eos_wanted.specs.Wanted.{wanted_of};
+
+use crate::piece::read_piece;
+use crate::source::Source;
+use bytes::Bytes;
+use eos_evidence::{App, Evidence};
+use eos_part::{Asked, KeptRun};
+use eos_wanted::Wants;
+use std::alloc::{AllocError, Global};
+
+/// Where the pieces of an evidence of this shape are read from, and what is asked of them.
+#[derive(Drop)]
+pub(crate) struct Plan<'a, S: Source> {
+    pub(crate) source: &'a S,
+    pub(crate) shape: &'a Evidence,
+    pub(crate) wants: Wants<'a>,
+    /// The topics whose claims are kept by a number.
+    pub(crate) topics: &'a [Bytes],
+}
+
+impl<'a, S: Source> Plan<'a, S> {
+    /// What is asked of the segments of this topic.
+    pub(crate) fn asked_of(&self, topic: &[u8]) -> Asked<'a>
+        requires { IsPermutation (outputs_of self.now.shape.now.spec.apps) self.now.wants }
+        ensures topics { result.topics.now ≡ self.now.topics.now }
+        ensures wanted { result.wanted ≡ wanted_of self.now.shape.now.spec.apps topic.now }
+    {
+        Asked {
+            wanted: self.wants.of_topic(topic),
+            topics: self.topics,
+        }
+    }
+
+    /// What is asked of the piece of this number.
+    pub(crate) fn read(&self, alloc: Global, piece: u64) -> Result<KeptRun, S::Fault>
+        requires piece { piece < length (segments_of self.now.shape.now.partitions) }
+        requires wants { IsPermutation (outputs_of self.now.shape.now.spec.apps) self.now.wants }
+        ensures { (name : Segment) → slice_get (segments_of self.now.shape.now.partitions) piece ≡ Some name
+            → IsSlot (S.bytes self.now.source.now) self.now.topics.now self.now.shape.now.spec.apps piece name result }
+    {
+        let name = self.shape.piece(piece);
+        let asked = self.asked_of(name.topic.as_slice());
+        read_piece(alloc, self.source, asked, piece, name)
+    }
+}
+
+/// The topics that the applications read, each once, in order: most claims name one of these.
+pub(crate) fn source_topics(alloc: Global, apps: &[App]) -> Result<Vec<Bytes>, AllocError> {
+    let mut topics = Vec::new(alloc);
+    for app in apps {
+        for topic in app.sources.as_slice() {
+            topics.push(topic.clone()?)?;
+        }
+    }
+    topics.sort_unstable();
+    topics.dedup();
+    Ok(topics)
+}

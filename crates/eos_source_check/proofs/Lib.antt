@@ -1,0 +1,2 @@
+pub mod KeptTold
+pub mod VerdictKept

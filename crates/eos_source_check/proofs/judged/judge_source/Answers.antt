@@ -1,0 +1,12 @@
+use Rattle.std.proofs.Common.{subst}
+use Rattle.eos_check.specs.Judged.{IsJudged}
+use Rattle.eos_evidence.specs.Parts.{Parts}
+use Rattle.eos_partitions.specs.Faults.{first_of}
+use Rattle.eos_source_check.proofs.VerdictKept.{judged_of}
+use Rattle.eos_source_check.proofs.judged.judge_source.Goals as goal
+
+pub returns : goal.returns
+returns g c =
+    let logs = c.in_ok-logs.logs in
+    let answer = subst (λ (s : Parts). IsJudged s.apps logs.parts.items (first_of logs.faults.items) c.in_ok-verdict.verdict) c.spec.ensures.value c.in_ok-verdict.ensures in
+    judged_of _ c.args.shape.now c.in_ok-kept.kept _ c.in_ok-kept.ensures c.in_ok-logs.ensures answer

@@ -1,0 +1,47 @@
+//! The verdict of an evidence of which a source has the pieces.
+
+ghost use Rattle.std.specs.Prelude.{IfOk};
+ghost use Rattle.eos_source_check.specs.Judged.{IsJudgedOf};
+
+use crate::kept::apart;
+use eos_check::{Verdict, judge};
+use eos_evidence::Evidence;
+use eos_partitions::Logs;
+use eos_source::{Source, kept_logs};
+use eos_tallies::Counted;
+use eos_workers::Workers;
+use std::alloc::Global;
+use std::thread::Threads;
+
+/// A verdict, what is kept of the logs that it is about, and what was counted of each partition's segments.
+#[derive(Drop)]
+pub struct Judged {
+    pub logs: Logs,
+    pub counted: Vec<Counted>,
+    pub verdict: Verdict,
+}
+
+/// The verdict of an evidence of this shape, whose pieces are read from the source, each once and by at most so many threads, and
+/// never held whole: in memory is what is wanted of the records. There is an evidence of this shape, with the bytes that are
+/// known of the pieces, of which this is the verdict and these are the kept logs.
+///
+/// # Errors
+/// The fault of the first piece, in order, that isn't there; or want of memory.
+pub fn judge_source<S: Source, R: Threads + Sync>(
+    alloc: Global,
+    rt: &R,
+    source: &S,
+    shape: &Evidence,
+    workers: Workers,
+) -> Result<Judged, S::Fault>
+    ensures { IfOk result (IsJudgedOf (S.bytes source.now) shape.now) }
+{
+    let kept = kept_logs(alloc, rt, source, shape, workers)?;
+    let (logs, counted) = apart(alloc, kept)?;
+    let verdict = judge(alloc, rt, shape.spec(), &logs, workers)?;
+    Ok(Judged {
+        logs,
+        counted,
+        verdict,
+    })
+}

@@ -1,0 +1,50 @@
+//! Kept logs as the phases take them.
+
+ghost use Rattle.std.specs.Prelude.{◌≡◌, IfOk, map};
+ghost use Rattle.eos_source_check.specs.steps.Apart.{counted_as, IsApart};
+
+use eos_partition::Part;
+use eos_partitions::Logs;
+use eos_source::{KeptLogs, Tally};
+use eos_tallies::Counted;
+use std::alloc::{AllocError, Global};
+
+/// The same parts, one by one.
+fn wrapped(alloc: Global, parts: Vec<eos_part::Part>) -> Result<Vec<Part>, AllocError>
+    ensures { IfOk result (λ all. all.items ≡ parts.items) }
+{
+    let mut all = Vec::new(alloc);
+    for part in parts {
+        all.push(Part::kept(part))?;
+    }
+    Ok(all)
+}
+
+/// What was counted of each partition's segments.
+fn counted_in(alloc: Global, tallies: &[Tally]) -> Result<Vec<Counted>, AllocError>
+    ensures { IfOk result (λ all. all.items ≡ map counted_as tallies.now) }
+{
+    let mut all = Vec::new(alloc);
+    for tally in tallies {
+        all.push(Counted {
+            batches: tally.batches,
+            segments: tally.sizes.segments,
+            bytes: tally.sizes.bytes,
+        })?;
+    }
+    Ok(all)
+}
+
+/// What is kept of an evidence's logs, each with its least fault, and what was counted of their segments.
+pub(crate) fn apart(alloc: Global, kept: KeptLogs) -> Result<(Logs, Vec<Counted>), AllocError>
+    ensures { IfOk result (λ r. IsApart kept r.0 r.1.items) }
+{
+    let KeptLogs {
+        parts,
+        faults,
+        tallies,
+    } = kept;
+    let counted = counted_in(alloc, tallies.as_slice())?;
+    let parts = wrapped(alloc, parts)?;
+    Ok((Logs { parts, faults }, counted))
+}

@@ -1,0 +1,10 @@
+//! The verdict of an evidence that is read from a source: worked out of what is kept of its logs, it is that of the logs.
+//!
+//! Of a source whose bytes are known, as an evidence in memory, it is the verdict of these bytes. What a file gives no contract can
+//! say: of a folder it is the verdict of some evidence of this shape, which is the one that was read.
+#![tactic(auto)]
+
+mod judged;
+mod kept;
+
+pub use judged::{Judged, judge_source};
