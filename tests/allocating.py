@@ -7,7 +7,7 @@ It says what is missing, or what isn't there, and ends in 1 then; else how many 
 refuses the allocations.
 
 A line of the list is 'CRATE::FUNCTION PLACE': the function, of a type 'CRATE::TYPE::FUNCTION', and who refuses its
-allocations: 'TABLE.txt=CALL', a call of a table whose rows tests/run refuses; 'test LAYER::NAME', a test that it names; 'run
+allocations: 'TABLE.txt=CALL', a call of a table whose rows a part of tests/run refuses; 'test LAYER::NAME', a test that it names; 'run
 COMMAND', a command that it runs so; or 'none', and why nobody can. A function is one of the list's where its crate exports it or its type, and its
 result can be want of memory.
 """
@@ -105,7 +105,7 @@ def is_there(kind, name, run):
         return bool(name)
     table, _, call = kind.partition(".txt=")
     path = f"tests/tables/{table}.txt"
-    tables = re.search(r"for table in (.*); do\n *if python3 -B tests/refuse_each.py", run)
+    tables = re.search(r"^each_refused (.*)$", run, re.M)
     there = os.path.isfile(path) and re.search(rf"^{call} ", open(path, encoding="utf-8").read(), re.M)
     return bool(there) and tables is not None and table in tables[1].split()
 
@@ -113,8 +113,7 @@ def is_there(kind, name, run):
 def main():
     with open(LIST, encoding="utf-8") as file:
         lines = [line.split(" ", 2) + [""] for line in file.read().splitlines() if line and not line.startswith("#")]
-    with open("tests/run", encoding="utf-8") as file:
-        run = file.read()
+    run = "".join(open(path, encoding="utf-8").read() for path in sorted(glob.glob("tests/parts/*.sh")))
     names = list(crates())
     faults = faults_of(names)
     there = {name for crate in names for name in public(crate, faults)}

@@ -1,4 +1,4 @@
-/* Makes the standard streams of a program falter.
+/* Makes the standard streams of a program falter, and the files that it reads.
  *
  *     cc -shared -fPIC -o streams.so tests/streams.c -ldl
  *     STREAM_ROOM=3 LD_PRELOAD=./streams.so crates/eoscheck/out/eoscheck dump - < FILE
@@ -9,11 +9,14 @@
  * STREAM_WRITES=N          N writes to standard output are interrupted before each one that isn't
  * STREAM_BROKEN=1          standard input can't be read
  * STREAM_BREAKS=N          standard input can't be read behind its first N bytes
+ * FILE_STEP=N              a read of another file takes at most N bytes
+ * FILE_BREAKS=N            another file can't be read behind its first N bytes, if it has more
  */
 #define _GNU_SOURCE
 #include <dlfcn.h>
 #include <errno.h>
 #include <stdlib.h>
+#include <sys/stat.h>
 #include <unistd.h>
 
 static long number(const char *name, long other) {
@@ -36,12 +39,27 @@ static size_t least(size_t a, long b) {
     return b < 0 || a < (size_t)b ? a : (size_t)b;
 }
 
+/* How many bytes a read of a file may take, or -1 where it can't be read any more. */
+static ssize_t readable(int file, size_t size) {
+    long breaks = number("FILE_BREAKS", -1);
+    struct stat is;
+    size = least(size, number("FILE_STEP", -1));
+    if (breaks < 0 || fstat(file, &is) || !S_ISREG(is.st_mode) || is.st_size <= breaks) return size;
+    off_t place = lseek(file, 0, SEEK_CUR);
+    return place >= breaks ? -1 : (ssize_t)least(size, breaks - place);
+}
+
 ssize_t read(int file, void *bytes, size_t size) {
     static ssize_t (*real)(int, void *, size_t);
     static long row, given;
     long breaks = number("STREAM_BREAKS", -1);
     if (!real) real = dlsym(RTLD_NEXT, "read");
-    if (file != STDIN_FILENO) return real(file, bytes, size);
+    if (file != STDIN_FILENO) {
+        ssize_t most = readable(file, size);
+        if (most >= 0) return real(file, bytes, most);
+        errno = EIO;
+        return -1;
+    }
     if (number("STREAM_BROKEN", 0) || (breaks >= 0 && given >= breaks)) {
         errno = EIO;
         return -1;

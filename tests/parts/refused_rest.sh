@@ -1,0 +1,29 @@
+# Refused allocations of the other commands, and of calls of which no run meets all refusals.
+. tests/common.sh
+. tests/refused.sh
+refused 1 dump "$segments/sarama-txn-markers.log"
+refused 1 chain "$segments/sarama-txn-markers.log"
+refused 1 dump "$segments/kpy-gzip.log"
+refused 1 dump --decode --headers tests/evidence/row-yes-2/__transaction_state-0/00000000000000000000.log
+refused 1 dump --as outputs --headers tests/evidence/row-yes-2/out-0/00000000000000000000.log
+refused 1 explain --code 5.10
+refused 1 check --help
+refused 1 explain tests/stories/34-dup-across-transactions
+refused 1 explain tests/stories/04-missing-marker
+refused 1 explain tests/stories/39-headers-as-text
+refused 1 explain tests/evidence/row-SplitGroup-1
+for i in 1 2 3 4 5 6 7 8 9; do cat "$segments/sarama-idem-1.log"; done > "$scratch/long"
+refused 101 dump "$scratch/long"
+if [ $parts -gt 5 ]; then ok; else bad "no part of a long listing was written before memory ran out"; fi
+
+# what is said of a refused manifest where memory is refused to its cause
+counted 'messages without memory' python3 -B tests/messages.py "$program" "$scratch/refuse.so"
+
+# the caller doesn't do a worker's work again
+passes 'work done once' python3 -B tests/work_once.py "$scratch/refuse.so" "$probe"
+
+# calls of which no run meets all refusals: rows of tables, and tests
+each_refused batch chunks txnlog offsets evidence wire refusals all_faults
+tests_refused segment_reader segment_reader::reads_all_bytes
+tests_refused kept_history kept_history::a_tail_is_kept kept_history::each_decision_counts_once kept_history::a_kept_run_runs_again
+end
