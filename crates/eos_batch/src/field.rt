@@ -24,6 +24,7 @@ pub(crate) fn read_int(rest: &mut Cursor<'_>) -> Result<i32, BatchFault>
     rest.varint().ok_or(BatchFault::Varint)
 }
 
+#[inline(always)]
 #[tactic(auto, unfolding(crate::specs::Reading::long_at))]
 pub(crate) fn read_long(rest: &mut Cursor<'_>) -> Result<i64, BatchFault>
     ensures gives { Gives result rest.new (long_at rest.old) }

@@ -28,5 +28,5 @@ pub use marker::{Kind, Marker};
 pub use passing::{pass_record, pass_records};
 pub use record::{Header, Headers, Record, Records};
 pub use segment::{SegmentText, decode_segment, next_batch};
-pub use view::{HeaderRef, HeaderRefs, RecordRef, own_record, view_record};
+pub use view::{HeaderRef, HeaderRefs, RecordRef, lend_record, own_record, view_record};
 pub use walk::{Opened, open_batch, test_data};

@@ -24,7 +24,7 @@ fn pass_header(rest: &mut Cursor) -> Result<(), BatchFault>
 }
 
 #[inline(always)]
-fn pass_headers(rest: &mut Cursor, count: u32) -> Result<(), BatchFault>
+pub(crate) fn pass_headers(rest: &mut Cursor, count: u32) -> Result<(), BatchFault>
     ensures passes { PassesFrom result rest.new (headers_at count rest.old) }
     ensures real { IfErr result IsReal }
 {

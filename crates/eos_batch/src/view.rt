@@ -1,22 +1,23 @@
 //! A record of a batch, read where it stands: as a value of its own, or lent.
 
-ghost use Rattle.std.specs.Prelude.{◌≡◌, ◌≤◌, [], ◌∷◌, length, Ok, IfErr, IfNone, IfSome};
+ghost use Rattle.std.specs.Prelude.{◌≡◌, ◌≤◌, [], ◌∷◌, length, slice_range, Ok, IfOk, IfErr, IfNone, IfSome};
 ghost use Rattle.std.specs.Option.{option_map};
 ghost use Rattle.eos_batch.specs.declared.record.Header.{Header};
 ghost use Rattle.eos_batch.specs.declared.record.Record.{Record};
 ghost use Rattle.eos_batch.specs.Real.{IsReal};
-ghost use Rattle.eos_batch.specs.Answers.{Answers};
+ghost use Rattle.eos_batch.specs.Answers.{Answers, Fails};
 ghost use Rattle.eos_batch.specs.steps.Answers.{Gives};
-ghost use Rattle.eos_batch.specs.Reading.{header_at};
-ghost use Rattle.eos_batch.specs.Places.{whole_at, found_at};
+ghost use Rattle.eos_batch.specs.Reading.{header_at, headers_at, placed_at, record_at};
+ghost use Rattle.eos_batch.specs.Places.{IsAt, whole_at, found_at};
 ghost use Rattle.eos_batch.specs.steps.Places.{parts_at};
 
 use crate::fault::BatchFault;
 use crate::field::{read_bytes, read_count, read_int, read_long, read_optional};
+use crate::passing::pass_headers;
 use crate::read_record::{headers_of, shared};
 use crate::record::Record;
 use bytes::Bytes;
-use eos_wire::Cursor;
+use eos_wire::{Cursor, are_bytes};
 use std::alloc::Global;
 use std::marker::Model;
 
@@ -149,6 +150,28 @@ impl<'a> Model for HeaderRefs<'a> {
 }
 
 impl<'a> HeaderRefs<'a> {
+    /// So many headers from the front, read over once.
+    #[inline(always)]
+    fn tested(rest: &mut Cursor<'a>, count: u32) -> Result<HeaderRefs<'a>, BatchFault>
+        ensures gives { Gives result rest.new (headers_at count rest.old) }
+        ensures real { IfErr result IsReal }
+    {
+        let first = rest.fork();
+        pass_headers(rest, count)?;
+        Ok(HeaderRefs { rest: first, count })
+    }
+
+    /// The same headers once more.
+    #[inline(always)]
+    pub fn fork(&self) -> HeaderRefs<'a>
+        ensures { result ≡ self.now }
+    {
+        HeaderRefs {
+            rest: self.rest.fork(),
+            count: self.count,
+        }
+    }
+
     /// The next header, and None after the last one.
     pub fn next(&mut self) -> Option<HeaderRef<'a>>
         ensures none { IfNone result ((self.old ≡ []) × (self.new ≡ [])) }
@@ -164,6 +187,17 @@ impl<'a> HeaderRefs<'a> {
             }
             Err(_) => unreachable!(),
         }
+    }
+}
+
+/// Another cursor over the same bytes, where there are some.
+#[inline(always)]
+fn forked<'a>(bytes: &Option<Cursor<'a>>) -> Option<Cursor<'a>>
+    ensures { result ≡ bytes.now }
+{
+    match bytes {
+        Some(bytes) => Some(bytes.fork()),
+        None => None,
     }
 }
 
@@ -206,6 +240,20 @@ impl<'a> RecordRef<'a> {
         }
     }
 
+    /// The same record once more.
+    #[inline(always)]
+    pub fn fork(&self) -> RecordRef<'a>
+        ensures { result ≡ self.now }
+    {
+        RecordRef {
+            attributes: self.attributes,
+            timestamp_delta: self.timestamp_delta,
+            key: forked(&self.key),
+            value: forked(&self.value),
+            headers: self.headers.fork(),
+        }
+    }
+
     /// Its headers, in order.
     pub fn into_headers(self) -> HeaderRefs<'a>
         ensures { result ≡ self.entry.headers }
@@ -245,4 +293,61 @@ pub fn view_record<'a>(bytes: &'a Bytes, at: usize) -> RecordRef<'a>
         Ok(text) => record_of(text),
         Err(_) => unreachable!(),
     }
+}
+
+/// A record without its length, which takes all bytes, at this place of its batch.
+#[inline(always)]
+#[tactic(auto, unfolding(crate::specs::Reading::placed_at, crate::specs::Reading::body_at))]
+fn placed_record<'a>(mut rest: Cursor<'a>, place: u32) -> Result<RecordRef<'a>, BatchFault>
+    ensures gives { Answers result (placed_at place rest.entry) }
+    ensures real { IfErr result IsReal }
+{
+    let attributes = rest.i8().ok_or(BatchFault::Record)?;
+    let timestamp_delta = read_long(&mut rest)?;
+    let delta = read_int(&mut rest)?;
+    let key = read_optional(&mut rest)?;
+    let value = read_optional(&mut rest)?;
+    let count = read_count(&mut rest)?;
+    let headers = HeaderRefs::tested(&mut rest, count)?;
+    if !rest.is_empty() {
+        return Err(BatchFault::Record);
+    }
+    if i64::from(delta) != i64::from(place) {
+        return Err(BatchFault::Delta);
+    }
+    Ok(RecordRef {
+        attributes,
+        timestamp_delta,
+        key,
+        value,
+        headers,
+    })
+}
+
+/// Reads the record at this place of its batch, whose length stands at `from`: lends it, and gives the byte after it. The
+/// batch's bytes end at `end`.
+///
+/// # Errors
+/// The first test of the record that fails. It takes no memory.
+#[inline(always)]
+#[tactic(auto, unfolding(crate::specs::Reading::record_at))]
+pub fn lend_record<'a>(
+    bytes: &'a Bytes,
+    from: usize,
+    end: usize,
+    place: u32,
+) -> Result<(RecordRef<'a>, usize), BatchFault>
+    requires inside { from ≤ end }
+    requires end { end ≤ length bytes.now }
+    ensures found { IfOk result (λ lent. IsAt bytes.now place from end lent.1) }
+    ensures lent { IfOk result (λ lent. found_at from bytes.now ≡ Ok lent.0) }
+    ensures fault { IfErr result (λ e. Fails e (record_at place (slice_range bytes.now from end))) }
+    ensures real { IfErr result IsReal }
+{
+    are_bytes(bytes.as_slice());
+    let _size = bytes.len();
+    let mut rest = Cursor::between(bytes, from, end);
+    let text = read_bytes(&mut rest)?;
+    let record = placed_record(text, place)?;
+    Ok((record, end - rest.left()))
 }

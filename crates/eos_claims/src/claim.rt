@@ -14,8 +14,10 @@
 
 ghost use Rattle.std.specs.Prelude.{◌≡◌, ◌≢◌, ◌<◌, ◌^◌, Option, Some, None, List, ℕ, option_map, IfOk, IfSome, OnErr, codes, fold};
 ghost use Rattle.eos_claims.specs.Headers.{claim_of, int32 as int32_of, int64 as int64_of};
+ghost use Rattle.std.specs.Bool.{nat_eq};
+ghost use Rattle.std.specs.Cmp.Lexicographic.{pointwise};
 ghost use Rattle.eos_claims.specs.Slots.{plain_claim};
-ghost use Rattle.eos_claims.specs.steps.Slots.{Kept, the as the_value, int32_in as int32_within, int64_in as int64_within, put as put_in, kept as kept_in, keep as keep_in, blank as nothing, claim_in, plain_value, plain_slot, plain_slots};
+ghost use Rattle.eos_claims.specs.steps.Slots.{Kept, the as the_value, int32_in as int32_within, int64_in as int64_within, kept as kept_in, keep as keep_in, blank as nothing, claim_in, plain_value, plain_slot, plain_slots};
 
 use bytes::Bytes;
 use eos_batch::{Header, HeaderRefs};
@@ -64,38 +66,43 @@ fn blank<'a>() -> Slots<'a>
     }
 }
 
-/// A slot after one more header with its key.
-fn put<'a>(slot: Option<Option<&'a [u8]>>, value: Option<&'a [u8]>) -> Option<Option<&'a [u8]>>
-    ensures { plain_slot result ≡ put_in (plain_slot slot.entry) (plain_value value.entry) }
+/// Whether a key is this name. The name's length is known to the compiler, so the comparison is a few instructions.
+#[inline(always)]
+fn is_name<const N: usize>(key: &[u8], name: &[u8; N]) -> bool
+    ensures { result ≡ pointwise nat_eq key.now name.now }
 {
-    match slot {
-        None => Some(value),
-        Some(_) => Some(None),
+    match key.split_first_chunk::<N>() {
+        Some((front, rest)) => rest.is_empty() && front == name,
+        None => false,
     }
 }
 
-/// A slot after one more header.
-fn kept<'a>(
-    name: &[u8],
+/// A slot after one more header: where its key is the slot's name, its value is put there.
+#[inline(always)]
+fn keep_one<'a, const N: usize>(
+    name: &[u8; N],
     key: &[u8],
     value: Option<&'a [u8]>,
-    slot: Option<Option<&'a [u8]>>,
-) -> Option<Option<&'a [u8]>>
-    ensures { plain_slot result ≡ kept_in name.now key.now (plain_value value.entry) (plain_slot slot.entry) }
+    slot: &mut Option<Option<&'a [u8]>>,
+)
+    ensures { plain_slot slot.new ≡ kept_in name.now key.now (plain_value value.entry) (plain_slot slot.old) }
 {
-    if key == name { put(slot, value) } else { slot }
+    if is_name(key, name) {
+        *slot = match *slot {
+            None => Some(value),
+            Some(_) => Some(None),
+        };
+    }
 }
 
-fn keep<'a>(slots: &Slots<'a>, key: &[u8], value: Option<&'a [u8]>) -> Slots<'a>
-    ensures { plain_slots result ≡ keep_in (plain_slots slots.entry.now) (record { key = key.now; value = plain_value value.entry }) }
+fn keep<'a>(slots: &mut Slots<'a>, key: &[u8], value: Option<&'a [u8]>)
+    ensures { plain_slots slots.new ≡ keep_in (plain_slots slots.old) (record { key = key.now; value = plain_value value.entry }) }
 {
-    Slots {
-        topic: kept(b"eo.topic".as_slice(), key, value, slots.topic),
-        partition: kept(b"eo.partition".as_slice(), key, value, slots.partition),
-        offset: kept(b"eo.offset".as_slice(), key, value, slots.offset),
-        output: kept(b"eo.output".as_slice(), key, value, slots.output),
-        of: kept(b"eo.of".as_slice(), key, value, slots.of),
-    }
+    keep_one(b"eo.topic", key, value, &mut slots.topic);
+    keep_one(b"eo.partition", key, value, &mut slots.partition);
+    keep_one(b"eo.offset", key, value, &mut slots.offset);
+    keep_one(b"eo.output", key, value, &mut slots.output);
+    keep_one(b"eo.of", key, value, &mut slots.of);
 }
 
 /// An INT32 that takes the whole value and isn't below 0.
@@ -182,7 +189,7 @@ pub fn view_claim<'a>(headers: HeaderRefs<'a>) -> Option<ClaimRef<'a>>
     let mut headers = headers;
     let mut slots = blank();
     while let Some(header) = headers.next() {
-        slots = keep(&slots, header.key(), header.value());
+        keep(&mut slots, header.key(), header.value());
     }
     claim_from(&slots)
 }
@@ -193,7 +200,7 @@ fn slots_of(headers: &[Header]) -> Slots<'_>
 {
     let mut slots = blank();
     for header in headers {
-        slots = keep(&slots, header.key.as_slice(), lent(&header.value));
+        keep(&mut slots, header.key.as_slice(), lent(&header.value));
     }
     slots
 }

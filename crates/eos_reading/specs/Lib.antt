@@ -4,7 +4,6 @@ pub mod Folds
 pub mod Heads
 pub mod Kept
 pub mod Places
-pub mod Records
 pub mod Runs
 pub mod Transactions
 pub mod steps

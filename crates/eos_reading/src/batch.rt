@@ -11,7 +11,7 @@ ghost use Rattle.eos_reading.specs.steps.Keeping.{Keeps, Grows, IsKept};
 use crate::placed::Placed;
 use crate::reading::Reading;
 use bytes::Bytes;
-use eos_batch::{Batch, BatchFault, BatchHead, open_batch, pass_record, test_data};
+use eos_batch::{Batch, BatchFault, BatchHead, lend_record, open_batch, test_data};
 use eos_items::read_head;
 use eos_wire::are_bytes;
 use std::alloc::{AllocError, Global};
@@ -41,8 +41,8 @@ fn keep_records<K: Reading>(
 {
     let mut from = span.begin;
     for place in 0..span.count {
-        let next = pass_record(bytes, from, span.end, place)?;
-        let record = Placed::new(bytes, from);
+        let (lent, next) = lend_record(bytes, from, span.end, place)?;
+        let record = Placed::new(lent);
         let one = reading.keep(alloc, span.offset + u64::from(place), record)?;
         kept.push(one)?;
         from = next;

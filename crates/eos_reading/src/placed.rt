@@ -1,47 +1,38 @@
 //! A data record where it stands.
 
-ghost use Rattle.std.specs.Prelude.{◌≡◌, ◌≤◌, length, Ok};
-ghost use Rattle.eos_batch.specs.declared.record.Record.{Record};
-ghost use Rattle.eos_batch.specs.Places.{found_at};
+ghost use Rattle.std.specs.Prelude.{◌≡◌};
 
-use bytes::Bytes;
-use eos_batch::{RecordRef, view_record};
+use eos_batch::RecordRef;
 use std::marker::Model;
 
-/// A data record in the bytes of a log, which contracts see as the `Record`. Where nobody asks for its fields none are read.
+/// A data record in the bytes of a log, which contracts see as the `Record`. It was read over once: its headers are read again
+/// as they are asked for.
 #[derive(Drop)]
 pub struct Placed<'a> {
-    bytes: &'a Bytes,
-    /// The byte of its length.
-    at: usize,
+    record: RecordRef<'a>,
 }
 
 impl<'a> Model for Placed<'a> {
-    ghost use Rattle.std.specs.Prelude.{◌≡◌, ◌≤◌, length, Ok};
     ghost use Rattle.eos_batch.specs.declared.record.Record.{Record};
-    ghost use Rattle.eos_batch.specs.Places.{found_at};
-    ghost use Rattle.eos_reading.specs.Records.{record_from};
 
     ghost Value = { Record };
 
-    ghost view = { λ p. record_from (found_at p.at p.bytes.now) };
-
-    ghost invariant = { λ p. (p.at ≤ length p.bytes.now) × ((r : Record) × (found_at p.at p.bytes.now ≡ Ok r)) };
+    ghost view = { λ p. p.record };
 }
 
 impl<'a> Placed<'a> {
-    pub(crate) fn new(bytes: &'a Bytes, at: usize) -> Placed<'a>
-        requires inside { at ≤ length bytes.now }
-        requires found { (r : Record) × (found_at at bytes.now ≡ Ok r) }
-        ensures { found_at at bytes.now ≡ Ok result }
+    #[inline(always)]
+    pub(crate) fn new(record: RecordRef<'a>) -> Placed<'a>
+        ensures { result ≡ record.entry }
     {
-        Placed { bytes, at }
+        Placed { record }
     }
 
     /// Its fields, lent.
+    #[inline(always)]
     pub fn view(&self) -> RecordRef<'a>
         ensures { result ≡ self.now }
     {
-        view_record(self.bytes, self.at)
+        self.record.fork()
     }
 }

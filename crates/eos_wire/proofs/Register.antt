@@ -1,14 +1,14 @@
 -- The register is linear, so that the low byte can be looked up.
-use Rattle.std.proofs.Common.{◌≡◌, ℕ, zero, suc, ◌+◌, ◌*◌, ◌/◌, ◌%◌, ◌^◌, ◌<◌, List, [], ◌∷◌, ◌++◌, length, take, drop, map, zero-add, get_or, refl, sym, ap, ◌∙◌, arith, bit_and, bit_xor, inl, inr, ◌⊎◌}
+use Rattle.std.proofs.Common.{◌≡◌, ℕ, zero, suc, ◌+◌, ◌*◌, ◌/◌, ◌%◌, ◌^◌, ◌<◌, ◌≤◌, List, [], ◌∷◌, ◌++◌, length, take, drop, map, zero-add, get_or, refl, sym, ap, subst, ◌∙◌, arith, bit_and, bit_xor, inl, inr, ◌⊎◌}
 use Rattle.std.specs.List.{range_with_len}
 use Rattle.std.specs.Int.{w64, from_le_bytes}
 use Rattle.std.specs.Int.Bits.{xor_assoc, xor_comm, xor_self, xor_zero_r, xor_zero_l, xor_shr, xor_mod, xor_shifted}
 use Rattle.std.proofs.lemmas.Bool.{cases_eq}
-use Rattle.std.proofs.lemmas.Nat.{and_mask, div-add-mod', xor_lt}
+use Rattle.std.proofs.lemmas.Nat.{and_mask, div-add-mod'}
 use Rattle.std.proofs.Math.Nat.{mod-lt, mul-mod_left, mul-div_cancel, pow-suc, mul-one, div-eq_of_lt, div-div-eq-div-mul}
-use Rattle.std.proofs.lemmas.List.{get_or-map, length-map, take-append-drop}
+use Rattle.std.proofs.lemmas.List.{get_or-map, get_or-drop, get_or-take, length-map, take-append-drop}
 use Rattle.std.proofs.lemmas.List.FromFn.{get_or-map-range_with_len}
-use Rattle.eos_wire.specs.declared.tables.TheConstants.{AFTER_1, AFTER_2, AFTER_3, AFTER_4, AFTER_5, AFTER_6, AFTER_7, AFTER_8}
+use Rattle.eos_wire.specs.declared.tables.TheConstants.{AFTER}
 use Rattle.eos_wire.specs.Crc.{after_bit, after_bits, after_byte, remainder}
 use Rattle.eos_wire.specs.Numbers.{IsBytes}
 
@@ -73,47 +73,25 @@ unfolding after_bits
 after_bits-add zero n x = ap (λ (k : ℕ). after_bits k x) (zero-add n)
 after_bits-add (suc m) n x = let e : suc m + n ≡ suc (m + n) = omega arith in ap (λ (k : ℕ). after_bits k x) e ∙ after_bits-add m n (after_bit x)
 
--- ---- the tables' rules: each byte's eight bits, and then eight zeros more from table to table
+-- ---- the tables: the first has each byte's eight bits, and each other what the one before leaves after eight zeros
 
-rule_1 : AFTER_1 ≡ map (after_bits 8) (range_with_len 0 256)
+first_rule : (d : List ℕ) → get_or AFTER 0 d ≡ map (after_bits 8) (range_with_len 0 256)
 unfolding after_bits
-rule_1 = refl
+first_rule d = refl
 
-rule_2 : AFTER_2 ≡ map (after_bits 8) AFTER_1
+rule : drop 1 AFTER ≡ map (map (after_bits 8)) (take 15 AFTER)
 unfolding after_bits
-rule_2 = refl
+rule = refl
 
-rule_3 : AFTER_3 ≡ map (after_bits 8) AFTER_2
-unfolding after_bits
-rule_3 = refl
-
-rule_4 : AFTER_4 ≡ map (after_bits 8) AFTER_3
-unfolding after_bits
-rule_4 = refl
-
-rule_5 : AFTER_5 ≡ map (after_bits 8) AFTER_4
-unfolding after_bits
-rule_5 = refl
-
-rule_6 : AFTER_6 ≡ map (after_bits 8) AFTER_5
-unfolding after_bits
-rule_6 = refl
-
-rule_7 : AFTER_7 ≡ map (after_bits 8) AFTER_6
-unfolding after_bits
-rule_7 = refl
-
-rule_8 : AFTER_8 ≡ map (after_bits 8) AFTER_7
-unfolding after_bits
-rule_8 = refl
+next_rule : (d : List ℕ) (k : ℕ) → k < 15 → get_or AFTER (1 + k) d ≡ map (after_bits 8) (get_or AFTER k d)
+next_rule d k lt =
+    sym (get_or-drop 1 AFTER k d) ∙ (ap (λ (tables : List (List ℕ)). get_or tables k d) rule
+    ∙ (get_or-map (map (after_bits 8)) (take 15 AFTER) k d d lt ∙ ap (map (after_bits 8)) (get_or-take 15 AFTER k d lt)))
 
 -- what a table says of each byte
 record IsTable (table : List ℕ) (bits : ℕ) : Type 0 where
   len : length table ≡ 256
   at : (i : ℕ) → i < 256 → get_or table i 0 ≡ after_bits bits i
-
-table_1 : IsTable AFTER_1 8
-table_1 = record { len = refl; at = λ i lt. ap (λ (xs : List ℕ). get_or xs i 0) rule_1 ∙ get_or-map-range_with_len (after_bits 8) 0 256 i i 0 lt (omega arith) }
 
 next_table : (table more : List ℕ) (bits : ℕ) → IsTable table bits → more ≡ map (after_bits 8) table → IsTable more (bits + 8)
 next_table table more bits t e = record {
@@ -121,38 +99,28 @@ next_table table more bits t e = record {
   at = λ i lt. ap (λ (xs : List ℕ). get_or xs i 0) e ∙ (get_or-map (after_bits 8) table i 0 0 (rw t.len lt) ∙ (ap (after_bits 8) (t.at i lt) ∙ sym (after_bits-add bits 8 i)));
 }
 
-table_2 : IsTable AFTER_2 16
-table_2 = next_table AFTER_1 AFTER_2 8 table_1 rule_2
+table_at : (d : List ℕ) (k : ℕ) → k < 16 → IsTable (get_or AFTER k d) (8 * suc k)
+table_at d zero lt = record { len = refl; at = λ i below. ap (λ (xs : List ℕ). get_or xs i 0) (first_rule d) ∙ get_or-map-range_with_len (after_bits 8) 0 256 i i 0 below (omega arith) }
+table_at d (suc k) lt =
+    let bits : 8 * suc k + 8 ≡ 8 * suc (suc k) = omega arith in
+    let place : 1 + k ≡ suc k = omega arith in
+    let more = next_table (get_or AFTER k d) (get_or AFTER (1 + k) d) (8 * suc k) (table_at d k (omega arith)) (next_rule d k (omega arith)) in
+    subst (λ (j : ℕ). IsTable (get_or AFTER j d) (8 * suc (suc k))) place (subst (IsTable (get_or AFTER (1 + k) d)) bits more)
 
-table_3 : IsTable AFTER_3 24
-table_3 = next_table AFTER_2 AFTER_3 16 table_2 rule_3
-
-table_4 : IsTable AFTER_4 32
-table_4 = next_table AFTER_3 AFTER_4 24 table_3 rule_4
-
-table_5 : IsTable AFTER_5 40
-table_5 = next_table AFTER_4 AFTER_5 32 table_4 rule_5
-
-table_6 : IsTable AFTER_6 48
-table_6 = next_table AFTER_5 AFTER_6 40 table_5 rule_6
-
-table_7 : IsTable AFTER_7 56
-table_7 = next_table AFTER_6 AFTER_7 48 table_6 rule_7
-
-table_8 : IsTable AFTER_8 64
-table_8 = next_table AFTER_7 AFTER_8 56 table_7 rule_8
+table_of : (d : List ℕ) (k bits : ℕ) → k < 16 → 8 * suc k ≡ bits → IsTable (get_or AFTER k d) bits
+table_of d k bits lt e = subst (IsTable (get_or AFTER k d)) e (table_at d k lt)
 
 -- ---- one byte
 
-pub one_byte : (register byte : ℕ) → byte < 256 → bit_xor (get_or AFTER_1 (bit_and (bit_xor register byte) 255) 0) (register / 256) ≡ after_byte register byte
-one_byte register byte lt =
+pub one_byte : (d : List ℕ) (register byte : ℕ) → byte < 256 → bit_xor (get_or (get_or AFTER 0 d) (bit_and (bit_xor register byte) 255) 0) (register / 256) ≡ after_byte register byte
+one_byte d register byte lt =
     let x = bit_xor register byte in
     let at : bit_and x 255 ≡ x % 256 = and_mask x 8 in
     let low : x % 256 < 256 = mod-lt x (omega arith) in
     let high : x / 256 ≡ register / 256 = xor_shr register byte 8 ∙ (ap (bit_xor (register / 256)) (div-eq_of_lt lt) ∙ xor_zero_r (register / 256)) in
-    ap (λ (i : ℕ). bit_xor (get_or AFTER_1 i 0) (register / 256)) at ∙ (ap (λ (w : ℕ). bit_xor w (register / 256)) (table_1.at (x % 256) low) ∙ (ap (bit_xor (after_bits 8 (x % 256))) (sym high) ∙ sym (looked_up x)))
+    ap (λ (i : ℕ). bit_xor (get_or (get_or AFTER 0 d) i 0) (register / 256)) at ∙ (ap (λ (w : ℕ). bit_xor w (register / 256)) ((table_at d 0 (omega arith)).at (x % 256) low) ∙ (ap (bit_xor (after_bits 8 (x % 256))) (sym high) ∙ sym (looked_up x)))
 
--- ---- eight bytes
+-- ---- a word of eight bytes
 
 -- the number that bytes make, the least first
 number_of : List ℕ → ℕ
@@ -190,31 +158,49 @@ peel sum n x high e = ap (bit_xor sum) (split n x high e) ∙ sym (xor_assoc sum
 low_byte : (table : List ℕ) (bits x : ℕ) → IsTable table bits → get_or table (bit_and x 255) 0 ≡ after_bits bits (x % 256)
 low_byte table bits x t = ap (λ (i : ℕ). get_or table i 0) (and_mask x 8) ∙ t.at (x % 256) (mod-lt x (omega arith))
 
--- what the tables give of a number's eight bytes, four and four
-abbrev pub first_four : ℕ → ℕ
-first_four w = bit_xor (bit_xor (bit_xor (get_or AFTER_8 (bit_and w 255) 0) (get_or AFTER_7 (bit_and (w / 2 ^ 8) 255) 0)) (get_or AFTER_6 (bit_and (w / 2 ^ 16) 255) 0)) (get_or AFTER_5 (bit_and (w / 2 ^ 24) 255) 0)
-
-abbrev pub last_four : ℕ → ℕ
-last_four w = bit_xor (bit_xor (bit_xor (get_or AFTER_4 (bit_and (w / 2 ^ 32) 255) 0) (get_or AFTER_3 (bit_and (w / 2 ^ 40) 255) 0)) (get_or AFTER_2 (bit_and (w / 2 ^ 48) 255) 0)) (get_or AFTER_1 (w / 2 ^ 56) 0)
+-- what the tables give of a number's lowest four bytes
+abbrev pub four_of : List ℕ → ℕ → ℕ → ℕ
+four_of d later w = bit_xor (bit_xor (bit_xor
+    (get_or (get_or AFTER (later + 3) d) (bit_and w 255) 0)
+    (get_or (get_or AFTER (later + 2) d) (bit_and (w / 2 ^ 8) 255) 0))
+    (get_or (get_or AFTER (later + 1) d) (bit_and (w / 2 ^ 16) 255) 0))
+    (get_or (get_or AFTER later d) (bit_and (w / 2 ^ 24) 255) 0)
 
 four : (a b c d e f g h : ℕ) → a ≡ e → b ≡ f → c ≡ g → d ≡ h → bit_xor (bit_xor (bit_xor a b) c) d ≡ bit_xor (bit_xor (bit_xor e f) g) h
 four a b c d e f g h p q r s = cc
 
-first_four_is : (w : ℕ) → bit_xor (first_four w) (after_bits 32 (w / 2 ^ 32)) ≡ after_bits 64 w
-first_four_is w =
-    ap (λ (z : ℕ). bit_xor z (after_bits 32 (w / 2 ^ 32))) (four _ _ _ _ _ _ _ _ (low_byte AFTER_8 64 w table_8) (low_byte AFTER_7 56 (w / 2 ^ 8) table_7) (low_byte AFTER_6 48 (w / 2 ^ 16) table_6) (low_byte AFTER_5 40 (w / 2 ^ 24) table_5))
-    ∙ sym (split 56 w (w / 2 ^ 8) refl
-    ∙ (peel _ 48 (w / 2 ^ 8) (w / 2 ^ 16) (sym (div-div-eq-div-mul w (2 ^ 8) 256))
-    ∙ (peel _ 40 (w / 2 ^ 16) (w / 2 ^ 24) (sym (div-div-eq-div-mul w (2 ^ 16) 256))
-    ∙ peel _ 32 (w / 2 ^ 24) (w / 2 ^ 32) (sym (div-div-eq-div-mul w (2 ^ 24) 256)))))
+pub four_is : (d : List ℕ) (later w : ℕ) → later ≤ 12 → bit_xor (four_of d later w) (after_bits (8 * later) (w / 2 ^ 32)) ≡ after_bits (8 * (later + 4)) w
+four_is d later w le =
+    let n = 8 * later in
+    let all : 8 + (8 + (8 + (8 + n))) ≡ 8 * (later + 4) = omega arith in
+    let at_3 = low_byte (get_or AFTER (later + 3) d) (8 + (8 + (8 + (8 + n)))) w (table_of d (later + 3) (8 + (8 + (8 + (8 + n)))) (omega arith) (omega arith)) in
+    let at_2 = low_byte (get_or AFTER (later + 2) d) (8 + (8 + (8 + n))) (w / 2 ^ 8) (table_of d (later + 2) (8 + (8 + (8 + n))) (omega arith) (omega arith)) in
+    let at_1 = low_byte (get_or AFTER (later + 1) d) (8 + (8 + n)) (w / 2 ^ 16) (table_of d (later + 1) (8 + (8 + n)) (omega arith) (omega arith)) in
+    let at_0 = low_byte (get_or AFTER later d) (8 + n) (w / 2 ^ 24) (table_of d later (8 + n) (omega arith) (omega arith)) in
+    ap (λ (z : ℕ). bit_xor z (after_bits n (w / 2 ^ 32))) (four _ _ _ _ _ _ _ _ at_3 at_2 at_1 at_0)
+    ∙ (sym (split (8 + (8 + (8 + n))) w (w / 2 ^ 8) refl
+    ∙ (peel _ (8 + (8 + n)) (w / 2 ^ 8) (w / 2 ^ 16) (sym (div-div-eq-div-mul w (2 ^ 8) 256))
+    ∙ (peel _ (8 + n) (w / 2 ^ 16) (w / 2 ^ 24) (sym (div-div-eq-div-mul w (2 ^ 16) 256))
+    ∙ peel _ n (w / 2 ^ 24) (w / 2 ^ 32) (sym (div-div-eq-div-mul w (2 ^ 24) 256)))))
+    ∙ ap (λ (k : ℕ). after_bits k w) all)
 
-last_four_is : (w : ℕ) → w < 2 ^ 64 → last_four w ≡ after_bits 32 (w / 2 ^ 32)
-last_four_is w lt =
-    let top : w / 2 ^ 56 < 256 = omega arith in
-    four _ _ _ _ _ _ _ _ (low_byte AFTER_4 32 (w / 2 ^ 32) table_4) (low_byte AFTER_3 24 (w / 2 ^ 40) table_3) (low_byte AFTER_2 16 (w / 2 ^ 48) table_2) (table_1.at (w / 2 ^ 56) top)
-    ∙ sym (split 24 (w / 2 ^ 32) (w / 2 ^ 40) (sym (div-div-eq-div-mul w (2 ^ 32) 256))
-    ∙ (peel _ 16 (w / 2 ^ 40) (w / 2 ^ 48) (sym (div-div-eq-div-mul w (2 ^ 40) 256))
-    ∙ peel _ 8 (w / 2 ^ 48) (w / 2 ^ 56) (sym (div-div-eq-div-mul w (2 ^ 48) 256))))
+-- zeros leave nothing
+zeros : (n : ℕ) → after_bits n 0 ≡ 0
+unfolding after_bits
+zeros zero = refl
+zeros (suc n) = zeros n
+
+-- the two halves of a word
+pub word_is : (later w low high : ℕ) → w < 2 ^ 64
+    → bit_xor low (after_bits (8 * (later + 4)) (w / 2 ^ 32)) ≡ after_bits (8 * (later + 4 + 4)) w
+    → bit_xor high (after_bits (8 * later) (w / 2 ^ 32 / 2 ^ 32)) ≡ after_bits (8 * (later + 4)) (w / 2 ^ 32)
+    → bit_xor low high ≡ after_bits (8 * (later + 8)) w
+word_is later w low high lt is_low is_high =
+    let above : w / 2 ^ 32 / 2 ^ 32 ≡ 0 = omega arith in
+    let none : after_bits (8 * later) (w / 2 ^ 32 / 2 ^ 32) ≡ 0 = ap (after_bits (8 * later)) above ∙ zeros (8 * later) in
+    let high_is : high ≡ after_bits (8 * (later + 4)) (w / 2 ^ 32) = sym (xor_zero_r high) ∙ (ap (bit_xor high) (sym none) ∙ is_high) in
+    let bytes : later + 4 + 4 ≡ later + 8 = omega arith in
+    ap (bit_xor low) high_is ∙ (is_low ∙ ap (λ (k : ℕ). after_bits (8 * k) w) bytes)
 
 -- eight bytes as one number
 word_of : (bytes : List ℕ) → length bytes ≡ 8 → from_le_bytes w64 bytes ≡ number_of bytes
@@ -230,22 +216,22 @@ word_of (a ∷ b ∷ c ∷ d ∷ e ∷ f ∷ g ∷ []) len = absurd (omega arith
 word_of (a ∷ b ∷ c ∷ d ∷ e ∷ f ∷ g ∷ h ∷ []) len = omega arith
 word_of (a ∷ b ∷ c ∷ d ∷ e ∷ f ∷ g ∷ h ∷ i ∷ rest) len = absurd (omega arith)
 
-word_below : (bytes : List ℕ) → IsBytes bytes → from_le_bytes w64 bytes < 2 ^ 64
-word_below bytes fits = omega (arith, fits 0, fits 1, fits 2, fits 3, fits 4, fits 5, fits 6, fits 7)
+pub eight_bytes : (bytes : List ℕ) (register number : ℕ) → length bytes ≡ 8 → IsBytes bytes → number ≡ from_le_bytes w64 bytes
+    → after_bits 64 (bit_xor number register) ≡ remainder register bytes
+eight_bytes bytes register number len fits is =
+    let bits : 64 ≡ 8 * length bytes = omega arith in
+    let added : bit_xor number register ≡ bit_xor register (number_of bytes) = xor_comm number register ∙ ap (bit_xor register) (is ∙ word_of bytes len) in
+    ap (after_bits 64) added ∙ (ap (λ (k : ℕ). after_bits k (bit_xor register (number_of bytes))) bits ∙ sym (at_once bytes register fits))
 
-pub added_below : (number register : ℕ) (bytes : List ℕ) → IsBytes bytes → number ≡ from_le_bytes w64 bytes → register < 2 ^ 32 → bit_xor number register < 2 ^ 64
-added_below number register bytes fits is lt = xor_lt 64 number register (rw is (word_below bytes fits)) (omega arith)
-
-pub eight_bytes : (bytes : List ℕ) (register number : ℕ) → length bytes ≡ 8 → IsBytes bytes → number ≡ from_le_bytes w64 bytes → register < 2 ^ 32
-    → bit_xor (first_four (bit_xor number register)) (last_four (bit_xor number register)) ≡ remainder register bytes
-eight_bytes bytes register number len fits is lt =
-    let w = bit_xor number register in
-    let bits : 8 * length bytes ≡ 64 = omega arith in
-    let added : w ≡ bit_xor register (number_of bytes) = xor_comm number register ∙ ap (bit_xor register) (is ∙ word_of bytes len) in
-    ap (bit_xor (first_four w)) (last_four_is w (added_below number register bytes fits is lt))
-    ∙ (first_four_is w
-    ∙ (ap (after_bits 64) added
-    ∙ (ap (λ (k : ℕ). after_bits k (bit_xor register (number_of bytes))) (sym bits) ∙ sym (at_once bytes register fits))))
+pub sixteen_bytes : (front back : List ℕ) (register first second : ℕ) → length front ≡ 8 → length back ≡ 8 → IsBytes front → IsBytes back
+    → first ≡ from_le_bytes w64 front → second ≡ from_le_bytes w64 back
+    → bit_xor (after_bits 64 second) (after_bits 128 (bit_xor first register)) ≡ remainder (remainder register front) back
+sixteen_bytes front back register first second front_len back_len front_fits back_fits is_first is_second =
+    let middle = remainder register front in
+    let at_front : after_bits 64 (bit_xor first register) ≡ middle = eight_bytes front register first front_len front_fits is_first in
+    let on : after_bits 128 (bit_xor first register) ≡ after_bits 64 middle = after_bits-add 64 64 (bit_xor first register) ∙ ap (after_bits 64) at_front in
+    ap (bit_xor (after_bits 64 second)) on
+    ∙ (sym (linear_bits 64 second middle) ∙ eight_bytes back middle second back_len back_fits is_second)
 
 -- ---- bytes from the front, and the others
 

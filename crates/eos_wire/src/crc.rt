@@ -1,13 +1,13 @@
 //! CRC-32C, the checksum of a record batch (Kafka's Message Format; RFC 3720, appendix B.4).
 //!
 //! The checksum is the remainder of a division of polynomials, whose sum is exclusive or. The remainder of a sum is the
-//! sum of the remainders. So a table of 256 words that says what each byte leaves takes a byte at a time, and eight such
-//! tables, one for each number of bytes that are left from a byte on, take eight.
+//! sum of the remainders. So a table of 256 words that says what each byte leaves takes a byte at a time, and sixteen such
+//! tables, one for each number of bytes that are left from a byte on, take sixteen.
 
-ghost use Rattle.std.specs.Prelude.{◌≡◌, length};
-ghost use Rattle.eos_wire.specs.Crc.{after_byte, remainder, crc32c_of};
+ghost use Rattle.std.specs.Prelude.{◌≡◌, ◌≤◌, ◌+◌, ◌*◌, ◌/◌, ◌^◌, length, bit_xor};
+ghost use Rattle.eos_wire.specs.Crc.{after_bits, after_byte, remainder, crc32c_of};
 
-use crate::tables::{AFTER_1, AFTER_2, AFTER_3, AFTER_4, AFTER_5, AFTER_6, AFTER_7, AFTER_8};
+use crate::tables::AFTER;
 
 /// The register before the first byte, and what is added to it after the last one.
 const ONES: u32 = 0xffff_ffff;
@@ -17,7 +17,7 @@ fn after_one(register: u32, byte: u8) -> u32
     ensures { result ≡ after_byte register byte }
 {
     let at = ((register ^ u32::from(byte)) & 0xff) as usize;
-    AFTER_1[at] ^ (register >> 8)
+    AFTER[0][at] ^ (register >> 8)
 }
 
 /// The register after the bytes, a byte at a time.
@@ -31,20 +31,43 @@ fn after_each(mut register: u32, bytes: &[u8]) -> u32
     register
 }
 
-/// The register after eight bytes. The last four are added by themselves, since they need not wait for the register.
+/// What the four lowest bytes of a word leave after themselves and `later` zeros. The word's other bytes add what they leave
+/// after the zeros alone.
+#[inline(always)]
+fn after_four(word: u64, later: usize) -> u32
+    requires { later ≤ 12 }
+    ensures { bit_xor result (after_bits (8 * later) (word / 2 ^ 32)) ≡ after_bits (8 * (later + 4)) word }
+{
+    AFTER[later + 3][(word & 0xff) as usize]
+        ^ AFTER[later + 2][(word >> 8 & 0xff) as usize]
+        ^ AFTER[later + 1][(word >> 16 & 0xff) as usize]
+        ^ AFTER[later][(word >> 24 & 0xff) as usize]
+}
+
+/// What a word's eight bytes leave after themselves and `later` zeros.
+#[inline(always)]
+fn after_word(word: u64, later: usize) -> u32
+    requires { later ≤ 8 }
+    ensures { result ≡ after_bits (8 * (later + 8)) word }
+{
+    after_four(word, later + 4) ^ after_four(word >> 32, later)
+}
+
+/// The register after eight bytes.
 fn after_eight(register: u32, bytes: &[u8; 8]) -> u32
     ensures { result ≡ remainder register bytes.now }
 {
-    let word = u64::from_le_bytes(*bytes) ^ u64::from(register);
-    let last = AFTER_4[(word >> 32 & 0xff) as usize]
-        ^ AFTER_3[(word >> 40 & 0xff) as usize]
-        ^ AFTER_2[(word >> 48 & 0xff) as usize]
-        ^ AFTER_1[(word >> 56) as usize];
-    let first = AFTER_8[(word & 0xff) as usize]
-        ^ AFTER_7[(word >> 8 & 0xff) as usize]
-        ^ AFTER_6[(word >> 16 & 0xff) as usize]
-        ^ AFTER_5[(word >> 24 & 0xff) as usize];
-    first ^ last
+    after_word(u64::from_le_bytes(*bytes) ^ u64::from(register), 0)
+}
+
+/// The register after eight bytes and eight more. The latter are taken by themselves, since they need not wait for the
+/// register.
+#[inline(always)]
+fn after_sixteen(register: u32, front: &[u8; 8], back: &[u8; 8]) -> u32
+    ensures { result ≡ remainder (remainder register front.now) back.now }
+{
+    let back = after_word(u64::from_le_bytes(*back), 0);
+    back ^ after_word(u64::from_le_bytes(*front) ^ u64::from(register), 8)
 }
 
 /// The CRC-32C of the bytes.
@@ -53,9 +76,17 @@ pub fn crc32c(bytes: &[u8]) -> u32
 {
     let mut register = ONES;
     let mut rest = bytes;
-    while let Some((chunk, tail)) = rest.split_first_chunk::<8>() {
-        register = after_eight(register, chunk);
-        rest = tail;
+    while let Some((front, tail)) = rest.split_first_chunk::<8>() {
+        match tail.split_first_chunk::<8>() {
+            Some((back, after)) => {
+                register = after_sixteen(register, front, back);
+                rest = after;
+            }
+            None => {
+                register = after_eight(register, front);
+                rest = tail;
+            }
+        }
     }
     after_each(register, rest) ^ ONES
 }

@@ -7,7 +7,7 @@ ghost use Rattle.eos_wire.specs.Numbers.{bytes_at, i8_at, i16_at, i32_at, i64_at
 ghost use Rattle.eos_wire.specs.Fields.{Reads, with_rest};
 
 use crate::fields::Fields;
-use crate::varint::{read_uvarint, read_varint, read_varlong};
+use crate::varint::{read_uvarint, read_varint, read_varlong, small};
 use bytes::Bytes;
 use std::alloc::AllocError;
 use std::marker::Model;
@@ -164,7 +164,12 @@ impl<'a> Cursor<'a> {
     pub fn varint(&mut self) -> Option<i32>
         ensures { Reads result self.new (with_rest self.old (varint_at self.old)) }
     {
-        let (number, len) = read_varint(self.rest())?;
+        let rest = self.rest();
+        if let Some(number) = small(rest) {
+            self.advance(1);
+            return Some(i32::from(number));
+        }
+        let (number, len) = read_varint(rest)?;
         self.advance(len);
         Some(number)
     }
@@ -174,7 +179,12 @@ impl<'a> Cursor<'a> {
     pub fn varlong(&mut self) -> Option<i64>
         ensures { Reads result self.new (with_rest self.old (varlong_at self.old)) }
     {
-        let (number, len) = read_varlong(self.rest())?;
+        let rest = self.rest();
+        if let Some(number) = small(rest) {
+            self.advance(1);
+            return Some(i64::from(number));
+        }
+        let (number, len) = read_varlong(rest)?;
         self.advance(len);
         Some(number)
     }

@@ -5,6 +5,7 @@
 mod crc;
 mod cursor;
 mod fields;
+mod later_tables;
 mod numbers;
 mod tables;
 mod varint;

@@ -1,8 +1,18 @@
-//! What each byte leaves in a register of 0 after one to eight bytes: itself, and zeros that follow it. The check computes
+//! What each byte leaves in a register of 0 after one to sixteen bytes: itself, and zeros that follow it. The check computes
 //! each table anew from the rule of a single bit.
 
+use crate::later_tables::{
+    AFTER_9, AFTER_10, AFTER_11, AFTER_12, AFTER_13, AFTER_14, AFTER_15, AFTER_16,
+};
+
+/// All tables, the one after a single byte first.
+pub const AFTER: [[u32; 256]; 16] = [
+    AFTER_1, AFTER_2, AFTER_3, AFTER_4, AFTER_5, AFTER_6, AFTER_7, AFTER_8, AFTER_9, AFTER_10,
+    AFTER_11, AFTER_12, AFTER_13, AFTER_14, AFTER_15, AFTER_16,
+];
+
 /// After one byte.
-pub const AFTER_1: [u32; 256] = [
+const AFTER_1: [u32; 256] = [
     0x00000000, 0xf26b8303, 0xe13b70f7, 0x1350f3f4, 0xc79a971f, 0x35f1141c, 0x26a1e7e8, 0xd4ca64eb,
     0x8ad958cf, 0x78b2dbcc, 0x6be22838, 0x9989ab3b, 0x4d43cfd0, 0xbf284cd3, 0xac78bf27, 0x5e133c24,
     0x105ec76f, 0xe235446c, 0xf165b798, 0x030e349b, 0xd7c45070, 0x25afd373, 0x36ff2087, 0xc494a384,
@@ -38,7 +48,7 @@ pub const AFTER_1: [u32; 256] = [
 ];
 
 /// After two bytes.
-pub const AFTER_2: [u32; 256] = [
+const AFTER_2: [u32; 256] = [
     0x00000000, 0x13a29877, 0x274530ee, 0x34e7a899, 0x4e8a61dc, 0x5d28f9ab, 0x69cf5132, 0x7a6dc945,
     0x9d14c3b8, 0x8eb65bcf, 0xba51f356, 0xa9f36b21, 0xd39ea264, 0xc03c3a13, 0xf4db928a, 0xe7790afd,
     0x3fc5f181, 0x2c6769f6, 0x1880c16f, 0x0b225918, 0x714f905d, 0x62ed082a, 0x560aa0b3, 0x45a838c4,
@@ -74,7 +84,7 @@ pub const AFTER_2: [u32; 256] = [
 ];
 
 /// After three bytes.
-pub const AFTER_3: [u32; 256] = [
+const AFTER_3: [u32; 256] = [
     0x00000000, 0xa541927e, 0x4f6f520d, 0xea2ec073, 0x9edea41a, 0x3b9f3664, 0xd1b1f617, 0x74f06469,
     0x38513ec5, 0x9d10acbb, 0x773e6cc8, 0xd27ffeb6, 0xa68f9adf, 0x03ce08a1, 0xe9e0c8d2, 0x4ca15aac,
     0x70a27d8a, 0xd5e3eff4, 0x3fcd2f87, 0x9a8cbdf9, 0xee7cd990, 0x4b3d4bee, 0xa1138b9d, 0x045219e3,
@@ -110,7 +120,7 @@ pub const AFTER_3: [u32; 256] = [
 ];
 
 /// After four bytes.
-pub const AFTER_4: [u32; 256] = [
+const AFTER_4: [u32; 256] = [
     0x00000000, 0xdd45aab8, 0xbf672381, 0x62228939, 0x7b2231f3, 0xa6679b4b, 0xc4451272, 0x1900b8ca,
     0xf64463e6, 0x2b01c95e, 0x49234067, 0x9466eadf, 0x8d665215, 0x5023f8ad, 0x32017194, 0xef44db2c,
     0xe964b13d, 0x34211b85, 0x560392bc, 0x8b463804, 0x924680ce, 0x4f032a76, 0x2d21a34f, 0xf06409f7,
@@ -146,7 +156,7 @@ pub const AFTER_4: [u32; 256] = [
 ];
 
 /// After five bytes.
-pub const AFTER_5: [u32; 256] = [
+const AFTER_5: [u32; 256] = [
     0x00000000, 0x38116fac, 0x7022df58, 0x4833b0f4, 0xe045beb0, 0xd854d11c, 0x906761e8, 0xa8760e44,
     0xc5670b91, 0xfd76643d, 0xb545d4c9, 0x8d54bb65, 0x2522b521, 0x1d33da8d, 0x55006a79, 0x6d1105d5,
     0x8f2261d3, 0xb7330e7f, 0xff00be8b, 0xc711d127, 0x6f67df63, 0x5776b0cf, 0x1f45003b, 0x27546f97,
@@ -182,7 +192,7 @@ pub const AFTER_5: [u32; 256] = [
 ];
 
 /// After six bytes.
-pub const AFTER_6: [u32; 256] = [
+const AFTER_6: [u32; 256] = [
     0x00000000, 0xef306b19, 0xdb8ca0c3, 0x34bccbda, 0xb2f53777, 0x5dc55c6e, 0x697997b4, 0x8649fcad,
     0x6006181f, 0x8f367306, 0xbb8ab8dc, 0x54bad3c5, 0xd2f32f68, 0x3dc34471, 0x097f8fab, 0xe64fe4b2,
     0xc00c303e, 0x2f3c5b27, 0x1b8090fd, 0xf4b0fbe4, 0x72f90749, 0x9dc96c50, 0xa975a78a, 0x4645cc93,
@@ -218,7 +228,7 @@ pub const AFTER_6: [u32; 256] = [
 ];
 
 /// After seven bytes.
-pub const AFTER_7: [u32; 256] = [
+const AFTER_7: [u32; 256] = [
     0x00000000, 0x68032cc8, 0xd0065990, 0xb8057558, 0xa5e0c5d1, 0xcde3e919, 0x75e69c41, 0x1de5b089,
     0x4e2dfd53, 0x262ed19b, 0x9e2ba4c3, 0xf628880b, 0xebcd3882, 0x83ce144a, 0x3bcb6112, 0x53c84dda,
     0x9c5bfaa6, 0xf458d66e, 0x4c5da336, 0x245e8ffe, 0x39bb3f77, 0x51b813bf, 0xe9bd66e7, 0x81be4a2f,
@@ -254,7 +264,7 @@ pub const AFTER_7: [u32; 256] = [
 ];
 
 /// After eight bytes.
-pub const AFTER_8: [u32; 256] = [
+const AFTER_8: [u32; 256] = [
     0x00000000, 0x493c7d27, 0x9278fa4e, 0xdb448769, 0x211d826d, 0x6821ff4a, 0xb3657823, 0xfa590504,
     0x423b04da, 0x0b0779fd, 0xd043fe94, 0x997f83b3, 0x632686b7, 0x2a1afb90, 0xf15e7cf9, 0xb86201de,
     0x847609b4, 0xcd4a7493, 0x160ef3fa, 0x5f328edd, 0xa56b8bd9, 0xec57f6fe, 0x37137197, 0x7e2f0cb0,

@@ -9,7 +9,7 @@
 //! The least group comes first, and each byte but the last has its high bit set. Longer spellings than the shortest
 //! are read.
 
-ghost use Rattle.std.specs.Prelude.{◌≡◌, ◌≤◌, ◌<◌, ◌*◌, ◌^◌, length, IfSome};
+ghost use Rattle.std.specs.Prelude.{◌≡◌, ◌≤◌, ◌<◌, ◌*◌, ◌^◌, pos, length, Some, IfSome};
 ghost use Rattle.eos_wire.specs.Varint.{groups_at, unzigzag, IsVarint, IsVarlong, IsUvarint, ReadsFront, varint_at, varlong_at, uvarint_at};
 ghost use Rattle.eos_wire.specs.steps.Varint.{FitsWord};
 
@@ -70,6 +70,25 @@ fn unzigzag_64(n: u64) -> i64
 {
     let half = (n / 2) as i64;
     if n % 2 == 0 { half } else { -half - 1 }
+}
+
+/// The number at the front, where it takes one byte and isn't below 0. Most lengths do, and need no loop.
+#[inline(always)]
+#[tactic(auto, using(crate::proofs::SmallVarints::small_varint, crate::proofs::SmallVarints::small_varlong))]
+pub(crate) fn small(bytes: &[u8]) -> Option<u8>
+    ensures varint { IfSome result (λ n. varint_at bytes.now ≡ Some (pos n, 1)) }
+    ensures varlong { IfSome result (λ n. varlong_at bytes.now ≡ Some (pos n, 1)) }
+    ensures within { IfSome result (λ n. 1 ≤ length bytes.now) }
+{
+    if bytes.is_empty() {
+        return None;
+    }
+    let first = bytes[0];
+    if first < 128 && first % 2 == 0 {
+        Some(first / 2)
+    } else {
+        None
+    }
 }
 
 /// The unsigned varint at the front, and how many bytes it takes. `None` where no bytes at the front are one: the last

@@ -20,22 +20,22 @@ loop-place-init g c =
       walked = ([], with_none (records_at (c.args.span.count - 0) 0 part) ∙ ap (λ (n : ℕ). records_at n 0 part) z, sym (append-nil c.args.kept.now.items), refl);
     }
 
-pub returns-in_err-next-clause-err : goal.returns-in_err-next-clause-err
-returns-in_err-next-clause-err g c =
+pub returns-in_err-lent-clause-err : goal.returns-in_err-lent-clause-err
+returns-in_err-lent-clause-err g c =
     let p = err_from_is_err_and c.from_residual.result c.from_residual.ensures.1 in
     let w = c.loop-place.invariant.walked in
     let total = records_at c.args.span.count 0 (slice_range c.args.bytes.now c.args.span.begin c.args.span.end) in
-    rw (p.1, p.2) (fails_records c.args.bytes.now c.args.span.begin c.args.span.end c.args.span.count c.in_err-next.field-0.0
-    (record_ends c.in_err-next.field-0.0 w.0 c.args.span.count c.loop-place.place (slice_range c.args.bytes.now c.loop-place.from c.args.span.end) total c.loop-place-test.true c.in_err-next.ensures.fault w.1))
+    rw (p.1, p.2) (fails_records c.args.bytes.now c.args.span.begin c.args.span.end c.args.span.count c.in_err-lent.field-0.0
+    (record_ends c.in_err-lent.field-0.0 w.0 c.args.span.count c.loop-place.place (slice_range c.args.bytes.now c.loop-place.from c.args.span.end) total c.loop-place-test.true c.in_err-lent.ensures.fault w.1))
 
 pub loop-place-preserved : goal.loop-place-preserved
 loop-place-preserved g c =
     let w = c.loop-place.invariant.walked in
-    let f = c.in_ok-next.ensures.found in
+    let f = c.in_ok-lent.ensures.found in
     let keep = g.K.Reading.kept c.args.reading.now in
     let total = records_at c.args.span.count 0 (slice_range c.args.bytes.now c.args.span.begin c.args.span.end) in
-    let after = slice_range c.args.bytes.now c.in_ok-next.next c.args.span.end in
-    let same : f.found ≡ c.new-record.result = ok_is f.found c.new-record.result (sym f.reads ∙ c.new-record.ensures) in
+    let after = slice_range c.args.bytes.now c.in_ok-lent.next c.args.span.end in
+    let same : f.found ≡ c.new-record.result = ok_is f.found c.in_ok-lent.lent (sym f.reads ∙ c.in_ok-lent.ensures.lent) ∙ sym c.new-record.ensures in
     let one : c.in_ok-one.one ≡ keep (c.args.span.offset + length w.0) f.found =
     c.in_ok-one.ensures ∙ (ap (λ (n : ℕ). keep (c.args.span.offset + n) c.new-record.result) (search rules) ∙ ap (λ (r : Record). keep (c.args.span.offset + c.loop-place.place) r) (sym same) ∙ ap (λ (n : ℕ). keep (c.args.span.offset + n) f.found) (sym w.3)) in
     record {
