@@ -6,19 +6,14 @@ use Rattle.std.proofs.lemmas.List.Sums.{fold-append}
 use Rattle.std.proofs.lemmas.List.Elements.{filter-append}
 use Rattle.std.proofs.lemmas.List.{append-nil, append_assoc, map-append}
 use Rattle.std.proofs.lemmas.Grind.{flat_map-append}
-use Rattle.eos_base.specs.declared.partition_name.PartitionName.{PartitionName}
 use Rattle.eos_base.specs.Least.{lesser_of}
-use Rattle.eos_items.specs.declared.item.Item.{Item}
 use Rattle.eos_claims.specs.declared.place.Place.{Place}
 use Rattle.eos_claims.specs.Outputs.{PlacedClaim, Application}
 use Rattle.eos_claims.specs.Faults.{fault_cmp}
 use Rattle.eos_claims.specs.declared.alone.SourceTests.{SourceTests}
-use Rattle.eos_claims.specs.Headers.{claim_of}
 use Rattle.eos_claims.specs.Candidates.{Counted, counted, shown, shown_by, is_input, is_committed, is_out_of_range}
-use Rattle.eos_commits.specs.Visible.{is_visible}
-use Rattle.eos_lineage.specs.Lineage.{claims_with}
 use Rattle.eos_lineage.specs.declared.tables.Known.{Known}
-use Rattle.eos_lineage.specs.steps.Walks.{WalkView, HasWalked, is_below, claim_at, KnowsPlace, AreTests, kept_of}
+use Rattle.eos_lineage.specs.steps.Walks.{WalkView, HasWalked, is_below, KnowsPlace, AreTests, kept_of}
 
 pub walked_none : (a : Application) (w : WalkView) → HasWalked a w w []
 walked_none a w = record { best = refl; below = sym (append-nil w.below) }
@@ -32,27 +27,6 @@ walked_then a u v w cs ds h k = record {
       ∙ (append_assoc u.below (map counted (filter (is_below a) cs)) (map counted (filter (is_below a) ds))
       ∙ ap (λ (ns : List Counted). u.below ++ ns) (sym (map-append counted (filter (is_below a) cs) (filter (is_below a) ds)) ∙ ap (map counted) (sym (filter-append (is_below a) cs ds)))));
 }
-
--- ---- over the records of a partition
-
-pub record WalkedSoFar (a : Application) (before after : WalkView) (name : PartitionName) (left all : List Item) : Type 0 where
-  pub done : List PlacedClaim
-  pub parts : done ++ flat_map (claim_at name) left ≡ flat_map (claim_at name) all
-  pub walked : HasWalked a before after done
-
-pub at_first : (a : Application) (w : WalkView) (name : PartitionName) (all left : List Item) → left ≡ all → WalkedSoFar a w w name left all
-at_first a w name all left e = record { done = []; parts = ap (flat_map (claim_at name)) e; walked = walked_none a w }
-
-pub at_next : (a : Application) (u v w : WalkView) (name : PartitionName) (left rest all : List Item) (x : Item) → WalkedSoFar a u v name left all → left ≡ x ∷ rest
-    → HasWalked a v w (claim_at name x) → WalkedSoFar a u w name rest all
-at_next a u v w name left rest all x s e h = record {
-  done = s.done ++ claim_at name x;
-  parts = append_assoc s.done (claim_at name x) (flat_map (claim_at name) rest) ∙ (ap (λ (zs : List Item). s.done ++ flat_map (claim_at name) zs) (sym e) ∙ s.parts);
-  walked = walked_then a u v w s.done (claim_at name x) s.walked h;
-}
-
-pub at_last : (a : Application) (u v : WalkView) (name : PartitionName) (left all : List Item) → WalkedSoFar a u v name left all → left ≡ [] → HasWalked a u v (flat_map (claim_at name) all)
-at_last a u v name left all s e = subst (HasWalked a u v) (sym (append-nil s.done) ∙ (ap (λ (zs : List Item). s.done ++ flat_map (claim_at name) zs) (sym e) ∙ s.parts)) s.walked
 
 -- ---- one claim
 
@@ -96,9 +70,6 @@ pub took : (a : Application) (u v : WalkView) (c : PlacedClaim) (n : Counted) (k
 took a u v c n known t e = subst (λ (m : Counted). KnowsPlace a m.source known → AreTests a m.source c.writer t
     → v.best ≡ fold (lesser_of fault_cmp) u.best (shown t.is_source t.is_input t.is_committed (is_out_of_range m.of m.output) t.is_passed m)
     → v.below ≡ u.below ++ kept_of known m → HasWalked a u v (c ∷ [])) (sym e) (took_counted a u v c known t)
-
-pub no_claim : (a : Application) (w : WalkView) (n : PartitionName) (x : Item) → is_visible x.fate ≡ true → claim_of x.headers ≡ None → HasWalked a w w (claim_at n x)
-no_claim a w n x v e = subst (HasWalked a w w) (λ j. if (sym v) j then claims_with n x ((sym e) j) else []) (walked_none a w)
 
 pub on_ok : {A E : Type 0} (r : Result A E) (P Q : Type 0) → (P → Q) → OnOk r P → OnOk r Q
 on_ok (Ok x) P Q f p = f p

@@ -74,7 +74,7 @@ has_place f (x ∷ xs) (suc i) d lt = inr (has_place f xs i d (omega (arith, lt)
 
 -- ---- which inputs are named
 
-both_ways : (b c : Bool) → (b ≡ true → c ≡ true) → (c ≡ true → b ≡ true) → b ≡ c
+pub both_ways : (b c : Bool) → (b ≡ true → c ≡ true) → (c ≡ true → b ≡ true) → b ≡ c
 both_ways true c f g = sym (f refl)
 both_ways false true f g = g refl
 both_ways false false f g = refl

@@ -28,6 +28,7 @@ use Rattle.eos_claims.proofs.FaultOrder.{place_total}
 use Rattle.eos_commits.specs.Visible.{is_visible, visible}
 use Rattle.eos_commits.specs.Faults.{AreInOrder}
 use Rattle.eos_lineage.specs.Lineage.{Topic, is_part_of, parts_of, place_in, inputs_in, claims_with, claims_at, claims_in, placed, application_of}
+use Rattle.eos_lineage.specs.steps.Keys.{Climbs}
 use Rattle.eos_lineage.specs.steps.Tables.{AreAscending}
 use Rattle.eos_lineage.specs.steps.Walks.{input_at, inputs_at, claims_of_part, by_place}
 use Rattle.eos_lineage.proofs.NameSearch.{pairs_head, pairs_tail}
@@ -162,10 +163,6 @@ apart app ps are c d h k e =
 
 -- ---- inputs in their order
 
-abbrev pub Climbs : List Place → Type 0
-Climbs [] = Unit {0}
-Climbs (i ∷ is) = ((j : Place) → Has is j → place_cmp i j ≡ Less) × Climbs is
-
 climbs_append : (is js : List Place) → Climbs is → Climbs js → ((i j : Place) → Has is i → Has js j → place_cmp i j ≡ Less) → Climbs (is ++ js)
 climbs_append [] js u v less = v
 climbs_append (i ∷ is) js u v less = (
@@ -194,7 +191,7 @@ in_part n (x ∷ xs) up = climbs_append (input_at n x) (flat_map (input_at n) xs
         let lt = pairs_head (λ (x y : Item). x.offset < y.offset) x xs up r.0 r.1 in
         subst (λ z. place_cmp z j ≡ Less) (is_of x (is_visible x.fate) i h) (subst (λ z. place_cmp (place_in n x) z ≡ Less) (is_of r.0 (is_visible r.0.fate) j r.2) (below r.0 lt))
 
-partition_of : (set : List Topic) (p : PartLog) (i : Place) → Has (inputs_at set p) i → i.partition ≡ part_name p
+pub partition_of : (set : List Topic) (p : PartLog) (i : Place) → Has (inputs_at set p) i → i.partition ≡ part_name p
 partition_of set p i h = go (is_part_of set p) h
   where
     of_item : (x : Item) (b : Bool) → Has (if b then place_in (part_name p) x ∷ [] else []) i → i.partition ≡ part_name p

@@ -1,6 +1,6 @@
 //! The outputs of one application: the least fault, and what is counted.
 
-ghost use Rattle.std.specs.Prelude.{◌≡◌, ◌≤◌, true, map, flat_map, filter, length, fold, option_map, IfOk, IsSorted, IsPermutation};
+ghost use Rattle.std.specs.Prelude.{◌≡◌, ◌≤◌, true, map, flat_map, filter, length, fold, option_map, IfOk, IsSorted};
 ghost use Rattle.eos_base.specs.Members.{Has};
 ghost use Rattle.eos_base.specs.Least.{lesser_of};
 ghost use Rattle.eos_claims.specs.Outputs.{Application, ReadsSources};
@@ -8,10 +8,10 @@ ghost use Rattle.eos_claims.specs.Faults.{fault_cmp};
 ghost use Rattle.eos_claims.specs.Candidates.{AreApart, unclaimed, is_committed as is_committed_in};
 ghost use Rattle.eos_claims.specs.Plain.{plain_place, plain_source, plain_fault, plain_claim};
 ghost use Rattle.eos_lineage.specs.Lineage.{inputs_below};
-ghost use Rattle.eos_lineage.specs.steps.Walks.{one_if, AreTables, AreNamed, by_claim, by_source, is_named, output_claims, is_no_note, IsOutputsAnswer};
+ghost use Rattle.eos_lineage.specs.steps.Walks.{one_if, AreTables, AreNamed, by_source, is_named, output_claims, is_no_note, IsOutputsAnswer};
 
 use crate::claims::{Output, take_outputs};
-use crate::sorting::sort_by_threads;
+use crate::sorting::sorted;
 use crate::tables::{Marks, Tables, is_committed};
 use bytes::Bytes;
 use eos_base::PartitionName;
@@ -29,20 +29,6 @@ pub(crate) struct Tally {
     pub(crate) fault: Option<OutputFault>,
     pub(crate) inputs: u64,
     pub(crate) outputs: u64,
-}
-
-/// The claims in their order, sorted in place: claims that are tied are equal, so none that takes memory to keep the order of
-/// such is wanted.
-fn sorted<'a>(
-    rt: &(impl Threads + Sync),
-    workers: Workers,
-    mut claims: Vec<NumberedClaim<'a>>,
-) -> Vec<NumberedClaim<'a>>
-    ensures same { IsPermutation claims.entry.items result.items }
-    ensures in_order { IsSorted by_claim result.items }
-{
-    sort_by_threads(rt, workers.get() as usize, claims.as_mut_slice());
-    claims
 }
 
 /// The number of claims that are no notes.
@@ -214,7 +200,7 @@ pub(crate) fn make_tally<'a, R: Threads + Sync>(
     ensures { (a : Application) → AreTables a tables.now → ReadsSources a → AreApart a → a.claims ≡ flat_map output_claims outputs.now
         → IfOk result (λ t. IsOutputsAnswer a t.fault t.inputs t.outputs) }
 {
-    let walk = take_outputs(alloc, rt, workers, tables, outputs)?;
+    let walk = take_outputs(alloc, tables, outputs)?;
     let outputs = count_outputs(walk.below.as_slice());
     let below = sorted(rt, workers, walk.below);
     let best = least_of_runs(walk.best, below.as_slice());

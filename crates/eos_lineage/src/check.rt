@@ -11,8 +11,10 @@ ghost use Rattle.eos_lineage.specs.Lineage.{application_of};
 ghost use Rattle.eos_lineage.specs.steps.Walks.{IsOutputsAnswer, IsPipelineOf};
 
 use crate::application::{Tally, make_tally};
+use crate::books::Books;
 use crate::claims::outputs_of;
 use crate::counts::LineageCounts;
+use crate::exact::exact_tally;
 use crate::fault::LineageFault;
 use crate::inputs::inputs_of;
 use crate::logs::Logs;
@@ -41,10 +43,21 @@ fn check_application(
     let names = logs.names();
     let sources = &pipeline.sources;
     let commits = pipeline.commits.as_slice();
-    let inputs = inputs_of(alloc, sources, names.as_slice(), logs.parts())?;
+    let parts = logs.parts();
     let offsets = offsets_of(alloc, names, commits)?;
     let passes = PassTable::of(alloc, commits)?;
-    let outputs = outputs_of(alloc, &pipeline.outputs, names.as_slice(), logs.parts())?;
+    let outputs = outputs_of(alloc, &pipeline.outputs, names.as_slice(), parts)?;
+    let books = Books {
+        names,
+        sources,
+        offsets: offsets.as_slice(),
+        passes: &passes,
+        parts,
+    };
+    if let Some(tally) = exact_tally(alloc, rt, workers, &books, outputs.as_slice()) {
+        return Ok(tally);
+    }
+    let inputs = inputs_of(alloc, sources, names.as_slice(), parts)?;
     let tables = Tables {
         names,
         sources,

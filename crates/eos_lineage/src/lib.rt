@@ -3,11 +3,14 @@
 #![tactic(auto)]
 
 mod application;
+mod books;
 mod check;
 mod claims;
 mod counts;
+mod exact;
 mod fault;
 mod inputs;
+mod keys;
 pub mod laws;
 mod logs;
 mod name;

@@ -1,6 +1,6 @@
 //! The names of the partitions, among which a lent name is looked up.
 
-ghost use Rattle.std.specs.Prelude.{◌≡◌, Some, map, slice_get, IfOk, IfSome, IfNone};
+ghost use Rattle.std.specs.Prelude.{◌≡◌, true, Some, map, slice_get, IfOk, IfSome, IfNone};
 ghost use Rattle.eos_base.specs.Members.{Has};
 ghost use Rattle.eos_fold.specs.Parts.{part_name};
 ghost use Rattle.eos_lineage.specs.steps.Tables.{plain_name, AreAscending};
@@ -101,5 +101,28 @@ impl<'a> Names<'a> {
             }),
             Err(_) => None,
         }
+    }
+
+    /// Whether the one at this place has this name.
+    fn is_at(&self, place: usize, topic: &[u8], partition: i32) -> bool
+        ensures { result ≡ true → slice_get self.now place ≡ Some (record { topic = topic.now; partition = partition }) }
+    {
+        match self.refs.get(place) {
+            None => false,
+            Some(name) => name.cmp(&NameRef { topic, partition }).is_eq(),
+        }
+    }
+
+    /// The place of this name, looked for first where the last one stood. The mark is where the last such look-up ended; it
+    /// may be any.
+    pub(crate) fn place_near(&self, mark: &mut usize, topic: &[u8], partition: i32) -> Option<usize>
+        ensures { IfSome result (λ place. slice_get self.now place ≡ Some (record { topic = topic.now; partition = partition })) }
+    {
+        if self.is_at(*mark, topic, partition) {
+            return Some(*mark);
+        }
+        let part = self.find(topic, partition)?;
+        *mark = part.place;
+        Some(part.place)
     }
 }

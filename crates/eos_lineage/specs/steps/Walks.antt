@@ -1,8 +1,7 @@
 -- The walks over visible records and over claims.
-use Rattle.std.specs.Prelude.{◌≡◌, ◌<◌, ℕ, zero, suc, slice_index_or, IfOk, Result, ℤ, pos, int_lt, Bool, true, false, ◌&&◌, ◌==◌, not, List, [], ◌∷◌, ◌++◌, length, map, filter, flat_map, fold, Option, Some, None, option_map, if◌then◌else◌, IsPermutation, IsSorted}
+use Rattle.std.specs.Prelude.{◌≡◌, ℕ, ℤ, pos, int_lt, Bool, true, false, ◌&&◌, ◌==◌, not, List, [], ◌∷◌, ◌++◌, length, map, filter, flat_map, fold, Option, Some, None, option_map, if◌then◌else◌, IsPermutation, IsSorted}
 use Rattle.std.specs.List.{list_any}
 use Rattle.std.specs.Ordering.{is_eq, nat_cmp, then_cmp, on}
-use Rattle.std.specs.declared.alloc.AllocError.{AllocError}
 use Rattle.std.specs.declared.cmp.Ordering.{Ordering}
 use Rattle.eos_base.specs.declared.partition_name.PartitionName.{PartitionName}
 use Rattle.eos_base.specs.Members.{Has}
@@ -123,24 +122,6 @@ kept_of (Some k) n = if k.is_input && k.is_committed then record { source = plai
 pub record HasWalked (a : Application) (before after : WalkView) (cs : List PlacedClaim) : Type 0 where
   pub best : after.best ≡ fold (lesser_of fault_cmp) before.best (flat_map (shown_by a) cs)
   pub below : after.below ≡ before.below ++ map counted (filter (is_below a) cs)
-
--- ---- walks one after the other
-
-abbrev pub lesser_found : Option OutputFault → Option OutputFault → Option OutputFault
-lesser_found best None = best
-lesser_found best (Some f) = lesser_of fault_cmp best f
-
-abbrev pub joined_walk : WalkView → WalkView → WalkView
-joined_walk v w = record { best = lesser_found v.best w.best; below = v.below ++ w.below }
-
--- each of them took its claims, unless memory ran out
-abbrev pub EachWalked : Application → (ℕ → List PlacedClaim) → List (Result Walk AllocError) → Type 0
-EachWalked a claims walks = (i : ℕ) (d : Result Walk AllocError) → i < length walks → IfOk (slice_index_or walks i d) (λ w. HasWalked a begun (plain_walk w) (claims i))
-
--- the claims of the first so many
-abbrev pub in_turn : (ℕ → List PlacedClaim) → ℕ → List PlacedClaim
-in_turn claims zero = []
-in_turn claims (suc n) = in_turn claims n ++ claims n
 
 -- ---- the walk over inputs
 
