@@ -1,0 +1,20 @@
+//! A fold file.
+#![tactic(auto)]
+
+mod claim;
+mod entry;
+mod fault;
+mod file;
+mod head;
+pub mod laws;
+mod number;
+mod read;
+mod stop;
+mod write;
+
+pub use claim::FoldText;
+pub use fault::FoldFault;
+pub use file::{FoldFile, FoldKept};
+pub use head::{BatchKind, FoldHead};
+pub use read::decode_fold;
+pub use write::encode_fold;
