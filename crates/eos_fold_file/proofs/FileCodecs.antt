@@ -1,6 +1,7 @@
 -- A fold file is read exactly as it is written.
-use Rattle.std.proofs.Common.{◌≡◌, ℕ, zero, suc, ◌-◌, ◌+◌, ◌<◌, ◌^◌, Bool, true, false, eqb, ltb, not, ℤ, pos, negsuc, List, [], ◌∷◌, ◌++◌, length, take, drop, Option, Some, None, Result, Ok, Err, refl, sym, ap, ◌∙◌, subst, append_assoc, rules, arith, FitsSigned, flat_map}
+use Rattle.std.proofs.Common.{◌≡◌, ℕ, zero, suc, ◌-◌, ◌+◌, ◌<◌, ◌^◌, Bool, true, false, eqb, ℤ, pos, negsuc, List, [], ◌∷◌, ◌++◌, length, Result, Ok, Err, refl, sym, ap, ◌∙◌, subst, append_assoc, arith, FitsSigned, flat_map}
 use Rattle.std.specs.Prelude.{⊤, IsTrue, IfOk, nat_eq, bit_xor, cond, ◌/◌, ◌%◌}
+use Rattle.std.specs.List.{list_all}
 use Rattle.std.specs.Cmp.Lexicographic.{pointwise, bytes_decides}
 use Rattle.std.specs.Ordering.{int_eq}
 use Rattle.std.specs.Int.{w8, w32, w64}
@@ -9,7 +10,6 @@ use Rattle.std.proofs.lemmas.Bool.Decides.{Decides-int_eq}
 use Rattle.std.proofs.lemmas.List.{append-nil, nil_from_length, take_at, length-append}
 use Rattle.std.proofs.lemmas.Nat.{xor_of_32}
 use Rattle.eos_base.specs.Fallible.{must}
-use Rattle.eos_fold.specs.declared.stop.Stop.{Stop}
 use Rattle.eos_wanted.specs.declared.wanted.Wanted.{Wanted}
 use Rattle.eos_wanted.specs.declared.wanted.Wanted.TheVariants as wants
 use Rattle.eos_wire.specs.Crc.{after_bit, after_bits, after_byte, remainder, crc32c_of}
@@ -25,13 +25,13 @@ use Rattle.eos_fold_file.specs.declared.file.FoldKept.TheVariants.{Presence, Cla
 use Rattle.eos_fold_file.specs.declared.head.FoldHead.{FoldHead}
 use Rattle.eos_fold_file.specs.declared.read.Front.{Front}
 use Rattle.eos_fold_file.specs.Numbers.{present, u64_text, bytes_text, kind_from, number_from, i32_from, u64_from, bytes_from, many_from}
-use Rattle.eos_fold_file.specs.Records.{output_text, output_from, kept_text_text, kept_text_from}
+use Rattle.eos_fold_file.specs.Records.{is_placed, output_text, output_from, key_value_text, key_value_from}
 use Rattle.eos_fold_file.specs.Heads.{head_text, head_from}
 use Rattle.eos_fold_file.specs.Stops.{stop_text, stop_from}
-use Rattle.eos_fold_file.specs.Files.{data_count, fits_offsets, wanted_in, wanted_number, magic, segment_text, front_text, heads_text, kept_text, body_text, sealed, fold_text}
-use Rattle.eos_fold_file.specs.Reading.{magic_from, version_from, wanted_of, wanted_from, front_from, heads_from, claims_from, texts_from, kept_from, file_with, body_from, before, read_fold}
-use Rattle.eos_fold_file.specs.Legal.{Each, IsU64, IsText, IsLegalOutput, IsLegalText, IsLegalHead, IsLegalStop, IsLegalKept, IsLegal}
-use Rattle.eos_fold_file.proofs.Takes.{bind_ok, ok_is, present_ok, must_ok, glue, Taken, IsCodec, cut_sound, cut_whole, many_sound, many_whole}
+use Rattle.eos_fold_file.specs.Files.{data_count, fits_offsets, wanted_in, wanted_number, magic, front_text, heads_text, kept_text, body_text, fold_text}
+use Rattle.eos_fold_file.specs.Reading.{magic_from, version_from, wanted_of, wanted_from, front_from, heads_from, placed_claims, claims_from, texts_from, kept_from, file_with, body_from, before, read_fold}
+use Rattle.eos_fold_file.specs.Legal.{Each, IsU64, IsText, IsLegalOutput, IsLegalText, IsLegalHead, IsLegalKept, IsLegal}
+use Rattle.eos_fold_file.proofs.Takes.{as_read, bind_ok, ok_is, present_ok, must_ok, glue, Taken, IsCodec, cut_sound, cut_whole, many_sound, many_whole}
 use Rattle.eos_fold_file.proofs.NumberCodecs.{kind_codec, number_codec, i32_codec, u64_codec, bytes_codec}
 use Rattle.eos_fold_file.proofs.RecordCodecs.{output_codec, text_codec}
 use Rattle.eos_fold_file.proofs.HeadCodecs.{head_codec, stop_codec}
@@ -90,6 +90,7 @@ wanted_codec = record {
     told bytes (pos (suc (suc zero)), rest) x t e = subst (Taken wanted_text IsWanted bytes) (ok_is (wants.Texts, rest) x e) (record { parts = t.parts; legal = tt; rest_fits = t.rest_fits })
     told bytes (pos (suc (suc (suc n))), rest) x t e = absurd cc
     told bytes (negsuc n, rest) x t e = absurd cc
+
     held : (w : Wanted) (rest : List ℕ) → IsWanted w → wanted_from (wanted_text w ++ rest) ≡ Ok (w, rest)
     held wants.Presence rest h = rw (kind_codec.whole (pos 0) rest (record { sfits = omega arith })) refl
     held wants.Claims rest h = rw (kind_codec.whole (pos 1) rest (record { sfits = omega arith })) refl
@@ -135,7 +136,7 @@ front_codec = record {
       let one : m.0.1 ≡ i8_text (pos 1) ++ v.0.1 = version.parts ∙ ap (λ (z : ℤ). i8_text z ++ v.0.1) version.legal in
       let q5 = glue m.0.1 (i8_text (pos 1)) v.0.1 (wanted_text w.0.0 ++ behind_text front) s.0.1 one q4 in
       let named : bytes ≡ magic ++ m.0.1 = begin.parts ∙ ap (λ (ts : List ℕ). ts ++ m.0.1) begin.legal in
-      subst (Taken begin_text IsLegalFront bytes) (ok_is made x s.2) (record {
+      as_read begin_text IsLegalFront bytes made x s.2 (record {
         parts = glue bytes magic m.0.1 (i8_text (pos 1) ++ (wanted_text w.0.0 ++ behind_text front)) s.0.1 named q5;
         legal = record { topic = topic.legal; partition = partition.legal; base = base.legal; bytes = size.legal };
         rest_fits = size.rest_fits;
@@ -146,14 +147,14 @@ front_codec = record {
       let b3 = bytes_text f.topic ++ b2 in
       let b4 = wanted_text f.wanted ++ b3 in
       let r3 : behind_text f ++ rest ≡ b3 =
-          append_assoc (bytes_text f.topic) (varlong_of f.partition ++ (varlong_of f.base ++ u64_text f.bytes)) rest
-          ∙ ap (λ (ts : List ℕ). bytes_text f.topic ++ ts) (append_assoc (varlong_of f.partition) (varlong_of f.base ++ u64_text f.bytes) rest
-          ∙ ap (λ (ts : List ℕ). varlong_of f.partition ++ ts) (append_assoc (varlong_of f.base) (u64_text f.bytes) rest)) in
+      append_assoc (bytes_text f.topic) (varlong_of f.partition ++ (varlong_of f.base ++ u64_text f.bytes)) rest
+      ∙ ap (λ (ts : List ℕ). bytes_text f.topic ++ ts) (append_assoc (varlong_of f.partition) (varlong_of f.base ++ u64_text f.bytes) rest
+      ∙ ap (λ (ts : List ℕ). varlong_of f.partition ++ ts) (append_assoc (varlong_of f.base) (u64_text f.bytes) rest)) in
       let e : begin_text f ++ rest ≡ magic ++ (i8_text (pos 1) ++ b4) =
-          append_assoc magic (i8_text (pos 1) ++ (wanted_text f.wanted ++ behind_text f)) rest
-          ∙ ap (λ (ts : List ℕ). magic ++ ts) (append_assoc (i8_text (pos 1)) (wanted_text f.wanted ++ behind_text f) rest
-          ∙ ap (λ (ts : List ℕ). i8_text (pos 1) ++ ts) (append_assoc (wanted_text f.wanted) (behind_text f) rest
-          ∙ ap (λ (ts : List ℕ). wanted_text f.wanted ++ ts) r3)) in
+      append_assoc magic (i8_text (pos 1) ++ (wanted_text f.wanted ++ behind_text f)) rest
+      ∙ ap (λ (ts : List ℕ). magic ++ ts) (append_assoc (i8_text (pos 1)) (wanted_text f.wanted ++ behind_text f) rest
+      ∙ ap (λ (ts : List ℕ). i8_text (pos 1) ++ ts) (append_assoc (wanted_text f.wanted) (behind_text f) rest
+      ∙ ap (λ (ts : List ℕ). wanted_text f.wanted ++ ts) r3)) in
       rw (
         e,
         magic_codec.whole magic (i8_text (pos 1) ++ b4) refl,
@@ -209,7 +210,7 @@ kept_sound : (w : Wanted) (n : ℕ) (bytes : List ℕ) (x : FoldKept × List ℕ
 unfolding claims_from texts_from
 kept_sound wants.Presence n bytes x fits e =
     let made : FoldKept × List ℕ = (Presence, bytes) in
-    subst (Taken kept_text (IsKeptOf wants.Presence n) bytes) (ok_is made x e) (record { parts = refl; legal = (refl, tt); rest_fits = fits })
+    as_read kept_text (IsKeptOf wants.Presence n) bytes made x e (record { parts = refl; legal = (refl, tt); rest_fits = fits })
 kept_sound wants.Claims n bytes x fits e =
     let c = bind_ok (u64_from bytes) _ x e in
     let t = bind_ok (many_from bytes_from c.0.0 c.0.1) _ x c.2 in
@@ -219,17 +220,19 @@ kept_sound wants.Claims n bytes x fits e =
     let outputs = many_sound output_text IsLegalOutput output_from output_codec n t.0.1 o.0 topics.rest_fits o.1 in
     let number : bytes ≡ u64_text (length t.0.0) ++ c.0.1 = count.parts ∙ ap (λ (k : ℕ). u64_text k ++ c.0.1) (sym topics.counted) in
     let behind = glue c.0.1 (flat_map bytes_text t.0.0) t.0.1 (flat_map output_text o.0.0) o.0.1 topics.parts outputs.parts in
-    let made : FoldKept × List ℕ = (Claims t.0.0 o.0.0, o.0.1) in
-    subst (Taken kept_text (IsKeptOf wants.Claims n) bytes) (ok_is made x o.2) (record {
+    let p = bind_ok (placed_claims t.0.0 o.0.0) _ x o.2 in
+    let m = must_ok (list_all (is_placed (length t.0.0)) o.0.0) faults.Record (Claims t.0.0 o.0.0) p.0 p.1 in
+    let same : (p.0, o.0.1) ≡ x = ok_is (p.0, o.0.1) x p.2 in
+    subst (Taken kept_text (IsKeptOf wants.Claims n) bytes) (ap (λ (k : FoldKept). (k, o.0.1)) m.1 ∙ same) (record {
       parts = glue bytes (u64_text (length t.0.0)) c.0.1 (flat_map bytes_text t.0.0 ++ flat_map output_text o.0.0) o.0.1 number behind;
-      legal = (refl, (subst IsU64 (sym topics.counted) count.legal, topics.legal, outputs.counted, outputs.legal));
+      legal = (refl, (subst IsU64 (sym topics.counted) count.legal, topics.legal, outputs.counted, outputs.legal, m.0));
       rest_fits = outputs.rest_fits;
     })
 kept_sound wants.Texts n bytes x fits e =
-    let t = bind_ok (many_from kept_text_from n bytes) _ x e in
-    let texts = many_sound kept_text_text IsLegalText kept_text_from text_codec n bytes t.0 fits t.1 in
+    let t = bind_ok (many_from key_value_from n bytes) _ x e in
+    let texts = many_sound key_value_text IsLegalText key_value_from text_codec n bytes t.0 fits t.1 in
     let made : FoldKept × List ℕ = (Texts t.0.0, t.0.1) in
-    subst (Taken kept_text (IsKeptOf wants.Texts n) bytes) (ok_is made x t.2) (record { parts = texts.parts; legal = (refl, (texts.counted, texts.legal)); rest_fits = texts.rest_fits })
+    as_read kept_text (IsKeptOf wants.Texts n) bytes made x t.2 (record { parts = texts.parts; legal = (refl, (texts.counted, texts.legal)); rest_fits = texts.rest_fits })
 
 kept_whole : (n : ℕ) (k : FoldKept) (rest : List ℕ) → IsLegalKept n k → kept_from (wanted_in k) n (kept_text k ++ rest) ≡ Ok (k, rest)
 unfolding claims_from texts_from
@@ -238,17 +241,19 @@ kept_whole n (Claims topics outputs) rest h =
     let os = flat_map output_text outputs ++ rest in
     let ts = flat_map bytes_text topics ++ os in
     let e : kept_text (Claims topics outputs) ++ rest ≡ u64_text (length topics) ++ ts =
-        append_assoc (u64_text (length topics)) (flat_map bytes_text topics ++ flat_map output_text outputs) rest
-        ∙ ap (λ (us : List ℕ). u64_text (length topics) ++ us) (append_assoc (flat_map bytes_text topics) (flat_map output_text outputs) rest) in
+    append_assoc (u64_text (length topics)) (flat_map bytes_text topics ++ flat_map output_text outputs) rest
+    ∙ ap (λ (us : List ℕ). u64_text (length topics) ++ us) (append_assoc (flat_map bytes_text topics) (flat_map output_text outputs) rest) in
+    let placed : list_all (is_placed (length topics)) outputs ≡ true = h.4 in
     rw (
       e,
       u64_codec.whole (length topics) ts h.0,
       many_whole bytes_text IsText bytes_from bytes_codec topics os h.1,
       ← h.2,
       many_whole output_text IsLegalOutput output_from output_codec outputs rest h.3,
+      placed,
     )
     refl
-kept_whole n (Texts texts) rest h = rw (← h.0, many_whole kept_text_text IsLegalText kept_text_from text_codec texts rest h.1) refl
+kept_whole n (Texts texts) rest h = rw (← h.0, many_whole key_value_text IsLegalText key_value_from text_codec texts rest h.1) refl
 
 -- ---- the body
 
@@ -272,7 +277,7 @@ body_sound bytes x fits e =
     let q2 = glue f.0.1 (heads_text h.0.0) h.0.1 (kept_text k.0.0 ++ stop_text s.0.0) s.0.1 heads.parts q1 in
     let same : begin_text f.0.0 ≡ front_text file = ap (λ (w : Wanted). magic ++ (i8_text (pos 1) ++ (wanted_text w ++ behind_text f.0.0))) (sym kept.legal.0) in
     let begun : bytes ≡ front_text file ++ f.0.1 = front.parts ∙ ap (λ (ts : List ℕ). ts ++ f.0.1) same in
-    subst (Taken body_text IsLegal bytes) (ok_is made x s.2) (record {
+    as_read body_text IsLegal bytes made x s.2 (record {
       parts = glue bytes (front_text file) f.0.1 (heads_text h.0.0 ++ (kept_text k.0.0 ++ stop_text s.0.0)) s.0.1 begun q2;
       legal = record {
         topic = front.legal.topic;
@@ -294,9 +299,9 @@ body_whole f rest h =
     let b1 = kept_text f.kept ++ (stop_text f.stop ++ rest) in
     let b2 = heads_text f.heads ++ b1 in
     let e : (front_text f ++ (heads_text f.heads ++ (kept_text f.kept ++ stop_text f.stop))) ++ rest ≡ begin_text (front_of f) ++ b2 =
-        append_assoc (front_text f) (heads_text f.heads ++ (kept_text f.kept ++ stop_text f.stop)) rest
-        ∙ ap (λ (ts : List ℕ). front_text f ++ ts) (append_assoc (heads_text f.heads) (kept_text f.kept ++ stop_text f.stop) rest
-        ∙ ap (λ (ts : List ℕ). heads_text f.heads ++ ts) (append_assoc (kept_text f.kept) (stop_text f.stop) rest)) in
+    append_assoc (front_text f) (heads_text f.heads ++ (kept_text f.kept ++ stop_text f.stop)) rest
+    ∙ ap (λ (ts : List ℕ). front_text f ++ ts) (append_assoc (heads_text f.heads) (kept_text f.kept ++ stop_text f.stop) rest
+    ∙ ap (λ (ts : List ℕ). heads_text f.heads ++ ts) (append_assoc (kept_text f.kept) (stop_text f.stop) rest)) in
     rw (
       e,
       front_codec.whole (front_of f) b2 (record { topic = h.topic; partition = h.partition; base = h.base; bytes = h.bytes }),
@@ -333,7 +338,7 @@ fold_sound bytes f fits e =
     let rest : c.0.1 ≡ s.0.1 = ap (λ (p : ℕ × List ℕ). p.1) m.1 in
     let none : c.0.1 ≡ [] = rest ∙ nil_from_length s.0.1 (eqb-true (length s.0.1) 0 l.0) in
     let end : b.0.1 ≡ u32_text (crc32c_of (body_text b.0.0)) =
-        crc.parts ∙ (ap (λ (ts : List ℕ). u32_text c.0.0 ++ ts) none ∙ (append-nil (u32_text c.0.0) ∙ ap u32_text sum)) in
+    crc.parts ∙ (ap (λ (ts : List ℕ). u32_text c.0.0 ++ ts) none ∙ (append-nil (u32_text c.0.0) ∙ ap u32_text sum)) in
     subst (IsOfFold bytes) l.1 (record { text = body.parts ∙ ap (λ (ts : List ℕ). body_text b.0.0 ++ ts) end; legal = body.legal })
 
 pub fold_whole : (f : FoldFile) → IsLegal f → crc32c_of (body_text f) < 2 ^ 32 → read_fold (fold_text f) ≡ Ok f

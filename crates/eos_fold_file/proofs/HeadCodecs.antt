@@ -1,28 +1,27 @@
 -- The heads of batches and the stop are read exactly as they are written.
-use Rattle.std.proofs.Common.{◌≡◌, ◌≢◌, ℕ, zero, suc, ◌<◌, ◌^◌, Bool, true, false, cond, ltb, not, ◌&&◌, ◌||◌, ℤ, pos, negsuc, List, [], ◌∷◌, ◌++◌, Option, Some, None, Ok, Err, refl, sym, ap, ◌∙◌, subst, append_assoc, rules, arith, FitsSigned}
+use Rattle.std.proofs.Common.{◌≡◌, ℕ, zero, suc, ◌<◌, ◌^◌, Bool, true, false, cond, ltb, ◌&&◌, ℤ, pos, negsuc, List, [], ◌∷◌, ◌++◌, Option, Some, None, Ok, refl, sym, ap, ◌∙◌, subst, append_assoc, rules, arith, FitsSigned}
 use Rattle.std.specs.Prelude.{find}
 use Rattle.std.specs.Ordering.{int_eq}
 use Rattle.std.proofs.lemmas.Bool.Decides.{Decides-int_eq}
 use Rattle.std.specs.Int.{w8}
 use Rattle.std.proofs.lemmas.Bool.{ltb-true}
 use Rattle.std.proofs.lemmas.List.{append-nil}
-use Rattle.eos_base.specs.Fallible.{must}
 use Rattle.eos_batch.specs.declared.fault.BatchFault.{BatchFault}
 use Rattle.eos_batch.specs.declared.fault.BatchFault.TheVariants as batches
 use Rattle.eos_batch.specs.Real.{IsReal}
 use Rattle.eos_fold.specs.declared.stop.Stop.{Stop}
 use Rattle.eos_fold.specs.declared.stop.Stop.TheVariants.{AtEnd, NoBatch, Elsewhere}
-use Rattle.eos_wire.specs.Numbers.{IsBytes, i8_text}
+use Rattle.eos_wire.specs.Numbers.{i8_text}
 use Rattle.eos_wire.specs.Writing.{varlong_of}
 use Rattle.eos_fold_file.specs.declared.fault.FoldFault.TheVariants as faults
 use Rattle.eos_fold_file.specs.declared.head.BatchKind.{BatchKind}
 use Rattle.eos_fold_file.specs.declared.head.BatchKind.TheVariants.{Data, Control, Commit, Abort}
 use Rattle.eos_fold_file.specs.declared.head.FoldHead.{FoldHead}
-use Rattle.eos_fold_file.specs.Legal.{IsU64, IsU32, IsLegalKind, IsLegalHead, IsLegalStop}
+use Rattle.eos_fold_file.specs.Legal.{IsLegalKind, IsLegalHead, IsLegalStop}
 use Rattle.eos_fold_file.specs.Numbers.{u64_text, kind_from, number_from, i32_from, i16_from, u64_from, u32_from}
-use Rattle.eos_fold_file.specs.Heads.{is_control_kind, is_producer_possible, is_possible, kind_number, epoch_text, batch_kind_text, producer_text, head_text, commit_from, abort_from, kind_of, batch_kind_from, head_from}
+use Rattle.eos_fold_file.specs.Heads.{is_producer_possible, is_possible, kind_number, epoch_text, batch_kind_text, producer_text, head_text, commit_from, abort_from, kind_of, batch_kind_from, head_from}
 use Rattle.eos_fold_file.specs.Stops.{fault_number, batch_faults, fault_of, stop_text, known_fault, fault_from, no_batch_from, elsewhere_from, stop_of, stop_from}
-use Rattle.eos_fold_file.proofs.Takes.{bind_ok, done, ok_is, must_ok, and_true, glue, Taken, IsCodec}
+use Rattle.eos_fold_file.proofs.Takes.{as_read, bind_ok, done, ok_is, must_ok, and_true, glue, Taken, IsCodec}
 use Rattle.eos_fold_file.proofs.NumberCodecs.{kind_codec, number_codec, i32_codec, i16_codec, u64_codec, u32_codec}
 
 -- ---- what a batch is
@@ -39,7 +38,7 @@ commit_sound t bytes rest x k e =
     let z = bind_ok (i32_from rest) _ x e in
     let epoch = i32_codec.sound rest z.0 k.rest_fits z.1 in
     let made : (Bool × BatchKind) × List ℕ = ((t, Commit z.0.0), z.0.1) in
-    subst (Taken kind_text IsLegalPair bytes) (ok_is made x z.2) (record {
+    as_read kind_text IsLegalPair bytes made x z.2 (record {
       parts = glue bytes (i8_text (kind_number t (Commit (pos 0)))) rest (varlong_of z.0.0) z.0.1 k.parts epoch.parts ∙ ap (λ (n : ℤ). (i8_text n ++ varlong_of z.0.0) ++ z.0.1) (same t z.0.0);
       legal = epoch.legal;
       rest_fits = epoch.rest_fits;
@@ -55,7 +54,7 @@ abort_sound t bytes rest x k e =
     let z = bind_ok (i32_from rest) _ x e in
     let epoch = i32_codec.sound rest z.0 k.rest_fits z.1 in
     let made : (Bool × BatchKind) × List ℕ = ((t, Abort z.0.0), z.0.1) in
-    subst (Taken kind_text IsLegalPair bytes) (ok_is made x z.2) (record {
+    as_read kind_text IsLegalPair bytes made x z.2 (record {
       parts = glue bytes (i8_text (kind_number t (Abort (pos 0)))) rest (varlong_of z.0.0) z.0.1 k.parts epoch.parts ∙ ap (λ (n : ℤ). (i8_text n ++ varlong_of z.0.0) ++ z.0.1) (same t z.0.0);
       legal = epoch.legal;
       rest_fits = epoch.rest_fits;
@@ -69,7 +68,7 @@ abort_sound t bytes rest x k e =
 alone : (t : Bool) (k : BatchKind) (bytes rest : List ℕ) (x : (Bool × BatchKind) × List ℕ) → epoch_text k ≡ [] → IsLegalKind k → Taken i8_text (FitsSigned w8) bytes (kind_number t k, rest) → done {A = (Bool × BatchKind) × List ℕ} ((t, k), rest) ≡ done x → Taken kind_text IsLegalPair bytes x
 alone t k bytes rest x none legal taken e =
     let made : (Bool × BatchKind) × List ℕ = ((t, k), rest) in
-    subst (Taken kind_text IsLegalPair bytes) (ok_is made x e) (record { parts = taken.parts ∙ ap (λ (ts : List ℕ). ts ++ rest) (sym (append-nil (i8_text (kind_number t k))) ∙ ap (λ (ts : List ℕ). i8_text (kind_number t k) ++ ts) (sym none)); legal = legal; rest_fits = taken.rest_fits })
+    as_read kind_text IsLegalPair bytes made x e (record { parts = taken.parts ∙ ap (λ (ts : List ℕ). ts ++ rest) (sym (append-nil (i8_text (kind_number t k))) ∙ ap (λ (ts : List ℕ). i8_text (kind_number t k) ++ ts) (sym none)); legal = legal; rest_fits = taken.rest_fits })
 
 kind_told : (bytes : List ℕ) (k : ℤ × List ℕ) (x : (Bool × BatchKind) × List ℕ) → Taken i8_text (FitsSigned w8) bytes k → kind_of k ≡ Ok x → Taken kind_text IsLegalPair bytes x
 kind_told bytes (pos zero, rest) x t e = alone false Data bytes rest x refl tt t e
@@ -223,7 +222,7 @@ fault_codec = record {
       let found : fault_of n.0.0 ≡ Some f.0 = known_ok (fault_of n.0.0) f.0 f.1 in
       let number : fault_number f.0 ≡ n.0.0 = fault_found n.0.0 f.0 found in
       let made : BatchFault × List ℕ = (f.0, n.0.1) in
-      subst (Taken fault_text IsReal bytes) (ok_is made x f.2) (record {
+      as_read fault_text IsReal bytes made x f.2 (record {
         parts = t.parts ∙ ap (λ (z : ℤ). i8_text z ++ n.0.1) (sym number);
         legal = found_real f.0 (ap fault_of number ∙ found);
         rest_fits = t.rest_fits;
@@ -252,7 +251,7 @@ stop_codec = record {
         let behind = glue s.0.1 (u64_text b.0.0) b.0.1 (fault_text f.0.0) f.0.1 byte.parts fault.parts in
         let more = glue rest (u64_text s.0.0) s.0.1 (u64_text b.0.0 ++ fault_text f.0.0) f.0.1 segment.parts behind in
         let made : Stop × List ℕ = (NoBatch s.0.0 b.0.0 f.0.0, f.0.1) in
-        subst (Taken stop_text IsLegalStop bytes) (ok_is made x f.2) (record {
+        as_read stop_text IsLegalStop bytes made x f.2 (record {
           parts = glue bytes (i8_text (pos 1)) rest (u64_text s.0.0 ++ (u64_text b.0.0 ++ fault_text f.0.0)) f.0.1 t.parts more;
           legal = (segment.legal, byte.legal, fault.legal);
           rest_fits = fault.rest_fits;
@@ -261,13 +260,14 @@ stop_codec = record {
         let f = bind_ok (u64_from rest) _ x e in
         let found = u64_codec.sound rest f.0 t.rest_fits f.1 in
         let made : Stop × List ℕ = (Elsewhere f.0.0, f.0.1) in
-        subst (Taken stop_text IsLegalStop bytes) (ok_is made x f.2) (record {
+        as_read stop_text IsLegalStop bytes made x f.2 (record {
           parts = glue bytes (i8_text (pos 2)) rest (u64_text f.0.0) f.0.1 t.parts found.parts;
           legal = found.legal;
           rest_fits = found.rest_fits;
         })
     told bytes (pos (suc (suc (suc n))), rest) x t e = absurd cc
     told bytes (negsuc n, rest) x t e = absurd cc
+
     held : (s : Stop) (rest : List ℕ) → IsLegalStop s → stop_from (stop_text s ++ rest) ≡ Ok (s, rest)
     held AtEnd rest h = rw (kind_codec.whole (pos 0) rest (search rules)) refl
     held (NoBatch segment byte fault) rest h =

@@ -1,10 +1,10 @@
 -- The numbers and the texts of a fold file are read exactly as they are written.
-use Rattle.std.proofs.Common.{◌≡◌, ◌≢◌, ℕ, zero, suc, ◌+◌, ◌-◌, ◌%◌, ◌/◌, ◌<◌, ◌≤◌, ◌^◌, Bool, true, false, eqb, ltb, not, ◌||◌, ◌&&◌, ℤ, pos, negsuc, List, [], ◌++◌, length, drop, get_or, Option, Some, None, Ok, refl, sym, ap, ◌∙◌, subst, append_assoc, arith, rules, inl, inr, ◌⊎◌, FitsSigned, Fits, ◌≤ℤ◌}
+use Rattle.std.proofs.Common.{◌≡◌, ◌≢◌, ℕ, zero, suc, ◌-◌, ◌%◌, ◌/◌, ◌<◌, ◌≤◌, ◌^◌, Bool, true, false, eqb, ltb, not, ◌||◌, ◌&&◌, ℤ, pos, negsuc, List, ◌++◌, length, drop, get_or, Option, Some, None, Ok, refl, sym, ap, ◌∙◌, subst, append_assoc, arith, rules, inl, inr, ◌⊎◌, FitsSigned, Fits, ◌≤ℤ◌}
 use Rattle.std.specs.Prelude.{int_le}
 use Rattle.std.specs.Int.{w8, w16, w32, w64, cast_signed, cast_unsigned}
 use Rattle.std.proofs.lemmas.Bool.{eqb-true, eqb-false, eq-eqb, ne_eqb, lt-ltb, ltb-true, cases_eq}
 use Rattle.std.proofs.lemmas.Int.{ints, to_z-of_z, of_z-to_z}
-use Rattle.std.proofs.lemmas.List.{get_or_append_left, drop_at, length-append}
+use Rattle.std.proofs.lemmas.List.{get_or_append_left, drop_at}
 use Rattle.std.proofs.Math.Facts.{sfits_to_z, Fits-of_z}
 use Rattle.eos_wire.specs.Numbers.{IsBytes, i8_at, i8_text, bytes_at}
 use Rattle.eos_wire.specs.Varint.{IsVarlong, unzigzag, varlong_at}
@@ -12,11 +12,10 @@ use Rattle.eos_wire.specs.Writing.{zigzag, varlong_of, groups_of}
 use Rattle.eos_wire.proofs.NumberTexts.{IsBytes-append_right, i8_sound, i8_whole}
 use Rattle.eos_wire.proofs.VarintTexts.{front-drop, varlong_sound}
 use Rattle.eos_wire.proofs.Spellings.{varlong_written, zigzag-unzigzag, IsVarlong-some}
-use Rattle.eos_base.specs.Fallible.{◌>>=◌, must}
 use Rattle.eos_fold_file.specs.declared.fault.FoldFault.TheVariants as faults
 use Rattle.eos_fold_file.specs.Legal.{IsU64, IsU32, IsText, IsOptionalText}
 use Rattle.eos_fold_file.specs.Numbers.{present, u64_text, bytes_text, optional_text, kind_from, is_shortest, found_from, number_from, within_from, i32_from, i16_from, u64_from, u32_from, counted_from, bytes_from, optional_counted_from, optional_from}
-use Rattle.eos_fold_file.proofs.Takes.{bind_ok, done, ok_is, present_ok, must_ok, and_true, glue, Taken, IsCodec, cut_sound, cut_whole}
+use Rattle.eos_fold_file.proofs.Takes.{as_read, bind_ok, present_ok, must_ok, and_true, glue, Taken, IsCodec, cut_sound, cut_whole}
 use Rattle.eos_fold_file.proofs.Shortest.{last_group, last_is, shortest_is, some_groups, groups_shortest}
 
 -- ---- kinds
@@ -158,7 +157,7 @@ u64_codec = record {
       let made : ℕ × List ℕ = (cast_unsigned w64 n.0.0, n.0.1) in
       let small : Fits w64 (cast_unsigned w64 n.0.0) = Fits-of_z t.legal in
       let back : cast_signed w64 (cast_unsigned w64 n.0.0) ≡ n.0.0 = to_z-of_z w64 n.0.0 t.legal in
-      subst (Taken u64_text IsU64 bytes) (ok_is made x n.2) (record { parts = rw back t.parts; legal = omega (arith, small); rest_fits = t.rest_fits });
+      as_read u64_text IsU64 bytes made x n.2 (record { parts = rw back t.parts; legal = omega (arith, small); rest_fits = t.rest_fits });
   whole = λ n rest lt.
       let small : Fits w64 n = omega arith in
       let back : cast_unsigned w64 (cast_signed w64 n) ≡ n = of_z-to_z w64 n lt in
@@ -224,11 +223,12 @@ optional_codec = record {
         let c = bind_ok (present (bytes_at n rest)) _ x e in
         let k = counted bytes n rest c.0 t c.1 in
         let made : Option (List ℕ) × List ℕ = (Some c.0.0, c.0.1) in
-        subst (Taken optional_text IsOptionalText bytes) (ok_is made x c.2) (record { parts = k.parts; legal = k.legal; rest_fits = k.rest_fits })
+        as_read optional_text IsOptionalText bytes made x c.2 (record { parts = k.parts; legal = k.legal; rest_fits = k.rest_fits })
     optional_told bytes (negsuc zero, rest) x t e =
         let made : Option (List ℕ) × List ℕ = (None, rest) in
-        subst (Taken optional_text IsOptionalText bytes) (ok_is made x e) (record { parts = t.parts; legal = tt; rest_fits = t.rest_fits })
+        as_read optional_text IsOptionalText bytes made x e (record { parts = t.parts; legal = tt; rest_fits = t.rest_fits })
     optional_told bytes (negsuc (suc n), rest) x t e = absurd cc
+
     optional_whole : (text : Option (List ℕ)) (rest : List ℕ) → IsOptionalText text → optional_from (optional_text text ++ rest) ≡ Ok (text, rest)
     optional_whole None rest h = rw (number_whole (negsuc 0) rest (record { sfits = omega arith })) refl
     optional_whole (Some text) rest lt =

@@ -1,8 +1,7 @@
 -- For each head that a fold file can have there is a batch.
-use Rattle.std.proofs.Common.{◌≡◌, ℕ, zero, suc, ◌+◌, ◌<◌, ◌≤◌, ◌^◌, Bool, true, false, not, ◌&&◌, ◌||◌, eqb, ltb, ℤ, pos, negsuc, List, [], ◌∷◌, ◌++◌, length, replicate, Option, Some, None, refl, sym, ap, ◌∙◌, subst, rules, arith, FitsSigned, cond}
-use Rattle.std.specs.Prelude.{IsTrue, int_lt, int_le, is_some, unsigned_abs}
-use Rattle.std.specs.List.{sum_by}
-use Rattle.std.specs.Int.{w16, w32, w64}
+use Rattle.std.proofs.Common.{◌≡◌, ℕ, ◌+◌, ◌<◌, ◌≤◌, ◌^◌, Bool, true, false, not, ◌&&◌, ◌||◌, eqb, ltb, ℤ, pos, List, [], ◌∷◌, ◌++◌, length, replicate, Option, Some, None, refl, sym, ap, ◌∙◌, subst, rules, arith, FitsSigned, cond}
+use Rattle.std.specs.Prelude.{IsTrue, int_lt, int_le, unsigned_abs}
+use Rattle.std.specs.Int.{w16, w32}
 use Rattle.std.proofs.lemmas.Bool.{ltb-true, ltb-false, eqb-true, not-true}
 use Rattle.std.proofs.lemmas.Int.{ints}
 use Rattle.std.proofs.lemmas.List.{append-nil, length-replicate}
@@ -11,7 +10,6 @@ use Rattle.eos_wire.specs.Numbers.{i16_text, i32_text, i16_at, i32_at}
 use Rattle.eos_wire.proofs.NumberTexts.{i16_whole, i32_whole}
 use Rattle.eos_batch.specs.declared.batch.Batch.{Batch}
 use Rattle.eos_batch.specs.declared.record.Record.{Record}
-use Rattle.eos_batch.specs.declared.marker.Kind.{Kind}
 use Rattle.eos_batch.specs.declared.marker.Kind.TheVariants as ends
 use Rattle.eos_batch.specs.Attributes.{is_transactional, is_control}
 use Rattle.eos_batch.specs.Marker.{control_type, coordinator_epoch_of, end_kind, marker_of, has_right_control}
@@ -22,7 +20,7 @@ use Rattle.eos_fold_file.specs.declared.head.BatchKind.{BatchKind}
 use Rattle.eos_fold_file.specs.declared.head.BatchKind.TheVariants.{Data, Control, Commit, Abort}
 use Rattle.eos_fold_file.specs.declared.head.FoldHead.{FoldHead}
 use Rattle.eos_fold_file.specs.Batches.{HasHead, HaveHeads}
-use Rattle.eos_fold_file.specs.Files.{record_count, fits_offsets}
+use Rattle.eos_fold_file.specs.Files.{record_count}
 use Rattle.eos_fold_file.specs.Heads.{is_control_kind, names_producer, is_producer_possible, is_count_possible, is_possible, batch_marker, batch_head}
 use Rattle.eos_fold_file.specs.Legal.{Each, IsLegalKind, IsLegalHead, IsLegal}
 use Rattle.eos_fold_file.proofs.Takes.{and_true}

@@ -1,11 +1,10 @@
 -- What a reader takes from the front, and that it reads what was written.
-use Rattle.std.proofs.Common.{◌≡◌, ℕ, zero, suc, Bool, true, false, ◌&&◌, not, List, [], ◌∷◌, ◌++◌, length, take, drop, Option, Some, None, Result, Ok, Err, refl, sym, ap, ◌∙◌, subst, append_assoc, arith, inl, inr}
-use Rattle.std.specs.Prelude.{⊤, flat_map}
+use Rattle.std.proofs.Common.{◌≡◌, ℕ, zero, suc, Bool, true, false, ◌&&◌, List, [], ◌∷◌, ◌++◌, length, take, drop, Option, Some, None, Result, Ok, Err, refl, sym, ap, ◌∙◌, subst, append_assoc, arith, inl, inr}
+use Rattle.std.specs.Prelude.{flat_map}
 use Rattle.std.proofs.lemmas.Bool.{lt-ltb, le-ltb, cases_lt}
 use Rattle.std.proofs.lemmas.List.{take_at, drop_at, take-append-drop, length-append, length-take-le}
 use Rattle.eos_wire.specs.Numbers.{IsBytes, bytes_at}
-use Rattle.eos_wire.proofs.NumberTexts.{IsBytes-append_right}
-use Rattle.eos_base.specs.Fallible.{◌>>=◌, or_fault, must}
+use Rattle.eos_base.specs.Fallible.{◌>>=◌, must}
 use Rattle.eos_fold_file.specs.declared.fault.FoldFault.{FoldFault}
 use Rattle.eos_fold_file.specs.Numbers.{present, many_from}
 use Rattle.eos_fold_file.specs.Legal.{Each}
@@ -50,9 +49,9 @@ pub record IsCodec {X : Type 0} (text : X → List ℕ) (Legal : X → Type 0) (
   pub sound : (bytes : List ℕ) (x : X × List ℕ) → IsBytes bytes → read bytes ≡ Ok x → Taken text Legal bytes x
   pub whole : (x : X) (rest : List ℕ) → Legal x → read (text x ++ rest) ≡ Ok (x, rest)
 
--- the bytes of what was read, and then of what was read behind it
-pub then_parts : {X : Type 0} (text : X → List ℕ) (Legal : X → Type 0) (bytes : List ℕ) (x : X × List ℕ) (more rest : List ℕ) → Taken text Legal bytes x → x.1 ≡ more ++ rest → bytes ≡ (text x.0 ++ more) ++ rest
-then_parts text Legal bytes x more rest t e = glue bytes (text x.0) x.1 more rest t.parts e
+-- what was taken is what was read
+pub as_read : {X : Type 0} (text : X → List ℕ) (Legal : X → Type 0) (bytes : List ℕ) (made x : X × List ℕ) → done made ≡ done x → Taken text Legal bytes made → Taken text Legal bytes x
+as_read text Legal bytes made x e t = subst (Taken text Legal bytes) (ok_is made x e) t
 
 -- ---- so many bytes
 

@@ -18,7 +18,7 @@ use Rattle.eos_fold_file.specs.declared.file.FoldKept.{FoldKept}
 use Rattle.eos_fold_file.specs.declared.file.FoldKept.TheVariants.{Presence, Claims, Texts}
 use Rattle.eos_fold_file.specs.declared.head.FoldHead.{FoldHead}
 use Rattle.eos_fold_file.specs.Numbers.{u64_text, bytes_text}
-use Rattle.eos_fold_file.specs.Records.{output_text, kept_text_text}
+use Rattle.eos_fold_file.specs.Records.{output_text, key_value_text}
 use Rattle.eos_fold_file.specs.Heads.{is_control_kind, head_text}
 use Rattle.eos_fold_file.specs.Stops.{stop_text}
 
@@ -67,7 +67,7 @@ heads_text heads = u64_text (length heads) ++ flat_map head_text heads
 abbrev pub kept_text : FoldKept → List ℕ
 kept_text Presence = []
 kept_text (Claims topics outputs) = u64_text (length topics) ++ (flat_map bytes_text topics ++ flat_map output_text outputs)
-kept_text (Texts texts) = flat_map kept_text_text texts
+kept_text (Texts texts) = flat_map key_value_text texts
 
 unfoldable pub body_text : FoldFile → List ℕ
 body_text f = front_text f ++ (heads_text f.heads ++ (kept_text f.kept ++ stop_text f.stop))

@@ -1,16 +1,13 @@
 -- The heads of batches, as bytes of a fold file, and which of them a batch can have. A front's batches follow one another, so
 -- their offsets aren't written.
 -- Source: Kafka's documentation, Message Format, "Record Batch" and "Control Batches"; KIP-98 for the producer.
-use Rattle.std.specs.Prelude.{◌≡◌, ℕ, zero, suc, ◌+◌, ◌≤◌, ◌^◌, ℤ, pos, negsuc, List, [], ◌++◌, Option, Some, None, Result, Ok, Err, Bool, true, false, not, nat_lt, int_lt, int_le, ◌==◌, ◌&&◌, ◌||◌, if◌then◌else◌}
+use Rattle.std.specs.Prelude.{ℕ, zero, suc, ◌^◌, ℤ, pos, negsuc, List, [], ◌++◌, Option, Some, None, Result, Ok, Err, Bool, true, false, not, nat_lt, int_lt, int_le, ◌==◌, ◌&&◌, ◌||◌, if◌then◌else◌}
 use Rattle.eos_base.specs.Fallible.{◌>>=◌, must}
 use Rattle.eos_wire.specs.Numbers.{i8_text}
 use Rattle.eos_wire.specs.Writing.{varlong_of}
-use Rattle.eos_batch.specs.declared.batch.Batch.{Batch}
 use Rattle.eos_batch.specs.declared.head.BatchHead.{BatchHead}
 use Rattle.eos_batch.specs.declared.marker.Marker.{Marker}
 use Rattle.eos_batch.specs.declared.marker.Kind.TheVariants as ends
-use Rattle.eos_batch.specs.Heads.{head_of}
-use Rattle.eos_batch.specs.Rules.{IsCounted, IsControlRight, IsProducerRight, HasWidths}
 use Rattle.eos_fold_file.specs.declared.fault.FoldFault.{FoldFault}
 use Rattle.eos_fold_file.specs.declared.fault.FoldFault.TheVariants as faults
 use Rattle.eos_fold_file.specs.declared.head.BatchKind.{BatchKind}

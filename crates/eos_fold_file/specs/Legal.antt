@@ -1,6 +1,7 @@
 -- Which values a fold file can have.
-use Rattle.std.specs.Prelude.{◌≡◌, ℕ, ◌<◌, ◌^◌, ℤ, pos, FitsSigned, List, [], ◌∷◌, length, Option, Some, None, IsTrue, ⊤}
+use Rattle.std.specs.Prelude.{◌≡◌, ℕ, ◌<◌, ◌^◌, FitsSigned, List, [], ◌∷◌, length, Option, Some, None, IsTrue, ⊤}
 use Rattle.std.specs.Int.{w16, w32, w64}
+use Rattle.std.specs.List.{list_all}
 use Rattle.eos_batch.specs.Real.{IsReal}
 use Rattle.eos_claims.specs.declared.claim.Claim.{Claim}
 use Rattle.eos_fold.specs.declared.stop.Stop.{Stop}
@@ -15,7 +16,7 @@ use Rattle.eos_fold_file.specs.declared.file.FoldKept.TheVariants.{Presence, Cla
 use Rattle.eos_fold_file.specs.declared.head.BatchKind.{BatchKind}
 use Rattle.eos_fold_file.specs.declared.head.BatchKind.TheVariants.{Data, Control, Commit, Abort}
 use Rattle.eos_fold_file.specs.declared.head.FoldHead.{FoldHead}
-use Rattle.eos_fold_file.specs.Records.{numbers_of}
+use Rattle.eos_fold_file.specs.Records.{is_placed, numbers_of}
 use Rattle.eos_fold_file.specs.Heads.{is_possible}
 use Rattle.eos_fold_file.specs.Files.{data_count, fits_offsets}
 
@@ -92,7 +93,8 @@ IsLegalStop (Elsewhere found) = IsU64 found
 -- of so many data records
 abbrev pub IsLegalKept : ℕ → FoldKept → Type 0
 IsLegalKept n Presence = ⊤
-IsLegalKept n (Claims topics outputs) = IsU64 (length topics) × Each IsText topics × (length outputs ≡ n) × Each IsLegalOutput outputs
+IsLegalKept n (Claims topics outputs) =
+    IsU64 (length topics) × Each IsText topics × (length outputs ≡ n) × Each IsLegalOutput outputs × IsTrue (list_all (is_placed (length topics)) outputs)
 IsLegalKept n (Texts texts) = (length texts ≡ n) × Each IsLegalText texts
 
 pub record IsLegal (f : FoldFile) : Type 0 where

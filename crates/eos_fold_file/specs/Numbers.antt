@@ -3,7 +3,7 @@
 -- bytes, and the bytes; where it may be null, -1 stands for null. A kind is an INT8.
 use Rattle.std.specs.Prelude.{ℕ, zero, suc, ◌-◌, ◌^◌, ℤ, pos, negsuc, List, [], ◌∷◌, ◌++◌, length, drop, Option, Some, None, Result, Ok, Err, Bool, nat_lt, int_le, ◌==◌, ◌&&◌, ◌||◌, not, slice_index, if◌then◌else◌}
 use Rattle.std.specs.Int.{w64, cast_signed, cast_unsigned}
-use Rattle.eos_wire.specs.Numbers.{bytes_at, i8_at, i8_text}
+use Rattle.eos_wire.specs.Numbers.{bytes_at, i8_at}
 use Rattle.eos_wire.specs.Varint.{varlong_at}
 use Rattle.eos_wire.specs.Writing.{varlong_of}
 use Rattle.eos_base.specs.Fallible.{◌>>=◌, or_fault, must}

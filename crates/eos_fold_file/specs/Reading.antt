@@ -1,11 +1,13 @@
 -- Reading a fold file from left to right, with the first fault that is met: the order of the refusals.
-use Rattle.std.specs.Prelude.{ℕ, zero, suc, ◌-◌, ℤ, pos, negsuc, List, ◌++◌, length, take, Option, Some, None, Result, Ok, Err, ◌==◌, nat_eq}
+use Rattle.std.specs.Prelude.{ℕ, zero, suc, ◌-◌, ℤ, pos, negsuc, List, length, take, Result, Ok, Err, ◌==◌, nat_eq}
+use Rattle.std.specs.List.{list_all}
 use Rattle.std.specs.Cmp.Lexicographic.{pointwise}
 use Rattle.std.specs.Ordering.{int_eq}
-use Rattle.eos_base.specs.Fallible.{◌>>=◌, or_fault, must}
+use Rattle.eos_base.specs.Fallible.{◌>>=◌, must}
 use Rattle.eos_wire.specs.Crc.{crc32c_of}
 use Rattle.eos_wire.specs.Numbers.{bytes_at, u32_at}
 use Rattle.eos_fold.specs.declared.stop.Stop.{Stop}
+use Rattle.eos_keeping.specs.declared.output.KeptOutput.{KeptOutput}
 use Rattle.eos_wanted.specs.declared.wanted.Wanted.{Wanted}
 use Rattle.eos_wanted.specs.declared.wanted.Wanted.TheVariants as wants
 use Rattle.eos_fold_file.specs.declared.fault.FoldFault.{FoldFault}
@@ -16,7 +18,7 @@ use Rattle.eos_fold_file.specs.declared.file.FoldKept.TheVariants.{Presence, Cla
 use Rattle.eos_fold_file.specs.declared.head.FoldHead.{FoldHead}
 use Rattle.eos_fold_file.specs.declared.read.Front.{Front}
 use Rattle.eos_fold_file.specs.Numbers.{present, kind_from, number_from, i32_from, u64_from, bytes_from, many_from}
-use Rattle.eos_fold_file.specs.Records.{output_from, kept_text_from}
+use Rattle.eos_fold_file.specs.Records.{is_placed, output_from, key_value_from}
 use Rattle.eos_fold_file.specs.Heads.{head_from}
 use Rattle.eos_fold_file.specs.Stops.{stop_from}
 use Rattle.eos_fold_file.specs.Files.{magic, data_count, fits_offsets}
@@ -62,16 +64,21 @@ heads_from base bytes = do
   heads ← many_from head_from count.0 count.1
   must (fits_offsets base heads.0) faults.Head heads
 
+-- each claim names a place among the topics, or a topic
+abbrev pub placed_claims : List (List ℕ) → List KeptOutput → Result FoldKept FoldFault
+placed_claims topics outputs = must (list_all (is_placed (length topics)) outputs) faults.Record (Claims topics outputs)
+
 unfoldable pub claims_from : ℕ → List ℕ → Result (FoldKept × List ℕ) FoldFault
 claims_from n bytes = do
   count ← u64_from bytes
   topics ← many_from bytes_from count.0 count.1
   outputs ← many_from output_from n topics.1
-  Ok (Claims topics.0 outputs.0, outputs.1)
+  claims ← placed_claims topics.0 outputs.0
+  Ok (claims, outputs.1)
 
 unfoldable pub texts_from : ℕ → List ℕ → Result (FoldKept × List ℕ) FoldFault
 texts_from n bytes = do
-  texts ← many_from kept_text_from n bytes
+  texts ← many_from key_value_from n bytes
   Ok (Texts texts.0, texts.1)
 
 -- of so many records

@@ -1,6 +1,6 @@
 -- What is kept of a record, as bytes of a fold file: of an output's its claim, with the place of its topic among those that were
 -- asked for, or with the topic itself; of a record of Kafka's own logs its key, its value and its claim.
-use Rattle.std.specs.Prelude.{ℕ, zero, suc, ℤ, pos, negsuc, List, ◌++◌, Option, Some, None, Result, Ok, Err}
+use Rattle.std.specs.Prelude.{ℕ, zero, suc, ℤ, pos, negsuc, Bool, true, nat_lt, List, ◌++◌, Option, Some, None, Result, Ok, Err}
 use Rattle.eos_base.specs.Fallible.{◌>>=◌}
 use Rattle.eos_wire.specs.Numbers.{i8_text}
 use Rattle.eos_wire.specs.Writing.{varlong_of}
@@ -49,6 +49,12 @@ output_text (Asked partition output of topic offset) =
     i8_text (pos 1) ++ (u64_text topic ++ numbers_text (record { partition = partition; offset = offset; output = output; of = of }))
 output_text (Foreign c) = i8_text (pos 2) ++ claim_text c
 
+-- the place of a topic is one of so many
+abbrev pub is_placed : ℕ → KeptOutput → Bool
+is_placed count Unclaimed = true
+is_placed count (Asked partition output of topic offset) = nat_lt topic count
+is_placed count (Foreign c) = true
+
 abbrev pub asked_with : ℕ → ClaimNumbers → KeptOutput
 asked_with topic n = Asked n.partition n.output n.of topic n.offset
 
@@ -79,8 +85,8 @@ abbrev pub optional_claim_text : Option Claim → List ℕ
 optional_claim_text None = i8_text (pos 0)
 optional_claim_text (Some c) = i8_text (pos 1) ++ claim_text c
 
-abbrev pub kept_text_text : FoldText → List ℕ
-kept_text_text t = optional_text t.key ++ (optional_text t.value ++ optional_claim_text t.claim)
+abbrev pub key_value_text : FoldText → List ℕ
+key_value_text t = optional_text t.key ++ (optional_text t.value ++ optional_claim_text t.claim)
 
 unfoldable pub some_claim_from : List ℕ → Result (Option Claim × List ℕ) FoldFault
 some_claim_from bytes = do
@@ -96,8 +102,8 @@ optional_claim_of (negsuc n, bytes) = Err faults.Record
 unfoldable pub optional_claim_from : List ℕ → Result (Option Claim × List ℕ) FoldFault
 optional_claim_from bytes = kind_from bytes >>= optional_claim_of
 
-unfoldable pub kept_text_from : List ℕ → Result (FoldText × List ℕ) FoldFault
-kept_text_from bytes = do
+unfoldable pub key_value_from : List ℕ → Result (FoldText × List ℕ) FoldFault
+key_value_from bytes = do
   key ← optional_from bytes
   value ← optional_from key.1
   claim ← optional_claim_from value.1

@@ -1,5 +1,5 @@
 -- Why a front ends, as bytes of a fold file.
-use Rattle.std.specs.Prelude.{ℕ, zero, suc, ℤ, pos, negsuc, List, [], ◌∷◌, ◌++◌, find, Option, Some, None, Result, Ok, Err}
+use Rattle.std.specs.Prelude.{ℕ, zero, suc, ℤ, pos, negsuc, List, [], ◌∷◌, ◌++◌, find, Option, Result, Ok, Err}
 use Rattle.std.specs.Ordering.{int_eq}
 use Rattle.eos_base.specs.Fallible.{◌>>=◌, or_fault}
 use Rattle.eos_wire.specs.Numbers.{i8_text}

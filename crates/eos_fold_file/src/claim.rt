@@ -10,15 +10,16 @@
 //! | of Kafka's own logs: claim | kind | 0 none; 1 a claim: topic (text), partition, offset, output, of |
 
 ghost use Rattle.std.specs.Prelude.{◌≡◌, ◌++◌, IfOk, OnOk};
+ghost use Rattle.std.specs.List.{list_all};
 ghost use Rattle.eos_claims.specs.Slots.{plain_claim};
-ghost use Rattle.eos_fold_file.specs.Records.{numbers_text, claim_text, optional_claim_text, output_text, numbers_from, claim_from, asked_from, foreign_from, some_claim_from, optional_claim_from, output_from, numbers_of};
+ghost use Rattle.eos_fold_file.specs.Records.{is_placed, numbers_text, claim_text, optional_claim_text, output_text, numbers_from, claim_from, asked_from, foreign_from, some_claim_from, optional_claim_from, output_from, numbers_of};
 ghost use Rattle.eos_fold_file.specs.steps.Faults.{Gives};
 
 use crate::entry::Entry;
 use crate::fault::FoldFault;
 use crate::number::{
-    read_bytes, read_i32, read_kind, read_optional, read_u32, read_u64, write_number, write_optional, write_slice,
-    write_u64,
+    read_bytes, read_i32, read_kind, read_optional, read_u32, read_u64, write_number,
+    write_optional, write_slice, write_u64,
 };
 use bytes::Bytes;
 use eos_claims::{Claim, ClaimRef};
@@ -171,6 +172,28 @@ fn write_lent(out: &mut Vec<u8>, claim: ClaimRef<'_>) -> Result<(), AllocError>
     )
 }
 
+fn is_placed(kept: &KeptOutput, topics: usize) -> bool
+    ensures { result ≡ is_placed topics kept.now }
+{
+    match kept {
+        KeptOutput::Unclaimed => true,
+        KeptOutput::Asked { topic, .. } => *topic < topics,
+        KeptOutput::Foreign(_) => true,
+    }
+}
+
+/// Whether each claim names a place among so many topics, or a topic.
+pub(crate) fn are_placed(outputs: &[KeptOutput], topics: usize) -> bool
+    ensures { result ≡ list_all (is_placed topics) outputs.now }
+{
+    for kept in outputs {
+        if !is_placed(kept, topics) {
+            return false;
+        }
+    }
+    true
+}
+
 fn write_output(out: &mut Vec<u8>, kept: &KeptOutput) -> Result<(), AllocError>
     ensures { OnOk result (out.new.items ≡ out.old.items ++ output_text kept.now) }
 {
@@ -250,13 +273,13 @@ fn write_optional_claim(out: &mut Vec<u8>, claim: &Option<Claim>) -> Result<(), 
 }
 
 impl Entry for FoldText {
-    ghost use Rattle.eos_fold_file.specs.Records.{kept_text_from, kept_text_text};
+    ghost use Rattle.eos_fold_file.specs.Records.{key_value_from, key_value_text};
 
-    ghost entry_from = { kept_text_from };
+    ghost entry_from = { key_value_from };
 
-    ghost entry_text = { kept_text_text };
+    ghost entry_text = { key_value_text };
 
-    #[tactic(auto, unfolding(crate::specs::Records::kept_text_from))]
+    #[tactic(auto, unfolding(crate::specs::Records::key_value_from))]
     fn read(_alloc: Global, rest: &mut Cursor<'_>) -> Result<FoldText, FoldFault> {
         let key = read_optional(rest)?;
         let value = read_optional(rest)?;

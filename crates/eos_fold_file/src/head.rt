@@ -14,7 +14,9 @@ ghost use Rattle.eos_fold_file.specs.steps.Faults.{Gives};
 
 use crate::entry::Entry;
 use crate::fault::FoldFault;
-use crate::number::{read_i16, read_i32, read_kind, read_number, read_u32, read_u64, write_number, write_u64};
+use crate::number::{
+    read_i16, read_i32, read_kind, read_number, read_u32, read_u64, write_number, write_u64,
+};
 use eos_batch::{BatchHead, Kind, Marker};
 use eos_wire::{Cursor, write_i8};
 use std::alloc::{AllocError, Global};
@@ -49,7 +51,10 @@ pub struct FoldHead {
 // ---- what a batch is
 
 #[tactic(auto, unfolding(crate::specs::Heads::commit_from))]
-fn read_commit(rest: &mut Cursor<'_>, is_transactional: bool) -> Result<(bool, BatchKind), FoldFault>
+fn read_commit(
+    rest: &mut Cursor<'_>,
+    is_transactional: bool,
+) -> Result<(bool, BatchKind), FoldFault>
     ensures { Gives result rest.new (commit_from is_transactional rest.old) }
 {
     let epoch = read_i32(rest)?;

@@ -16,14 +16,13 @@
 ghost use Rattle.std.specs.Prelude.{◌≡◌, IfOk};
 ghost use Rattle.eos_fold_file.specs.declared.file.FoldFile.{FoldFile};
 ghost use Rattle.eos_fold_file.specs.Faults.{Answers};
-
 ghost use Rattle.eos_fold_file.specs.Files.{fold_text};
 ghost use Rattle.eos_fold_file.specs.Legal.{IsLegal};
-ghost use Rattle.eos_fold_file.specs.Reading.{magic_from, version_from, wanted_from, front_from, heads_from, claims_from, texts_from, kept_from, body_from, read_fold};
+ghost use Rattle.eos_fold_file.specs.Reading.{magic_from, version_from, wanted_from, front_from, heads_from, placed_claims, claims_from, texts_from, kept_from, body_from, read_fold};
 ghost use Rattle.eos_fold_file.specs.steps.Faults.{Gives};
 ghost use Rattle.eos_fold_file.specs.steps.Counts.{IsCountedHeads, GivesHeads};
 
-use crate::claim::FoldText;
+use crate::claim::{FoldText, are_placed};
 use crate::entry::read_many;
 use crate::fault::FoldFault;
 use crate::file::{FoldFile, FoldKept};
@@ -36,7 +35,6 @@ use eos_keeping::KeptOutput;
 use eos_wanted::Wanted;
 use eos_wire::{Cursor, are_bytes, crc32c};
 use std::alloc::Global;
-
 
 /// What stands before the batches.
 #[derive(Drop)]
@@ -136,6 +134,16 @@ fn read_heads(
     Ok((heads, data))
 }
 
+/// Claims, each of which names a place among the topics, or a topic.
+fn placed(topics: Listed<Bytes>, outputs: Listed<KeptOutput>) -> Result<FoldKept, FoldFault>
+    ensures { result ≡ placed_claims topics outputs }
+{
+    if !are_placed(outputs.as_slice(), topics.len()) {
+        return Err(FoldFault::Record);
+    }
+    Ok(FoldKept::Claims { topics, outputs })
+}
+
 #[tactic(auto, unfolding(crate::specs::Reading::claims_from))]
 fn read_claims(alloc: Global, rest: &mut Cursor<'_>, count: u64) -> Result<FoldKept, FoldFault>
     ensures { Gives result rest.new (claims_from count rest.old) }
@@ -143,7 +151,8 @@ fn read_claims(alloc: Global, rest: &mut Cursor<'_>, count: u64) -> Result<FoldK
     let asked = read_u64(rest)?;
     let topics: Listed<Bytes> = read_many(alloc, rest, asked)?;
     let outputs: Listed<KeptOutput> = read_many(alloc, rest, count)?;
-    Ok(FoldKept::Claims { topics, outputs })
+    let claims = placed(topics, outputs)?;
+    Ok(claims)
 }
 
 #[tactic(auto, unfolding(crate::specs::Reading::texts_from))]
