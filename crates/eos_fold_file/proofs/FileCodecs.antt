@@ -31,7 +31,7 @@ use Rattle.eos_fold_file.specs.Stops.{stop_text, stop_from}
 use Rattle.eos_fold_file.specs.Files.{data_count, fits_offsets, wanted_in, wanted_number, magic, front_text, heads_text, kept_text, body_text, fold_text}
 use Rattle.eos_fold_file.specs.Reading.{magic_from, version_from, wanted_of, wanted_from, front_from, heads_from, placed_claims, claims_from, texts_from, kept_from, file_with, body_from, before, read_fold}
 use Rattle.eos_fold_file.specs.Legal.{Each, IsU64, IsText, IsLegalOutput, IsLegalText, IsLegalHead, IsLegalKept, IsLegal}
-use Rattle.eos_fold_file.proofs.Takes.{as_read, bind_ok, ok_is, present_ok, must_ok, glue, Taken, IsCodec, cut_sound, cut_whole, many_sound, many_whole}
+use Rattle.eos_fold_file.proofs.Takes.{as_passed, as_read, bind_ok, ok_is, present_ok, must_ok, glue, Taken, IsCodec, cut_sound, cut_whole, many_sound, many_whole}
 use Rattle.eos_fold_file.proofs.NumberCodecs.{kind_codec, number_codec, i32_codec, u64_codec, bytes_codec}
 use Rattle.eos_fold_file.proofs.RecordCodecs.{output_codec, text_codec}
 use Rattle.eos_fold_file.proofs.HeadCodecs.{head_codec, stop_codec}
@@ -48,7 +48,7 @@ magic_codec = record {
       let f = bind_ok (present (bytes_at 7 bytes)) _ x e in
       let m = must_ok (pointwise nat_eq f.0.0 magic) faults.Magic f.0 x f.2 in
       let c = cut_sound 7 bytes f.0 f.1 in
-      subst (Taken itself (λ m. m ≡ magic) bytes) m.1 (record {
+      as_passed itself (λ m. m ≡ magic) bytes f.0 x m.1 (record {
         parts = c.parts;
         legal = (bytes_decides f.0.0 magic).0 m.0;
         rest_fits = IsBytes-append_right f.0.0 f.0.1 (subst IsBytes c.parts fits);
@@ -65,7 +65,7 @@ version_codec = record {
       let k = bind_ok (kind_from bytes) _ x e in
       let m = must_ok (int_eq k.0.0 (pos 1)) faults.Version k.0 x k.2 in
       let t = kind_codec.sound bytes k.0 fits k.1 in
-      subst (Taken i8_text (λ z. z ≡ pos 1) bytes) m.1 (record { parts = t.parts; legal = (Decides-int_eq k.0.0 (pos 1)).0 m.0; rest_fits = t.rest_fits });
+      as_passed i8_text (λ z. z ≡ pos 1) bytes k.0 x m.1 (record { parts = t.parts; legal = (Decides-int_eq k.0.0 (pos 1)).0 m.0; rest_fits = t.rest_fits });
   whole = λ z rest h. rw (h, kind_codec.whole (pos 1) rest (record { sfits = omega arith })) refl;
 }
 
@@ -185,7 +185,7 @@ heads_codec base = record {
       let count = u64_codec.sound bytes n.0 fits n.1 in
       let heads = many_sound head_text IsLegalHead head_from head_codec n.0.0 n.0.1 h.0 count.rest_fits h.1 in
       let number : bytes ≡ u64_text (length h.0.0) ++ n.0.1 = count.parts ∙ ap (λ (k : ℕ). u64_text k ++ n.0.1) (sym heads.counted) in
-      subst (Taken heads_text (AreLegalHeads base) bytes) m.1 (record {
+      as_passed heads_text (AreLegalHeads base) bytes h.0 x m.1 (record {
         parts = glue bytes (u64_text (length h.0.0)) n.0.1 (flat_map head_text h.0.0) h.0.1 number heads.parts;
         legal = record { few = subst IsU64 (sym heads.counted) count.legal; each = heads.legal; offsets = m.0 };
         rest_fits = heads.rest_fits;
@@ -222,12 +222,14 @@ kept_sound wants.Claims n bytes x fits e =
     let behind = glue c.0.1 (flat_map bytes_text t.0.0) t.0.1 (flat_map output_text o.0.0) o.0.1 topics.parts outputs.parts in
     let p = bind_ok (placed_claims t.0.0 o.0.0) _ x o.2 in
     let m = must_ok (list_all (is_placed (length t.0.0)) o.0.0) faults.Record (Claims t.0.0 o.0.0) p.0 p.1 in
-    let same : (p.0, o.0.1) ≡ x = ok_is (p.0, o.0.1) x p.2 in
-    subst (Taken kept_text (IsKeptOf wants.Claims n) bytes) (ap (λ (k : FoldKept). (k, o.0.1)) m.1 ∙ same) (record {
+    let claims : FoldKept × List ℕ = (Claims t.0.0 o.0.0, o.0.1) in
+    let read : FoldKept × List ℕ = (p.0, o.0.1) in
+    let same : claims ≡ read = ap (λ (k : FoldKept). (k, o.0.1)) m.1 in
+    as_read kept_text (IsKeptOf wants.Claims n) bytes read x p.2 (as_passed kept_text (IsKeptOf wants.Claims n) bytes claims read same (record {
       parts = glue bytes (u64_text (length t.0.0)) c.0.1 (flat_map bytes_text t.0.0 ++ flat_map output_text o.0.0) o.0.1 number behind;
       legal = (refl, (subst IsU64 (sym topics.counted) count.legal, topics.legal, outputs.counted, outputs.legal, m.0));
       rest_fits = outputs.rest_fits;
-    })
+    }))
 kept_sound wants.Texts n bytes x fits e =
     let t = bind_ok (many_from key_value_from n bytes) _ x e in
     let texts = many_sound key_value_text IsLegalText key_value_from text_codec n bytes t.0 fits t.1 in
@@ -356,7 +358,9 @@ fold_prefix_free f g more hf hg e =
     let cg = u32_text (crc32c_of (body_text g)) in
     let one : body_from (fold_text g) ≡ Ok (g, cg) = body_whole g cg hg in
     let two : body_from (fold_text f ++ more) ≡ Ok (f, cf ++ more) = rw (append_assoc (body_text f) cf more) (body_whole f (cf ++ more) hf) in
-    let both : (g, cg) ≡ (f, cf ++ more) = ok_is (g, cg) (f, cf ++ more) (sym one ∙ (ap body_from e ∙ two)) in
+    let last : FoldFile × List ℕ = (g, cg) in
+    let first : FoldFile × List ℕ = (f, cf ++ more) in
+    let both : last ≡ first = ok_is last first (sym one ∙ (ap body_from e ∙ two)) in
     let rest : cg ≡ cf ++ more = ap (λ (p : FoldFile × List ℕ). p.1) both in
     let long : length cg ≡ length cf + length more = ap length rest ∙ length-append cf more in
     (sym (ap (λ (p : FoldFile × List ℕ). p.0) both), nil_from_length more (omega (arith, long, length-u32_text (crc32c_of (body_text f)), length-u32_text (crc32c_of (body_text g)))))

@@ -21,7 +21,7 @@ use Rattle.eos_fold_file.specs.Legal.{IsLegalKind, IsLegalHead, IsLegalStop}
 use Rattle.eos_fold_file.specs.Numbers.{u64_text, kind_from, number_from, i32_from, i16_from, u64_from, u32_from}
 use Rattle.eos_fold_file.specs.Heads.{is_producer_possible, is_possible, kind_number, epoch_text, batch_kind_text, producer_text, head_text, commit_from, abort_from, kind_of, batch_kind_from, head_from}
 use Rattle.eos_fold_file.specs.Stops.{fault_number, batch_faults, fault_of, stop_text, known_fault, fault_from, no_batch_from, elsewhere_from, stop_of, stop_from}
-use Rattle.eos_fold_file.proofs.Takes.{as_read, bind_ok, done, ok_is, must_ok, and_true, glue, Taken, IsCodec}
+use Rattle.eos_fold_file.proofs.Takes.{as_passed, as_read, bind_ok, done, ok_is, must_ok, and_true, glue, Taken, IsCodec}
 use Rattle.eos_fold_file.proofs.NumberCodecs.{kind_codec, number_codec, i32_codec, i16_codec, u64_codec, u32_codec}
 
 -- ---- what a batch is
@@ -133,7 +133,7 @@ head_codec = record {
       let b = glue s.0.1 (varlong_of p.0.0) p.0.1 (varlong_of o.0.0 ++ varlong_of q.0.0) q.0.1 producer.parts a in
       let c = glue n.0.1 (u64_text s.0.0) s.0.1 (producer_text head) q.0.1 size.parts b in
       let d = glue k.0.1 (u64_text n.0.0) n.0.1 (u64_text s.0.0 ++ producer_text head) q.0.1 count.parts c in
-      subst (Taken head_text IsLegalHead bytes) m.1 (record {
+      as_passed head_text IsLegalHead bytes (head, q.0.1) x m.1 (record {
         parts = glue bytes (kind_text k.0.0) k.0.1 (u64_text n.0.0 ++ (u64_text s.0.0 ++ producer_text head)) q.0.1 kind.parts d;
         legal = record { kind = kind.legal; size = size.legal; producer = producer.legal; epoch = epoch.legal; sequence = sequence.legal; possible = m.0 };
         rest_fits = sequence.rest_fits;

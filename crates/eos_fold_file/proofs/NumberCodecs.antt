@@ -15,7 +15,7 @@ use Rattle.eos_wire.proofs.Spellings.{varlong_written, zigzag-unzigzag, IsVarlon
 use Rattle.eos_fold_file.specs.declared.fault.FoldFault.TheVariants as faults
 use Rattle.eos_fold_file.specs.Legal.{IsU64, IsU32, IsText, IsOptionalText}
 use Rattle.eos_fold_file.specs.Numbers.{present, u64_text, bytes_text, optional_text, kind_from, is_shortest, found_from, number_from, within_from, i32_from, i16_from, u64_from, u32_from, counted_from, bytes_from, optional_counted_from, optional_from}
-use Rattle.eos_fold_file.proofs.Takes.{as_read, bind_ok, present_ok, must_ok, and_true, glue, Taken, IsCodec, cut_sound, cut_whole}
+use Rattle.eos_fold_file.proofs.Takes.{as_passed, as_read, bind_ok, present_ok, must_ok, and_true, glue, Taken, IsCodec, cut_sound, cut_whole}
 use Rattle.eos_fold_file.proofs.Shortest.{last_group, last_is, shortest_is, some_groups, groups_shortest}
 
 -- ---- kinds
@@ -81,7 +81,7 @@ number_sound bytes x fits e = at (varlong_at bytes) refl e
         let cut : drop found.1 bytes ≡ f.rest = front-drop IsVarlong bytes found f in
         let h = f.holds in
         let text : f.text ≡ varlong_of found.0 = spelled f.text f.rest found.0 h (subst (λ (bs : List ℕ). is_shortest bs (length f.text) ≡ true) f.parts (subst (λ (k : ℕ). is_shortest bytes k ≡ true) f.len m.0)) in
-        subst (Taken varlong_of (FitsSigned w64) bytes) m.1 (record {
+        as_passed varlong_of (FitsSigned w64) bytes (found.0, drop found.1 bytes) x m.1 (record {
           parts = rw (cut, ← text) f.parts;
           legal = subst (FitsSigned w64) (sym h.4) (unzigzag_fits h.0 h.3);
           rest_fits = rw cut (IsBytes-append_right f.text f.rest (subst IsBytes f.parts fits));
@@ -126,7 +126,7 @@ within_codec low high Legal to from fits_64 = record {
       let n = bind_ok (number_from bytes) _ x e in
       let m = must_ok (int_le low n.0.0 && int_le n.0.0 high) faults.Number n.0 x n.2 in
       let t = number_sound bytes n.0 fits n.1 in
-      subst (Taken varlong_of Legal bytes) m.1 (record { parts = t.parts; legal = to n.0.0 (within_told low high n.0.0 m.0); rest_fits = t.rest_fits });
+      as_passed varlong_of Legal bytes n.0 x m.1 (record { parts = t.parts; legal = to n.0.0 (within_told low high n.0.0 m.0); rest_fits = t.rest_fits });
   whole = λ z rest h. rw (number_whole z rest (fits_64 z h), within_holds low high z (from z h)) refl;
 }
 
@@ -171,7 +171,7 @@ u32_codec = record {
       let n = bind_ok (u64_from bytes) _ x e in
       let m = must_ok (ltb n.0.0 (2 ^ 32)) faults.Number n.0 x n.2 in
       let t = u64_codec.sound bytes n.0 fits n.1 in
-      subst (Taken u64_text IsU32 bytes) m.1 (record { parts = t.parts; legal = ltb-true n.0.0 (2 ^ 32) m.0; rest_fits = t.rest_fits });
+      as_passed u64_text IsU32 bytes n.0 x m.1 (record { parts = t.parts; legal = ltb-true n.0.0 (2 ^ 32) m.0; rest_fits = t.rest_fits });
   whole = λ n rest lt. rw (u64_codec.whole n rest (omega arith), lt-ltb n (2 ^ 32) lt) refl;
 }
 

@@ -53,6 +53,10 @@ pub record IsCodec {X : Type 0} (text : X → List ℕ) (Legal : X → Type 0) (
 pub as_read : {X : Type 0} (text : X → List ℕ) (Legal : X → Type 0) (bytes : List ℕ) (made x : X × List ℕ) → done made ≡ done x → Taken text Legal bytes made → Taken text Legal bytes x
 as_read text Legal bytes made x e t = subst (Taken text Legal bytes) (ok_is made x e) t
 
+-- and so is what passed a test
+pub as_passed : {X : Type 0} (text : X → List ℕ) (Legal : X → Type 0) (bytes : List ℕ) (made x : X × List ℕ) → made ≡ x → Taken text Legal bytes made → Taken text Legal bytes x
+as_passed text Legal bytes made x e t = subst (Taken text Legal bytes) e t
+
 -- ---- so many bytes
 
 pub record Cut (n : ℕ) (bytes : List ℕ) (x : List ℕ × List ℕ) : Type 0 where
