@@ -1,4 +1,5 @@
-//! A fold file.
+//! What is kept of a segment, as a file: its heads, of each data record what was wanted, and why its front ends. `docs/FOLD.md` has
+//! the layout. A fold has one file, which is written and read exactly.
 #![tactic(auto)]
 
 mod claim;
