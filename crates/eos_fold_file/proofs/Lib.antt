@@ -5,4 +5,6 @@ pub mod NumberCodecs
 pub mod RecordCodecs
 pub mod HeadCodecs
 pub mod FileCodecs
+pub mod LegalFolds
+pub mod FoldAnswers
 pub mod PossibleHeads

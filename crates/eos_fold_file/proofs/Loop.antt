@@ -1,7 +1,7 @@
 -- Reading and writing so many things one after the other, as a loop does.
-use Rattle.std.proofs.Common.{◌≡◌, ℕ, suc, ◌+◌, ◌-◌, ◌≤◌, ◌<◌, List, [], ◌∷◌, ◌++◌, length, take, get_or, Result, Ok, Err, refl, sym, ap, ◌∙◌, append_assoc, arith}
+use Rattle.std.proofs.Common.{◌≡◌, ℕ, suc, ◌+◌, ◌-◌, ◌≤◌, ◌<◌, List, [], ◌∷◌, ◌++◌, length, take, get_or, Result, Ok, Err, refl, sym, ap, ◌∙◌, append_assoc, arith, subst, below_more}
 use Rattle.std.specs.Prelude.{flat_map}
-use Rattle.std.proofs.lemmas.List.{append-nil, take_more}
+use Rattle.std.proofs.lemmas.List.{append-nil, take_more, get_or_default}
 use Rattle.std.proofs.lemmas.Grind.{flat_map-append}
 use Rattle.eos_base.specs.Fallible.{◌>>=◌}
 use Rattle.eos_fold_file.specs.declared.fault.FoldFault.{FoldFault}
@@ -68,3 +68,9 @@ three_pieces before a b c out1 out2 out3 e1 e2 e3 = rw (e3, e2, e1) (simp append
 
 pub four_pieces : (before a b c d out1 out2 out3 out4 : List ℕ) → out1 ≡ before ++ a → out2 ≡ out1 ++ b → out3 ≡ out2 ++ c → out4 ≡ out3 ++ d → out4 ≡ before ++ (a ++ (b ++ (c ++ d)))
 four_pieces before a b c d out1 out2 out3 out4 e1 e2 e3 e4 = rw (e4, e3, e2, e1) (simp append_assoc)
+
+-- what holds of each item before i, and of that at i, holds of each before i + 1
+pub each_more : {X : Type 0} (P : X → Type 0) (xs : List X) (i : ℕ) (e : X) → i < length xs
+    → ((k : ℕ) (d : X) → k < i → P (get_or xs k d)) → P (get_or xs i e) → (k : ℕ) (d : X) → k < i + 1 → P (get_or xs k d)
+each_more {X} P xs i e lt all here k d =
+    below_more (λ (j : ℕ). P (get_or xs j d)) i (λ j. all j d) (subst P (get_or_default xs i e d lt) here) k

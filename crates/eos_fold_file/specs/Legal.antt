@@ -107,3 +107,22 @@ pub record IsLegal (f : FoldFile) : Type 0 where
   pub offsets : IsTrue (fits_offsets f.base f.heads)
   pub kept : IsLegalKept (data_count f.heads) f.kept
   pub stop : IsLegalStop f.stop
+
+-- ---- what a fold has to keep beside the widths of its numbers, which those of a program have
+
+abbrev pub IsRightStop : Stop → Type 0
+IsRightStop AtEnd = ⊤
+IsRightStop (NoBatch segment byte fault) = IsReal fault
+IsRightStop (Elsewhere found) = ⊤
+
+-- one for each data record, and each claim's place is one of a topic
+abbrev pub IsRightKept : ℕ → FoldKept → Type 0
+IsRightKept n Presence = ⊤
+IsRightKept n (Claims topics outputs) = (length outputs ≡ n) × IsTrue (list_all (is_placed (length topics)) outputs)
+IsRightKept n (Texts texts) = length texts ≡ n
+
+pub record IsRight (f : FoldFile) : Type 0 where
+  pub heads : Each (λ h. IsTrue (is_possible h)) f.heads
+  pub offsets : IsTrue (fits_offsets f.base f.heads)
+  pub kept : IsRightKept (data_count f.heads) f.kept
+  pub stop : IsRightStop f.stop

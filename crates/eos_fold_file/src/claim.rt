@@ -13,6 +13,7 @@ ghost use Rattle.std.specs.Prelude.{◌≡◌, ◌++◌, IfOk, OnOk};
 ghost use Rattle.std.specs.List.{list_all};
 ghost use Rattle.eos_claims.specs.Slots.{plain_claim};
 ghost use Rattle.eos_fold_file.specs.Records.{is_placed, numbers_text, claim_text, optional_claim_text, output_text, numbers_from, claim_from, asked_from, foreign_from, some_claim_from, optional_claim_from, output_from, numbers_of};
+ghost use Rattle.eos_fold_file.specs.Legal.{AreClaimNumbers, IsLegalClaim, IsLegalOutput, IsLegalOptionalClaim};
 ghost use Rattle.eos_fold_file.specs.steps.Faults.{Gives};
 
 use crate::entry::Entry;
@@ -64,7 +65,8 @@ fn read_numbers(rest: &mut Cursor<'_>) -> Result<ClaimNumbers, FoldFault>
 }
 
 fn write_numbers(out: &mut Vec<u8>, numbers: ClaimNumbers) -> Result<(), AllocError>
-    ensures { OnOk result (out.new.items ≡ out.old.items ++ numbers_text numbers) }
+    ensures text { OnOk result (out.new.items ≡ out.old.items ++ numbers_text numbers) }
+    ensures fit { OnOk result (AreClaimNumbers numbers) }
 {
     write_number(out, i64::from(numbers.partition))?;
     write_u64(out, numbers.offset)?;
@@ -99,7 +101,8 @@ fn numbers_of(claim: &Claim) -> ClaimNumbers
 }
 
 fn write_claim(out: &mut Vec<u8>, claim: &Claim) -> Result<(), AllocError>
-    ensures { OnOk result (out.new.items ≡ out.old.items ++ claim_text claim.now) }
+    ensures text { OnOk result (out.new.items ≡ out.old.items ++ claim_text claim.now) }
+    ensures fit { OnOk result (IsLegalClaim claim.now) }
 {
     write_slice(out, claim.topic.as_slice())?;
     write_numbers(out, numbers_of(claim))
@@ -158,7 +161,8 @@ fn read_output(alloc: Global, rest: &mut Cursor<'_>) -> Result<KeptOutput, FoldF
 
 /// Appends a claim whose topic is lent.
 fn write_lent(out: &mut Vec<u8>, claim: ClaimRef<'_>) -> Result<(), AllocError>
-    ensures { OnOk result (out.new.items ≡ out.old.items ++ claim_text (plain_claim claim.entry)) }
+    ensures text { OnOk result (out.new.items ≡ out.old.items ++ claim_text (plain_claim claim.entry)) }
+    ensures fit { OnOk result (IsLegalClaim (plain_claim claim.entry)) }
 {
     write_slice(out, claim.topic)?;
     write_numbers(
@@ -195,7 +199,8 @@ pub(crate) fn are_placed(outputs: &[KeptOutput], topics: usize) -> bool
 }
 
 fn write_output(out: &mut Vec<u8>, kept: &KeptOutput) -> Result<(), AllocError>
-    ensures { OnOk result (out.new.items ≡ out.old.items ++ output_text kept.now) }
+    ensures text { OnOk result (out.new.items ≡ out.old.items ++ output_text kept.now) }
+    ensures fit { OnOk result (IsLegalOutput kept.now) }
 {
     match kept {
         KeptOutput::Unclaimed => write_i8(out, 0),
@@ -224,11 +229,14 @@ fn write_output(out: &mut Vec<u8>, kept: &KeptOutput) -> Result<(), AllocError>
 }
 
 impl Entry for KeptOutput {
+    ghost use Rattle.eos_fold_file.specs.Legal.{IsLegalOutput};
     ghost use Rattle.eos_fold_file.specs.Records.{output_from, output_text};
 
     ghost entry_from = { output_from };
 
     ghost entry_text = { output_text };
+
+    ghost entry_fits = { IsLegalOutput };
 
     fn read(alloc: Global, rest: &mut Cursor<'_>) -> Result<KeptOutput, FoldFault> {
         read_output(alloc, rest)
@@ -261,7 +269,8 @@ fn read_optional_claim(rest: &mut Cursor<'_>) -> Result<Option<Claim>, FoldFault
 }
 
 fn write_optional_claim(out: &mut Vec<u8>, claim: &Option<Claim>) -> Result<(), AllocError>
-    ensures { OnOk result (out.new.items ≡ out.old.items ++ optional_claim_text claim.now) }
+    ensures text { OnOk result (out.new.items ≡ out.old.items ++ optional_claim_text claim.now) }
+    ensures fit { OnOk result (IsLegalOptionalClaim claim.now) }
 {
     match claim {
         None => write_i8(out, 0),
@@ -273,11 +282,14 @@ fn write_optional_claim(out: &mut Vec<u8>, claim: &Option<Claim>) -> Result<(), 
 }
 
 impl Entry for FoldText {
+    ghost use Rattle.eos_fold_file.specs.Legal.{IsLegalText};
     ghost use Rattle.eos_fold_file.specs.Records.{key_value_from, key_value_text};
 
     ghost entry_from = { key_value_from };
 
     ghost entry_text = { key_value_text };
+
+    ghost entry_fits = { IsLegalText };
 
     #[tactic(auto, unfolding(crate::specs::Records::key_value_from))]
     fn read(_alloc: Global, rest: &mut Cursor<'_>) -> Result<FoldText, FoldFault> {

@@ -2,6 +2,7 @@
 
 ghost use Rattle.std.specs.Prelude.{◌≡◌, ◌++◌, flat_map, OnOk};
 ghost use Rattle.eos_fold_file.specs.Numbers.{many_from};
+ghost use Rattle.eos_fold_file.specs.Legal.{Each};
 ghost use Rattle.eos_fold_file.specs.steps.Faults.{Gives};
 
 use crate::fault::FoldFault;
@@ -23,11 +24,15 @@ pub(crate) trait Entry: Drop + Sized {
     /// Its bytes.
     ghost entry_text: { Self → List ℕ };
 
+    /// Its numbers are of their widths.
+    ghost entry_fits: { Self → Type 0 };
+
     fn read(alloc: Global, rest: &mut Cursor<'_>) -> Result<Self, FoldFault>
         ensures { Gives result rest.new (entry_from rest.old) };
 
     fn write(&self, out: &mut Vec<u8>) -> Result<(), AllocError>
-        ensures { OnOk result (out.new.items ≡ out.old.items ++ entry_text self.now) };
+        ensures text { OnOk result (out.new.items ≡ out.old.items ++ entry_text self.now) }
+        ensures fit { OnOk result (entry_fits self.now) };
 }
 
 /// So many entries. Their list grows as they are read, so a count that the bytes don't bear out reserves nothing.
@@ -48,7 +53,8 @@ pub(crate) fn read_many<T: Entry>(
 
 /// Appends entries, one after the other.
 pub(crate) fn write_many<T: Entry>(out: &mut Vec<u8>, entries: &[T]) -> Result<(), AllocError>
-    ensures { OnOk result (out.new.items ≡ out.old.items ++ flat_map T.entry_text entries.now) }
+    ensures text { OnOk result (out.new.items ≡ out.old.items ++ flat_map T.entry_text entries.now) }
+    ensures fit { OnOk result (Each T.entry_fits entries.now) }
 {
     for entry in entries {
         entry.write(out)?;
@@ -57,11 +63,14 @@ pub(crate) fn write_many<T: Entry>(out: &mut Vec<u8>, entries: &[T]) -> Result<(
 }
 
 impl Entry for Bytes {
+    ghost use Rattle.eos_fold_file.specs.Legal.{IsText};
     ghost use Rattle.eos_fold_file.specs.Numbers.{bytes_from, bytes_text};
 
     ghost entry_from = { bytes_from };
 
     ghost entry_text = { bytes_text };
+
+    ghost entry_fits = { IsText };
 
     fn read(_alloc: Global, rest: &mut Cursor<'_>) -> Result<Bytes, FoldFault> {
         read_bytes(rest)

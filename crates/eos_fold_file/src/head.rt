@@ -10,7 +10,9 @@
 
 ghost use Rattle.std.specs.Prelude.{◌≡◌, ◌++◌, OnOk};
 ghost use Rattle.eos_fold_file.specs.Heads.{batch_head, batch_marker, kind_number, epoch_text, batch_kind_text, producer_text, commit_from, abort_from, batch_kind_from, is_possible, names_producer, is_control_kind};
+ghost use Rattle.eos_fold_file.specs.Legal.{IsLegalKind};
 ghost use Rattle.eos_fold_file.specs.steps.Faults.{Gives};
+ghost use Rattle.eos_fold_file.specs.steps.Widths.{HasProducerWidths};
 
 use crate::entry::Entry;
 use crate::fault::FoldFault;
@@ -103,7 +105,8 @@ fn kind_number(is_transactional: bool, kind: BatchKind) -> i8
 }
 
 fn write_epoch(out: &mut Vec<u8>, kind: BatchKind) -> Result<(), AllocError>
-    ensures { OnOk result (out.new.items ≡ out.old.items ++ epoch_text kind) }
+    ensures text { OnOk result (out.new.items ≡ out.old.items ++ epoch_text kind) }
+    ensures fit { OnOk result (IsLegalKind kind) }
 {
     match kind {
         BatchKind::Data => Ok(()),
@@ -114,7 +117,8 @@ fn write_epoch(out: &mut Vec<u8>, kind: BatchKind) -> Result<(), AllocError>
 }
 
 fn write_kind(out: &mut Vec<u8>, is_transactional: bool, kind: BatchKind) -> Result<(), AllocError>
-    ensures { OnOk result (out.new.items ≡ out.old.items ++ batch_kind_text is_transactional kind) }
+    ensures text { OnOk result (out.new.items ≡ out.old.items ++ batch_kind_text is_transactional kind) }
+    ensures fit { OnOk result (IsLegalKind kind) }
 {
     write_i8(out, kind_number(is_transactional, kind))?;
     write_epoch(out, kind)
@@ -123,7 +127,8 @@ fn write_kind(out: &mut Vec<u8>, is_transactional: bool, kind: BatchKind) -> Res
 // ---- the head
 
 fn write_producer(out: &mut Vec<u8>, head: FoldHead) -> Result<(), AllocError>
-    ensures { OnOk result (out.new.items ≡ out.old.items ++ producer_text head) }
+    ensures text { OnOk result (out.new.items ≡ out.old.items ++ producer_text head) }
+    ensures fit { OnOk result (HasProducerWidths head) }
 {
     write_number(out, head.producer)?;
     write_number(out, i64::from(head.epoch))?;
@@ -204,10 +209,13 @@ impl FoldHead {
 
 impl Entry for FoldHead {
     ghost use Rattle.eos_fold_file.specs.Heads.{head_from, head_text};
+    ghost use Rattle.eos_fold_file.specs.steps.Widths.{HasHeadWidths};
 
     ghost entry_from = { head_from };
 
     ghost entry_text = { head_text };
+
+    ghost entry_fits = { HasHeadWidths };
 
     #[tactic(auto, unfolding(crate::specs::Heads::head_from))]
     fn read(_alloc: Global, rest: &mut Cursor<'_>) -> Result<FoldHead, FoldFault> {

@@ -14,6 +14,7 @@ ghost use Rattle.std.specs.Prelude.{◌≡◌, ◌++◌, ◌≤ℤ◌, ◌≤◌
 ghost use Rattle.std.specs.Option.{option_map};
 ghost use Rattle.eos_wire.specs.Writing.{varlong_of};
 ghost use Rattle.eos_fold_file.specs.Numbers.{u64_text, bytes_text, optional_text, is_shortest, kind_from, number_from, within_from, i32_from, i16_from, u64_from, u32_from, bytes_from, optional_from};
+ghost use Rattle.eos_fold_file.specs.Legal.{IsText, IsOptionalText};
 ghost use Rattle.eos_fold_file.specs.steps.Faults.{Gives};
 
 use crate::fault::FoldFault;
@@ -153,7 +154,8 @@ pub(crate) fn write_u64(out: &mut Vec<u8>, number: u64) -> Result<(), AllocError
 
 /// Appends a text.
 pub(crate) fn write_slice(out: &mut Vec<u8>, text: &[u8]) -> Result<(), AllocError>
-    ensures { OnOk result (out.new.items ≡ out.old.items ++ bytes_text text.now) }
+    ensures text { OnOk result (out.new.items ≡ out.old.items ++ bytes_text text.now) }
+    ensures fit { OnOk result (IsText text.now) }
 {
     write_varlong(out, text.len() as i64)?;
     out.extend_from_slice(text)
@@ -161,7 +163,8 @@ pub(crate) fn write_slice(out: &mut Vec<u8>, text: &[u8]) -> Result<(), AllocErr
 
 /// Appends a text that may be null.
 pub(crate) fn write_optional(out: &mut Vec<u8>, text: &Option<Bytes>) -> Result<(), AllocError>
-    ensures { OnOk result (out.new.items ≡ out.old.items ++ optional_text text.now) }
+    ensures text { OnOk result (out.new.items ≡ out.old.items ++ optional_text text.now) }
+    ensures fit { OnOk result (IsOptionalText text.now) }
 {
     match text {
         None => write_varlong(out, -1),

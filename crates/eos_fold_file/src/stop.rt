@@ -10,6 +10,7 @@
 ghost use Rattle.std.specs.Prelude.{◌≡◌, ◌++◌, OnOk};
 ghost use Rattle.eos_fold_file.specs.Stops.{fault_number, fault_of, fault_from, stop_text, no_batch_from, elsewhere_from, stop_from};
 ghost use Rattle.eos_fold_file.specs.steps.Faults.{Gives};
+ghost use Rattle.eos_fold_file.specs.steps.Widths.{HasStopWidths};
 
 use crate::fault::FoldFault;
 use crate::number::{read_kind, read_u64, write_u64};
@@ -102,7 +103,8 @@ pub(crate) fn read_stop(rest: &mut Cursor<'_>) -> Result<Stop, FoldFault>
 }
 
 pub(crate) fn write_stop(out: &mut Vec<u8>, stop: Stop) -> Result<(), AllocError>
-    ensures { OnOk result (out.new.items ≡ out.old.items ++ stop_text stop) }
+    ensures text { OnOk result (out.new.items ≡ out.old.items ++ stop_text stop) }
+    ensures fit { OnOk result (HasStopWidths stop) }
 {
     match stop {
         Stop::AtEnd => write_i8(out, 0),

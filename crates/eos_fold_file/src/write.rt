@@ -2,8 +2,9 @@
 
 ghost use Rattle.std.specs.Prelude.{◌≡◌, ◌++◌, ◌<◌, ◌^◌, OnOk, IfOk};
 ghost use Rattle.eos_fold_file.specs.Files.{wanted_number, segment_text, front_text, heads_text, kept_text, body_text, fold_text};
-ghost use Rattle.eos_fold_file.specs.Legal.{IsLegal};
+ghost use Rattle.eos_fold_file.specs.Legal.{IsRight};
 ghost use Rattle.eos_fold_file.specs.Reading.{read_fold};
+ghost use Rattle.eos_fold_file.specs.steps.Widths.{HasSegmentWidths, AreHeadWidths, HasKeptWidths, HasWidths};
 ghost use Rattle.eos_wire.specs.Crc.{crc32c_of};
 
 use crate::entry::write_many;
@@ -27,7 +28,8 @@ fn wanted_number(wanted: Wanted) -> i8
 
 /// Which segment it is, and how many bytes it has.
 fn write_segment(out: &mut Vec<u8>, fold: &FoldFile) -> Result<(), AllocError>
-    ensures { OnOk result (out.new.items ≡ out.old.items ++ segment_text fold.now) }
+    ensures text { OnOk result (out.new.items ≡ out.old.items ++ segment_text fold.now) }
+    ensures fit { OnOk result (HasSegmentWidths fold.now) }
 {
     write_slice(out, fold.topic.as_slice())?;
     write_number(out, i64::from(fold.partition))?;
@@ -36,7 +38,8 @@ fn write_segment(out: &mut Vec<u8>, fold: &FoldFile) -> Result<(), AllocError>
 }
 
 fn write_front(out: &mut Vec<u8>, fold: &FoldFile) -> Result<(), AllocError>
-    ensures { OnOk result (out.new.items ≡ out.old.items ++ front_text fold.now) }
+    ensures text { OnOk result (out.new.items ≡ out.old.items ++ front_text fold.now) }
+    ensures fit { OnOk result (HasSegmentWidths fold.now) }
 {
     out.extend_from_slice(b"EOSFOLD".as_slice())?;
     write_i8(out, 1)?;
@@ -45,14 +48,16 @@ fn write_front(out: &mut Vec<u8>, fold: &FoldFile) -> Result<(), AllocError>
 }
 
 fn write_heads(out: &mut Vec<u8>, heads: &[FoldHead]) -> Result<(), AllocError>
-    ensures { OnOk result (out.new.items ≡ out.old.items ++ heads_text heads.now) }
+    ensures text { OnOk result (out.new.items ≡ out.old.items ++ heads_text heads.now) }
+    ensures fit { OnOk result (AreHeadWidths heads.now) }
 {
     write_u64(out, heads.len() as u64)?;
     write_many(out, heads)
 }
 
 fn write_kept(out: &mut Vec<u8>, kept: &FoldKept) -> Result<(), AllocError>
-    ensures { OnOk result (out.new.items ≡ out.old.items ++ kept_text kept.now) }
+    ensures text { OnOk result (out.new.items ≡ out.old.items ++ kept_text kept.now) }
+    ensures fit { OnOk result (HasKeptWidths kept.now) }
 {
     match kept {
         FoldKept::Presence => Ok(()),
@@ -67,7 +72,8 @@ fn write_kept(out: &mut Vec<u8>, kept: &FoldKept) -> Result<(), AllocError>
 
 #[tactic(auto, unfolding(crate::specs::Files::body_text))]
 fn write_body(out: &mut Vec<u8>, fold: &FoldFile) -> Result<(), AllocError>
-    ensures { OnOk result (out.new.items ≡ out.old.items ++ body_text fold.now) }
+    ensures text { OnOk result (out.new.items ≡ out.old.items ++ body_text fold.now) }
+    ensures fit { OnOk result (HasWidths fold.now) }
 {
     write_front(out, fold)?;
     write_heads(out, fold.heads.as_slice())?;
@@ -77,7 +83,8 @@ fn write_body(out: &mut Vec<u8>, fold: &FoldFile) -> Result<(), AllocError>
 
 fn write_fold(alloc: Global, fold: &FoldFile) -> Result<Vec<u8>, AllocError>
     ensures bytes { IfOk result (λ bytes. bytes.items ≡ fold_text fold.now) }
-    ensures checksum { IfOk result (λ bytes. crc32c_of (body_text fold.now) < 2 ^ 32) }
+    ensures checksum { OnOk result (crc32c_of (body_text fold.now) < 2 ^ 32) }
+    ensures fit { OnOk result (HasWidths fold.now) }
 {
     let mut out = Vec::new(alloc);
     write_body(&mut out, fold)?;
@@ -86,13 +93,13 @@ fn write_fold(alloc: Global, fold: &FoldFile) -> Result<Vec<u8>, AllocError>
     Ok(out)
 }
 
-/// The bytes of a fold file.
+/// The bytes of a fold file, which read back as the fold where its heads, counts and places are right.
 ///
 /// # Errors
 /// Only want of memory.
 pub fn encode_fold(alloc: Global, fold: &FoldFile) -> Result<Vec<u8>, AllocError>
     ensures bytes { IfOk result (λ bytes. bytes.items ≡ fold_text fold.now) }
-    ensures reads_back { IsLegal fold.now → IfOk result (λ bytes. read_fold bytes.items ≡ Ok fold.now) }
+    ensures reads_back { IsRight fold.now → IfOk result (λ bytes. read_fold bytes.items ≡ Ok fold.now) }
 {
     write_fold(alloc, fold)
 }

@@ -5,8 +5,8 @@ use Rattle.eos_wire.specs.Writing.{varlong_of}
 use Rattle.eos_fold_file.proofs.Loop.{three_pieces}
 use Rattle.eos_fold_file.proofs.head.write_producer.Goals as goal
 
-pub returns : goal.returns
-returns c =
+pub returns-clause-text : goal.returns-clause-text
+returns-clause-text c =
     let h = c.args.head in
     let producer : c.write_number.new.out.items ≡ c.args.out.now.items ++ varlong_of h.producer = search rules in
     let epoch : c.write_number-2.new.out.items ≡ c.write_number.new.out.items ++ varlong_of h.epoch = search rules in

@@ -2,7 +2,7 @@ use Rattle.std.proofs.Common.{ℕ, List, subst}
 use Rattle.eos_wire.specs.Numbers.{IsBytes}
 use Rattle.eos_fold_file.specs.Faults.{Answers}
 use Rattle.eos_fold_file.specs.Reading.{read_fold}
-use Rattle.eos_fold_file.proofs.FileCodecs.{fold_answered, each_fold_answered}
+use Rattle.eos_fold_file.proofs.FoldAnswers.{fold_answered, each_fold_answered}
 use Rattle.eos_fold_file.proofs.read.decode_fold.Goals as goal
 
 pub returns-clause-text : goal.returns-clause-text

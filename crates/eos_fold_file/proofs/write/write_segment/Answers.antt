@@ -5,8 +5,8 @@ use Rattle.eos_fold_file.specs.Numbers.{u64_text, bytes_text}
 use Rattle.eos_fold_file.proofs.Loop.{four_pieces}
 use Rattle.eos_fold_file.proofs.write.write_segment.Goals as goal
 
-pub returns : goal.returns
-returns c =
+pub returns-clause-text : goal.returns-clause-text
+returns-clause-text c =
     let f = c.args.fold.now in
     let topic : c.write_slice.new.out.items ≡ c.args.out.now.items ++ bytes_text f.topic = search rules in
     let partition : c.write_number.new.out.items ≡ c.write_slice.new.out.items ++ varlong_of f.partition = search rules in
