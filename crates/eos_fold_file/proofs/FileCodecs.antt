@@ -259,6 +259,9 @@ kept_whole n (Texts texts) rest h = rw (← h.0, many_whole key_value_text IsLeg
 front_of : FoldFile → Front
 front_of f = record { wanted = wanted_in f.kept; topic = f.topic; partition = f.partition; base = f.base; bytes = f.bytes }
 
+begun_with : (f : Front) (w : Wanted) → f.wanted ≡ w → begin_text f ≡ magic ++ (i8_text (pos 1) ++ (wanted_text w ++ behind_text f))
+begun_with f w e = ap (λ (v : Wanted). magic ++ (i8_text (pos 1) ++ (wanted_text v ++ behind_text f))) e
+
 body_sound : (bytes : List ℕ) (x : FoldFile × List ℕ) → IsBytes bytes → body_from bytes ≡ Ok x → Taken body_text IsLegal bytes x
 unfolding body_from body_text
 body_sound bytes x fits e =
@@ -274,7 +277,7 @@ body_sound bytes x fits e =
     let made : FoldFile × List ℕ = (file, s.0.1) in
     let q1 = glue h.0.1 (kept_text k.0.0) k.0.1 (stop_text s.0.0) s.0.1 kept.parts stop.parts in
     let q2 = glue f.0.1 (heads_text h.0.0) h.0.1 (kept_text k.0.0 ++ stop_text s.0.0) s.0.1 heads.parts q1 in
-    let same : begin_text f.0.0 ≡ front_text file = ap (λ (w : Wanted). magic ++ (i8_text (pos 1) ++ (wanted_text w ++ behind_text f.0.0))) (sym kept.legal.0) in
+    let same : begin_text f.0.0 ≡ front_text file = begun_with f.0.0 (wanted_in k.0.0) (sym kept.legal.0) in
     let begun : bytes ≡ front_text file ++ f.0.1 = front.parts ∙ ap (λ (ts : List ℕ). ts ++ f.0.1) same in
     as_read body_text IsLegal bytes made x s.2 (record {
       parts = glue bytes (front_text file) f.0.1 (heads_text h.0.0 ++ (kept_text k.0.0 ++ stop_text s.0.0)) s.0.1 begun q2;

@@ -8,3 +8,4 @@ pub mod FileCodecs
 pub mod LegalFolds
 pub mod FoldAnswers
 pub mod PossibleHeads
+pub mod RealHeads

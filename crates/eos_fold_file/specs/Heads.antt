@@ -7,6 +7,7 @@ use Rattle.eos_wire.specs.Numbers.{i8_text}
 use Rattle.eos_wire.specs.Writing.{varlong_of}
 use Rattle.eos_batch.specs.declared.head.BatchHead.{BatchHead}
 use Rattle.eos_batch.specs.declared.marker.Marker.{Marker}
+use Rattle.eos_batch.specs.declared.marker.Kind.{Kind}
 use Rattle.eos_batch.specs.declared.marker.Kind.TheVariants as ends
 use Rattle.eos_fold_file.specs.declared.fault.FoldFault.{FoldFault}
 use Rattle.eos_fold_file.specs.declared.fault.FoldFault.TheVariants as faults
@@ -66,6 +67,28 @@ batch_head offset h = record {
   is_control = is_control_kind h.kind;
   is_transactional = h.is_transactional;
   marker = batch_marker h;
+}
+
+-- ---- the head of a batch, wherever it stands
+
+abbrev pub ended_by : Kind → ℤ → BatchKind
+ended_by ends.Commit epoch = Commit epoch
+ended_by ends.Abort epoch = Abort epoch
+
+abbrev pub kind_in : Bool → Option Marker → BatchKind
+kind_in false marker = Data
+kind_in true None = Control
+kind_in true (Some m) = ended_by m.kind m.coordinator_epoch
+
+abbrev pub fold_head : BatchHead → FoldHead
+fold_head h = record {
+  kind = kind_in h.is_control h.marker;
+  is_transactional = h.is_transactional;
+  count = h.count;
+  size = h.size;
+  producer = h.producer;
+  epoch = h.epoch;
+  sequence = h.sequence;
 }
 
 -- ---- what is written

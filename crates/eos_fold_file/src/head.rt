@@ -9,7 +9,7 @@
 //! | producer, epoch, sequence | numbers | producer id and epoch, base sequence |
 
 ghost use Rattle.std.specs.Prelude.{◌≡◌, ◌++◌, OnOk};
-ghost use Rattle.eos_fold_file.specs.Heads.{batch_head, batch_marker, kind_number, epoch_text, batch_kind_text, producer_text, commit_from, abort_from, batch_kind_from, is_possible, names_producer, is_control_kind};
+ghost use Rattle.eos_fold_file.specs.Heads.{fold_head, kind_in, batch_head, batch_marker, kind_number, epoch_text, batch_kind_text, producer_text, commit_from, abort_from, batch_kind_from, is_possible, names_producer, is_control_kind};
 ghost use Rattle.eos_fold_file.specs.Legal.{IsLegalKind};
 ghost use Rattle.eos_fold_file.specs.steps.Faults.{Gives};
 ghost use Rattle.eos_fold_file.specs.steps.Widths.{HasProducerWidths};
@@ -135,7 +135,38 @@ fn write_producer(out: &mut Vec<u8>, head: FoldHead) -> Result<(), AllocError>
     write_number(out, i64::from(head.sequence))
 }
 
+/// What the batch of a head is.
+fn kind_in(head: &BatchHead) -> BatchKind
+    ensures { result ≡ kind_in head.now.is_control head.now.marker }
+{
+    if !head.is_control {
+        return BatchKind::Data;
+    }
+    let Some(marker) = head.marker else {
+        return BatchKind::Control;
+    };
+    match marker.kind {
+        Kind::Commit => BatchKind::Commit(marker.coordinator_epoch),
+        Kind::Abort => BatchKind::Abort(marker.coordinator_epoch),
+    }
+}
+
 impl FoldHead {
+    /// The head of a batch, wherever it stands.
+    pub fn of(head: &BatchHead) -> FoldHead
+        ensures { result ≡ fold_head head.now }
+    {
+        FoldHead {
+            kind: kind_in(head),
+            is_transactional: head.is_transactional,
+            count: head.count,
+            size: head.size,
+            producer: head.producer,
+            epoch: head.epoch,
+            sequence: head.sequence,
+        }
+    }
+
     pub(crate) fn is_control(&self) -> bool
         ensures { result ≡ is_control_kind self.now.kind }
     {
