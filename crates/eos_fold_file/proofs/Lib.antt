@@ -1,0 +1,11 @@
+pub mod Loop
+pub mod Takes
+pub mod Shortest
+pub mod NumberCodecs
+pub mod RecordCodecs
+pub mod HeadCodecs
+pub mod FileCodecs
+pub mod LegalFolds
+pub mod FoldAnswers
+pub mod PossibleHeads
+pub mod RealHeads

@@ -1,0 +1,10 @@
+pub mod Faults
+pub mod Numbers
+pub mod Records
+pub mod Heads
+pub mod Stops
+pub mod Files
+pub mod Reading
+pub mod Legal
+pub mod Batches
+pub mod steps

@@ -1,0 +1,4 @@
+-- What only private functions promise: steps towards what the public calls say.
+pub mod Faults
+pub mod Counts
+pub mod Widths

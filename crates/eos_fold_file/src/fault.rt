@@ -1,0 +1,65 @@
+//! Why bytes are no fold file.
+
+ghost use Rattle.std.specs.Prelude.{◌≡◌};
+ghost use Rattle.eos_fold_file.specs.declared.fault.FoldFault.TheVariants.{OutOfMemory};
+ghost use Rattle.eos_fold_file.specs.Faults.{name_of};
+
+use std::alloc::{AllocError, AllocFailed};
+use thiserror::Error;
+
+/// The first field of a fold file that can't be read. Its text is its name.
+#[derive(Clone, Copy, Debug, PartialEq, Eq, Error)]
+#[error("{name}", name = self.name())]
+pub enum FoldFault {
+    /// The bytes run out.
+    Short,
+    /// The file doesn't begin as a fold file does.
+    Magic,
+    /// Another version of the format.
+    Version,
+    /// What was wanted of the records is none of the three roles.
+    Roles,
+    /// A number is spelled longer than it need be, or doesn't fit its field.
+    Number,
+    /// No batch has this head, or the offsets of the batches pass the greatest i64.
+    Head,
+    /// What is kept of a record is of no known kind.
+    Record,
+    /// The front ends for no known reason.
+    Stop,
+    /// The checksum differs.
+    Crc,
+    /// Bytes are left.
+    Trailing,
+    /// A growth of memory was refused.
+    OutOfMemory,
+}
+
+impl FoldFault {
+    /// The fault's name.
+    pub fn name(self) -> &'static str
+        ensures { result.now ≡ name_of self }
+    {
+        match self {
+            FoldFault::Short => "Short",
+            FoldFault::Magic => "Magic",
+            FoldFault::Version => "Version",
+            FoldFault::Roles => "Roles",
+            FoldFault::Number => "Number",
+            FoldFault::Head => "Head",
+            FoldFault::Record => "Record",
+            FoldFault::Stop => "Stop",
+            FoldFault::Crc => "Crc",
+            FoldFault::Trailing => "Trailing",
+            FoldFault::OutOfMemory => "OutOfMemory",
+        }
+    }
+}
+
+impl From<AllocError> for FoldFault {
+    ghost from_gives = { λ _ e. e ≡ OutOfMemory };
+
+    fn from(_e: AllocError) -> FoldFault {
+        FoldFault::OutOfMemory
+    }
+}

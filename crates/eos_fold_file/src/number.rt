@@ -1,0 +1,173 @@
+//! The numbers and texts of a fold file.
+//!
+//! | Read | Bytes | Meaning |
+//! |---|---|---|
+//! | kind | 1 | INT8: which of several forms follows |
+//! | number | 1 to 10 | VARLONG in its shortest spelling: signed, groups of seven bits |
+//! | unsigned number | 1 to 10 | the signed number of the same 64 bits |
+//! | text | 1 to 10, and its bytes | the number of its bytes, and the bytes; -1 is null where a text may be |
+//!
+//! The source of VARLONG is Kafka's protocol guide. A number in a longer spelling than its shortest is refused, so a value has one
+//! text only.
+
+ghost use Rattle.std.specs.Prelude.{◌≡◌, ◌++◌, ◌≤ℤ◌, ◌≤◌, length, OnOk, IfOk};
+ghost use Rattle.std.specs.Option.{option_map};
+ghost use Rattle.eos_wire.specs.Writing.{varlong_of};
+ghost use Rattle.eos_fold_file.specs.Numbers.{u64_text, bytes_text, optional_text, is_shortest, kind_from, number_from, within_from, i32_from, i16_from, u64_from, u32_from, bytes_from, optional_from};
+ghost use Rattle.eos_fold_file.specs.Legal.{IsText, IsOptionalText};
+ghost use Rattle.eos_fold_file.specs.steps.Faults.{Gives};
+
+use crate::fault::FoldFault;
+use bytes::Bytes;
+use eos_wire::{Cursor, read_varlong, write_varlong};
+use std::alloc::AllocError;
+
+/// The most bytes of a number.
+const MOST: usize = 10;
+
+/// A kind: which of several forms follows.
+pub(crate) fn read_kind(rest: &mut Cursor<'_>) -> Result<i8, FoldFault>
+    ensures { Gives result rest.new (kind_from rest.old) }
+{
+    rest.i8().ok_or(FoldFault::Short)
+}
+
+/// Whether a number's spelling of so many bytes at the front is its shortest.
+fn is_shortest(bytes: &[u8], len: usize) -> bool
+    requires { (1 ≤ len) × (len ≤ length bytes.now) }
+    ensures { result ≡ is_shortest bytes.now len }
+{
+    len == 1 || bytes[len - 1] != 0
+}
+
+/// A number of 64 bits.
+#[tactic(auto, unfolding(crate::specs::Numbers::number_from))]
+pub(crate) fn read_number(rest: &mut Cursor<'_>) -> Result<i64, FoldFault>
+    ensures { Gives result rest.new (number_from rest.old) }
+{
+    let bytes = rest.rest();
+    let Some((number, len)) = read_varlong(bytes) else {
+        if bytes.len() < MOST {
+            return Err(FoldFault::Short);
+        }
+        return Err(FoldFault::Number);
+    };
+    if !is_shortest(bytes, len) {
+        return Err(FoldFault::Number);
+    }
+    rest.take(len);
+    Ok(number)
+}
+
+/// A number from this one to that one.
+#[tactic(auto, unfolding(crate::specs::Numbers::within_from))]
+fn read_within(rest: &mut Cursor<'_>, low: i64, high: i64) -> Result<i64, FoldFault>
+    ensures read { Gives result rest.new (within_from low high rest.old) }
+    ensures within { IfOk result (λ number. (low ≤ℤ number) × (number ≤ℤ high)) }
+{
+    let number = read_number(rest)?;
+    if number < low || high < number {
+        return Err(FoldFault::Number);
+    }
+    Ok(number)
+}
+
+/// A number of 32 bits.
+pub(crate) fn read_i32(rest: &mut Cursor<'_>) -> Result<i32, FoldFault>
+    ensures { Gives result rest.new (i32_from rest.old) }
+{
+    let number = read_within(rest, -0x8000_0000, 0x7fff_ffff)?;
+    Ok(number as i32)
+}
+
+/// A number of 16 bits.
+pub(crate) fn read_i16(rest: &mut Cursor<'_>) -> Result<i16, FoldFault>
+    ensures { Gives result rest.new (i16_from rest.old) }
+{
+    let number = read_within(rest, -0x8000, 0x7fff)?;
+    Ok(number as i16)
+}
+
+/// An unsigned number of 64 bits.
+#[tactic(auto, unfolding(crate::specs::Numbers::u64_from))]
+pub(crate) fn read_u64(rest: &mut Cursor<'_>) -> Result<u64, FoldFault>
+    ensures { Gives result rest.new (u64_from rest.old) }
+{
+    let number = read_number(rest)?;
+    Ok(number.cast_unsigned())
+}
+
+/// An unsigned number of 32 bits.
+#[tactic(auto, unfolding(crate::specs::Numbers::u32_from))]
+pub(crate) fn read_u32(rest: &mut Cursor<'_>) -> Result<u32, FoldFault>
+    ensures { Gives result rest.new (u32_from rest.old) }
+{
+    let number = read_u64(rest)?;
+    if number > u64::from(u32::MAX) {
+        return Err(FoldFault::Number);
+    }
+    Ok(number as u32)
+}
+
+/// A text, which shares the file's bytes.
+#[tactic(auto, unfolding(crate::specs::Numbers::bytes_from))]
+pub(crate) fn read_bytes(rest: &mut Cursor<'_>) -> Result<Bytes, FoldFault>
+    ensures { Gives result rest.new (bytes_from rest.old) }
+{
+    let len = read_number(rest)?;
+    if len < 0 {
+        return Err(FoldFault::Number);
+    }
+    let text = rest.take(len as usize).ok_or(FoldFault::Short)?;
+    Ok(text.share()?)
+}
+
+/// A text that may be null, which shares the file's bytes.
+#[tactic(auto, unfolding(crate::specs::Numbers::optional_from))]
+pub(crate) fn read_optional(rest: &mut Cursor<'_>) -> Result<Option<Bytes>, FoldFault>
+    ensures { Gives result rest.new (optional_from rest.old) }
+{
+    let len = read_number(rest)?;
+    if len == -1 {
+        return Ok(None);
+    }
+    if len < 0 {
+        return Err(FoldFault::Number);
+    }
+    let text = rest.take(len as usize).ok_or(FoldFault::Short)?;
+    Ok(Some(text.share()?))
+}
+
+/// Appends a number.
+pub(crate) fn write_number(out: &mut Vec<u8>, number: i64) -> Result<(), AllocError>
+    ensures { OnOk result (out.new.items ≡ out.old.items ++ varlong_of number) }
+{
+    write_varlong(out, number)
+}
+
+/// Appends an unsigned number.
+pub(crate) fn write_u64(out: &mut Vec<u8>, number: u64) -> Result<(), AllocError>
+    ensures { OnOk result (out.new.items ≡ out.old.items ++ u64_text number) }
+{
+    write_varlong(out, number.cast_signed())
+}
+
+/// Appends a text.
+pub(crate) fn write_slice(out: &mut Vec<u8>, text: &[u8]) -> Result<(), AllocError>
+    ensures text { OnOk result (out.new.items ≡ out.old.items ++ bytes_text text.now) }
+    ensures fit { OnOk result (IsText text.now) }
+{
+    write_varlong(out, text.len() as i64)?;
+    out.extend_from_slice(text)
+}
+
+/// Appends a text that may be null.
+pub(crate) fn write_optional(out: &mut Vec<u8>, text: &Option<Bytes>) -> Result<(), AllocError>
+    ensures text { OnOk result (out.new.items ≡ out.old.items ++ optional_text text.now) }
+    ensures fit { OnOk result (IsOptionalText text.now) }
+{
+    match text {
+        None => write_varlong(out, -1),
+        Some(text) => write_slice(out, text.as_slice()),
+    }
+}

@@ -1,0 +1,230 @@
+//! A fold file, read from its bytes.
+//!
+//! | Field | Form | Meaning |
+//! |---|---|---|
+//! | magic | 7 bytes | `EOSFOLD` |
+//! | version | kind | 1 |
+//! | roles | kind | what was wanted of the records: 0 presence, 1 claims, 2 texts |
+//! | topic, partition, base | text, numbers | which segment it is |
+//! | bytes | unsigned number | how many bytes the segment has |
+//! | heads | unsigned number, and so many heads | the batches of the front |
+//! | topics | at 1: unsigned number, and so many texts | those that were asked for |
+//! | kept | at 1 and 2: one for each data record | what is kept of it |
+//! | stop | as its module says | why the front ends |
+//! | checksum | UINT32 | CRC-32C of all bytes before it |
+
+ghost use Rattle.std.specs.Prelude.{◌≡◌, IfOk};
+ghost use Rattle.eos_fold_file.specs.declared.file.FoldFile.{FoldFile};
+ghost use Rattle.eos_fold_file.specs.Faults.{Answers};
+ghost use Rattle.eos_fold_file.specs.Files.{fold_text};
+ghost use Rattle.eos_fold_file.specs.Legal.{IsLegal};
+ghost use Rattle.eos_fold_file.specs.Reading.{magic_from, version_from, wanted_from, front_from, heads_from, placed_claims, claims_from, texts_from, kept_from, body_from, read_fold};
+ghost use Rattle.eos_fold_file.specs.steps.Faults.{Gives};
+ghost use Rattle.eos_fold_file.specs.steps.Counts.{IsCountedHeads, GivesHeads};
+
+use crate::claim::{FoldText, are_placed};
+use crate::entry::read_many;
+use crate::fault::FoldFault;
+use crate::file::{FoldFile, FoldKept};
+use crate::head::FoldHead;
+use crate::number::{read_bytes, read_i32, read_kind, read_number, read_u64};
+use crate::stop::read_stop;
+use bytes::Bytes;
+use eos_base::Listed;
+use eos_keeping::KeptOutput;
+use eos_wanted::Wanted;
+use eos_wire::{Cursor, are_bytes, crc32c};
+use std::alloc::Global;
+
+/// What stands before the batches.
+#[derive(Drop)]
+struct Front {
+    wanted: Wanted,
+    topic: Bytes,
+    partition: i32,
+    base: i64,
+    bytes: u64,
+}
+
+#[tactic(auto, unfolding(crate::specs::Reading::magic_from))]
+fn read_magic<'a>(rest: &mut Cursor<'a>) -> Result<Cursor<'a>, FoldFault>
+    ensures { Gives result rest.new (magic_from rest.old) }
+{
+    let found = rest.take(7).ok_or(FoldFault::Short)?;
+    if found.rest() != b"EOSFOLD".as_slice() {
+        return Err(FoldFault::Magic);
+    }
+    Ok(found)
+}
+
+#[tactic(auto, unfolding(crate::specs::Reading::version_from))]
+fn read_version(rest: &mut Cursor<'_>) -> Result<i8, FoldFault>
+    ensures { Gives result rest.new (version_from rest.old) }
+{
+    let version = read_kind(rest)?;
+    if version != 1 {
+        return Err(FoldFault::Version);
+    }
+    Ok(version)
+}
+
+#[tactic(auto, unfolding(crate::specs::Reading::wanted_from))]
+fn read_wanted(rest: &mut Cursor<'_>) -> Result<Wanted, FoldFault>
+    ensures { Gives result rest.new (wanted_from rest.old) }
+{
+    match read_kind(rest)? {
+        0 => Ok(Wanted::Presence),
+        1 => Ok(Wanted::Claims),
+        2 => Ok(Wanted::Texts),
+        _ => Err(FoldFault::Roles),
+    }
+}
+
+#[tactic(auto, unfolding(crate::specs::Reading::front_from))]
+fn read_front(rest: &mut Cursor<'_>) -> Result<Front, FoldFault>
+    ensures { Gives result rest.new (front_from rest.old) }
+{
+    read_magic(rest)?;
+    read_version(rest)?;
+    let wanted = read_wanted(rest)?;
+    let topic = read_bytes(rest)?;
+    let partition = read_i32(rest)?;
+    let base = read_number(rest)?;
+    let bytes = read_u64(rest)?;
+    Ok(Front {
+        wanted,
+        topic,
+        partition,
+        base,
+        bytes,
+    })
+}
+
+/// The offset after the last record of batches from this one on, or the greatest u64 where that is less; and how many data records
+/// they have, where no offset passes the greatest i64.
+fn count_records(begin: u64, heads: &[FoldHead]) -> (u64, u64)
+    ensures { IsCountedHeads begin heads.now result }
+{
+    let mut next = begin;
+    let mut data = 0u64;
+    for head in heads {
+        next = next.saturating_add(u64::from(head.count));
+        if !head.is_control() {
+            data = data.saturating_add(u64::from(head.count));
+        }
+    }
+    (next, data)
+}
+
+/// The heads, and how many data records they have.
+#[tactic(auto, unfolding(crate::specs::Reading::heads_from))]
+fn read_heads(
+    alloc: Global,
+    rest: &mut Cursor<'_>,
+    base: i64,
+) -> Result<(Listed<FoldHead>, u64), FoldFault>
+    ensures { GivesHeads result rest.new (heads_from base rest.old) }
+{
+    let count = read_u64(rest)?;
+    let heads: Listed<FoldHead> = read_many(alloc, rest, count)?;
+    let (next, data) = count_records(base.unsigned_abs(), heads.as_slice());
+    if next > 1 << 63 {
+        return Err(FoldFault::Head);
+    }
+    Ok((heads, data))
+}
+
+/// Claims, each of which names a place among the topics, or a topic.
+fn placed(topics: Listed<Bytes>, outputs: Listed<KeptOutput>) -> Result<FoldKept, FoldFault>
+    ensures { result ≡ placed_claims topics outputs }
+{
+    if !are_placed(outputs.as_slice(), topics.len()) {
+        return Err(FoldFault::Record);
+    }
+    Ok(FoldKept::Claims { topics, outputs })
+}
+
+#[tactic(auto, unfolding(crate::specs::Reading::claims_from))]
+fn read_claims(alloc: Global, rest: &mut Cursor<'_>, count: u64) -> Result<FoldKept, FoldFault>
+    ensures { Gives result rest.new (claims_from count rest.old) }
+{
+    let asked = read_u64(rest)?;
+    let topics: Listed<Bytes> = read_many(alloc, rest, asked)?;
+    let outputs: Listed<KeptOutput> = read_many(alloc, rest, count)?;
+    let claims = placed(topics, outputs)?;
+    Ok(claims)
+}
+
+#[tactic(auto, unfolding(crate::specs::Reading::texts_from))]
+fn read_texts(alloc: Global, rest: &mut Cursor<'_>, count: u64) -> Result<FoldKept, FoldFault>
+    ensures { Gives result rest.new (texts_from count rest.old) }
+{
+    let texts: Listed<FoldText> = read_many(alloc, rest, count)?;
+    Ok(FoldKept::Texts(texts))
+}
+
+fn read_kept(
+    alloc: Global,
+    rest: &mut Cursor<'_>,
+    wanted: Wanted,
+    count: u64,
+) -> Result<FoldKept, FoldFault>
+    ensures { Gives result rest.new (kept_from wanted count rest.old) }
+{
+    match wanted {
+        Wanted::Presence => Ok(FoldKept::Presence),
+        Wanted::Claims => read_claims(alloc, rest, count),
+        Wanted::Texts => read_texts(alloc, rest, count),
+    }
+}
+
+#[tactic(auto, unfolding(crate::specs::Reading::body_from))]
+fn read_body(alloc: Global, rest: &mut Cursor<'_>) -> Result<FoldFile, FoldFault>
+    ensures { Gives result rest.new (body_from rest.old) }
+{
+    let front = read_front(rest)?;
+    let (heads, count) = read_heads(alloc, rest, front.base)?;
+    let kept = read_kept(alloc, rest, front.wanted, count)?;
+    let stop = read_stop(rest)?;
+    Ok(FoldFile {
+        topic: front.topic,
+        partition: front.partition,
+        base: front.base,
+        bytes: front.bytes,
+        heads,
+        kept,
+        stop,
+    })
+}
+
+#[tactic(auto, unfolding(crate::specs::Reading::read_fold))]
+fn read_fold(alloc: Global, mut rest: Cursor<'_>) -> Result<FoldFile, FoldFault>
+    ensures { Answers result (read_fold rest.entry) }
+{
+    let bytes = rest.rest();
+    let fold = read_body(alloc, &mut rest)?;
+    let len = bytes.len().saturating_sub(rest.left());
+    let crc = rest.u32().ok_or(FoldFault::Short)?;
+    if crc != crc32c(&bytes[..len]) {
+        return Err(FoldFault::Crc);
+    }
+    if !rest.is_empty() {
+        return Err(FoldFault::Trailing);
+    }
+    Ok(fold)
+}
+
+/// The fold that a file says, and nothing else: its bytes are those that are written for it.
+///
+/// # Errors
+/// The first fault in field order. Short where the bytes run out, Magic, Version, Roles, Number, Head, Record and Stop where a
+/// field isn't one, Crc where the checksum differs, Trailing where bytes are left. OutOfMemory may come at any field; a count
+/// reserves nothing that the bytes don't bear out.
+pub fn decode_fold(alloc: Global, bytes: &Bytes) -> Result<FoldFile, FoldFault>
+    ensures answer { Answers result (read_fold bytes.now) }
+    ensures text { IfOk result (λ fold. (bytes.now ≡ fold_text fold) × IsLegal fold) }
+    ensures each_text { (fold : FoldFile) → IsLegal fold → bytes.now ≡ fold_text fold → Answers result (Ok fold) }
+{
+    are_bytes(bytes.as_slice());
+    read_fold(alloc, Cursor::new(bytes))
+}
