@@ -47,6 +47,7 @@ pub(crate) fn read_count(rest: &mut Cursor<'_>) -> Result<u32, BatchFault>
     Ok(count as u32)
 }
 
+#[inline(always)]
 fn take<'a>(rest: &mut Cursor<'a>, len: u32) -> Result<Cursor<'a>, BatchFault>
     ensures gives { Gives result rest.new (take_at len rest.old) }
     ensures real { IfErr result IsReal }
@@ -55,6 +56,7 @@ fn take<'a>(rest: &mut Cursor<'a>, len: u32) -> Result<Cursor<'a>, BatchFault>
 }
 
 /// A length and that many bytes.
+#[inline(always)]
 #[tactic(auto, unfolding(crate::specs::Reading::bytes_at))]
 pub(crate) fn read_bytes<'a>(rest: &mut Cursor<'a>) -> Result<Cursor<'a>, BatchFault>
     ensures gives { Gives result rest.new (bytes_at rest.old) }
