@@ -82,11 +82,7 @@ pub fn said(
 pub fn zeros(alloc: Global, count: usize) -> Result<Listed<u32>, AllocError>
     ensures { IfOk result (λ q. q ≡ replicate count 0) }
 {
-    let mut zeros = Vec::new(alloc);
-    for _ in 0..count {
-        zeros.push(0)?;
-    }
-    Ok(Listed::new(zeros))
+    Ok(Listed::new(vec![in alloc; 0; count]?))
 }
 
 /// The number at a place is one more.
