@@ -4,6 +4,7 @@ pub mod Records
 pub mod Heads
 pub mod Stops
 pub mod Files
+pub mod Folds
 pub mod Reading
 pub mod Legal
 pub mod Batches

@@ -26,7 +26,8 @@ use Rattle.eos_run.specs.declared.run.Run.{Run}
 use Rattle.eos_kept.specs.declared.front.Front.{Front}
 use Rattle.eos_kept.specs.Kept.{KeptView, IsKept}
 use Rattle.eos_kept.specs.Sizes.{AreSized}
-use Rattle.eos_kept.specs.steps.Passing.{EndsBefore, GoesAlong, Passes}
+use Rattle.eos_kept.specs.Passing.{GoesAlong}
+use Rattle.eos_kept.specs.steps.Passing.{EndsBefore, Passes}
 use Rattle.eos_kept.specs.steps.Folding.{FoldView, IsOpenAt, IsFolding, EndsAt, CutsAt}
 use Rattle.eos_kept.proofs.PassedHeads.{parted, left_none, left_next, kept_of-length}
 use Rattle.eos_kept.proofs.JoinedKept.{same_along, kept_joined, of_one}

@@ -22,7 +22,7 @@ use Rattle.eos_kept.specs.declared.front.Front.{Front}
 use Rattle.eos_kept.specs.declared.sizes.Sizes.{Sizes}
 use Rattle.eos_kept.specs.Sizes.{AreSized}
 use Rattle.eos_kept.specs.Kept.{KeepsFront, IsFrontOf, KeptView, IsKept}
-use Rattle.eos_kept.specs.steps.Passing.{GoesAlong}
+use Rattle.eos_kept.specs.Passing.{GoesAlong}
 
 begins_more : (xs ys : List Segment) (n : ℕ) → BeginsAt xs n → BeginsAt (xs ++ ys) n
 begins_more [] ys n h = absurd h

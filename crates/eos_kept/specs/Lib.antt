@@ -1,3 +1,4 @@
 pub mod Sizes
 pub mod Kept
+pub mod Passing
 pub mod steps

@@ -56,7 +56,7 @@ pub(crate) fn push_marker(
 
 impl Front {
     /// Before the first batch of a segment of this name.
-    pub(crate) fn new(alloc: Global, begin: u64, sequenced: bool) -> Front
+    pub fn new(alloc: Global, begin: u64, sequenced: bool) -> Front
         requires { begin ≤ 2 ^ 63 }
         ensures begin { result.begin ≡ begin }
         ensures stop { result.stop ≡ AtEnd }

@@ -1,37 +1,43 @@
-//! A chunk's batches, passed one after the other.
+//! Batches that are passed one after the other.
 
 ghost use Rattle.std.specs.Prelude.{◌≡◌, ◌≤◌, ◌+◌, ◌^◌, ◌∷◌, [], ◌++◌, List, IfOk, OnOk, if◌then◌else◌};
 ghost use Rattle.eos_batch.specs.declared.batch.Batch.{Batch};
 ghost use Rattle.eos_fold.specs.declared.stop.Stop.TheVariants.{AtEnd};
 ghost use Rattle.eos_run.specs.Runs.{IsRun};
-ghost use Rattle.eos_kept.specs.steps.Passing.{IsRealHead, AreHeads, GoesAlong, Passes};
+ghost use Rattle.eos_kept.specs.Passing.{IsRealHead, GoesAlong};
+ghost use Rattle.eos_kept.specs.steps.Passing.{AreHeads, Passes};
 
 use crate::front::{Front, push_marker};
 use eos_batch::BatchHead;
 use eos_fold::Stop;
 use std::alloc::{AllocError, Global};
 
-/// Passes the batch that begins at the front's next offset.
-fn pass_next(alloc: Global, front: &mut Front, head: &BatchHead) -> Result<(), AllocError>
-    requires run { IsRun front.old.run }
-    requires head { (b : Batch) × IsRealHead b head.now }
-    requires next { head.now.offset ≡ front.old.next }
-    ensures run { IsRun front.new.run }
-    ensures begin { front.new.begin ≡ front.old.begin }
-    ensures stop { front.new.stop ≡ front.old.stop }
-    ensures sequenced { front.new.run.sequenced ≡ front.old.run.sequenced }
-    ensures next { OnOk result (front.new.next ≡ front.old.next + head.now.count) }
-    ensures fits { OnOk result (front.new.next ≤ 2 ^ 63) }
-    ensures passed { (batches : List Batch) (b : Batch) → IsRealHead b head.now → GoesAlong batches front.old → OnOk result (GoesAlong (batches ++ b ∷ []) front.new) }
-{
-    let Some(batches) = front.batches.checked_add(1) else {
-        return Err(AllocError);
-    };
-    front.run.take(alloc, head)?;
-    push_marker(&mut front.markers, head.marker)?;
-    front.batches = batches;
-    front.next += u64::from(head.count);
-    Ok(())
+impl Front {
+    /// Passes the batch of this head, which begins at the front's next offset. After an error the front is of no use.
+    ///
+    /// # Errors
+    /// Only want of memory, or where a u64 doesn't hold the number of batches.
+    pub fn pass(&mut self, alloc: Global, head: &BatchHead) -> Result<(), AllocError>
+        requires run { IsRun self.old.run }
+        requires head { (b : Batch) × IsRealHead b head.now }
+        requires next { head.now.offset ≡ self.old.next }
+        ensures run { IsRun self.new.run }
+        ensures begin { self.new.begin ≡ self.old.begin }
+        ensures stop { self.new.stop ≡ self.old.stop }
+        ensures sequenced { self.new.run.sequenced ≡ self.old.run.sequenced }
+        ensures next { OnOk result (self.new.next ≡ self.old.next + head.now.count) }
+        ensures fits { OnOk result (self.new.next ≤ 2 ^ 63) }
+        ensures passed { (batches : List Batch) (b : Batch) → IsRealHead b head.now → GoesAlong batches self.old → OnOk result (GoesAlong (batches ++ b ∷ []) self.new) }
+    {
+        let Some(batches) = self.batches.checked_add(1) else {
+            return Err(AllocError);
+        };
+        self.run.take(alloc, head)?;
+        push_marker(&mut self.markers, head.marker)?;
+        self.batches = batches;
+        self.next += u64::from(head.count);
+        Ok(())
+    }
 }
 
 /// The number of a batch's data records.
@@ -67,7 +73,7 @@ pub(crate) fn pass_all(
             front.stop = Stop::Elsewhere { found: head.offset };
             return Ok(count);
         }
-        pass_next(alloc, front, &head)?;
+        front.pass(alloc, &head)?;
         count += data_records(&head);
     }
     Ok(count)

@@ -38,7 +38,8 @@ impl<T> Model for Kept<T> {
 }
 
 impl<T> Kept<T> {
-    pub(crate) fn new(front: Front, kept: Vec<T>, sizes: Sizes) -> Kept<T>
+    /// Of this front, with what is kept of its data records, and how large its segments are.
+    pub fn new(front: Front, kept: Vec<T>, sizes: Sizes) -> Kept<T>
         requires { IsRun front.run }
         ensures front { result.front ≡ front }
         ensures kept { result.kept ≡ kept.items }

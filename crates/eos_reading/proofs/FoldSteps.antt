@@ -1,5 +1,5 @@
 -- One batch more, one chunk more, and the end.
-use Rattle.std.proofs.Common.{◌≡◌, ◌≢◌, ℕ, ◌+◌, ◌≤◌, List, [], ◌∷◌, ◌++◌, length, drop, Some, None, Err, refl, sym, ap, subst, ◌∙◌, append_assoc, arith}
+use Rattle.std.proofs.Common.{◌≡◌, ◌≢◌, ℕ, ◌+◌, ◌-◌, ◌^◌, ◌≤◌, min, List, [], ◌∷◌, ◌++◌, length, drop, Some, None, Err, refl, sym, ap, subst, ◌∙◌, append_assoc, arith}
 use Rattle.std.proofs.lemmas.List.{append-nil, length-append, length-drop}
 use Rattle.std.proofs.lemmas.Grind.{flat_map-append}
 use Rattle.eos_wire.specs.Numbers.{IsBytes}
@@ -55,8 +55,8 @@ run_ends keep bytes heads heads' kept kept' at fault w e real =
 
 -- ---- one chunk more
 
-pub fold_none : {K : Type 0} (keep : ℕ → Record → K) (v : FoldView K) → v.heads ≡ [] → v.kept ≡ [] → v.place ≡ 0 → v.fault ≡ faults.Truncated → IsFold keep [] [] v
-fold_none keep v hs ks p f =
+pub fold_none : {K : Type 0} (keep : ℕ → Record → K) (v : FoldView K) → v.heads ≡ [] → v.kept ≡ [] → v.place ≡ 0 → v.fault ≡ faults.Truncated → v.taken ≡ 0 → IsFold keep [] [] v
+fold_none keep v hs ks p f t =
     record {
       batches = [];
       rest = [];
@@ -66,11 +66,12 @@ fold_none keep v hs ks p f =
       ends = batch_none ∙ ap (λ (e : BatchFault). Err e) (sym f);
       real = λ m. let q : faults.Truncated ≡ faults.OutOfMemory = sym f ∙ m in cc;
       waits = λ _. refl;
+      taken_is = omega (arith, t);
     }
 
 pub fold_on : {K : Type 0} (keep : ℕ → Record → K) (fed waiting more : List ℕ) (v w : FoldView K) (at : ℕ) → IsFold keep fed waiting v → v.fault ≡ faults.Truncated
-    → IsRun keep (waiting ++ more) v.heads w.heads v.kept w.kept at w.fault → w.place ≡ v.place + at → IsFold keep (fed ++ more) (drop at (waiting ++ more)) w
-fold_on {K} keep fed waiting more v w at f waits run place =
+    → IsRun keep (waiting ++ more) v.heads w.heads v.kept w.kept at w.fault → w.place ≡ v.place + at → w.taken ≡ w.place → IsFold keep (fed ++ more) (drop at (waiting ++ more)) w
+fold_on {K} keep fed waiting more v w at f waits run place took =
     let same = f.waits waits in
     let heads : HasHeads (fed ++ more) f.batches v.heads (waiting ++ more) = rw same (heads_more fed f.batches v.heads f.rest more f.heads_are) in
     record {
@@ -82,17 +83,19 @@ fold_on {K} keep fed waiting more v w at f waits run place =
       ends = run.ends;
       real = run.real;
       waits = λ _. refl;
+      taken_is = omega (arith, took, place, run.within, length-drop at (waiting ++ more), length-append waiting more, length-append fed more, ap length same, f.place_is);
     }
 
 -- in a buffer
 pub fold_taken : {K : Type 0} (keep : ℕ → Record → K) (fed waiting more buffer : List ℕ) (v w : FoldView K) (at : ℕ) → buffer ≡ waiting ++ more → IsFold keep fed waiting v → v.fault ≡ faults.Truncated
-    → IsRun keep buffer v.heads w.heads v.kept w.kept at w.fault → w.place ≡ v.place + at → IsFold keep (fed ++ more) (drop at buffer) w
-fold_taken keep fed waiting more buffer v w at e f waits run place =
+    → IsRun keep buffer v.heads w.heads v.kept w.kept at w.fault → w.place ≡ v.place + at → w.taken ≡ w.place → IsFold keep (fed ++ more) (drop at buffer) w
+fold_taken keep fed waiting more buffer v w at e f waits run place took =
     subst (λ (xs : List ℕ). IsFold keep (fed ++ more) (drop at xs) w) (sym e)
-    (fold_on keep fed waiting more v w at f waits (subst (λ (xs : List ℕ). IsRun keep xs v.heads w.heads v.kept w.kept at w.fault) e run) place)
+    (fold_on keep fed waiting more v w at f waits (subst (λ (xs : List ℕ). IsRun keep xs v.heads w.heads v.kept w.kept at w.fault) e run) place took)
 
-pub fold_stopped : {K : Type 0} (keep : ℕ → Record → K) (fed waiting more left : List ℕ) (v : FoldView K) → IsFold keep fed waiting v → v.fault ≢ faults.Truncated → IsFold keep (fed ++ more) left v
-fold_stopped keep fed waiting more left v f stopped =
+pub fold_stopped : {K : Type 0} (keep : ℕ → Record → K) (fed waiting more buffer : List ℕ) (v w : FoldView K) (taken : ℕ) → buffer ≡ waiting ++ more → taken ≡ length buffer → IsFold keep fed waiting v → v.fault ≢ faults.Truncated
+    → w.heads ≡ v.heads → w.kept ≡ v.kept → w.place ≡ v.place → w.fault ≡ v.fault → w.taken ≡ v.taken + taken → IsFold keep (fed ++ more) (drop taken buffer) w
+fold_stopped {K} keep fed waiting more buffer v w taken is all f stopped heads kept place fault took = subst (λ (x : FoldView K). IsFold keep (fed ++ more) (drop taken buffer) x) so (
     let still : batch_at f.rest ≢ Err faults.Truncated = λ q. stopped (let both : Err v.fault ≡ Err faults.Truncated = sym f.ends ∙ q in cc) in
     record {
       batches = f.batches;
@@ -103,7 +106,11 @@ fold_stopped keep fed waiting more left v f stopped =
       ends = batch_more f.rest more still ∙ f.ends;
       real = f.real;
       waits = λ q. absurd (stopped q);
-    }
+      taken_is = omega (arith, all, f.taken_is, length-drop taken buffer, ap length is, length-append waiting more, length-append fed more);
+    })
+  where
+    so : ◌≡◌ {A = FoldView K} (record { heads = v.heads; kept = v.kept; place = v.place; fault = v.fault; taken = v.taken + taken }) (record { heads = w.heads; kept = w.kept; place = w.place; fault = w.fault; taken = w.taken })
+    so = cc (heads, kept, place, fault, took)
 
 -- ---- the end
 
@@ -112,36 +119,39 @@ not_none rest fault e ne none = ne (let both : Err fault ≡ Err faults.Truncate
 
 -- a batch never stands there
 pub folded_stop : {K : Type 0} (keep : ℕ → Record → K) (bytes waiting : List ℕ) (v : FoldView K) (w : FoldedView K) → IsFold keep bytes waiting v → v.fault ≢ faults.Truncated
-    → w.heads ≡ v.heads → w.kept ≡ v.kept → w.stop ≡ Some (v.place, v.fault) → IsFolded keep bytes w
-folded_stop keep bytes waiting v w f stopped heads kept stop =
+    → w.heads ≡ v.heads → w.kept ≡ v.kept → w.stop ≡ Some (v.place, v.fault) → (count : ℕ) → length waiting ≡ count → w.bytes ≡ min (v.taken + count) (2 ^ 64 - 1) → IsFolded keep bytes w
+folded_stop keep bytes waiting v w f stopped heads kept stop count len size =
     record {
       batches = f.batches;
       rest = f.rest;
       heads_are = rw heads f.heads_are;
       stops = rw stop (not_none f.rest v.fault f.ends stopped, f.place_is, f.ends, f.real);
       kept_is = kept ∙ f.kept_is;
+      sized = λ few. omega (arith, size, few, len, f.taken_is);
     }
 
 -- the bytes end in a batch
 pub folded_cut : {K : Type 0} (keep : ℕ → Record → K) (bytes waiting : List ℕ) (v : FoldView K) (w : FoldedView K) → IsFold keep bytes waiting v → v.fault ≡ faults.Truncated → waiting ≢ []
-    → w.heads ≡ v.heads → w.kept ≡ v.kept → w.stop ≡ Some (v.place, v.fault) → IsFolded keep bytes w
-folded_cut keep bytes waiting v w f waits some heads kept stop =
+    → w.heads ≡ v.heads → w.kept ≡ v.kept → w.stop ≡ Some (v.place, v.fault) → (count : ℕ) → length waiting ≡ count → w.bytes ≡ min (v.taken + count) (2 ^ 64 - 1) → IsFolded keep bytes w
+folded_cut keep bytes waiting v w f waits some heads kept stop count len size =
     record {
       batches = f.batches;
       rest = f.rest;
       heads_are = rw heads f.heads_are;
       stops = rw stop (λ none. some (f.waits waits ∙ none), f.place_is, f.ends, f.real);
       kept_is = kept ∙ f.kept_is;
+      sized = λ few. omega (arith, size, few, len, f.taken_is);
     }
 
 -- nothing is left
 pub folded_all : {K : Type 0} (keep : ℕ → Record → K) (bytes waiting : List ℕ) (v : FoldView K) (w : FoldedView K) → IsFold keep bytes waiting v → v.fault ≡ faults.Truncated → waiting ≡ []
-    → w.heads ≡ v.heads → w.kept ≡ v.kept → w.stop ≡ None → IsFolded keep bytes w
-folded_all keep bytes waiting v w f waits none heads kept stop =
+    → w.heads ≡ v.heads → w.kept ≡ v.kept → w.stop ≡ None → (count : ℕ) → length waiting ≡ count → w.bytes ≡ min (v.taken + count) (2 ^ 64 - 1) → IsFolded keep bytes w
+folded_all keep bytes waiting v w f waits none heads kept stop count len size =
     record {
       batches = f.batches;
       rest = f.rest;
       heads_are = rw heads f.heads_are;
       stops = rw stop (sym (f.waits waits) ∙ none);
       kept_is = kept ∙ f.kept_is;
+      sized = λ few. omega (arith, size, few, len, f.taken_is);
     }

@@ -1,9 +1,6 @@
-pub mod Claims
-pub mod Commits
 pub mod Folds
 pub mod Heads
 pub mod Kept
 pub mod Places
 pub mod Runs
-pub mod Transactions
 pub mod steps

@@ -22,6 +22,8 @@ pub struct Fold<K: Reading> {
     place: u64,
     /// Why no batch stands there: `Truncated` as long as bytes may follow.
     fault: BatchFault,
+    /// How many bytes were taken: up to that byte, or all behind it where no batch ever stands there.
+    taken: u64,
 }
 
 impl<K: Reading> Model for Fold<K> {
@@ -29,7 +31,7 @@ impl<K: Reading> Model for Fold<K> {
 
     ghost Value = { FoldView K.Kept };
 
-    ghost view = { λ f. record { heads = f.heads.items; kept = f.kept.items; place = f.place; fault = f.fault } };
+    ghost view = { λ f. record { heads = f.heads.items; kept = f.kept.items; place = f.place; fault = f.fault; taken = f.taken } };
 }
 
 impl<K: Reading> ByteFold for Fold<K> {
@@ -41,6 +43,10 @@ impl<K: Reading> ByteFold for Fold<K> {
 
     fn take(&mut self, alloc: Global, told: &K, buffer: &Bytes) -> Result<usize, AllocError> {
         if self.fault != BatchFault::Truncated {
+            let Some(all) = self.taken.checked_add(buffer.len() as u64) else {
+                return Err(AllocError);
+            };
+            self.taken = all;
             return Ok(buffer.len());
         }
         let (taken, fault) = keep_batches(alloc, told, buffer, &mut self.heads, &mut self.kept)?;
@@ -49,6 +55,7 @@ impl<K: Reading> ByteFold for Fold<K> {
         };
         self.place = place;
         self.fault = fault;
+        self.taken = place;
         Ok(taken)
     }
 }
@@ -63,6 +70,7 @@ impl<K: Reading> Fold<K> {
             kept: Vec::new(alloc),
             place: 0,
             fault: BatchFault::Truncated,
+            taken: 0,
         }
     }
 
@@ -70,11 +78,13 @@ impl<K: Reading> Fold<K> {
     pub fn finish(self, waiting: usize) -> Folded<K::Kept>
         ensures { (keep : ℕ → Record → K.Kept) (bytes rest : List ℕ) → IsFold keep bytes rest self → length rest ≡ waiting → IsFolded keep bytes result }
     {
+        let bytes = self.taken.saturating_add(waiting as u64);
         if self.fault != BatchFault::Truncated {
             return Folded {
                 heads: self.heads,
                 kept: self.kept,
                 stop: Some((self.place, self.fault)),
+                bytes,
             };
         }
         if waiting == 0 {
@@ -82,12 +92,14 @@ impl<K: Reading> Fold<K> {
                 heads: self.heads,
                 kept: self.kept,
                 stop: None,
+                bytes,
             };
         }
         Folded {
             heads: self.heads,
             kept: self.kept,
             stop: Some((self.place, self.fault)),
+            bytes,
         }
     }
 }

@@ -11,6 +11,7 @@ pub struct Folded<T> {
     pub(crate) heads: Vec<BatchHead>,
     pub(crate) kept: Vec<T>,
     pub(crate) stop: Option<(u64, BatchFault)>,
+    pub(crate) bytes: u64,
 }
 
 impl<T> Model for Folded<T> {
@@ -18,7 +19,7 @@ impl<T> Model for Folded<T> {
 
     ghost Value = { FoldedView T };
 
-    ghost view = { λ f. record { heads = f.heads.items; kept = f.kept.items; stop = f.stop } };
+    ghost view = { λ f. record { heads = f.heads.items; kept = f.kept.items; stop = f.stop; bytes = f.bytes } };
 }
 
 impl<T> Folded<T> {
@@ -41,5 +42,20 @@ impl<T> Folded<T> {
         ensures { result ≡ self.now.stop }
     {
         self.stop
+    }
+
+    /// How many bytes the log has, whatever of them is of its batches.
+    pub fn bytes(&self) -> u64
+        ensures { result ≡ self.now.bytes }
+    {
+        self.bytes
+    }
+
+    /// The heads, and what is kept.
+    pub fn into_parts(self) -> (Vec<BatchHead>, Vec<T>)
+        ensures heads { result.0.items ≡ self.heads }
+        ensures kept { result.1.items ≡ self.kept }
+    {
+        (self.heads, self.kept)
     }
 }

@@ -6,24 +6,17 @@
 #![tactic(auto)]
 
 mod batch;
-mod claims;
-mod commits;
 mod fold;
 mod folded;
 mod log;
 mod nothing;
 mod placed;
-mod places;
 mod reading;
-mod transactions;
 
 pub use batch::keep_batches;
-pub use claims::{Claims, KeptClaim};
-pub use commits::{Commits, KeptCommit, KeptOffset};
 pub use fold::Fold;
 pub use folded::Folded;
 pub use log::fold_log;
 pub use nothing::Nothing;
 pub use placed::Placed;
 pub use reading::Reading;
-pub use transactions::{KeptState, Transactions};

@@ -22,10 +22,10 @@ impl<'a> Model for Placed<'a> {
 
 impl<'a> Placed<'a> {
     #[inline(always)]
-    pub(crate) fn new(record: RecordRef<'a>) -> Placed<'a>
-        ensures { result ≡ record.entry }
+    pub(crate) fn new(lent: RecordRef<'a>) -> Placed<'a>
+        ensures { result ≡ lent.entry }
     {
-        Placed { record }
+        Placed { record: lent }
     }
 
     /// Its fields, lent.

@@ -11,7 +11,7 @@ use Rattle.eos_fold.specs.declared.stop.Stop.TheVariants.{AtEnd, NoBatch, Elsewh
 use Rattle.eos_fold.specs.Fronts.{StopsAt}
 use Rattle.eos_reading.specs.Kept.{kept_of}
 use Rattle.eos_kept.specs.declared.front.Front.{Front}
-use Rattle.eos_kept.specs.steps.Passing.{GoesAlong}
+use Rattle.eos_kept.specs.Passing.{GoesAlong}
 
 -- the front, what is kept of its data records, and how many bytes were taken: up to its last batch, or behind its end all
 pub record FoldView (K : Type 0) : Type 0 where

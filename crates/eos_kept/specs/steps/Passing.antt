@@ -4,18 +4,10 @@ use Rattle.eos_batch.specs.declared.batch.Batch.{Batch}
 use Rattle.eos_batch.specs.declared.head.BatchHead.{BatchHead}
 use Rattle.eos_batch.specs.Attributes.{is_control}
 use Rattle.eos_batch.specs.Offsets.{offset_of}
-use Rattle.eos_batch.specs.Rules.{IsCounted}
-use Rattle.eos_touch.specs.Front.{ContinuesFrom}
 use Rattle.eos_fold.specs.declared.stop.Stop.{Stop}
 use Rattle.eos_fold.specs.declared.stop.Stop.TheVariants.{AtEnd, Elsewhere}
-use Rattle.eos_run.specs.Runs.{IsHeadOf}
 use Rattle.eos_kept.specs.declared.front.Front.{Front}
-use Rattle.eos_kept.specs.Kept.{KeepsFront}
-
--- the head of a batch whose offsets fit
-pub record IsRealHead (b : Batch) (head : BatchHead) : Type 0 where
-  pub of : IsHeadOf b head
-  pub counted : IsCounted b
+use Rattle.eos_kept.specs.Passing.{IsRealHead, GoesAlong}
 
 abbrev pub AreHeads : List Batch → List BatchHead → Type 0
 AreHeads [] [] = ⊤
@@ -32,11 +24,6 @@ data_count (b ∷ bs) = (if is_control b.attributes then 0 else length b.records
 abbrev pub EndsBefore : List Batch → Stop → ℕ → Type 0
 EndsBefore [] stop next = stop ≡ AtEnd
 EndsBefore (b ∷ bs) stop next = (stop ≡ Elsewhere (offset_of b)) × (offset_of b ≢ next)
-
--- a front that goes on from its name
-pub record GoesAlong (batches : List Batch) (f : Front) : Type 0 where
-  pub keeps : KeepsFront batches f
-  pub continuous : ContinuesFrom f.begin batches
 
 -- the first of these batches were passed, with so many data records
 pub record Passes (batches : List Batch) (old new : Front) (count : ℕ) : Type 0 where

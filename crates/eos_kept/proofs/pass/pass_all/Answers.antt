@@ -15,8 +15,8 @@ returns-then-head-front-clause-passed c = λ bs a.
     let at = slice_get_read hs (length hs) i c.index.result.now refl (omega (arith, n, c.loop-i-test.true)) c.index.ensures in
     passed_stop bs hs i c.index.result.now c.args.front.now c.loop-i.front _ c.loop-i.count a at c.if-head-front.true refl refl (λ before g. same_along before c.loop-i.front _ refl refl refl refl refl g) (c.loop-i.invariant.passed bs a)
 
-pub pass_next-requires-clause-head : goal.pass_next-requires-clause-head
-pass_next-requires-clause-head c =
+pub pass-requires-clause-head : goal.pass-requires-clause-head
+pass-requires-clause-head c =
     let hs = c.args.heads.now.items in
     let i = c.loop-i.i in
     let n : c.len-i-end.result ≡ length hs = search rules in
@@ -25,7 +25,7 @@ pass_next-requires-clause-head c =
     (m.batch, m.real)
 
 pub overflow_add-count : goal.overflow_add-count
-overflow_add-count c = omega (arith, c.loop-i.invariant.within, c.in_ok-pass_next.ensures.next, c.in_ok-pass_next.ensures.fits, c.data_records-count.ensures.bound)
+overflow_add-count c = omega (arith, c.loop-i.invariant.within, c.in_ok-pass.ensures.next, c.in_ok-pass.ensures.fits, c.data_records-count.ensures.bound)
 
 pub loop-i-preserved : goal.loop-i-preserved
 loop-i-preserved c =
@@ -33,15 +33,15 @@ loop-i-preserved c =
     let i = c.loop-i.i in
     let n : c.len-i-end.result ≡ length hs = search rules in
     let at = slice_get_read hs (length hs) i c.index.result.now refl (omega (arith, n, c.loop-i-test.true)) c.index.ensures in
-    let o = c.pass_next.ensures in
+    let o = c.pass.ensures in
     record {
       known = o.run;
       stop = o.stop ∙ c.loop-i.invariant.stop;
       begin = o.begin ∙ c.loop-i.invariant.begin;
       sequenced = o.sequenced ∙ c.loop-i.invariant.sequenced;
-      within = omega (arith, c.loop-i.invariant.within, c.in_ok-pass_next.ensures.next, c.data_records-count.ensures.bound);
+      within = omega (arith, c.loop-i.invariant.within, c.in_ok-pass.ensures.next, c.data_records-count.ensures.bound);
       passed = λ bs a.
-          passed_more bs hs i c.index.result.now c.args.front.now c.loop-i.front c.pass_next.new.front c.loop-i.count _ a at (let e = c.data_records-count.ensures.value in omega (arith, e)) (λ before b h g. c.in_ok-pass_next.ensures.passed before b h g)
+          passed_more bs hs i c.index.result.now c.args.front.now c.loop-i.front c.pass.new.self c.loop-i.count _ a at (let e = c.data_records-count.ensures.value in omega (arith, e)) (λ before b h g. c.in_ok-pass.ensures.passed before b h g)
           (c.loop-i.invariant.passed bs a);
     }
 

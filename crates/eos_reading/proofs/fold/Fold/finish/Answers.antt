@@ -8,16 +8,16 @@ use Rattle.eos_reading.proofs.fold.Fold.finish.Goals as goal
 pub returns-then-ne : goal.returns-then-ne
 returns-then-ne g c = λ keep bytes rest f len.
     let stopped : c.self.inside.fault ≢ faults.Truncated = search rules in
-    folded_stop keep bytes rest _ _ (subst (λ v. IsFold keep bytes rest v) (sym c.self.view_is) f) stopped refl refl refl
+    folded_stop keep bytes rest _ _ (subst (λ v. IsFold keep bytes rest v) (sym c.self.view_is) f) stopped refl refl refl _ len c.saturating_add-bytes.ensures
 
 pub returns-then-waiting-eq0 : goal.returns-then-waiting-eq0
 returns-then-waiting-eq0 g c = λ keep bytes rest f len.
     let waits : c.self.inside.fault ≡ faults.Truncated = search rules in
     let none : rest ≡ [] = nil_from_length rest (omega (arith, len, c.if-waiting-eq0.true)) in
-    folded_all keep bytes rest _ _ (subst (λ v. IsFold keep bytes rest v) (sym c.self.view_is) f) waits none refl refl refl
+    folded_all keep bytes rest _ _ (subst (λ v. IsFold keep bytes rest v) (sym c.self.view_is) f) waits none refl refl refl _ len c.saturating_add-bytes.ensures
 
 pub returns : goal.returns
 returns g c = λ keep bytes rest f len.
     let waits : c.self.inside.fault ≡ faults.Truncated = search rules in
     folded_cut keep bytes rest _ _ (subst (λ v. IsFold keep bytes rest v) (sym c.self.view_is) f) waits
-    (λ none. c.if-waiting-eq0.false (sym len ∙ ap (λ (xs : List ℕ). length xs) none)) refl refl refl
+    (λ none. c.if-waiting-eq0.false (sym len ∙ ap (λ (xs : List ℕ). length xs) none)) refl refl refl _ len c.saturating_add-bytes.ensures

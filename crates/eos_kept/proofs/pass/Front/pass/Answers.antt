@@ -1,6 +1,6 @@
 use Rattle.std.proofs.Common.{◌≡◌, ◌+◌, ◌∷◌, [], ◌++◌, refl, rules}
 use Rattle.eos_kept.proofs.PassedHeads.{front_more}
-use Rattle.eos_kept.proofs.pass.pass_next.Goals as goal
+use Rattle.eos_kept.proofs.pass.Front.pass.Goals as goal
 
 pub returns-in_err-push_marker-clause-run : goal.returns-in_err-push_marker-clause-run
 returns-in_err-push_marker-clause-run c =
@@ -16,5 +16,5 @@ returns-clause-run c =
 
 pub returns-clause-passed : goal.returns-clause-passed
 returns-clause-passed c = λ batches b h g.
-    let counted : c.in-Some.batches ≡ c.args.front.now.batches + 1 = search rules in
-    front_more batches b c.args.head.now c.args.front.now _ c.from.result h c.requires.next c.from.ensures refl refl counted c.in_ok-push_marker.ensures (λ r. c.in_ok-take.ensures.ok batches b h.of r) g
+    let counted : c.in-Some.batches ≡ c.args.self.now.batches + 1 = search rules in
+    front_more batches b c.args.head.now c.args.self.now _ c.from.result h c.requires.next c.from.ensures refl refl counted c.in_ok-push_marker.ensures (λ r. c.in_ok-take.ensures.ok batches b h.of r) g

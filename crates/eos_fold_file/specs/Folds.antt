@@ -1,0 +1,51 @@
+-- The fold of a segment: its front, of each batch the head, of each data record what was wanted, and why the front ends.
+-- Source: Kafka's documentation, "Log" (a segment is a run of record batches, named by its first offset) and Message Format,
+-- "Record Batch" and "Record".
+use Rattle.std.specs.Prelude.{◌≡◌, ℕ, ◌+◌, List, [], ◌∷◌, ◌++◌, length, ⊤}
+use Rattle.eos_batch.specs.declared.batch.Batch.{Batch}
+use Rattle.eos_batch.specs.declared.record.Record.{Record}
+use Rattle.eos_batch.specs.Heads.{head_of}
+use Rattle.eos_batch.specs.Text.{IsBatchText}
+use Rattle.eos_claims.specs.Headers.{claim_of}
+use Rattle.eos_evidence.specs.declared.segment.Segment.{Segment}
+use Rattle.eos_touch.specs.Front.{records_in, ContinuesFrom}
+use Rattle.eos_fold.specs.Fronts.{base_of, StopsAt}
+use Rattle.eos_reading.specs.Kept.{kept_of}
+use Rattle.eos_keeping.specs.Outputs.{kept_output}
+use Rattle.eos_fold_file.specs.declared.claim.FoldText.{FoldText}
+use Rattle.eos_fold_file.specs.declared.file.FoldFile.{FoldFile}
+use Rattle.eos_fold_file.specs.declared.file.FoldKept.{FoldKept}
+use Rattle.eos_fold_file.specs.declared.file.FoldKept.TheVariants.{Presence, Claims, Texts}
+use Rattle.eos_fold_file.specs.declared.head.FoldHead.{FoldHead}
+use Rattle.eos_fold_file.specs.Heads.{fold_head}
+
+-- the bytes are texts of these batches, and the rest; each head is its batch's, with the number of its bytes
+abbrev pub HasFoldHeads : List ℕ → List Batch → List FoldHead → List ℕ → Type 0
+HasFoldHeads bytes [] [] rest = bytes ≡ rest
+HasFoldHeads bytes [] (h ∷ hs) rest = ⊥
+HasFoldHeads bytes (b ∷ bs) [] rest = ⊥
+HasFoldHeads bytes (b ∷ bs) (h ∷ hs) rest =
+    (text more : List ℕ) × IsBatchText text b × (bytes ≡ text ++ more) × (h ≡ fold_head (head_of b (length text))) × HasFoldHeads more bs hs rest
+
+-- what is kept of a record of Kafka's own logs
+abbrev pub fold_text_of : Record → FoldText
+fold_text_of r = record { key = r.key; value = r.value; claim = claim_of r.headers }
+
+-- of each data record of these batches what was wanted
+abbrev pub IsKeptOf : List Batch → FoldKept → Type 0
+IsKeptOf batches Presence = ⊤
+IsKeptOf batches (Claims topics outputs) = outputs ≡ kept_of (λ offset r. kept_output topics (claim_of r.headers)) batches
+IsKeptOf batches (Texts texts) = texts ≡ kept_of (λ offset r. fold_text_of r) batches
+
+-- this is the fold of the segment
+pub record IsFoldOf (segment : Segment) (f : FoldFile) : Type 0 where
+  pub topic : f.topic ≡ segment.topic
+  pub partition : f.partition ≡ segment.partition
+  pub base : f.base ≡ segment.base
+  pub bytes : f.bytes ≡ length segment.bytes
+  pub batches : List Batch
+  pub rest : List ℕ
+  pub heads : HasFoldHeads segment.bytes batches f.heads rest
+  pub continuous : ContinuesFrom (base_of segment) batches
+  pub stops : StopsAt (base_of segment) (base_of segment + records_in batches) segment.bytes rest f.stop
+  pub kept : IsKeptOf batches f.kept
