@@ -14,6 +14,6 @@ returns-then-ne-clause-goes_on g c = λ fed waiting more f is.
 pub returns-clause-goes_on : goal.returns-clause-goes_on
 returns-clause-goes_on g c = λ fed waiting more f is.
     let waits : c.self.inside.fault ≡ faults.Truncated = search rules in
-    let place : c.in-Some.place ≡ c.self.inside.place + c.in_ok-taken.taken = search rules in
+    let place : c.in-Some-checked_add.place ≡ c.self.inside.place + c.in_ok-taken.taken = search rules in
     fold_taken (g.K.Reading.kept c.args.told.now) fed waiting more c.args.buffer.now _ _ c.in_ok-taken.taken is
     (subst (λ v. IsFold (g.K.Reading.kept c.args.told.now) fed waiting v) (sym c.self.view_is) f) waits c.in_ok-taken.ensures place refl
