@@ -17,4 +17,5 @@ mod told;
 
 pub use logs::{KeptLogs, Tally, kept_logs};
 pub use memory::{MemoryFault, MemorySource};
-pub use source::Source;
+pub use plan::source_topics;
+pub use source::{Piece, Source};
