@@ -1,27 +1,27 @@
 -- The front of a log that was folded, and the fold of its segment.
-use Rattle.std.proofs.Common.{◌≡◌, ◌≢◌, ℕ, ◌+◌, ◌<◌, ◌≤◌, ◌^◌, Bool, true, not, List, [], ◌∷◌, ◌++◌, length, map, take, Option, Some, None, pos, refl, sym, ap, subst, ◌∙◌, arith}
-use Rattle.std.specs.Prelude.{IsTrue, nat_lt, unsigned_abs}
+use Rattle.std.proofs.Common.{◌≡◌, ℕ, ◌+◌, ◌<◌, ◌≤◌, ◌^◌, not, List, [], ◌∷◌, ◌++◌, length, map, take, Option, Some, None, pos, refl, sym, ap, subst, ◌∙◌, arith}
+use Rattle.std.specs.Prelude.{unsigned_abs}
 use Rattle.std.specs.List.{list_all}
 use Rattle.std.proofs.lemmas.Bool.{le-ltb}
-use Rattle.std.proofs.lemmas.Int.{ints}
 use Rattle.std.proofs.lemmas.Grind.{flat_map-append}
 use Rattle.eos_batch.specs.declared.batch.Batch.{Batch}
 use Rattle.eos_batch.specs.declared.fault.BatchFault.{BatchFault}
 use Rattle.eos_batch.specs.declared.head.BatchHead.{BatchHead}
 use Rattle.eos_batch.specs.declared.record.Record.{Record}
-use Rattle.eos_batch.specs.Heads.{head_of}
 use Rattle.eos_batch.specs.Offsets.{offset_of}
 use Rattle.eos_batch.specs.Segment as logs
 use Rattle.eos_claims.specs.Headers.{claim_of}
 use Rattle.eos_touch.specs.Front.{records_in, ContinuesFrom}
 use Rattle.eos_touch.proofs.Continuity.{abs_pos, fits_on}
 use Rattle.eos_fold.specs.declared.stop.Stop.{Stop}
-use Rattle.eos_fold.specs.declared.stop.Stop.TheVariants.{AtEnd, NoBatch, Elsewhere}
+use Rattle.eos_fold.specs.declared.stop.Stop.TheVariants.{NoBatch}
 use Rattle.eos_fold.specs.Fronts.{StopsAt}
 use Rattle.eos_reading.specs.Folds.{FoldedView, IsFolded}
 use Rattle.eos_reading.specs.Heads.{HasHeads}
 use Rattle.eos_reading.specs.Kept.{kept_in, kept_of}
 use Rattle.eos_reading.proofs.KeptLists.{taken_back}
+use Rattle.eos_keeping.specs.declared.output.KeptOutput.{KeptOutput}
+use Rattle.eos_keeping.specs.Outputs.{kept_output}
 use Rattle.eos_fold_file.specs.declared.file.FoldFile.{FoldFile}
 use Rattle.eos_fold_file.specs.declared.file.FoldKept.{FoldKept}
 use Rattle.eos_fold_file.specs.declared.file.FoldKept.TheVariants.{Presence, Claims, Texts}
@@ -113,10 +113,19 @@ front_is {K} keep begin bytes v p f kept small folded passes heads stop sized cu
       sized = sized ∙ folded.sized small;
     }
 
--- the same of what follows from what is kept
-pub front_with : (P Q : List Batch → Type 0) (begin : ℕ) (bytes : List ℕ) (f : Front) → ((bs : List Batch) → P bs → Q bs) → IsFront begin bytes P f → IsFront begin bytes Q f
-front_with P Q begin bytes f step h =
-    record { batches = h.batches; rest = h.rest; heads_are = h.heads_are; continuous = h.continuous; stops = h.stops; right = h.right; kept_is = step h.batches h.kept_is; sized = h.sized }
+-- what is kept of claims, with a copy of the topics
+pub claims_front : (asked topics : List (List ℕ)) (outputs kept : List KeptOutput) (begin : ℕ) (bytes : List ℕ) (f : Front) → topics ≡ asked → kept ≡ outputs
+    → IsFront begin bytes (λ bs. outputs ≡ kept_of (λ offset r. kept_output asked (claim_of r.headers)) bs) f → IsFront begin bytes (λ bs. IsKeptOf bs (Claims topics kept)) f
+claims_front asked topics outputs kept begin bytes f same are h = record {
+  batches = h.batches;
+  rest = h.rest;
+  heads_are = h.heads_are;
+  continuous = h.continuous;
+  stops = h.stops;
+  right = h.right;
+  kept_is = are ∙ (h.kept_is ∙ ap (λ (ts : List (List ℕ)). kept_of (λ offset r. kept_output ts (claim_of r.headers)) h.batches) (sym same));
+  sized = h.sized;
+}
 
 -- ---- the fold is right
 
@@ -126,14 +135,14 @@ kept_right (Claims topics outputs) bytes bs hs rest s h =
     (ap length h ∙ kept_counted _ bytes bs hs rest s, ap (list_all (is_placed (length topics))) h ∙ all_placed topics bs)
 kept_right (Texts texts) bytes bs hs rest s h = ap length h ∙ kept_counted _ bytes bs hs rest s
 
-pub fold_right : (fold : FoldFile) (bytes : List ℕ) (f : Front) → unsigned_abs fold.base ≤ 2 ^ 63 → fold.heads ≡ f.heads → fold.stop ≡ f.stop → IsFront (unsigned_abs fold.base) bytes (λ bs. IsKeptOf bs fold.kept) f → IsRight fold
-fold_right fold bytes f le heads stop h =
+pub fold_right : (fold : FoldFile) (begin : ℕ) (bytes : List ℕ) (f : Front) → begin ≡ unsigned_abs fold.base → begin ≤ 2 ^ 63 → fold.heads ≡ f.heads → fold.stop ≡ f.stop → IsFront begin bytes (λ bs. IsKeptOf bs fold.kept) f → IsRight fold
+fold_right fold begin bytes f name le heads stop h =
     let are : HasFoldHeads bytes h.batches fold.heads h.rest = subst (λ (hs : List FoldHead). HasFoldHeads bytes h.batches hs h.rest) (sym heads) h.heads_are in
     let count = records_counted bytes h.batches fold.heads h.rest are in
-    let fit = records_fit (unsigned_abs fold.base) bytes h.batches fold.heads h.rest le h.continuous are in
+    let fit = records_fit begin bytes h.batches fold.heads h.rest le h.continuous are in
     record {
       heads = all_possible bytes h.batches fold.heads h.rest are;
-      offsets = ap not (le-ltb (unsigned_abs fold.base + record_count fold.heads) (2 ^ 63) (omega (arith, fit, count)));
+      offsets = ap not (le-ltb (2 ^ 63) (unsigned_abs fold.base + record_count fold.heads) (omega (arith, fit, count, name)));
       kept = kept_right fold.kept bytes h.batches fold.heads h.rest are h.kept_is;
       stop = subst IsRightStop (sym stop) h.right;
     }

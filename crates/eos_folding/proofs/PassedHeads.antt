@@ -1,5 +1,5 @@
 -- Heads that are passed one after the other.
-use Rattle.std.proofs.Common.{◌≡◌, ◌≢◌, ℕ, zero, suc, ◌+◌, ◌<◌, ◌≤◌, ◌^◌, List, [], ◌∷◌, ◌++◌, length, get_or, map, take, drop, Option, Some, None, refl, sym, ap, subst, ◌∙◌, arith}
+use Rattle.std.proofs.Common.{◌≡◌, ◌≢◌, ℕ, zero, suc, ◌+◌, ◌<◌, ◌≤◌, ◌^◌, List, [], ◌∷◌, ◌++◌, length, get_or, map, take, drop, Some, None, refl, sym, ap, subst, ◌∙◌, arith}
 use Rattle.std.proofs.lemmas.List.{append-nil, map-append, take-append-drop, take_all, take_more, drop_more}
 use Rattle.std.proofs.lemmas.List.Sums.{sum_by-cons, sum_by_push}
 use Rattle.eos_batch.specs.declared.head.BatchHead.{BatchHead}
@@ -7,7 +7,7 @@ use Rattle.eos_fold_file.specs.declared.head.FoldHead.{FoldHead}
 use Rattle.eos_fold_file.specs.Files.{record_count, data_records, data_count}
 use Rattle.eos_fold_file.specs.Heads.{fold_head}
 use Rattle.eos_folding.specs.declared.pass.Passed.{Passed}
-use Rattle.eos_folding.specs.steps.Passing.{AllFit, FollowFrom, EndsBefore, Passes}
+use Rattle.eos_folding.specs.steps.Passing.{AllFit, FollowFrom, Passes}
 
 pub fits_at : (hs : List BatchHead) (i : ℕ) (d : BatchHead) → AllFit hs → i < length hs → (get_or hs i d).offset + (get_or hs i d).count ≤ 2 ^ 63
 fits_at [] i d fit lt = absurd (omega (arith, lt))

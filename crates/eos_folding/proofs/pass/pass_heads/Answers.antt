@@ -1,4 +1,4 @@
-use Rattle.std.proofs.Common.{◌≡◌, ◌≤◌, ◌^◌, ◌+◌, ◌∷◌, [], ◌++◌, refl, ap, ◌∙◌, arith}
+use Rattle.std.proofs.Common.{◌≤◌, ◌^◌, ◌+◌, ◌∷◌, [], ◌++◌, refl, ap, ◌∙◌, arith}
 use Rattle.eos_fold_file.specs.declared.head.FoldHead.{FoldHead}
 use Rattle.eos_folding.proofs.PassedHeads.{records_bound, next_bound, passed_none, passed_more, passes_stop, passes_all}
 use Rattle.eos_folding.proofs.pass.pass_heads.Goals as goal
