@@ -1,0 +1,4 @@
+pub mod HeadsPassed
+pub mod ClaimLimits
+pub mod FoldSaid
+pub mod RunsTaken
