@@ -1,17 +1,17 @@
 -- The kept logs of an evidence, of whose pieces no more is known than a source and the shape say: there is what each piece said,
--- and of each evidence of this shape, whose segments are such, this is what is kept of its logs. Where all pieces said logs, there
--- is one (`crate::laws::logs_alone`); of a fold that nobody made of a segment there is none.
-use Rattle.std.specs.Prelude.{◌≡◌, ℕ, List, [], ◌∷◌, length, map, Option, ⊤}
+-- and this is what is kept of the logs of each evidence of this shape whose segments are such. Where all pieces said logs there is
+-- one, as `laws` says; with a fold that was made of no segment there is none.
+use Rattle.std.specs.Prelude.{◌≡◌, ℕ, List, [], ◌∷◌, map, Option, ⊤}
 use Rattle.eos_evidence.specs.declared.application.App.{App}
 use Rattle.eos_evidence.specs.declared.partition.Partition.{Partition}
-use Rattle.eos_evidence.specs.Evidence.{EvidenceParts, IsEvidence, segments_of}
+use Rattle.eos_evidence.specs.Evidence.{EvidenceParts, IsEvidence}
 use Rattle.eos_part.specs.declared.part.Told.{Told}
 use Rattle.eos_part.specs.Parts.{IsTold}
 use Rattle.eos_wanted.specs.Wanted.{wanted_of}
 use Rattle.eos_source.specs.declared.logs.KeptLogs.{KeptLogs}
 use Rattle.eos_source.specs.declared.logs.Tally.{Tally}
-use Rattle.eos_source.specs.Said.{Said, AreAsKnown}
-use Rattle.eos_source.specs.Shapes.{IsOfShape}
+use Rattle.eos_source.specs.Said.{Said}
+use Rattle.eos_source.specs.Shapes.{HoldsAsSaid}
 
 -- of each of these partitions what these applications want of its log, its least fault, and how much there is of it
 abbrev pub AreTold : List App → List Partition → List Told → Type 0
@@ -36,8 +36,6 @@ pub record AreLogsKept (logs : KeptLogs) (evidence : EvidenceParts) : Type 0 whe
   pub each : AreTold evidence.spec.apps evidence.partitions told
   pub columns : AreColumns told logs
 
--- so it is of each evidence of this shape whose segments are such as the pieces said
-pub record AreKeptLogs (known : ℕ → Option Said) (shape : EvidenceParts) (logs : KeptLogs) : Type 0 where
-  pub said : ℕ → Said
-  pub as_known : AreAsKnown known (length (segments_of shape.partitions)) said
-  pub kept : (evidence : EvidenceParts) → IsOfShape said shape evidence → AreLogsKept logs evidence
+-- so it is with each evidence of this shape whose segments are such as the pieces said
+abbrev pub AreKeptLogs : (ℕ → Option Said) → EvidenceParts → KeptLogs → Type 0
+AreKeptLogs known shape logs = HoldsAsSaid known shape (AreLogsKept logs)

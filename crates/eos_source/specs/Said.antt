@@ -30,6 +30,15 @@ pub record IsAsKnown (known : Option Said) (said : Said) : Type 0 where
 abbrev pub AreAsKnown : (ℕ → Option Said) → ℕ → (ℕ → Said) → Type 0
 AreAsKnown known pieces said = (piece : ℕ) → piece < pieces → IsAsKnown (known piece) (said piece)
 
+-- a log
+abbrev pub IsLog : Said → Type 0
+IsLog (Log bytes) = length bytes ≤ 2 ^ 30
+IsLog (Fold fold) = ⊥
+
+-- so many pieces said logs
+abbrev pub AreLogs : ℕ → (ℕ → Said) → Type 0
+AreLogs pieces said = (piece : ℕ) → piece < pieces → IsLog (said piece)
+
 -- ---- as it was opened
 
 -- a log whose reader has these bytes left, or this fold

@@ -1,10 +1,10 @@
 -- The shape of an evidence: its spec, its partitions with their ends, and of each segment its name, without the bytes. It is
 -- itself an evidence, of segments that hold none. Pieces are numbered over the partitions, each with its segments by base.
-use Rattle.std.specs.Prelude.{◌≡◌, ◌≤◌, ◌^◌, ℕ, suc, ◌+◌, List, [], ◌∷◌, length, ⊤}
+use Rattle.std.specs.Prelude.{◌≡◌, ◌≤◌, ◌^◌, ℕ, suc, ◌+◌, List, [], ◌∷◌, length, Option, ⊤}
 use Rattle.eos_evidence.specs.declared.partition.Partition.{Partition}
 use Rattle.eos_evidence.specs.declared.segment.Segment.{Segment}
-use Rattle.eos_evidence.specs.Evidence.{EvidenceParts}
-use Rattle.eos_source.specs.Said.{Said, HasSaid}
+use Rattle.eos_evidence.specs.Evidence.{EvidenceParts, segments_of}
+use Rattle.eos_source.specs.Said.{Said, HasSaid, AreAsKnown}
 
 -- A segment of this name, of which its piece said this. It has no more bytes than a segment may have.
 pub record IsPiece (said : Said) (name segment : Segment) : Type 0 where
@@ -12,7 +12,7 @@ pub record IsPiece (said : Said) (name segment : Segment) : Type 0 where
   pub partition : segment.partition ≡ name.partition
   pub base : segment.base ≡ name.base
   pub size : length segment.bytes ≤ 2 ^ 30
-  pub said : HasSaid segment said
+  pub says : HasSaid segment said
 
 -- segments of these names, one by one, of which the pieces from this number on said so
 abbrev pub ArePieces : (ℕ → Said) → ℕ → List Segment → List Segment → Type 0
@@ -33,3 +33,9 @@ ArePartitions said piece (shape ∷ shapes) (p ∷ ps) =
 pub record IsOfShape (said : ℕ → Said) (shape evidence : EvidenceParts) : Type 0 where
   pub spec : evidence.spec ≡ shape.spec
   pub partitions : ArePartitions said 0 shape.partitions evidence.partitions
+
+-- there is what each piece said, and so it is with each evidence of this shape whose segments are such
+pub record HoldsAsSaid (known : ℕ → Option Said) (shape : EvidenceParts) (Holds : EvidenceParts → Type 0) : Type 0 where
+  pub said : ℕ → Said
+  pub as_known : AreAsKnown known (length (segments_of shape.partitions)) said
+  pub holds : (evidence : EvidenceParts) → IsOfShape said shape evidence → Holds evidence

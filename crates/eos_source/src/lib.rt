@@ -6,6 +6,7 @@
 #![tactic(auto)]
 
 mod joined;
+pub mod laws;
 mod logs;
 mod memory;
 mod piece;

@@ -1,12 +1,13 @@
 //! A partition, made of what is kept of its segments, whatever was wanted of them.
 
-ghost use Rattle.std.specs.Prelude.{◌≡◌, ℕ, List, All, IfOk, IfSome};
+ghost use Rattle.std.specs.Prelude.{◌≡◌, ℕ, List, IfOk};
 ghost use Rattle.eos_claims.specs.Headers.{claim_of};
 ghost use Rattle.eos_evidence.specs.declared.segment.Segment.{Segment};
 ghost use Rattle.eos_fold.specs.Standing.{AreOf};
 ghost use Rattle.eos_keeping.specs.Outputs.{kept_output, claim_kept};
 ghost use Rattle.eos_keeping.specs.Records.{wanted_record, ReadsBack};
-ghost use Rattle.eos_part.specs.Parts.{AreKept, IsTold};
+ghost use Rattle.eos_part.specs.Parts.{AreKept, AllKept, IsTold};
+ghost use Rattle.eos_part.specs.Records.{SaysClaim};
 ghost use Rattle.eos_source.specs.steps.Runs.{AreKeptRun, IsWantedBy, HaveClaims};
 ghost use Rattle.eos_wanted.specs.declared.wanted.Wanted.TheVariants as wants;
 
@@ -32,7 +33,7 @@ fn presence_in(run: Option<KeptRun>) -> Option<Kept<()>>
 fn claims_in(run: Option<KeptRun>) -> Option<Kept<KeptOutput>>
     requires { IsWantedBy wants.Claims run }
     ensures kept { (topics : List (List ℕ)) (segments : List Segment) → AreKeptRun topics segments run → AreKept (λ offset r. kept_output topics (claim_of r.headers)) segments result }
-    ensures claims { (topics : List (List ℕ)) → HaveClaims topics run → IfSome result (λ kept. All (λ one. ReadsBack (claim_kept topics one)) kept.kept) }
+    ensures claims { (topics : List (List ℕ)) → HaveClaims topics run → AllKept (λ one. ReadsBack (claim_kept topics one)) result }
 {
     match run {
         None => None,
@@ -43,7 +44,8 @@ fn claims_in(run: Option<KeptRun>) -> Option<Kept<KeptOutput>>
 
 fn texts_in(run: Option<KeptRun>) -> Option<Kept<KeptText>>
     requires { IsWantedBy wants.Texts run }
-    ensures { (topics : List (List ℕ)) (segments : List Segment) → AreKeptRun topics segments run → AreKept (λ offset r. wanted_record wants.Texts r) segments result }
+    ensures kept { (topics : List (List ℕ)) (segments : List Segment) → AreKeptRun topics segments run → AreKept (λ offset r. wanted_record wants.Texts r) segments result }
+    ensures claims { (topics : List (List ℕ)) → HaveClaims topics run → AllKept SaysClaim result }
 {
     match run {
         None => None,
