@@ -1,5 +1,5 @@
-//! The fold of a segment, made where the segment lies. A segment is read once, chunk by chunk; of its bytes a chunk, or a batch where
-//! that is larger, is held, and of its records what was wanted.
+//! The fold of a segment, made where the segment lies. The segment is read once, chunk by chunk. Held are a chunk, or a batch where
+//! that is larger, the head of each batch, and of each data record what is wanted.
 #![tactic(auto)]
 
 mod fold;
