@@ -1,1 +1,1 @@
-pub mod Folds
+pub mod steps

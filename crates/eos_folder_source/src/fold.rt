@@ -2,7 +2,7 @@
 
 ghost use Rattle.std.specs.Prelude.{◌≡◌, ◌≢◌, ◌≤◌, ◌<◌, ⊥, None, Some, IfOk};
 ghost use Rattle.eos_fold_file.specs.Legal.{IsLegal};
-ghost use Rattle.eos_folder_source.specs.Folds.{IsForName};
+ghost use Rattle.eos_folder_source.specs.steps.Folds.{IsForName};
 
 use eos_evidence::{MAX_SEGMENT_BYTES, Segment};
 use eos_fold_file::{FoldFault, FoldFile, decode_fold};
