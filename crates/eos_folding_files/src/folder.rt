@@ -1,7 +1,7 @@
 //! The folders that are given: of which partitions they are, and which segments lie in them.
 
 ghost use Rattle.std.specs.Prelude.{◌≡◌, IfOk};
-ghost use Rattle.eos_folding_files.specs.Paths.{partition_at};
+ghost use Rattle.eos_folding_files.specs.steps.Paths.{partition_at};
 
 use crate::fault::FoldingFault;
 use bytes::Bytes;
