@@ -57,7 +57,7 @@ pub record IsSmall (c : Claim) : Type 0 where
   pub output : c.output < 2 ^ 31
   pub count : c.of < 2 ^ 31
 
-pub read_small : (hs : List Header) (c : Claim) → claim_of hs ≡ Some c → IsSmall c
+read_small : (hs : List Header) (c : Claim) → claim_of hs ≡ Some c → IsSmall c
 unfolding claim_of
 read_small hs c e =
     let t = bind_some (the_value (codes "eo.topic") hs) _ c e in
@@ -76,6 +76,9 @@ read_small hs c e =
       count = int32_small fv.0 f.0 fv.2;
     } in
     subst IsSmall is small
+
+pub said_small : (c : Claim) → ReadsBack (Some c) → IsSmall c
+said_small c back = read_small (claim_headers c) c back
 
 -- ---- a claim that headers say
 

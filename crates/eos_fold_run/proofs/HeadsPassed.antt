@@ -1,5 +1,5 @@
 -- Batches that have the heads of a fold, passed one after the other.
-use Rattle.std.proofs.Common.{◌≡◌, ℕ, zero, suc, ◌+◌, ◌≤◌, List, [], ◌∷◌, ◌++◌, cond, length, take, drop, Some, refl, sym, ap, subst, ◌∙◌, arith}
+use Rattle.std.proofs.Common.{◌≡◌, ℕ, zero, suc, ◌+◌, ◌≤◌, pos, List, [], ◌∷◌, ◌++◌, false, cond, length, take, drop, Some, refl, sym, ap, subst, ◌∙◌, arith}
 use Rattle.std.specs.Prelude.{unsigned_abs}
 use Rattle.std.specs.List.{slice_get}
 use Rattle.std.proofs.lemmas.List.{take_all}
@@ -11,9 +11,10 @@ use Rattle.eos_batch.specs.Heads.{head_of}
 use Rattle.eos_batch.specs.Offsets.{offset_of}
 use Rattle.eos_batch.specs.Segment.{Splits}
 use Rattle.eos_touch.specs.Front.{ContinuesFrom}
+use Rattle.eos_fold_file.specs.declared.head.BatchKind.TheVariants.{Data}
 use Rattle.eos_fold_file.specs.declared.head.FoldHead.{FoldHead}
 use Rattle.eos_fold_file.specs.Batches.{HaveHeads}
-use Rattle.eos_fold_file.specs.Files.{data_records} as file
+use Rattle.eos_fold_file.specs.Files as file
 use Rattle.eos_fold_file.specs.Folds.{HasFoldHeads}
 use Rattle.eos_fold_file.specs.Heads.{is_control_kind, batch_head, fold_head}
 use Rattle.eos_fold_file.proofs.RealHeads.{head_again}
@@ -68,6 +69,10 @@ from_count next (h ∷ hs) (b ∷ bs) a =
     omega (arith, sum, one, e)
 
 -- ---- one after the other
+
+-- where no head is
+abbrev pub no_head : FoldHead
+no_head = record { kind = Data; is_transactional = false; count = 0; size = 0; producer = pos 0; epoch = pos 0; sequence = pos 0 }
 
 -- so many of these were passed
 pub record HasPassed (hs : List FoldHead) (bs : List Batch) (i : ℕ) (f : Front) (count : ℕ) : Type 0 where

@@ -129,10 +129,9 @@ impl<T: Drop> Kept<T> {
             before.sizes = sizes;
             return Ok(before);
         }
-        if after.front.begin != before.front.next {
-            before.front.stop = Stop::Elsewhere {
-                found: after.front.begin,
-            };
+        let found = after.front.begin;
+        if found != before.front.next {
+            before.front.stop = Stop::Elsewhere { found };
             before.sizes = sizes;
             return Ok(before);
         }
