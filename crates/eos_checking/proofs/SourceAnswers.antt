@@ -15,7 +15,7 @@ use Rattle.eos_partitions.specs.Faults.{first_of}
 use Rattle.eos_report.specs.VerdictTexts.{status_of}
 use Rattle.eos_wanted.specs.Wanted.{wanted_logs}
 use Rattle.eos_wanted_notes.proofs.KeptNotes.{whole_text, kept_in_order}
-use Rattle.eos_source.specs.Said.{Said}
+use Rattle.eos_source.specs.Said.{Known}
 use Rattle.eos_source_check.specs.declared.judged.Judged.{Judged}
 use Rattle.eos_source_check.specs.Judged.{IsJudgedFor, IsJudgedOf}
 use Rattle.eos_checking.specs.Checking.{verdict_answer, IsCheckAnswer}
@@ -46,7 +46,7 @@ answer_for shape e subject json quiet about judged answer spec j t =
       report = kept_report e shape.spec judged about (option_map string_bytes answer.report) spec k j.counted j.verdict (t.report order);
     }
 
-pub answer_is : (known : ℕ → Option Said) (shape : EvidenceParts) (subject : Subject) (json quiet : Bool) (about : Option About) (judged : Judged) (answer : SourceAnswer)
+pub answer_is : (known : ℕ → Known) (shape : EvidenceParts) (subject : Subject) (json quiet : Bool) (about : Option About) (judged : Judged) (answer : SourceAnswer)
     → IsJudgedOf known shape judged → TellsOf shape.spec judged subject json quiet about answer → IsSourceAnswer known shape subject json quiet about answer
 answer_is known shape subject json quiet about judged answer j t =
     record { said = j.said; as_known = j.as_known; holds = λ e of. answer_for shape e subject json quiet about judged answer of.spec (j.holds e of) t }

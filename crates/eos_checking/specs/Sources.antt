@@ -6,7 +6,7 @@ use Rattle.eos_ending.specs.Subjects.{subject_text}
 use Rattle.eos_evidence.specs.Evidence.{EvidenceParts, IsEvidence}
 use Rattle.eos_json_report.specs.declared.about.About.{About}
 use Rattle.eos_notes.specs.Lines.{IsNotesText}
-use Rattle.eos_source.specs.Said.{Said}
+use Rattle.eos_source.specs.Said.{Known}
 use Rattle.eos_source.specs.Shapes.{HoldsAsSaid}
 use Rattle.eos_checking.specs.Checking.{IsCheckAnswer, IsReportAsked}
 use Rattle.eos_checking.specs.declared.source.SourceAnswer.{SourceAnswer}
@@ -19,5 +19,5 @@ pub record IsAnswerFor (subject : Subject) (json quiet : Bool) (about : Option A
   pub report : IsReportAsked evidence false about (option_map string_bytes answer.report)
 
 -- so it is with each evidence of this shape whose segments are such as the pieces said
-abbrev pub IsSourceAnswer : (ℕ → Option Said) → EvidenceParts → Subject → Bool → Bool → Option About → SourceAnswer → Type 0
+abbrev pub IsSourceAnswer : (ℕ → Known) → EvidenceParts → Subject → Bool → Bool → Option About → SourceAnswer → Type 0
 IsSourceAnswer known shape subject json quiet about answer = HoldsAsSaid known shape (IsAnswerFor subject json quiet about answer)

@@ -2,6 +2,7 @@
 
 ghost use Rattle.std.specs.Prelude.{◌≡◌, IfOk, option_map, string_bytes};
 ghost use Rattle.eos_commits.specs.Faults.{AreInOrder};
+ghost use Rattle.eos_source.specs.Said.{known_by};
 ghost use Rattle.eos_checking.specs.Sources.{IsSourceAnswer};
 ghost use Rattle.eos_checking.specs.steps.Tellings.{TellsOf, ReportsOf, first_alone};
 
@@ -106,7 +107,7 @@ pub fn answer_source<S: Source, T: Timed, R: Threads + Sync>(
     pieces: Pieces<'_, S>,
     asked: &Asked<'_, T>,
 ) -> Result<SourceAnswer, S::Fault>
-    ensures { IfOk result (IsSourceAnswer (S.said pieces.entry.source.now) pieces.entry.shape.now asked.now.subject asked.now.json asked.now.quiet asked.now.report) }
+    ensures { IfOk result (IsSourceAnswer (known_by (S.said pieces.entry.source.now) (S.is_log pieces.entry.source.now)) pieces.entry.shape.now asked.now.subject asked.now.json asked.now.quiet asked.now.report) }
 {
     let judged = judge_source(alloc, rt, pieces.source, pieces.shape, asked.workers)?;
     let answer = told(alloc, pieces.shape.spec(), &judged, asked)?;

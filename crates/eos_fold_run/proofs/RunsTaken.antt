@@ -1,25 +1,29 @@
 -- A fold of a segment, taken as what is kept of the segment.
 use Rattle.std.proofs.Common.{◌≡◌, ℕ, ◌+◌, suc, Bool, not, cond, true, false, List, [], ◌∷◌, ◌++◌, length, map, refl, sym, ap, subst, ◌∙◌, arith}
-use Rattle.std.specs.Prelude.{⊤, unsigned_abs}
+use Rattle.std.specs.Prelude.{⊤, All, unsigned_abs}
 use Rattle.std.proofs.lemmas.List.{map-append}
+use Rattle.std.proofs.lemmas.List.Elements.{All-map, All-weaker}
 use Rattle.eos_batch.specs.declared.batch.Batch.{Batch}
 use Rattle.eos_batch.specs.declared.record.Record.{Record}
 use Rattle.eos_batch.specs.Attributes.{is_control}
 use Rattle.eos_batch.specs.Offsets.{offset_of}
 use Rattle.eos_evidence.specs.declared.segment.Segment.{Segment}
 use Rattle.eos_evidence.specs.Topics.{is_internal}
-use Rattle.eos_touch.specs.Front.{records_in}
+use Rattle.eos_touch.specs.Front.{records_in, ContinuesFrom}
 use Rattle.eos_fold.specs.declared.stop.Stop.{Stop}
 use Rattle.eos_fold.specs.Fronts.{base_of, StopsAt, IsSegmentFront}
 use Rattle.eos_fold.specs.Sums.{is_checked}
 use Rattle.eos_reading.specs.Kept.{kept_from, kept_in, kept_of}
 use Rattle.eos_wanted.specs.declared.wanted.Wanted.{Wanted}
 use Rattle.eos_wanted.specs.declared.wanted.Wanted.TheVariants as wants
-use Rattle.eos_keeping.specs.Records.{wanted_record}
+use Rattle.eos_wanted.specs.Wanted.{wanted_headers}
+use Rattle.eos_keeping.specs.Records.{wanted_record, ReadsBack}
 use Rattle.eos_fold_file.specs.declared.claim.FoldText.{FoldText}
 use Rattle.eos_fold_file.specs.declared.file.FoldFile.{FoldFile}
 use Rattle.eos_fold_file.specs.declared.file.FoldKept.{FoldKept}
 use Rattle.eos_fold_file.specs.declared.file.FoldKept.TheVariants as kinds
+use Rattle.eos_fold_file.specs.declared.head.FoldHead.{FoldHead}
+use Rattle.eos_fold_file.specs.Batches.{HaveHeads}
 use Rattle.eos_fold_file.specs.Files.{wanted_in}
 use Rattle.eos_fold_file.specs.Folds.{fold_text_of, IsFoldOf, IsAskedAs}
 use Rattle.eos_kept.specs.declared.front.Front.{Front}
@@ -29,8 +33,24 @@ use Rattle.eos_kept.specs.Passing.{GoesAlong, data_count}
 use Rattle.eos_kept.specs.Sizes.{AreSized}
 use Rattle.eos_kept.proofs.JoinedKept.{of_one}
 use Rattle.eos_kept.proofs.PassedHeads.{kept_of-length}
+use Rattle.eos_part.specs.declared.run.KeptRun.{KeptRun}
+use Rattle.eos_part.specs.declared.run.KeptRun.TheVariants as runs
+use Rattle.eos_part.specs.Records.{SaysClaim}
+use Rattle.eos_part.specs.Runs.{IsKeptRun, HasClaims, wanted_by}
+use Rattle.eos_fold_run.specs.steps.Heads.{AreFrom}
 use Rattle.eos_fold_run.specs.steps.Kept.{topics_in, text_record}
-use Rattle.eos_fold_run.proofs.HeadsPassed.{fold_splits}
+use Rattle.eos_fold_run.proofs.HeadsPassed.{from_any, from_segment, fold_splits}
+
+-- ---- the batches
+
+pub any_from : (f : FoldFile) (begin : ℕ) (heads : List FoldHead) (bs : List Batch) → begin ≡ unsigned_abs f.base → heads ≡ f.heads → HaveHeads (unsigned_abs f.base) f.heads bs → AreFrom begin heads bs
+any_from f begin heads bs e h have =
+    subst (λ (n : ℕ). AreFrom n heads bs) (sym e) (subst (λ (hs : List FoldHead). AreFrom (unsigned_abs f.base) hs bs) (sym h) (from_any (unsigned_abs f.base) f.heads bs have))
+
+pub segment_from : (segment : Segment) (f : FoldFile) (begin : ℕ) (heads : List FoldHead) (is : IsFoldOf segment f) → begin ≡ unsigned_abs f.base → heads ≡ f.heads → AreFrom begin heads is.batches
+segment_from segment f begin heads is e h =
+    let name : base_of segment ≡ begin = sym (e ∙ ap unsigned_abs is.base) in
+    subst (λ (hs : List FoldHead). AreFrom begin hs is.batches) (sym h) (from_segment begin segment.bytes f.heads is.batches is.rest is.heads (subst (λ (n : ℕ). ContinuesFrom n is.batches) name is.continuous))
 
 -- ---- the front and the sizes
 
@@ -86,6 +106,9 @@ module _ {K L : Type 0} (keep : ℕ → Record → K) (f : K → L) where
 pub texts_told : (batches : List Batch) (texts : List FoldText) (copies : List Record) → copies ≡ map text_record texts → texts ≡ kept_of (λ (n : ℕ) (r : Record). fold_text_of r) batches → copies ≡ kept_of (λ (n : ℕ) (r : Record). wanted_record wants.Texts r) batches
 texts_told batches texts copies e f = e ∙ (ap (map text_record) f ∙ of_map (λ (n : ℕ) (r : Record). fold_text_of r) text_record batches)
 
+pub texts_said : (texts : List FoldText) → All (λ (t : FoldText). ReadsBack t.claim) texts → All SaysClaim (map text_record texts)
+texts_said texts all = All-map SaysClaim text_record texts (All-weaker (λ (t : FoldText). ReadsBack t.claim) (λ (t : FoldText). SaysClaim (text_record t)) (λ t back. ap wanted_headers (sym back)) texts all)
+
 -- ---- what is asked
 
 pub asked_wanted : (w : Wanted) (topics : List (List ℕ)) (kept : FoldKept) → IsAskedAs w topics kept → wanted_in kept ≡ w
@@ -98,3 +121,25 @@ asked_wanted wants.Claims topics (kinds.Texts ts) a = absurd a
 asked_wanted wants.Texts topics kinds.Presence a = absurd a
 asked_wanted wants.Texts topics (kinds.Claims ts os) a = absurd a
 asked_wanted wants.Texts topics (kinds.Texts ts) a = refl
+
+pub same_topics : (w : Wanted) (topics : List (List ℕ)) (kept : FoldKept) → IsAskedAs w topics kept → wanted_in kept ≡ wants.Claims → topics_in kept ≡ topics
+same_topics wants.Presence topics kinds.Presence a e = absurd cc
+same_topics wants.Presence topics (kinds.Claims ts os) a e = absurd a
+same_topics wants.Presence topics (kinds.Texts ts) a e = absurd a
+same_topics wants.Claims topics kinds.Presence a e = absurd a
+same_topics wants.Claims topics (kinds.Claims ts os) a e = a
+same_topics wants.Claims topics (kinds.Texts ts) a e = absurd a
+same_topics wants.Texts topics kinds.Presence a e = absurd a
+same_topics wants.Texts topics (kinds.Claims ts os) a e = absurd a
+same_topics wants.Texts topics (kinds.Texts ts) a e = absurd cc
+
+-- only claims depend on the topics
+pub run_asked : (topics others : List (List ℕ)) (segments : List Segment) (run : KeptRun) → (wanted_by run ≡ wants.Claims → others ≡ topics) → IsKeptRun others segments run → IsKeptRun topics segments run
+run_asked topics others segments (runs.Presence k) e is = is
+run_asked topics others segments (runs.Claims k) e is = subst (λ (ts : List (List ℕ)). IsKeptRun ts segments (runs.Claims k)) (e refl) is
+run_asked topics others segments (runs.Texts k) e is = is
+
+pub claims_asked : (topics others : List (List ℕ)) (run : KeptRun) → (wanted_by run ≡ wants.Claims → others ≡ topics) → HasClaims others run → HasClaims topics run
+claims_asked topics others (runs.Presence k) e has = has
+claims_asked topics others (runs.Claims k) e has = subst (λ (ts : List (List ℕ)). HasClaims ts (runs.Claims k)) (e refl) has
+claims_asked topics others (runs.Texts k) e has = has

@@ -18,7 +18,7 @@ use Rattle.eos_wanted.specs.declared.wanted.Wanted.{Wanted}
 use Rattle.eos_wanted.specs.Wanted.{wanted_of}
 use Rattle.eos_source.specs.declared.logs.KeptLogs.{KeptLogs}
 use Rattle.eos_source.specs.Logs.{AreTold, AreColumns, AreLogsKept, AreKeptLogs, tally_of}
-use Rattle.eos_source.specs.Said.{Said}
+use Rattle.eos_source.specs.Said.{Said, Known}
 use Rattle.eos_source.specs.Shapes.{ArePieces, ArePartitions, IsOfShape}
 use Rattle.eos_source.specs.steps.Partitions.{IsToldOf, AreToldOf}
 use Rattle.eos_source.specs.steps.Runs.{Asking, asking, AreFrom, AreRead, AreKeptRun, IsWantedBy, HaveClaims}
@@ -27,29 +27,29 @@ use Rattle.eos_source.proofs.ShapesFilled.{evidence_is, of_names, are_of}
 
 -- ---- one partition
 
-pub as_wanted : (known : ℕ → Option Said) (said : ℕ → Said) (topics : List (List ℕ)) (apps : List App) (topic : List ℕ) (piece : ℕ) (names : List Segment) (run : Option KeptRun)
+pub as_wanted : (known : ℕ → Known) (said : ℕ → Said) (topics : List (List ℕ)) (apps : List App) (topic : List ℕ) (piece : ℕ) (names : List Segment) (run : Option KeptRun)
     → AreRead known said (asking topics apps topic) piece names run → IsWantedBy (wanted_of apps topic) run
 as_wanted known said topics apps topic piece names None h = tt
 as_wanted known said topics apps topic piece names (Some run) h = h.asked.wanted
 
-pub have_claims : (known : ℕ → Option Said) (said : ℕ → Said) (topics : List (List ℕ)) (apps : List App) (topic : List ℕ) (piece : ℕ) (names : List Segment) (run : Option KeptRun)
+pub have_claims : (known : ℕ → Known) (said : ℕ → Said) (topics : List (List ℕ)) (apps : List App) (topic : List ℕ) (piece : ℕ) (names : List Segment) (run : Option KeptRun)
     → AreRead known said (asking topics apps topic) piece names run → HaveClaims topics run
 have_claims known said topics apps topic piece names None h = tt
 have_claims known said topics apps topic piece names (Some run) h = h.asked.claims
 
 -- what is kept of the segments, whichever said this
-were_read : (known : ℕ → Option Said) (said : ℕ → Said) (topics : List (List ℕ)) (apps : List App) (topic : List ℕ) (piece : ℕ) (names : List Segment) (run : Option KeptRun)
+were_read : (known : ℕ → Known) (said : ℕ → Said) (topics : List (List ℕ)) (apps : List App) (topic : List ℕ) (piece : ℕ) (names : List Segment) (run : Option KeptRun)
     → AreRead known said (asking topics apps topic) piece names run → (segments : List Segment) → ArePieces said piece names segments → AreKeptRun topics segments run
 were_read known said topics apps topic piece [] None h [] k = refl
 were_read known said topics apps topic piece [] None h (s ∷ ss) k = absurd k
 were_read known said topics apps topic piece (n ∷ names) None h ss k = absurd (let e : suc (length names) ≡ 0 = ap length h in omega (arith, e))
 were_read known said topics apps topic piece names (Some run) h ss k = h.kept ss k
 
-were_known : (known : ℕ → Option Said) (said : ℕ → Said) (a : Asking) (piece : ℕ) (names : List Segment) (run : Option KeptRun) → AreRead known said a piece names run → AreFrom known said piece (length names)
+were_known : (known : ℕ → Known) (said : ℕ → Said) (a : Asking) (piece : ℕ) (names : List Segment) (run : Option KeptRun) → AreRead known said a piece names run → AreFrom known said piece (length names)
 were_known known said a piece names None h = subst (λ (ns : List Segment). AreFrom known said piece (length ns)) (sym h) (from_none known said piece)
 were_known known said a piece names (Some run) h = h.as_known
 
-pub told_of : (known : ℕ → Option Said) (said : ℕ → Said) (topics : List (List ℕ)) (apps : List App) (piece : ℕ) (shape : Partition) (run : Option KeptRun) (told : Told) → IsPartition shape
+pub told_of : (known : ℕ → Known) (said : ℕ → Said) (topics : List (List ℕ)) (apps : List App) (piece : ℕ) (shape : Partition) (run : Option KeptRun) (told : Told) → IsPartition shape
     → AreRead known said (asking topics apps shape.end.topic) piece shape.segments run
     → ((segments : List Segment) → AreKeptRun topics segments run → AreOf shape.end.topic shape.end.partition segments → IsTold (wanted_of apps shape.end.topic) shape.end segments told)
     → IsToldOf known said apps piece shape told
@@ -120,10 +120,10 @@ nothing_told : (said : ℕ → Said) (apps : List App) (ps : List Partition) →
 nothing_told said apps [] h = tt
 nothing_told said apps (p ∷ ps) h = absurd h
 
-pub none_told : (known : ℕ → Option Said) (said : ℕ → Said) (apps : List App) (logs : KeptLogs) → logs.parts.items ≡ [] → logs.faults.items ≡ [] → logs.tallies.items ≡ [] → AreToldOf known said apps [] logs
+pub none_told : (known : ℕ → Known) (said : ℕ → Said) (apps : List App) (logs : KeptLogs) → logs.parts.items ≡ [] → logs.faults.items ≡ [] → logs.tallies.items ≡ [] → AreToldOf known said apps [] logs
 none_told known said apps logs p f t = record { as_known = from_none known said 0; told = []; each = nothing_told said apps; columns = record { parts = p; faults = f; tallies = t } }
 
-one_more : (known : ℕ → Option Said) (said : ℕ → Said) (apps : List App) (shapes : List Partition) (shape : Partition) (old new : KeptLogs) (t : Told) → AreToldOf known said apps shapes old
+one_more : (known : ℕ → Known) (said : ℕ → Said) (apps : List App) (shapes : List Partition) (shape : Partition) (old new : KeptLogs) (t : Told) → AreToldOf known said apps shapes old
     → IsToldOf known said apps (length (segments_of shapes)) shape t
     → new.parts.items ≡ old.parts.items ++ t.part ∷ [] → new.faults.items ≡ old.faults.items ++ t.fault ∷ [] → new.tallies.items ≡ old.tallies.items ++ tally_of t ∷ []
     → AreToldOf known said apps (shapes ++ shape ∷ []) new
@@ -170,7 +170,7 @@ segments_left shapes i shape h = ap segments_of h.left
 pub pieces_taken : (shapes : List Partition) (i : ℕ) (shape : Partition) → Here shapes i shape → length (segments_of (take (i + 1) shapes)) ≡ length (segments_of (take i shapes)) + length shape.segments
 pieces_taken shapes i shape h = ap (λ (xs : List Partition). length (segments_of xs)) h.taken ∙ last_count (take i shapes) shape
 
-pub told_next : (known : ℕ → Option Said) (said : ℕ → Said) (apps : List App) (shapes : List Partition) (i : ℕ) (shape : Partition) (old new : KeptLogs) (t : Told) → Here shapes i shape
+pub told_next : (known : ℕ → Known) (said : ℕ → Said) (apps : List App) (shapes : List Partition) (i : ℕ) (shape : Partition) (old new : KeptLogs) (t : Told) → Here shapes i shape
     → AreToldOf known said apps (take i shapes) old → IsToldOf known said apps (length (segments_of (take i shapes))) shape t
     → new.parts.items ≡ old.parts.items ++ t.part ∷ [] → new.faults.items ≡ old.faults.items ++ t.fault ∷ [] → new.tallies.items ≡ old.tallies.items ++ tally_of t ∷ []
     → AreToldOf known said apps (take (i + 1) shapes) new
@@ -190,7 +190,7 @@ kept_of logs shape evidence said told e columns each h =
       columns = columns;
     }
 
-kept_logs : (known : ℕ → Option Said) (said : ℕ → Said) (shape : EvidenceParts) (logs : KeptLogs) → IsEvidence shape → AreToldOf known said shape.spec.apps shape.partitions logs → AreKeptLogs known shape logs
+kept_logs : (known : ℕ → Known) (said : ℕ → Said) (shape : EvidenceParts) (logs : KeptLogs) → IsEvidence shape → AreToldOf known said shape.spec.apps shape.partitions logs → AreKeptLogs known shape logs
 kept_logs known said shape logs e h =
     record {
       said = said;
@@ -198,7 +198,7 @@ kept_logs known said shape logs e h =
       holds = λ evidence of. kept_of logs shape evidence said h.told e h.columns h.each of;
     }
 
-pub all_kept : {E : Type 0} (known : ℕ → Option Said) (shape : EvidenceParts) (r : Result KeptLogs E) → IsEvidence shape
+pub all_kept : {E : Type 0} (known : ℕ → Known) (shape : EvidenceParts) (r : Result KeptLogs E) → IsEvidence shape
     → IfOk r (λ logs. (said : ℕ → Said) × AreToldOf known said shape.spec.apps shape.partitions logs) → IfOk r (AreKeptLogs known shape)
 all_kept known shape (Ok logs) e h = kept_logs known h.0 shape logs e h.1
 all_kept known shape (Err why) e h = tt

@@ -11,7 +11,7 @@ use Rattle.eos_evidence.specs.declared.segment.Segment.{Segment}
 use Rattle.eos_part.specs.declared.run.KeptRun.{KeptRun}
 use Rattle.eos_part.specs.Runs.{IsKeptRun, wanted_by, front_of, HasClaims}
 use Rattle.eos_source.specs.Shapes.{ArePieces}
-use Rattle.eos_source.specs.Said.{Said, IsAsKnown}
+use Rattle.eos_source.specs.Said.{Said, Known, IsAsKnown}
 use Rattle.eos_source.specs.steps.Runs.{Asking, asking, AreFrom, IsRead, AreRead, IsTaken, AreSlotsOf}
 
 -- segments of names that stand one after the other
@@ -38,19 +38,19 @@ split said piece (x ∷ xs) ys (s ∷ ss) h =
       second = subst (λ (n : ℕ). ArePieces said n ys r.after) z r.second;
     }
 
-pub from_both : (known : ℕ → Option Said) (said : ℕ → Said) (first m n : ℕ) → AreFrom known said first m → AreFrom known said (first + m) n → AreFrom known said first (m + n)
+pub from_both : (known : ℕ → Known) (said : ℕ → Said) (first m n : ℕ) → AreFrom known said first m → AreFrom known said (first + m) n → AreFrom known said first (m + n)
 from_both known said first m n h k = λ piece ge lt.
     elim (cases_lt piece (first + m)) [
       | inl below ↦ h piece ge below
       | inr above ↦ k piece above (omega (arith, lt))
     ]
 
-pub from_none : (known : ℕ → Option Said) (said : ℕ → Said) (first : ℕ) → AreFrom known said first 0
+pub from_none : (known : ℕ → Known) (said : ℕ → Said) (first : ℕ) → AreFrom known said first 0
 from_none known said first = λ piece ge lt. absurd (omega (arith, ge, lt))
 
 -- ---- two runs
 
-pub joined : (known : ℕ → Option Said) (said : ℕ → Said) (a : Asking) (piece : ℕ) (names more : List Segment) (before after both : KeptRun)
+pub joined : (known : ℕ → Known) (said : ℕ → Said) (a : Asking) (piece : ℕ) (names more : List Segment) (before after both : KeptRun)
     → ((topics : List (List ℕ)) (xs ys : List Segment) → IsKeptRun topics xs before → IsKeptRun topics ys after → IsKeptRun topics (xs ++ ys) both)
     → wanted_by both ≡ wanted_by before → (front_of both).run.sequenced ≡ (front_of before).run.sequenced
     → ((topics : List (List ℕ)) → HasClaims topics before → HasClaims topics after → HasClaims topics both)
@@ -66,7 +66,7 @@ joined known said a piece names more before after both ok w c claims r n =
     }
 
 -- a single one
-one_read : (known : ℕ → Option Said) (said : ℕ → Said) (a : Asking) (piece : ℕ) (name : Segment) (run : KeptRun) → IsTaken (known piece) (said piece) a name run → IsRead known said a piece (name ∷ []) run
+one_read : (known : ℕ → Known) (said : ℕ → Said) (a : Asking) (piece : ℕ) (name : Segment) (run : KeptRun) → IsTaken (known piece) (said piece) a name run → IsRead known said a piece (name ∷ []) run
 one_read known said a piece name run h = record {
   as_known = λ other ge lt. let e : piece ≡ other = omega (arith, ge, lt) in subst (λ (n : ℕ). IsAsKnown (known n) (said n)) e h.as_known;
   kept = λ segments pieces. by segments pieces;
@@ -114,7 +114,7 @@ more_of names i lt =
 module _ {F : Type 0} where
   -- so many slots were passed, and this is the run of their pieces
   abbrev pub Passed : List Segment → List (Result KeptRun F) → ℕ → Option KeptRun → List (Result KeptRun F) → Type 0
-  Passed names old i run new = (known : ℕ → Option Said) (said : ℕ → Said) (topics : List (List ℕ)) (apps : List App) (topic : List ℕ) (piece : ℕ) (later : List Segment)
+  Passed names old i run new = (known : ℕ → Known) (said : ℕ → Said) (topics : List (List ℕ)) (apps : List App) (topic : List ℕ) (piece : ℕ) (later : List Segment)
       → All (λ s. s.topic ≡ topic) names → AreSlotsOf known said topics apps piece (names ++ later) old
       → AreRead known said (asking topics apps topic) piece (take i names) run × AreSlotsOf known said topics apps (piece + i) (drop i names ++ later) new
 
@@ -123,7 +123,7 @@ module _ {F : Type 0} where
       let z : piece ≡ piece + 0 = omega arith in
       (refl, subst (λ (n : ℕ). AreSlotsOf known said topics apps n (names ++ later) slots) z at)
 
-  pub some_left : (known : ℕ → Option Said) (said : ℕ → Said) (topics : List (List ℕ)) (apps : List App) (piece : ℕ) (names later : List Segment) (i : ℕ) (slots : List (Result KeptRun F))
+  pub some_left : (known : ℕ → Known) (said : ℕ → Said) (topics : List (List ℕ)) (apps : List App) (piece : ℕ) (names later : List Segment) (i : ℕ) (slots : List (Result KeptRun F))
       → i < length names → AreSlotsOf known said topics apps piece (drop i names ++ later) slots → 0 < length slots
   some_left known said topics apps piece names later i slots lt h =
       let r = more_of names i lt in
@@ -134,13 +134,13 @@ module _ {F : Type 0} where
       by name rest (s ∷ ss) k = omega arith
 
   -- the next slot holds the run of the next piece
-  pub record Next (known : ℕ → Option Said) (said : ℕ → Said) (topics : List (List ℕ)) (apps : List App) (topic : List ℕ) (piece : ℕ) (names later : List Segment) (i : ℕ) (run : KeptRun) (rest : List (Result KeptRun F)) : Type 0 where
+  pub record Next (known : ℕ → Known) (said : ℕ → Said) (topics : List (List ℕ)) (apps : List App) (topic : List ℕ) (piece : ℕ) (names later : List Segment) (i : ℕ) (run : KeptRun) (rest : List (Result KeptRun F)) : Type 0 where
     pub name : Segment
     pub taken : take (i + 1) names ≡ take i names ++ name ∷ []
     pub read : IsRead known said (asking topics apps topic) (piece + length (take i names)) (name ∷ []) run
     pub slots : AreSlotsOf known said topics apps (piece + (i + 1)) (drop (i + 1) names ++ later) rest
 
-  pub next : (known : ℕ → Option Said) (said : ℕ → Said) (topics : List (List ℕ)) (apps : List App) (topic : List ℕ) (piece : ℕ) (names later : List Segment) (i : ℕ) (run : KeptRun) (slots rest : List (Result KeptRun F))
+  pub next : (known : ℕ → Known) (said : ℕ → Said) (topics : List (List ℕ)) (apps : List App) (topic : List ℕ) (piece : ℕ) (names later : List Segment) (i : ℕ) (run : KeptRun) (slots rest : List (Result KeptRun F))
       → i < length names → All (λ s. s.topic ≡ topic) names → AreSlotsOf known said topics apps (piece + i) (drop i names ++ later) slots → slots ≡ Ok run ∷ rest
       → Next known said topics apps topic piece names later i run rest
   next known said topics apps topic piece names later i run slots rest lt all h e =
@@ -159,7 +159,7 @@ module _ {F : Type 0} where
       }
 
   pub all_passed : (names : List Segment) (old : List (Result KeptRun F)) (i : ℕ) (run : Option KeptRun) (new : List (Result KeptRun F)) → i ≡ length names → Passed names old i run new
-      → (known : ℕ → Option Said) (said : ℕ → Said) (topics : List (List ℕ)) (apps : List App) (topic : List ℕ) (piece : ℕ) (later : List Segment)
+      → (known : ℕ → Known) (said : ℕ → Said) (topics : List (List ℕ)) (apps : List App) (topic : List ℕ) (piece : ℕ) (later : List Segment)
       → All (λ s. s.topic ≡ topic) names → AreSlotsOf known said topics apps piece (names ++ later) old
       → AreRead known said (asking topics apps topic) piece names run × AreSlotsOf known said topics apps (piece + length names) later new
   all_passed names old i run new e p known said topics apps topic piece later all h =

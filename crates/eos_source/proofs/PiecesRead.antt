@@ -1,5 +1,5 @@
 -- What is asked of a piece that was opened: of a log that was read to its end, or of a fold.
-use Rattle.std.proofs.Common.{◌≡◌, ℕ, not, ◌≤◌, ◌^◌, List, [], ◌∷◌, ◌++◌, length, Option, Some, None, refl, sym, ap, subst, ◌∙◌, append-nil}
+use Rattle.std.proofs.Common.{◌≡◌, ℕ, true, not, ◌≤◌, ◌^◌, List, [], ◌∷◌, ◌++◌, length, Option, Some, None, refl, sym, ap, subst, ◌∙◌, append-nil}
 use Rattle.std.specs.Prelude.{IfSome}
 use Rattle.std.specs.Io.KnownBytes.{Consumes, IsAtEnd}
 use Rattle.eos_evidence.specs.declared.segment.Segment.{Segment}
@@ -12,7 +12,7 @@ use Rattle.eos_part.specs.declared.run.KeptRun.TheVariants.{Presence, Claims, Te
 use Rattle.eos_part.specs.Runs.{IsKeptRun, wanted_by, front_of, HasClaims}
 use Rattle.eos_source.specs.declared.source.Piece.{Piece}
 use Rattle.eos_source.specs.declared.source.Piece.TheVariants as pieces
-use Rattle.eos_source.specs.Said.{Said, Log, Fold, WillSay}
+use Rattle.eos_source.specs.Said.{Said, Log, Fold, Known, WillSay}
 use Rattle.eos_source.specs.steps.Runs.{Asking, IsAsked, IsTaken}
 
 -- ---- a log
@@ -41,15 +41,15 @@ module _ {R : Type 0} (left : R → Option (List ℕ)) where
   checked_so topics s ss (Claims kept) k = k.front.sequenced
   checked_so topics s ss (Texts kept) k = k.front.sequenced
 
-  pub log_read : (known : Option Said) (a : Asking) (name : Segment) (reader : R) (new : Option (List ℕ)) (run : KeptRun) (bytes : List ℕ) → a.topic ≡ name.topic
-      → IfSome known (WillSay left (pieces.Log reader)) → Consumes (left reader) new bytes → length bytes ≤ 0x4000_0000 → IsAtEnd new → wanted_by run ≡ a.wanted → HasClaims a.topics run
+  pub log_read : (known : Known) (a : Asking) (name : Segment) (reader : R) (new : Option (List ℕ)) (run : KeptRun) (bytes : List ℕ) → a.topic ≡ name.topic
+      → IfSome known.said (WillSay left (pieces.Log reader)) → Consumes (left reader) new bytes → length bytes ≤ 0x4000_0000 → IsAtEnd new → wanted_by run ≡ a.wanted → HasClaims a.topics run
       → ((s : Segment) → s.topic ≡ name.topic → s.base ≡ name.base → s.bytes ≡ bytes → IsKeptRun a.topics (s ∷ []) run) → (said : Said) × IsTaken known said a name run
   log_read known a name reader new run bytes e h c l at w claims k =
       let s : Segment = record { topic = name.topic; partition = name.partition; base = name.base; bytes = bytes } in
       let kept : IsKeptRun a.topics (s ∷ []) run = k s refl refl refl in (
         Log bytes,
         record {
-          as_known = record { is = log_known known reader new bytes h c at; can = l };
+          as_known = record { is = log_known known.said reader new bytes h c at; log = λ is. l; can = l };
           kept = λ segment piece. k segment piece.topic piece.base piece.says;
           asked = record { wanted = w; claims = claims; checked = checked_so a.topics s [] run kept ∙ ap (λ (t : List ℕ). not (is_internal t)) (sym e) };
         },
@@ -57,12 +57,12 @@ module _ {R : Type 0} (left : R → Option (List ℕ)) where
 
   -- ---- a fold
 
-  pub fold_taken : (known : Option Said) (a : Asking) (name : Segment) (fold : FoldFile) (run : KeptRun) → IfSome known (WillSay left (pieces.Fold fold)) → IsLegal fold
+  pub fold_taken : (known : Known) (a : Asking) (name : Segment) (fold : FoldFile) (run : KeptRun) → IfSome known.said (WillSay left (pieces.Fold fold)) → (known.log ≡ true → ⊥) → IsLegal fold
       → ((s : Segment) → IsFoldOf s fold → IsKeptRun a.topics (s ∷ []) run) → IsAsked a run → (said : Said) × IsTaken known said a name run
-  fold_taken known a name fold run h legal kept asked = (
+  fold_taken known a name fold run h denied legal kept asked = (
     Fold fold,
     record {
-      as_known = record { is = fold_known known fold h; can = legal };
+      as_known = record { is = fold_known known.said fold h; log = λ is. absurd (denied is); can = legal };
       kept = λ segment piece. kept segment piece.says;
       asked = asked;
     },

@@ -5,10 +5,10 @@ use Rattle.std.specs.Prelude.{slice_get, All, IfOk}
 use Rattle.eos_evidence.specs.declared.application.App.{App}
 use Rattle.eos_evidence.specs.declared.segment.Segment.{Segment}
 use Rattle.eos_part.specs.declared.run.KeptRun.{KeptRun}
-use Rattle.eos_source.specs.Said.{Said, Log}
+use Rattle.eos_source.specs.Said.{Said, Log, Known}
 use Rattle.eos_source.specs.steps.Runs.{IsSlotOf, IsSlot, AreSlots, AreSlotsOf, IsTaken, asking}
 
-module _ {F : Type 0} (known : ℕ → Option Said) (topics : List (List ℕ)) (apps : List App) where
+module _ {F : Type 0} (known : ℕ → Known) (topics : List (List ℕ)) (apps : List App) where
   -- a refusal says nothing of its piece
   pub none_read : (piece : ℕ) (names : List Segment) (slots : List (Result KeptRun F)) → length slots ≡ length names → All (λ slot. IfOk slot (λ run. ⊥)) slots
       → AreSlots known topics apps piece names slots
@@ -40,7 +40,7 @@ module _ {F : Type 0} (known : ℕ → Option Said) (topics : List (List ℕ)) (
   -- ---- what each piece said
 
   -- from this number on: of a refused one it doesn't matter
-  said_from : (piece : ℕ) (names : List Segment) (slots : List (Result KeptRun F)) → AreSlots known topics apps piece names slots → ℕ → Said
+  abbrev said_from : (piece : ℕ) (names : List Segment) (slots : List (Result KeptRun F)) → AreSlots known topics apps piece names slots → ℕ → Said
   said_from piece [] slots h number = Log []
   said_from piece (name ∷ names) [] h number = Log []
   said_from piece (name ∷ names) (Ok run ∷ slots) h number = cond (eqb piece number) h.0.0 (said_from (suc piece) names slots h.1 number)

@@ -10,7 +10,7 @@ use Rattle.eos_part.specs.Parts.{IsTold}
 use Rattle.eos_wanted.specs.Wanted.{wanted_of}
 use Rattle.eos_source.specs.declared.logs.KeptLogs.{KeptLogs}
 use Rattle.eos_source.specs.declared.logs.Tally.{Tally}
-use Rattle.eos_source.specs.Said.{Said}
+use Rattle.eos_source.specs.Said.{Known}
 use Rattle.eos_source.specs.Shapes.{HoldsAsSaid}
 
 -- of each of these partitions what these applications want of its log, its least fault, and how much there is of it
@@ -37,5 +37,5 @@ pub record AreLogsKept (logs : KeptLogs) (evidence : EvidenceParts) : Type 0 whe
   pub columns : AreColumns told logs
 
 -- so it is with each evidence of this shape whose segments are such as the pieces said
-abbrev pub AreKeptLogs : (ℕ → Option Said) → EvidenceParts → KeptLogs → Type 0
+abbrev pub AreKeptLogs : (ℕ → Known) → EvidenceParts → KeptLogs → Type 0
 AreKeptLogs known shape logs = HoldsAsSaid known shape (AreLogsKept logs)

@@ -1,5 +1,5 @@
 -- What a piece says: the bytes of a log, or a fold of it.
-use Rattle.std.specs.Prelude.{◌≡◌, ◌≤◌, ◌<◌, ◌^◌, ℕ, List, length, Option, Some, IfSome, ⊤}
+use Rattle.std.specs.Prelude.{◌≡◌, ◌≤◌, ◌<◌, ◌^◌, ℕ, Bool, true, List, length, Option, Some, IfSome, ⊤}
 use Rattle.eos_evidence.specs.declared.segment.Segment.{Segment}
 use Rattle.eos_fold_file.specs.declared.file.FoldFile.{FoldFile}
 use Rattle.eos_fold_file.specs.Folds.{IsFoldOf}
@@ -21,15 +21,6 @@ abbrev pub CanBeSaid : Said → Type 0
 CanBeSaid (Log bytes) = length bytes ≤ 2 ^ 30
 CanBeSaid (Fold fold) = IsLegal fold
 
--- a piece said this, of which so much was known
-pub record IsAsKnown (known : Option Said) (said : Said) : Type 0 where
-  pub is : IfSome known (λ k. said ≡ k)
-  pub can : CanBeSaid said
-
--- what each of so many pieces said, by its number
-abbrev pub AreAsKnown : (ℕ → Option Said) → ℕ → (ℕ → Said) → Type 0
-AreAsKnown known pieces said = (piece : ℕ) → piece < pieces → IsAsKnown (known piece) (said piece)
-
 -- a log
 abbrev pub IsLog : Said → Type 0
 IsLog (Log bytes) = length bytes ≤ 2 ^ 30
@@ -39,6 +30,26 @@ IsLog (Fold fold) = ⊥
 abbrev pub AreLogs : ℕ → (ℕ → Said) → Type 0
 AreLogs pieces said = (piece : ℕ) → piece < pieces → IsLog (said piece)
 
+-- ---- as far as it is known
+
+-- what a piece will say, where that is known, and whether it is known to be a log
+pub record Known : Type 0 where
+  pub said : Option Said
+  pub log : Bool
+
+abbrev pub known_by : (ℕ → Option Said) → (ℕ → Bool) → ℕ → Known
+known_by said log piece = record { said = said piece; log = log piece }
+
+-- a piece said this, of which so much was known
+pub record IsAsKnown (known : Known) (said : Said) : Type 0 where
+  pub is : IfSome known.said (λ k. said ≡ k)
+  pub log : known.log ≡ true → IsLog said
+  pub can : CanBeSaid said
+
+-- what each of so many pieces said, by its number
+abbrev pub AreAsKnown : (ℕ → Known) → ℕ → (ℕ → Said) → Type 0
+AreAsKnown known pieces said = (piece : ℕ) → piece < pieces → IsAsKnown (known piece) (said piece)
+
 -- ---- as it was opened
 
 -- a log whose reader has these bytes left, or this fold
@@ -47,6 +58,10 @@ WillSay left (pieces.Log reader) (Log bytes) = left reader ≡ Some bytes
 WillSay left (pieces.Log reader) (Fold fold) = ⊥
 WillSay left (pieces.Fold opened) (Log bytes) = ⊥
 WillSay left (pieces.Fold opened) (Fold fold) = opened ≡ fold
+
+abbrev pub IsOpenedLog : {R : Type 0} → Piece R → Type 0
+IsOpenedLog (pieces.Log reader) = ⊤
+IsOpenedLog (pieces.Fold opened) = ⊥
 
 -- a fold is one that a file can have
 abbrev pub IsLegalPiece : {R : Type 0} → Piece R → Type 0

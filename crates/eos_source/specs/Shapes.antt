@@ -4,7 +4,7 @@ use Rattle.std.specs.Prelude.{◌≡◌, ◌≤◌, ◌^◌, ℕ, suc, ◌+◌, 
 use Rattle.eos_evidence.specs.declared.partition.Partition.{Partition}
 use Rattle.eos_evidence.specs.declared.segment.Segment.{Segment}
 use Rattle.eos_evidence.specs.Evidence.{EvidenceParts, segments_of}
-use Rattle.eos_source.specs.Said.{Said, HasSaid, AreAsKnown}
+use Rattle.eos_source.specs.Said.{Said, HasSaid, Known, AreAsKnown}
 
 -- A segment of this name, of which its piece said this. It has no more bytes than a segment may have.
 pub record IsPiece (said : Said) (name segment : Segment) : Type 0 where
@@ -35,7 +35,7 @@ pub record IsOfShape (said : ℕ → Said) (shape evidence : EvidenceParts) : Ty
   pub partitions : ArePartitions said 0 shape.partitions evidence.partitions
 
 -- there is what each piece said, and so it is with each evidence of this shape whose segments are such
-pub record HoldsAsSaid (known : ℕ → Option Said) (shape : EvidenceParts) (Holds : EvidenceParts → Type 0) : Type 0 where
+pub record HoldsAsSaid (known : ℕ → Known) (shape : EvidenceParts) (Holds : EvidenceParts → Type 0) : Type 0 where
   pub said : ℕ → Said
   pub as_known : AreAsKnown known (length (segments_of shape.partitions)) said
   pub holds : (evidence : EvidenceParts) → IsOfShape said shape evidence → Holds evidence

@@ -40,11 +40,13 @@ impl<'a> Source for MemorySource<'a> {
 
     type Fault = MemoryFault;
 
-    ghost use Rattle.std.specs.Prelude.{slice_get, option_map};
+    ghost use Rattle.std.specs.Prelude.{true, slice_get, option_map};
     ghost use Rattle.eos_evidence.specs.Evidence.{segments_of};
     ghost use Rattle.eos_source.specs.Said.{Log};
 
     ghost said = { λ s piece. option_map (λ segment. Log segment.bytes) (slice_get (segments_of s.evidence.now.partitions) piece) };
+
+    ghost is_log = { λ s piece. true };
 
     fn open(&self, _alloc: Global, piece: u64) -> Result<Piece<&'a [u8]>, MemoryFault> {
         if piece >= self.evidence.pieces() {

@@ -5,7 +5,7 @@ ghost use Rattle.eos_evidence.specs.declared.segment.Segment.{Segment};
 ghost use Rattle.eos_fold_file.specs.Folds.{IsFoldOf};
 ghost use Rattle.eos_fold_file.specs.Legal.{IsLegal};
 ghost use Rattle.eos_part.specs.Runs.{IsKeptRun};
-ghost use Rattle.eos_source.specs.Said.{Said};
+ghost use Rattle.eos_source.specs.Said.{Said, known_by};
 ghost use Rattle.eos_source.specs.steps.Runs.{IsAsked, IsTaken};
 
 use crate::source::{Piece, Source};
@@ -35,7 +35,7 @@ pub(crate) fn read_piece<S: Source>(
     piece: u64,
     name: &Segment,
 ) -> Result<KeptRun, S::Fault>
-    ensures { IfOk result (λ run. (said : Said) × IsTaken (S.said source.now piece) said (record { topics = asked.entry.topics.now; wanted = asked.entry.wanted; topic = name.now.topic }) name.now run) }
+    ensures { IfOk result (λ run. (said : Said) × IsTaken (known_by (S.said source.now) (S.is_log source.now) piece) said (record { topics = asked.entry.topics.now; wanted = asked.entry.wanted; topic = name.now.topic }) name.now run) }
 {
     match source.open(alloc, piece)? {
         Piece::Log(mut reader) => {

@@ -3,6 +3,7 @@
 ghost use Rattle.std.specs.Prelude.{◌≡◌, vec_len, All, IfOk, IsPermutation};
 ghost use Rattle.eos_evidence.specs.Evidence.{segments_of};
 ghost use Rattle.eos_evidence.specs.Parts.{outputs_of};
+ghost use Rattle.eos_source.specs.Said.{known_by};
 ghost use Rattle.eos_source.specs.steps.Runs.{AreSlots};
 
 use crate::plan::Plan;
@@ -37,7 +38,7 @@ pub(crate) fn read_all<S: Source, R: Threads + Sync>(
     workers: Workers,
 ) -> Result<Vec<Result<KeptRun, S::Fault>>, AllocError>
     requires { IsPermutation (outputs_of plan.now.shape.now.spec.apps) plan.now.wants }
-    ensures { IfOk result (λ slots. AreSlots (S.said plan.now.source.now) plan.now.topics.now plan.now.shape.now.spec.apps 0 (segments_of plan.now.shape.now.partitions) slots.items) }
+    ensures { IfOk result (λ slots. AreSlots (known_by (S.said plan.now.source.now) (S.is_log plan.now.source.now)) plan.now.topics.now plan.now.shape.now.spec.apps 0 (segments_of plan.now.shape.now.partitions) slots.items) }
 {
     let mut slots = unread(alloc, plan.shape.pieces())?;
     for seat in read_by_threads(alloc, rt, plan, workers)? {

@@ -18,8 +18,8 @@ pub enum Piece<R> {
 /// What the pieces of an evidence are read from, by their numbers: partitions in order, each with its segments by base. Threads
 /// share it.
 pub trait Source: Sync {
-    ghost use Rattle.std.specs.Prelude.{ℕ, Option, IfOk, IfSome};
-    ghost use Rattle.eos_source.specs.Said.{Said, WillSay, IsLegalPiece};
+    ghost use Rattle.std.specs.Prelude.{◌≡◌, ℕ, Bool, true, false, Option, IfOk, IfSome};
+    ghost use Rattle.eos_source.specs.Said.{Said, WillSay, IsOpenedLog, IsLegalPiece};
 
     /// What a piece is read from that is a log.
     type Reader: Read + Drop + Send;
@@ -30,9 +30,13 @@ pub trait Source: Sync {
     /// What a piece will say, where it is known.
     ghost said: { Self → ℕ → Option Said };
 
+    /// Whether a piece is known to be a log, of whatever bytes.
+    ghost is_log: { Self → ℕ → Bool } = { λ source piece. false };
+
     /// Opens the piece of this number.
     fn open(&self, alloc: Global, piece: u64) -> Result<Piece<Self::Reader>, Self::Fault>
         ensures said { IfOk result (λ opened. IfSome (said self.now piece) (WillSay Self.Reader.remaining opened)) }
+        ensures log { is_log self.now piece ≡ true → IfOk result IsOpenedLog }
         ensures legal { IfOk result IsLegalPiece };
 
     /// Why reading a log, which was opened, ended so.

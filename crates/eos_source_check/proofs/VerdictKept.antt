@@ -9,7 +9,7 @@ use Rattle.eos_wanted.specs.Wanted.{wanted_logs}
 use Rattle.eos_wanted_verdict.proofs.KeptAnswers.{judged}
 use Rattle.eos_source.specs.declared.logs.KeptLogs.{KeptLogs}
 use Rattle.eos_source.specs.Logs.{AreLogsKept, AreKeptLogs}
-use Rattle.eos_source.specs.Said.{Said}
+use Rattle.eos_source.specs.Said.{Known}
 use Rattle.eos_source_check.specs.Judged.{IsJudgedFor, IsJudgedOf}
 use Rattle.eos_source_check.specs.declared.judged.Judged.{Judged}
 use Rattle.eos_source_check.specs.steps.Apart.{counted_as, IsApart}
@@ -33,7 +33,7 @@ judged_for kept j shape e spec k w answer =
       verdict = (t.whole, t.of, judged e t.whole t.of j.logs.faults.items j.verdict k.is_evidence faults over_kept);
     }
 
-pub judged_of : (known : ℕ → Option Said) (shape : EvidenceParts) (kept : KeptLogs) (j : Judged) → AreKeptLogs known shape kept → IsApart kept j.logs j.counted.items
+pub judged_of : (known : ℕ → Known) (shape : EvidenceParts) (kept : KeptLogs) (j : Judged) → AreKeptLogs known shape kept → IsApart kept j.logs j.counted.items
     → IsJudged shape.spec.apps j.logs.parts.items (first_of j.logs.faults.items) j.verdict → IsJudgedOf known shape j
 judged_of known shape kept j k w answer =
     record { said = k.said; as_known = k.as_known; holds = λ e of. judged_for kept j shape e of.spec (k.holds e of) w answer }

@@ -8,7 +8,7 @@ use Rattle.eos_check.specs.Verdicts.{IsVerdict}
 use Rattle.eos_partitions.specs.Faults.{AreFaultsIn}
 use Rattle.eos_partitions.specs.declared.logs.Logs.{Logs}
 use Rattle.eos_wanted.specs.Wanted.{wanted_logs}
-use Rattle.eos_source.specs.Said.{Said}
+use Rattle.eos_source.specs.Said.{Known}
 use Rattle.eos_source.specs.Shapes.{HoldsAsSaid}
 use Rattle.eos_tallies.specs.Counts.{AreCounted}
 use Rattle.eos_source_check.specs.declared.judged.Judged.{Judged}
@@ -28,5 +28,5 @@ pub record IsJudgedFor (judged : Judged) (evidence : EvidenceParts) : Type 0 whe
   pub verdict : IsVerdict evidence judged.verdict
 
 -- so it is with each evidence of this shape whose segments are such as the pieces said
-abbrev pub IsJudgedOf : (ℕ → Option Said) → EvidenceParts → Judged → Type 0
+abbrev pub IsJudgedOf : (ℕ → Known) → EvidenceParts → Judged → Type 0
 IsJudgedOf known shape judged = HoldsAsSaid known shape (IsJudgedFor judged)

@@ -1,6 +1,7 @@
 //! The verdict of an evidence of which a source has the pieces.
 
 ghost use Rattle.std.specs.Prelude.{IfOk};
+ghost use Rattle.eos_source.specs.Said.{known_by};
 ghost use Rattle.eos_source_check.specs.Judged.{IsJudgedOf};
 
 use crate::kept::apart;
@@ -34,7 +35,7 @@ pub fn judge_source<S: Source, R: Threads + Sync>(
     shape: &Evidence,
     workers: Workers,
 ) -> Result<Judged, S::Fault>
-    ensures { IfOk result (IsJudgedOf (S.said source.now) shape.now) }
+    ensures { IfOk result (IsJudgedOf (known_by (S.said source.now) (S.is_log source.now)) shape.now) }
 {
     let kept = kept_logs(alloc, rt, source, shape, workers)?;
     let (logs, counted) = apart(alloc, kept)?;

@@ -9,17 +9,17 @@ use Rattle.eos_part.specs.Parts.{IsTold}
 use Rattle.eos_wanted.specs.Wanted.{wanted_of}
 use Rattle.eos_source.specs.declared.logs.KeptLogs.{KeptLogs}
 use Rattle.eos_source.specs.Logs.{AreTold, AreColumns}
-use Rattle.eos_source.specs.Said.{Said}
+use Rattle.eos_source.specs.Said.{Said, Known}
 use Rattle.eos_source.specs.Shapes.{ArePieces, ArePartitions}
 use Rattle.eos_source.specs.steps.Runs.{AreFrom}
 
 -- of a partition of this shape, whose first segment is the piece of this number
-pub record IsToldOf (known : ℕ → Option Said) (said : ℕ → Said) (apps : List App) (piece : ℕ) (shape : Partition) (told : Told) : Type 0 where
+pub record IsToldOf (known : ℕ → Known) (said : ℕ → Said) (apps : List App) (piece : ℕ) (shape : Partition) (told : Told) : Type 0 where
   pub as_known : AreFrom known said piece (length shape.segments)
   pub is : (segments : List Segment) → ArePieces said piece shape.segments segments → IsTold (wanted_of apps shape.end.topic) shape.end segments told
 
 -- of partitions of these shapes, column by column
-pub record AreToldOf (known : ℕ → Option Said) (said : ℕ → Said) (apps : List App) (shapes : List Partition) (logs : KeptLogs) : Type 0 where
+pub record AreToldOf (known : ℕ → Known) (said : ℕ → Said) (apps : List App) (shapes : List Partition) (logs : KeptLogs) : Type 0 where
   pub as_known : AreFrom known said 0 (length (segments_of shapes))
   pub told : List Told
   pub each : (partitions : List Partition) → ArePartitions said 0 shapes partitions → AreTold apps partitions told

@@ -7,7 +7,7 @@ use Rattle.eos_wanted.specs.declared.wanted.Wanted.{Wanted}
 use Rattle.eos_wanted.specs.Wanted.{wanted_of}
 use Rattle.eos_part.specs.declared.run.KeptRun.{KeptRun}
 use Rattle.eos_part.specs.Runs.{IsKeptRun, wanted_by, front_of, HasClaims}
-use Rattle.eos_source.specs.Said.{Said, IsAsKnown}
+use Rattle.eos_source.specs.Said.{Said, Known, IsAsKnown}
 use Rattle.eos_source.specs.Shapes.{IsPiece, ArePieces}
 
 -- what is asked of the segments of a topic
@@ -27,17 +27,17 @@ pub record IsAsked (a : Asking) (run : KeptRun) : Type 0 where
   pub checked : (front_of run).run.sequenced ≡ not (is_internal a.topic)
 
 -- what each of so many pieces from this number on said
-abbrev pub AreFrom : (ℕ → Option Said) → (ℕ → Said) → ℕ → ℕ → Type 0
+abbrev pub AreFrom : (ℕ → Known) → (ℕ → Said) → ℕ → ℕ → Type 0
 AreFrom known said first count = (piece : ℕ) → first ≤ piece → piece < first + count → IsAsKnown (known piece) (said piece)
 
 -- what was asked of the pieces of these names, the first of which has this number
-pub record IsRead (known : ℕ → Option Said) (said : ℕ → Said) (a : Asking) (piece : ℕ) (names : List Segment) (run : KeptRun) : Type 0 where
+pub record IsRead (known : ℕ → Known) (said : ℕ → Said) (a : Asking) (piece : ℕ) (names : List Segment) (run : KeptRun) : Type 0 where
   pub as_known : AreFrom known said piece (length names)
   pub kept : (segments : List Segment) → ArePieces said piece names segments → IsKeptRun a.topics segments run
   pub asked : IsAsked a run
 
 -- or there are none
-abbrev pub AreRead : (ℕ → Option Said) → (ℕ → Said) → Asking → ℕ → List Segment → Option KeptRun → Type 0
+abbrev pub AreRead : (ℕ → Known) → (ℕ → Said) → Asking → ℕ → List Segment → Option KeptRun → Type 0
 AreRead known said a piece names None = names ≡ []
 AreRead known said a piece names (Some run) = IsRead known said a piece names run
 
@@ -58,27 +58,27 @@ HaveClaims topics (Some run) = HasClaims topics run
 -- ---- slots
 
 -- what was asked of the piece of this name, which said this
-pub record IsTaken (known : Option Said) (said : Said) (a : Asking) (name : Segment) (run : KeptRun) : Type 0 where
+pub record IsTaken (known : Known) (said : Said) (a : Asking) (name : Segment) (run : KeptRun) : Type 0 where
   pub as_known : IsAsKnown known said
   pub kept : (segment : Segment) → IsPiece said name segment → IsKeptRun a.topics (segment ∷ []) run
   pub asked : IsAsked a run
 
 -- what became of the piece of this name, if it said this: what was asked of it, or a refusal
-abbrev pub IsSlotOf : {F : Type 0} → Option Said → Said → List (List ℕ) → List App → Segment → Result KeptRun F → Type 0
+abbrev pub IsSlotOf : {F : Type 0} → Known → Said → List (List ℕ) → List App → Segment → Result KeptRun F → Type 0
 IsSlotOf known said topics apps name slot = IfOk slot (IsTaken known said (asking topics apps name.topic) name)
 
 -- what became of the piece of this number and name
-abbrev pub IsSlot : {F : Type 0} → (ℕ → Option Said) → List (List ℕ) → List App → ℕ → Segment → Result KeptRun F → Type 0
+abbrev pub IsSlot : {F : Type 0} → (ℕ → Known) → List (List ℕ) → List App → ℕ → Segment → Result KeptRun F → Type 0
 IsSlot known topics apps piece name slot = IfOk slot (λ run. (said : Said) × IsTaken (known piece) said (asking topics apps name.topic) name run)
 
 -- what became of the pieces of these names, the first of which has this number; others follow
-abbrev pub AreSlots : {F : Type 0} → (ℕ → Option Said) → List (List ℕ) → List App → ℕ → List Segment → List (Result KeptRun F) → Type 0
+abbrev pub AreSlots : {F : Type 0} → (ℕ → Known) → List (List ℕ) → List App → ℕ → List Segment → List (Result KeptRun F) → Type 0
 AreSlots known topics apps piece [] slots = ⊤
 AreSlots known topics apps piece (name ∷ names) [] = ⊥
 AreSlots known topics apps piece (name ∷ names) (slot ∷ slots) = IsSlot known topics apps piece name slot × AreSlots known topics apps (suc piece) names slots
 
 -- the same, if the pieces said this
-abbrev pub AreSlotsOf : {F : Type 0} → (ℕ → Option Said) → (ℕ → Said) → List (List ℕ) → List App → ℕ → List Segment → List (Result KeptRun F) → Type 0
+abbrev pub AreSlotsOf : {F : Type 0} → (ℕ → Known) → (ℕ → Said) → List (List ℕ) → List App → ℕ → List Segment → List (Result KeptRun F) → Type 0
 AreSlotsOf known said topics apps piece [] slots = ⊤
 AreSlotsOf known said topics apps piece (name ∷ names) [] = ⊥
 AreSlotsOf known said topics apps piece (name ∷ names) (slot ∷ slots) =

@@ -1,8 +1,7 @@
-use Rattle.std.proofs.Common.{◌≡◌, ◌<◌, ◌^◌, pos, Option, Some, sym, ap, subst, arith, rules, w32, FitsSigned}
-use Rattle.std.specs.Prelude.{◌≤ℤ◌, option_map}
+use Rattle.std.proofs.Common.{◌^◌, Option, sym, subst, arith, rules, w32, FitsSigned}
+use Rattle.std.specs.Prelude.{option_map}
 use Rattle.std.proofs.lemmas.Bool.{ltb-true, lt-ltb}
 use Rattle.std.proofs.lemmas.Int.{ints}
-use Rattle.eos_claims.specs.declared.claim.Claim.{Claim}
 use Rattle.eos_claims.specs.declared.claim.ClaimRef.{ClaimRef}
 use Rattle.eos_claims.specs.Slots.{plain_claim}
 use Rattle.eos_keeping.specs.Records.{ReadsBack}

@@ -5,4 +5,7 @@ pub returns-clause-each : goal.returns-clause-each
 returns-clause-each c = λ said shape evidence e h. evidence_is said shape evidence e h
 
 pub returns-clause-logs : goal.returns-clause-logs
-returns-clause-logs c = λ said shape e h. logs_said said shape h
+returns-clause-logs c = λ said shape h. logs_said said shape h
+
+pub returns-clause-known : goal.returns-clause-known
+returns-clause-known c = λ known pieces said h logs piece lt. (h piece lt).log (logs piece lt)

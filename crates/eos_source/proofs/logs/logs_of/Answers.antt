@@ -3,6 +3,7 @@ use Rattle.std.specs.Vec.Iter.{into_iter_items}
 use Rattle.eos_evidence.specs.declared.partition.Partition.{Partition}
 use Rattle.eos_evidence.specs.declared.segment.Segment.{Segment}
 use Rattle.eos_evidence.specs.Evidence.{segments_of}
+use Rattle.eos_source.specs.Said.{known_by}
 use Rattle.eos_source.specs.steps.Runs.{AreSlots, AreSlotsOf}
 use Rattle.eos_source.proofs.SlotsRead.{were_said}
 use Rattle.eos_source.proofs.PartitionsTold.{none_told, here, segments_left, pieces_taken, told_next}
@@ -10,7 +11,7 @@ use Rattle.eos_source.proofs.logs.logs_of.Goals as goal
 
 pub loop-i-init : goal.loop-i-init
 loop-i-init g c =
-    let known = g.S.Source.said c.args.plan.now.source.now in
+    let known = known_by (g.S.Source.said c.args.plan.now.source.now) (g.S.Source.is_log c.args.plan.now.source.now) in
     let topics = c.args.plan.now.topics.now in
     let apps = c.args.plan.now.shape.now.spec.apps in
     let slots = into_iter_items c.into_iter-slots.result in
@@ -24,7 +25,7 @@ loop-i-init g c =
 
 pub loop-i-preserved : goal.loop-i-preserved
 loop-i-preserved g c =
-    let known = g.S.Source.said c.args.plan.now.source.now in
+    let known = known_by (g.S.Source.said c.args.plan.now.source.now) (g.S.Source.is_log c.args.plan.now.source.now) in
     let topics = c.args.plan.now.topics.now in
     let apps = c.args.plan.now.shape.now.spec.apps in
     let shapes = c.partitions-partitions.result.now in

@@ -7,6 +7,7 @@ use Rattle.eos_fold.specs.Standing.{AreOf}
 use Rattle.eos_part.specs.Parts.{IsTold}
 use Rattle.eos_wanted.specs.declared.wanted.Wanted.{Wanted}
 use Rattle.eos_wanted.specs.Wanted.{wanted_of}
+use Rattle.eos_source.specs.Said.{known_by}
 use Rattle.eos_source.specs.steps.Runs.{asking, AreRead, AreKeptRun, IsWantedBy, HaveClaims, AreSlotsOf}
 use Rattle.eos_source.proofs.ShapesFilled.{of_topic}
 use Rattle.eos_source.proofs.PartitionsTold.{as_wanted, have_claims, told_of, same_end}
@@ -14,7 +15,7 @@ use Rattle.eos_source.proofs.logs.next_told.Goals as goal
 
 pub next_run-requires : goal.next_run-requires
 next_run-requires g c =
-    let known = g.S.Source.said c.args.plan.now.source.now in
+    let known = known_by (g.S.Source.said c.args.plan.now.source.now) (g.S.Source.is_log c.args.plan.now.source.now) in
     let topics = c.args.plan.now.topics.now in
     let apps = c.args.plan.now.shape.now.spec.apps in
     let topic = c.args.shape.now.end.topic in
@@ -26,7 +27,7 @@ next_run-requires g c =
 
 pub told_of-requires-clause-wanted : goal.told_of-requires-clause-wanted
 told_of-requires-clause-wanted g c =
-    let known = g.S.Source.said c.args.plan.now.source.now in
+    let known = known_by (g.S.Source.said c.args.plan.now.source.now) (g.S.Source.is_log c.args.plan.now.source.now) in
     let topics = c.args.plan.now.topics.now in
     let apps = c.args.plan.now.shape.now.spec.apps in
     let topic = c.args.shape.now.end.topic in
@@ -40,7 +41,7 @@ told_of-requires-clause-wanted g c =
 
 pub told_of-requires-clause-claims : goal.told_of-requires-clause-claims
 told_of-requires-clause-claims g c =
-    let known = g.S.Source.said c.args.plan.now.source.now in
+    let known = known_by (g.S.Source.said c.args.plan.now.source.now) (g.S.Source.is_log c.args.plan.now.source.now) in
     let topics = c.args.plan.now.topics.now in
     let apps = c.args.plan.now.shape.now.spec.apps in
     let topic = c.args.shape.now.end.topic in
@@ -54,7 +55,7 @@ told_of-requires-clause-claims g c =
 
 pub returns : goal.returns
 returns g c = λ said piece later given.
-    let known = g.S.Source.said c.args.plan.now.source.now in
+    let known = known_by (g.S.Source.said c.args.plan.now.source.now) (g.S.Source.is_log c.args.plan.now.source.now) in
     let topics = c.args.plan.now.topics.now in
     let shape = c.args.shape.now in
     let apps = c.args.plan.now.shape.now.spec.apps in

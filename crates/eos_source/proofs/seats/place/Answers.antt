@@ -1,6 +1,7 @@
 use Rattle.std.proofs.Common.{suc, sym, subst, arith}
 use Rattle.std.specs.Prelude.{All}
 use Rattle.eos_evidence.specs.Evidence.{segments_of}
+use Rattle.eos_source.specs.Said.{known_by}
 use Rattle.eos_source.specs.steps.Runs.{AreSlots}
 use Rattle.eos_source.specs.steps.Seats.{IsReading}
 use Rattle.eos_source.proofs.SlotsRead.{put}
@@ -8,7 +9,7 @@ use Rattle.eos_source.proofs.seats.place.Goals as goal
 
 pub loop-reading-preserved : goal.loop-reading-preserved
 loop-reading-preserved g c =
-    let known = g.S.Source.said c.args.plan.now.source.now in
+    let known = known_by (g.S.Source.said c.args.plan.now.source.now) (g.S.Source.is_log c.args.plan.now.source.now) in
     let topics = c.args.plan.now.topics.now in
     let apps = c.args.plan.now.shape.now.spec.apps in
     let names = segments_of c.args.plan.now.shape.now.partitions in
