@@ -1,5 +1,9 @@
 //! A folder as a source.
 
+ghost use Rattle.std.specs.Prelude.{◌≡◌, true, IfSome};
+ghost use Rattle.eos_folder.specs.declared.names.Form.TheVariants.{Log};
+ghost use Rattle.eos_folder_source.specs.Logs.{is_log_at};
+
 use crate::fold::{read_fold, refused_unfit};
 use crate::reader::SegmentReader;
 use eos_evidence::{Evidence, ReadFault, Segment};
@@ -22,7 +26,9 @@ pub struct FolderSource<'a, W: Watch> {
 
 impl<'a, W: Watch> FolderSource<'a, W> {
     /// The name and the form of the piece of this number, where the shape has it.
-    fn piece(&self, piece: u64) -> Option<(&'a Segment, Form)> {
+    fn piece(&self, piece: u64) -> Option<(&'a Segment, Form)>
+        ensures { IfSome result (λ found. is_log_at self.now.forms.now piece ≡ true → found.1 ≡ Log) }
+    {
         if piece >= self.shape.pieces() || piece >= self.forms.len() as u64 {
             return None;
         }
@@ -36,8 +42,11 @@ impl<'a, W: Watch> Source for FolderSource<'a, W> {
     type Fault = FolderFault;
 
     ghost use Rattle.std.specs.Prelude.{None};
+    ghost use Rattle.eos_folder_source.specs.Logs.{is_log_at};
 
     ghost said = { λ s piece. None };
+
+    ghost is_log = { λ s piece. is_log_at s.forms.now piece };
 
     /// Opens the file of a segment. There is no file of a number that the shape doesn't have, which is answered as a segment too
     /// many.
