@@ -181,26 +181,21 @@ class Reader:
     def head(self):
         kind = self.kind("Head", 7)
         coordinator = self.number(32) if kind >= 4 else None
-        count, size = self.unsigned(2**31 - 1), self.unsigned()
+        count, size = self.unsigned(2**32 - 1), self.unsigned()
         head = Head(kind, coordinator, count, size, self.number(), self.number(16), self.number(32))
         without = (kind == 1 or kind >= 4) and head.producer < 0
-        if count == 0 or (kind >= 2 and count > 1) or without or (head.producer >= 0 and head.epoch < 0):
+        possible = 1 <= count < 2**31 if kind < 2 else count == 1
+        if not possible or without or (head.producer >= 0 and head.epoch < 0):
             raise Refused("Head")
         return head
 
     def numbers_of_claim(self):
-        found = self.number(32), self.unsigned(LAST_OFFSET), self.unsigned(2**31 - 1), self.unsigned(2**31 - 1)
-        if found[0] < 0:
-            raise Refused("Number")
-        return found
+        return self.number(32), self.unsigned(), self.unsigned(2**32 - 1), self.unsigned(2**32 - 1)
 
-    def claim(self, topics):
+    def claim(self):
+        """A claim, of which the topic may be a place."""
         kind = self.kind("Record", 2)
-        if kind == 1:
-            place = self.unsigned()
-            if place >= len(topics):
-                raise Refused("Record")
-        return Claim(topics[place] if kind == 1 else self.text(), *self.numbers_of_claim()) if kind else None
+        return Claim(self.unsigned() if kind == 1 else self.text(), *self.numbers_of_claim()) if kind else None
 
     def texts(self):
         key, value = self.text(-1), self.text(-1)
@@ -213,6 +208,21 @@ class Reader:
         return (self.unsigned(),) if kind else ()
 
 
+def placed(claim, topics):
+    if claim is None or isinstance(claim.topic, bytes):
+        return claim
+    if claim.topic >= len(topics):
+        raise Refused("Record")
+    return claim._replace(topic=topics[claim.topic])
+
+
+def is_said(claim):
+    """Whether there are headers that say this."""
+    if claim is None:
+        return True
+    return claim.partition >= 0 and claim.offset <= LAST_OFFSET and claim.output < 2**31 and claim.of < 2**31
+
+
 def read_fold(data):
     """The fold of which this is the file; Refused tells by its name why it is none."""
     fields = Reader(data)
@@ -222,22 +232,25 @@ def read_fold(data):
         raise Refused("Version")
     roles = fields.kind("Roles", 2)
     topic, partition, base, size = fields.text(), fields.number(32), fields.number(), fields.unsigned()
-    heads, topics, kept, offset = [], [], [], base
+    heads, topics, kept = [], [], []
     for _ in range(fields.unsigned()):
         heads.append(fields.head())
-        offset += heads[-1].count
-        if offset > LAST_OFFSET + 1:
-            raise Refused("Head")
+    if abs(base) + sum(head.count for head in heads) > LAST_OFFSET + 1:
+        raise Refused("Head")
     if roles == CLAIMS:
         topics = [fields.text() for _ in range(fields.unsigned())]
     if roles != PRESENCE:
         records = sum(head.count for head in heads if head.kind < 2)
-        kept = [fields.claim(topics) if roles == CLAIMS else fields.texts() for _ in range(records)]
+        kept = [fields.claim() if roles == CLAIMS else fields.texts() for _ in range(records)]
+    if roles == CLAIMS:
+        kept = [placed(claim, topics) for claim in kept]
     stop, checked = fields.stop(), fields.at
     if struct.unpack(">I", fields.take(4))[0] != plain_logs.crc32c(data[:checked]):
         raise Refused("Crc")
     if fields.at < len(data):
         raise Refused("Trailing")
+    if not all(is_said(it if roles == CLAIMS else it[2]) for it in kept):
+        raise Refused("Record")
     return Fold(roles, topic, partition, base, size, heads, topics, kept, stop)
 
 

@@ -4,6 +4,7 @@ For tests/folds.py. Which name a damaged file gets is what the second decoder sa
 refusal says it behind the path; the words of its second line are the program's.
 """
 import os
+import re
 import resource
 import shutil
 import signal
@@ -124,10 +125,17 @@ HOSTILE = [
     ("Number", "a sequence past i32", with_heads(head(sequence=varint(2**31))) + b"\0"),
     ("Number", "a coordinator epoch past i32", with_heads(head(4, varint(2**31), unsigned(1), b"\2", b"\2")) + b"\0"),
     ("Number", "a claim's partition past i32", with_claim(b"\1\0" + varint(2**31) + b"\0\2\2") + b"\0"),
-    ("Number", "a claim's output past i32", with_claim(b"\1\0\0\0" + varint(2**31) + b"\2") + b"\0"),
+    ("Number", "a claim's output past 32 bits", with_claim(b"\1\0\0\0" + varint(2**32) + b"\2") + b"\0"),
+    ("Number", "a claim's count past 32 bits", with_claim(b"\2" + text(b"x") + b"\0\0\2" + varint(2**32)) + b"\0"),
+    ("Number", "a count past 32 bits", with_heads(head(count=unsigned(2**32))) + b"\0"),
+    ("Number", "a topic without bytes, null", front(topic=varint(-1)) + b"\0\0"),
+    ("Number", "a topic of -2 bytes", front(topic=varint(-2)) + b"\0\0"),
+    ("Number", "a key of -2 bytes", with_text(varint(-2) + b"\1\0") + b"\0"),
     ("Head", "a head of kind 8", with_heads(head(8)) + b"\0"),
     ("Head", "a head of kind -1", with_heads(head(255)) + b"\0"),
     ("Head", "a batch without records", with_heads(head(count=b"\0")) + b"\0"),
+    ("Head", "a batch of 2^31 records", with_heads(head(count=unsigned(2**31))) + b"\0"),
+    ("Head", "a batch of 2^32 - 1 records", with_heads(head(count=unsigned(2**32 - 1))) + b"\0"),
     ("Head", "a control batch of two", with_heads(head(2)) + b"\0"),
     ("Head", "a marker of two", with_heads(head(4, b"\0", producer=b"\2", epoch=b"\2")) + b"\0"),
     ("Head", "transactional data without a producer", with_heads(head(1)) + b"\0"),
@@ -137,13 +145,22 @@ HOSTILE = [
     ("Head", "a producer without an epoch", with_heads(head(producer=b"\2")) + b"\0"),
     ("Head", "offsets past 2^63", with_heads(head(), base=GREATEST) + b"\0"),
     ("Head", "offsets past 2^63 by the second head", with_heads(head(), head(), base=varint(LAST_OFFSET - 2)) + b"\0"),
+    ("Head", "a base below -2^63 + 2", with_heads(head(), base=varint(-(2**63) + 1)) + b"\0"),
+    ("Head", "a head that is none before offsets past 2^63", with_heads(head(), head(8), base=GREATEST) + b"\0"),
     ("Record", "a kept record of kind 3", with_claim(b"\3\0\0\0\2\2") + b"\0"),
     ("Record", "the place of a second topic", with_claim(b"\1\2\0\0\2\2") + b"\0"),
     ("Record", "the place of a topic among none", with_claim(b"\1\0\0\0\2\2", b"\0") + b"\0"),
+    ("Number", "a bad number before the place of a second topic", with_claim(b"\1\2" + LONG + b"\0\2\2") + b"\0"),
+    ("Record", "a claim of a partition below 0", with_claim(b"\1\0\1\0\2\2") + b"\0"),
+    ("Record", "a claim of an offset past i64", with_claim(b"\1\0\0" + unsigned(2**63) + b"\2\2") + b"\0"),
+    ("Record", "a claim's output past i32", with_claim(b"\1\0\0\0" + varint(2**31) + b"\2") + b"\0"),
+    ("Record", "a claim's count past i32", with_claim(b"\2" + text(b"x") + b"\0\0\2" + varint(2**31)) + b"\0"),
+    ("Record", "a claim that isn't said, of a text", with_text(b"\1\1\1" + text(b"in") + b"\1\0\2\2") + b"\0"),
     ("Record", "a kept text of kind 2", with_text(b"\1\1\2" + text(b"in") + b"\0\0\2\2") + b"\0"),
     ("Stop", "a stop of kind 3", front() + b"\0\3"),
     ("Stop", "a stop of kind -1", front() + b"\0\xff"),
     ("Stop", "a twelfth reason", front() + b"\0\1\0\0\x0c"),
+    ("Short", "heads that are too few, whose offsets are past 2^63", front(base=GREATEST) + unsigned(2) + head()),
     ("Short", "nothing", None),
     ("Short", "heads without an end", front() + unsigned(2**63)),
     ("Short", "as many heads as a number has", front() + unsigned(2**64 - 1)),
@@ -159,13 +176,18 @@ def in_little_room():
     resource.setrlimit(resource.RLIMIT_AS, (LITTLE, LITTLE))
 
 
+# Where a file of these roles stands.
+PLACES = {PRESENCE: "in-0", CLAIMS: "out-0", TEXTS: "__consumer_offsets-0"}
+
+
 def hostile(place):
-    path = fold_path("in-0", 0)
     for name, what, data in HOSTILE:
         # what runs short has no place for a checksum
         whole = b"" if data is None else data if name == "Short" else sealed(data)
         place.tests.same(f"{what}, by the second decoder", fold_files.name_of(whole), name)
+        path = fold_path(PLACES.get(whole[8] if len(whole) > 8 else PRESENCE, "in-0"), 0)
         place.refused(what, path, whole, name, before=in_little_room)
+    path = fold_path("in-0", 0)
     for what, data in ("another checksum", place.folds[path][:-1] + b"\0"), ("no checksum", place.folds[path][:-4] + b"\0\0\0\0"):
         place.refused(what, path, data, "Crc")
     for what, more in ("a byte behind it", b"\0"), ("itself behind it", place.folds[path]):
@@ -198,7 +220,8 @@ def mismatches(place):
         place.refused(f"in-0 of another {what}", fold_path("in-0", 0), changed(place, fold_path("in-0", 0), **fields), "Partition")
     for base in 3, LAST_OFFSET:
         place.refused(f"base 0 at {base}", fold_path("out-0", base), place.folds[fold_path("out-0", 0)], "Base")
-    place.refused("base 1 at 0", fold_path("in-0", 0), changed(place, fold_path("in-0", 0), base=1), "Base")
+    for base in 1, -1, -(2**63) + 2:
+        place.refused(f"base {base} at 0", fold_path("in-0", 0), changed(place, fold_path("in-0", 0), base=base), "Base")
 
 
 def limits(place):
@@ -232,6 +255,11 @@ def made_up(place):
     other = changed(place, out, kept=[kept[0], Claim(b"a b", 7, 2**40, 1, 1)])
     said = 1, "no 5.5 ForeignSource source=a%20b-7:1099511627776 output=1 at=out-0:1\n", ""
     place.accepted("a claim of another topic", out, other, said)
+    # claims that name the topic that is asked for, and not its place
+    front = fold_files.front_bytes(fold_files.read_fold(place.folds[out]))
+    named = front.replace(b"\1\0\0\0\2\4", b"\2\4in\0\0\2\4").replace(b"\1\0\0\2\2\2", b"\2\4in\0\2\2\2")
+    place.tests.same("two claims are spelled otherwise", len(named) - len(front), 4)
+    place.accepted("claims by the bytes of an asked topic", out, sealed(named), YES)
 
 
 def refused_files(tests):
@@ -347,10 +375,11 @@ def as_nobody():
 
 
 def unwritten(tests, what, words, out, wanted, paths, before=None):
-    """A run that can't write one of these files or folders: it says which, and leaves whole folds alone."""
+    """A run that can't write one of these files or folders: it says in a line which, and leaves whole folds alone."""
     status, said, err = tests.run(*words, before=before)
-    told = status, said, err.split("\n")[0] in [f"eoscheck: cannot write {path}" for path in paths]
-    tests.same(f"{what}: {err}", told, (2, "", True))
+    # a fold is written beside its place, and why it isn't may be said behind it
+    found = re.fullmatch(r"eoscheck: cannot write (.*?)(?:[.]new)?(?:: [a-z ]+)?\n", err)
+    tests.same(f"{what}: {err}", (status, said, found is not None and found[1] in paths), (2, "", True))
     return whole(tests, what, out, wanted)
 
 
@@ -363,19 +392,22 @@ def refused_writes(tests):
         unwritten(tests, f"room for {size} bytes a file", fold_words(GOOD, out), out, wanted, paths, at_most(size))
     out = tests.new("folds")
     write(out, b"mine")
-    refused_out(tests, "a file in the place of OUT", out, out, wanted, {"": b"mine"})
+    paths = [out, *(os.path.join(out, it) for it in partitions_of(GOOD))]
+    unwritten(tests, "a file in the place of OUT", fold_words(GOOD, out), out, wanted, paths)
+    tests.same("a file in the place of OUT, it stays", read(out), b"mine")
     os.remove(out)
     out = tests.new("folds")
     write(os.path.join(out, "in-0"), b"mine")
-    refused_out(tests, "a file in a partition's place", out, os.path.join(out, "in-0"), wanted, {"in-0": b"mine"})
+    unwritten(tests, "a file in a partition's place", fold_words(GOOD, out), out, {**wanted, "in-0": b"mine"}, [os.path.join(out, "in-0")])
+    tests.same("a file in a partition's place, it stays", read(os.path.join(out, "in-0")), b"mine")
     for partition in partitions_of(GOOD):
         for place in (lambda path: write(path, b"mine")), os.makedirs, (lambda path: os.symlink("nowhere", path)):
-            there(tests, partition, place, wanted)
+            there(tests, partition, place)
     out = tests.new("folds")
-    words = fold_words(GOOD, out)
-    tests.run(*words)
-    unwritten(tests, "folded again", words, out, wanted, [os.path.join(out, path) for path in wanted])
-    tests.same("folded again, all stay", files_in(out), wanted)
+    tests.run(*fold_words(GOOD, out))
+    times = {path: os.stat(os.path.join(out, path)).st_mtime_ns for path in wanted}
+    unwritten(tests, "folded again", fold_words(GOOD, out), out, wanted, [os.path.join(out, next(iter(wanted)))])
+    tests.same("folded again, all stay", {path: os.stat(os.path.join(out, path)).st_mtime_ns for path in files_in(out)}, times)
     if os.geteuid() == 0:
         out = tests.new("folds")
         os.mkdir(out)
@@ -396,29 +428,18 @@ def copy_for_all(tests):
     return folder
 
 
-def refused_out(tests, what, out, path, wanted, there_already):
-    status, said, err = tests.run(*fold_words(GOOD, out))
-    tests.same(f"{what}: {err}", (status, said, err.split("\n")[0].startswith(f"eoscheck: cannot write {path}")), (2, "", True))
-    for name, data in there_already.items():
-        tests.same(f"{what}, it stays", read(os.path.join(out, name) if name else out), data)
-    if os.path.isdir(out):
-        found = {path: data for path, data in files_in(out).items() if path not in there_already}
-        tests.same(f"{what}, all whole", [path for path, data in found.items() if wanted.get(path) != data], [])
-
-
-def there(tests, partition, place, wanted):
-    """Something stands in the place of one fold: it stays, and no fold is written over it."""
+def there(tests, partition, place):
+    """Something stands in the place of one fold: it stays, and no fold is written at all."""
     out = tests.new("folds")
     path = os.path.join(out, fold_path(partition, 0))
     os.makedirs(os.path.dirname(path))
     place(path)
     was = os.lstat(path)
     status, said, err = tests.run(*fold_words(GOOD, out))
-    tests.same(f"something at {path}: {err}", (status, said, err.split("\n")[0]), (2, "", f"eoscheck: cannot write {path}"))
+    tests.same(f"something at {path}", (status, said, err), (2, "", f"eoscheck: cannot write {path}: it is there already\n"))
     now = os.lstat(path)
     tests.same(f"something at {path}, it stays", (now.st_ino, now.st_mode, now.st_size), (was.st_ino, was.st_mode, was.st_size))
-    found = {it: data for it, data in files_in(out).items() if os.path.join(out, it) != path}
-    tests.same(f"something at {path}, all whole", [it for it, data in found.items() if wanted.get(it) != data], [])
+    tests.same(f"something at {path}, nothing beside it", [it for it in files_in(out) if os.path.join(out, it) != path], [])
 
 
 # ---- memory
@@ -462,6 +483,13 @@ def refused_memory(tests):
 # ---- words
 
 
+NO_NAME, NO_END = "not named TOPIC-N, as the folder of a partition", "the manifest has no end of this partition"
+UNFIT = {
+    "in-9": NO_END, "out-2": NO_END, "other-0": NO_END, "in": NO_NAME, "in-00": NO_NAME, "in-": NO_NAME, "-0": NO_NAME,
+    "in-2147483648": NO_NAME, "in x-0": NO_NAME,
+}
+
+
 def words(tests):
     manifest, out = os.path.abspath(os.path.join(GOOD, "evidence.json")), tests.new("folds")
     folder = os.path.abspath(os.path.join(GOOD, "in-0"))
@@ -474,15 +502,23 @@ def words(tests):
     tests.same("an absent manifest", said, (2, "", f"eoscheck: cannot read {absent}\n  no such file\n"))
     said = tests.run("fold", "--manifest", manifest, "--out", out, f"{absent}/in-0")
     tests.same("an absent folder", said, (2, "", f"eoscheck: cannot read {absent}/in-0\n  no such file\n"))
-    shutil.copytree(folder, os.path.join(tests.room, "logs", "in-9"))
-    status, said, err = tests.run("fold", "--manifest", manifest, "--out", out, f"{tests.room}/logs/in-9")
-    tests.same(f"a partition that isn't in ends: {err}", (status, said, "in-9" in err), (2, "", True))
+    # each beside a folder before it that could be folded
+    for name, why in UNFIT.items():
+        path = os.path.join(tests.room, "logs", name)
+        if not os.path.isdir(path):
+            shutil.copytree(folder, path)
+        for paths in [path], [os.path.abspath(os.path.join(GOOD, "out-0")), path]:
+            said = tests.run("fold", "--manifest", manifest, "--out", out, *paths)
+            tests.same(f"a folder {name}", said, (2, "", f"eoscheck: {path}: {why}\n"))
+    same = os.path.join(tests.room, "logs", "in-0")
+    shutil.copytree(folder, same)
+    said = tests.run("fold", "--manifest", manifest, "--out", out, folder, same)
+    tests.same("a partition twice", said, (2, "", f"eoscheck: {same}: another folder of this partition is given\n"))
     tests.same("nothing is written", files_in(out), {})
     # into `folds` where nothing else is said, by folders of other places, with other ends in the manifest
     manifest = os.path.join(tests.room, "other.json")
     write(manifest, read(os.path.join(GOOD, "evidence.json")).replace(b'"in-0":2', b'"in-0":77,"in-5":1'))
-    shutil.copytree(folder, os.path.join(tests.room, "logs", "in-0"))
-    said = tests.run("fold", "--manifest", "other.json", "logs/in-0", cwd=tests.room)
+    said = tests.run("fold", "--manifest", "other.json", "logs/in-0/", cwd=tests.room)
     tests.same("into folds", said, (0, "folded segments=1 bytes=77\n", ""))
     wanted = {fold_path("in-0", 0): fold_bytes(GOOD, "in-0", 0)}
     tests.same("into folds, the fold", files_in(os.path.join(tests.room, "folds")), wanted)

@@ -112,11 +112,10 @@ def folders(tests):
 
 
 def unread(tests, folder, said):
-    """A folder whose manifest is refused: `fold` refuses it in the words of `check`, and writes nothing."""
+    """A folder whose manifest is refused: `fold` refuses it in the words of `check`, by its path, and writes nothing."""
     out, manifest = tests.new("folds"), os.path.join(folder, "evidence.json")
-    paths = sorted(it for it in glob.glob(f"{folder}/*-*") if os.path.isdir(it))
-    found = tests.run("fold", "--manifest", manifest, "--out", out, *paths[:1])
-    tests.same(f"{folder}, fold", found, (2, "", said[2]))
+    found = tests.run("fold", "--manifest", manifest, "--out", out, os.path.join(folder, "in-0"))
+    tests.same(f"{folder}, fold", found, (2, "", said[2].replace("evidence.json", manifest)))
     tests.same(f"{folder}, fold writes nothing", files_in(out), {})
 
 
@@ -214,6 +213,37 @@ def nothing(tests):
     tests.same("without a folder", tests.check(made), tests.check(folder))
 
 
+# ---- what docs/SCALE.md says of faults
+
+
+def alone(folder, line):
+    """The partitions that are enough for a fault of phase 1, or of phase 2."""
+    if line.startswith("no 1."):
+        return [line.split()[3]]
+    return [it for it in manifest_of(folder)[0]["ends"] if it.startswith("__transaction_state-")]
+
+
+def fewer(tests):
+    """A fault of a log by itself, and one of the transaction log, is the same where only those logs are evidence, and is told there."""
+    tried = 0
+    with open("tests/evidence/expected.tsv", encoding="utf-8") as file:
+        rows = [line.rstrip("\n").split("\t") for line in file]
+    for name, _, line in rows:
+        if not line.startswith(("no 1.", "no 2.")):
+            continue
+        folder, part = os.path.join("tests/evidence", name), tests.new("part")
+        manifest = manifest_of(folder)[0]
+        manifest["ends"] = {it: manifest["ends"][it] for it in alone(folder, line)}
+        write(os.path.join(part, "evidence.json"), json.dumps(manifest).encode())
+        for partition in set(manifest["ends"]) & set(partitions_of(folder)):
+            shutil.copytree(os.path.join(folder, partition), os.path.join(part, partition))
+        tests.same(f"{name}, of fewer partitions", tests.check(part)[:2], (1, f"{line}\n"))
+        status, out, err = tests.run("explain", part)
+        tests.same(f"{name}, its story of fewer partitions", (status, out.split("\n")[0], err), (1, line, ""))
+        tried += 1
+    tests.same("faults of phases 1 and 2 are tried", tried > 40, True)
+
+
 # ---- worked folds, and how large folds are
 
 
@@ -275,6 +305,7 @@ PARTS = {
     "randoms": randoms,
     "faults": faults,
     "nothing": nothing,
+    "fewer": fewer,
     "sizes": sizes,
     "refused_files": fold_refusals.refused_files,
     "refused_places": fold_refusals.refused_places,
