@@ -76,6 +76,32 @@ def each_bit(place):
             place.refused(f"{path}, {what}", path, data, fold_files.name_of(data), "14"[at % 2])
 
 
+def every_kind():
+    """Folds that no segment has, with each kind of a head, of a kept record and of a stop."""
+    some = Claim(b"in", 0, 2**40, 1, 2)
+    heads = [Head(0, None, 2, 300, -1, -1, -1), Head(1, None, 1, 90, 2**50, 2**15 - 1, 2**31 - 1)]
+    heads += [Head(kind, 7 if kind > 3 else None, 1, 78, 5, 6, -1) for kind in range(2, 8)]
+    size = sum(head.size for head in heads)
+    kept = [None, some, some._replace(topic=b"other")]
+    yield "out-0", fold_files.Fold(CLAIMS, b"out", 0, 0, size, heads, [b"in"], kept, (9,))
+    kept = [(None, None, None), (b"", b"value", some), (b"k", None, None)]
+    yield "__consumer_offsets-0", fold_files.Fold(TEXTS, b"__consumer_offsets", 0, 0, size + 1, heads, [], kept, (0, size, 0))
+
+
+def each_byte(place):
+    """Of those every byte is changed, by its lowest bit, by its highest, and by all."""
+    for partition, fold in every_kind():
+        path, whole = fold_path(partition, 0), fold_files.file_of(fold)
+        place.tests.same(f"every kind in {path}", fold_files.read_fold(whole), fold)
+        write(os.path.join(place.folder, path), whole)
+        place.tests.same(f"every kind in {path}, a verdict", place.tests.check(place.folder)[0], 1)
+        for at in range(len(whole)):
+            for turn in 1, 128, 255:
+                data = whole[:at] + bytes([whole[at] ^ turn]) + whole[at + 1 :]
+                what = f"every kind in {path}, byte {at} by {turn}"
+                place.refused(what, path, data, fold_files.name_of(data), "14"[at % 2])
+
+
 # ---- files with a right checksum that are none
 
 
@@ -266,6 +292,7 @@ def refused_files(tests):
     place = Place(tests)
     tests.same("the folds", tests.check(place.folder), YES)
     each_bit(place)
+    each_byte(place)
     hostile(place)
     mismatches(place)
     limits(place)
@@ -408,6 +435,7 @@ def refused_writes(tests):
     times = {path: os.stat(os.path.join(out, path)).st_mtime_ns for path in wanted}
     unwritten(tests, "folded again", fold_words(GOOD, out), out, wanted, [os.path.join(out, next(iter(wanted)))])
     tests.same("folded again, all stay", {path: os.stat(os.path.join(out, path)).st_mtime_ns for path in files_in(out)}, times)
+    at_once(tests, wanted)
     if os.geteuid() == 0:
         out = tests.new("folds")
         os.mkdir(out)
@@ -419,6 +447,21 @@ def refused_writes(tests):
         done = subprocess.run([tests.program, *fold_words(GOOD, out)], stdout=full, stderr=subprocess.PIPE, timeout=60)
         tests.same("a full device", (done.returncode, done.stderr), (2, b"eoscheck: cannot write -\n"))
         whole(tests, "a full device", out, wanted)
+
+
+def at_once(tests, wanted):
+    """Eight runs write one partition's folds to one place: one of them wins, and each of the others is refused."""
+    for _ in range(3):
+        out = tests.new("folds")
+        words = [tests.program, *fold_words(GOOD, out, ["out-0"])]
+        runs = [subprocess.Popen(words, stdout=subprocess.PIPE, stderr=subprocess.PIPE) for _ in range(8)]
+        said = sorted((run.wait(60), run.stdout.read(), run.stderr.read()[:23]) for run in runs)
+        for run in runs:
+            run.stdout.close()
+            run.stderr.close()
+        won = 0, b"folded segments=1 bytes=307\n", b""
+        tests.same("eight at once", said, [won, *[(2, b"", b"eoscheck: cannot write ")] * 7])
+        tests.same("eight at once, the fold", files_in(out), {path: wanted[path] for path in wanted if path.startswith("out-0/")})
 
 
 def copy_for_all(tests):

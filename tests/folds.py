@@ -196,7 +196,7 @@ def nothing(tests):
     folder = copied(tests)
     for base in 3, 4, 2**63 - 1:
         write(os.path.join(folder, "out-0", f"{base:020}.log"), b"")
-    for name in (f"{2**63:020}.log", "00000000000000000007.index", "7.log", "00000000000000000000.fold.part"):
+    for name in (f"{2**63:020}.log", "00000000000000000007.index", "7.log", "00000000000000000000.fold.new"):
         write(os.path.join(folder, "out-0", name), b"x")
     folds = folded(tests, folder, "empty segments")
     empty = fold_files.read_fold(folds[fold_path("out-0", 3)])
