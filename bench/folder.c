@@ -3,8 +3,8 @@
  *     folder FOLDER MEBIBYTES SEED [INPUTS [SEGMENT [ROTATE [INSTANCES]]]]
  *
  * INSTANCES (4) of one application, each with its own transactional id, read the four partitions of `in` (plain records of
- * 100 bytes) and write to the four of `out`. A transaction takes INPUTS (500) inputs in a row, writes 1 to 3 outputs of 100
- * bytes for each of them, with the five lineage headers, and commits the offset past them. It has an epoch of its own: its
+ * SIZE bytes, 100 where it isn't defined) and write to the four of `out`. A transaction takes INPUTS (500) inputs in a row, writes 1 to 3
+ * outputs of SIZE bytes for each of them, with the five lineage headers, and commits the offset past them. It has an epoch of its own: its
  * markers and its Prepare and Complete records have the epoch that the instance's next transaction starts with. All instances
  * have a transaction open at the same time, then all end theirs. After ROTATE (32000) transactions an instance takes a new
  * producer id. A segment has at most SEGMENT bytes (64 MiB), or one batch. FOLDER must not exist; it grows to at least
@@ -19,7 +19,12 @@
 #include <string.h>
 #include <sys/stat.h>
 
-enum { PARTS = 4, SIZE = 100, IN_BATCH = 500, OUT_BATCH = 100, TRANSACTIONAL = 16, CONTROL = 32 };
+/* The bytes of a value; at most some 9,000, so that a batch has room. */
+#ifndef SIZE
+#define SIZE 100
+#endif
+
+enum { PARTS = 4, IN_BATCH = 500, OUT_BATCH = 100, TRANSACTIONAL = 16, CONTROL = 32 };
 enum { EMPTY, ONGOING, PREPARE_COMMIT, COMPLETE_COMMIT = 4 };
 
 static uint32_t table[256];
@@ -97,7 +102,7 @@ static void open_segment(struct log *log) {
 }
 
 static struct batch new_batch(void) {
-    struct batch batch = {malloc(1 << 20), NULL, 0};
+    struct batch batch = {malloc(IN_BATCH * (SIZE + 100) + (1 << 20)), NULL, 0};
     if (!batch.bytes) fail("batch");
     batch.end = batch.bytes + 61;
     return batch;

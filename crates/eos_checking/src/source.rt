@@ -94,18 +94,19 @@ fn told<T: Timed>(
 }
 
 /// The answer to an evidence of this shape, whose pieces are read from the source, each once and by at most so many threads. No more
-/// of them is held than what verdict, notes and report are worked out of. There is an evidence of this shape, with the bytes that
-/// are known of the pieces, of which all of the answer is true; of a no it tells the first fault alone.
+/// of them is held than what verdict, notes and report are worked out of. There is what each piece said, as far as it is known just
+/// that, and all of the answer is true of each evidence of this shape whose segments are such; of a no it tells the first fault
+/// alone.
 ///
 /// # Errors
-/// The fault of the first piece, in order, that isn't there; or want of memory.
+/// The fault of the first piece, in order, that isn't there, or is a fold that doesn't fit; or want of memory.
 pub fn answer_source<S: Source, T: Timed, R: Threads + Sync>(
     alloc: Global,
     rt: &R,
     pieces: Pieces<'_, S>,
     asked: &Asked<'_, T>,
 ) -> Result<SourceAnswer, S::Fault>
-    ensures { IfOk result (IsSourceAnswer (S.bytes pieces.entry.source.now) pieces.entry.shape.now asked.now.subject asked.now.json asked.now.quiet asked.now.report) }
+    ensures { IfOk result (IsSourceAnswer (S.said pieces.entry.source.now) pieces.entry.shape.now asked.now.subject asked.now.json asked.now.quiet asked.now.report) }
 {
     let judged = judge_source(alloc, rt, pieces.source, pieces.shape, asked.workers)?;
     let answer = told(alloc, pieces.shape.spec(), &judged, asked)?;

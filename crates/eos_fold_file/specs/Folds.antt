@@ -12,6 +12,8 @@ use Rattle.eos_touch.specs.Front.{records_in, ContinuesFrom}
 use Rattle.eos_fold.specs.Fronts.{base_of, StopsAt}
 use Rattle.eos_reading.specs.Kept.{kept_of}
 use Rattle.eos_keeping.specs.Outputs.{kept_output}
+use Rattle.eos_wanted.specs.declared.wanted.Wanted.{Wanted}
+use Rattle.eos_wanted.specs.declared.wanted.Wanted.TheVariants as wants
 use Rattle.eos_fold_file.specs.declared.claim.FoldText.{FoldText}
 use Rattle.eos_fold_file.specs.declared.file.FoldFile.{FoldFile}
 use Rattle.eos_fold_file.specs.declared.file.FoldKept.{FoldKept}
@@ -36,6 +38,18 @@ abbrev pub IsKeptOf : List Batch → FoldKept → Type 0
 IsKeptOf batches Presence = ⊤
 IsKeptOf batches (Claims topics outputs) = outputs ≡ kept_of (λ offset r. kept_output topics (claim_of r.headers)) batches
 IsKeptOf batches (Texts texts) = texts ≡ kept_of (λ offset r. fold_text_of r) batches
+
+-- what is kept is what was wanted, with these topics where claims are
+abbrev pub IsAskedAs : Wanted → List (List ℕ) → FoldKept → Type 0
+IsAskedAs wants.Presence asked Presence = ⊤
+IsAskedAs wants.Presence asked (Claims topics outputs) = ⊥
+IsAskedAs wants.Presence asked (Texts texts) = ⊥
+IsAskedAs wants.Claims asked Presence = ⊥
+IsAskedAs wants.Claims asked (Claims topics outputs) = topics ≡ asked
+IsAskedAs wants.Claims asked (Texts texts) = ⊥
+IsAskedAs wants.Texts asked Presence = ⊥
+IsAskedAs wants.Texts asked (Claims topics outputs) = ⊥
+IsAskedAs wants.Texts asked (Texts texts) = ⊤
 
 -- this is the fold of the segment
 pub record IsFoldOf (segment : Segment) (f : FoldFile) : Type 0 where

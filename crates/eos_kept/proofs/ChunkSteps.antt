@@ -26,7 +26,7 @@ use Rattle.eos_run.specs.declared.run.Run.{Run}
 use Rattle.eos_kept.specs.declared.front.Front.{Front}
 use Rattle.eos_kept.specs.Kept.{KeptView, IsKept}
 use Rattle.eos_kept.specs.Sizes.{AreSized}
-use Rattle.eos_kept.specs.Passing.{GoesAlong}
+use Rattle.eos_kept.specs.Passing.{GoesAlong, data_count, HoldsEach}
 use Rattle.eos_kept.specs.steps.Passing.{EndsBefore, Passes}
 use Rattle.eos_kept.specs.steps.Folding.{FoldView, IsOpenAt, IsFolding, EndsAt, CutsAt}
 use Rattle.eos_kept.proofs.PassedHeads.{parted, left_none, left_next, kept_of-length}
@@ -67,7 +67,7 @@ opened mid rest fed (b ∷ bs) hs f g place fault left ends at e n = by_stop at.
     by_stop (inr (inr x)) = absurd (end_elsewhere (offset_of b) (sym x.0 ∙ ends.0))
 
 -- as much is kept as was passed
-pub kept_passed : {K : Type 0} (keep : ℕ → Record → K) (bs passed others : List Batch) (kept after : List K) (count : ℕ) → bs ≡ passed ++ others → after ≡ kept ++ kept_of keep bs → count ≡ Rattle.eos_kept.specs.steps.Passing.data_count passed
+pub kept_passed : {K : Type 0} (keep : ℕ → Record → K) (bs passed others : List Batch) (kept after : List K) (count : ℕ) → bs ≡ passed ++ others → after ≡ kept ++ kept_of keep bs → count ≡ data_count passed
     → (take (length kept + count) after ≡ kept ++ kept_of keep passed) × (length after ≡ length kept + count + length (kept_of keep others))
 kept_passed {K} keep bs passed others kept after count parts is number =
     let all : after ≡ (kept ++ kept_of keep passed) ++ kept_of keep others = is ∙ (ap (λ (cs : List Batch). kept ++ kept_of keep cs) parts ∙ (ap (λ (ks : List K). kept ++ ks) (flat_map-append (kept_in keep) passed others) ∙ sym (append_assoc kept (kept_of keep passed) (kept_of keep others)))) in
@@ -193,3 +193,7 @@ finished keep segment rest waiting v w len f c kept one bytes = by_stop c.stop
     by_stop (inl x) = ended keep segment rest v w f c.begin c.next c.batches c.markers c.run kept sizes x.1 (λ _. nil_from_length rest (len ∙ x.0))
     by_stop (inr (inl x)) = ended keep segment rest v w f c.begin c.next c.batches c.markers c.run kept sizes x.1 (λ e. absurd (x.0 e))
     by_stop (inr (inr x)) = cut keep segment rest v w f c.begin c.next c.batches c.markers c.run kept sizes x.2 x.0 (λ none. x.1 (sym len ∙ ap (λ (xs : List ℕ). length xs) none))
+
+-- of what was folded a value is kept for each data record
+pub folded_each : {K : Type 0} (keep : ℕ → Record → K) (begin : ℕ) (sequenced : Bool) (fed rest : List ℕ) (v : FoldView K) → IsFolding keep begin sequenced fed rest v → HoldsEach v.front v.kept
+folded_each keep begin sequenced fed rest v f = record { batches = f.batches; along = f.along; each = ap length f.kept_is ∙ kept_of-length keep f.batches }

@@ -18,11 +18,12 @@ use Rattle.eos_fold.proofs.JoinedFronts.{front_goes, front_stops, other_name}
 use Rattle.eos_reading.specs.Kept.{kept_in, kept_of}
 use Rattle.eos_run.specs.declared.run.Run.{Run}
 use Rattle.eos_run.specs.Runs.{IsRunOf}
+use Rattle.eos_run.proofs.JoinedRuns.{same_run}
 use Rattle.eos_kept.specs.declared.front.Front.{Front}
 use Rattle.eos_kept.specs.declared.sizes.Sizes.{Sizes}
 use Rattle.eos_kept.specs.Sizes.{AreSized}
-use Rattle.eos_kept.specs.Kept.{KeepsFront, IsFrontOf, KeptView, IsKept}
-use Rattle.eos_kept.specs.Passing.{GoesAlong}
+use Rattle.eos_kept.specs.Kept.{KeepsFront, IsFrontOf, SameFront, KeptView, IsKept}
+use Rattle.eos_kept.specs.Passing.{GoesAlong, data_count, HoldsEach}
 
 begins_more : (xs ys : List Segment) (n : ℕ) → BeginsAt xs n → BeginsAt (xs ++ ys) n
 begins_more [] ys n h = absurd h
@@ -57,6 +58,66 @@ same_along bs f g begin next counted markers run h = record {
   continuous = subst (λ (n : ℕ). ContinuesFrom n bs) (sym begin) h.continuous;
 }
 
+-- ---- whatever the segments are
+
+-- the same with more room
+along_still : (bs : List Batch) (f g : Front) → SameFront f g → GoesAlong bs f → GoesAlong bs g
+along_still bs f g s h = record {
+  keeps = record {
+    next = s.next ∙ (h.keeps.next ∙ ap (λ (n : ℕ). n + records_in bs) (sym s.begin));
+    fits = let e = h.keeps.fits in let n = s.next in omega (arith, n, e);
+    counted = s.batches ∙ h.keeps.counted;
+    markers = s.markers ∙ h.keeps.markers;
+    run = same_run bs f.run g.run s.run h.keeps.run;
+  };
+  continuous = subst (λ (n : ℕ). ContinuesFrom n bs) (sym s.begin) h.continuous;
+}
+
+pub each_still : {K : Type 0} (f g : Front) (ks ls : List K) → SameFront f g → ls ≡ ks → HoldsEach f ks → HoldsEach g ls
+each_still f g ks ls s e h = record { batches = h.batches; along = along_still h.batches f g s h.along; each = ap length e ∙ h.each }
+
+-- with another stop
+pub each_stopped : {K : Type 0} (f g : Front) (ks ls : List K) → g.begin ≡ f.begin → g.next ≡ f.next → g.batches ≡ f.batches → g.markers ≡ f.markers → g.run ≡ f.run → ls ≡ ks → HoldsEach f ks → HoldsEach g ls
+each_stopped f g ks ls begin next counted markers run e h = record { batches = h.batches; along = same_along h.batches f g begin next counted markers run h.along; each = ap length e ∙ h.each }
+
+continues-append : (n : ℕ) (xs ys : List Batch) → ContinuesFrom n xs → ContinuesFrom (n + records_in xs) ys → ContinuesFrom n (xs ++ ys)
+continues-append n [] ys h k = let z : n + 0 ≡ n = omega arith in subst (λ (m : ℕ). ContinuesFrom m ys) z k
+continues-append n (x ∷ xs) ys h k =
+    let z : n + (length x.records + records_in xs) ≡ n + length x.records + records_in xs = omega arith in
+    (h.0, continues-append (n + length x.records) xs ys h.1 (subst (λ (m : ℕ). ContinuesFrom m ys) z k))
+
+data_count-append : (bs cs : List Batch) → data_count (bs ++ cs) ≡ data_count bs + data_count cs
+data_count-append [] cs = omega arith
+data_count-append (b ∷ bs) cs = let e = data_count-append bs cs in omega (arith, e)
+
+-- what is known of the batches of both
+keeps_both : (bs cs : List Batch) (f g r : Front) → g.begin ≡ f.next → r.begin ≡ f.begin → r.next ≡ g.next → r.batches ≡ f.batches + g.batches → r.markers.items ≡ f.markers.items ++ g.markers.items → IsRunOf (bs ++ cs) r.run
+    → KeepsFront bs f → KeepsFront cs g → KeepsFront (bs ++ cs) r
+keeps_both bs cs f g r joint begin next counted markers run h k = record {
+  next = let a = records_in-append bs cs in let p = h.next in let q = k.next in omega (arith, a, p, q, next, joint, begin);
+  fits = let e = k.fits in omega (arith, next, e);
+  counted = let l = length-append bs cs in let p = h.counted in let q = k.counted in omega (arith, counted, l, p, q);
+  markers = markers ∙ (ap (λ (ms : List Marker). ms ++ g.markers.items) h.markers ∙ (ap (λ (ms : List Marker). markers_of bs ++ ms) k.markers ∙ sym (markers_of-append bs cs)));
+  run = run;
+}
+
+-- the second goes on where the first ends
+pub along_both : (bs cs : List Batch) (f g r : Front) → g.begin ≡ f.next → r.begin ≡ f.begin → r.next ≡ g.next → r.batches ≡ f.batches + g.batches → r.markers.items ≡ f.markers.items ++ g.markers.items → IsRunOf (bs ++ cs) r.run
+    → GoesAlong bs f → GoesAlong cs g → GoesAlong (bs ++ cs) r
+along_both bs cs f g r joint begin next counted markers run h k = record {
+  keeps = keeps_both bs cs f g r joint begin next counted markers run h.keeps k.keeps;
+  continuous = subst (λ (n : ℕ). ContinuesFrom n (bs ++ cs)) (sym begin) (continues-append f.begin bs cs h.continuous (subst (λ (n : ℕ). ContinuesFrom n cs) (joint ∙ h.keeps.next) k.continuous));
+}
+
+pub each_both : {K : Type 0} (f g r : Front) (ks ls ms : List K) → ms ≡ ks ++ ls → ((bs cs : List Batch) → GoesAlong bs f → GoesAlong cs g → GoesAlong (bs ++ cs) r) → HoldsEach f ks → HoldsEach g ls → HoldsEach r ms
+each_both f g r ks ls ms e along h k = record {
+  batches = h.batches ++ k.batches;
+  along = along h.batches k.batches h.along k.along;
+  each = let m = ap length e in let l = length-append ks ls in let d = data_count-append h.batches k.batches in let p = h.each in let q = k.each in omega (arith, m, l, d, p, q);
+}
+
+-- ---- of segments
+
 -- a segment of another name comes
 pub stops_between : (xs ys : List Segment) (bs cs : List Batch) (f g r : Front) → f.stop ≡ AtEnd → g.begin ≢ f.next → r.begin ≡ f.begin → r.next ≡ f.next → r.batches ≡ f.batches → r.stop ≡ Elsewhere g.begin → r.markers ≡ f.markers → r.run ≡ f.run
     → IsFrontOf xs bs f → IsFrontOf ys cs g → IsFrontOf (xs ++ ys) bs r
@@ -81,13 +142,7 @@ goes_on xs ys bs cs f g r end joint begin next counted stop markers sequenced ru
       let a : IsFront f.begin xs bs AtEnd = subst (λ (st : Stop). IsFront f.begin xs bs st) end h.front in
       let b : IsFront (f.begin + records_in bs) ys cs g.stop = subst (λ (n : ℕ). IsFront n ys cs g.stop) (joint ∙ h.keeps.next) k.front in
       subst (λ (n : ℕ). IsFront n (xs ++ ys) (bs ++ cs) r.stop) (sym begin) (subst (λ (st : Stop). IsFront f.begin (xs ++ ys) (bs ++ cs) st) (sym stop) (front_goes f.begin xs ys bs cs g.stop a b));
-  keeps = record {
-    next = let a = records_in-append bs cs in let p = h.keeps.next in let q = k.keeps.next in omega (arith, a, p, q, next, joint, begin);
-    fits = let e = k.keeps.fits in omega (arith, next, e);
-    counted = let l = length-append bs cs in let p = h.keeps.counted in let q = k.keeps.counted in omega (arith, counted, l, p, q);
-    markers = markers ∙ (ap (λ (ms : List Marker). ms ++ g.markers.items) h.keeps.markers ∙ (ap (λ (ms : List Marker). markers_of bs ++ ms) k.keeps.markers ∙ sym (markers_of-append bs cs)));
-    run = run;
-  };
+  keeps = keeps_both bs cs f g r joint begin next counted markers run h.keeps k.keeps;
 }
 
 alone : (at : ℕ) (st : Stop) (bs : List Batch) → GoesOn st bs (λ os. IsFront at [] os st) bs st

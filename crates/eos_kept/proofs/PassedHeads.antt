@@ -19,8 +19,8 @@ use Rattle.eos_reading.specs.Heads.{HasHeads}
 use Rattle.eos_reading.specs.Kept.{kept_from, kept_in, kept_of}
 use Rattle.eos_run.specs.Runs.{IsRunOf}
 use Rattle.eos_kept.specs.declared.front.Front.{Front}
-use Rattle.eos_kept.specs.Passing.{IsRealHead, GoesAlong}
-use Rattle.eos_kept.specs.steps.Passing.{AreHeads, data_count, Passes}
+use Rattle.eos_kept.specs.Passing.{IsRealHead, GoesAlong, data_count}
+use Rattle.eos_kept.specs.steps.Passing.{AreHeads, Passes}
 
 pub are_heads : (bytes : List ℕ) (bs : List Batch) (hs : List BatchHead) (rest : List ℕ) → HasHeads bytes bs hs rest → AreHeads bs hs
 are_heads bytes [] [] rest s = tt

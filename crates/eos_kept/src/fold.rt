@@ -1,6 +1,6 @@
 //! A segment's front as far as its bytes were fed.
 
-ghost use Rattle.std.specs.Prelude.{◌≡◌, ◌≤◌, ◌+◌, ◌∷◌, [], ◌^◌, ℕ, List, length, take, OnOk};
+ghost use Rattle.std.specs.Prelude.{◌≡◌, ◌≤◌, ◌+◌, ◌∷◌, [], ◌^◌, ℕ, Bool, List, length, take, OnOk};
 ghost use Rattle.eos_batch.specs.declared.record.Record.{Record};
 ghost use Rattle.eos_evidence.specs.declared.segment.Segment.{Segment};
 ghost use Rattle.eos_fold.specs.Fronts.{base_of};
@@ -157,7 +157,8 @@ impl<K: Reading> SegmentFold<K> {
 
     /// What the whole segment gives, of which so many bytes still wait.
     pub(crate) fn finish(self, waiting: usize) -> Kept<K::Kept>
-        requires { self.place + waiting ≤ MAX_SEGMENT_BYTES }
+        requires size { self.place + waiting ≤ MAX_SEGMENT_BYTES }
+        requires folded { (keep : ℕ → Record → K.Kept) × (begin : ℕ) × (sequenced : Bool) × (fed : List ℕ) × (rest : List ℕ) × IsFolding keep begin sequenced fed rest self }
         ensures { (keep : ℕ → Record → K.Kept) (segment : Segment) (rest : List ℕ) → length rest ≡ waiting
             → IsFolding keep (base_of segment) (is_checked segment) segment.bytes rest self → IsKept keep (segment ∷ []) result }
     {

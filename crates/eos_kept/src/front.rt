@@ -7,6 +7,7 @@ ghost use Rattle.eos_evidence.specs.declared.segment.Segment.{Segment};
 ghost use Rattle.eos_fold.specs.declared.stop.Stop.TheVariants.{AtEnd};
 ghost use Rattle.eos_run.specs.Runs.{IsRun};
 ghost use Rattle.eos_kept.specs.Kept.{KeepsFront, IsFrontOf, SameFront};
+ghost use Rattle.eos_kept.specs.Passing.{GoesAlong};
 
 use eos_batch::Marker;
 use eos_fold::Stop;
@@ -88,6 +89,7 @@ impl Front {
         ensures run { IfOk result (λ f. IsRun f.run) }
         ensures sequenced { IfOk result (λ f. f.run.sequenced ≡ before.run.sequenced) }
         ensures ok { (xs ys : List Segment) (bs cs : List Batch) → IsFrontOf xs bs before → IsFrontOf ys cs after → IfOk result (IsFrontOf (xs ++ ys) (bs ++ cs)) }
+        ensures along { (bs cs : List Batch) → GoesAlong bs before → GoesAlong cs after → IfOk result (GoesAlong (bs ++ cs)) }
         ensures err { IfErr result (λ back. SameFront before back.0 × SameFront after back.1) }
     {
         let Some(batches) = before.batches.checked_add(after.batches) else {

@@ -1,10 +1,10 @@
 //! What is kept of a list of segments, and of two.
 
-ghost use Rattle.std.specs.Prelude.{◌≡◌, ◌++◌, ℕ, List, IfOk, IfErr};
+ghost use Rattle.std.specs.Prelude.{◌≡◌, ◌++◌, ◌⊎◌, ℕ, List, IfOk, IfErr};
 ghost use Rattle.eos_batch.specs.declared.record.Record.{Record};
 ghost use Rattle.eos_evidence.specs.declared.segment.Segment.{Segment};
-ghost use Rattle.eos_run.specs.Runs.{IsRun};
 ghost use Rattle.eos_kept.specs.Kept.{IsKept, SameKept};
+ghost use Rattle.eos_kept.specs.Passing.{HoldsEach};
 
 use crate::front::{Front, is_at_end};
 use crate::sizes::Sizes;
@@ -24,8 +24,8 @@ pub struct Kept<T> {
 
 impl<T> Model for Kept<T> {
     ghost use Rattle.std.specs.Coded.{codes};
-    ghost use Rattle.eos_run.specs.Runs.{IsRun};
     ghost use Rattle.eos_kept.specs.Kept.{KeptView};
+    ghost use Rattle.eos_kept.specs.Passing.{HoldsEach};
     ghost use Rattle.eos_kept.specs.contracts.front.Front as of_front;
 
     ghost Value = { KeptView T };
@@ -34,13 +34,13 @@ impl<T> Model for Kept<T> {
 
     ghost view = { λ k. record { front = k.front; kept = k.kept.items; sizes = k.sizes } };
 
-    ghost invariant = { λ k. IsRun k.front.run };
+    ghost invariant = { λ k. HoldsEach k.front k.kept.items };
 }
 
 impl<T> Kept<T> {
     /// Of this front, with what is kept of its data records, and how large its segments are.
     pub fn new(front: Front, kept: Vec<T>, sizes: Sizes) -> Kept<T>
-        requires { IsRun front.run }
+        requires { HoldsEach front kept.items }
         ensures front { result.front ≡ front }
         ensures kept { result.kept ≡ kept.items }
         ensures sizes { result.sizes ≡ sizes }
@@ -102,6 +102,7 @@ impl<T> Kept<T> {
     pub fn into_parts(self) -> (Front, Vec<T>)
         ensures front { result.0 ≡ self.front }
         ensures kept { result.1.items ≡ self.kept }
+        ensures each { HoldsEach result.0 result.1.items }
     {
         (self.front, self.kept)
     }
@@ -117,6 +118,7 @@ impl<T: Drop> Kept<T> {
     ) -> Result<Kept<T>, (Kept<T>, Kept<T>)>
         requires { after.front.run.sequenced ≡ before.front.run.sequenced }
         ensures ok { (keep : ℕ → Record → T) (xs ys : List Segment) → IsKept keep xs before → IsKept keep ys after → IfOk result (IsKept keep (xs ++ ys)) }
+        ensures kept { IfOk result (λ k. (k.kept ≡ before.kept) ⊎ (k.kept ≡ before.kept ++ after.kept)) }
         ensures sequenced { IfOk result (λ k. k.front.run.sequenced ≡ before.front.run.sequenced) }
         ensures err { IfErr result (λ back. SameKept before back.0 × SameKept after back.1) }
     {
@@ -127,10 +129,9 @@ impl<T: Drop> Kept<T> {
             before.sizes = sizes;
             return Ok(before);
         }
-        if after.front.begin != before.front.next {
-            before.front.stop = Stop::Elsewhere {
-                found: after.front.begin,
-            };
+        let found = after.front.begin;
+        if found != before.front.next {
+            before.front.stop = Stop::Elsewhere { found };
             before.sizes = sizes;
             return Ok(before);
         }

@@ -4,4 +4,5 @@ pub mod ItemsWanted
 pub mod RecordsKept
 pub mod RecordsLent
 pub mod RecordsSaid
+pub mod HeldRecords
 pub mod PartsMade

@@ -1,7 +1,6 @@
 -- A partition, made of the front of its segments and of what is kept of its records.
-use Rattle.std.proofs.Common.{◌≡◌, ◌≢◌, ◌↔◌, ℕ, ℤ, List, [], ◌∷◌, length, map, not, Option, Some, None, refl, sym, ap, subst, ◌∙◌, arith}
+use Rattle.std.proofs.Common.{◌≡◌, ◌≢◌, ◌↔◌, ℕ, ℤ, List, [], ◌∷◌, map, not, Option, Some, None, refl, sym, ap, subst, ◌∙◌, arith}
 use Rattle.std.specs.Prelude.{All}
-use Rattle.std.proofs.lemmas.List.{length-map}
 use Rattle.eos_base.specs.Members.{Has}
 use Rattle.eos_batch.specs.declared.batch.Batch.{Batch}
 use Rattle.eos_batch.specs.declared.marker.Marker.{Marker}
@@ -27,7 +26,6 @@ use Rattle.eos_fold.specs.declared.stop.Stop.{Stop}
 use Rattle.eos_fold.specs.declared.stop.Stop.TheVariants.{AtEnd, Elsewhere}
 use Rattle.eos_fold.specs.declared.summary.Summary.{Summary}
 use Rattle.eos_fold.specs.Fronts.{IsFront}
-use Rattle.eos_fold.specs.Parts.{Rises}
 use Rattle.eos_fold.specs.Standing.{IsPartitionFault, AreOf}
 use Rattle.eos_fold.specs.Sums.{AreChecked}
 use Rattle.eos_fold.specs.steps.Whole.{IsWhole, AreCloses, kind_at_stop}
@@ -40,13 +38,12 @@ use Rattle.eos_run.specs.declared.run.Run.{Run}
 use Rattle.eos_run.specs.Runs.{heads_of, summary_with, IsRunOf}
 use Rattle.eos_kept.specs.declared.front.Front.{Front}
 use Rattle.eos_kept.specs.declared.sizes.Sizes.{Sizes}
-use Rattle.eos_kept.specs.Kept.{KeptView, KeepsFront}
+use Rattle.eos_kept.specs.Kept.{KeptView, KeepsFront, IsKept}
 use Rattle.eos_kept.specs.Sizes.{AreSized}
 use Rattle.eos_claims.specs.Headers.{claim_of}
 use Rattle.eos_wanted.specs.declared.wanted.Wanted.{Wanted}
 use Rattle.eos_wanted.specs.declared.wanted.Wanted.TheVariants as wants
 use Rattle.eos_wanted.specs.Wanted.{wanted_item}
-use Rattle.eos_wanted.proofs.WantedItems.{rises_kept}
 use Rattle.eos_keeping.specs.declared.output.KeptOutput.{KeptOutput}
 use Rattle.eos_keeping.specs.Outputs.{kept_output, claim_kept}
 use Rattle.eos_keeping.specs.Records.{record_of, wanted_record, ReadsBack}
@@ -55,12 +52,15 @@ use Rattle.eos_wanted.proofs.ClaimHeaders.{back}
 use Rattle.eos_part.specs.declared.records.Records.{Records}
 use Rattle.eos_part.specs.Parts.{AreKept, HasBatches, IsWantedPart}
 use Rattle.eos_part.specs.steps.Closes.{closes_under}
-use Rattle.eos_part.specs.steps.Fronts.{records_of, AreRead, IsWholeFront, AreWhole, IsChecked, IsApart}
-use Rattle.eos_part.specs.Items.{items_under, Fits}
-use Rattle.eos_part.specs.Records.{output_record, records_in, SayClaims}
+use Rattle.eos_part.specs.steps.Fronts.{AreRead, IsWholeFront, AreWhole, IsChecked, IsApart}
+use Rattle.eos_part.specs.declared.run.KeptRun.{KeptRun}
+use Rattle.eos_part.specs.declared.run.KeptRun.TheVariants.{Presence, Claims, Texts}
+use Rattle.eos_part.specs.Items.{items_under}
+use Rattle.eos_part.specs.Records.{output_record, records_in, SaysClaim}
+use Rattle.eos_part.specs.Runs.{IsKeptRun, HasClaims}
 use Rattle.eos_part.proofs.ItemsWanted.{items_wanted}
-use Rattle.eos_part.proofs.RecordsKept.{kept_records, kept_all, heads_fit, closes_told}
-use Rattle.eos_part.proofs.RecordsSaid.{all_said, items_length}
+use Rattle.eos_part.proofs.RecordsKept.{kept_records, kept_all, closes_told}
+use Rattle.eos_part.proofs.RecordsSaid.{wanted_said}
 
 -- ---- the least fault: the front's summary has the same
 
@@ -132,31 +132,11 @@ module _ (w : Wanted) (segments : List Segment) (f : Front) (kept : Records) (m 
   continues : ContinuesFrom 0 m.batches
   continues = (front_steady 0 segments m.batches f.stop m.whole.front).continuous
 
-  pub items_told : items_under heads 0 (records_in kept) ≡ map (wanted_item w) (items_of (data_in m.batches))
+  items_told : items_under heads 0 (records_in kept) ≡ map (wanted_item w) (items_of (data_in m.batches))
   items_told =
       ap (λ (hs : List DataHead). items_under hs 0 (records_in kept)) all_heads
       ∙ (ap (λ (rs : List Record). items_under (heads_of (data_in m.batches)) 0 rs) m.wanted
       ∙ items_wanted w (data_in m.batches))
-
-  pub items_rise_so : Rises (items_under heads 0 (records_in kept))
-  items_rise_so = subst Rises (sym items_told) ((rises_kept w (items_of (data_in m.batches))).1 (items_rise 0 m.batches continues))
-
-  pub heads_fit_so : All Fits heads
-  heads_fit_so =
-      let n = m.whole.keeps.next in
-      let b = m.whole.begin in
-      let l = m.whole.keeps.fits in
-      subst (λ (hs : List DataHead). All Fits hs) (sym all_heads) (heads_fit 0 m.batches continues (omega (arith, n, b, l)))
-
-  pub said_so : SayClaims (records_in kept)
-  said_so = subst SayClaims (sym m.wanted) (all_said w (records_of (data_in m.batches)))
-
-  pub whole_so : length (items_under heads 0 (records_in kept)) ≡ length (records_in kept)
-  whole_so =
-      let ds = data_in m.batches in
-      let told = ap length items_told in
-      let kept_so = ap length m.wanted in
-      omega (arith, told, kept_so, length-map (items_of ds) (wanted_item w), length-map (records_of ds) (wanted_record w), items_length ds)
 
   pub part_made : (end : End) (closes : List Close) (markers : List Marker) (fault : Option PartitionFault) → AreCloses (closes_under heads) closes → markers ≡ f.markers.items
       → IsPartitionFault end.topic end.partition end.end m.batches f.stop fault
@@ -195,10 +175,8 @@ read_of {K} w keep f h segments (Some v) front items sizes kept a e k =
     subst (λ (o : Option Front). AreRead w segments o kept) (sym a.0)
     (k.batches, k.front, e ∙ (ap (map f) a.1 ∙ (ap (map f) k.kept ∙ kept_records keep w f h k.batches)))
 
-pub all_kept : {K : Type 0} (keep : ℕ → Record → K) (P : K → Type 0) → ((n : ℕ) (r : Record) → P (keep n r))
-    → (segments : List Segment) (run : Option (KeptView K)) (front : Option Front) (items : List K) (sizes : Sizes) → IsApart run front items sizes → AreKept keep segments run → All P items
-all_kept {K} keep P h segments None front items sizes a k = subst (λ (xs : List K). All P xs) (sym a.1) (kept_all keep P h [])
-all_kept {K} keep P h segments (Some v) front items sizes a k = subst (λ (xs : List K). All P xs) (sym (a.1 ∙ k.kept)) (kept_all keep P h k.batches)
+pub all_kept : {K : Type 0} (keep : ℕ → Record → K) (P : K → Type 0) → ((n : ℕ) (r : Record) → P (keep n r)) → (segments : List Segment) (v : KeptView K) → IsKept keep segments v → All P v.kept
+all_kept {K} keep P h segments v k = subst (λ (xs : List K). All P xs) (sym k.kept) (kept_all keep P h k.batches)
 
 pub sized_of : {K : Type 0} (keep : ℕ → Record → K) (segments : List Segment) (run : Option (KeptView K)) (front : Option Front) (items : List K) (sizes : Sizes) → IsApart run front items sizes → AreKept keep segments run → AreSized segments sizes
 sized_of keep segments None front items sizes a k = subst (λ (ss : List Segment). AreSized ss sizes) (sym k) a.2
@@ -219,11 +197,13 @@ module _ (topics : List (List ℕ)) where
       → records_in kept ≡ map (output_record topics) items → AreKept (λ (n : ℕ) (r : Record). kept_output topics (claim_of r.headers)) segments run → AreRead wants.Claims segments front kept
   outputs_read = read_of wants.Claims (λ (n : ℕ) (r : Record). kept_output topics (claim_of r.headers)) (output_record topics) (λ n r. ap (record_of None None) (exact_claim topics (claim_of r.headers)))
 
-  pub outputs_back : (segments : List Segment) (run : Option (KeptView KeptOutput)) (front : Option Front) (items : List KeptOutput) (sizes : Sizes) → IsApart run front items sizes
-      → AreKept (λ (n : ℕ) (r : Record). kept_output topics (claim_of r.headers)) segments run → All (λ (one : KeptOutput). ReadsBack (claim_kept topics one)) items
-  outputs_back = all_kept (λ (n : ℕ) (r : Record). kept_output topics (claim_of r.headers)) (λ (one : KeptOutput). ReadsBack (claim_kept topics one))
-      (λ n r. subst ReadsBack (sym (exact_claim topics (claim_of r.headers))) (back r.headers))
-
 pub texts_read : (segments : List Segment) (run : Option (KeptView Record)) (front : Option Front) (items : List Record) (sizes : Sizes) (kept : Records) → IsApart run front items sizes
     → records_in kept ≡ items → AreKept (λ (n : ℕ) (r : Record). wanted_record wants.Texts r) segments run → AreRead wants.Texts segments front kept
 texts_read segments run front items sizes kept a e k = read_of wants.Texts (λ (n : ℕ) (r : Record). wanted_record wants.Texts r) (λ (r : Record). r) (λ n r. refl) segments run front items sizes kept a (e ∙ sym (map_same items)) k
+
+-- what is kept of segments has claims that were read
+pub run_claims : (topics : List (List ℕ)) (segments : List Segment) (run : KeptRun) → IsKeptRun topics segments run → HasClaims topics run
+run_claims topics segments (Presence kept) k = tt
+run_claims topics segments (Claims kept) k =
+    all_kept (λ (n : ℕ) (r : Record). kept_output topics (claim_of r.headers)) (λ (one : KeptOutput). ReadsBack (claim_kept topics one)) (λ n r. subst ReadsBack (sym (exact_claim topics (claim_of r.headers))) (back r.headers)) segments kept k
+run_claims topics segments (Texts kept) k = all_kept (λ (n : ℕ) (r : Record). wanted_record wants.Texts r) SaysClaim (λ n r. wanted_said wants.Texts r) segments kept k

@@ -1,6 +1,6 @@
 -- What is said of a partition of which is kept what is wanted of its log: there is the log of its segments, and this is what is
 -- wanted of it. Its least fault, its batches, and how large its segments are, is told beside it, since it is said of their bytes.
-use Rattle.std.specs.Prelude.{◌≡◌, ℕ, List, [], length, Option, Some, None}
+use Rattle.std.specs.Prelude.{◌≡◌, ℕ, List, [], length, Option, Some, None, All, ⊤}
 use Rattle.eos_batch.specs.declared.batch.Batch.{Batch}
 use Rattle.eos_batch.specs.declared.record.Record.{Record}
 use Rattle.eos_evidence.specs.declared.segment.Segment.{Segment}
@@ -22,6 +22,11 @@ use Rattle.eos_part.specs.declared.part.Told.{Told}
 abbrev pub AreKept : {K : Type 0} → (ℕ → Record → K) → List Segment → Option (KeptView K) → Type 0
 AreKept keep segments None = segments ≡ []
 AreKept keep segments (Some kept) = IsKept keep segments kept
+
+-- of all that is kept
+abbrev pub AllKept : {K : Type 0} → (K → Type 0) → Option (KeptView K) → Type 0
+AllKept P None = ⊤
+AllKept P (Some kept) = All P kept.kept
 
 -- what is wanted of the log of these segments, and the least fault that stands in it
 pub record IsWantedPart (w : Wanted) (end : End) (segments : List Segment) (part : PartLog) (fault : Option PartitionFault) : Type 0 where

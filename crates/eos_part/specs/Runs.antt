@@ -1,15 +1,16 @@
 -- What is kept of a list of segments of one partition, by what is wanted of their log.
-use Rattle.std.specs.Prelude.{ℕ, List}
+use Rattle.std.specs.Prelude.{ℕ, List, All, ⊤}
 use Rattle.eos_claims.specs.Headers.{claim_of}
 use Rattle.eos_evidence.specs.declared.segment.Segment.{Segment}
-use Rattle.eos_keeping.specs.Outputs.{kept_output}
-use Rattle.eos_keeping.specs.Records.{wanted_record}
+use Rattle.eos_keeping.specs.Outputs.{kept_output, claim_kept}
+use Rattle.eos_keeping.specs.Records.{wanted_record, ReadsBack}
 use Rattle.eos_kept.specs.declared.front.Front.{Front}
 use Rattle.eos_kept.specs.Kept.{IsKept, SameKept}
 use Rattle.eos_wanted.specs.declared.wanted.Wanted.{Wanted}
 use Rattle.eos_wanted.specs.declared.wanted.Wanted.TheVariants as wants
 use Rattle.eos_part.specs.declared.run.KeptRun.{KeptRun}
 use Rattle.eos_part.specs.declared.run.KeptRun.TheVariants.{Presence, Claims, Texts}
+use Rattle.eos_part.specs.Records.{SaysClaim}
 
 -- these are the segments; the topics are those that are asked for
 abbrev pub IsKeptRun : List (List ℕ) → List Segment → KeptRun → Type 0
@@ -26,6 +27,12 @@ abbrev pub front_of : KeptRun → Front
 front_of (Presence kept) = kept.front
 front_of (Claims kept) = kept.front
 front_of (Texts kept) = kept.front
+
+-- the claims can be read back from the headers that say them, and these say nothing else
+abbrev pub HasClaims : List (List ℕ) → KeptRun → Type 0
+HasClaims topics (Presence kept) = ⊤
+HasClaims topics (Claims kept) = All (λ one. ReadsBack (claim_kept topics one)) kept.kept
+HasClaims topics (Texts kept) = All SaysClaim kept.kept
 
 -- the same is known; there may be more room
 abbrev pub SameKeptRun : KeptRun → KeptRun → Type 0

@@ -1,14 +1,15 @@
 //! What is kept of a partition's segments, taken apart.
 
 ghost use Rattle.std.specs.Prelude.{◌≡◌};
-ghost use Rattle.eos_part.specs.steps.Fronts.{IsApart};
+ghost use Rattle.eos_part.specs.steps.Fronts.{AreEach, IsApart};
 
 use eos_kept::{Front, Kept, Sizes};
 use std::alloc::Global;
 
 /// The front, what is kept of its records, and how large the segments are; of no segment no front and no records.
 pub(crate) fn apart<T: Drop>(alloc: Global, run: Option<Kept<T>>) -> (Option<Front>, Vec<T>, Sizes)
-    ensures { IsApart run result.0 result.1.items result.2 }
+    ensures parts { IsApart run result.0 result.1.items result.2 }
+    ensures each { AreEach result.0 result.1.items }
 {
     match run {
         None => {

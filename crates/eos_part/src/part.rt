@@ -1,15 +1,13 @@
 //! A partition's log as the rest of the checker sees it, however it was cut into segments, without their bytes.
 
-ghost use Rattle.std.specs.Prelude.{◌≡◌, List, IfOk};
+ghost use Rattle.std.specs.Prelude.{◌≡◌, IfOk};
 ghost use Rattle.eos_claims.specs.Headers.{claim_of};
-ghost use Rattle.eos_evidence.specs.declared.segment.Segment.{Segment};
 ghost use Rattle.eos_fold.specs.Parts.{Rises, Ascends};
-ghost use Rattle.eos_keeping.specs.Outputs.{kept_output};
-ghost use Rattle.eos_keeping.specs.Records.{wanted_record};
-ghost use Rattle.eos_part.specs.Parts.{AreKept, IsMade};
-ghost use Rattle.eos_part.specs.steps.Fronts.{AreRead, IsPartFrom};
-ghost use Rattle.eos_part.specs.Records.{ReadBack};
-ghost use Rattle.eos_wanted.specs.declared.wanted.Wanted.{Wanted};
+ghost use Rattle.eos_keeping.specs.Outputs.{kept_output, claim_kept};
+ghost use Rattle.eos_keeping.specs.Records.{wanted_record, ReadsBack};
+ghost use Rattle.eos_part.specs.Parts.{AllKept, IsMade};
+ghost use Rattle.eos_part.specs.steps.Fronts.{AreEach, IsPartFrom};
+ghost use Rattle.eos_part.specs.Records.{records_in, ReadBack, SaysClaim, SayClaims};
 ghost use Rattle.eos_wanted.specs.declared.wanted.Wanted.TheVariants.{Presence, Claims, Texts};
 
 use crate::apart::apart;
@@ -67,8 +65,9 @@ fn made(
     mut kept: Records,
     sizes: Sizes,
 ) -> Result<Told, AllocError>
-    requires known { (w : Wanted) × (segments : List Segment) × AreRead w segments front kept }
+    requires each { AreEach front (records_in kept) }
     requires claims { ReadBack kept }
+    requires said { SayClaims (records_in kept) }
     ensures { IfOk result (IsPartFrom end front kept sizes) }
 {
     let front = of_all(alloc, end.topic.as_slice(), front, &mut kept);
@@ -102,14 +101,14 @@ impl Part {
     /// # Errors
     /// Only want of memory.
     pub fn of_presence(alloc: Global, end: End, run: Option<Kept<()>>) -> Result<Told, AllocError>
-        requires { (segments : List Segment) × AreKept (λ offset r. tt) segments run }
         ensures { IfOk result (IsMade Presence (λ offset r. tt) end run) }
     {
         let (front, kept, sizes) = apart(alloc, run);
         made(alloc, end, front, Records::Presence(kept), sizes)
     }
 
-    /// The same of an output, of whose records the claims are kept. The topics are those that were asked for.
+    /// The same of an output, of whose records the claims are kept, as headers can say them. The topics are those that were asked
+    /// for.
     ///
     /// # Errors
     /// Only want of memory.
@@ -119,14 +118,14 @@ impl Part {
         topics: Vec<Bytes>,
         run: Option<Kept<KeptOutput>>,
     ) -> Result<Told, AllocError>
-        requires { (segments : List Segment) × AreKept (λ offset r. kept_output topics.items (claim_of r.headers)) segments run }
+        requires { AllKept (λ one. ReadsBack (claim_kept topics.items one)) run }
         ensures { IfOk result (IsMade Claims (λ offset r. kept_output topics.items (claim_of r.headers)) end run) }
     {
         let (front, kept, sizes) = apart(alloc, run);
         made(alloc, end, front, Records::Claims { topics, kept }, sizes)
     }
 
-    /// The same of one of Kafka's own logs, of whose records keys and values are kept.
+    /// The same of one of Kafka's own logs, of whose records keys and values are kept, and no headers but those of their claims.
     ///
     /// # Errors
     /// Only want of memory.
@@ -135,7 +134,7 @@ impl Part {
         end: End,
         run: Option<Kept<KeptText>>,
     ) -> Result<Told, AllocError>
-        requires { (segments : List Segment) × AreKept (λ offset r. wanted_record Texts r) segments run }
+        requires { AllKept SaysClaim run }
         ensures { IfOk result (IsMade Texts (λ offset r. wanted_record Texts r) end run) }
     {
         let (front, kept, sizes) = apart(alloc, run);

@@ -4,7 +4,7 @@ ghost use Rattle.std.specs.Prelude.{◌≡◌, ◌≤◌, ◌+◌, ◌∷◌, []
 ghost use Rattle.std.specs.Io.KnownBytes.{Consumes, IsAtEnd};
 ghost use Rattle.eos_evidence.specs.declared.segment.Segment.{Segment};
 ghost use Rattle.eos_evidence.specs.Reading.{Takes, TakesAtMost};
-ghost use Rattle.eos_part.specs.Runs.{IsKeptRun, wanted_by, front_of, SameKeptRun};
+ghost use Rattle.eos_part.specs.Runs.{IsKeptRun, HasClaims, wanted_by, front_of, SameKeptRun};
 
 use bytes::Bytes;
 use eos_evidence::{MAX_SEGMENT_BYTES, ReadFault};
@@ -45,6 +45,7 @@ impl KeptRun {
         ensures ok { IfOk result (λ run. (bytes : List ℕ) × Consumes (R.remaining reader.old) (R.remaining reader.new) bytes × (length bytes ≤ MAX_SEGMENT_BYTES)
             × ((segment : Segment) → segment.topic ≡ topic.now → segment.base ≡ base → segment.bytes ≡ bytes → IsKeptRun asked.entry.topics.now (segment ∷ []) run)) }
         ensures wanted { IfOk result (λ run. wanted_by run ≡ asked.entry.wanted) }
+        ensures claims { IfOk result (HasClaims asked.entry.topics.now) }
         ensures end { OnOk result (IsAtEnd (R.remaining reader.new)) }
         ensures read { result ≡ Err ReadFault.Read → TakesAtMost MAX_SEGMENT_BYTES (R.remaining reader.old) (R.remaining reader.new) }
         ensures limit { result ≡ Err ReadFault.Limit → Takes (MAX_SEGMENT_BYTES + 1) (R.remaining reader.old) (R.remaining reader.new) }
@@ -81,6 +82,7 @@ impl KeptRun {
         requires wanted { wanted_by after ≡ wanted_by before }
         requires checked { (front_of after).run.sequenced ≡ (front_of before).run.sequenced }
         ensures ok { (topics : List (List ℕ)) (xs ys : List Segment) → IsKeptRun topics xs before → IsKeptRun topics ys after → IfOk result (IsKeptRun topics (xs ++ ys)) }
+        ensures claims { (topics : List (List ℕ)) → HasClaims topics before → HasClaims topics after → IfOk result (HasClaims topics) }
         ensures wanted { IfOk result (λ run. wanted_by run ≡ wanted_by before) }
         ensures sequenced { IfOk result (λ run. (front_of run).run.sequenced ≡ (front_of before).run.sequenced) }
         ensures err { IfErr result (λ back. SameKeptRun before back.0 × SameKeptRun after back.1) }

@@ -8,10 +8,11 @@ ghost use Rattle.eos_evidence.specs.Topics.{is_internal};
 ghost use Rattle.eos_fold.specs.Standing.{IsPartitionFault, AreOf};
 ghost use Rattle.eos_fold.specs.steps.Whole.{kind_at_stop};
 ghost use Rattle.eos_kept.specs.Kept.{KeepsFront};
+ghost use Rattle.eos_kept.specs.Passing.{HoldsEach};
 ghost use Rattle.eos_touch.specs.declared.fault.PartitionFaultKind.TheVariants.{Pair};
 ghost use Rattle.eos_wanted.specs.declared.wanted.Wanted.{Wanted};
-ghost use Rattle.eos_part.specs.steps.Fronts.{AreRead, AreWhole, IsWholeFront, IsChecked};
-ghost use Rattle.eos_part.specs.Records.{ReadBack};
+ghost use Rattle.eos_part.specs.steps.Fronts.{AreRead, AreEach, AreWhole, IsWholeFront, IsChecked};
+ghost use Rattle.eos_part.specs.Records.{records_in, ReadBack, SayClaims};
 
 use crate::records::Records;
 use bytes::Bytes;
@@ -51,7 +52,9 @@ pub(crate) fn of_all(alloc: Global, topic: &[u8], front: Option<Front>, kept: &m
     requires { ReadBack kept.old }
     ensures whole { (w : Wanted) (segments : List Segment) → AreRead w segments front kept.old → AreWhole w segments result kept.new }
     ensures sequenced { (w : Wanted) (segments : List Segment) (number : ℤ) → AreRead w segments front kept.old → AreOf topic.now number segments → IsChecked topic.now result }
+    ensures each { AreEach front (records_in kept.old) → HoldsEach result (records_in kept.new) }
     ensures claims { ReadBack kept.new }
+    ensures said { SayClaims (records_in kept.old) → SayClaims (records_in kept.new) }
 {
     let Some(front) = front else {
         return nothing(alloc, topic, Stop::AtEnd);

@@ -1,37 +1,69 @@
--- What is asked of a piece that was read to its end.
-use Rattle.std.proofs.Common.{◌≡◌, ℕ, not, ◌≤◌, List, [], ◌∷◌, ◌++◌, length, Option, Some, None, refl, sym, ap, subst, ◌∙◌, append-nil}
+-- What is asked of a piece that was opened: of a log that was read to its end, or of a fold.
+use Rattle.std.proofs.Common.{◌≡◌, ℕ, not, ◌≤◌, ◌^◌, List, [], ◌∷◌, ◌++◌, length, Option, Some, None, refl, sym, ap, subst, ◌∙◌, append-nil}
 use Rattle.std.specs.Prelude.{IfSome}
 use Rattle.std.specs.Io.KnownBytes.{Consumes, IsAtEnd}
 use Rattle.eos_evidence.specs.declared.segment.Segment.{Segment}
 use Rattle.eos_evidence.specs.Topics.{is_internal}
+use Rattle.eos_fold_file.specs.declared.file.FoldFile.{FoldFile}
+use Rattle.eos_fold_file.specs.Folds.{IsFoldOf}
+use Rattle.eos_fold_file.specs.Legal.{IsLegal}
 use Rattle.eos_part.specs.declared.run.KeptRun.{KeptRun}
 use Rattle.eos_part.specs.declared.run.KeptRun.TheVariants.{Presence, Claims, Texts}
-use Rattle.eos_part.specs.Runs.{IsKeptRun, wanted_by, front_of}
-use Rattle.eos_source.specs.steps.Runs.{Asking, IsRead}
+use Rattle.eos_part.specs.Runs.{IsKeptRun, wanted_by, front_of, HasClaims}
+use Rattle.eos_source.specs.declared.source.Piece.{Piece}
+use Rattle.eos_source.specs.declared.source.Piece.TheVariants as pieces
+use Rattle.eos_source.specs.Said.{Said, Log, Fold, WillSay}
+use Rattle.eos_source.specs.steps.Runs.{Asking, IsAsked, IsTaken}
 
--- all of the known bytes were read
-pub all_read : (known old new : Option (List ℕ)) (bytes : List ℕ) → IfSome known (λ k. old ≡ Some k) → Consumes old new bytes → IsAtEnd new → IfSome known (λ k. bytes ≡ k)
-all_read None old new bytes h c e = tt
-all_read (Some k) old new bytes h c e = by new (subst (λ (o : Option (List ℕ)). Consumes o new bytes) h c) e
-  where
-    by : (left : Option (List ℕ)) → Consumes (Some k) left bytes → IsAtEnd left → bytes ≡ k
-    by None p q = absurd p
-    by (Some ys) p q = sym (p ∙ (ap (λ (l : List ℕ). bytes ++ l) q ∙ append-nil bytes))
+-- ---- a log
 
--- whether sequences are checked is known of the first segment
-checked_so : (topics : List (List ℕ)) (s : Segment) (ss : List Segment) (run : KeptRun) → IsKeptRun topics (s ∷ ss) run → (front_of run).run.sequenced ≡ not (is_internal s.topic)
-checked_so topics s ss (Presence kept) k = k.front.sequenced
-checked_so topics s ss (Claims kept) k = k.front.sequenced
-checked_so topics s ss (Texts kept) k = k.front.sequenced
+-- all of these bytes were read
+all_of : (whole : List ℕ) (left : Option (List ℕ)) (bytes : List ℕ) → Consumes (Some whole) left bytes → IsAtEnd left → bytes ≡ whole
+all_of whole None bytes c e = absurd c
+all_of whole (Some ys) bytes c e = sym (c ∙ (ap (λ (l : List ℕ). bytes ++ l) e ∙ append-nil bytes))
 
-pub piece_read : (known : ℕ → Option (List ℕ)) (a : Asking) (piece : ℕ) (name : Segment) (run : KeptRun) (bytes : List ℕ) → a.topic ≡ name.topic → length bytes ≤ 0x4000_0000
-    → IfSome (known piece) (λ k. bytes ≡ k) → wanted_by run ≡ a.wanted
-    → ((s : Segment) → s.topic ≡ name.topic → s.base ≡ name.base → s.bytes ≡ bytes → IsKeptRun a.topics (s ∷ []) run) → IsRead known a piece (name ∷ []) run
-piece_read known a piece name run bytes e l b w k =
-    let s : Segment = record { topic = name.topic; partition = name.partition; base = name.base; bytes = bytes } in
-    let kept : IsKeptRun a.topics (s ∷ []) run = k s refl refl refl in
+module _ {R : Type 0} (left : R → Option (List ℕ)) where
+  -- what was known is what was read
+  log_known : (known : Option Said) (reader : R) (new : Option (List ℕ)) (bytes : List ℕ) → IfSome known (WillSay left (pieces.Log reader)) → Consumes (left reader) new bytes → IsAtEnd new
+      → IfSome known (λ k. Log bytes ≡ k)
+  log_known None reader new bytes h c e = tt
+  log_known (Some (Log whole)) reader new bytes h c e = ap Log (all_of whole new bytes (subst (λ (o : Option (List ℕ)). Consumes o new bytes) h c) e)
+  log_known (Some (Fold fold)) reader new bytes h c e = absurd h
+
+  fold_known : (known : Option Said) (fold : FoldFile) → IfSome known (WillSay left (pieces.Fold fold)) → IfSome known (λ k. Fold fold ≡ k)
+  fold_known None fold h = tt
+  fold_known (Some (Log whole)) fold h = absurd h
+  fold_known (Some (Fold other)) fold h = ap Fold h
+
+  -- whether sequences are checked is known of the first segment
+  checked_so : (topics : List (List ℕ)) (s : Segment) (ss : List Segment) (run : KeptRun) → IsKeptRun topics (s ∷ ss) run → (front_of run).run.sequenced ≡ not (is_internal s.topic)
+  checked_so topics s ss (Presence kept) k = k.front.sequenced
+  checked_so topics s ss (Claims kept) k = k.front.sequenced
+  checked_so topics s ss (Texts kept) k = k.front.sequenced
+
+  pub log_read : (known : Option Said) (a : Asking) (name : Segment) (reader : R) (new : Option (List ℕ)) (run : KeptRun) (bytes : List ℕ) → a.topic ≡ name.topic
+      → IfSome known (WillSay left (pieces.Log reader)) → Consumes (left reader) new bytes → length bytes ≤ 0x4000_0000 → IsAtEnd new → wanted_by run ≡ a.wanted → HasClaims a.topics run
+      → ((s : Segment) → s.topic ≡ name.topic → s.base ≡ name.base → s.bytes ≡ bytes → IsKeptRun a.topics (s ∷ []) run) → (said : Said) × IsTaken known said a name run
+  log_read known a name reader new run bytes e h c l at w claims k =
+      let s : Segment = record { topic = name.topic; partition = name.partition; base = name.base; bytes = bytes } in
+      let kept : IsKeptRun a.topics (s ∷ []) run = k s refl refl refl in (
+        Log bytes,
+        record {
+          as_known = record { is = log_known known reader new bytes h c at; can = l };
+          kept = λ segment piece. k segment piece.topic piece.base piece.says;
+          asked = record { wanted = w; claims = claims; checked = checked_so a.topics s [] run kept ∙ ap (λ (t : List ℕ). not (is_internal t)) (sym e) };
+        },
+      )
+
+  -- ---- a fold
+
+  pub fold_taken : (known : Option Said) (a : Asking) (name : Segment) (fold : FoldFile) (run : KeptRun) → IfSome known (WillSay left (pieces.Fold fold)) → IsLegal fold
+      → ((s : Segment) → IsFoldOf s fold → IsKeptRun a.topics (s ∷ []) run) → IsAsked a run → (said : Said) × IsTaken known said a name run
+  fold_taken known a name fold run h legal kept asked = (
+    Fold fold,
     record {
-      segments = s ∷ [];
-      pieces = (record { topic = refl; partition = refl; base = refl; size = l; bytes = b }, tt);
-      run_of = record { kept = kept; wanted = w; checked = checked_so a.topics s [] run kept ∙ ap (λ (t : List ℕ). not (is_internal t)) (sym e) };
-    }
+      as_known = record { is = fold_known known fold h; can = legal };
+      kept = λ segment piece. kept segment piece.says;
+      asked = asked;
+    },
+  )

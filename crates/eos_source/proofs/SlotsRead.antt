@@ -1,12 +1,14 @@
 -- Slots, each of which is that of its piece.
-use Rattle.std.proofs.Common.{◌≡◌, ℕ, zero, suc, ◌+◌, List, [], ◌∷◌, length, set, Option, Some, Result, Ok, Err, refl, subst, arith}
+use Rattle.std.proofs.Common.{◌≡◌, ℕ, zero, suc, ◌+◌, ◌≤◌, cond, eqb, List, [], ◌∷◌, length, set, Option, Some, Result, Ok, Err, refl, sym, subst, arith}
+use Rattle.std.proofs.lemmas.Bool.{eq-eqb, ne_eqb, cond-true, cond-false}
 use Rattle.std.specs.Prelude.{slice_get, All, IfOk}
 use Rattle.eos_evidence.specs.declared.application.App.{App}
 use Rattle.eos_evidence.specs.declared.segment.Segment.{Segment}
 use Rattle.eos_part.specs.declared.run.KeptRun.{KeptRun}
-use Rattle.eos_source.specs.steps.Runs.{IsSlot, AreSlots}
+use Rattle.eos_source.specs.Said.{Said, Log}
+use Rattle.eos_source.specs.steps.Runs.{IsSlotOf, IsSlot, AreSlots, AreSlotsOf, IsTaken, asking}
 
-module _ {F : Type 0} (known : ℕ → Option (List ℕ)) (topics : List (List ℕ)) (apps : List App) where
+module _ {F : Type 0} (known : ℕ → Option Said) (topics : List (List ℕ)) (apps : List App) where
   -- a refusal says nothing of its piece
   pub none_read : (piece : ℕ) (names : List Segment) (slots : List (Result KeptRun F)) → length slots ≡ length names → All (λ slot. IfOk slot (λ run. ⊥)) slots
       → AreSlots known topics apps piece names slots
@@ -34,3 +36,35 @@ module _ {F : Type 0} (known : ℕ → Option (List ℕ)) (topics : List (List �
   put names slots i slot h r =
       let z : i ≡ 0 + i = omega arith in
       put_from 0 names slots i slot (λ name at. subst (λ (n : ℕ). IsSlot known topics apps n name slot) z (h name at)) r
+
+  -- ---- what each piece said
+
+  -- from this number on: of a refused one it doesn't matter
+  said_from : (piece : ℕ) (names : List Segment) (slots : List (Result KeptRun F)) → AreSlots known topics apps piece names slots → ℕ → Said
+  said_from piece [] slots h number = Log []
+  said_from piece (name ∷ names) [] h number = Log []
+  said_from piece (name ∷ names) (Ok run ∷ slots) h number = cond (eqb piece number) h.0.0 (said_from (suc piece) names slots h.1 number)
+  said_from piece (name ∷ names) (Err fault ∷ slots) h number = said_from (suc piece) names slots h.1 number
+
+  same_slots : (said other : ℕ → Said) (piece : ℕ) (names : List Segment) (slots : List (Result KeptRun F)) → ((number : ℕ) → piece ≤ number → other number ≡ said number)
+      → AreSlotsOf known said topics apps piece names slots → AreSlotsOf known other topics apps piece names slots
+  same_slots said other piece [] slots e h = tt
+  same_slots said other piece (name ∷ names) [] e h = absurd h
+  same_slots said other piece (name ∷ names) (slot ∷ slots) e h = (
+    subst (λ (s : Said). IsSlotOf (known piece) s topics apps name slot) (sym (e piece (omega arith))) h.0,
+    same_slots said other (suc piece) names slots (λ number ge. e number (omega (arith, ge))) h.1,
+  )
+
+  slots_of : (piece : ℕ) (names : List Segment) (slots : List (Result KeptRun F)) (h : AreSlots known topics apps piece names slots) → AreSlotsOf known (said_from piece names slots h) topics apps piece names slots
+  slots_of piece [] slots h = tt
+  slots_of piece (name ∷ names) [] h = absurd h
+  slots_of piece (name ∷ names) (Ok run ∷ slots) h = (
+    subst (λ (s : Said). IsTaken (known piece) s (asking topics apps name.topic) name run) (sym (cond-true (eqb piece piece) h.0.0 (said_from (suc piece) names slots h.1 piece) (eq-eqb piece piece refl))) h.0.1,
+    same_slots (said_from (suc piece) names slots h.1) (said_from piece (name ∷ names) (Ok run ∷ slots) h) (suc piece) names slots
+        (λ number ge. cond-false (eqb piece number) h.0.0 (said_from (suc piece) names slots h.1 number) (ne_eqb piece number (λ e. omega (arith, e, ge)))) (slots_of (suc piece) names slots h.1),
+  )
+  slots_of piece (name ∷ names) (Err fault ∷ slots) h = (tt, slots_of (suc piece) names slots h.1)
+
+  -- there is what they said
+  pub were_said : (names : List Segment) (slots : List (Result KeptRun F)) → AreSlots known topics apps 0 names slots → (said : ℕ → Said) × AreSlotsOf known said topics apps 0 names slots
+  were_said names slots h = (said_from 0 names slots h, slots_of 0 names slots h)

@@ -1,3 +1,4 @@
 pub mod Logs
+pub mod Said
 pub mod Shapes
 pub mod steps

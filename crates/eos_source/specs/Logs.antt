@@ -1,5 +1,6 @@
--- The kept logs of an evidence, of whose pieces no more is known than a source and the shape say: there is an evidence of this
--- shape, with the bytes that are known, and this is what is kept of its logs.
+-- The kept logs of an evidence, of whose pieces no more is known than a source and the shape say: there is what each piece said,
+-- and this is what is kept of the logs of each evidence of this shape whose segments are such. Where all pieces said logs there is
+-- one, as `laws` says; with a fold that was made of no segment there is none.
 use Rattle.std.specs.Prelude.{◌≡◌, ℕ, List, [], ◌∷◌, map, Option, ⊤}
 use Rattle.eos_evidence.specs.declared.application.App.{App}
 use Rattle.eos_evidence.specs.declared.partition.Partition.{Partition}
@@ -9,7 +10,8 @@ use Rattle.eos_part.specs.Parts.{IsTold}
 use Rattle.eos_wanted.specs.Wanted.{wanted_of}
 use Rattle.eos_source.specs.declared.logs.KeptLogs.{KeptLogs}
 use Rattle.eos_source.specs.declared.logs.Tally.{Tally}
-use Rattle.eos_source.specs.Shapes.{IsOfShape}
+use Rattle.eos_source.specs.Said.{Said}
+use Rattle.eos_source.specs.Shapes.{HoldsAsSaid}
 
 -- of each of these partitions what these applications want of its log, its least fault, and how much there is of it
 abbrev pub AreTold : List App → List Partition → List Told → Type 0
@@ -27,11 +29,13 @@ pub record AreColumns (told : List Told) (logs : KeptLogs) : Type 0 where
   pub faults : logs.faults.items ≡ map (λ t. t.fault) told
   pub tallies : logs.tallies.items ≡ map tally_of told
 
--- these are the logs of an evidence of this shape, as they are kept for its applications
-pub record AreKeptLogs (known : ℕ → Option (List ℕ)) (shape : EvidenceParts) (logs : KeptLogs) : Type 0 where
-  pub evidence : EvidenceParts
-  pub of_shape : IsOfShape known shape evidence
+-- the logs of this evidence, as they are kept for its applications
+pub record AreLogsKept (logs : KeptLogs) (evidence : EvidenceParts) : Type 0 where
   pub is_evidence : IsEvidence evidence
   pub told : List Told
   pub each : AreTold evidence.spec.apps evidence.partitions told
   pub columns : AreColumns told logs
+
+-- so it is with each evidence of this shape whose segments are such as the pieces said
+abbrev pub AreKeptLogs : (ℕ → Option Said) → EvidenceParts → KeptLogs → Type 0
+AreKeptLogs known shape logs = HoldsAsSaid known shape (AreLogsKept logs)

@@ -1,35 +1,41 @@
 -- The shape of an evidence: its spec, its partitions with their ends, and of each segment its name, without the bytes. It is
 -- itself an evidence, of segments that hold none. Pieces are numbered over the partitions, each with its segments by base.
-use Rattle.std.specs.Prelude.{◌≡◌, ◌≤◌, ◌^◌, ℕ, suc, ◌+◌, List, [], ◌∷◌, length, Option, IfSome, ⊤}
+use Rattle.std.specs.Prelude.{◌≡◌, ◌≤◌, ◌^◌, ℕ, suc, ◌+◌, List, [], ◌∷◌, length, Option, ⊤}
 use Rattle.eos_evidence.specs.declared.partition.Partition.{Partition}
 use Rattle.eos_evidence.specs.declared.segment.Segment.{Segment}
-use Rattle.eos_evidence.specs.Evidence.{EvidenceParts}
+use Rattle.eos_evidence.specs.Evidence.{EvidenceParts, segments_of}
+use Rattle.eos_source.specs.Said.{Said, HasSaid, AreAsKnown}
 
--- A segment of this name, which may be the piece of this number: it has the bytes that are known of the piece, and no more than
--- a segment may have.
-pub record IsPiece (known : ℕ → Option (List ℕ)) (piece : ℕ) (name segment : Segment) : Type 0 where
+-- A segment of this name, of which its piece said this. It has no more bytes than a segment may have.
+pub record IsPiece (said : Said) (name segment : Segment) : Type 0 where
   pub topic : segment.topic ≡ name.topic
   pub partition : segment.partition ≡ name.partition
   pub base : segment.base ≡ name.base
   pub size : length segment.bytes ≤ 2 ^ 30
-  pub bytes : IfSome (known piece) (λ bytes. segment.bytes ≡ bytes)
+  pub says : HasSaid segment said
 
--- segments of these names, one by one, the first of which is the piece of this number
-abbrev pub ArePieces : (ℕ → Option (List ℕ)) → ℕ → List Segment → List Segment → Type 0
-ArePieces known piece [] [] = ⊤
-ArePieces known piece [] (segment ∷ segments) = ⊥
-ArePieces known piece (name ∷ names) [] = ⊥
-ArePieces known piece (name ∷ names) (segment ∷ segments) = IsPiece known piece name segment × ArePieces known (suc piece) names segments
+-- segments of these names, one by one, of which the pieces from this number on said so
+abbrev pub ArePieces : (ℕ → Said) → ℕ → List Segment → List Segment → Type 0
+ArePieces said piece [] [] = ⊤
+ArePieces said piece [] (segment ∷ segments) = ⊥
+ArePieces said piece (name ∷ names) [] = ⊥
+ArePieces said piece (name ∷ names) (segment ∷ segments) = IsPiece (said piece) name segment × ArePieces said (suc piece) names segments
 
 -- partitions of this shape, one by one, with the same ends; their first segment is the piece of this number
-abbrev pub ArePartitions : (ℕ → Option (List ℕ)) → ℕ → List Partition → List Partition → Type 0
-ArePartitions known piece [] [] = ⊤
-ArePartitions known piece [] (p ∷ ps) = ⊥
-ArePartitions known piece (shape ∷ shapes) [] = ⊥
-ArePartitions known piece (shape ∷ shapes) (p ∷ ps) =
-    (p.end ≡ shape.end) × ArePieces known piece shape.segments p.segments × ArePartitions known (piece + length shape.segments) shapes ps
+abbrev pub ArePartitions : (ℕ → Said) → ℕ → List Partition → List Partition → Type 0
+ArePartitions said piece [] [] = ⊤
+ArePartitions said piece [] (p ∷ ps) = ⊥
+ArePartitions said piece (shape ∷ shapes) [] = ⊥
+ArePartitions said piece (shape ∷ shapes) (p ∷ ps) =
+    (p.end ≡ shape.end) × ArePieces said piece shape.segments p.segments × ArePartitions said (piece + length shape.segments) shapes ps
 
--- an evidence of this shape, whose pieces have the bytes that are known of them
-pub record IsOfShape (known : ℕ → Option (List ℕ)) (shape evidence : EvidenceParts) : Type 0 where
+-- an evidence of this shape, whose segments are such as the pieces said
+pub record IsOfShape (said : ℕ → Said) (shape evidence : EvidenceParts) : Type 0 where
   pub spec : evidence.spec ≡ shape.spec
-  pub partitions : ArePartitions known 0 shape.partitions evidence.partitions
+  pub partitions : ArePartitions said 0 shape.partitions evidence.partitions
+
+-- there is what each piece said, and so it is with each evidence of this shape whose segments are such
+pub record HoldsAsSaid (known : ℕ → Option Said) (shape : EvidenceParts) (Holds : EvidenceParts → Type 0) : Type 0 where
+  pub said : ℕ → Said
+  pub as_known : AreAsKnown known (length (segments_of shape.partitions)) said
+  pub holds : (evidence : EvidenceParts) → IsOfShape said shape evidence → Holds evidence

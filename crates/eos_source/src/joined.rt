@@ -4,7 +4,8 @@ ghost use Rattle.std.specs.Prelude.{◌≡◌, ◌+◌, ◌++◌, ℕ, List, Opt
 ghost use Rattle.std.specs.Vec.Iter.{into_iter_items};
 ghost use Rattle.eos_evidence.specs.declared.application.App.{App};
 ghost use Rattle.eos_evidence.specs.declared.segment.Segment.{Segment};
-ghost use Rattle.eos_source.specs.steps.Runs.{Asking, asking, IsRead, AreRead, AreSlots};
+ghost use Rattle.eos_source.specs.Said.{Said};
+ghost use Rattle.eos_source.specs.steps.Runs.{Asking, asking, IsRead, AreRead, AreSlotsOf};
 
 use eos_evidence::Segment;
 use eos_part::KeptRun;
@@ -13,10 +14,10 @@ use std::vec::IntoIter;
 
 /// The run with the next one behind it.
 fn longer(alloc: Global, run: Option<KeptRun>, next: KeptRun) -> Result<KeptRun, AllocError>
-    requires { (known : ℕ → Option (List ℕ)) × (a : Asking) × (piece : ℕ) × (names : List Segment) × (more : List Segment)
-        × AreRead known a piece names run × IsRead known a (piece + length names) more next }
-    ensures { (known : ℕ → Option (List ℕ)) (a : Asking) (piece : ℕ) (names more : List Segment)
-        → AreRead known a piece names run → IsRead known a (piece + length names) more next → IfOk result (IsRead known a piece (names ++ more)) }
+    requires { (known : ℕ → Option Said) × (said : ℕ → Said) × (a : Asking) × (piece : ℕ) × (names : List Segment) × (more : List Segment)
+        × AreRead known said a piece names run × IsRead known said a (piece + length names) more next }
+    ensures { (known : ℕ → Option Said) (said : ℕ → Said) (a : Asking) (piece : ℕ) (names more : List Segment)
+        → AreRead known said a piece names run → IsRead known said a (piece + length names) more next → IfOk result (IsRead known said a piece (names ++ more)) }
 {
     let Some(run) = run else {
         return Ok(next);
@@ -33,11 +34,11 @@ pub(crate) fn next_run<F: From<AllocError> + Drop>(
     names: &[Segment],
     slots: &mut IntoIter<Result<KeptRun, F>>,
 ) -> Result<Option<KeptRun>, F>
-    requires { (known : ℕ → Option (List ℕ)) × (topics : List (List ℕ)) × (apps : List App) × (topic : List ℕ) × (piece : ℕ) × (later : List Segment)
-        × All (λ s. s.topic ≡ topic) names.now × AreSlots known topics apps piece (names.now ++ later) (into_iter_items slots.old) }
-    ensures { (known : ℕ → Option (List ℕ)) (topics : List (List ℕ)) (apps : List App) (topic : List ℕ) (piece : ℕ) (later : List Segment)
-        → All (λ s. s.topic ≡ topic) names.now → AreSlots known topics apps piece (names.now ++ later) (into_iter_items slots.old)
-        → IfOk result (λ run. AreRead known (asking topics apps topic) piece names.now run × AreSlots known topics apps (piece + length names.now) later (into_iter_items slots.new)) }
+    requires { (known : ℕ → Option Said) × (said : ℕ → Said) × (topics : List (List ℕ)) × (apps : List App) × (topic : List ℕ) × (piece : ℕ) × (later : List Segment)
+        × All (λ s. s.topic ≡ topic) names.now × AreSlotsOf known said topics apps piece (names.now ++ later) (into_iter_items slots.old) }
+    ensures { (known : ℕ → Option Said) (said : ℕ → Said) (topics : List (List ℕ)) (apps : List App) (topic : List ℕ) (piece : ℕ) (later : List Segment)
+        → All (λ s. s.topic ≡ topic) names.now → AreSlotsOf known said topics apps piece (names.now ++ later) (into_iter_items slots.old)
+        → IfOk result (λ run. AreRead known said (asking topics apps topic) piece names.now run × AreSlotsOf known said topics apps (piece + length names.now) later (into_iter_items slots.new)) }
 {
     let mut run = None;
     for _ in 0..names.len() {

@@ -6,6 +6,7 @@
 #![tactic(auto)]
 
 mod joined;
+pub mod laws;
 mod logs;
 mod memory;
 mod piece;
@@ -17,4 +18,5 @@ mod told;
 
 pub use logs::{KeptLogs, Tally, kept_logs};
 pub use memory::{MemoryFault, MemorySource};
-pub use source::Source;
+pub use plan::source_topics;
+pub use source::{Piece, Source};

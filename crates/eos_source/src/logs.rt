@@ -6,8 +6,9 @@ ghost use Rattle.eos_evidence.specs.Evidence.{IsPartition, segments_of};
 ghost use Rattle.eos_evidence.specs.Parts.{outputs_of};
 ghost use Rattle.eos_evidence.specs.declared.segment.Segment.{Segment};
 ghost use Rattle.eos_source.specs.Logs.{AreKeptLogs, tally_of};
+ghost use Rattle.eos_source.specs.Said.{Said};
 ghost use Rattle.eos_source.specs.steps.Partitions.{IsToldOf, AreToldOf};
-ghost use Rattle.eos_source.specs.steps.Runs.{AreSlots};
+ghost use Rattle.eos_source.specs.steps.Runs.{AreSlots, AreSlotsOf};
 
 use crate::joined::next_run;
 use crate::plan::{Plan, source_topics};
@@ -80,12 +81,12 @@ fn next_told<S: Source>(
 ) -> Result<Told, S::Fault>
     requires wants { IsPermutation (outputs_of plan.now.shape.now.spec.apps) plan.now.wants }
     requires partition { IsPartition shape.now }
-    requires slots { (piece : ℕ) × (later : List Segment)
-        × AreSlots (S.bytes plan.now.source.now) plan.now.topics.now plan.now.shape.now.spec.apps piece (shape.now.segments ++ later) (into_iter_items slots.old) }
-    ensures { (piece : ℕ) (later : List Segment)
-        → AreSlots (S.bytes plan.now.source.now) plan.now.topics.now plan.now.shape.now.spec.apps piece (shape.now.segments ++ later) (into_iter_items slots.old)
-        → IfOk result (λ told. IsToldOf (S.bytes plan.now.source.now) plan.now.shape.now.spec.apps piece shape.now told
-        × AreSlots (S.bytes plan.now.source.now) plan.now.topics.now plan.now.shape.now.spec.apps (piece + length shape.now.segments) later (into_iter_items slots.new)) }
+    requires slots { (said : ℕ → Said) × (piece : ℕ) × (later : List Segment)
+        × AreSlotsOf (S.said plan.now.source.now) said plan.now.topics.now plan.now.shape.now.spec.apps piece (shape.now.segments ++ later) (into_iter_items slots.old) }
+    ensures { (said : ℕ → Said) (piece : ℕ) (later : List Segment)
+        → AreSlotsOf (S.said plan.now.source.now) said plan.now.topics.now plan.now.shape.now.spec.apps piece (shape.now.segments ++ later) (into_iter_items slots.old)
+        → IfOk result (λ told. IsToldOf (S.said plan.now.source.now) said plan.now.shape.now.spec.apps piece shape.now told
+        × AreSlotsOf (S.said plan.now.source.now) said plan.now.topics.now plan.now.shape.now.spec.apps (piece + length shape.now.segments) later (into_iter_items slots.new)) }
 {
     let run = next_run(alloc, shape.segments.as_slice(), slots)?;
     let asked = plan.asked_of(shape.end.topic.as_slice());
@@ -99,8 +100,8 @@ fn logs_of<S: Source>(
     slots: Vec<Result<KeptRun, S::Fault>>,
 ) -> Result<KeptLogs, S::Fault>
     requires wants { IsPermutation (outputs_of plan.now.shape.now.spec.apps) plan.now.wants }
-    requires slots { AreSlots (S.bytes plan.now.source.now) plan.now.topics.now plan.now.shape.now.spec.apps 0 (segments_of plan.now.shape.now.partitions) slots.items }
-    ensures { IfOk result (AreToldOf (S.bytes plan.now.source.now) plan.now.shape.now.spec.apps plan.now.shape.now.partitions) }
+    requires slots { AreSlots (S.said plan.now.source.now) plan.now.topics.now plan.now.shape.now.spec.apps 0 (segments_of plan.now.shape.now.partitions) slots.items }
+    ensures { IfOk result (λ logs. (said : ℕ → Said) × AreToldOf (S.said plan.now.source.now) said plan.now.shape.now.spec.apps plan.now.shape.now.partitions logs) }
 {
     let mut logs = KeptLogs::new(alloc);
     let mut slots = slots.into_iter();
@@ -115,7 +116,7 @@ fn logs_of<S: Source>(
 /// each partition its kept log. What a piece is not wanted for is forgotten while it is read.
 ///
 /// # Errors
-/// The fault of the first piece, in order, that isn't there; or want of memory.
+/// The fault of the first piece, in order, that isn't there, or is a fold that doesn't fit; or want of memory.
 pub fn kept_logs<S: Source, R: Threads + Sync>(
     alloc: Global,
     rt: &R,
@@ -123,7 +124,7 @@ pub fn kept_logs<S: Source, R: Threads + Sync>(
     shape: &Evidence,
     workers: Workers,
 ) -> Result<KeptLogs, S::Fault>
-    ensures { IfOk result (AreKeptLogs (S.bytes source.now) shape.now) }
+    ensures { IfOk result (AreKeptLogs (S.said source.now) shape.now) }
 {
     let apps = shape.spec().apps().as_slice();
     let topics = source_topics(alloc, apps)?;

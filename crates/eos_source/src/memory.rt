@@ -3,8 +3,9 @@
 ghost use Rattle.std.specs.Prelude.{◌≡◌};
 ghost use Rattle.eos_source.specs.declared.memory.MemoryFault.TheVariants.{OutOfMemory};
 
-use crate::source::Source;
+use crate::source::{Piece, Source};
 use eos_evidence::{Evidence, ReadFault};
+use eos_fold_run::Unfit;
 use std::alloc::{AllocError, Global};
 
 /// An evidence whose segments hold their bytes.
@@ -20,6 +21,8 @@ pub enum MemoryFault {
     NoPiece,
     /// Reading ended so, though all of the bytes are there.
     Read(ReadFault),
+    /// A fold doesn't fit, though there is none.
+    Unfit(Unfit),
     /// A growth of memory was refused.
     OutOfMemory,
 }
@@ -39,14 +42,15 @@ impl<'a> Source for MemorySource<'a> {
 
     ghost use Rattle.std.specs.Prelude.{slice_get, option_map};
     ghost use Rattle.eos_evidence.specs.Evidence.{segments_of};
+    ghost use Rattle.eos_source.specs.Said.{Log};
 
-    ghost bytes = { λ s piece. option_map (λ segment. segment.bytes) (slice_get (segments_of s.evidence.now.partitions) piece) };
+    ghost said = { λ s piece. option_map (λ segment. Log segment.bytes) (slice_get (segments_of s.evidence.now.partitions) piece) };
 
-    fn open(&self, _alloc: Global, piece: u64) -> Result<&'a [u8], MemoryFault> {
+    fn open(&self, _alloc: Global, piece: u64) -> Result<Piece<&'a [u8]>, MemoryFault> {
         if piece >= self.evidence.pieces() {
             return Err(MemoryFault::NoPiece);
         }
-        Ok(self.evidence.piece(piece).bytes.as_slice())
+        Ok(Piece::Log(self.evidence.piece(piece).bytes.as_slice()))
     }
 
     fn refusal(
@@ -59,6 +63,13 @@ impl<'a> Source for MemorySource<'a> {
         match why {
             ReadFault::OutOfMemory => MemoryFault::OutOfMemory,
             why => MemoryFault::Read(why),
+        }
+    }
+
+    fn unfit(&self, _alloc: Global, _piece: u64, why: Unfit) -> MemoryFault {
+        match why {
+            Unfit::OutOfMemory => MemoryFault::OutOfMemory,
+            why => MemoryFault::Unfit(why),
         }
     }
 }

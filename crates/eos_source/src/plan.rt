@@ -43,7 +43,7 @@ impl<'a, S: Source> Plan<'a, S> {
         requires piece { piece < length (segments_of self.now.shape.now.partitions) }
         requires wants { IsPermutation (outputs_of self.now.shape.now.spec.apps) self.now.wants }
         ensures { (name : Segment) → slice_get (segments_of self.now.shape.now.partitions) piece ≡ Some name
-            → IsSlot (S.bytes self.now.source.now) self.now.topics.now self.now.shape.now.spec.apps piece name result }
+            → IsSlot (S.said self.now.source.now) self.now.topics.now self.now.shape.now.spec.apps piece name result }
     {
         let name = self.shape.piece(piece);
         let asked = self.asked_of(name.topic.as_slice());
@@ -52,7 +52,7 @@ impl<'a, S: Source> Plan<'a, S> {
 }
 
 /// The topics that the applications read, each once, in order: most claims name one of these.
-pub(crate) fn source_topics(alloc: Global, apps: &[App]) -> Result<Vec<Bytes>, AllocError> {
+pub fn source_topics(alloc: Global, apps: &[App]) -> Result<Vec<Bytes>, AllocError> {
     let mut topics = Vec::new(alloc);
     for app in apps {
         for topic in app.sources.as_slice() {

@@ -30,7 +30,7 @@ fn read_drawn<S: Source>(
     next: &AtomicU64,
 ) -> Vec<Reading<S::Fault>>
     requires { IsPermutation (outputs_of plan.now.shape.now.spec.apps) plan.now.wants }
-    ensures { All (IsReading (S.bytes plan.now.source.now) plan.now.topics.now plan.now.shape.now.spec.apps (segments_of plan.now.shape.now.partitions)) result.items }
+    ensures { All (IsReading (S.said plan.now.source.now) plan.now.topics.now plan.now.shape.now.spec.apps (segments_of plan.now.shape.now.partitions)) result.items }
 {
     let pieces = plan.shape.pieces();
     let mut read = Vec::new(alloc);
@@ -55,12 +55,12 @@ pub(crate) fn read_by_threads<S: Source, R: Threads + Sync>(
     workers: Workers,
 ) -> Result<Vec<Vec<Reading<S::Fault>>>, AllocError>
     requires { IsPermutation (outputs_of plan.now.shape.now.spec.apps) plan.now.wants }
-    ensures { IfOk result (λ seats. All (λ seat. All (IsReading (S.bytes plan.now.source.now) plan.now.topics.now plan.now.shape.now.spec.apps (segments_of plan.now.shape.now.partitions)) seat.items) seats.items) }
+    ensures { IfOk result (λ seats. All (λ seat. All (IsReading (S.said plan.now.source.now) plan.now.topics.now plan.now.shape.now.spec.apps (segments_of plan.now.shape.now.partitions)) seat.items) seats.items) }
 {
     let next = AtomicU64::new(0);
     let draw = |_seat: usize| -> Vec<Reading<S::Fault>>
         requires { IsPermutation (outputs_of plan.now.shape.now.spec.apps) plan.now.wants }
-        ensures { All (IsReading (S.bytes plan.entry.now.source.now) plan.entry.now.topics.now plan.entry.now.shape.now.spec.apps (segments_of plan.entry.now.shape.now.partitions)) result.items }
+        ensures { All (IsReading (S.said plan.entry.now.source.now) plan.entry.now.topics.now plan.entry.now.shape.now.spec.apps (segments_of plan.entry.now.shape.now.partitions)) result.items }
     { read_drawn(alloc, plan, &next) };
     thread::map_indices(rt, alloc, workers.get() as usize, &draw)
 }
@@ -80,9 +80,9 @@ pub(crate) fn place<S: Source>(
     seat: Vec<Reading<S::Fault>>,
     slots: &mut [Result<KeptRun, S::Fault>],
 )
-    requires read { All (IsReading (S.bytes plan.now.source.now) plan.now.topics.now plan.now.shape.now.spec.apps (segments_of plan.now.shape.now.partitions)) seat.items }
-    requires slots { AreSlots (S.bytes plan.now.source.now) plan.now.topics.now plan.now.shape.now.spec.apps 0 (segments_of plan.now.shape.now.partitions) slots.old }
-    ensures { AreSlots (S.bytes plan.now.source.now) plan.now.topics.now plan.now.shape.now.spec.apps 0 (segments_of plan.now.shape.now.partitions) slots.new }
+    requires read { All (IsReading (S.said plan.now.source.now) plan.now.topics.now plan.now.shape.now.spec.apps (segments_of plan.now.shape.now.partitions)) seat.items }
+    requires slots { AreSlots (S.said plan.now.source.now) plan.now.topics.now plan.now.shape.now.spec.apps 0 (segments_of plan.now.shape.now.partitions) slots.old }
+    ensures { AreSlots (S.said plan.now.source.now) plan.now.topics.now plan.now.shape.now.spec.apps 0 (segments_of plan.now.shape.now.partitions) slots.new }
 {
     for reading in seat {
         let Reading { piece, run } = reading;

@@ -37,7 +37,7 @@ pub(crate) fn read_all<S: Source, R: Threads + Sync>(
     workers: Workers,
 ) -> Result<Vec<Result<KeptRun, S::Fault>>, AllocError>
     requires { IsPermutation (outputs_of plan.now.shape.now.spec.apps) plan.now.wants }
-    ensures { IfOk result (λ slots. AreSlots (S.bytes plan.now.source.now) plan.now.topics.now plan.now.shape.now.spec.apps 0 (segments_of plan.now.shape.now.partitions) slots.items) }
+    ensures { IfOk result (λ slots. AreSlots (S.said plan.now.source.now) plan.now.topics.now plan.now.shape.now.spec.apps 0 (segments_of plan.now.shape.now.partitions) slots.items) }
 {
     let mut slots = unread(alloc, plan.shape.pieces())?;
     for seat in read_by_threads(alloc, rt, plan, workers)? {

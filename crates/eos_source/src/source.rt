@@ -1,28 +1,41 @@
 //! Where the pieces of an evidence are read from.
 
 use eos_evidence::ReadFault;
+use eos_fold_file::FoldFile;
+use eos_fold_run::Unfit;
 use std::alloc::{AllocError, Global};
 use std::io::Read;
+
+/// A piece as it was opened.
+#[derive(Drop)]
+pub enum Piece<R> {
+    /// A log, whose bytes the reader has left.
+    Log(R),
+    /// A fold of it.
+    Fold(FoldFile),
+}
 
 /// What the pieces of an evidence are read from, by their numbers: partitions in order, each with its segments by base. Threads
 /// share it.
 pub trait Source: Sync {
-    ghost use Rattle.std.specs.Prelude.{◌≡◌, ℕ, List, Option, Some, IfOk, IfSome};
+    ghost use Rattle.std.specs.Prelude.{ℕ, Option, IfOk, IfSome};
+    ghost use Rattle.eos_source.specs.Said.{Said, WillSay, IsLegalPiece};
 
-    /// What one piece is read from, whose bytes it has left.
+    /// What a piece is read from that is a log.
     type Reader: Read + Drop + Send;
 
     /// Why a piece, or memory for what is kept of it, isn't there.
     type Fault: From<AllocError> + Drop + Send;
 
-    /// The bytes of a piece, where they are known.
-    ghost bytes: { Self → ℕ → Option (List ℕ) };
+    /// What a piece will say, where it is known.
+    ghost said: { Self → ℕ → Option Said };
 
     /// Opens the piece of this number.
-    fn open(&self, alloc: Global, piece: u64) -> Result<Self::Reader, Self::Fault>
-        ensures { IfOk result (λ reader. IfSome (bytes self.now piece) (λ known. Self.Reader.remaining reader ≡ Some known)) };
+    fn open(&self, alloc: Global, piece: u64) -> Result<Piece<Self::Reader>, Self::Fault>
+        ensures said { IfOk result (λ opened. IfSome (said self.now piece) (WillSay Self.Reader.remaining opened)) }
+        ensures legal { IfOk result IsLegalPiece };
 
-    /// Why reading a piece, which was opened, ended so.
+    /// Why reading a log, which was opened, ended so.
     fn refusal(
         &self,
         alloc: Global,
@@ -30,4 +43,7 @@ pub trait Source: Sync {
         reader: &mut Self::Reader,
         why: ReadFault,
     ) -> Self::Fault;
+
+    /// Why a fold, which was opened, can't be taken for what is asked of its piece.
+    fn unfit(&self, alloc: Global, piece: u64, why: Unfit) -> Self::Fault;
 }

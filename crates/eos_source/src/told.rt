@@ -4,10 +4,11 @@ ghost use Rattle.std.specs.Prelude.{◌≡◌, ℕ, List, IfOk};
 ghost use Rattle.eos_claims.specs.Headers.{claim_of};
 ghost use Rattle.eos_evidence.specs.declared.segment.Segment.{Segment};
 ghost use Rattle.eos_fold.specs.Standing.{AreOf};
-ghost use Rattle.eos_keeping.specs.Outputs.{kept_output};
-ghost use Rattle.eos_keeping.specs.Records.{wanted_record};
-ghost use Rattle.eos_part.specs.Parts.{AreKept, IsTold};
-ghost use Rattle.eos_source.specs.steps.Runs.{AreKeptRun, IsWantedBy};
+ghost use Rattle.eos_keeping.specs.Outputs.{kept_output, claim_kept};
+ghost use Rattle.eos_keeping.specs.Records.{wanted_record, ReadsBack};
+ghost use Rattle.eos_part.specs.Parts.{AreKept, AllKept, IsTold};
+ghost use Rattle.eos_part.specs.Records.{SaysClaim};
+ghost use Rattle.eos_source.specs.steps.Runs.{AreKeptRun, IsWantedBy, HaveClaims};
 ghost use Rattle.eos_wanted.specs.declared.wanted.Wanted.TheVariants as wants;
 
 use bytes::Bytes;
@@ -31,7 +32,8 @@ fn presence_in(run: Option<KeptRun>) -> Option<Kept<()>>
 
 fn claims_in(run: Option<KeptRun>) -> Option<Kept<KeptOutput>>
     requires { IsWantedBy wants.Claims run }
-    ensures { (topics : List (List ℕ)) (segments : List Segment) → AreKeptRun topics segments run → AreKept (λ offset r. kept_output topics (claim_of r.headers)) segments result }
+    ensures kept { (topics : List (List ℕ)) (segments : List Segment) → AreKeptRun topics segments run → AreKept (λ offset r. kept_output topics (claim_of r.headers)) segments result }
+    ensures claims { (topics : List (List ℕ)) → HaveClaims topics run → AllKept (λ one. ReadsBack (claim_kept topics one)) result }
 {
     match run {
         None => None,
@@ -42,7 +44,8 @@ fn claims_in(run: Option<KeptRun>) -> Option<Kept<KeptOutput>>
 
 fn texts_in(run: Option<KeptRun>) -> Option<Kept<KeptText>>
     requires { IsWantedBy wants.Texts run }
-    ensures { (topics : List (List ℕ)) (segments : List Segment) → AreKeptRun topics segments run → AreKept (λ offset r. wanted_record wants.Texts r) segments result }
+    ensures kept { (topics : List (List ℕ)) (segments : List Segment) → AreKeptRun topics segments run → AreKept (λ offset r. wanted_record wants.Texts r) segments result }
+    ensures claims { (topics : List (List ℕ)) → HaveClaims topics run → AllKept SaysClaim result }
 {
     match run {
         None => None,
@@ -70,7 +73,7 @@ pub(crate) fn told_of(
     run: Option<KeptRun>,
 ) -> Result<Told, AllocError>
     requires wanted { IsWantedBy asked.wanted run }
-    requires kept { (segments : List Segment) × AreKeptRun asked.topics.now segments run }
+    requires claims { HaveClaims asked.topics.now run }
     ensures { IfOk result (λ told. (segments : List Segment) → AreKeptRun asked.entry.topics.now segments run → AreOf end.topic end.partition segments → IsTold asked.entry.wanted end segments told) }
 {
     match asked.wanted {

@@ -8,29 +8,32 @@ use Rattle.eos_partitions.specs.Faults.{AreFaultsIn, first_of}
 use Rattle.eos_wanted.specs.Wanted.{wanted_logs}
 use Rattle.eos_wanted_verdict.proofs.KeptAnswers.{judged}
 use Rattle.eos_source.specs.declared.logs.KeptLogs.{KeptLogs}
-use Rattle.eos_source.specs.Logs.{AreKeptLogs}
-use Rattle.eos_source_check.specs.Judged.{IsJudgedOf}
+use Rattle.eos_source.specs.Logs.{AreLogsKept, AreKeptLogs}
+use Rattle.eos_source.specs.Said.{Said}
+use Rattle.eos_source_check.specs.Judged.{IsJudgedFor, IsJudgedOf}
 use Rattle.eos_source_check.specs.declared.judged.Judged.{Judged}
 use Rattle.eos_source_check.specs.steps.Apart.{counted_as, IsApart}
 use Rattle.eos_tallies.specs.Counts.{AreCounted}
 use Rattle.eos_source_check.proofs.KeptTold.{AreKept, kept_told}
 
-pub judged_of : (known : ℕ → Option (List ℕ)) (shape : EvidenceParts) (kept : KeptLogs) (j : Judged) → AreKeptLogs known shape kept → IsApart kept j.logs j.counted.items
-    → IsJudged shape.spec.apps j.logs.parts.items (first_of j.logs.faults.items) j.verdict → IsJudgedOf known shape j
-judged_of known shape kept j k w answer =
-    let e = k.evidence in
+judged_for : (kept : KeptLogs) (j : Judged) (shape e : EvidenceParts) → e.spec ≡ shape.spec → AreLogsKept kept e → IsApart kept j.logs j.counted.items
+    → IsJudged shape.spec.apps j.logs.parts.items (first_of j.logs.faults.items) j.verdict → IsJudgedFor j e
+judged_for kept j shape e spec k w answer =
     let t : AreKept e.spec.apps e.partitions k.told = kept_told e.spec.apps e.partitions k.told k.each in
     let parts : j.logs.parts.items ≡ wanted_logs e.spec.apps t.whole = w.parts ∙ (k.columns.parts ∙ t.parts) in
     let faults : AreFaultsIn e.partitions j.logs.faults.items = subst (AreFaultsIn e.partitions) (sym (w.faults ∙ k.columns.faults)) t.faults in
     let over_apps : IsJudged e.spec.apps j.logs.parts.items (first_of j.logs.faults.items) j.verdict =
-    subst (λ (s : Parts). IsJudged s.apps j.logs.parts.items (first_of j.logs.faults.items) j.verdict) (sym k.of_shape.spec) answer in
+    subst (λ (s : Parts). IsJudged s.apps j.logs.parts.items (first_of j.logs.faults.items) j.verdict) (sym spec) answer in
     let over_kept : IsJudged e.spec.apps (wanted_logs e.spec.apps t.whole) (first_of j.logs.faults.items) j.verdict =
     subst (λ (ls : List PartLog). IsJudged e.spec.apps ls (first_of j.logs.faults.items) j.verdict) parts over_apps in
     record {
-      evidence = e;
-      of_shape = k.of_shape;
       is_evidence = k.is_evidence;
       counted = subst (AreCounted e.partitions) (sym (w.counted_are ∙ ap (map counted_as) k.columns.tallies)) t.counted;
       logs = record { whole = t.whole; of = t.of; parts = parts; faults = faults };
       verdict = (t.whole, t.of, judged e t.whole t.of j.logs.faults.items j.verdict k.is_evidence faults over_kept);
     }
+
+pub judged_of : (known : ℕ → Option Said) (shape : EvidenceParts) (kept : KeptLogs) (j : Judged) → AreKeptLogs known shape kept → IsApart kept j.logs j.counted.items
+    → IsJudged shape.spec.apps j.logs.parts.items (first_of j.logs.faults.items) j.verdict → IsJudgedOf known shape j
+judged_of known shape kept j k w answer =
+    record { said = k.said; as_known = k.as_known; holds = λ e of. judged_for kept j shape e of.spec (k.holds e of) w answer }

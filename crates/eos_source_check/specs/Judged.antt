@@ -1,5 +1,5 @@
--- The verdict that is worked out of kept logs: there is an evidence of this shape, with the bytes that are known of its pieces, of
--- which it is the verdict; these are what is wanted of its logs, and this is what is counted of its segments.
+-- The verdict that is worked out of kept logs: there is what each piece said, and it is the verdict of each evidence of this shape
+-- whose segments are such; these are what is wanted of its logs, and this is what is counted of its segments.
 use Rattle.std.specs.Prelude.{◌≡◌, ℕ, List, Option}
 use Rattle.eos_evidence.specs.Evidence.{EvidenceParts, IsEvidence}
 use Rattle.eos_fold.specs.Parts.{PartLog}
@@ -8,7 +8,8 @@ use Rattle.eos_check.specs.Verdicts.{IsVerdict}
 use Rattle.eos_partitions.specs.Faults.{AreFaultsIn}
 use Rattle.eos_partitions.specs.declared.logs.Logs.{Logs}
 use Rattle.eos_wanted.specs.Wanted.{wanted_logs}
-use Rattle.eos_source.specs.Shapes.{IsOfShape}
+use Rattle.eos_source.specs.Said.{Said}
+use Rattle.eos_source.specs.Shapes.{HoldsAsSaid}
 use Rattle.eos_tallies.specs.Counts.{AreCounted}
 use Rattle.eos_source_check.specs.declared.judged.Judged.{Judged}
 
@@ -19,10 +20,13 @@ pub record AreKeptOf (e : EvidenceParts) (logs : Logs) : Type 0 where
   pub parts : logs.parts.items ≡ wanted_logs e.spec.apps whole
   pub faults : AreFaultsIn e.partitions logs.faults.items
 
-pub record IsJudgedOf (known : ℕ → Option (List ℕ)) (shape : EvidenceParts) (judged : Judged) : Type 0 where
-  pub evidence : EvidenceParts
-  pub of_shape : IsOfShape known shape evidence
+-- this is the verdict of this evidence, with what is wanted of its logs and what is counted of its segments
+pub record IsJudgedFor (judged : Judged) (evidence : EvidenceParts) : Type 0 where
   pub is_evidence : IsEvidence evidence
   pub logs : AreKeptOf evidence judged.logs
   pub counted : AreCounted evidence.partitions judged.counted.items
   pub verdict : IsVerdict evidence judged.verdict
+
+-- so it is with each evidence of this shape whose segments are such as the pieces said
+abbrev pub IsJudgedOf : (ℕ → Option Said) → EvidenceParts → Judged → Type 0
+IsJudgedOf known shape judged = HoldsAsSaid known shape (IsJudgedFor judged)

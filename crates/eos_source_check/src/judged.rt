@@ -22,11 +22,11 @@ pub struct Judged {
 }
 
 /// The verdict of an evidence of this shape, whose pieces are read from the source, each once and by at most so many threads, and
-/// never held whole: in memory is what is wanted of the records. There is an evidence of this shape, with the bytes that are
-/// known of the pieces, of which this is the verdict and these are the kept logs.
+/// never held whole: in memory is what is wanted of the records. There is what each piece said, as far as it is known just that;
+/// and this is the verdict, and these are the kept logs, of each evidence of this shape whose segments are such.
 ///
 /// # Errors
-/// The fault of the first piece, in order, that isn't there; or want of memory.
+/// The fault of the first piece, in order, that isn't there, or is a fold that doesn't fit; or want of memory.
 pub fn judge_source<S: Source, R: Threads + Sync>(
     alloc: Global,
     rt: &R,
@@ -34,7 +34,7 @@ pub fn judge_source<S: Source, R: Threads + Sync>(
     shape: &Evidence,
     workers: Workers,
 ) -> Result<Judged, S::Fault>
-    ensures { IfOk result (IsJudgedOf (S.bytes source.now) shape.now) }
+    ensures { IfOk result (IsJudgedOf (S.said source.now) shape.now) }
 {
     let kept = kept_logs(alloc, rt, source, shape, workers)?;
     let (logs, counted) = apart(alloc, kept)?;

@@ -1,24 +1,18 @@
 -- The batches of a chunk, passed one after the other as far as each begins where the one before ends.
-use Rattle.std.specs.Prelude.{◌≡◌, ◌≢◌, ℕ, ◌+◌, List, [], ◌∷◌, ◌++◌, length, ⊤, if◌then◌else◌}
+use Rattle.std.specs.Prelude.{◌≡◌, ◌≢◌, ℕ, List, [], ◌∷◌, ◌++◌, ⊤}
 use Rattle.eos_batch.specs.declared.batch.Batch.{Batch}
 use Rattle.eos_batch.specs.declared.head.BatchHead.{BatchHead}
-use Rattle.eos_batch.specs.Attributes.{is_control}
 use Rattle.eos_batch.specs.Offsets.{offset_of}
 use Rattle.eos_fold.specs.declared.stop.Stop.{Stop}
 use Rattle.eos_fold.specs.declared.stop.Stop.TheVariants.{AtEnd, Elsewhere}
 use Rattle.eos_kept.specs.declared.front.Front.{Front}
-use Rattle.eos_kept.specs.Passing.{IsRealHead, GoesAlong}
+use Rattle.eos_kept.specs.Passing.{IsRealHead, GoesAlong, data_count}
 
 abbrev pub AreHeads : List Batch → List BatchHead → Type 0
 AreHeads [] [] = ⊤
 AreHeads [] (h ∷ hs) = ⊥
 AreHeads (b ∷ bs) [] = ⊥
 AreHeads (b ∷ bs) (h ∷ hs) = IsRealHead b h × AreHeads bs hs
-
--- the number of data records
-abbrev pub data_count : List Batch → ℕ
-data_count [] = 0
-data_count (b ∷ bs) = (if is_control b.attributes then 0 else length b.records) + data_count bs
 
 -- all were passed, or the next one begins elsewhere
 abbrev pub EndsBefore : List Batch → Stop → ℕ → Type 0

@@ -13,6 +13,7 @@ use Rattle.eos_fold.specs.Standing.{AreOf}
 use Rattle.eos_kept.specs.declared.front.Front.{Front}
 use Rattle.eos_kept.specs.declared.sizes.Sizes.{Sizes}
 use Rattle.eos_kept.specs.Kept.{KeptView, KeepsFront, IsFrontOf}
+use Rattle.eos_kept.specs.Passing.{HoldsEach}
 use Rattle.eos_kept.specs.Sizes.{AreSized}
 use Rattle.eos_wanted.specs.declared.wanted.Wanted.{Wanted}
 use Rattle.eos_keeping.specs.Records.{wanted_record}
@@ -33,6 +34,11 @@ AreWanted w batches kept = records_in kept ≡ map (wanted_record w) (records_of
 abbrev pub AreRead : Wanted → List Segment → Option Front → Records → Type 0
 AreRead w segments None kept = (segments ≡ []) × AreWanted w [] kept
 AreRead w segments (Some front) kept = (batches : List Batch) × IsFrontOf segments batches front × AreWanted w batches kept
+
+-- a value is kept for each data record of the front, or there are none
+abbrev pub AreEach : {K : Type 0} → Option Front → List K → Type 0
+AreEach None kept = kept ≡ []
+AreEach (Some front) kept = HoldsEach front kept
 
 -- the front, begun at 0, of all segments of a partition
 pub record IsWholeFront (segments : List Segment) (batches : List Batch) (f : Front) : Type 0 where

@@ -1,13 +1,14 @@
--- What is kept of pieces, by their numbers.
-use Rattle.std.specs.Prelude.{◌≡◌, ℕ, suc, not, List, [], ◌∷◌, Option, Some, None, Result, IfOk, ⊤}
+-- What is kept of pieces, by their numbers, of which so much is known and which said this.
+use Rattle.std.specs.Prelude.{◌≡◌, ℕ, suc, ◌+◌, ◌≤◌, ◌<◌, not, List, [], ◌∷◌, length, Option, Some, None, Result, IfOk, ⊤}
 use Rattle.eos_evidence.specs.declared.application.App.{App}
 use Rattle.eos_evidence.specs.declared.segment.Segment.{Segment}
 use Rattle.eos_evidence.specs.Topics.{is_internal}
 use Rattle.eos_wanted.specs.declared.wanted.Wanted.{Wanted}
 use Rattle.eos_wanted.specs.Wanted.{wanted_of}
 use Rattle.eos_part.specs.declared.run.KeptRun.{KeptRun}
-use Rattle.eos_part.specs.Runs.{IsKeptRun, wanted_by, front_of}
-use Rattle.eos_source.specs.Shapes.{ArePieces}
+use Rattle.eos_part.specs.Runs.{IsKeptRun, wanted_by, front_of, HasClaims}
+use Rattle.eos_source.specs.Said.{Said, IsAsKnown}
+use Rattle.eos_source.specs.Shapes.{IsPiece, ArePieces}
 
 -- what is asked of the segments of a topic
 pub record Asking : Type 0 where
@@ -19,38 +20,66 @@ pub record Asking : Type 0 where
 abbrev pub asking : List (List ℕ) → List App → List ℕ → Asking
 asking topics apps topic = record { topics = topics; wanted = wanted_of apps topic; topic = topic }
 
--- what was asked of these segments
-pub record IsRunOf (a : Asking) (segments : List Segment) (run : KeptRun) : Type 0 where
-  pub kept : IsKeptRun a.topics segments run
+-- what was asked, whatever segments it is kept of
+pub record IsAsked (a : Asking) (run : KeptRun) : Type 0 where
   pub wanted : wanted_by run ≡ a.wanted
+  pub claims : HasClaims a.topics run
   pub checked : (front_of run).run.sequenced ≡ not (is_internal a.topic)
 
+-- what each of so many pieces from this number on said
+abbrev pub AreFrom : (ℕ → Option Said) → (ℕ → Said) → ℕ → ℕ → Type 0
+AreFrom known said first count = (piece : ℕ) → first ≤ piece → piece < first + count → IsAsKnown (known piece) (said piece)
+
 -- what was asked of the pieces of these names, the first of which has this number
-pub record IsRead (known : ℕ → Option (List ℕ)) (a : Asking) (piece : ℕ) (names : List Segment) (run : KeptRun) : Type 0 where
-  pub segments : List Segment
-  pub pieces : ArePieces known piece names segments
-  pub run_of : IsRunOf a segments run
+pub record IsRead (known : ℕ → Option Said) (said : ℕ → Said) (a : Asking) (piece : ℕ) (names : List Segment) (run : KeptRun) : Type 0 where
+  pub as_known : AreFrom known said piece (length names)
+  pub kept : (segments : List Segment) → ArePieces said piece names segments → IsKeptRun a.topics segments run
+  pub asked : IsAsked a run
 
 -- or there are none
-abbrev pub AreRead : (ℕ → Option (List ℕ)) → Asking → ℕ → List Segment → Option KeptRun → Type 0
-AreRead known a piece names None = names ≡ []
-AreRead known a piece names (Some run) = IsRead known a piece names run
+abbrev pub AreRead : (ℕ → Option Said) → (ℕ → Said) → Asking → ℕ → List Segment → Option KeptRun → Type 0
+AreRead known said a piece names None = names ≡ []
+AreRead known said a piece names (Some run) = IsRead known said a piece names run
 
 -- what is kept of segments, or of none
 abbrev pub AreKeptRun : List (List ℕ) → List Segment → Option KeptRun → Type 0
 AreKeptRun topics segments None = segments ≡ []
 AreKeptRun topics segments (Some run) = IsKeptRun topics segments run
 
+-- what was asked for, or nothing
 abbrev pub IsWantedBy : Wanted → Option KeptRun → Type 0
 IsWantedBy w None = ⊤
 IsWantedBy w (Some run) = wanted_by run ≡ w
 
--- what became of the piece of this number and name: what was asked of it, or a refusal
-abbrev pub IsSlot : {F : Type 0} → (ℕ → Option (List ℕ)) → List (List ℕ) → List App → ℕ → Segment → Result KeptRun F → Type 0
-IsSlot known topics apps piece name slot = IfOk slot (λ run. IsRead known (asking topics apps name.topic) piece (name ∷ []) run)
+abbrev pub HaveClaims : List (List ℕ) → Option KeptRun → Type 0
+HaveClaims topics None = ⊤
+HaveClaims topics (Some run) = HasClaims topics run
+
+-- ---- slots
+
+-- what was asked of the piece of this name, which said this
+pub record IsTaken (known : Option Said) (said : Said) (a : Asking) (name : Segment) (run : KeptRun) : Type 0 where
+  pub as_known : IsAsKnown known said
+  pub kept : (segment : Segment) → IsPiece said name segment → IsKeptRun a.topics (segment ∷ []) run
+  pub asked : IsAsked a run
+
+-- what became of the piece of this name, if it said this: what was asked of it, or a refusal
+abbrev pub IsSlotOf : {F : Type 0} → Option Said → Said → List (List ℕ) → List App → Segment → Result KeptRun F → Type 0
+IsSlotOf known said topics apps name slot = IfOk slot (IsTaken known said (asking topics apps name.topic) name)
+
+-- what became of the piece of this number and name
+abbrev pub IsSlot : {F : Type 0} → (ℕ → Option Said) → List (List ℕ) → List App → ℕ → Segment → Result KeptRun F → Type 0
+IsSlot known topics apps piece name slot = IfOk slot (λ run. (said : Said) × IsTaken (known piece) said (asking topics apps name.topic) name run)
 
 -- what became of the pieces of these names, the first of which has this number; others follow
-abbrev pub AreSlots : {F : Type 0} → (ℕ → Option (List ℕ)) → List (List ℕ) → List App → ℕ → List Segment → List (Result KeptRun F) → Type 0
+abbrev pub AreSlots : {F : Type 0} → (ℕ → Option Said) → List (List ℕ) → List App → ℕ → List Segment → List (Result KeptRun F) → Type 0
 AreSlots known topics apps piece [] slots = ⊤
 AreSlots known topics apps piece (name ∷ names) [] = ⊥
 AreSlots known topics apps piece (name ∷ names) (slot ∷ slots) = IsSlot known topics apps piece name slot × AreSlots known topics apps (suc piece) names slots
+
+-- the same, if the pieces said this
+abbrev pub AreSlotsOf : {F : Type 0} → (ℕ → Option Said) → (ℕ → Said) → List (List ℕ) → List App → ℕ → List Segment → List (Result KeptRun F) → Type 0
+AreSlotsOf known said topics apps piece [] slots = ⊤
+AreSlotsOf known said topics apps piece (name ∷ names) [] = ⊥
+AreSlotsOf known said topics apps piece (name ∷ names) (slot ∷ slots) =
+    IsSlotOf (known piece) (said piece) topics apps name slot × AreSlotsOf known said topics apps (suc piece) names slots

@@ -3,8 +3,9 @@ use Rattle.std.specs.Prelude.{◌≡◌, ℕ, List, Option, Some, slice_get}
 use Rattle.eos_evidence.specs.declared.application.App.{App}
 use Rattle.eos_evidence.specs.declared.segment.Segment.{Segment}
 use Rattle.eos_source.specs.declared.seats.Reading.{Reading}
+use Rattle.eos_source.specs.Said.{Said}
 use Rattle.eos_source.specs.steps.Runs.{IsSlot}
 
 -- what became of a piece of these names
-abbrev pub IsReading : {F : Type 0} → (ℕ → Option (List ℕ)) → List (List ℕ) → List App → List Segment → Reading F → Type 0
+abbrev pub IsReading : {F : Type 0} → (ℕ → Option Said) → List (List ℕ) → List App → List Segment → Reading F → Type 0
 IsReading known topics apps names reading = (name : Segment) → slice_get names reading.piece ≡ Some name → IsSlot known topics apps reading.piece name reading.run

@@ -22,3 +22,10 @@ returns-clause-ok g c =
           let y = subst (λ (s : Bool). IsFolding keep (base_of segment) s e.0 h.0 c.in_ok-fold.fold) b x in
           c.finish.ensures keep segment h.0 h.1 (subst (λ (xs : List ℕ). IsFolding keep (base_of segment) (is_checked segment) xs h.0 c.in_ok-fold.fold) (sym bytes) y),
     )
+
+pub finish-requires-clause-folded : goal.finish-requires-clause-folded
+finish-requires-clause-folded g c =
+    let e = c.in_ok-fold.ensures.ok in
+    let keep = g.K.Reading.kept c.args.reading in
+    let h = e.3 (c.new-fold.ensures keep) in
+    (keep, c.unsigned_abs-begin.result, c.is_checked-sequenced.result, e.0, h.0, h.2)

@@ -7,32 +7,22 @@ use Rattle.eos_part.specs.steps.Closes.{closes_under}
 use Rattle.eos_part.specs.steps.Fronts.{IsChecked}
 use Rattle.eos_items.specs.declared.item.Item.{Item}
 use Rattle.eos_part.specs.Parts.{IsWantedPart}
-use Rattle.eos_part.proofs.PartsMade.{items_rise_so, heads_fit_so, said_so, whole_so, part_made, batches_told}
+use Rattle.eos_part.proofs.HeldRecords.{items_rise_so, heads_fit_so, whole_so}
+use Rattle.eos_part.proofs.PartsMade.{part_made, batches_told}
 use Rattle.eos_part.proofs.part.made.Goals as goal
 
 pub new-requires-clause-fits : goal.new-requires-clause-fits
-new-requires-clause-fits c =
-    let known = c.requires.known in
-    let m = c.of_all-front.ensures.whole known.0 known.1 known.2 in
-    heads_fit_so known.0 known.1 c.of_all-front.result c.of_all-front.new.kept m c.into_heads-heads.result.items c.into_heads-heads.ensures
+new-requires-clause-fits c = heads_fit_so c.of_all-front.result _ (c.of_all-front.ensures.each c.requires.each) c.into_heads-heads.result.items c.into_heads-heads.ensures
 
 pub new-requires-clause-said : goal.new-requires-clause-said
-new-requires-clause-said c =
-    let known = c.requires.known in
-    let m = c.of_all-front.ensures.whole known.0 known.1 known.2 in
-    said_so known.0 known.1 c.of_all-front.result c.of_all-front.new.kept m c.into_heads-heads.result.items c.into_heads-heads.ensures
+new-requires-clause-said c = c.of_all-front.ensures.said c.requires.said
 
 pub new-requires-clause-whole : goal.new-requires-clause-whole
-new-requires-clause-whole c =
-    let known = c.requires.known in
-    let m = c.of_all-front.ensures.whole known.0 known.1 known.2 in
-    whole_so known.0 known.1 c.of_all-front.result c.of_all-front.new.kept m c.into_heads-heads.result.items c.into_heads-heads.ensures
+new-requires-clause-whole c = whole_so c.of_all-front.result _ (c.of_all-front.ensures.each c.requires.each) c.into_heads-heads.result.items c.into_heads-heads.ensures
 
 pub invariant_of-part : goal.invariant_of-part
 invariant_of-part c =
-    let known = c.requires.known in
-    let m = c.of_all-front.ensures.whole known.0 known.1 known.2 in
-    let rise = items_rise_so known.0 known.1 c.of_all-front.result c.of_all-front.new.kept m c.into_heads-heads.result.items c.into_heads-heads.ensures in
+    let rise = items_rise_so c.of_all-front.result _ (c.of_all-front.ensures.each c.requires.each) c.into_heads-heads.result.items c.into_heads-heads.ensures in
     (subst Rises (sym c.new.ensures) rise, c.in_ok-closes.ensures.ascend)
 
 pub returns : goal.returns

@@ -5,6 +5,6 @@ use Rattle.eos_source.proofs.PiecesJoined.{joined}
 use Rattle.eos_source.proofs.joined.longer.Goals as goal
 
 pub returns-in-Ok : goal.returns-in-Ok
-returns-in-Ok c = λ known a piece names more r n.
-    let before = subst (λ (x : Option KeptRun). AreRead known a piece names x) c.in-Some.is r in
-    joined known a piece names more _ _ _ c.in-Ok.ensures.ok c.in-Ok.ensures.wanted c.in-Ok.ensures.sequenced before n
+returns-in-Ok c = λ known said a piece names more r n.
+    let before = subst (λ (x : Option KeptRun). AreRead known said a piece names x) c.in-Some.is r in
+    joined known said a piece names more _ _ _ c.in-Ok.ensures.ok c.in-Ok.ensures.wanted c.in-Ok.ensures.sequenced c.in-Ok.ensures.claims before n

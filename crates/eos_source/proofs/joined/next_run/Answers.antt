@@ -11,25 +11,25 @@ loop-init g c = none_passed _ _
 pub unreachable-requires : goal.unreachable-requires
 unreachable-requires g c =
     let r = c.requires in
-    let so = c.loop.invariant r.0 r.1 r.2 r.3 r.4 r.5 r.6 r.7 in
-    let some = some_left r.0 r.1 r.2 (r.4 + c.loop.counter) c.args.names.now r.5 c.loop.counter (into_iter_items c.loop.slots) c.loop-test.true so.1 in
+    let so = c.loop.invariant r.0 r.1 r.2 r.3 r.4 r.5 r.6 r.7 r.8 in
+    let some = some_left r.0 r.1 r.2 r.3 (r.5 + c.loop.counter) c.args.names.now r.6 c.loop.counter (into_iter_items c.loop.slots) c.loop-test.true so.1 in
     search (arith, rules, some)
 
 pub longer-requires : goal.longer-requires
 longer-requires g c =
     let r = c.requires in
-    let so = c.loop.invariant r.0 r.1 r.2 r.3 r.4 r.5 r.6 r.7 in
+    let so = c.loop.invariant r.0 r.1 r.2 r.3 r.4 r.5 r.6 r.7 r.8 in
     let head = c.in-Some.ensures.cases.0 ∙ ap (λ s. s ∷ into_iter_items c.next.new.self) c.in_ok-slot.was in
-    let n = next r.0 r.1 r.2 r.3 r.4 c.args.names.now r.5 c.loop.counter c.in_ok-slot.field-0 (into_iter_items c.loop.slots) (into_iter_items c.next.new.self) c.loop-test.true r.6 so.1 head in
-    (r.0, asking r.1 r.2 r.3, r.4, take c.loop.counter c.args.names.now, n.name ∷ [], so.0, n.read)
+    let n = next r.0 r.1 r.2 r.3 r.4 r.5 c.args.names.now r.6 c.loop.counter c.in_ok-slot.field-0 (into_iter_items c.loop.slots) (into_iter_items c.next.new.self) c.loop-test.true r.7 so.1 head in
+    (r.0, r.1, asking r.2 r.3 r.4, r.5, take c.loop.counter c.args.names.now, n.name ∷ [], so.0, n.read)
 
 pub loop-preserved : goal.loop-preserved
-loop-preserved g c = λ known topics apps topic piece later all at.
-    let so = c.loop.invariant known topics apps topic piece later all at in
+loop-preserved g c = λ known said topics apps topic piece later all at.
+    let so = c.loop.invariant known said topics apps topic piece later all at in
     let head = c.in-Some.ensures.cases.0 ∙ ap (λ s. s ∷ into_iter_items c.next.new.self) c.in_ok-slot.was in
-    let n = next known topics apps topic piece c.args.names.now later c.loop.counter c.in_ok-slot.field-0 (into_iter_items c.loop.slots) (into_iter_items c.next.new.self) c.loop-test.true all so.1 head in
-    let longer = c.in_ok-longer.ensures known (asking topics apps topic) piece (take c.loop.counter c.args.names.now) (n.name ∷ []) so.0 n.read in
-    (subst (λ (xs : List Segment). IsRead known (asking topics apps topic) piece xs c.in_ok-longer.field-0) (sym n.taken) longer, n.slots)
+    let n = next known said topics apps topic piece c.args.names.now later c.loop.counter c.in_ok-slot.field-0 (into_iter_items c.loop.slots) (into_iter_items c.next.new.self) c.loop-test.true all so.1 head in
+    let longer = c.in_ok-longer.ensures known said (asking topics apps topic) piece (take c.loop.counter c.args.names.now) (n.name ∷ []) so.0 n.read in
+    (subst (λ (xs : List Segment). IsRead known said (asking topics apps topic) piece xs c.in_ok-longer.field-0) (sym n.taken) longer, n.slots)
 
 pub returns : goal.returns
 returns g c =

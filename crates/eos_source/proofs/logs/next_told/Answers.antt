@@ -7,54 +7,54 @@ use Rattle.eos_fold.specs.Standing.{AreOf}
 use Rattle.eos_part.specs.Parts.{IsTold}
 use Rattle.eos_wanted.specs.declared.wanted.Wanted.{Wanted}
 use Rattle.eos_wanted.specs.Wanted.{wanted_of}
-use Rattle.eos_source.specs.steps.Runs.{asking, AreRead, AreKeptRun, IsWantedBy, AreSlots}
+use Rattle.eos_source.specs.steps.Runs.{asking, AreRead, AreKeptRun, IsWantedBy, HaveClaims, AreSlotsOf}
 use Rattle.eos_source.proofs.ShapesFilled.{of_topic}
-use Rattle.eos_source.proofs.PartitionsTold.{were_read, as_wanted, told_of, same_end}
+use Rattle.eos_source.proofs.PartitionsTold.{as_wanted, have_claims, told_of, same_end}
 use Rattle.eos_source.proofs.logs.next_told.Goals as goal
 
 pub next_run-requires : goal.next_run-requires
 next_run-requires g c =
-    let known = g.S.Source.bytes c.args.plan.now.source.now in
+    let known = g.S.Source.said c.args.plan.now.source.now in
     let topics = c.args.plan.now.topics.now in
     let apps = c.args.plan.now.shape.now.spec.apps in
     let topic = c.args.shape.now.end.topic in
     let r = c.requires.slots in
     let same = sym c.as_slice.ensures in
     let all = subst (λ (xs : List Segment). All (λ s. s.topic ≡ topic) xs) same (of_topic c.args.shape.now c.requires.partition) in
-    let at = subst (λ (xs : List Segment). AreSlots known topics apps r.0 (xs ++ r.1) (into_iter_items c.args.slots.now)) same r.2 in
-    (known, topics, apps, topic, r.0, r.1, all, at)
+    let at = subst (λ (xs : List Segment). AreSlotsOf known r.0 topics apps r.1 (xs ++ r.2) (into_iter_items c.args.slots.now)) same r.3 in
+    (known, r.0, topics, apps, topic, r.1, r.2, all, at)
 
 pub told_of-requires-clause-wanted : goal.told_of-requires-clause-wanted
 told_of-requires-clause-wanted g c =
-    let known = g.S.Source.bytes c.args.plan.now.source.now in
+    let known = g.S.Source.said c.args.plan.now.source.now in
     let topics = c.args.plan.now.topics.now in
     let apps = c.args.plan.now.shape.now.spec.apps in
     let topic = c.args.shape.now.end.topic in
     let r = c.requires.slots in
     let same = sym c.as_slice.ensures in
     let all = subst (λ (xs : List Segment). All (λ s. s.topic ≡ topic) xs) same (of_topic c.args.shape.now c.requires.partition) in
-    let at = subst (λ (xs : List Segment). AreSlots known topics apps r.0 (xs ++ r.1) (into_iter_items c.args.slots.now)) same r.2 in
-    let run = c.in_ok-run.ensures known topics apps topic r.0 r.1 all at in
+    let at = subst (λ (xs : List Segment). AreSlotsOf known r.0 topics apps r.1 (xs ++ r.2) (into_iter_items c.args.slots.now)) same r.3 in
+    let run = c.in_ok-run.ensures known r.0 topics apps topic r.1 r.2 all at in
     let wanted : c.asked_of-asked.result.wanted ≡ wanted_of apps topic = c.asked_of-asked.ensures.wanted ∙ ap (wanted_of apps) c.as_slice-2.ensures in
-    subst (λ (w : Wanted). IsWantedBy w c.in_ok-run.run') (sym wanted) (as_wanted known topics apps topic r.0 c.as_slice.result.now c.in_ok-run.run' run.0)
+    subst (λ (w : Wanted). IsWantedBy w c.in_ok-run.run') (sym wanted) (as_wanted known r.0 topics apps topic r.1 c.as_slice.result.now c.in_ok-run.run' run.0)
 
-pub told_of-requires-clause-kept : goal.told_of-requires-clause-kept
-told_of-requires-clause-kept g c =
-    let known = g.S.Source.bytes c.args.plan.now.source.now in
+pub told_of-requires-clause-claims : goal.told_of-requires-clause-claims
+told_of-requires-clause-claims g c =
+    let known = g.S.Source.said c.args.plan.now.source.now in
     let topics = c.args.plan.now.topics.now in
     let apps = c.args.plan.now.shape.now.spec.apps in
     let topic = c.args.shape.now.end.topic in
     let r = c.requires.slots in
     let same = sym c.as_slice.ensures in
     let all = subst (λ (xs : List Segment). All (λ s. s.topic ≡ topic) xs) same (of_topic c.args.shape.now c.requires.partition) in
-    let at = subst (λ (xs : List Segment). AreSlots known topics apps r.0 (xs ++ r.1) (into_iter_items c.args.slots.now)) same r.2 in
-    let run = c.in_ok-run.ensures known topics apps topic r.0 r.1 all at in
-    let read = were_read known topics apps topic r.0 c.as_slice.result.now c.in_ok-run.run' run.0 in
-    (read.segments, subst (λ (names : List (List ℕ)). AreKeptRun names read.segments c.in_ok-run.run') (sym c.asked_of-asked.ensures.topics) read.kept)
+    let at = subst (λ (xs : List Segment). AreSlotsOf known r.0 topics apps r.1 (xs ++ r.2) (into_iter_items c.args.slots.now)) same r.3 in
+    let run = c.in_ok-run.ensures known r.0 topics apps topic r.1 r.2 all at in
+    let claims = have_claims known r.0 topics apps topic r.1 c.as_slice.result.now c.in_ok-run.run' run.0 in
+    subst (λ (names : List (List ℕ)). HaveClaims names c.in_ok-run.run') (sym c.asked_of-asked.ensures.topics) claims
 
 pub returns : goal.returns
-returns g c = λ piece later given.
-    let known = g.S.Source.bytes c.args.plan.now.source.now in
+returns g c = λ said piece later given.
+    let known = g.S.Source.said c.args.plan.now.source.now in
     let topics = c.args.plan.now.topics.now in
     let shape = c.args.shape.now in
     let apps = c.args.plan.now.shape.now.spec.apps in
@@ -63,10 +63,10 @@ returns g c = λ piece later given.
     let told = c.in_ok-told_of.field-0 in
     let same = sym c.as_slice.ensures in
     let all = subst (λ (xs : List Segment). All (λ s. s.topic ≡ topic) xs) same (of_topic shape c.requires.partition) in
-    let at = subst (λ (xs : List Segment). AreSlots known topics apps piece (xs ++ later) (into_iter_items c.args.slots.now)) same given in
-    let both = c.in_ok-run.ensures known topics apps topic piece later all at in
-    let read = subst (λ (xs : List Segment). AreRead known (asking topics apps topic) piece xs run) c.as_slice.ensures both.0 in
-    let next = subst (λ (xs : List Segment). AreSlots known topics apps (piece + length xs) later (into_iter_items c.next_run.new.slots)) c.as_slice.ensures both.1 in
+    let at = subst (λ (xs : List Segment). AreSlotsOf known said topics apps piece (xs ++ later) (into_iter_items c.args.slots.now)) same given in
+    let both = c.in_ok-run.ensures known said topics apps topic piece later all at in
+    let read = subst (λ (xs : List Segment). AreRead known said (asking topics apps topic) piece xs run) c.as_slice.ensures both.0 in
+    let next = subst (λ (xs : List Segment). AreSlotsOf known said topics apps (piece + length xs) later (into_iter_items c.next_run.new.slots)) c.as_slice.ensures both.1 in
     let wanted : c.asked_of-asked.result.wanted ≡ wanted_of apps topic = c.asked_of-asked.ensures.wanted ∙ ap (wanted_of apps) c.as_slice-2.ensures in
     let cloned : c.in_ok-clone.field-0 ≡ shape.end = same_end c.in_ok-clone.field-0 shape.end c.in_ok-clone.ensures.cases.0 c.in_ok-clone.ensures.cases.1.0 c.in_ok-clone.ensures.cases.1.1 in
     let is : (segments : List Segment) → AreKeptRun topics segments run → AreOf shape.end.topic shape.end.partition segments → IsTold (wanted_of apps topic) shape.end segments told = λ segments kept of.
@@ -75,4 +75,4 @@ returns g c = λ piece later given.
     (c.in_ok-told_of.ensures segments
     (subst (λ (names : List (List ℕ)). AreKeptRun names segments run) (sym c.asked_of-asked.ensures.topics) kept)
     (subst (λ (e : End). AreOf e.topic e.partition segments) (sym cloned) of))) in
-    (told_of known topics apps piece shape run told c.requires.partition read is, next)
+    (told_of known said topics apps piece shape run told c.requires.partition read is, next)

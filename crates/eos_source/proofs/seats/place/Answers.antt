@@ -8,7 +8,7 @@ use Rattle.eos_source.proofs.seats.place.Goals as goal
 
 pub loop-reading-preserved : goal.loop-reading-preserved
 loop-reading-preserved g c =
-    let known = g.S.Source.bytes c.args.plan.now.source.now in
+    let known = g.S.Source.said c.args.plan.now.source.now in
     let topics = c.args.plan.now.topics.now in
     let apps = c.args.plan.now.shape.now.spec.apps in
     let names = segments_of c.args.plan.now.shape.now.partitions in

@@ -3,25 +3,17 @@ use Rattle.eos_batch.specs.declared.record.Record.{Record}
 use Rattle.eos_claims.specs.Headers.{claim_of}
 use Rattle.eos_keeping.specs.Outputs.{kept_output}
 use Rattle.eos_keeping.specs.Records.{wanted_record}
-use Rattle.eos_source.specs.steps.Runs.{AreKeptRun}
+use Rattle.eos_source.specs.steps.Runs.{AreKeptRun, HaveClaims}
 use Rattle.eos_wanted.specs.declared.wanted.Wanted.TheVariants as wants
 use Rattle.eos_source.proofs.PartitionsTold.{made_told}
 use Rattle.eos_source.proofs.told.told_of.Goals as goal
 
-pub of_presence-requires : goal.of_presence-requires
-of_presence-requires c =
-    let kept = c.requires.kept in
-    (kept.0, c.presence_in.ensures c.args.asked.topics.now kept.0 kept.1)
-
 pub of_outputs-requires : goal.of_outputs-requires
 of_outputs-requires c =
-    let kept = c.requires.kept in
-    (kept.0, c.claims_in.ensures c.in_ok-topics-in-Claims.topics.items kept.0 (subst (λ (topics : List (List ℕ)). AreKeptRun topics kept.0 c.args.run) (sym c.in_ok-topics-in-Claims.ensures) kept.1))
+    c.claims_in.ensures.claims c.in_ok-topics-in-Claims.topics.items (subst (λ (topics : List (List ℕ)). HaveClaims topics c.args.run) (sym c.in_ok-topics-in-Claims.ensures) c.requires.claims)
 
 pub of_texts-requires : goal.of_texts-requires
-of_texts-requires c =
-    let kept = c.requires.kept in
-    (kept.0, c.texts_in.ensures c.args.asked.topics.now kept.0 kept.1)
+of_texts-requires c = c.texts_in.ensures.claims c.args.asked.topics.now c.requires.claims
 
 pub returns-in-Presence : goal.returns-in-Presence
 returns-in-Presence c =
@@ -32,9 +24,9 @@ pub returns-in_ok-topics-in-Claims : goal.returns-in_ok-topics-in-Claims
 returns-in_ok-topics-in-Claims c =
     let topics = c.in_ok-topics-in-Claims.topics.items in
     made_told wants.Claims c.args.asked.wanted (λ (n : ℕ) (r : Record). kept_output topics (claim_of r.headers)) c.args.end c.args.asked.topics.now c.args.run c.claims_in.result c.of_outputs.result c.in-Claims.is
-    (λ segments kept. c.claims_in.ensures topics segments (subst (λ (names : List (List ℕ)). AreKeptRun names segments c.args.run) (sym c.in_ok-topics-in-Claims.ensures) kept)) c.of_outputs.ensures
+    (λ segments kept. c.claims_in.ensures.kept topics segments (subst (λ (names : List (List ℕ)). AreKeptRun names segments c.args.run) (sym c.in_ok-topics-in-Claims.ensures) kept)) c.of_outputs.ensures
 
 pub returns-in-Texts : goal.returns-in-Texts
 returns-in-Texts c =
     made_told wants.Texts c.args.asked.wanted (λ (n : ℕ) (r : Record). wanted_record wants.Texts r) c.args.end c.args.asked.topics.now c.args.run c.texts_in.result c.of_texts.result c.in-Texts.is
-    (λ segments kept. c.texts_in.ensures c.args.asked.topics.now segments kept) c.of_texts.ensures
+    (λ segments kept. c.texts_in.ensures.kept c.args.asked.topics.now segments kept) c.of_texts.ensures

@@ -1,12 +1,13 @@
 use Rattle.std.proofs.Common.{refl}
 use Rattle.std.proofs.lemmas.Result.{IfOk-weaker}
 use Rattle.eos_wanted.specs.declared.wanted.Wanted.TheVariants.{Texts}
+use Rattle.eos_part.proofs.HeldRecords.{texts_say}
 use Rattle.eos_part.proofs.PartsMade.{sized_of, texts_read}
 use Rattle.eos_keeping.specs.Records.{wanted_record}
 use Rattle.eos_part.proofs.part.Part.of_texts.Goals as goal
 
-pub made-requires-clause-known : goal.made-requires-clause-known
-made-requires-clause-known c = (Texts, c.requires.0, texts_read c.requires.0 c.args.run _ _ _ _ c.apart-front.ensures refl c.requires.1)
+pub made-requires-clause-said : goal.made-requires-clause-said
+made-requires-clause-said c = texts_say c.args.run _ _ _ c.apart-front.ensures.parts c.requires
 
 pub returns : goal.returns
-returns c = IfOk-weaker c.made.result _ _ (λ made so. λ segments kept of. so Texts segments (texts_read segments c.args.run _ _ _ _ c.apart-front.ensures refl kept) (sized_of (λ n r. wanted_record Texts r) segments c.args.run _ _ _ c.apart-front.ensures kept) of) c.made.ensures
+returns c = IfOk-weaker c.made.result _ _ (λ made so. λ segments kept of. so Texts segments (texts_read segments c.args.run _ _ _ _ c.apart-front.ensures.parts refl kept) (sized_of (λ n r. wanted_record Texts r) segments c.args.run _ _ _ c.apart-front.ensures.parts kept) of) c.made.ensures

@@ -1,6 +1,6 @@
 use Rattle.std.proofs.Common.{◌≡◌, ◌+◌, ◌∷◌, [], ◌++◌, refl, rules}
 use Rattle.eos_kept.proofs.PassedHeads.{front_more}
-use Rattle.eos_kept.proofs.pass.Front.pass.Goals as goal
+use Rattle.eos_kept.proofs.front.Front.pass.Goals as goal
 
 pub returns-in_err-push_marker-clause-run : goal.returns-in_err-push_marker-clause-run
 returns-in_err-push_marker-clause-run c =

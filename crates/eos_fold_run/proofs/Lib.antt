@@ -1,0 +1,5 @@
+pub mod HeadsPassed
+pub mod ClaimLimits
+pub mod EachSoFar
+pub mod FoldSaid
+pub mod RunsTaken

@@ -1,0 +1,7 @@
+use Rattle.std.proofs.Common.{All, take}
+use Rattle.eos_keeping.specs.Outputs.{claim_kept}
+use Rattle.eos_keeping.specs.Records.{ReadsBack}
+use Rattle.eos_fold_run.proofs.claims.are_outputs_said.Given as goal
+
+abbrev pub invariant-loop-output : goal.invariant-loop-output
+invariant-loop-output l = All (λ one. ReadsBack (claim_kept l.topics one)) (take l.output-index l.outputs)

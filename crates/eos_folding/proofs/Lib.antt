@@ -1,0 +1,4 @@
+pub mod HeadCounts
+pub mod PlacedClaims
+pub mod PassedHeads
+pub mod FrontSteps

@@ -1,0 +1,8 @@
+use Rattle.std.proofs.Common.{refl}
+use Rattle.eos_folding.proofs.FrontSteps.{fold_right}
+use Rattle.eos_folding.proofs.fold.fold_of.Goals as goal
+
+pub returns-clause-right : goal.returns-clause-right
+returns-clause-right g c =
+    let e = c.in_ok-front.ensures.ok in
+    fold_right _ c.unsigned_abs-begin.result e.0 c.in_ok-front.front c.unsigned_abs-begin.ensures.value c.unsigned_abs-begin.ensures.bound refl refl e.3

@@ -1,0 +1,14 @@
+use Rattle.std.proofs.Common.{arith}
+use Rattle.eos_folding.proofs.FrontSteps.{heads_fit}
+use Rattle.eos_folding.proofs.front.read_front.Goals as goal
+
+pub front_of-requires-clause-fit : goal.front_of-requires-clause-fit
+front_of-requires-clause-fit g c =
+    let e = c.in_ok-folded.ensures.ok in
+    heads_fit e.0 e.3.batches c.in_ok-folded.folded.heads e.3.rest e.3.heads_are
+
+pub returns-clause-ok : goal.returns-clause-ok
+returns-clause-ok g c =
+    let e = c.in_ok-folded.ensures.ok in
+    let keep = g.K.Reading.kept c.args.reading.now in
+    (e.0, e.1, e.2, c.in_ok-both.ensures keep e.0 (omega (arith, e.2)) e.3)

@@ -1,0 +1,3 @@
+-- What only private functions promise: steps towards what the public call says.
+pub mod Passing
+pub mod Fronts

@@ -1,0 +1,16 @@
+use Rattle.std.proofs.Common.{subst}
+use Rattle.eos_keeping.specs.declared.output.KeptOutput.{KeptOutput}
+use Rattle.eos_keeping.specs.Outputs.{claim_kept}
+use Rattle.eos_keeping.specs.Records.{ReadsBack}
+use Rattle.eos_part.specs.Records.{SaysClaim}
+use Rattle.eos_part.specs.Runs.{HasClaims}
+use Rattle.eos_part.proofs.HeldRecords.{joined_all}
+use Rattle.eos_part.proofs.run.KeptRun.join.Goals as goal
+
+pub returns-in-Ok-join-clause-claims : goal.returns-in-Ok-join-clause-claims
+returns-in-Ok-join-clause-claims c = λ topics h k.
+    joined_all (λ (one : KeptOutput). ReadsBack (claim_kept topics one)) c.in-Claims-Claims.before.kept c.in-Claims-Claims.after.kept _ c.in-Ok-join.ensures.kept (subst (HasClaims topics) c.in-Claims-Claims.is-0 h) (subst (HasClaims topics) c.in-Claims-Claims.is-1 k)
+
+pub returns-in-Ok-join-2-clause-claims : goal.returns-in-Ok-join-2-clause-claims
+returns-in-Ok-join-2-clause-claims c = λ topics h k.
+    joined_all SaysClaim c.in-Texts-Texts.before.kept c.in-Texts-Texts.after.kept _ c.in-Ok-join-2.ensures.kept (subst (HasClaims topics) c.in-Texts-Texts.is-0 h) (subst (HasClaims topics) c.in-Texts-Texts.is-1 k)
