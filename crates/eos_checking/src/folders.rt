@@ -119,11 +119,16 @@ fn answer_shape<'x>(
     shape: Shape,
     asked: &Asked<'x, Progress<'_>>,
 ) -> Result<SourceAnswer, FolderFault> {
-    let Shape { evidence, listed } = shape;
+    let Shape {
+        evidence,
+        forms,
+        listed,
+    } = shape;
     let source = FolderSource {
         rt,
         folder,
         shape: &evidence,
+        forms: forms.as_slice(),
         watch: asked.gate,
     };
     let pieces = Pieces {

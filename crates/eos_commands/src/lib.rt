@@ -1,13 +1,15 @@
-//! The commands that need no verdict: the listing of a segment and the check of its producers, the page of a kind of fault, and
-//! the manifest of a folder of copied logs.
+//! The commands that need no verdict: the listing of a segment and the check of its producers, the page of a kind of fault, the
+//! manifest of a folder of copied logs, and the folds of segments.
 #![tactic(auto)]
 
 mod decoding;
 mod explain;
+mod fold;
 mod init;
 mod segment;
 
 pub use decoding::options_of;
 pub use explain::{explain_code, page_to};
+pub use fold::fold_partitions;
 pub use init::init_folder;
 pub use segment::answer_segment;

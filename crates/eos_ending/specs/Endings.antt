@@ -6,7 +6,7 @@ use Rattle.eos_folder.specs.Causes.{cause_text, is_unknown}
 use Rattle.eos_segment.specs.declared.fault.RunFault.{RunFault}
 use Rattle.eos_segment.specs.declared.fault.RunFault.TheVariants as faults
 use Rattle.eos_ending.specs.declared.ending.Ending.{Ending}
-use Rattle.eos_ending.specs.declared.ending.Ending.TheVariants.{Answered, Helped, BadWords, NotText, CannotRead, CannotWrite, Manifest, NoSuchCode, Unfit, NotAtRest, Limit, OutOfMemory}
+use Rattle.eos_ending.specs.declared.ending.Ending.TheVariants.{Answered, Helped, BadWords, NotText, CannotRead, CannotWrite, Manifest, Refused, NoSuchCode, Unfit, NotAtRest, Limit, OutOfMemory}
 
 -- the exit status
 abbrev pub status_of : Ending → ℕ
@@ -17,6 +17,7 @@ status_of NotText = 2
 status_of (CannotRead path cause) = 2
 status_of (CannotWrite path) = 2
 status_of (Manifest fault cause) = 2
+status_of (Refused path name cause) = 2
 status_of (NoSuchCode code) = 2
 status_of (Unfit what why) = 2
 status_of NotAtRest = 2
@@ -32,6 +33,7 @@ message_of NotText = codes "error: a word of the command line is not UTF-8 text\
 message_of (CannotRead path cause) = codes "eoscheck: cannot read " ++ (path.now ++ codes "\n")
 message_of (CannotWrite path) = codes "eoscheck: cannot write " ++ (path.now ++ codes "\n")
 message_of (Manifest fault cause) = codes "eoscheck: evidence.json: " ++ (spec_fault_name fault ++ codes "\n")
+message_of (Refused path name cause) = codes "eoscheck: " ++ (path.now ++ (codes ": " ++ (name.now ++ codes "\n")))
 message_of (NoSuchCode code) = codes "eoscheck: no fault has the code " ++ (code.now ++ codes "\n")
 message_of (Unfit what why) = codes "eoscheck: " ++ (what.now ++ (codes ": " ++ (why.now ++ codes "\n")))
 message_of NotAtRest = codes "eoscheck: the cluster is not at rest\n"
@@ -47,6 +49,7 @@ is_silent NotText = false
 is_silent (CannotRead path cause) = false
 is_silent (CannotWrite path) = false
 is_silent (Manifest fault cause) = false
+is_silent (Refused path name cause) = false
 is_silent (NoSuchCode code) = false
 is_silent (Unfit what why) = false
 is_silent NotAtRest = false
@@ -62,6 +65,7 @@ cause_of NotText = None
 cause_of (CannotRead path cause) = Some cause.now
 cause_of (CannotWrite path) = None
 cause_of (Manifest fault cause) = Some cause.now
+cause_of (Refused path name cause) = Some cause.now
 cause_of (NoSuchCode code) = None
 cause_of (Unfit what why) = None
 cause_of NotAtRest = None

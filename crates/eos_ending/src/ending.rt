@@ -27,6 +27,8 @@ pub enum Ending<'a> {
     CannotWrite(&'a str),
     /// The manifest of a folder is refused.
     Manifest(SpecFault, &'a Cause),
+    /// The file of this path is refused by this name.
+    Refused(&'a str, &'static str, &'a Cause),
     /// No kind of fault has this code.
     NoSuchCode(&'a str),
     /// What the words say of this doesn't fit the rest, and why.
@@ -72,6 +74,7 @@ impl<'a> Ending<'a> {
             | Ending::CannotRead(_, _)
             | Ending::CannotWrite(_)
             | Ending::Manifest(_, _)
+            | Ending::Refused(_, _, _)
             | Ending::NoSuchCode(_)
             | Ending::Unfit(_, _)
             | Ending::NotAtRest
@@ -95,9 +98,10 @@ impl<'a> Ending<'a> {
         ensures { option_map (λ c. c.now) result ≡ cause_of self.now }
     {
         match *self {
-            Ending::CannotRead(_, cause) | Ending::Manifest(_, cause) | Ending::Limit(cause) => {
-                Some(cause)
-            }
+            Ending::CannotRead(_, cause)
+            | Ending::Manifest(_, cause)
+            | Ending::Refused(_, _, cause)
+            | Ending::Limit(cause) => Some(cause),
             _ => None,
         }
     }
@@ -113,6 +117,7 @@ impl Display for Ending<'_> {
             Ending::CannotRead(path, _) => write!(f, "eoscheck: cannot read {path}\n"),
             Ending::CannotWrite(path) => write!(f, "eoscheck: cannot write {path}\n"),
             Ending::Manifest(fault, _) => write!(f, "eoscheck: evidence.json: {}\n", fault.name()),
+            Ending::Refused(path, name, _) => write!(f, "eoscheck: {path}: {name}\n"),
             Ending::NoSuchCode(code) => write!(f, "eoscheck: no fault has the code {code}\n"),
             Ending::Unfit(what, why) => write!(f, "eoscheck: {what}: {why}\n"),
             Ending::NotAtRest => write!(f, "eoscheck: the cluster is not at rest\n"),

@@ -8,6 +8,6 @@ mod saying;
 mod subject;
 
 pub use ending::{Ending, Told};
-pub use new_file::{fill_file, make_file};
+pub use new_file::{end_unwritten, fill_file, make_file};
 pub use saying::{STANDARD, end, end_about};
 pub use subject::Subject;

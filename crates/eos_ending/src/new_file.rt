@@ -34,8 +34,8 @@ fn write_whole(mut file: File, text: &str) -> io::Result<()> {
     file.write_all(text.as_bytes())
 }
 
-/// Says why the file isn't written, and gives the exit status.
-fn end_unwritten(rt: &HostRuntime, path: &str, kind: ErrorKind) -> u8 {
+/// Says why the file of this path isn't written, and gives the exit status.
+pub fn end_unwritten(rt: &HostRuntime, path: &str, kind: ErrorKind) -> u8 {
     let why = match kind {
         ErrorKind::AlreadyExists => ": it is there already",
         ErrorKind::NotFound => ": no such folder",

@@ -21,8 +21,12 @@ pub enum Cause {
     NotFolder,
     /// What the system says, or the tests of the manifest.
     Told(String),
+    /// These words.
+    Words(&'static str),
     /// The file of this path has more bytes than a segment may have.
     LongFile(String),
+    /// The fold in the file of this path is of a segment with more bytes than one may have.
+    LongFold(String),
     /// There are more segments than evidence may have, and the file of this path is the first of those.
     ManySegments(String),
 }
@@ -38,9 +42,14 @@ impl Display for Cause {
             Cause::Folder => f.write_str("a folder"),
             Cause::NotFolder => f.write_str("not a folder"),
             Cause::Told(words) => f.write_str(words.as_str()),
+            Cause::Words(words) => f.write_str(words),
             Cause::LongFile(path) => write!(
                 f,
                 "{path} has more than 1073741824 bytes, as many as a segment may have"
+            ),
+            Cause::LongFold(path) => write!(
+                f,
+                "the segment of {path} has more than 1073741824 bytes, as many as a segment may have"
             ),
             Cause::ManySegments(path) => write!(
                 f,

@@ -2,7 +2,8 @@
 
 use crate::cause::Cause;
 use crate::folder::FolderFault;
-use crate::paths::segment_path;
+use crate::names::Form;
+use crate::paths::{file_path, partition_path, segment_path};
 use bytes::Bytes;
 use eos_evidence::{End, ReadFault, Segment, read_segment};
 use std::alloc::Global;
@@ -37,7 +38,7 @@ impl NamedFile {
     }
 
     /// Its bytes, at most as many as a segment may have.
-    pub(crate) fn read_whole(mut self, alloc: Global) -> Result<Bytes, FolderFault> {
+    pub fn read_whole(mut self, alloc: Global) -> Result<Bytes, FolderFault> {
         match read_segment(alloc, &mut self) {
             Ok(bytes) => Ok(bytes),
             Err(why) => Err(self.refusal(alloc, why)),
@@ -59,15 +60,20 @@ impl NamedFile {
     }
 }
 
-/// Opens the file of a segment. Of the segment itself only the name counts: its topic, partition and base.
+/// Opens the file of a segment, which stands in this form in a folder of evidence. Of the segment itself only the name counts: its
+/// topic, partition and base.
 pub fn open_segment(
     rt: &HostRuntime,
     folder: &str,
     name: &Segment,
+    form: Form,
 ) -> Result<NamedFile, FolderFault> {
-    let topic = name.topic.as_slice();
-    let path = segment_path(rt.alloc(), folder, topic, name.partition, name.base)?;
-    NamedFile::open(rt, path)
+    NamedFile::open(rt, segment_path(rt.alloc(), folder, name, form)?)
+}
+
+/// Opens the log, in the folder of a partition, of the segment whose first offset is this.
+pub fn open_log(rt: &HostRuntime, partition: &str, base: i64) -> Result<NamedFile, FolderFault> {
+    NamedFile::open(rt, file_path(rt.alloc(), partition, base, Form::Log)?)
 }
 
 /// The bytes of a partition's segment, at most as many as a segment may have.
@@ -77,12 +83,6 @@ pub fn read_segment_file(
     end: &End,
     base: i64,
 ) -> Result<Bytes, FolderFault> {
-    let path = segment_path(
-        rt.alloc(),
-        folder,
-        end.topic.as_slice(),
-        end.partition,
-        base,
-    )?;
-    NamedFile::open(rt, path)?.read_whole(rt.alloc())
+    let partition = partition_path(rt.alloc(), folder, end.topic.as_slice(), end.partition)?;
+    open_log(rt, &partition, base)?.read_whole(rt.alloc())
 }

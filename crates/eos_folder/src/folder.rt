@@ -5,25 +5,18 @@ ghost use Rattle.eos_folder.specs.declared.folder.FolderFault.TheVariants.{OutOf
 
 use crate::cause::Cause;
 use crate::files::{NamedFile, open_segment};
-use crate::paths::{manifest_path, partition_path, segment_path};
+use crate::listing::Segments;
+use crate::names::Form;
+use crate::paths::manifest_path;
+use crate::refusal::{NO_RECORDS, refused_fold};
 use crate::watch::Watch;
 use bytes::Bytes;
-use eos_evidence::{
-    AddFault, End, Evidence, EvidenceBuilder, MAX_SEGMENTS, Segment, Spec, SpecFault, parse_spec,
-};
+use eos_evidence::{AddFault, Evidence, EvidenceBuilder, Segment, Spec, SpecFault, parse_spec};
 use eos_manifest_cause::explain_spec;
 use eos_workers::Workers;
 use std::alloc::{AllocError, AllocFailed, Global};
-use std::fs::DirEntry;
-use std::io::{Error, ErrorKind};
+use std::thread;
 use std::thread::Threads;
-use std::{fs, thread};
-
-/// How many digits the name of a segment has before `.log`.
-const DIGITS: usize = 20;
-
-/// From how many bytes on a path is too long for the system, whatever its parts are.
-const LONG_PATH: usize = 4096;
 
 /// Why a folder is no evidence. Of several reasons it is the first: those of the manifest, then those of the
 /// partitions in order, each with its segments by base. Want of memory may come before any of them.
@@ -35,6 +28,8 @@ pub enum FolderFault {
     Manifest(SpecFault, Cause),
     /// A file is larger than a segment may be, or there are more segments than evidence may have.
     Limit(Cause),
+    /// The fold in the file of this path is refused by this name.
+    Fold(String, &'static str, Cause),
     /// A growth of memory was refused.
     OutOfMemory,
 }
@@ -60,6 +55,8 @@ impl<T: Drop> From<AllocFailed<T>> for FolderFault {
 pub struct Shape {
     /// The evidence with the names of its segments, which have no bytes.
     pub evidence: Evidence,
+    /// In which form each of these stands in the folder, by its number.
+    pub forms: Vec<Form>,
     /// Why no more segments than these are listed, if that was refused. What refuses one of these comes before it.
     pub listed: Result<(), FolderFault>,
 }
@@ -68,8 +65,7 @@ pub struct Shape {
 #[derive(Drop)]
 struct Listing {
     spec: Spec,
-    /// The segments in order, without their bytes.
-    names: Vec<Segment>,
+    segments: Segments,
     /// Why these are not all, if that was refused.
     listed: Result<(), FolderFault>,
 }
@@ -84,7 +80,7 @@ struct SegmentFile {
 }
 
 /// Reads which evidence a folder has: its manifest, and for each partition of it the names of the segments in the folder
-/// `TOPIC-N`. A partition without a folder has no segments. No segment is read.
+/// `TOPIC-N`, each with the form in which it stands there. A partition without a folder has no segments. No segment is read.
 pub fn read_shape<W: Watch>(
     rt: &HostRuntime,
     folder: &str,
@@ -92,14 +88,20 @@ pub fn read_shape<W: Watch>(
 ) -> Result<Shape, FolderFault> {
     let Listing {
         spec,
-        names,
+        segments,
         listed,
     } = list_folder(rt, folder, watch)?;
+    let Segments { names, forms } = segments;
     let evidence = evidence_of(rt, spec, names)?;
-    Ok(Shape { evidence, listed })
+    Ok(Shape {
+        evidence,
+        forms,
+        listed,
+    })
 }
 
-/// Reads the evidence of a folder: its shape, and the bytes of each segment, by at most as many threads as there are workers.
+/// Reads the evidence of a folder: its shape, and the bytes of each segment, by at most as many threads as there are workers. A
+/// folder that has a fold is refused before any segment is read.
 pub fn read_folder<W: Watch>(
     rt: &HostRuntime,
     threads: &(impl Threads + Sync),
@@ -109,10 +111,13 @@ pub fn read_folder<W: Watch>(
 ) -> Result<Evidence, FolderFault> {
     let Listing {
         spec,
-        names,
+        segments,
         listed,
     } = list_folder(rt, folder, watch)?;
-    let mut files = unread(rt.alloc(), names)?;
+    if let Some(name) = segments.first_fold() {
+        return Err(refused_fold(rt.alloc(), folder, name, NO_RECORDS));
+    }
+    let mut files = unread(rt.alloc(), segments.names)?;
     thread::for_each_mut(
         threads,
         files.as_mut_slice(),
@@ -129,19 +134,19 @@ fn list_folder<W: Watch>(
     folder: &str,
     watch: &W,
 ) -> Result<Listing, FolderFault> {
-    let spec = read_manifest(rt, folder)?;
-    let mut names = Vec::new(rt.alloc());
-    let listed = list_segments(rt, folder, spec.ends().as_slice(), &mut names);
-    watch.found(names.len() as u64);
+    let spec = read_manifest(rt, manifest_path(rt.alloc(), folder)?)?;
+    let mut segments = Segments::new(rt.alloc());
+    let listed = segments.add_all(rt, folder, spec.ends().as_slice());
+    watch.found(segments.names.len() as u64);
     Ok(Listing {
         spec,
-        names,
+        segments,
         listed,
     })
 }
 
-fn read_manifest(rt: &HostRuntime, folder: &str) -> Result<Spec, FolderFault> {
-    let path = manifest_path(rt.alloc(), folder)?;
+/// Reads the manifest in the file of this path.
+pub fn read_manifest(rt: &HostRuntime, path: String) -> Result<Spec, FolderFault> {
     let manifest = NamedFile::open(rt, path)?.read_whole(rt.alloc())?;
     match parse_spec(rt.alloc(), manifest.as_slice()) {
         Ok(spec) => Ok(spec),
@@ -179,97 +184,6 @@ fn evidence_of(
     Ok(builder.finish())
 }
 
-// ---- which segments there are
-
-/// Adds the segments of the partitions in order, each partition's by base. Where it is refused, those before that place were
-/// added.
-fn list_segments(
-    rt: &HostRuntime,
-    folder: &str,
-    ends: &[End],
-    names: &mut Vec<Segment>,
-) -> Result<(), FolderFault> {
-    for end in ends {
-        let topic = end.topic.as_slice();
-        for base in bases_of(rt, folder, end)? {
-            if names.len() as u64 >= MAX_SEGMENTS {
-                let path = segment_path(rt.alloc(), folder, topic, end.partition, base)?;
-                return Err(FolderFault::Limit(Cause::ManySegments(path)));
-            }
-            names.push(Segment {
-                topic: end.topic.clone()?,
-                partition: end.partition,
-                base,
-                bytes: Bytes::new(),
-            })?;
-        }
-    }
-    Ok(())
-}
-
-/// The base offsets of a partition's segments, in order. A partition without a folder has none; any other folder must be read.
-pub fn bases_of(rt: &HostRuntime, folder: &str, end: &End) -> Result<Vec<i64>, FolderFault> {
-    let path = partition_path(rt.alloc(), folder, end.topic.as_slice(), end.partition)?;
-    match list_bases(rt, &path) {
-        Ok(bases) => Ok(bases),
-        Err(e) if e.kind() == ErrorKind::OutOfMemory => Err(FolderFault::OutOfMemory),
-        Err(e) if is_absent(rt, &path, e.kind()) => Ok(Vec::new(rt.alloc())),
-        Err(e) => {
-            let cause = Cause::of_error(rt.alloc(), &e);
-            Err(FolderFault::CannotRead(path, cause))
-        }
-    }
-}
-
-/// Whether an error at this path says that nothing is there: no folder, and no link that leads nowhere; or a folder whose name
-/// is too long for the file system.
-fn is_absent(rt: &HostRuntime, path: &str, kind: ErrorKind) -> bool {
-    match kind {
-        ErrorKind::NotFound => match fs::symlink_metadata(rt, path) {
-            Ok(_) => false,
-            Err(e) => e.kind() == ErrorKind::NotFound,
-        },
-        ErrorKind::InvalidFilename => path.len() < LONG_PATH,
-        _ => false,
-    }
-}
-
-/// The base offsets that the names of the folder's segments say, in order. Other names are left out.
-fn list_bases(rt: &HostRuntime, folder: &str) -> Result<Vec<i64>, Error> {
-    let mut bases = Vec::new(rt.alloc());
-    for entry in fs::read_dir(rt, folder)? {
-        if let Some(base) = base_of_entry(entry)? {
-            bases.push(base)?;
-        }
-    }
-    bases.as_mut_slice().sort_unstable();
-    Ok(bases)
-}
-
-/// The base of an entry that is named as a segment. A name that isn't UTF-8 is none of these.
-fn base_of_entry(entry: Result<DirEntry, Error>) -> Result<Option<i64>, Error> {
-    match entry {
-        Ok(entry) => Ok(base_of_name(entry.file_name().as_bytes())),
-        Err(e) if e.kind() == ErrorKind::InvalidFilename => Ok(None),
-        Err(e) => Err(e),
-    }
-}
-
-/// The base that a file's name says: 20 decimal digits, at most the greatest offset, and `.log`.
-fn base_of_name(name: &[u8]) -> Option<i64> {
-    if name.len() != DIGITS + 4 || &name[DIGITS..] != b".log".as_slice() {
-        return None;
-    }
-    let mut base = 0i64;
-    for byte in &name[..DIGITS] {
-        if !byte.is_ascii_digit() {
-            return None;
-        }
-        base = base.checked_mul(10)?.checked_add(i64::from(*byte - b'0'))?;
-    }
-    Some(base)
-}
-
 // ---- what is in them
 
 /// The files of these names, of which none is read yet.
@@ -295,7 +209,7 @@ impl SegmentFile {
 }
 
 fn bytes_of(rt: &HostRuntime, folder: &str, name: &Segment) -> Result<Bytes, FolderFault> {
-    open_segment(rt, folder, name)?.read_whole(rt.alloc())
+    open_segment(rt, folder, name, Form::Log)?.read_whole(rt.alloc())
 }
 
 /// The segments of the files in order, or the first refusal among them.

@@ -1,5 +1,7 @@
 //! Where the files of evidence lie in its folder.
 
+use crate::names::Form;
+use eos_evidence::Segment;
 use std::alloc::{AllocError, Global};
 
 /// The path of the manifest.
@@ -8,7 +10,7 @@ pub fn manifest_path(alloc: Global, folder: &str) -> Result<String, AllocError> 
 }
 
 /// The path of a partition's folder.
-pub(crate) fn partition_path(
+pub fn partition_path(
     alloc: Global,
     folder: &str,
     topic: &[u8],
@@ -18,14 +20,24 @@ pub(crate) fn partition_path(
     format!(in alloc; "{folder}/{topic}-{number}")
 }
 
-/// The path of a partition's segment whose first offset is this.
-pub(crate) fn segment_path(
+/// The path of the file, in the folder of a partition, of the segment whose first offset is this.
+pub(crate) fn file_path(
+    alloc: Global,
+    partition: &str,
+    base: i64,
+    form: Form,
+) -> Result<String, AllocError> {
+    let ending = form.ending();
+    format!(in alloc; "{partition}/{base:020}{ending}")
+}
+
+/// The path of a segment's file. Of the segment itself only the name counts: its topic, partition and base.
+pub fn segment_path(
     alloc: Global,
     folder: &str,
-    topic: &[u8],
-    number: i32,
-    base: i64,
+    name: &Segment,
+    form: Form,
 ) -> Result<String, AllocError> {
-    let partition = partition_path(alloc, folder, topic, number)?;
-    format!(in alloc; "{partition}/{base:020}.log")
+    let partition = partition_path(alloc, folder, name.topic.as_slice(), name.partition)?;
+    file_path(alloc, &partition, name.base, form)
 }

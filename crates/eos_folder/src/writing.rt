@@ -3,6 +3,7 @@
 ghost use Rattle.std.specs.Prelude.{◌≡◌};
 ghost use Rattle.eos_folder.specs.declared.writing.WritingFault.TheVariants.{OutOfMemory};
 
+use crate::names::Form;
 use crate::paths::{manifest_path, partition_path, segment_path};
 use eos_evidence::{Evidence, Partition, spec_text};
 use std::alloc::AllocError;
@@ -49,12 +50,11 @@ fn write_partition(
     folder: &str,
     partition: &Partition,
 ) -> Result<(), WritingFault> {
-    let topic = partition.end.topic.as_slice();
-    let number = partition.end.partition;
-    let path = partition_path(rt.alloc(), folder, topic, number)?;
+    let end = &partition.end;
+    let path = partition_path(rt.alloc(), folder, end.topic.as_slice(), end.partition)?;
     make_folder(rt, &path)?;
     for segment in partition.segments.as_slice() {
-        let path = segment_path(rt.alloc(), folder, topic, number, segment.base)?;
+        let path = segment_path(rt.alloc(), folder, segment, Form::Log)?;
         write_file(rt, &path, segment.bytes.as_slice())?;
     }
     Ok(())

@@ -1,9 +1,15 @@
 //! A folder as a source.
 
+ghost use Rattle.std.specs.Prelude.{◌≡◌, true, IfSome};
+ghost use Rattle.eos_folder.specs.declared.names.Form.TheVariants.{Log};
+ghost use Rattle.eos_folder_source.specs.Logs.{is_log_at};
+
+use crate::fold::{read_fold, refused_unfit};
 use crate::reader::SegmentReader;
-use eos_evidence::{Evidence, ReadFault};
-use eos_folder::{Cause, FolderFault, Watch, open_segment};
-use eos_source::Source;
+use eos_evidence::{Evidence, ReadFault, Segment};
+use eos_fold_run::Unfit;
+use eos_folder::{Cause, FolderFault, Form, Watch, open_segment};
+use eos_source::{Piece, Source};
 use std::alloc::Global;
 
 /// A folder whose evidence has this shape, as `read_shape` gives it.
@@ -12,8 +18,22 @@ pub struct FolderSource<'a, W: Watch> {
     pub rt: &'a HostRuntime,
     pub folder: &'a str,
     pub shape: &'a Evidence,
+    /// In which form each segment of the shape stands in the folder, by its number.
+    pub forms: &'a [Form],
     /// Who is told of each segment that was read to its end.
     pub watch: &'a W,
+}
+
+impl<'a, W: Watch> FolderSource<'a, W> {
+    /// The name and the form of the piece of this number, where the shape has it.
+    fn piece(&self, piece: u64) -> Option<(&'a Segment, Form)>
+        ensures { IfSome result (λ found. is_log_at self.now.forms.now piece ≡ true → found.1 ≡ Log) }
+    {
+        if piece >= self.shape.pieces() || piece >= self.forms.len() as u64 {
+            return None;
+        }
+        Some((self.shape.piece(piece), self.forms[piece as usize]))
+    }
 }
 
 impl<'a, W: Watch> Source for FolderSource<'a, W> {
@@ -22,17 +42,26 @@ impl<'a, W: Watch> Source for FolderSource<'a, W> {
     type Fault = FolderFault;
 
     ghost use Rattle.std.specs.Prelude.{None};
+    ghost use Rattle.eos_folder_source.specs.Logs.{is_log_at};
 
-    ghost bytes = { λ s piece. None };
+    ghost said = { λ s piece. None };
+
+    ghost is_log = { λ s piece. is_log_at s.forms.now piece };
 
     /// Opens the file of a segment. There is no file of a number that the shape doesn't have, which is answered as a segment too
     /// many.
-    fn open(&self, _alloc: Global, piece: u64) -> Result<SegmentReader<'a, W>, FolderFault> {
-        if piece >= self.shape.pieces() {
-            return Err(FolderFault::Limit(Cause::Unknown));
+    fn open(&self, _alloc: Global, piece: u64) -> Result<Piece<SegmentReader<'a, W>>, FolderFault> {
+        match self.piece(piece) {
+            Some((name, Form::Log)) => {
+                let file = open_segment(self.rt, self.folder, name, Form::Log)?;
+                Ok(Piece::Log(SegmentReader::new(file, self.watch)))
+            }
+            Some((name, Form::Fold)) => {
+                let fold = read_fold(self.rt, self.folder, name, self.watch)?;
+                Ok(Piece::Fold(fold))
+            }
+            None => Err(FolderFault::Limit(Cause::Unknown)),
         }
-        let file = open_segment(self.rt, self.folder, self.shape.piece(piece))?;
-        Ok(SegmentReader::new(file, self.watch))
     }
 
     fn refusal(
@@ -43,5 +72,12 @@ impl<'a, W: Watch> Source for FolderSource<'a, W> {
         why: ReadFault,
     ) -> FolderFault {
         reader.refusal(alloc, why)
+    }
+
+    fn unfit(&self, alloc: Global, piece: u64, why: Unfit) -> FolderFault {
+        match self.piece(piece) {
+            Some((name, _)) => refused_unfit(alloc, self.folder, name, why),
+            None => FolderFault::Limit(Cause::Unknown),
+        }
     }
 }

@@ -52,7 +52,9 @@ impl<T: Drop> From<AllocFailed<T>> for InitFault {
 /// What a folder that can't be read stands for here.
 pub(crate) fn unread(fault: FolderFault) -> InitFault {
     match fault {
-        FolderFault::CannotRead(path, _cause) => InitFault::CannotRead(path),
+        FolderFault::CannotRead(path, _cause) | FolderFault::Fold(path, _, _cause) => {
+            InitFault::CannotRead(path)
+        }
         FolderFault::Manifest(fault, _cause) => InitFault::Ends(fault),
         FolderFault::Limit(_cause) => InitFault::Limit,
         FolderFault::OutOfMemory => InitFault::OutOfMemory,

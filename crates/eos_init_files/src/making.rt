@@ -8,11 +8,11 @@ use crate::copied::{
 };
 use crate::fault::InitFault;
 use crate::note::Note;
-use crate::writing::{is_there, write_manifest};
+use crate::writing::write_manifest;
 use bytes::Bytes;
 use eos_base::{Listed, PartitionName, in_order};
 use eos_evidence::{Apps, End, ReadFault, Spec, read_segment};
-use eos_folder::manifest_path;
+use eos_folder::{is_there, manifest_path};
 use eos_init::{
     EndsFault, ManifestFault, is_compressed_at_head, manifest_for, read_app_word, read_ends,
 };

@@ -2,14 +2,10 @@
 
 use crate::fault::InitFault;
 use eos_evidence::{ReadFault, Spec, SpecFault, parse_spec, read_segment, spec_text};
+use eos_folder::{put_in_place, write_new};
 use std::fs::File;
-use std::io::{Error, ErrorKind, Write};
+use std::io::{Error, ErrorKind};
 use std::{fs, io};
-
-/// Whether something of this name is there.
-pub(crate) fn is_there(rt: &HostRuntime, path: &str) -> bool {
-    fs::symlink_metadata(rt, path).is_ok()
-}
 
 /// Writes the manifest to a path at which nothing is, and which is never written over.
 pub(crate) fn write_manifest(rt: &HostRuntime, path: String, spec: &Spec) -> Result<(), InitFault> {
@@ -18,7 +14,7 @@ pub(crate) fn write_manifest(rt: &HostRuntime, path: String, spec: &Spec) -> Res
     if let Err(e) = write_new(rt, &beside, text.as_slice()) {
         return Err(unwritten(e, path));
     }
-    let put = put_in_place(rt, &beside, &path, spec);
+    let put = put_read_back(rt, &beside, &path, spec);
     let _ = fs::remove_file(rt, beside.as_str());
     match put {
         Ok(()) => Ok(()),
@@ -34,31 +30,12 @@ fn unwritten(e: Error, path: String) -> InitFault {
     }
 }
 
-/// Makes a file of these bytes at a path at which nothing is.
-fn write_new(rt: &HostRuntime, path: &str, bytes: &[u8]) -> io::Result<()> {
-    let mut file = File::create_new(rt, path)?;
-    let written = file.write_all(bytes);
-    if written.is_err() {
-        let _ = fs::remove_file(rt, path);
-    }
-    written
-}
-
-/// Gives the written file its name, unless it reads back as something else, or something of that name is there. Where the files'
-/// system knows no second names it is renamed.
-fn put_in_place(rt: &HostRuntime, beside: &str, path: &str, spec: &Spec) -> io::Result<()> {
+/// Gives the written file its name, unless it reads back as something else, or something of that name is there.
+fn put_read_back(rt: &HostRuntime, beside: &str, path: &str, spec: &Spec) -> io::Result<()> {
     if !is_written(rt, beside, spec)? {
         return Err(Error::from(ErrorKind::InvalidData));
     }
-    match fs::hard_link(rt, beside, path) {
-        Ok(()) => Ok(()),
-        Err(e) => {
-            if e.kind() == ErrorKind::AlreadyExists || is_there(rt, path) {
-                return Err(Error::from(ErrorKind::AlreadyExists));
-            }
-            fs::rename(rt, beside, path)
-        }
-    }
+    put_in_place(rt, beside, path)
 }
 
 /// Whether a file reads as this manifest.

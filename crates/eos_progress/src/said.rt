@@ -8,6 +8,7 @@ pub fn end_unread(rt: &HostRuntime, subject: Subject<'_>, fault: &FolderFault) -
     let ending = match fault {
         FolderFault::CannotRead(path, cause) => Ending::CannotRead(path.as_str(), cause),
         FolderFault::Manifest(fault, cause) => Ending::Manifest(*fault, cause),
+        FolderFault::Fold(path, name, cause) => Ending::Refused(path.as_str(), *name, cause),
         FolderFault::Limit(cause) => Ending::Limit(cause),
         FolderFault::OutOfMemory => Ending::OutOfMemory,
     };

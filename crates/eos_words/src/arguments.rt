@@ -231,6 +231,31 @@ pub(crate) fn init_arguments() -> &'static [Argument] {
     INIT_ARGUMENTS.as_slice()
 }
 
+static FOLD_ARGUMENTS: [Argument; 3] = [
+    Argument {
+        name: "manifest",
+        help: "The manifest by which `check` will read the folds",
+        presence: Presence::Required,
+        form: Form::Valued("FILE", ValueParser::NonEmptyString),
+    },
+    Argument {
+        name: "out",
+        help: "The folder that gets the folds, or `folds`",
+        presence: Presence::Optional,
+        form: Form::Valued("OUT", ValueParser::NonEmptyString),
+    },
+    Argument {
+        name: "folder",
+        help: "The folder of a partition, or several",
+        presence: Presence::Required,
+        form: Form::Several("TOPIC-N"),
+    },
+];
+
+pub(crate) fn fold_arguments() -> &'static [Argument] {
+    FOLD_ARGUMENTS.as_slice()
+}
+
 static SIMULATE_ARGUMENTS: [Argument; 22] = [
     Argument {
         name: "seed",

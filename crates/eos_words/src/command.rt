@@ -3,7 +3,8 @@
 use crate::argument::{Argument, Form, Presence};
 use crate::help::{ABOUT, CHECK_ANSWERS, STATUSES};
 use crate::request::{
-    Answer, Check, Draw, Explain, Init, Listing, NoRequest, Request, Simulation, Sizes, Thousandths,
+    Answer, Check, Draw, Explain, Fold, Init, Listing, NoRequest, Request, Simulation, Sizes,
+    Thousandths,
 };
 use crate::subcommands::Subcommand;
 use clap::builder::ValueParser;
@@ -15,6 +16,9 @@ use std::alloc::{AllocError, Global};
 
 /// The version of the program.
 pub const VERSION: &str = "0.1.0";
+
+/// The folder that gets folds where the words don't say.
+const FOLDS: &str = "folds";
 
 /// Every record, and nothing more of it.
 const EVERY_RECORD: Listing<'static> = Listing {
@@ -102,6 +106,7 @@ fn make_subcommands<'a>(alloc: Global, details: &'a str) -> Result<Vec<Command<'
         Subcommand::Explain,
         Subcommand::Draw,
         Subcommand::Init,
+        Subcommand::Fold,
         Subcommand::Simulate,
     ] {
         made.push(make_subcommand(alloc, it, details)?)?;
@@ -173,6 +178,7 @@ fn read_request<'a>(
         "explain" => Ok(read_explain(inner)),
         "draw" => Ok(read_draw(inner)),
         "init" => read_init(alloc, inner),
+        "fold" => read_fold(alloc, inner),
         "simulate" => read_simulate(alloc, inner),
         _ => Ok(None),
     }
@@ -260,6 +266,17 @@ fn read_init<'a>(alloc: Global, inner: &ArgMatches<'a>) -> Result<Option<Request
         ends: inner.get_str("ends"),
         ends_from_logs: inner.get_flag("ends-from-logs"),
         folder,
+    })))
+}
+
+fn read_fold<'a>(alloc: Global, inner: &ArgMatches<'a>) -> Result<Option<Request<'a>>, AllocError> {
+    let Some(manifest) = inner.get_str("manifest") else {
+        return Ok(None);
+    };
+    Ok(Some(Request::Fold(Fold {
+        manifest,
+        out: inner.get_str("out").unwrap_or(FOLDS),
+        folders: read_all(alloc, inner, "folder")?,
     })))
 }
 

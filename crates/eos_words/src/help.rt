@@ -10,7 +10,9 @@ pub(crate) const CHECK: &str =
 pub(crate) const CHECK_ANSWERS: &str =
     "FOLDER holds `evidence.json` (docs/EVIDENCE.md) and for each partition that it
 names in `ends` a folder TOPIC-N with the partition's segments, each a file of
-20 digits and `.log`, from offset 0 on. Other files are ignored.
+20 digits and `.log`, from offset 0 on. In its place its fold may lie, of the
+same digits and `.fold`, as `eoscheck fold` writes it: the answer is the same,
+but where a fault stands --all needs the logs. Other files are ignored.
 
 With several folders each line that is printed about one, also an error, begins
 with `FOLDER: `, and the exit status is the greatest; a folder that cannot be
@@ -51,7 +53,7 @@ no verdict. --report goes with one FOLDER.
 
 pub(crate) const STATUSES: &str = "Exit status:
   0  the answer is good: the verdict is yes, the listing ends at the end, the
-     chain is kept, or the folder was written
+     chain is kept, or what was asked for was written
   1  a fault was found, and the last line names it
   2  the words are wrong, a file cannot be read or written, or it is larger than
      a segment may be (2^30 bytes)
@@ -59,8 +61,9 @@ pub(crate) const STATUSES: &str = "Exit status:
 
 A segment is one file of a partition's log as a Kafka broker keeps it, such as
 00000000000000000000.log: record batches (magic 2, not compressed), one after
-the other. Without words, eoscheck reads a segment from its standard input, as
-`eoscheck dump -` does.";
+the other. The folders that `check` reads may hold folds of segments in their
+place, as 00000000000000000000.fold. Without words, eoscheck reads a segment
+from its standard input, as `eoscheck dump -` does.";
 
 pub(crate) const DUMP: &str =
     "Prints the batches and records of a segment, or the first fault and its byte";
@@ -210,6 +213,37 @@ ends, so that a copy that was cut short can't be found.
 What `check` will refuse is said at once, on standard error: a partition that
 doesn't begin at offset 0, one that begins with a compressed batch, and one
 that has an end but no folder.";
+
+pub(crate) const FOLD: &str =
+    "Folds segments where they lie, so that `check` needs no copies of them";
+
+pub(crate) const FOLD_WRITES: &str =
+    "The path TOPIC-N ends with the name of a partition, which FILE has in its
+`ends`. Each segment in it, a file of 20 digits and `.log`, is read once, and
+its fold is written to OUT/TOPIC-N, as a file of the same digits and `.fold`.
+That file must not be there, and is written whole or not at all. `folded
+segments=N bytes=B` (status 0) says how many segments were read, of how many
+bytes.
+
+A fold is what `check` wants of a segment: the head of each batch, and of its
+records nothing where FILE's applications read the topic, which input each one
+claims where they write it, and of Kafka's own two logs the keys and values. So
+it is a small part of the segment, and holds no data of the applications.
+docs/FOLD.md has its bytes.
+
+Folding judges nothing: a segment in which a fault stands is folded up to it,
+with the fault. `check` answers by folds as it does by the logs that they were
+made of. So run it where the logs lie, on each broker with the same FILE, gather
+what was written in one folder, put FILE there as evidence.json, and check that:
+
+  eoscheck fold --manifest evidence.json --out folds logs/in-0 logs/out-0
+  cp evidence.json folds
+  eoscheck check folds
+
+That a fold was made of the log of its name, and that this log is whole, is
+yours to know. `check` refuses a fold that was made for other roles or other
+source topics than those of its manifest. `explain`, `draw` and `check --all`
+show records, which a fold doesn't have: they need the logs.";
 
 pub(crate) const SIMULATE: &str =
     "Writes a folder of logs as a simulated cluster leaves it, for `check`";

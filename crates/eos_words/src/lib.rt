@@ -10,5 +10,6 @@ mod subcommands;
 
 pub use command::{VERSION, read_words};
 pub use request::{
-    Answer, Check, Draw, Explain, Init, Listing, NoRequest, Request, Simulation, Sizes, Thousandths,
+    Answer, Check, Draw, Explain, Fold, Init, Listing, NoRequest, Request, Simulation, Sizes,
+    Thousandths,
 };

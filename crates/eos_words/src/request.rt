@@ -19,6 +19,8 @@ pub enum Request<'a> {
     Simulate(Simulation<'a>),
     /// Write the manifest of a folder of copied logs.
     Init(Init<'a>),
+    /// Write the folds of segments.
+    Fold(Fold<'a>),
 }
 
 /// What is asked about a segment.
@@ -153,6 +155,17 @@ pub struct Init<'a> {
     /// Whether the ends are those of the copied logs.
     pub ends_from_logs: bool,
     pub folder: &'a str,
+}
+
+/// Which segments are folded, and by what.
+#[derive(Drop)]
+pub struct Fold<'a> {
+    /// The file of the manifest, whose applications say what is wanted of which topic.
+    pub manifest: &'a str,
+    /// The folder that gets the folds.
+    pub out: &'a str,
+    /// The folders of the partitions in the order given, at least one, none of them the empty text.
+    pub folders: Vec<&'a str>,
 }
 
 /// Why there is nothing to do. What is to be said of it was said.

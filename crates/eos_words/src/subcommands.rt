@@ -3,11 +3,11 @@
 use crate::argument::Argument;
 use crate::arguments::{
     chain_arguments, check_arguments, draw_arguments, dump_arguments, explain_arguments,
-    init_arguments, simulate_arguments,
+    fold_arguments, init_arguments, simulate_arguments,
 };
 use crate::help::{
-    CHAIN, CHAIN_ANSWERS, CHECK, DRAW, DRAW_SHOWS, DUMP, DUMP_COLUMNS, EXPLAIN, EXPLAIN_SAYS, INIT,
-    INIT_WRITES, SIMULATE, SIMULATE_WRITES,
+    CHAIN, CHAIN_ANSWERS, CHECK, DRAW, DRAW_SHOWS, DUMP, DUMP_COLUMNS, EXPLAIN, EXPLAIN_SAYS, FOLD,
+    FOLD_WRITES, INIT, INIT_WRITES, SIMULATE, SIMULATE_WRITES,
 };
 
 /// A subcommand.
@@ -19,6 +19,7 @@ pub(crate) enum Subcommand {
     Explain,
     Draw,
     Init,
+    Fold,
     Simulate,
 }
 
@@ -31,6 +32,7 @@ impl Subcommand {
             Subcommand::Explain => "explain",
             Subcommand::Draw => "draw",
             Subcommand::Init => "init",
+            Subcommand::Fold => "fold",
             Subcommand::Simulate => "simulate",
         }
     }
@@ -44,6 +46,7 @@ impl Subcommand {
             Subcommand::Explain => EXPLAIN,
             Subcommand::Draw => DRAW,
             Subcommand::Init => INIT,
+            Subcommand::Fold => FOLD,
             Subcommand::Simulate => SIMULATE,
         }
     }
@@ -57,6 +60,7 @@ impl Subcommand {
             Subcommand::Explain => Some(EXPLAIN_SAYS),
             Subcommand::Draw => Some(DRAW_SHOWS),
             Subcommand::Init => Some(INIT_WRITES),
+            Subcommand::Fold => Some(FOLD_WRITES),
             Subcommand::Simulate => Some(SIMULATE_WRITES),
         }
     }
@@ -70,6 +74,7 @@ impl Subcommand {
             Subcommand::Explain => explain_arguments(),
             Subcommand::Draw => draw_arguments(),
             Subcommand::Init => init_arguments(),
+            Subcommand::Fold => fold_arguments(),
             Subcommand::Simulate => simulate_arguments(),
         }
     }

@@ -1,7 +1,7 @@
 //! A run: the words, the files and streams that they name, and what the outside is told.
 
 use eos_checking::check_words;
-use eos_commands::{answer_segment, explain_code, init_folder};
+use eos_commands::{answer_segment, explain_code, fold_partitions, init_folder};
 use eos_drawing::draw_folder;
 use eos_ending::{Ending, STANDARD, end};
 use eos_explaining::explain_folder;
@@ -56,6 +56,7 @@ fn act(rt: &HostRuntime, threads: &(impl Threads + Wait + Sync), request: Reques
         Request::Explain { code } => explain_code(rt, code),
         Request::Story(words) => explain_folder(rt, threads, &words),
         Request::Simulate(words) => simulate_folder(rt, &words),
+        Request::Fold(words) => fold_partitions(rt, &words),
         Request::Init(words) => init_folder(rt, &words),
     }
 }

@@ -1,0 +1,167 @@
+//! Which segments a folder has, by the names of the files in it.
+
+use crate::cause::Cause;
+use crate::folder::FolderFault;
+use crate::names::{FileName, Form, read_file_name};
+use crate::paths::{partition_path, segment_path};
+use crate::refusal::{TWICE, refused_fold};
+use bytes::Bytes;
+use eos_evidence::{End, MAX_SEGMENTS, Segment};
+use std::alloc::{AllocError, Global};
+use std::fs;
+use std::fs::DirEntry;
+use std::io::{Error, ErrorKind};
+
+/// From how many bytes on a path is too long for the system, whatever its parts are.
+const LONG_PATH: usize = 4096;
+
+/// The segments of a folder in order, each with the form in which it stands there.
+#[derive(Drop)]
+pub(crate) struct Segments {
+    /// The segments without their bytes.
+    pub(crate) names: Vec<Segment>,
+    /// The form of each, at its place.
+    pub(crate) forms: Vec<Form>,
+}
+
+impl Segments {
+    pub(crate) fn new(alloc: Global) -> Segments {
+        Segments {
+            names: Vec::new(alloc),
+            forms: Vec::new(alloc),
+        }
+    }
+
+    /// Adds the segments of the partitions in order, each partition's by base. Where it is refused, those before that place were
+    /// added.
+    pub(crate) fn add_all(
+        &mut self,
+        rt: &HostRuntime,
+        folder: &str,
+        ends: &[End],
+    ) -> Result<(), FolderFault> {
+        for end in ends {
+            let files = files_of(rt, folder, end)?;
+            for i in 0..files.len() {
+                self.add(rt.alloc(), folder, end, &files.as_slice()[i..])?;
+            }
+        }
+        Ok(())
+    }
+
+    /// Adds the segment of the first of these files of a partition, which are in order.
+    fn add(
+        &mut self,
+        alloc: Global,
+        folder: &str,
+        end: &End,
+        files: &[FileName],
+    ) -> Result<(), FolderFault> {
+        let Some(file) = files.first() else {
+            return Ok(());
+        };
+        let name = Segment {
+            topic: end.topic.clone()?,
+            partition: end.partition,
+            base: file.base,
+            bytes: Bytes::new(),
+        };
+        if self.names.len() as u64 >= MAX_SEGMENTS {
+            let path = segment_path(alloc, folder, &name, file.form)?;
+            return Err(FolderFault::Limit(Cause::ManySegments(path)));
+        }
+        if files.len() > 1 && files[1].base == file.base {
+            return Err(refused_fold(alloc, folder, &name, TWICE));
+        }
+        self.forms.push(file.form)?;
+        self.names.push(name)?;
+        Ok(())
+    }
+
+    /// The first segment that stands there as a fold.
+    pub(crate) fn first_fold(&self) -> Option<&Segment> {
+        for i in 0..self.names.len().min(self.forms.len()) {
+            if let Form::Fold = self.forms[i] {
+                return Some(&self.names[i]);
+            }
+        }
+        None
+    }
+}
+
+/// The base offsets of the logs of a partition, in order; its folds don't count. A partition without a folder has none; any other
+/// folder must be read.
+pub fn bases_of(rt: &HostRuntime, folder: &str, end: &End) -> Result<Vec<i64>, FolderFault> {
+    let files = files_of(rt, folder, end)?;
+    Ok(bases_of_logs(rt.alloc(), files.as_slice())?)
+}
+
+/// The base offsets of the logs in the folder of a partition at this path, in order.
+pub fn bases_in(rt: &HostRuntime, path: &str) -> Result<Vec<i64>, FolderFault> {
+    match list_files(rt, path) {
+        Ok(files) => Ok(bases_of_logs(rt.alloc(), files.as_slice())?),
+        Err(e) => Err(unlisted(rt.alloc(), String::from_str(rt.alloc(), path)?, &e)),
+    }
+}
+
+fn bases_of_logs(alloc: Global, files: &[FileName]) -> Result<Vec<i64>, AllocError> {
+    let mut bases = Vec::new(alloc);
+    for file in files {
+        if let Form::Log = file.form {
+            bases.push(file.base)?;
+        }
+    }
+    Ok(bases)
+}
+
+/// The files of a partition's segments, by base. A partition without a folder has none; any other folder must be read.
+fn files_of(rt: &HostRuntime, folder: &str, end: &End) -> Result<Vec<FileName>, FolderFault> {
+    let path = partition_path(rt.alloc(), folder, end.topic.as_slice(), end.partition)?;
+    match list_files(rt, &path) {
+        Ok(files) => Ok(files),
+        Err(e) if is_absent(rt, &path, e.kind()) => Ok(Vec::new(rt.alloc())),
+        Err(e) => Err(unlisted(rt.alloc(), path, &e)),
+    }
+}
+
+/// Why the files in the folder of this path aren't known.
+fn unlisted(alloc: Global, path: String, e: &Error) -> FolderFault {
+    if e.kind() == ErrorKind::OutOfMemory {
+        return FolderFault::OutOfMemory;
+    }
+    FolderFault::CannotRead(path, Cause::of_error(alloc, e))
+}
+
+/// Whether an error at this path says that nothing is there: no folder, and no link that leads nowhere; or a folder whose name
+/// is too long for the file system.
+fn is_absent(rt: &HostRuntime, path: &str, kind: ErrorKind) -> bool {
+    match kind {
+        ErrorKind::NotFound => match fs::symlink_metadata(rt, path) {
+            Ok(_) => false,
+            Err(e) => e.kind() == ErrorKind::NotFound,
+        },
+        ErrorKind::InvalidFilename => path.len() < LONG_PATH,
+        _ => false,
+    }
+}
+
+/// The files in a folder that are named as segments, by base. Other names are left out.
+fn list_files(rt: &HostRuntime, folder: &str) -> Result<Vec<FileName>, Error> {
+    let mut files = Vec::new(rt.alloc());
+    for entry in fs::read_dir(rt, folder)? {
+        if let Some(file) = file_of_entry(entry)? {
+            files.push(file)?;
+        }
+    }
+    files.as_mut_slice().sort_unstable_by_key(|file| file.base);
+    Ok(files)
+}
+
+/// An entry that is named as a segment. A name that isn't UTF-8 is none of these.
+fn file_of_entry(entry: Result<DirEntry, Error>) -> Result<Option<FileName>, Error> {
+    match entry {
+        Ok(entry) => Ok(read_file_name(entry.file_name().as_bytes())),
+        Err(e) if e.kind() == ErrorKind::InvalidFilename => Ok(None),
+        Err(e) => Err(e),
+    }
+}

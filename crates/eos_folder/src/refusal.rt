@@ -1,0 +1,40 @@
+//! Why a fold in a folder is refused.
+
+use crate::cause::Cause;
+use crate::folder::FolderFault;
+use crate::names::Form;
+use crate::paths::segment_path;
+use eos_evidence::Segment;
+use std::alloc::Global;
+
+/// Why a fold is refused: the name of the refusal, and the same in words.
+#[derive(Clone, Copy)]
+pub struct FoldRefusal {
+    pub name: &'static str,
+    pub words: &'static str,
+}
+
+/// The log of the same segment stands beside it.
+pub(crate) const TWICE: FoldRefusal = FoldRefusal {
+    name: "Twice",
+    words: "the log of the same segment stands beside it",
+};
+
+/// Records are to be shown.
+pub(crate) const NO_RECORDS: FoldRefusal = FoldRefusal {
+    name: "Fold",
+    words: "explain, draw and check --all show records, which a fold doesn't have: they need the log",
+};
+
+/// The fold of this segment in the folder is refused so.
+pub fn refused_fold(
+    alloc: Global,
+    folder: &str,
+    name: &Segment,
+    refusal: FoldRefusal,
+) -> FolderFault {
+    match segment_path(alloc, folder, name, Form::Fold) {
+        Ok(path) => FolderFault::Fold(path, refusal.name, Cause::Words(refusal.words)),
+        Err(_) => FolderFault::OutOfMemory,
+    }
+}

@@ -1,0 +1,127 @@
+//! The folds of a folder: how one is read, and why one is refused.
+
+ghost use Rattle.std.specs.Prelude.{◌≡◌, ◌≢◌, ◌≤◌, ◌<◌, ⊥, None, Some, IfOk};
+ghost use Rattle.eos_fold_file.specs.Legal.{IsLegal};
+ghost use Rattle.eos_folder_source.specs.steps.Folds.{IsForName};
+
+use eos_evidence::{MAX_SEGMENT_BYTES, Segment};
+use eos_fold_file::{FoldFault, FoldFile, decode_fold};
+use eos_fold_run::Unfit;
+use eos_folder::{
+    Cause, FoldRefusal, FolderFault, Form, Watch, open_segment, refused_fold, segment_path,
+};
+use std::alloc::Global;
+
+/// Why a fold isn't one of the segment by whose name its file lies there.
+#[derive(Clone, Copy)]
+pub(crate) enum Mismatch {
+    Partition,
+    Base,
+    Long,
+}
+
+/// Why a fold isn't one of the segment of this name, by the first of these tests.
+fn mismatch_of(name: &Segment, fold: &FoldFile) -> Option<Mismatch>
+    ensures fits { result ≡ None → IsForName name.now fold.now }
+    ensures partition { result ≡ Some Mismatch.Partition → fold.now.topic ≡ name.now.topic → fold.now.partition ≢ name.now.partition }
+    ensures base { result ≡ Some Mismatch.Base → fold.now.base ≢ name.now.base }
+    ensures long { result ≡ Some Mismatch.Long → MAX_SEGMENT_BYTES < fold.now.bytes }
+{
+    if fold.topic != name.topic || fold.partition != name.partition {
+        return Some(Mismatch::Partition);
+    }
+    if fold.base != name.base {
+        return Some(Mismatch::Base);
+    }
+    if fold.bytes > MAX_SEGMENT_BYTES as u64 {
+        return Some(Mismatch::Long);
+    }
+    None
+}
+
+/// The fold of the segment of this name in a folder. The watch is told how many bytes the fold has.
+pub(crate) fn read_fold<W: Watch>(
+    rt: &HostRuntime,
+    folder: &str,
+    name: &Segment,
+    watch: &W,
+) -> Result<FoldFile, FolderFault>
+    ensures legal { IfOk result IsLegal }
+    ensures named { IfOk result (IsForName name.now) }
+{
+    let alloc = rt.alloc();
+    let bytes = open_segment(rt, folder, name, Form::Fold)?.read_whole(alloc)?;
+    watch.read(bytes.len() as u64);
+    match decode_fold(alloc, &bytes) {
+        Ok(fold) => match mismatch_of(name, &fold) {
+            None => Ok(fold),
+            Some(why) => Err(refused_as(alloc, folder, name, why)),
+        },
+        Err(FoldFault::OutOfMemory) => Err(FolderFault::OutOfMemory),
+        Err(fault) => Err(refused_fold(alloc, folder, name, unread(fault))),
+    }
+}
+
+/// The fold of this name is of another segment.
+fn refused_as(alloc: Global, folder: &str, name: &Segment, why: Mismatch) -> FolderFault {
+    let refusal = match why {
+        Mismatch::Partition => FoldRefusal {
+            name: "Partition",
+            words: "it is of another topic or partition than its folder",
+        },
+        Mismatch::Base => FoldRefusal {
+            name: "Base",
+            words: "it is of another segment than its name says",
+        },
+        Mismatch::Long => {
+            return match segment_path(alloc, folder, name, Form::Fold) {
+                Ok(path) => FolderFault::Limit(Cause::LongFold(path)),
+                Err(_) => FolderFault::OutOfMemory,
+            };
+        }
+    };
+    refused_fold(alloc, folder, name, refusal)
+}
+
+/// The fold of the segment of this name can't be taken for what is asked.
+pub(crate) fn refused_unfit(
+    alloc: Global,
+    folder: &str,
+    name: &Segment,
+    why: Unfit,
+) -> FolderFault {
+    let refusal = match why {
+        Unfit::Roles => FoldRefusal {
+            name: FoldFault::Roles.name(),
+            words: "it was folded for other roles or other source topics than this manifest's: fold the log by this one",
+        },
+        Unfit::Record => FoldRefusal {
+            name: FoldFault::Record.name(),
+            words: "a claim in it is one that no record can have",
+        },
+        Unfit::OutOfMemory => return FolderFault::OutOfMemory,
+    };
+    refused_fold(alloc, folder, name, refusal)
+}
+
+/// Bytes are no fold by this fault.
+fn unread(fault: FoldFault) -> FoldRefusal {
+    FoldRefusal {
+        name: fault.name(),
+        words: match fault {
+            FoldFault::Short => "it ends early",
+            FoldFault::Magic => "it doesn't begin with EOSFOLD, as a fold does",
+            FoldFault::Version => "it is of another version than 1",
+            FoldFault::Roles => "what was wanted of its records is none of the three roles",
+            FoldFault::Number =>
+                "a number is spelled longer than it need be, or doesn't fit its field",
+            FoldFault::Head => "no batch has a head that stands in it, or the offsets pass 2^63",
+            FoldFault::Record =>
+                "what is kept of a record is of no known kind, or of no topic that was asked for",
+            FoldFault::Stop => "the segment's front ends for no known reason",
+            FoldFault::Crc => "its checksum differs, so it was changed after it was written",
+            FoldFault::Trailing => "bytes are left after its checksum",
+            FoldFault::OutOfMemory => "memory ran out",
+        },
+    }
+}
