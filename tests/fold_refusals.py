@@ -248,6 +248,10 @@ def mismatches(place):
         place.refused(f"base 0 at {base}", fold_path("out-0", base), place.folds[fold_path("out-0", 0)], "Base")
     for base in 1, -1, -(2**63) + 2:
         place.refused(f"base {base} at 0", fold_path("in-0", 0), changed(place, fold_path("in-0", 0), base=base), "Base")
+    # more records than the segment has bytes, so that a small file can't keep a check busy for hours
+    place.refused("a segment of one byte", fold_path("in-0", 0), changed(place, fold_path("in-0", 0), size=1), "Head")
+    heads = [fold_files.Head(0, None, 2**31 - 1, 61, -1, -1, -1)] * 1000
+    place.refused("records without bytes", fold_path("in-0", 0), changed(place, fold_path("in-0", 0), size=MOST_BYTES, heads=heads), "Head")
 
 
 def limits(place):
@@ -269,9 +273,9 @@ def made_up(place):
     place.accepted("a fault behind the front", path, changed(place, path, size=78, stop=(0, 77, 3)), said)
     said = 1, "no 1.2 Gap in-0 offset=2 found=5\n", ""
     place.accepted("a gap behind the front", path, changed(place, path, size=155, stop=(5,)), said)
-    said = 1, "no 1.10 End in-0 offset=4294967296 end=2\n", ""
-    many = [heads[0]._replace(count=2**31 - 1)] * 2 + heads
-    place.accepted("records without number", path, changed(place, path, heads=many), said)
+    said = 1, "no 1.10 End in-0 offset=1073741824 end=2\n", ""
+    many = [heads[0]._replace(count=2**29 - 1)] * 2 + heads
+    place.accepted("a record for each byte", path, changed(place, path, size=MOST_BYTES, heads=many), said)
     last = fold_files.Fold(CLAIMS, b"out", 0, LAST_OFFSET, 77, [Head(0, None, 1, 77, -1, -1, -1)], [b"in"], [None], ())
     said = 1, f"no 1.2 Gap out-0 offset=3 found={LAST_OFFSET}\n", ""
     place.accepted("the greatest offset", fold_path("out-0", LAST_OFFSET), fold_files.file_of(last), said)
