@@ -1,23 +1,37 @@
 //! The folds of a folder: how one is read, and why one is refused.
 
-ghost use Rattle.std.specs.Prelude.{◌≡◌, ◌≢◌, ◌≤◌, ◌<◌, ⊥, None, Some, IfOk};
+ghost use Rattle.std.specs.Prelude.{◌≡◌, ◌≢◌, ◌≤◌, ◌<◌, ◌-◌, ◌^◌, ⊥, min, None, Some, IfOk};
+ghost use Rattle.eos_fold_file.specs.Files.{record_count};
 ghost use Rattle.eos_fold_file.specs.Legal.{IsLegal};
 ghost use Rattle.eos_folder_source.specs.steps.Folds.{IsForName};
 
 use eos_evidence::{MAX_SEGMENT_BYTES, Segment};
-use eos_fold_file::{FoldFault, FoldFile, decode_fold};
+use eos_fold_file::{FoldFault, FoldFile, FoldHead, decode_fold};
 use eos_fold_run::Unfit;
 use eos_folder::{
     Cause, FoldRefusal, FolderFault, Form, Watch, open_segment, refused_fold, segment_path,
 };
 use std::alloc::Global;
 
-/// Why a fold isn't one of the segment by whose name its file lies there.
+/// Why a fold isn't one of the segment by whose name its file lies there. Each record takes bytes of its segment, so a small file can't
+/// make a check go over more records than a segment has room for.
 #[derive(Clone, Copy)]
 pub(crate) enum Mismatch {
     Partition,
     Base,
     Long,
+    Crowded,
+}
+
+/// The number of records of the batches with these heads, or the greatest u64 where that is less.
+fn records_in(heads: &[FoldHead]) -> u64
+    ensures { result ≡ min (record_count heads.now) (2 ^ 64 - 1) }
+{
+    let mut records = 0u64;
+    for head in heads {
+        records = records.saturating_add(u64::from(head.count));
+    }
+    records
 }
 
 /// Why a fold isn't one of the segment of this name, by the first of these tests.
@@ -26,6 +40,7 @@ fn mismatch_of(name: &Segment, fold: &FoldFile) -> Option<Mismatch>
     ensures partition { result ≡ Some Mismatch.Partition → fold.now.topic ≡ name.now.topic → fold.now.partition ≢ name.now.partition }
     ensures base { result ≡ Some Mismatch.Base → fold.now.base ≢ name.now.base }
     ensures long { result ≡ Some Mismatch.Long → MAX_SEGMENT_BYTES < fold.now.bytes }
+    ensures crowded { result ≡ Some Mismatch.Crowded → fold.now.bytes < record_count fold.now.heads }
 {
     if fold.topic != name.topic || fold.partition != name.partition {
         return Some(Mismatch::Partition);
@@ -35,6 +50,9 @@ fn mismatch_of(name: &Segment, fold: &FoldFile) -> Option<Mismatch>
     }
     if fold.bytes > MAX_SEGMENT_BYTES as u64 {
         return Some(Mismatch::Long);
+    }
+    if records_in(fold.heads.as_slice()) > fold.bytes {
+        return Some(Mismatch::Crowded);
     }
     None
 }
@@ -72,6 +90,10 @@ fn refused_as(alloc: Global, folder: &str, name: &Segment, why: Mismatch) -> Fol
         Mismatch::Base => FoldRefusal {
             name: "Base",
             words: "it is of another segment than its name says",
+        },
+        Mismatch::Crowded => FoldRefusal {
+            name: FoldFault::Head.name(),
+            words: "its batches have more records than its segment has bytes",
         },
         Mismatch::Long => {
             return match segment_path(alloc, folder, name, Form::Fold) {

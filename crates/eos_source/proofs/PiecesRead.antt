@@ -1,5 +1,5 @@
 -- What is asked of a piece that was opened: of a log that was read to its end, or of a fold.
-use Rattle.std.proofs.Common.{◌≡◌, ℕ, true, not, ◌≤◌, ◌^◌, List, [], ◌∷◌, ◌++◌, length, Option, Some, None, refl, sym, ap, subst, ◌∙◌, append-nil}
+use Rattle.std.proofs.Common.{◌≡◌, ℕ, true, not, ◌≤◌, List, [], ◌∷◌, ◌++◌, length, Option, Some, None, refl, sym, ap, subst, ◌∙◌, append-nil}
 use Rattle.std.specs.Prelude.{IfSome}
 use Rattle.std.specs.Io.KnownBytes.{Consumes, IsAtEnd}
 use Rattle.eos_evidence.specs.declared.segment.Segment.{Segment}
@@ -10,7 +10,6 @@ use Rattle.eos_fold_file.specs.Legal.{IsLegal}
 use Rattle.eos_part.specs.declared.run.KeptRun.{KeptRun}
 use Rattle.eos_part.specs.declared.run.KeptRun.TheVariants.{Presence, Claims, Texts}
 use Rattle.eos_part.specs.Runs.{IsKeptRun, wanted_by, front_of, HasClaims}
-use Rattle.eos_source.specs.declared.source.Piece.{Piece}
 use Rattle.eos_source.specs.declared.source.Piece.TheVariants as pieces
 use Rattle.eos_source.specs.Said.{Said, Log, Fold, Known, WillSay}
 use Rattle.eos_source.specs.steps.Runs.{Asking, IsAsked, IsTaken}

@@ -1,7 +1,7 @@
 -- The kept logs of an evidence, of whose pieces no more is known than a source and the shape say: there is what each piece said,
 -- and this is what is kept of the logs of each evidence of this shape whose segments are such. Where all pieces said logs there is
 -- one, as `laws` says; with a fold that was made of no segment there is none.
-use Rattle.std.specs.Prelude.{◌≡◌, ℕ, List, [], ◌∷◌, map, Option, ⊤}
+use Rattle.std.specs.Prelude.{◌≡◌, ℕ, List, [], ◌∷◌, map, ⊤}
 use Rattle.eos_evidence.specs.declared.application.App.{App}
 use Rattle.eos_evidence.specs.declared.partition.Partition.{Partition}
 use Rattle.eos_evidence.specs.Evidence.{EvidenceParts, IsEvidence}

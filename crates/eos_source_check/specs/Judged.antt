@@ -1,6 +1,6 @@
 -- The verdict that is worked out of kept logs: there is what each piece said, and it is the verdict of each evidence of this shape
 -- whose segments are such; these are what is wanted of its logs, and this is what is counted of its segments.
-use Rattle.std.specs.Prelude.{◌≡◌, ℕ, List, Option}
+use Rattle.std.specs.Prelude.{◌≡◌, ℕ, List}
 use Rattle.eos_evidence.specs.Evidence.{EvidenceParts, IsEvidence}
 use Rattle.eos_fold.specs.Parts.{PartLog}
 use Rattle.eos_lineage.specs.EvidenceLogs.{AreLogsOf}
