@@ -85,6 +85,9 @@ fn explain(rt: &HostRuntime, words: &Init<'_>, fault: InitFault) -> Result<u8, A
             let cause = Cause::of_file(rt, path.as_str());
             return Ok(end(rt, Ending::CannotRead(path.as_str(), &cause)));
         }
+        InitFault::Fold(path, name, cause) => {
+            return Ok(end(rt, Ending::Refused(path.as_str(), name, &cause)));
+        }
         InitFault::CannotWrite(path) => return Ok(end(rt, Ending::CannotWrite(path.as_str()))),
         InitFault::Apps(SpecFault::Field) => String::from_str(alloc, DOUBLED_APPS)?,
         InitFault::Ends(SpecFault::Field) => String::from_str(alloc, DOUBLED_ENDS)?,

@@ -39,6 +39,7 @@ pub fn end_unwritten(rt: &HostRuntime, path: &str, kind: ErrorKind) -> u8 {
     let why = match kind {
         ErrorKind::AlreadyExists => ": it is there already",
         ErrorKind::NotFound => ": no such folder",
+        ErrorKind::NotADirectory => ": not a folder",
         ErrorKind::PermissionDenied => ": permission denied",
         ErrorKind::OutOfMemory => return end(rt, Ending::OutOfMemory),
         _ => "",

@@ -4,7 +4,7 @@ use crate::cause::Cause;
 use crate::folder::FolderFault;
 use crate::names::{FileName, Form, read_file_name};
 use crate::paths::{partition_path, segment_path};
-use crate::refusal::{TWICE, refused_fold};
+use crate::refusal::{NO_RECORDS, TWICE, refused_fold};
 use bytes::Bytes;
 use eos_evidence::{End, MAX_SEGMENTS, Segment};
 use std::alloc::{AllocError, Global};
@@ -60,12 +60,7 @@ impl Segments {
         let Some(file) = files.first() else {
             return Ok(());
         };
-        let name = Segment {
-            topic: end.topic.clone()?,
-            partition: end.partition,
-            base: file.base,
-            bytes: Bytes::new(),
-        };
+        let name = named(end, file.base)?;
         if self.names.len() as u64 >= MAX_SEGMENTS {
             let path = segment_path(alloc, folder, &name, file.form)?;
             return Err(FolderFault::Limit(Cause::ManySegments(path)));
@@ -89,14 +84,30 @@ impl Segments {
     }
 }
 
-/// The base offsets of the logs of a partition, in order; its folds don't count. A partition without a folder has none; any other
-/// folder must be read.
+/// The base offsets of a partition's segments, in order, each of which is a log: a fold is refused. A partition without a folder has
+/// none; any other folder must be read.
 pub fn bases_of(rt: &HostRuntime, folder: &str, end: &End) -> Result<Vec<i64>, FolderFault> {
     let files = files_of(rt, folder, end)?;
+    for file in files.as_slice() {
+        if let Form::Fold = file.form {
+            let name = named(end, file.base)?;
+            return Err(refused_fold(rt.alloc(), folder, &name, NO_RECORDS));
+        }
+    }
     Ok(bases_of_logs(rt.alloc(), files.as_slice())?)
 }
 
-/// The base offsets of the logs in the folder of a partition at this path, in order.
+/// The segment of a partition with this first offset, without its bytes.
+fn named(end: &End, base: i64) -> Result<Segment, AllocError> {
+    Ok(Segment {
+        topic: end.topic.clone()?,
+        partition: end.partition,
+        base,
+        bytes: Bytes::new(),
+    })
+}
+
+/// The base offsets of the logs in the folder of a partition at this path, in order; its folds don't count.
 pub fn bases_in(rt: &HostRuntime, path: &str) -> Result<Vec<i64>, FolderFault> {
     match list_files(rt, path) {
         Ok(files) => Ok(bases_of_logs(rt.alloc(), files.as_slice())?),

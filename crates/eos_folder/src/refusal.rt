@@ -20,10 +20,10 @@ pub(crate) const TWICE: FoldRefusal = FoldRefusal {
     words: "the log of the same segment stands beside it",
 };
 
-/// Records are to be shown.
+/// Records are to be shown, or read for a manifest.
 pub(crate) const NO_RECORDS: FoldRefusal = FoldRefusal {
     name: "Fold",
-    words: "explain, draw and check --all show records, which a fold doesn't have: they need the log",
+    words: "explain, draw, init and check --all read records, which a fold doesn't have: they need the log",
 };
 
 /// The fold of this segment in the folder is refused so.

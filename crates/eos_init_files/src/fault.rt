@@ -5,7 +5,7 @@ ghost use Rattle.eos_init_files.specs.declared.fault.InitFault.TheVariants.{OutO
 
 use eos_base::PartitionName;
 use eos_evidence::SpecFault;
-use eos_folder::FolderFault;
+use eos_folder::{Cause, FolderFault};
 use std::alloc::{AllocError, AllocFailed};
 
 /// Why no manifest is made: the first of what stands against it. Nothing was written then.
@@ -17,6 +17,8 @@ pub enum InitFault {
     App(usize),
     /// This file or folder can't be read.
     CannotRead(String),
+    /// This file is a fold, which is refused by this name.
+    Fold(String, &'static str, Cause),
     /// This file can't be written.
     CannotWrite(String),
     /// The line of this number, counted from 1, is no TOPIC:PARTITION:OFFSET.
@@ -52,9 +54,8 @@ impl<T: Drop> From<AllocFailed<T>> for InitFault {
 /// What a folder that can't be read stands for here.
 pub(crate) fn unread(fault: FolderFault) -> InitFault {
     match fault {
-        FolderFault::CannotRead(path, _cause) | FolderFault::Fold(path, _, _cause) => {
-            InitFault::CannotRead(path)
-        }
+        FolderFault::CannotRead(path, _cause) => InitFault::CannotRead(path),
+        FolderFault::Fold(path, name, cause) => InitFault::Fold(path, name, cause),
         FolderFault::Manifest(fault, _cause) => InitFault::Ends(fault),
         FolderFault::Limit(_cause) => InitFault::Limit,
         FolderFault::OutOfMemory => InitFault::OutOfMemory,

@@ -228,7 +228,7 @@ bytes.
 A fold is what `check` wants of a segment: the head of each batch, and of its
 records nothing where FILE's applications read the topic, which input each one
 claims where they write it, and of Kafka's own two logs the keys and values. So
-it is a small part of the segment, and holds no data of the applications.
+it is a small part of the segment, without the applications' keys and values.
 docs/FOLD.md has its bytes.
 
 Folding judges nothing: a segment in which a fault stands is folded up to it,
@@ -242,8 +242,8 @@ what was written in one folder, put FILE there as evidence.json, and check that:
 
 That a fold was made of the log of its name, and that this log is whole, is
 yours to know. `check` refuses a fold that was made for other roles or other
-source topics than those of its manifest. `explain`, `draw` and `check --all`
-show records, which a fold doesn't have: they need the logs.";
+source topics than those of its manifest. `explain`, `draw`, `init` and `check
+--all` read records, which a fold doesn't have: they need the logs.";
 
 pub(crate) const SIMULATE: &str =
     "Writes a folder of logs as a simulated cluster leaves it, for `check`";
