@@ -1,45 +1,36 @@
 //! Calls of a segment that is read and written again, and of a text that is written to a device behind a buffer.
 
-use crate::words::{Line, bytes_of, number_of, place, show};
+use crate::row::Row;
 use bytes::Bytes;
 use eos_batch::{Batch, decode_batch, encode_batch, next_batch};
-use eos_text::{finish, push_value};
-use std::alloc::{AllocError, Global};
+use eos_text::finish;
+use std::alloc::Global;
 use std::io::BufWriter;
-
-pub(crate) fn answer(
-    alloc: Global,
-    line: &mut Line,
-    call: &str,
-    rest: &str,
-) -> Result<(), AllocError> {
-    match call {
-        "round_trip" => {
-            let bytes = bytes_of(alloc, &mut line.notes, rest)?;
-            round_trip(alloc, &mut line.text, &bytes)
-        }
-        _ => finished(alloc, line, rest),
-    }
-}
 
 /// Writes what comes of a text where the device behind a buffer has so much room, how many bytes it took, and how many the
 /// buffer holds back.
-fn finished(alloc: Global, line: &mut Line, words: &str) -> Result<(), AllocError> {
-    let (room, text) = words.split_once(' ').unwrap_or((words, ""));
-    let room = place(number_of(&mut line.notes, room)).min(65536);
-    let mut device = vec![in alloc; 0u8; room]?;
-    let Ok(mut buffer) = BufWriter::new(alloc, device.as_mut_slice()) else {
-        return Err(AllocError);
+pub(crate) fn finished(row: &mut Row<'_>) {
+    let room = row.word();
+    let room = row.place(room).min(65536);
+    if let Some(mut device) = row.got(vec![in row.alloc; 0u8; room]) {
+        finish_into(row, device.as_mut_slice());
+    }
+}
+
+fn finish_into(row: &mut Row<'_>, device: &mut [u8]) {
+    let Ok(mut buffer) = BufWriter::new(row.alloc, device) else {
+        row.is_out = true;
+        return;
     };
-    show(&mut line.text, finish(&mut buffer, text.as_bytes()))?;
+    row.say(finish(&mut buffer, row.rest.as_bytes()));
     let (rest, held) = buffer.into_parts();
-    push_value(&mut line.text, " left=", &rest.len())?;
-    push_value(&mut line.text, " held=", &held.len())
+    row.tell(" left=", rest.len());
+    row.tell(" held=", held.len());
 }
 
 /// Writes how many batches stand at the front of a segment; and `bytes` where each of them, encoded, has the bytes that it
 /// stands in, or else `batches` where each of them, encoded and decoded again, is the same.
-fn round_trip(alloc: Global, line: &mut String, bytes: &Bytes) -> Result<(), AllocError> {
+pub(crate) fn round_trip(row: &mut Row<'_>, bytes: &Bytes) {
     let mut at = 0;
     let mut count = 0u64;
     let mut are_bytes = true;
@@ -47,22 +38,22 @@ fn round_trip(alloc: Global, line: &mut String, bytes: &Bytes) -> Result<(), All
         if at >= bytes.len() {
             break;
         }
-        let Ok((batch, size)) = next_batch(alloc, bytes, at)? else {
+        let Some(Ok((batch, size))) = row.got(next_batch(row.alloc, bytes, at)) else {
             break;
         };
-        match written_again(alloc, bytes, at, &batch, size) {
-            None => return push_value(line, "batch isn't written and read back: ", &count),
+        match written_again(row.alloc, bytes, at, &batch, size) {
+            None => return row.tell("batch isn't written and read back: ", count),
             Some(is_same) => are_bytes = are_bytes && is_same,
         }
         at += size;
         count = count.saturating_add(1);
     }
-    push_value(line, "", &count)?;
-    line.push_str(if are_bytes {
+    row.say(count);
+    row.put(if are_bytes {
         " same bytes"
     } else {
         " same batches"
-    })
+    });
 }
 
 /// Whether a batch, encoded, has the bytes that it stands in, where it is read back as the same.
