@@ -2,7 +2,7 @@
 
 use crate::row::Row;
 use bytes::Bytes;
-use eos_batch::{Batch, decode_batch, encode_batch, next_batch};
+use eos_batch::{Batch, decode_batch, decode_segment, encode_batch};
 use eos_text::finish;
 use std::alloc::Global;
 use std::io::BufWriter;
@@ -28,50 +28,41 @@ fn finish_into(row: &mut Row<'_>, device: &mut [u8]) {
     row.tell(" held=", held.len());
 }
 
-/// Writes how many batches stand at the front of a segment; and `bytes` where each of them, encoded, has the bytes that it
-/// stands in, or else `batches` where each of them, encoded and decoded again, is the same.
+/// Writes how many batches stand at the front of a segment; and `bytes` where they, encoded, have the bytes that they stand in, or
+/// else `batches` where each of them, encoded and decoded again, is the same.
 pub(crate) fn round_trip(row: &mut Row<'_>, bytes: &Bytes) {
-    let mut at = 0;
-    let mut count = 0u64;
-    let mut are_bytes = true;
-    for _ in 0..bytes.len() {
-        if at >= bytes.len() {
-            break;
-        }
-        let Some(Ok((batch, size))) = row.got(next_batch(row.alloc, bytes, at)) else {
-            break;
-        };
-        match written_again(row.alloc, bytes, at, &batch, size) {
-            None => return row.tell("batch isn't written and read back: ", count),
-            Some(is_same) => are_bytes = are_bytes && is_same,
-        }
-        at += size;
-        count = count.saturating_add(1);
+    if let Some(text) = row.got(decode_segment(row.alloc, bytes)) {
+        tell_again(row, bytes.as_slice(), text.batches.as_slice());
     }
-    row.say(count);
-    row.put(if are_bytes {
+}
+
+fn tell_again(row: &mut Row<'_>, bytes: &[u8], batches: &[Batch]) {
+    let mut again = Vec::new(row.alloc);
+    for batch in batches {
+        write_again(row, &mut again, batch);
+    }
+    row.say(batches.len());
+    row.put(if bytes.starts_with(again.as_slice()) {
         " same bytes"
     } else {
         " same batches"
     });
 }
 
-/// Whether a batch, encoded, has the bytes that it stands in, where it is read back as the same.
-fn written_again(
-    alloc: Global,
-    bytes: &Bytes,
-    at: usize,
-    batch: &Batch,
-    size: usize,
-) -> Option<bool> {
-    let written = encode_batch(alloc, batch).ok()?;
-    if !reads_back(alloc, &written, batch) {
-        return None;
+/// Puts the bytes of a batch, encoded, behind others, and says where they aren't read back as the same batch and nothing more.
+fn write_again(row: &mut Row<'_>, again: &mut Vec<u8>, batch: &Batch) {
+    match encode_batch(row.alloc, batch) {
+        Err(fault) => row.say(fault),
+        Ok(written) => {
+            if !reads_back(row.alloc, &written, batch) {
+                row.put("not read back as the same: ");
+            }
+            let added = again.extend_from_slice(written.as_slice());
+            row.done(added);
+        }
     }
-    Some(bytes.as_slice().get(at..at.saturating_add(size)) == Some(written.as_slice()))
 }
 
-/// Whether these bytes are a text of this batch and nothing more.
 fn reads_back(alloc: Global, written: &Bytes, batch: &Batch) -> bool {
     match decode_batch(alloc, written, 0) {
         Ok((again, length)) => again == *batch && length == written.len(),

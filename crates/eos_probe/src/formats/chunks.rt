@@ -33,28 +33,38 @@ pub(super) fn answer(row: &mut Row<'_>, call: &str, bytes: &Bytes) {
     let bytes = bytes.as_slice();
     match call {
         "chain_in" => row.say(chain_from(row.alloc, &mut Chopped { bytes, most })),
-        "count_in" => {
-            if let Some(folded) = row.got(fed(row.alloc, &Nothing, bytes, most)) {
-                count(row, &folded);
-            }
-        }
-        "count_from" => match fold_log(row.alloc, &Nothing, &mut Chopped { bytes, most }) {
-            Ok(folded) => count(row, &folded),
-            Err(fault) => row.say(fault),
-        },
-        "claims_in" => {
-            let topics = row.topics(row.rest);
-            let topics = topics.as_slice();
-            if let Some(folded) = row.got(fed(row.alloc, &Outputs { topics }, bytes, most)) {
-                tell_outputs(row, topics, &folded);
-            }
-        }
-        "texts_in" => {
-            if let Some(folded) = row.got(fed(row.alloc, &Texts, bytes, most)) {
-                tell_texts(row, &folded);
-            }
-        }
+        "count_in" => count_in(row, bytes, most),
+        "count_from" => count_from(row, bytes, most),
+        "claims_in" => claims_in(row, bytes, most),
+        "texts_in" => texts_in(row, bytes, most),
         _ => row.is_bad = true,
+    }
+}
+
+fn count_in(row: &mut Row<'_>, bytes: &[u8], most: usize) {
+    if let Some(folded) = row.got(fed(row.alloc, &Nothing, bytes, most)) {
+        count(row, &folded);
+    }
+}
+
+fn count_from(row: &mut Row<'_>, bytes: &[u8], most: usize) {
+    match fold_log(row.alloc, &Nothing, &mut Chopped { bytes, most }) {
+        Ok(folded) => count(row, &folded),
+        Err(fault) => row.say(fault),
+    }
+}
+
+fn claims_in(row: &mut Row<'_>, bytes: &[u8], most: usize) {
+    let topics = row.topics(row.rest);
+    let topics = topics.as_slice();
+    if let Some(folded) = row.got(fed(row.alloc, &Outputs { topics }, bytes, most)) {
+        tell_outputs(row, topics, &folded);
+    }
+}
+
+fn texts_in(row: &mut Row<'_>, bytes: &[u8], most: usize) {
+    if let Some(folded) = row.got(fed(row.alloc, &Texts, bytes, most)) {
+        tell_texts(row, &folded);
     }
 }
 
@@ -124,11 +134,11 @@ fn tell_bytes(row: &mut Row<'_>, bytes: Option<&[u8]>) {
 fn tell_claim(row: &mut Row<'_>, claim: Option<ClaimRef<'_>>) {
     if let Some(claim) = claim {
         let topic = std::str::from_utf8(claim.topic).unwrap_or("no text");
-        let (output, of, number, offset) = (claim.output, claim.of, claim.partition, claim.offset);
-        let done = write!(
-            &mut row.text,
-            ": output {output}/{of} of {topic}-{number}:{offset}"
-        );
-        row.done(done);
+        row.tell(": output ", claim.output);
+        row.tell("/", claim.of);
+        row.put(" of ");
+        row.put(topic);
+        row.tell("-", claim.partition);
+        row.tell(":", claim.offset);
     }
 }

@@ -12,18 +12,12 @@ pub(super) fn least(row: &mut Row<'_>) {
         topic: Bytes::from_static(b"in"),
         partition: 0,
     };
-    let (first, second) = row.rest.split_once(' ').unwrap_or((row.rest, ""));
-    let first = claim_of(row, &name, first);
-    if second.is_empty() {
-        tell(row, &[first]);
-    } else {
-        let second = claim_of(row, &name, second);
-        tell(row, &[first, second]);
+    let mut claims = Vec::new(row.alloc);
+    for word in row.rest.split(' ') {
+        let claim = claim_of(row, &name, word);
+        row.push(&mut claims, claim);
     }
-}
-
-fn tell(row: &mut Row<'_>, claims: &[NumberedClaim<'_>]) {
-    match least_of_runs(None, claims) {
+    match least_of_runs(None, claims.as_slice()) {
         None => row.put("None"),
         Some(found) => row.say(Some((found.kind, found.output))),
     }

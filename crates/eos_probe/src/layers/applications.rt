@@ -99,13 +99,11 @@ fn push_commits(row: &mut Row<'_>, all: &[CommitRef<'_>], topic: &[u8], number: 
     row.tell("last=", last_committed(all, topic, number));
     for commit in all {
         let topic = std::str::from_utf8(commit.topic).unwrap_or("no text");
-        let (number, offset) = (commit.partition, commit.offset);
-        let done = write!(
-            &mut row.text,
-            " {topic}-{number}:{offset}={:?}",
-            commit.writer
-        );
-        row.done(done);
+        row.put(" ");
+        row.put(topic);
+        row.tell("-", commit.partition);
+        row.tell(":", commit.offset);
+        row.tell("=", commit.writer);
     }
 }
 
