@@ -26,23 +26,28 @@ fn touch_of(row: &mut Row<'_>, word: &str) -> Touch {
     let (kind, rest) = word.split_once('/').unwrap_or((word, ""));
     let (epoch, sequence) = rest.split_once('/').unwrap_or((rest, "0"));
     let epoch = row.parse(epoch, 0);
+    let sequence = row.parse(sequence, 0);
     match kind {
         "commit" => end(epoch, Kind::Commit),
         "abort" => end(epoch, Kind::Abort),
+        "txn" => data(epoch, true, sequence),
+        "plain" => data(epoch, false, sequence),
         _ => {
-            if kind != "txn" && kind != "plain" {
-                row.is_bad = true;
-            }
-            Touch::Data {
-                epoch,
-                transactional: kind == "txn",
-                sequence: row.parse(sequence, 0),
-                count: 1,
-            }
+            row.is_bad = true;
+            end(epoch, Kind::Abort)
         }
     }
 }
 
 fn end(epoch: i16, kind: Kind) -> Touch {
     Touch::End { epoch, kind }
+}
+
+fn data(epoch: i16, transactional: bool, sequence: i32) -> Touch {
+    Touch::Data {
+        epoch,
+        transactional,
+        sequence,
+        count: 1,
+    }
 }
