@@ -97,9 +97,9 @@ fn put_back<L: Ledger>(
     }
 }
 
-/// Writes what the step of a word does: `post:N,P` posts the run of a piece under a number; `twofold:P` the run of a piece and of the
-/// number after it, with the piece's segment twice; `join` merges and posts pairs until there are none; `pair` takes a pair and
-/// puts it back; `back:P,Q` puts back the runs of two pieces, made anew.
+/// Writes what the step of a word does: `post:N,P` posts the run of a piece under a number; `twofold:P` the run of a piece and
+/// of the number after it, with the piece's segment twice; `join` merges and posts pairs until there are none; `pair` takes a
+/// pair and puts it back; `back:P,Q` puts back the runs of two pieces, made anew.
 fn happen<L: Ledger>(row: &mut Row<'_>, evidence: &Evidence, desk: &mut Desk<L>, name: &str) {
     let count = match name {
         "post" | "back" => 2,
