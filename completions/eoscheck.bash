@@ -3,7 +3,7 @@ _eoscheck() {
   local word=${COMP_WORDS[COMP_CWORD]} before=${COMP_WORDS[COMP_CWORD - 1]}
   COMPREPLY=()
   if [ "$COMP_CWORD" -eq 1 ]; then
-    mapfile -t COMPREPLY < <(compgen -W 'check dump chain explain draw init simulate help -h --help -V --version' -- "$word")
+    mapfile -t COMPREPLY < <(compgen -W 'check dump chain explain draw init fold simulate help -h --help -V --version' -- "$word")
     return
   fi
   case ${COMP_WORDS[1]} in
@@ -84,6 +84,19 @@ _eoscheck() {
     case $word in
     -*) mapfile -t COMPREPLY < <(compgen -W '--version1 --app --ends --ends-from-logs -h --help' -- "$word") ;;
     *) mapfile -t COMPREPLY < <(compgen -d -- "$word") ;;
+    esac ;;
+  fold)
+    case $before in
+    --manifest)
+      mapfile -t COMPREPLY < <(compgen -f -- "$word")
+      return ;;
+    --out)
+      mapfile -t COMPREPLY < <(compgen -W '' -- "$word")
+      return ;;
+    esac
+    case $word in
+    -*) mapfile -t COMPREPLY < <(compgen -W '--manifest --out -h --help' -- "$word") ;;
+    *) mapfile -t COMPREPLY < <(compgen -f -- "$word") ;;
     esac ;;
   simulate)
     case $before in
