@@ -116,11 +116,11 @@ def folds_of(folder):
 
 
 def files_in(path):
-    """The bytes of each file below a folder, by its path there."""
+    """The bytes of each file below a folder, by its path there; of a link where it leads."""
     found = {}
     for at, _, names in os.walk(path):
-        for name in names:
-            found[os.path.relpath(os.path.join(at, name), path)] = read(os.path.join(at, name))
+        for file in (os.path.join(at, name) for name in names):
+            found[os.path.relpath(file, path)] = os.readlink(file).encode() if os.path.islink(file) else read(file)
     return found
 
 

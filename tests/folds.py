@@ -38,7 +38,8 @@ RANDOM = 300
 OF_THE_RUN = ("folder", "seconds")
 # How much of an evidence its folds may be: bytes of a value, inputs a transaction, and the share.
 SIZES = [(100, 500, 0.25), (100, 10, 0.25), (100, 1, 0.26), (1000, 500, 0.03), (1000, 10, 0.03), (1000, 1, 0.08)]
-MEBIBYTES = {100: 1, 1000: 4}
+# So much that most inputs are worked off, though they are written by 500.
+MEBIBYTES = {100: 4, 1000: 16}
 
 
 # ---- folds of folders
@@ -49,7 +50,7 @@ def folded(tests, folder, name, each=False):
     partition."""
     out = tests.new("folds")
     wanted, line = folds_of(folder)
-    if each:
+    if each or not partitions_of(folder):
         for partition in partitions_of(folder):
             status, _, err = tests.run(*fold_words(folder, out, [partition]))
             tests.same(f"{name}, fold of {partition}", (status, err), (0, ""))
@@ -276,18 +277,21 @@ def made_folder(tests, program, mebibytes, inputs=500):
 
 
 def sizes(tests):
-    """How large the folds of made folders are, which are also those of the second encoder and deserve the verdict."""
+    """How large the folds of made folders are, which deserve the verdict; the smaller ones also by the second encoder."""
     programs = {size: maker(tests, size) for size, _, _ in SIZES}
     for size, inputs, most in SIZES:
         folder, verdict = made_folder(tests, programs[size], MEBIBYTES[size], inputs)
         name = f"values of {size} bytes, {inputs} inputs a transaction"
-        folds = folded(tests, folder, name)
+        if size == 100:
+            folds = folded(tests, folder, name)
+        else:
+            tests.run(*fold_words(folder, tests.new("folds")))
+            folds = files_in(os.path.join(tests.room, "folds"))
         logs = sum(os.path.getsize(it) for it in glob.glob(f"{folder}/*/*.log"))
         share = sum(map(len, folds.values())) / logs
         tests.same(f"{name}: {share:.4f} is at most {most}", share <= most, True)
-        made = with_folds(folder, folds, tests.new("mixed"))
-        for workers in WORKERS:
-            tests.same(f"{name}, {workers} workers", tests.check(made, "--workers", workers), (0, f"{verdict}\n", ""))
+        same_answers(tests, folder, folds, name, [("folds", lambda path: True)])
+        tests.same(f"{name}, the verdict that it deserves", tests.check(folder)[1], f"{verdict}\n")
 
 
 def engines(tests):
