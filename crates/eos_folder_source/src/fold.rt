@@ -1,6 +1,6 @@
 //! The folds of a folder: how one is read, and why one is refused.
 
-ghost use Rattle.std.specs.Prelude.{◌≡◌, ◌≢◌, ◌≤◌, ◌<◌, ◌-◌, ◌^◌, ⊥, min, None, Some, IfOk};
+ghost use Rattle.std.specs.Prelude.{◌≡◌, ◌≢◌, ◌≤◌, ◌<◌, ◌-◌, ◌^◌, min, None, Some, IfOk};
 ghost use Rattle.eos_fold_file.specs.Files.{record_count};
 ghost use Rattle.eos_fold_file.specs.Legal.{IsLegal};
 ghost use Rattle.eos_folder_source.specs.steps.Folds.{IsForName};

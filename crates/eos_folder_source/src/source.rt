@@ -24,16 +24,14 @@ pub struct FolderSource<'a, W: Watch> {
     pub watch: &'a W,
 }
 
-impl<'a, W: Watch> FolderSource<'a, W> {
-    /// The name and the form of the piece of this number, where the shape has it.
-    fn piece(&self, piece: u64) -> Option<(&'a Segment, Form)>
-        ensures { IfSome result (λ found. is_log_at self.now.forms.now piece ≡ true → found.1 ≡ Log) }
-    {
-        if piece >= self.shape.pieces() || piece >= self.forms.len() as u64 {
-            return None;
-        }
-        Some((self.shape.piece(piece), self.forms[piece as usize]))
+/// The name and the form of the piece of this number, where the shape has it.
+fn piece_of<'a>(shape: &'a Evidence, forms: &[Form], piece: u64) -> Option<(&'a Segment, Form)>
+    ensures { IfSome result (λ found. is_log_at forms.now piece ≡ true → found.1 ≡ Log) }
+{
+    if piece >= shape.pieces() || piece >= forms.len() as u64 {
+        return None;
     }
+    Some((shape.piece(piece), forms[piece as usize]))
 }
 
 impl<'a, W: Watch> Source for FolderSource<'a, W> {
@@ -51,7 +49,7 @@ impl<'a, W: Watch> Source for FolderSource<'a, W> {
     /// Opens the file of a segment. There is no file of a number that the shape doesn't have, which is answered as a segment too
     /// many.
     fn open(&self, _alloc: Global, piece: u64) -> Result<Piece<SegmentReader<'a, W>>, FolderFault> {
-        match self.piece(piece) {
+        match piece_of(self.shape, self.forms, piece) {
             Some((name, Form::Log)) => {
                 let file = open_segment(self.rt, self.folder, name, Form::Log)?;
                 Ok(Piece::Log(SegmentReader::new(file, self.watch)))
@@ -75,7 +73,7 @@ impl<'a, W: Watch> Source for FolderSource<'a, W> {
     }
 
     fn unfit(&self, alloc: Global, piece: u64, why: Unfit) -> FolderFault {
-        match self.piece(piece) {
+        match piece_of(self.shape, self.forms, piece) {
             Some((name, _)) => refused_unfit(alloc, self.folder, name, why),
             None => FolderFault::Limit(Cause::Unknown),
         }
