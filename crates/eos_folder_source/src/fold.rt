@@ -5,12 +5,11 @@ ghost use Rattle.eos_fold_file.specs.Files.{record_count};
 ghost use Rattle.eos_fold_file.specs.Legal.{IsLegal};
 ghost use Rattle.eos_folder_source.specs.steps.Folds.{IsForName};
 
+use bytes::Bytes;
 use eos_evidence::{MAX_SEGMENT_BYTES, Segment};
 use eos_fold_file::{FoldFault, FoldFile, FoldHead, decode_fold};
 use eos_fold_run::Unfit;
-use eos_folder::{
-    Cause, FoldRefusal, FolderFault, Form, Watch, open_segment, refused_fold, segment_path,
-};
+use eos_folder::{Cause, FoldRefusal, FolderFault, Form, open_segment, refused_fold, segment_path};
 use std::alloc::Global;
 
 /// Why a fold isn't one of the segment by whose name its file lies there. Each record takes bytes of its segment, so a small file can't
@@ -57,20 +56,26 @@ fn mismatch_of(name: &Segment, fold: &FoldFile) -> Option<Mismatch>
     None
 }
 
-/// The fold of the segment of this name in a folder. The watch is told how many bytes the fold has.
-pub(crate) fn read_fold<W: Watch>(
+/// The bytes of the fold of the segment of this name in a folder.
+pub(crate) fn read_bytes(
     rt: &HostRuntime,
     folder: &str,
     name: &Segment,
-    watch: &W,
+) -> Result<Bytes, FolderFault> {
+    open_segment(rt, folder, name, Form::Fold)?.read_whole(rt.alloc())
+}
+
+/// The fold of the segment of this name in a folder, of these bytes.
+pub(crate) fn read_fold(
+    alloc: Global,
+    folder: &str,
+    name: &Segment,
+    bytes: &Bytes,
 ) -> Result<FoldFile, FolderFault>
     ensures legal { IfOk result IsLegal }
     ensures named { IfOk result (IsForName name.now) }
 {
-    let alloc = rt.alloc();
-    let bytes = open_segment(rt, folder, name, Form::Fold)?.read_whole(alloc)?;
-    watch.read(bytes.len() as u64);
-    match decode_fold(alloc, &bytes) {
+    match decode_fold(alloc, bytes) {
         Ok(fold) => match mismatch_of(name, &fold) {
             None => Ok(fold),
             Some(why) => Err(refused_as(alloc, folder, name, why)),

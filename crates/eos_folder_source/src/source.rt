@@ -4,7 +4,7 @@ ghost use Rattle.std.specs.Prelude.{◌≡◌, true, IfSome};
 ghost use Rattle.eos_folder.specs.declared.names.Form.TheVariants.{Log};
 ghost use Rattle.eos_folder_source.specs.Logs.{is_log_at};
 
-use crate::fold::{read_fold, refused_unfit};
+use crate::fold::{read_bytes, read_fold, refused_unfit};
 use crate::reader::SegmentReader;
 use eos_evidence::{Evidence, ReadFault, Segment};
 use eos_fold_run::Unfit;
@@ -48,14 +48,16 @@ impl<'a, W: Watch> Source for FolderSource<'a, W> {
 
     /// Opens the file of a segment. There is no file of a number that the shape doesn't have, which is answered as a segment too
     /// many.
-    fn open(&self, _alloc: Global, piece: u64) -> Result<Piece<SegmentReader<'a, W>>, FolderFault> {
+    fn open(&self, alloc: Global, piece: u64) -> Result<Piece<SegmentReader<'a, W>>, FolderFault> {
         match piece_of(self.shape, self.forms, piece) {
             Some((name, Form::Log)) => {
                 let file = open_segment(self.rt, self.folder, name, Form::Log)?;
                 Ok(Piece::Log(SegmentReader::new(file, self.watch)))
             }
             Some((name, Form::Fold)) => {
-                let fold = read_fold(self.rt, self.folder, name, self.watch)?;
+                let bytes = read_bytes(self.rt, self.folder, name)?;
+                self.watch.read(bytes.len() as u64);
+                let fold = read_fold(alloc, self.folder, name, &bytes)?;
                 Ok(Piece::Fold(fold))
             }
             None => Err(FolderFault::Limit(Cause::Unknown)),

@@ -5,24 +5,16 @@ mod course;
 mod events;
 mod readings;
 
-use crate::words::{Line, first_of};
-use std::alloc::{AllocError, Global};
+use crate::row::Row;
+use crate::workers;
 use std::sync::Wait;
 use std::thread::Threads;
 
-pub(crate) fn answer<R: Threads + Wait + Sync>(
-    rt: &R,
-    alloc: Global,
-    line: &mut Line,
-    call: &str,
-    rest: &str,
-) -> Result<(), AllocError> {
+pub(crate) fn answer<R: Threads + Wait + Sync>(rt: &R, row: &mut Row<'_>, call: &str) {
     match call {
-        "cluster" => {
-            let (sizes, words) = first_of(rest);
-            course::run(rt, alloc, line, sizes, words)
-        }
-        "callers" => callers::scripts(rt, alloc, line, rest),
-        _ => callers::feeders(rt, alloc, line),
+        "cluster" => course::run(rt, row),
+        "callers" => callers::scripts(rt, row),
+        "feeders" => callers::feeders(rt, row),
+        _ => workers::answer(rt, row, call),
     }
 }

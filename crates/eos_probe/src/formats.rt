@@ -11,34 +11,20 @@ mod touches;
 mod txnlog;
 mod wire;
 
-use crate::words::{Line, bytes_of, first_of};
-use std::alloc::{AllocError, Global};
+use crate::row::Row;
+use crate::texts;
 
-pub(crate) fn answer(line: &mut Line, call: &str, rest: &str) -> Result<(), AllocError> {
+/// The last calls have bytes as their first word.
+pub(crate) fn answer(row: &mut Row<'_>, call: &str) {
     match call {
-        "fault_names" => names::of_family(line, rest),
-        "pair_ok" => touches::pair(line, rest),
-        _ => claims::least(line, rest),
-    }
-}
-
-/// What a call answers whose first word is bytes: the modules ask each other, in the order of the layers.
-pub(crate) fn of_bytes(
-    alloc: Global,
-    line: &mut Line,
-    call: &str,
-    rest: &str,
-) -> Result<(), AllocError> {
-    let (first, more) = first_of(rest);
-    match bytes_of(alloc, &mut line.notes, first) {
-        Ok(bytes) => match call {
-            "read_history_head"
-            | "read_history_row"
-            | "read_history"
-            | "write_history"
-            | "history_fault" => history::answer(alloc, line, call, &bytes),
-            _ => wire::answer(alloc, line, call, &bytes, more),
-        },
-        Err(error) => Err(error),
+        "fault_names" => names::of_family(row),
+        "pair_ok" => touches::pair(row),
+        "least_of_runs" => claims::least(row),
+        "finish" => texts::finished(row),
+        _ => {
+            let word = row.word();
+            let bytes = row.bytes(word);
+            history::answer(row, call, &bytes);
+        }
     }
 }

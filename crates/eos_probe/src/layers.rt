@@ -8,29 +8,31 @@ mod rungs;
 mod transactions;
 mod verdicts;
 
-use crate::words::Line;
+use crate::formats;
+use crate::row::Row;
+pub(crate) use applications::spec_of;
 pub(crate) use orders::merged;
-use std::alloc::{AllocError, Global};
+pub(crate) use parts::segment_of;
 use std::thread::Threads;
 pub(crate) use verdicts::push_verdict;
 
-pub(crate) fn answer<R: Threads + Sync>(
-    rt: &R,
-    alloc: Global,
-    line: &mut Line,
-    call: &str,
-    rest: &str,
-) -> Result<(), AllocError> {
+pub(crate) fn answer<R: Threads + Sync>(rt: &R, row: &mut Row<'_>, call: &str) {
     match call {
-        "part_kind" | "part_fault" | "fates" | "closes" | "markers" | "part" => {
-            logs::answer(alloc, line, call, rest)
+        "verdict" if row.rest.is_empty() => verdicts::tell_texts(row, &verdicts::YES),
+        "part_kind" | "part_fault" | "fates" | "closes" | "markers" | "part" | "verdict" => {
+            logs::answer(row, call)
         }
-        "summarise" => rungs::answer(alloc, line, rest),
+        "summarise" => rungs::answer(row),
         "txn_log" | "all_log_faults" | "all_match_faults" | "match_shards" => {
-            transactions::answer(alloc, line, call, rest)
+            transactions::answer(row, call)
         }
-        "verdict" => verdicts::both(alloc, line, rest),
-        "write_verdict" => verdicts::written(alloc, line, rest),
-        _ => applications::answer(rt, alloc, line, call, rest),
+        "write_verdict" => verdicts::write(row),
+        "check_lineage" | "all_output_faults" | "least_visible_fault" => {
+            applications::answer(rt, row, call)
+        }
+        "commits_of" => applications::commits(row),
+        "committed" => applications::offset_of(row),
+        "topic_set" => applications::has(row),
+        _ => formats::answer(row, call),
     }
 }

@@ -1,86 +1,68 @@
 //! Calls of a segment that is read and written again, and of a text that is written to a device behind a buffer.
 
-use crate::words::{Line, bytes_of, number_of, place, show};
+use crate::row::Row;
 use bytes::Bytes;
-use eos_batch::{Batch, decode_batch, encode_batch, next_batch};
-use eos_text::{finish, push_value};
-use std::alloc::{AllocError, Global};
+use eos_batch::{Batch, decode_batch, decode_segment, encode_batch};
+use eos_text::finish;
+use std::alloc::Global;
 use std::io::BufWriter;
-
-pub(crate) fn answer(
-    alloc: Global,
-    line: &mut Line,
-    call: &str,
-    rest: &str,
-) -> Result<(), AllocError> {
-    match call {
-        "round_trip" => {
-            let bytes = bytes_of(alloc, &mut line.notes, rest)?;
-            round_trip(alloc, &mut line.text, &bytes)
-        }
-        _ => finished(alloc, line, rest),
-    }
-}
 
 /// Writes what comes of a text where the device behind a buffer has so much room, how many bytes it took, and how many the
 /// buffer holds back.
-fn finished(alloc: Global, line: &mut Line, words: &str) -> Result<(), AllocError> {
-    let (room, text) = words.split_once(' ').unwrap_or((words, ""));
-    let room = place(number_of(&mut line.notes, room)).min(65536);
-    let mut device = vec![in alloc; 0u8; room]?;
-    let Ok(mut buffer) = BufWriter::new(alloc, device.as_mut_slice()) else {
-        return Err(AllocError);
-    };
-    show(&mut line.text, finish(&mut buffer, text.as_bytes()))?;
-    let (rest, held) = buffer.into_parts();
-    push_value(&mut line.text, " left=", &rest.len())?;
-    push_value(&mut line.text, " held=", &held.len())
+pub(crate) fn finished(row: &mut Row<'_>) {
+    let room = row.word();
+    let room = row.place(room).min(65536);
+    if let Some(mut device) = row.got(vec![in row.alloc; 0u8; room]) {
+        finish_into(row, device.as_mut_slice());
+    }
 }
 
-/// Writes how many batches stand at the front of a segment; and `bytes` where each of them, encoded, has the bytes that it
-/// stands in, or else `batches` where each of them, encoded and decoded again, is the same.
-fn round_trip(alloc: Global, line: &mut String, bytes: &Bytes) -> Result<(), AllocError> {
-    let mut at = 0;
-    let mut count = 0u64;
-    let mut are_bytes = true;
-    for _ in 0..bytes.len() {
-        if at >= bytes.len() {
-            break;
-        }
-        let Ok((batch, size)) = next_batch(alloc, bytes, at)? else {
-            break;
-        };
-        match written_again(alloc, bytes, at, &batch, size) {
-            None => return push_value(line, "batch isn't written and read back: ", &count),
-            Some(is_same) => are_bytes = are_bytes && is_same,
-        }
-        at += size;
-        count = count.saturating_add(1);
+fn finish_into(row: &mut Row<'_>, device: &mut [u8]) {
+    let Ok(mut buffer) = BufWriter::new(row.alloc, device) else {
+        row.is_out = true;
+        return;
+    };
+    row.say(finish(&mut buffer, row.rest.as_bytes()));
+    let (rest, held) = buffer.into_parts();
+    row.tell(" left=", rest.len());
+    row.tell(" held=", held.len());
+}
+
+/// Writes how many batches stand at the front of a segment; and `bytes` where they, encoded, have the bytes that they stand in, or
+/// else `batches` where each of them, encoded and decoded again, is the same.
+pub(crate) fn round_trip(row: &mut Row<'_>, bytes: &Bytes) {
+    if let Some(text) = row.got(decode_segment(row.alloc, bytes)) {
+        tell_again(row, bytes.as_slice(), text.batches.as_slice());
     }
-    push_value(line, "", &count)?;
-    line.push_str(if are_bytes {
+}
+
+fn tell_again(row: &mut Row<'_>, bytes: &[u8], batches: &[Batch]) {
+    let mut again = Vec::new(row.alloc);
+    for batch in batches {
+        write_again(row, &mut again, batch);
+    }
+    row.say(batches.len());
+    row.put(if bytes.starts_with(again.as_slice()) {
         " same bytes"
     } else {
         " same batches"
-    })
+    });
 }
 
-/// Whether a batch, encoded, has the bytes that it stands in, where it is read back as the same.
-fn written_again(
-    alloc: Global,
-    bytes: &Bytes,
-    at: usize,
-    batch: &Batch,
-    size: usize,
-) -> Option<bool> {
-    let written = encode_batch(alloc, batch).ok()?;
-    if !reads_back(alloc, &written, batch) {
-        return None;
+/// Puts the bytes of a batch, encoded, behind others, and says where they aren't read back as the same batch and nothing more.
+fn write_again(row: &mut Row<'_>, again: &mut Vec<u8>, batch: &Batch) {
+    match encode_batch(row.alloc, batch) {
+        Err(fault) => row.say(fault),
+        Ok(written) => {
+            if !reads_back(row.alloc, &written, batch) {
+                row.put("not read back as the same: ");
+            }
+            let added = again.extend_from_slice(written.as_slice());
+            row.done(added);
+        }
     }
-    Some(bytes.as_slice().get(at..at.saturating_add(size)) == Some(written.as_slice()))
 }
 
-/// Whether these bytes are a text of this batch and nothing more.
 fn reads_back(alloc: Global, written: &Bytes, batch: &Batch) -> bool {
     match decode_batch(alloc, written, 0) {
         Ok((again, length)) => again == *batch && length == written.len(),

@@ -6,31 +6,29 @@ mod gate;
 mod pool;
 mod tickets;
 
-use crate::words::{Line, sides};
-use std::alloc::{AllocError, Global};
+use crate::layers;
+use crate::row::Row;
 use std::sync::Wait;
 use std::thread::Threads;
 
-/// Evidence stands behind `|`.
-pub(crate) fn answer<R: Threads + Wait + Sync>(
-    rt: &R,
-    alloc: Global,
-    line: &mut Line,
-    call: &str,
-    rest: &str,
-) -> Result<(), AllocError> {
-    if call == "tickets" {
-        return tickets::tell(rt, alloc, line, rest);
+pub(crate) fn answer<R: Threads + Wait + Sync>(rt: &R, row: &mut Row<'_>, call: &str) {
+    match call {
+        "tickets" => tickets::tell(rt, row),
+        "board" | "pool" | "check" | "check_one" => answer_of(rt, row, call),
+        _ => layers::answer(rt, row, call),
     }
-    let (words, partitions) = sides(&mut line.notes, rest, '|');
-    let words = words.trim_end();
-    match evidence::evidence_of(alloc, &mut line.notes, partitions) {
-        Ok(evidence) => match call {
-            "board" => board::run(alloc, line, &evidence, words),
-            "pool" => pool::run(alloc, line, &evidence, words),
-            "check" => gate::check_behind(rt, alloc, line, &evidence, words),
-            _ => gate::check_alone(rt, alloc, &mut line.text, &evidence),
-        },
-        Err(error) => Err(error),
+}
+
+/// What is said of evidence, which stands behind `|`.
+fn answer_of<R: Threads + Wait + Sync>(rt: &R, row: &mut Row<'_>, call: &str) {
+    let words = row.upto('|').trim_end();
+    if let Some(evidence) = evidence::evidence_of(row) {
+        row.rest = words;
+        match call {
+            "board" => board::run(row, &evidence),
+            "pool" => pool::run(row, &evidence),
+            "check" => gate::check_behind(rt, row, &evidence),
+            _ => gate::check_alone(rt, row, &evidence),
+        }
     }
 }

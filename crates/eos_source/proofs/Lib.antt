@@ -3,3 +3,4 @@ mod PiecesJoined
 mod PiecesRead
 mod ShapesFilled
 mod SlotsRead
+mod TopicsOnce

@@ -15,8 +15,9 @@ mod seats;
 mod slots;
 mod source;
 mod told;
+mod topics;
 
 pub use logs::{KeptLogs, Tally, kept_logs};
 pub use memory::{MemoryFault, MemorySource};
-pub use plan::source_topics;
 pub use source::{Piece, Source};
+pub use topics::source_topics;

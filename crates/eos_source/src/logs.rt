@@ -11,10 +11,11 @@ ghost use Rattle.eos_source.specs.steps.Partitions.{IsToldOf, AreToldOf};
 ghost use Rattle.eos_source.specs.steps.Runs.{AreSlots, AreSlotsOf};
 
 use crate::joined::next_run;
-use crate::plan::{Plan, source_topics};
+use crate::plan::Plan;
 use crate::slots::read_all;
 use crate::source::Source;
 use crate::told::told_of;
+use crate::topics::source_topics;
 use eos_evidence::{Evidence, Partition};
 use eos_kept::Sizes;
 use eos_part::{KeptRun, Part, Told};

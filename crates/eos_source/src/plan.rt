@@ -11,10 +11,10 @@ ghost use Rattle.eos_wanted.specs.Wanted.{wanted_of};
 use crate::piece::read_piece;
 use crate::source::Source;
 use bytes::Bytes;
-use eos_evidence::{App, Evidence};
+use eos_evidence::Evidence;
 use eos_part::{Asked, KeptRun};
 use eos_wanted::Wants;
-use std::alloc::{AllocError, Global};
+use std::alloc::Global;
 
 /// Where the pieces of an evidence of this shape are read from, and what is asked of them.
 #[derive(Drop)]
@@ -50,17 +50,4 @@ impl<'a, S: Source> Plan<'a, S> {
         let asked = self.asked_of(name.topic.as_slice());
         read_piece(alloc, self.source, asked, piece, name)
     }
-}
-
-/// The topics that the applications read, each once, in order: most claims name one of these.
-pub fn source_topics(alloc: Global, apps: &[App]) -> Result<Vec<Bytes>, AllocError> {
-    let mut topics = Vec::new(alloc);
-    for app in apps {
-        for topic in app.sources.as_slice() {
-            topics.push(topic.clone()?)?;
-        }
-    }
-    topics.sort_unstable();
-    topics.dedup();
-    Ok(topics)
 }

@@ -2,13 +2,12 @@
 
 ghost use Rattle.std.specs.Prelude.{◌≡◌, ◌≤◌, true, vec_len, IfOk};
 
-use crate::cluster::readings::{Asked, read_logs};
-use crate::words::{Line, numbers_of, place, show};
+use crate::cluster::readings::read_logs;
+use crate::row::{Row, place};
 use eos_cluster::Cluster;
 use eos_drive::{Script, run_threads};
 use eos_history::{Finished, Pass, Shared};
 use eos_machine::{Config, Event, Reply};
-use eos_text::push_value;
 use std::alloc::{AllocError, Global};
 use std::marker::Brand;
 use std::sync::Wait;
@@ -52,29 +51,15 @@ fn new_shared<L: Ledger>(
 }
 
 /// Writes whether the callers agree, how many entries there are, and how many of each pass.
-fn tell(
-    alloc: Global,
-    line: &mut String,
-    finished: &Finished,
-    callers: u64,
-) -> Result<(), AllocError> {
-    push_value(line, "agree=", &finished.agree)?;
-    push_value(line, " entries=", &finished.entries.len())?;
-    line.push_str(" passes=")?;
-    counts(alloc, line, finished, callers)
-}
-
-fn counts(
-    alloc: Global,
-    line: &mut String,
-    finished: &Finished,
-    callers: u64,
-) -> Result<(), AllocError> {
-    let mut counts = Vec::new(alloc);
+fn tell(row: &mut Row<'_>, finished: &Finished, callers: u64) {
+    row.tell("agree=", finished.agree);
+    row.tell(" entries=", finished.entries.len());
+    row.put(" passes=[");
     for pass in 0..callers {
-        counts.push(count_of(finished, pass))?;
+        row.apart(", ");
+        row.say(count_of(finished, pass));
     }
-    show(line, counts)
+    row.put("]");
 }
 
 /// How many entries came by the pass of this number.
@@ -123,35 +108,13 @@ fn ten_each<L: Ledger + Send + Sync, R: Threads + Wait + Sync>(
 }
 
 /// Writes what two callers of ten inputs each were told, the cluster's sizes, and the records of each partition.
-pub(super) fn feeders<R: Threads + Wait + Sync>(
-    rt: &R,
-    alloc: Global,
-    line: &mut Line,
-) -> Result<(), AllocError> {
-    match ten_each::<Brand, R>(rt, alloc, Blank::new(2)) {
-        Ok(finished) => tell_of_feeders(rt, alloc, line, &finished),
-        Err(error) => Err(error),
+pub(super) fn feeders<R: Threads + Wait + Sync>(rt: &R, row: &mut Row<'_>) {
+    if let Some(finished) = row.got(ten_each::<Brand, R>(rt, row.alloc, Blank::new(2))) {
+        tell(row, &finished, 2);
+        row.tell(" pair=", *finished.cluster.config() == PAIR);
+        row.put(" ends=");
+        read_logs(rt, row, &finished.cluster, "ends");
     }
-}
-
-fn tell_of_feeders<R: Threads + Wait + Sync>(
-    rt: &R,
-    alloc: Global,
-    line: &mut Line,
-    finished: &Finished,
-) -> Result<(), AllocError> {
-    tell(alloc, &mut line.text, finished, 2)?;
-    push_value(
-        &mut line.text,
-        " pair=",
-        &(*finished.cluster.config() == PAIR),
-    )?;
-    line.text.push_str(" ends=")?;
-    let asked = Asked {
-        name: "ends",
-        number: 0,
-    };
-    read_logs(rt, alloc, &finished.cluster, line, asked)
 }
 
 /// As many scripts of seed 7 and this length.
@@ -182,31 +145,16 @@ fn by_scripts<L: Ledger + Send + Sync, R: Threads + Wait + Sync>(
 }
 
 /// Writes what so many callers by scripts of so many words were told. Where an event found no memory it is in no history.
-pub(super) fn scripts<R: Threads + Wait + Sync>(
-    rt: &R,
-    alloc: Global,
-    line: &mut Line,
-    rest: &str,
-) -> Result<(), AllocError> {
-    let numbers = numbers_of(&mut line.notes, rest, 2);
+pub(super) fn scripts<R: Threads + Wait + Sync>(rt: &R, row: &mut Row<'_>) {
+    let numbers = row.numbers(2);
     let callers = place(numbers[0]).clamp(1, 64) as u64;
     let length = place(numbers[1]).min(65536) as u64;
-    match by_scripts::<Brand, R>(rt, alloc, Blank::new(callers), callers, length) {
-        Ok(finished) => tell_of_scripts(alloc, &mut line.text, &finished, callers, length),
-        Err(error) => Err(error),
+    let blank = Blank::new(callers);
+    if let Some(finished) = row.got(by_scripts::<Brand, R>(rt, row.alloc, blank, callers, length)) {
+        let is_short = (finished.entries.len() as u64) < callers.saturating_mul(length);
+        if is_short && finished.agree {
+            row.is_out = true;
+        }
+        tell(row, &finished, callers);
     }
-}
-
-fn tell_of_scripts(
-    alloc: Global,
-    line: &mut String,
-    finished: &Finished,
-    callers: u64,
-    length: u64,
-) -> Result<(), AllocError> {
-    let is_short = (finished.entries.len() as u64) < callers.saturating_mul(length);
-    if is_short && finished.agree {
-        return Err(AllocError);
-    }
-    tell(alloc, line, finished, callers)
 }

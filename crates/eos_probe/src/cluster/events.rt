@@ -1,14 +1,15 @@
 //! Words as events.
 
-use crate::words::{Notes, numbers_of, place};
+use crate::row::{Row, place};
 use bytes::Bytes;
 use eos_batch::Kind;
 use eos_machine::{Claim, Config, Event};
 
-/// The sizes of a cluster, in the order of their fields; `,chain` after them where it has a second group.
-pub(super) fn sizes_of(notes: &mut Notes, text: &str) -> Config {
-    let sizes = text.strip_suffix(",chain");
-    let numbers = numbers_of(notes, sizes.unwrap_or(text), 6);
+/// The sizes of a cluster that are still to be read, in the order of their fields; `,chain` after them where it has a second group.
+pub(super) fn sizes_of(row: &mut Row<'_>) -> Config {
+    let sizes = row.rest.strip_suffix(",chain");
+    row.rest = sizes.unwrap_or(row.rest);
+    let numbers = row.numbers(6);
     Config {
         applications: place(numbers[0]),
         inputs: place(numbers[1]),

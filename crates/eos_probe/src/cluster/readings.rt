@@ -1,45 +1,22 @@
-//! What a cluster says of itself, and what stands in its logs.
+//! What stands in a cluster's logs, and the words of a script.
 
-use crate::words::{Line, Notes, show};
-use eos_batch::{Batch, decode_segment};
+use crate::row::Row;
+use eos_batch::decode_segment;
 use eos_board::OpenGate;
 use eos_check::{Verdict, check};
 use eos_cluster::{Cluster, EvidenceRefusal};
 use eos_drive::Script;
 use eos_evidence::Evidence;
-use eos_text::push_value;
 use eos_workers::Workers;
-use std::alloc::{AllocError, Global};
 use std::sync::Wait;
 use std::thread::Threads;
 
-/// What a word asks of a cluster, with its number, 0 where it has none.
-#[derive(Clone, Copy)]
-pub(super) struct Asked<'a> {
-    pub(super) name: &'a str,
-    pub(super) number: u64,
-}
-
-/// Writes what is asked of the cluster itself.
-pub(super) fn read(
-    alloc: Global,
-    cluster: &Cluster,
-    line: &mut String,
-    asked: Asked<'_>,
-) -> Result<(), AllocError> {
-    match asked.name {
-        "at-rest" => push_value(line, "", &cluster.at_rest()),
-        "honest" => push_value(line, "", &cluster.is_honest()),
-        "events" => push_value(line, "", &cluster.events()),
-        "past" => push_value(line, "", &(cluster.events() > asked.number)),
-        _ => words(alloc, line, asked.number),
+/// Writes the first five words of a seed's script.
+pub(super) fn words(row: &mut Row<'_>) {
+    let seed = row.place(row.rest) as u64;
+    if let Some(script) = row.got(Script::from_seed(row.alloc, seed, 5)) {
+        row.say(script.words());
     }
-}
-
-/// The first five words of a seed's script.
-fn words(alloc: Global, line: &mut String, seed: u64) -> Result<(), AllocError> {
-    let script = Script::from_seed(alloc, seed, 5)?;
-    show(line, script.words())
 }
 
 /// The evidence, where so few segments are sure to do.
@@ -51,138 +28,99 @@ fn evidence_of(cluster: &Cluster) -> Result<Evidence, EvidenceRefusal> {
 }
 
 /// The evidence, which is asked for again after want of memory.
-fn evidence_again(notes: &mut Notes, cluster: &Cluster) -> Result<Evidence, EvidenceRefusal> {
+fn evidence_again(row: &mut Row<'_>, cluster: &Cluster) -> Result<Evidence, EvidenceRefusal> {
     match evidence_of(cluster) {
         Err(EvidenceRefusal::OutOfMemory) => {
-            notes.is_again = true;
+            row.is_again = true;
             evidence_of(cluster)
         }
         answer => answer,
     }
 }
 
-/// Writes what is asked of the cluster's logs, or why there are none; `verdict` by so many workers.
+/// Writes what is asked of the cluster's logs, or why there are none.
 pub(super) fn read_logs<R: Threads + Wait + Sync>(
     rt: &R,
-    alloc: Global,
+    row: &mut Row<'_>,
     cluster: &Cluster,
-    line: &mut Line,
-    asked: Asked<'_>,
-) -> Result<(), AllocError> {
-    match evidence_again(&mut line.notes, cluster) {
-        Ok(evidence) => read_evidence(rt, alloc, &evidence, &mut line.text, asked),
-        Err(refusal) => line.text.push_str(refusal.name()),
+    name: &str,
+) {
+    match evidence_again(row, cluster) {
+        Ok(evidence) => read_evidence(rt, row, &evidence, name),
+        Err(refusal) => row.put(refusal.name()),
     }
 }
 
 fn read_evidence<R: Threads + Wait + Sync>(
     rt: &R,
-    alloc: Global,
+    row: &mut Row<'_>,
     evidence: &Evidence,
-    line: &mut String,
-    asked: Asked<'_>,
-) -> Result<(), AllocError> {
-    match asked.name {
-        "pieces" => push_value(line, "", &evidence.pieces()),
-        "ends" => ends(alloc, evidence, line),
-        "batches" => batches(alloc, evidence, line, asked.number),
-        _ => judge(rt, alloc, evidence, line, asked),
+    name: &str,
+) {
+    match name {
+        "pieces" => row.say(evidence.pieces()),
+        "ends" => push_ends(row, evidence),
+        "batches" => push_batches(row, evidence),
+        _ => judge(rt, row, evidence, name),
     }
 }
 
 /// How many records each partition has.
-pub(super) fn ends(
-    alloc: Global,
-    evidence: &Evidence,
-    line: &mut String,
-) -> Result<(), AllocError> {
-    let mut ends = Vec::new(alloc);
+fn push_ends(row: &mut Row<'_>, evidence: &Evidence) {
+    row.put("[");
     for end in evidence.spec().ends().as_slice() {
-        ends.push(end.end)?;
+        row.apart(", ");
+        row.say(end.end);
     }
-    show(line, ends)
+    row.put("]");
 }
 
-/// The batches of a segment, none where there is no such segment.
-fn batches(
-    alloc: Global,
-    evidence: &Evidence,
-    line: &mut String,
-    piece: u64,
-) -> Result<(), AllocError> {
-    if piece >= evidence.pieces() {
-        return line.push_str("[]");
+/// The producer, the epoch, the sequence and the attributes of each batch of a segment, none where there is no such segment.
+fn push_batches(row: &mut Row<'_>, evidence: &Evidence) {
+    let piece = row.place(row.rest) as u64;
+    row.put("[");
+    if piece < evidence.pieces() {
+        if let Some(text) = row.got(decode_segment(row.alloc, &evidence.piece(piece).bytes)) {
+            for it in text.batches.as_slice() {
+                row.apart(", ");
+                row.say((it.producer, it.epoch, it.sequence, it.attributes));
+            }
+        }
     }
-    match decode_segment(alloc, &evidence.piece(piece).bytes) {
-        Ok(text) => heads(alloc, text.batches.as_slice(), line),
-        Err(error) => Err(error),
-    }
+    row.put("]");
 }
 
-/// The producer, the epoch, the sequence and the attributes of each batch.
-fn heads(alloc: Global, batches: &[Batch], line: &mut String) -> Result<(), AllocError> {
-    let mut all = Vec::new(alloc);
-    for it in batches {
-        all.push((it.producer, it.epoch, it.sequence, it.attributes))?;
+/// Writes what so many workers say: for `verdict` the counts or the number of the fault, or else whether all was processed, by one.
+fn judge<R: Threads + Wait + Sync>(rt: &R, row: &mut Row<'_>, evidence: &Evidence, name: &str) {
+    let is_told = name == "verdict";
+    let count = if is_told { row.place(row.rest) } else { 1 };
+    let workers = Workers::new(count as u64).unwrap_or(Workers::one());
+    if let Some(verdict) = row.got(check(row.alloc, rt, evidence, workers, &OpenGate)) {
+        if is_told {
+            push_verdict(row, &verdict);
+        } else {
+            row.say(is_all(evidence, &verdict));
+        }
     }
-    show(line, all)
-}
-
-/// Writes what so many workers say: the counts or the number of the fault, or whether all was processed.
-fn judge<R: Threads + Wait + Sync>(
-    rt: &R,
-    alloc: Global,
-    evidence: &Evidence,
-    line: &mut String,
-    asked: Asked<'_>,
-) -> Result<(), AllocError> {
-    let workers = Workers::new(asked.number).unwrap_or(Workers::one());
-    match check(alloc, rt, evidence, workers, &OpenGate) {
-        Ok(verdict) => tell(evidence, line, asked.name == "verdict", &verdict),
-        Err(error) => Err(error),
-    }
-}
-
-fn tell(
-    evidence: &Evidence,
-    line: &mut String,
-    is_told: bool,
-    verdict: &Verdict,
-) -> Result<(), AllocError> {
-    if is_told {
-        return tell_verdict(line, verdict);
-    }
-    push_value(line, "", &is_all(evidence, verdict))
 }
 
 /// The counts, or the phase and the number of the fault.
-fn tell_verdict(line: &mut String, verdict: &Verdict) -> Result<(), AllocError> {
+fn push_verdict(row: &mut Row<'_>, verdict: &Verdict) {
     match verdict {
         Verdict::Yes(counts) => {
-            push_value(line, "yes,", &counts.transactions)?;
-            push_value(line, ",", &counts.inputs)?;
-            push_value(line, ",", &counts.outputs)
+            row.tell("yes,", counts.transactions);
+            row.tell(",", counts.inputs);
+            row.tell(",", counts.outputs);
         }
         Verdict::No(fault) => {
-            push_value(line, "no,", &fault.phase())?;
-            push_value(line, ".", &fault.number())
+            row.tell("no,", fault.phase());
+            row.tell(".", fault.number());
         }
     }
 }
 
 /// Whether a verdict is yes of all inputs and all their outputs, of which there are some.
 fn is_all(evidence: &Evidence, verdict: &Verdict) -> bool {
-    let (inputs, outputs) = all_of(evidence);
-    match verdict {
-        Verdict::Yes(counts) => {
-            outputs > 0 && counts.inputs == inputs && counts.outputs == outputs
-        }
-        Verdict::No(_) => false,
-    }
-}
-
-/// How many inputs there are, and how many outputs of them.
-fn all_of(evidence: &Evidence) -> (u64, u64) {
     let mut inputs = 0u64;
     let mut outputs = 0u64;
     for end in evidence.spec().ends().as_slice() {
@@ -192,7 +130,12 @@ fn all_of(evidence: &Evidence) -> (u64, u64) {
             outputs = outputs.saturating_add(outputs_of(count));
         }
     }
-    (inputs, outputs)
+    match verdict {
+        Verdict::Yes(counts) => {
+            outputs > 0 && counts.inputs == inputs && counts.outputs == outputs
+        }
+        Verdict::No(_) => false,
+    }
 }
 
 /// How many outputs so many inputs have: the one at offset o has o modulo 3.

@@ -1,136 +1,121 @@
 //! Record batches, segments and chains of batches.
 
 use crate::formats::chunks;
-use crate::words::{Line, Notes, first_of, or_bad, show, show_digits};
+use crate::row::Row;
+use crate::texts;
 use bytes::Bytes;
 use eos_batch::{
-    Batch, BatchFault, Headers, Marker, Record, Records, decode_batch, decode_segment, encode_batch,
+    Batch, BatchFault, Headers, Record, Records, decode_batch, decode_segment, encode_batch,
 };
-use eos_claims::{Claim, read_claim};
+use eos_claims::read_claim;
 use eos_fold::chain;
-use eos_items::{BatchHead, read_head};
-use std::alloc::{AllocError, Global};
+use eos_items::read_head;
+use std::alloc::AllocError;
 
-pub(super) fn answer(
-    alloc: Global,
-    line: &mut Line,
-    call: &str,
-    bytes: &Bytes,
-    more: &str,
-) -> Result<(), AllocError> {
+pub(super) fn answer(row: &mut Row<'_>, call: &str, bytes: &Bytes) {
     match call {
-        "decode_batch" => show(&mut line.text, decode_batch(alloc, bytes, 0)),
-        "marker" => show(&mut line.text, marker(alloc, bytes)),
-        "read_claim" => show(&mut line.text, claim(alloc, bytes)),
-        "read_head" => show(&mut line.text, head(alloc, &mut line.notes, bytes, more)),
-        "decode_segment" => show(&mut line.text, decode_segment(alloc, bytes)),
-        "count_batches" => show(&mut line.text, counted(alloc, bytes)),
-        "encode_segment" => show_digits(alloc, &mut line.text, recoded(alloc, bytes)),
-        "encode_records" => show_digits(
-            alloc,
-            &mut line.text,
-            of_records(alloc, &mut line.notes, bytes, more),
-        ),
-        "chain" => show(&mut line.text, chain(alloc, bytes)),
-        "chain_fault" => show(&mut line.text, chain_fault(alloc, bytes)),
-        _ => chunks::answer(alloc, line, call, bytes, more),
+        "decode_batch" => row.say(decode_batch(row.alloc, bytes, 0)),
+        "marker" | "read_claim" => of_batch(row, call, bytes),
+        "read_head" => head(row, bytes),
+        "decode_segment" => row.say(decode_segment(row.alloc, bytes)),
+        "count_batches" | "encode_segment" => of_segment(row, call, bytes),
+        "encode_records" => of_records(row, bytes),
+        "chain" => row.say(chain(row.alloc, bytes)),
+        "chain_fault" => chain_fault(row, bytes),
+        "round_trip" => texts::round_trip(row, bytes),
+        _ => chunks::answer(row, call, bytes),
     }
 }
 
-/// The end marker that a batch is.
-fn marker(alloc: Global, bytes: &Bytes) -> Result<Option<Marker>, BatchFault> {
-    let (batch, _) = decode_batch(alloc, bytes, 0)?;
-    Ok(batch.marker())
+/// The end marker that a batch is, or the claim of its first record.
+fn of_batch(row: &mut Row<'_>, call: &str, bytes: &Bytes) {
+    match decode_batch(row.alloc, bytes, 0) {
+        Err(fault) => row.say(Err::<(), BatchFault>(fault)),
+        Ok((batch, _)) => {
+            if call == "marker" {
+                row.say(Ok::<_, BatchFault>(batch.marker()));
+            } else {
+                claim(row, batch.records.as_slice());
+            }
+        }
+    }
+}
+
+/// The claim of the first of these records.
+fn claim(row: &mut Row<'_>, records: &[Record]) {
+    match records.first() {
+        None => row.say(Err::<(), BatchFault>(BatchFault::Count)),
+        Some(record) => row.say(read_claim(row.alloc, record.headers.as_slice())),
+    }
 }
 
 /// The head of the batch at a byte.
-fn head(
-    alloc: Global,
-    notes: &mut Notes,
-    bytes: &Bytes,
-    at: &str,
-) -> Result<BatchHead, BatchFault> {
-    let at = or_bad(notes, at.parse::<usize>().ok(), 0);
+fn head(row: &mut Row<'_>, bytes: &Bytes) {
+    let at = row.place(row.rest);
     if at > bytes.len() {
-        notes.is_bad = true;
-        return Err(BatchFault::Truncated);
-    }
-    read_head(alloc, bytes, at)
-}
-
-/// The claim of a batch's first record.
-fn claim(alloc: Global, bytes: &Bytes) -> Result<Option<Claim>, BatchFault> {
-    let (batch, _) = decode_batch(alloc, bytes, 0)?;
-    match batch.records.as_slice().first() {
-        None => Err(BatchFault::Count),
-        Some(record) => Ok(read_claim(alloc, record.headers.as_slice())?),
+        row.is_bad = true;
+    } else {
+        row.say(read_head(row.alloc, bytes, at));
     }
 }
 
-/// How many batches a segment has, and where and why it stops being batches.
-fn counted(
-    alloc: Global,
-    bytes: &Bytes,
-) -> Result<(usize, Option<(usize, BatchFault)>), AllocError> {
-    let text = decode_segment(alloc, bytes)?;
-    Ok((text.batches.len(), text.stop))
+/// How many batches a segment has, and where and why it stops being batches; or its batches, read and written.
+fn of_segment(row: &mut Row<'_>, call: &str, bytes: &Bytes) {
+    if let Some(text) = row.got(decode_segment(row.alloc, bytes)) {
+        if call == "count_batches" {
+            row.say(Ok::<_, AllocError>((text.batches.len(), text.stop)));
+        } else {
+            recode(row, text.batches.as_slice());
+        }
+    }
 }
 
-/// A segment's batches, read and written.
-fn recoded(alloc: Global, bytes: &Bytes) -> Result<Vec<u8>, BatchFault> {
-    let text = decode_segment(alloc, bytes)?;
-    let mut out = Vec::new(alloc);
-    for batch in text.batches.as_slice() {
-        out.extend_from_slice(encode_batch(alloc, batch)?.as_slice())?;
+fn recode(row: &mut Row<'_>, batches: &[Batch]) {
+    for batch in batches {
+        row.digits(encode_batch(row.alloc, batch));
     }
-    Ok(out)
 }
 
 /// A batch of no producer at offset 0: so many records of null key and this value, and the batch's attributes.
-fn of_records(
-    alloc: Global,
-    notes: &mut Notes,
-    value: &Bytes,
-    more: &str,
-) -> Result<Bytes, BatchFault> {
-    let (count, attributes) = first_of(more);
-    let count = or_bad(notes, count.parse::<u32>().ok(), 0);
+fn of_records(row: &mut Row<'_>, value: &Bytes) {
+    let count = row.word();
+    let count = row.parse(count, 0u32);
+    let attributes = row.parse(row.rest, 0i16);
     let batch = Batch {
         base_offset: 0,
         leader_epoch: 0,
-        attributes: or_bad(notes, attributes.parse::<i16>().ok(), 0),
+        attributes,
         base_timestamp: 0,
         max_timestamp: 0,
         producer: -1,
         epoch: -1,
         sequence: -1,
-        records: records_of(alloc, value, count)?,
+        records: records_of(row, value, count),
     };
-    encode_batch(alloc, &batch)
+    row.digits(encode_batch(row.alloc, &batch))
 }
 
-fn records_of(alloc: Global, value: &Bytes, count: u32) -> Result<Records, AllocError> {
-    let mut records = Records::new(Vec::new(alloc));
+fn records_of(row: &mut Row<'_>, value: &Bytes, count: u32) -> Records {
+    let mut records = Records::new(Vec::new(row.alloc));
     for _ in 0..count {
-        records.push(record_of(alloc, value)?)?;
+        let pushed = records.push(Record {
+            attributes: 0,
+            timestamp_delta: 0,
+            key: None,
+            value: row.got(value.clone()),
+            headers: Headers::new(Vec::new(row.alloc)),
+        });
+        row.done(pushed);
     }
-    Ok(records)
-}
-
-fn record_of(alloc: Global, value: &Bytes) -> Result<Record, AllocError> {
-    Ok(Record {
-        attributes: 0,
-        timestamp_delta: 0,
-        key: None,
-        value: Some(value.clone()?),
-        headers: Headers::new(Vec::new(alloc)),
-    })
+    records
 }
 
 /// The number and the name of a segment's fault.
-fn chain_fault(alloc: Global, bytes: &Bytes) -> Result<Option<(u8, &'static str)>, AllocError> {
-    match chain(alloc, bytes)? {
-        Ok(_) => Ok(None),
-        Err(fault) => Ok(Some((fault.kind.number(), fault.kind.name()))),
+fn chain_fault(row: &mut Row<'_>, bytes: &Bytes) {
+    if let Some(told) = row.got(chain(row.alloc, bytes)) {
+        let fault = told
+            .err()
+            .map(|fault| (fault.kind.number(), fault.kind.name()));
+        row.say(Ok::<_, AllocError>(fault));
     }
 }

@@ -1,13 +1,13 @@
 //! What is made of a segment that is fed chunk by chunk: so many bytes at a time, or all at once for 0.
 
-use crate::words::{Line, bad, first_of, or_bad, show};
+use crate::row::Row;
 use bytes::Bytes;
-use eos_batch::BatchFault;
 use eos_chain::chain_from;
 use eos_chunks::Feed;
-use eos_reading::{Claims, Commits, Fold, Folded, Nothing, Reading, Transactions, fold_log};
+use eos_claims::ClaimRef;
+use eos_keeping::{KeptOutput, KeptText, Outputs, Texts};
+use eos_reading::{Fold, Folded, Nothing, Reading, fold_log};
 use std::alloc::{AllocError, Global};
-use std::fmt::Debug;
 use std::io::{self, Read};
 
 /// A reader that gives so many bytes at a time.
@@ -26,57 +26,46 @@ impl<'a> Read for Chopped<'a> {
     }
 }
 
-pub(super) fn answer(
-    alloc: Global,
-    line: &mut Line,
-    call: &str,
-    bytes: &Bytes,
-    more: &str,
-) -> Result<(), AllocError> {
-    let (size, names) = first_of(more);
-    let size = or_bad(&mut line.notes, size.parse::<usize>().ok(), 0);
+pub(super) fn answer(row: &mut Row<'_>, call: &str, bytes: &Bytes) {
+    let size = row.word();
+    let size = row.place(size);
     let most = if size == 0 { bytes.len().max(1) } else { size };
     let bytes = bytes.as_slice();
     match call {
-        "chain_in" => show(
-            &mut line.text,
-            chain_from(alloc, &mut Chopped { bytes, most }),
-        ),
-        "count_in" => show(&mut line.text, counts(fed(alloc, &Nothing, bytes, most)?)),
-        "count_from" => {
-            let reader = &mut Chopped { bytes, most };
-            match fold_log(alloc, &Nothing, reader) {
-                Ok(folded) => show(&mut line.text, counts(folded)),
-                Err(fault) => show(&mut line.text, fault),
-            }
-        }
-        "claims_in" => {
-            let topics = names_of(alloc, names)?;
-            let topics = topics.as_slice();
-            show_whole(&mut line.text, fed(alloc, &Claims { topics }, bytes, most)?)
-        }
-        "commits_in" => {
-            let (groups, topics) = first_of(names);
-            let groups = names_of(alloc, groups)?;
-            let topics = names_of(alloc, topics)?;
-            let reading = Commits {
-                groups: groups.as_slice(),
-                topics: topics.as_slice(),
-            };
-            show_whole(&mut line.text, fed(alloc, &reading, bytes, most)?)
-        }
-        "states_in" => show_whole(&mut line.text, fed(alloc, &Transactions, bytes, most)?),
-        _ => bad(&mut line.notes),
+        "chain_in" => row.say(chain_from(row.alloc, &mut Chopped { bytes, most })),
+        "count_in" => count_in(row, bytes, most),
+        "count_from" => count_from(row, bytes, most),
+        "claims_in" => claims_in(row, bytes, most),
+        "texts_in" => texts_in(row, bytes, most),
+        _ => row.is_bad = true,
     }
 }
 
-/// Names with commas between them.
-fn names_of(alloc: Global, text: &str) -> Result<Vec<Bytes>, AllocError> {
-    let mut names = Vec::new(alloc);
-    for name in text.split(',') {
-        names.push(Bytes::copy_from_slice(alloc, name.as_bytes())?)?;
+fn count_in(row: &mut Row<'_>, bytes: &[u8], most: usize) {
+    if let Some(folded) = row.got(fed(row.alloc, &Nothing, bytes, most)) {
+        count(row, &folded);
     }
-    Ok(names)
+}
+
+fn count_from(row: &mut Row<'_>, bytes: &[u8], most: usize) {
+    match fold_log(row.alloc, &Nothing, &mut Chopped { bytes, most }) {
+        Ok(folded) => count(row, &folded),
+        Err(fault) => row.say(fault),
+    }
+}
+
+fn claims_in(row: &mut Row<'_>, bytes: &[u8], most: usize) {
+    let topics = row.topics(row.rest);
+    let topics = topics.as_slice();
+    if let Some(folded) = row.got(fed(row.alloc, &Outputs { topics }, bytes, most)) {
+        tell_outputs(row, topics, &folded);
+    }
+}
+
+fn texts_in(row: &mut Row<'_>, bytes: &[u8], most: usize) {
+    if let Some(folded) = row.got(fed(row.alloc, &Texts, bytes, most)) {
+        tell_texts(row, &folded);
+    }
 }
 
 /// What is kept of a segment, chunk by chunk.
@@ -96,12 +85,60 @@ fn fed<K: Reading>(
 }
 
 /// The number of batches, that of what is kept, and where the batches stop.
-fn counts<T: Drop>(folded: Folded<T>) -> (usize, usize, Option<(u64, BatchFault)>) {
-    (folded.heads().len(), folded.kept().len(), folded.stop())
+fn count(row: &mut Row<'_>, folded: &Folded<()>) {
+    row.say((folded.heads().len(), folded.kept().len(), folded.stop()));
 }
 
-/// The heads, what is kept, and where the batches stop.
-fn show_whole<T: Debug + Drop>(line: &mut String, folded: Folded<T>) -> Result<(), AllocError> {
-    let (heads, kept, stop) = (folded.heads(), folded.kept(), folded.stop());
-    write!(line, "{heads:?} {kept:?} {stop:?}")
+/// The heads, of each data record its claim, and where the batches stop. Before a claim stands the place of its topic among those
+/// that were asked for.
+fn tell_outputs(row: &mut Row<'_>, topics: &[Bytes], folded: &Folded<KeptOutput>) {
+    row.say(folded.heads());
+    row.put(" [");
+    for kept in folded.kept() {
+        row.apart(", ");
+        match kept {
+            KeptOutput::Unclaimed => row.put("no claim"),
+            KeptOutput::Asked { topic, .. } => row.say(*topic),
+            KeptOutput::Foreign(_) => row.put("no place"),
+        }
+        tell_claim(row, kept.claim(topics));
+    }
+    row.tell("] ", folded.stop());
+}
+
+/// The heads, of each data record its key, its value and the claim in its headers, and where the batches stop.
+fn tell_texts(row: &mut Row<'_>, folded: &Folded<KeptText>) {
+    row.say(folded.heads());
+    row.put(" [");
+    for kept in folded.kept() {
+        row.apart(", ");
+        let record = kept.view();
+        tell_bytes(row, record.key());
+        row.put("=");
+        tell_bytes(row, record.value());
+        tell_claim(row, record.claim());
+    }
+    row.tell("] ", folded.stop());
+}
+
+/// The digits of a key or a value; `-` where it is null, `.` where it has no bytes.
+fn tell_bytes(row: &mut Row<'_>, bytes: Option<&[u8]>) {
+    match bytes {
+        None => row.put("-"),
+        Some(bytes) if bytes.is_empty() => row.put("."),
+        Some(bytes) => row.digits(Ok::<_, AllocError>(bytes)),
+    }
+}
+
+/// A claim, if there is one.
+fn tell_claim(row: &mut Row<'_>, claim: Option<ClaimRef<'_>>) {
+    if let Some(claim) = claim {
+        let topic = std::str::from_utf8(claim.topic).unwrap_or("no text");
+        row.tell(": output ", claim.output);
+        row.tell("/", claim.of);
+        row.put(" of ");
+        row.put(topic);
+        row.tell("-", claim.partition);
+        row.tell(":", claim.offset);
+    }
 }

@@ -1,46 +1,41 @@
 //! Claims on inputs.
 
-use crate::words::{Line, Notes, first_of, or_bad, show, sides};
+use crate::row::Row;
 use bytes::Bytes;
 use eos_base::PartitionName;
-use eos_claims::{NumberedClaim, OutputKind, PlaceRef, least_of_runs};
-use std::alloc::AllocError;
+use eos_claims::{NumberedClaim, PlaceRef, least_of_runs};
 
 /// The least fault of one or two claims on the first record of `in-0`, which are given as OUTPUT/OF@OFFSET: its kind, and the
 /// output.
-pub(super) fn least(line: &mut Line, words: &str) -> Result<(), AllocError> {
+pub(super) fn least(row: &mut Row<'_>) {
     let name = PartitionName {
         topic: Bytes::from_static(b"in"),
         partition: 0,
     };
-    let (first, second) = first_of(words);
-    let first = claim_of(&mut line.notes, &name, first);
-    let fault = if second.is_empty() {
-        fault_of(&[first])
-    } else {
-        fault_of(&[first, claim_of(&mut line.notes, &name, second)])
-    };
-    show(&mut line.text, fault)
+    let mut claims = Vec::new(row.alloc);
+    for word in row.rest.split(' ') {
+        let claim = claim_of(row, &name, word);
+        row.push(&mut claims, claim);
+    }
+    match least_of_runs(None, claims.as_slice()) {
+        None => row.put("None"),
+        Some(found) => row.say(Some((found.kind, found.output))),
+    }
 }
 
-fn fault_of(claims: &[NumberedClaim<'_>]) -> Option<(OutputKind, u32)> {
-    let found = least_of_runs(None, claims)?;
-    Some((found.kind, found.output))
-}
-
-fn claim_of<'a>(notes: &mut Notes, name: &'a PartitionName, word: &str) -> NumberedClaim<'a> {
-    let (output, rest) = sides(notes, word, '/');
-    let (of, at) = sides(notes, rest, '@');
+fn claim_of<'a>(row: &mut Row<'_>, name: &'a PartitionName, word: &str) -> NumberedClaim<'a> {
+    let (numbers, at) = word.split_once('@').unwrap_or((word, ""));
+    let (output, of) = numbers.split_once('/').unwrap_or((numbers, ""));
     NumberedClaim {
         source: PlaceRef {
             partition: name,
             offset: 0,
         },
-        output: or_bad(notes, output.parse::<u32>().ok(), 0),
+        output: row.parse(output, 0),
         at: PlaceRef {
             partition: name,
-            offset: or_bad(notes, at.parse::<u64>().ok(), 0),
+            offset: row.parse(at, 0),
         },
-        of: or_bad(notes, of.parse::<u32>().ok(), 0),
+        of: row.parse(of, 0),
     }
 }

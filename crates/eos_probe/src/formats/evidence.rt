@@ -1,125 +1,105 @@
 //! Manifests and segments of evidence.
 
 use crate::formats::batch;
-use crate::words::{Line, Notes, number_of, or_bad, show, show_digits, sides};
+use crate::row::Row;
 use bytes::Bytes;
 use eos_base::Listed;
 use eos_evidence::{
-    AddFault, End, Ends, Evidence, EvidenceBuilder, Segment, Spec, SpecFault, parse_spec, spec_text,
+    AddFault, End, Evidence, EvidenceBuilder, Segment, Spec, SpecFault, parse_spec, spec_text,
 };
-use eos_text::push_value;
-use std::alloc::{AllocError, Global};
+use std::alloc::AllocError;
 
-pub(super) fn answer(
-    alloc: Global,
-    line: &mut Line,
-    call: &str,
-    bytes: &Bytes,
-    more: &str,
-) -> Result<(), AllocError> {
+pub(super) fn answer(row: &mut Row<'_>, call: &str, bytes: &Bytes) {
     match call {
-        "parse_spec" => show(&mut line.text, parse_spec(alloc, bytes.as_slice())),
-        "spec_fault" => show(&mut line.text, parse_spec(alloc, bytes.as_slice()).err()),
-        "write_spec" => show_digits(alloc, &mut line.text, rewritten(alloc, bytes)),
-        "end_twice" => show(&mut line.text, twice(alloc)),
-        "add_segments" => add_segments(alloc, line, bytes, more),
-        _ => batch::answer(alloc, line, call, bytes, more),
+        "parse_spec" => row.say(parse_spec(row.alloc, bytes.as_slice())),
+        "spec_fault" => row.say(parse_spec(row.alloc, bytes.as_slice()).err()),
+        "write_spec" => rewrite(row, bytes),
+        "end_twice" => twice(row),
+        "add_segments" => add_segments(row, bytes),
+        _ => batch::answer(row, call, bytes),
     }
 }
 
 /// A manifest read and written.
-fn rewritten(alloc: Global, bytes: &Bytes) -> Result<Vec<u8>, SpecFault> {
-    let spec = parse_spec(alloc, bytes.as_slice())?;
-    Ok(spec_text(alloc, &spec)?)
+fn rewrite(row: &mut Row<'_>, bytes: &Bytes) {
+    match parse_spec(row.alloc, bytes.as_slice()) {
+        Ok(spec) => row.digits(spec_text(row.alloc, &spec)),
+        Err(fault) => row.say(fault),
+    }
 }
 
 /// What `Spec::new` says of a partition that stands twice, with two ends.
-fn twice(alloc: Global) -> Result<Option<SpecFault>, AllocError> {
-    let ends = two_ends(alloc)?;
-    Ok(Spec::new(alloc, Listed::new(Vec::new(alloc)), ends).err())
-}
-
-fn two_ends(alloc: Global) -> Result<Ends, AllocError> {
-    let mut ends = Listed::new(Vec::new(alloc));
+fn twice(row: &mut Row<'_>) {
+    let mut ends = Listed::new(Vec::new(row.alloc));
     for end in [3, 4] {
-        ends.push(End {
+        let pushed = ends.push(End {
             topic: Bytes::from_static(b"out"),
             partition: 0,
             end,
-        })?;
+        });
+        row.done(pushed);
     }
-    Ok(ends)
+    let apps = Listed::new(Vec::new(row.alloc));
+    row.say(Ok::<Option<SpecFault>, AllocError>(Spec::new(row.alloc, apps, ends).err()));
 }
 
 /// What segments are answered that are added as TOPIC/PARTITION/FROM/TO, one for each base; the bases of the first of them in
 /// their order, and how many there are then.
-fn add_segments(
-    alloc: Global,
-    line: &mut Line,
-    bytes: &Bytes,
-    words: &str,
-) -> Result<(), AllocError> {
-    let mut builder = match builder_of(alloc, bytes) {
-        Ok(builder) => builder,
-        Err(fault) => return show(&mut line.text, fault),
-    };
-    line.text.push_str("Ok(Added { answers: ")?;
-    add_all(alloc, line, &mut builder, words)?;
-    tell_added(alloc, &mut line.text, &builder.finish())
-}
-
-fn tell_added(alloc: Global, line: &mut String, evidence: &Evidence) -> Result<(), AllocError> {
-    line.push_str(", bases: ")?;
-    show(line, bases_of(alloc, evidence)?)?;
-    push_value(line, ", pieces: ", &evidence.pieces())?;
-    line.push_str(" })")
-}
-
-fn builder_of(alloc: Global, bytes: &Bytes) -> Result<EvidenceBuilder, SpecFault> {
-    let spec = parse_spec(alloc, bytes.as_slice())?;
-    Ok(EvidenceBuilder::new(alloc, spec)?)
-}
-
-fn add_all(
-    alloc: Global,
-    line: &mut Line,
-    builder: &mut EvidenceBuilder,
-    words: &str,
-) -> Result<(), AllocError> {
-    let mut answers = Vec::new(alloc);
-    for word in words.split(' ') {
-        answers.push(add_some(&mut line.notes, builder, word))?;
-    }
-    show(&mut line.text, answers)
-}
-
-/// The topic is `in` or `out`.
-fn add_some(notes: &mut Notes, builder: &mut EvidenceBuilder, word: &str) -> Result<(), AddFault> {
-    let (topic, rest) = sides(notes, word, '/');
-    let (partition, rest) = sides(notes, rest, '/');
-    let (from, to) = sides(notes, rest, '/');
-    let topic = topic_of(notes, topic);
-    let partition = or_bad(notes, partition.parse::<i32>().ok(), 0);
-    for base in number_of(notes, from)..number_of(notes, to) {
-        add_one(notes, builder, topic, partition, base)?;
-    }
-    Ok(())
-}
-
-fn topic_of(notes: &mut Notes, word: &str) -> &'static [u8] {
-    match word {
-        "in" => b"in",
-        "out" => b"out",
-        _ => {
-            notes.is_bad = true;
-            b""
+fn add_segments(row: &mut Row<'_>, bytes: &Bytes) {
+    match parse_spec(row.alloc, bytes.as_slice()) {
+        Err(fault) => row.say(fault),
+        Ok(spec) => {
+            if let Some(builder) = row.got(EvidenceBuilder::new(row.alloc, spec)) {
+                add_all(row, builder);
+            }
         }
     }
 }
 
+fn add_all(row: &mut Row<'_>, mut builder: EvidenceBuilder) {
+    row.put("Ok(Added { answers: [");
+    for word in row.rest.split(' ') {
+        row.rest = word;
+        row.apart(", ");
+        let added = add_some(row, &mut builder);
+        row.say(added);
+    }
+    tell_added(row, &builder.finish());
+}
+
+fn tell_added(row: &mut Row<'_>, evidence: &Evidence) {
+    row.put("], bases: [");
+    for i in 0..evidence.pieces().min(8) {
+        row.apart(", ");
+        row.say(evidence.piece(i).base);
+    }
+    row.tell("], pieces: ", evidence.pieces());
+    row.put(" })");
+}
+
+/// The topic is `in` or `out`.
+fn add_some(row: &mut Row<'_>, builder: &mut EvidenceBuilder) -> Result<(), AddFault> {
+    let topic = match row.upto('/') {
+        "in" => b"in".as_slice(),
+        "out" => b"out".as_slice(),
+        _ => {
+            row.is_bad = true;
+            b"".as_slice()
+        }
+    };
+    let partition = row.upto('/');
+    let partition = row.parse(partition, 0);
+    let from = row.upto('/');
+    let from = row.parse(from, 0i64);
+    for base in from..row.parse(row.rest, 0i64) {
+        add_one(row, builder, topic, partition, base)?;
+    }
+    Ok(())
+}
+
 /// Adds a segment, and adds it again after want of memory.
 fn add_one(
-    notes: &mut Notes,
+    row: &mut Row<'_>,
     builder: &mut EvidenceBuilder,
     topic: &'static [u8],
     partition: i32,
@@ -129,7 +109,7 @@ fn add_one(
     if added != Err(AddFault::OutOfMemory) {
         return added;
     }
-    notes.is_again = true;
+    row.is_again = true;
     builder.add(segment(topic, partition, base))
 }
 
@@ -140,14 +120,4 @@ fn segment(topic: &'static [u8], partition: i32, base: i64) -> Segment {
         base,
         bytes: Bytes::from_static(b"abc"),
     }
-}
-
-fn bases_of(alloc: Global, evidence: &Evidence) -> Result<Vec<i64>, AllocError> {
-    let mut bases = Vec::new(alloc);
-    for i in 0..evidence.pieces() {
-        if i < 8 {
-            bases.push(evidence.piece(i).base)?;
-        }
-    }
-    Ok(bases)
 }

@@ -1,56 +1,46 @@
 //! The lines of a history.
 
-use crate::words::{Line, bad, show, show_digits};
+use crate::formats::wire;
+use crate::row::Row;
 use bytes::Bytes;
-use eos_history_lines::{
-    LineFault, Schedule, ScheduleFault, head_of, head_text, line_text, row_of, schedule_of,
-    tail_text,
-};
-use std::alloc::{AllocError, Global};
+use eos_history_lines::{Schedule, head_of, head_text, line_text, row_of, schedule_of, tail_text};
 
-pub(super) fn answer(
-    alloc: Global,
-    line: &mut Line,
-    call: &str,
-    bytes: &Bytes,
-) -> Result<(), AllocError> {
+pub(super) fn answer(row: &mut Row<'_>, call: &str, bytes: &Bytes) {
     match call {
-        "read_history_head" => show(&mut line.text, head_of(alloc, bytes.as_slice())),
-        "read_history_row" => show(&mut line.text, row_of(alloc, bytes.as_slice())),
-        "read_history" => show(&mut line.text, schedule_of(alloc, bytes.as_slice())),
-        "write_history" => show_digits(alloc, &mut line.text, rewritten(alloc, bytes)),
-        "history_fault" => tell_fault(line, schedule_of(alloc, bytes.as_slice())),
-        _ => bad(&mut line.notes),
+        "read_history_head" => row.say(head_of(row.alloc, bytes.as_slice())),
+        "read_history_row" => row.say(row_of(row.alloc, bytes.as_slice())),
+        "read_history" => row.say(schedule_of(row.alloc, bytes.as_slice())),
+        "write_history" => rewrite(row, bytes),
+        "history_fault" => tell_fault(row, bytes),
+        _ => wire::answer(row, call, bytes),
     }
 }
 
 /// What is said of a file that is refused.
-fn tell_fault(line: &mut Line, read: Result<Schedule, ScheduleFault>) -> Result<(), AllocError> {
-    match read {
-        Ok(_) => bad(&mut line.notes),
-        Err(fault) => write!(&mut line.text, "{fault}"),
+fn tell_fault(row: &mut Row<'_>, bytes: &Bytes) {
+    match schedule_of(row.alloc, bytes.as_slice()) {
+        Ok(_) => row.is_bad = true,
+        Err(fault) => {
+            let done = write!(&mut row.text, "{fault}");
+            row.done(done);
+        }
     }
 }
 
-/// A file read, and each of its lines written.
-fn rewritten(alloc: Global, bytes: &Bytes) -> Result<Vec<u8>, ScheduleFault> {
-    let schedule = schedule_of(alloc, bytes.as_slice())?;
-    match written(alloc, &schedule) {
-        Ok(text) => Ok(text.into_bytes()),
-        Err(AllocError) => Err(ScheduleFault {
-            line: 0,
-            fault: LineFault::OutOfMemory,
-        }),
+/// A file read, and the digits of its lines, each of them written.
+fn rewrite(row: &mut Row<'_>, bytes: &Bytes) {
+    match schedule_of(row.alloc, bytes.as_slice()) {
+        Ok(schedule) => tell(row, &schedule),
+        Err(fault) => row.say(fault),
     }
 }
 
-fn written(alloc: Global, schedule: &Schedule) -> Result<String, AllocError> {
-    let mut text = head_text(alloc, &schedule.head)?;
+fn tell(row: &mut Row<'_>, schedule: &Schedule) {
+    row.digits(head_text(row.alloc, &schedule.head));
     for line in schedule.lines.iter() {
-        text.push_str(line_text(alloc, line)?.as_str())?;
+        row.digits(line_text(row.alloc, line));
     }
     if let Some(tail) = &schedule.tail {
-        text.push_str(tail_text(alloc, tail)?.as_str())?;
+        row.digits(tail_text(row.alloc, tail));
     }
-    Ok(text)
 }

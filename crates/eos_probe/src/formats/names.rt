@@ -1,35 +1,35 @@
 //! The names of the faults.
 
-use crate::words::{Line, bad, show};
+use crate::row::Row;
 use eos_base::RecordFault;
 use eos_batch::BatchFault;
 use eos_evidence::{AddFault, ReadFault, SpecFault};
 use eos_touch::PairFault;
 use eos_txnlog::TxnFault;
-use std::alloc::AllocError;
 use std::fmt::{Debug, Display};
 
 /// The variant, the name and the text of each fault of a family; or the numbers of the pairs' faults.
-pub(super) fn of_family(line: &mut Line, family: &str) -> Result<(), AllocError> {
-    match family {
-        "batch" => batch(&mut line.text),
-        "record" => record(&mut line.text),
-        "pair" => pair(&mut line.text),
-        "numbers" => numbers(&mut line.text),
-        "spec" => spec(&mut line.text),
-        "add" => add(&mut line.text),
-        "read" => read(&mut line.text),
-        "step" => step(&mut line.text),
-        _ => bad(&mut line.notes),
+pub(super) fn of_family(row: &mut Row<'_>) {
+    match row.rest {
+        "batch" => batch(row),
+        "record" => record(row),
+        "pair" => pair(row),
+        "numbers" => numbers(row),
+        "spec" => spec(row),
+        "add" => add(row),
+        "read" => read(row),
+        "step" => step(row),
+        _ => row.is_bad = true,
     }
 }
 
 /// Writes the variant, the name and the text of a fault.
-fn push<F: Debug + Display>(line: &mut String, fault: &F, name: &str) -> Result<(), AllocError> {
-    write!(line, "{fault:?}/{name}/{fault} ")
+fn push<F: Debug + Display>(row: &mut Row<'_>, fault: &F, name: &str) {
+    let done = write!(&mut row.text, "{fault:?}/{name}/{fault} ");
+    row.done(done);
 }
 
-fn batch(line: &mut String) -> Result<(), AllocError> {
+fn batch(row: &mut Row<'_>) {
     const ALL: [BatchFault; 13] = [
         BatchFault::Truncated,
         BatchFault::Length,
@@ -46,12 +46,11 @@ fn batch(line: &mut String) -> Result<(), AllocError> {
         BatchFault::OutOfMemory,
     ];
     for fault in &ALL {
-        push(line, fault, fault.name())?;
+        push(row, fault, fault.name());
     }
-    Ok(())
 }
 
-fn record(line: &mut String) -> Result<(), AllocError> {
+fn record(row: &mut Row<'_>) {
     const ALL: [RecordFault; 6] = [
         RecordFault::Short,
         RecordFault::Version,
@@ -61,9 +60,8 @@ fn record(line: &mut String) -> Result<(), AllocError> {
         RecordFault::OutOfMemory,
     ];
     for fault in &ALL {
-        push(line, fault, fault.name())?;
+        push(row, fault, fault.name());
     }
-    Ok(())
 }
 
 const PAIR: [PairFault; 7] = [
@@ -76,14 +74,13 @@ const PAIR: [PairFault; 7] = [
     PairFault::MarkerKind,
 ];
 
-fn pair(line: &mut String) -> Result<(), AllocError> {
+fn pair(row: &mut Row<'_>) {
     for fault in &PAIR {
-        push(line, fault, fault.name())?;
+        push(row, fault, fault.name());
     }
-    Ok(())
 }
 
-fn spec(line: &mut String) -> Result<(), AllocError> {
+fn spec(row: &mut Row<'_>) {
     const ALL: [SpecFault; 5] = [
         SpecFault::Json,
         SpecFault::Field,
@@ -92,12 +89,11 @@ fn spec(line: &mut String) -> Result<(), AllocError> {
         SpecFault::OutOfMemory,
     ];
     for fault in &ALL {
-        push(line, fault, fault.name())?;
+        push(row, fault, fault.name());
     }
-    Ok(())
 }
 
-fn add(line: &mut String) -> Result<(), AllocError> {
+fn add(row: &mut Row<'_>) {
     const ALL: [AddFault; 4] = [
         AddFault::Name,
         AddFault::Limit,
@@ -105,38 +101,29 @@ fn add(line: &mut String) -> Result<(), AllocError> {
         AddFault::OutOfMemory,
     ];
     for fault in &ALL {
-        push(line, fault, fault.name())?;
+        push(row, fault, fault.name());
     }
-    Ok(())
 }
 
-fn read(line: &mut String) -> Result<(), AllocError> {
+fn read(row: &mut Row<'_>) {
     const ALL: [ReadFault; 3] = [ReadFault::Read, ReadFault::Limit, ReadFault::OutOfMemory];
     for fault in &ALL {
-        push(line, fault, fault.name())?;
+        push(row, fault, fault.name());
     }
-    Ok(())
 }
 
-fn step(line: &mut String) -> Result<(), AllocError> {
+fn step(row: &mut Row<'_>) {
     const ALL: [TxnFault; 3] = [TxnFault::Order, TxnFault::Producer, TxnFault::Epoch];
     for fault in &ALL {
-        push(line, fault, fault.name())?;
+        push(row, fault, fault.name());
     }
-    Ok(())
 }
 
-fn numbers(line: &mut String) -> Result<(), AllocError> {
-    show(
-        line,
-        [
-            PairFault::FirstSequence.number(),
-            PairFault::Sequence.number(),
-            PairFault::ZombieEpoch.number(),
-            PairFault::EpochWhileOpen.number(),
-            PairFault::NoBump.number(),
-            PairFault::MixedProducer.number(),
-            PairFault::MarkerKind.number(),
-        ],
-    )
+fn numbers(row: &mut Row<'_>) {
+    row.put("[");
+    for fault in &PAIR {
+        row.apart(", ");
+        row.say(fault.number());
+    }
+    row.put("]");
 }

@@ -1,116 +1,105 @@
 //! Records of the transaction log.
 
 use crate::formats::offsets;
-use crate::words::{Line, Notes, bytes_of, first_of, or_bad, show, show_digits};
+use crate::row::Row;
 use bytes::Bytes;
 use eos_base::RecordFault;
 use eos_txnlog::{
-    TxnFault, TxnValue, decode_key, decode_value, encode_key, encode_value, is_same_set,
-    is_skipped, lists, step_ok,
+    TxnValue, decode_key, decode_value, encode_key, encode_value, is_same_set, is_skipped, lists,
+    step_ok,
 };
-use std::alloc::{AllocError, Global};
 
-pub(super) fn answer(
-    alloc: Global,
-    line: &mut Line,
-    call: &str,
-    bytes: &Bytes,
-    more: &str,
-) -> Result<(), AllocError> {
+pub(super) fn answer(row: &mut Row<'_>, call: &str, bytes: &Bytes) {
     match call {
-        "decode_txn_key" => show(&mut line.text, decode_key(alloc, bytes)),
-        "encode_txn_key" => show_digits(alloc, &mut line.text, encode_key(alloc, bytes)),
-        "decode_txn_value" => show(&mut line.text, decode_value(alloc, bytes)),
-        "encode_txn_value" => show_digits(
-            alloc,
-            &mut line.text,
-            recoded(alloc, &mut line.notes, bytes, more),
-        ),
-        "lists" => show(&mut line.text, listed(alloc, &mut line.notes, bytes, more)),
-        "is_same_set" => show(&mut line.text, same(alloc, &mut line.notes, bytes, more)),
-        "is_skipped" => show(&mut line.text, skipped(alloc, &mut line.notes, bytes, more)),
-        "is_skipped_first" => show(&mut line.text, skipped_first(alloc, bytes)),
-        "step_ok" => show(&mut line.text, step(alloc, &mut line.notes, bytes, more)),
-        _ => offsets::answer(alloc, line, call, bytes, more),
+        "decode_txn_key" => row.say(decode_key(row.alloc, bytes)),
+        "encode_txn_key" => row.digits(encode_key(row.alloc, bytes)),
+        "decode_txn_value" => row.say(decode_value(row.alloc, bytes)),
+        "encode_txn_value" => recode(row, bytes),
+        "lists" => list(row, bytes),
+        "is_same_set" => compare(row, bytes),
+        "is_skipped_first" => skip_first(row, bytes),
+        "is_skipped" | "step_ok" => follow(row, call, bytes),
+        _ => offsets::answer(row, call, bytes),
     }
 }
 
 /// A value read and written in a version.
-fn recoded(
-    alloc: Global,
-    notes: &mut Notes,
-    bytes: &Bytes,
-    version: &str,
-) -> Result<Bytes, RecordFault> {
-    let version = or_bad(notes, version.parse::<i16>().ok(), 0);
-    let value = decode_value(alloc, bytes)?;
-    encode_value(alloc, &value, version)
-}
-
-/// Whether a value lists this partition of a topic.
-fn listed(
-    alloc: Global,
-    notes: &mut Notes,
-    bytes: &Bytes,
-    more: &str,
-) -> Result<bool, RecordFault> {
-    let (topic, number) = first_of(more);
-    let number = or_bad(notes, number.parse::<i32>().ok(), 0);
-    let value = decode_value(alloc, bytes)?;
-    Ok(lists(value.partitions.as_slice(), topic.as_bytes(), number))
-}
-
-/// The value of a record, None for a tombstone, which has no bytes.
-fn state_of(alloc: Global, bytes: &Bytes) -> Result<Option<TxnValue>, RecordFault> {
-    if bytes.is_empty() {
-        return Ok(None);
+fn recode(row: &mut Row<'_>, bytes: &Bytes) {
+    let version = row.parse(row.rest, 0);
+    match decode_value(row.alloc, bytes) {
+        Ok(value) => row.digits(encode_value(row.alloc, &value, version)),
+        Err(fault) => row.say(fault),
     }
-    Ok(Some(decode_value(alloc, bytes)?))
 }
 
-fn second_of(
-    alloc: Global,
-    notes: &mut Notes,
-    more: &str,
-) -> Result<Option<TxnValue>, RecordFault> {
-    let bytes = bytes_of(alloc, notes, more)?;
-    state_of(alloc, &bytes)
-}
-
-fn same(alloc: Global, notes: &mut Notes, bytes: &Bytes, more: &str) -> Result<bool, RecordFault> {
-    let first = decode_value(alloc, bytes)?;
-    match second_of(alloc, notes, more)? {
-        None => Err(RecordFault::Short),
-        Some(second) => {
-            let (a, b) = (first.partitions.as_slice(), second.partitions.as_slice());
-            Ok(is_same_set(alloc, a, b)?)
+/// A value; where it doesn't read, that is said.
+fn value_of(row: &mut Row<'_>, bytes: &Bytes) -> Option<TxnValue> {
+    match decode_value(row.alloc, bytes) {
+        Ok(value) => Some(value),
+        Err(fault) => {
+            row.say(Err::<(), RecordFault>(fault));
+            None
         }
     }
 }
 
-fn skipped(
-    alloc: Global,
-    notes: &mut Notes,
-    bytes: &Bytes,
-    more: &str,
-) -> Result<bool, RecordFault> {
-    let last = state_of(alloc, bytes)?;
-    let next = second_of(alloc, notes, more)?;
-    Ok(is_skipped(alloc, Some(last.as_ref()), next.as_ref())?)
+/// Whether a value lists this partition of a topic.
+fn list(row: &mut Row<'_>, bytes: &Bytes) {
+    let topic = row.word();
+    let number = row.parse(row.rest, 0);
+    if let Some(value) = value_of(row, bytes) {
+        row.say(Ok::<bool, RecordFault>(lists(
+            value.partitions.as_slice(),
+            topic.as_bytes(),
+            number,
+        )));
+    }
 }
 
-fn skipped_first(alloc: Global, bytes: &Bytes) -> Result<bool, RecordFault> {
-    let next = state_of(alloc, bytes)?;
-    Ok(is_skipped(alloc, None, next.as_ref())?)
+/// Whether two values list the same partitions.
+fn compare(row: &mut Row<'_>, bytes: &Bytes) {
+    let next = row.bytes(row.rest);
+    if let Some(first) = value_of(row, bytes) {
+        if let Some(second) = value_of(row, &next) {
+            compare_values(row, &first, &second);
+        }
+    }
 }
 
-fn step(
-    alloc: Global,
-    notes: &mut Notes,
-    bytes: &Bytes,
-    more: &str,
-) -> Result<Result<(), TxnFault>, RecordFault> {
-    let prev = state_of(alloc, bytes)?;
-    let next = second_of(alloc, notes, more)?;
-    Ok(step_ok(prev.as_ref(), next.as_ref()))
+fn compare_values(row: &mut Row<'_>, first: &TxnValue, second: &TxnValue) {
+    let (a, b) = (first.partitions.as_slice(), second.partitions.as_slice());
+    row.say(is_same_set(row.alloc, a, b));
+}
+
+/// The value of a record, None for a tombstone, which has no bytes; where it doesn't read, that is said.
+fn state_of(row: &mut Row<'_>, bytes: &Bytes) -> Option<Option<TxnValue>> {
+    if bytes.is_empty() {
+        return Some(None);
+    }
+    Some(Some(value_of(row, bytes)?))
+}
+
+/// Whether nothing leads to the first value of an id.
+fn skip_first(row: &mut Row<'_>, bytes: &Bytes) {
+    if let Some(next) = state_of(row, bytes) {
+        row.say(is_skipped(row.alloc, None, next.as_ref()));
+    }
+}
+
+/// What is said of a value, or a tombstone, behind another one.
+fn follow(row: &mut Row<'_>, call: &str, bytes: &Bytes) {
+    let next = row.bytes(row.rest);
+    if let Some(last) = state_of(row, bytes) {
+        if let Some(next) = state_of(row, &next) {
+            follow_values(row, call, last.as_ref(), next.as_ref());
+        }
+    }
+}
+
+fn follow_values(row: &mut Row<'_>, call: &str, last: Option<&TxnValue>, next: Option<&TxnValue>) {
+    if call == "step_ok" {
+        row.say(Ok::<_, RecordFault>(step_ok(last, next)));
+    } else {
+        row.say(is_skipped(row.alloc, Some(last), next));
+    }
 }

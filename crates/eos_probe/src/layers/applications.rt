@@ -3,183 +3,153 @@
 
 use super::parts::parts_of;
 use super::verdicts::push_fault;
-use crate::words::{Line, Notes, bad, name_of, sides};
-use bytes::Bytes;
+use crate::row::Row;
 use eos_base::Listed;
 use eos_check::Fault;
 use eos_commits::{
     CommitRef, TopicSet, commits_of, committed, last_committed, least_visible_fault,
 };
-use eos_evidence::{App, GroupId, Spec, SpecFault};
+use eos_evidence::{App, End, GroupId, Spec, SpecFault};
 use eos_lineage::{LineageFault, check_lineage};
 use eos_output_faults::all_output_faults;
 use eos_partition::Part;
-use eos_text::push_value;
-use std::alloc::{AllocError, Global};
 use std::thread::Threads;
 
-fn topics_of(alloc: Global, words: &str) -> Result<Vec<Bytes>, AllocError> {
-    let mut topics = Vec::new(alloc);
-    for topic in words.split(',') {
-        topics.push(Bytes::copy_from_slice(alloc, topic.as_bytes())?)?;
-    }
-    Ok(topics)
-}
-
-fn app_of(alloc: Global, group: &str, sources: &str, outputs: &str) -> Result<App, AllocError> {
-    Ok(App {
-        group: GroupId::new(String::from_str(alloc, group)?),
-        sources: Listed::new(topics_of(alloc, sources)?),
-        outputs: Listed::new(topics_of(alloc, outputs)?),
+/// The application that is still to be read.
+fn app_of(row: &mut Row<'_>) -> Option<App> {
+    let group = row.upto(':');
+    let group = row.got(String::from_str(row.alloc, group))?;
+    let sources = row.upto(':');
+    Some(App {
+        group: GroupId::new(group),
+        sources: Listed::new(row.topics(sources)),
+        outputs: Listed::new(row.topics(row.rest)),
     })
 }
 
-fn apps_of(alloc: Global, notes: &mut Notes, words: &str) -> Result<Vec<App>, AllocError> {
-    let mut apps = Vec::new(alloc);
-    for app in words.split(';') {
-        let (group, topics) = sides(notes, app, ':');
-        let (sources, outputs) = sides(notes, topics, ':');
-        apps.push(app_of(alloc, group, sources, outputs)?)?;
+/// What is told of these applications, with these ends of partitions.
+pub(crate) fn spec_of<'a>(row: &mut Row<'a>, words: &'a str, ends: Vec<End>) -> Option<Spec> {
+    let mut apps = Vec::new(row.alloc);
+    for word in words.split(';') {
+        row.rest = word;
+        if let Some(app) = app_of(row) {
+            row.push(&mut apps, app);
+        }
     }
-    Ok(apps)
-}
-
-/// What is told of these applications, without ends of partitions.
-fn spec_of(alloc: Global, notes: &mut Notes, words: &str) -> Result<Spec, AllocError> {
-    let apps = apps_of(alloc, notes, words)?;
-    let ends = Listed::new(Vec::new(alloc));
-    match Spec::new(alloc, Listed::new(apps), ends) {
-        Ok(spec) => Ok(spec),
-        Err(SpecFault::OutOfMemory) => Err(AllocError),
-        Err(_) => bad(notes),
+    match Spec::new(row.alloc, Listed::new(apps), Listed::new(ends)) {
+        Ok(spec) => Some(spec),
+        Err(fault) => {
+            if fault == SpecFault::OutOfMemory {
+                row.is_out = true;
+            } else {
+                row.is_bad = true;
+            }
+            None
+        }
     }
 }
 
 /// Writes the counts of the lineage, or its least fault.
-fn lineage<R: Threads + Sync>(
-    rt: &R,
-    alloc: Global,
-    line: &mut String,
-    spec: &Spec,
-    parts: &[Part],
-) -> Result<(), AllocError> {
-    match check_lineage(alloc, rt, spec, parts)? {
-        Ok((inputs, outputs)) => {
-            push_value(line, "inputs=", &inputs)?;
-            push_value(line, " outputs=", &outputs)
+fn push_lineage<R: Threads + Sync>(rt: &R, row: &mut Row<'_>, spec: &Spec, parts: &[Part]) {
+    match row.got(check_lineage(row.alloc, rt, spec, parts)) {
+        None => {}
+        Some(Ok((inputs, outputs))) => {
+            row.tell("inputs=", inputs);
+            row.tell(" outputs=", outputs);
         }
-        Err(fault) => push_fault(alloc, line, Some(Fault::Lineage(fault))),
+        Some(Err(fault)) => push_fault(row, Fault::Lineage(fault)),
     }
 }
 
 /// Writes all faults of the applications' outputs, or that there is none.
-fn outputs(
-    alloc: Global,
-    line: &mut String,
-    spec: &Spec,
-    parts: &[Part],
-) -> Result<(), AllocError> {
-    for fault in all_output_faults(alloc, spec, parts)? {
-        if !line.is_empty() {
-            line.push_str("; ")?;
+fn push_outputs(row: &mut Row<'_>, spec: &Spec, parts: &[Part]) {
+    if let Some(faults) = row.got(all_output_faults(row.alloc, spec, parts)) {
+        for fault in faults {
+            row.apart("; ");
+            push_fault(row, Fault::Lineage(fault));
         }
-        push_fault(alloc, line, Some(Fault::Lineage(fault)))?;
+        row.or_none();
     }
-    if line.is_empty() {
-        line.push_str("none")?;
-    }
-    Ok(())
 }
 
-/// Writes the least fault of single records.
-fn visible(
-    alloc: Global,
-    line: &mut String,
-    spec: &Spec,
-    parts: &[Part],
-) -> Result<(), AllocError> {
-    match least_visible_fault(alloc, spec.apps().as_slice(), parts)? {
-        None => line.push_str("none"),
-        Some(fault) => {
-            let fault = Fault::Lineage(LineageFault::Record(fault));
-            push_fault(alloc, line, Some(fault))
-        }
+/// Writes the least fault of single records, or that there is none.
+fn push_visible(row: &mut Row<'_>, spec: &Spec, parts: &[Part]) {
+    match row.got(least_visible_fault(row.alloc, spec.apps().as_slice(), parts)) {
+        Some(Some(fault)) => push_fault(row, Fault::Lineage(LineageFault::Record(fault))),
+        _ => row.put("none"),
     }
 }
 
 /// What is said of the words `APPLICATIONS PART PART ..`.
-fn of_apps<R: Threads + Sync>(
-    rt: &R,
-    alloc: Global,
-    line: &mut Line,
-    call: &str,
-    rest: &str,
-) -> Result<(), AllocError> {
-    let (apps, words) = rest.split_once(' ').unwrap_or((rest, ""));
-    let spec = spec_of(alloc, &mut line.notes, apps)?;
-    let parts = parts_of(alloc, &mut line.notes, words)?;
-    match call {
-        "check_lineage" => lineage(rt, alloc, &mut line.text, &spec, parts.as_slice()),
-        "all_output_faults" => outputs(alloc, &mut line.text, &spec, parts.as_slice()),
-        _ => visible(alloc, &mut line.text, &spec, parts.as_slice()),
+pub(super) fn answer<R: Threads + Sync>(rt: &R, row: &mut Row<'_>, call: &str) {
+    let apps = row.word();
+    let parts = parts_of(row);
+    let parts = parts.as_slice();
+    if let Some(spec) = spec_of(row, apps, Vec::new(row.alloc)) {
+        match call {
+            "check_lineage" => push_lineage(rt, row, &spec, parts),
+            "all_output_faults" => push_outputs(row, &spec, parts),
+            _ => push_visible(row, &spec, parts),
+        }
     }
 }
 
 /// Writes the commits of a group, and the last for the partition of this name.
-fn tell(line: &mut String, all: &[CommitRef<'_>], name: (&str, i32)) -> Result<(), AllocError> {
-    let (topic, number) = name;
-    let last = last_committed(all, topic.as_bytes(), number);
-    push_value(line, "last=", &last)?;
+fn push_commits(row: &mut Row<'_>, all: &[CommitRef<'_>], topic: &[u8], number: i32) {
+    row.tell("last=", last_committed(all, topic, number));
     for commit in all {
         let topic = std::str::from_utf8(commit.topic).unwrap_or("no text");
-        let (number, offset) = (commit.partition, commit.offset);
-        write!(line, " {topic}-{number}:{offset}={:?}", commit.writer)?;
+        row.put(" ");
+        row.put(topic);
+        row.tell("-", commit.partition);
+        row.tell(":", commit.offset);
+        row.tell("=", commit.writer);
     }
-    Ok(())
 }
 
 /// What is said of the words `GROUP TOPIC,TOPIC NAME PART PART ..`.
-fn commits(alloc: Global, line: &mut Line, rest: &str) -> Result<(), AllocError> {
-    let (group, rest) = sides(&mut line.notes, rest, ' ');
-    let (topics, rest) = sides(&mut line.notes, rest, ' ');
-    let (name, words) = sides(&mut line.notes, rest, ' ');
-    let name = name_of(&mut line.notes, name);
-    let topics = topics_of(alloc, topics)?;
-    let parts = parts_of(alloc, &mut line.notes, words)?;
-    let all = commits_of(alloc, group.as_bytes(), topics.as_slice(), parts.as_slice())?;
-    tell(&mut line.text, all.as_slice(), name)
+pub(super) fn commits(row: &mut Row<'_>) {
+    let group = row.upto(' ');
+    let topics = row.upto(' ');
+    let topics = row.topics(topics);
+    let name = row.upto(' ');
+    let name = row.name(name);
+    let parts = parts_of(row);
+    match commits_of(
+        row.alloc,
+        group.as_bytes(),
+        topics.as_slice(),
+        parts.as_slice(),
+    ) {
+        Ok(all) => push_commits(row, all.as_slice(), name.topic.as_slice(), name.partition),
+        Err(_) => row.is_out = true,
+    }
 }
 
 /// What is said of the words `GROUP NAME PART PART ..`: the committed offset.
-fn offset_of(alloc: Global, line: &mut Line, rest: &str) -> Result<(), AllocError> {
-    let (group, rest) = sides(&mut line.notes, rest, ' ');
-    let (name, words) = sides(&mut line.notes, rest, ' ');
-    let (topic, number) = name_of(&mut line.notes, name);
-    let topic = Bytes::copy_from_slice(alloc, topic.as_bytes())?;
-    let parts = parts_of(alloc, &mut line.notes, words)?;
-    let offset = committed(alloc, parts.as_slice(), group.as_bytes(), &topic, number)?;
-    push_value(&mut line.text, "", &offset)
+pub(super) fn offset_of(row: &mut Row<'_>) {
+    let group = row.upto(' ');
+    let name = row.upto(' ');
+    let name = row.name(name);
+    let parts = parts_of(row);
+    let group = group.as_bytes();
+    let offset = committed(
+        row.alloc,
+        parts.as_slice(),
+        group,
+        &name.topic,
+        name.partition,
+    );
+    if let Some(offset) = row.got(offset) {
+        row.say(offset);
+    }
 }
 
 /// Whether the topics of the words `TOPIC,TOPIC TOPIC` have the last one among them.
-fn has(alloc: Global, line: &mut Line, rest: &str) -> Result<(), AllocError> {
-    let (topics, topic) = sides(&mut line.notes, rest, ' ');
-    let topics = topics_of(alloc, topics)?;
-    let set = TopicSet::of(alloc, topics.as_slice())?;
-    push_value(&mut line.text, "", &set.has(topic.as_bytes()))
-}
-
-pub(super) fn answer<R: Threads + Sync>(
-    rt: &R,
-    alloc: Global,
-    line: &mut Line,
-    call: &str,
-    rest: &str,
-) -> Result<(), AllocError> {
-    match call {
-        "commits_of" => commits(alloc, line, rest),
-        "committed" => offset_of(alloc, line, rest),
-        "topic_set" => has(alloc, line, rest),
-        _ => of_apps(rt, alloc, line, call, rest),
+pub(super) fn has(row: &mut Row<'_>) {
+    let topics = row.upto(' ');
+    let topics = row.topics(topics);
+    if let Some(set) = row.got(TopicSet::of(row.alloc, topics.as_slice())) {
+        row.say(set.has(row.rest.as_bytes()));
     }
 }

@@ -1,86 +1,93 @@
 //! What the log of one partition says.
 
-use super::orders::order_of;
 use super::parts::part_of;
-use super::verdicts::push_fault;
-use crate::words::{Line, show};
-use eos_check::Fault;
+use super::verdicts::{push_verdict, tell_texts};
+use crate::row::Row;
+use eos_check::{Fault, Verdict};
 use eos_commits::is_visible;
 use eos_fold::{Part, PartitionFault};
-use eos_text::push_value;
-use std::alloc::{AllocError, Global};
 
-/// The least fault.
-pub(super) fn fault_of(part: &Part) -> Result<Option<Fault>, AllocError> {
+/// The verdict of a fault.
+fn verdict_of(row: &mut Row<'_>, fault: &PartitionFault) -> Option<Verdict> {
+    Some(Verdict::No(Fault::Partition(PartitionFault {
+        topic: row.got(fault.topic.clone())?,
+        partition: fault.partition,
+        offset: fault.offset,
+        kind: fault.kind,
+    })))
+}
+
+/// Writes the line of the least fault, or for `verdict` both texts of it.
+fn push_fault(row: &mut Row<'_>, call: &str, part: &Part) {
     match part.fault() {
-        None => Ok(None),
-        Some(fault) => Ok(Some(Fault::Partition(PartitionFault {
-            topic: fault.topic.clone()?,
-            partition: fault.partition,
-            offset: fault.offset,
-            kind: fault.kind,
-        }))),
+        None if call == "verdict" => row.is_bad = true,
+        None => row.put("none"),
+        Some(fault) => {
+            if let Some(verdict) = verdict_of(row, fault) {
+                if call == "verdict" {
+                    tell_texts(row, &verdict);
+                } else {
+                    push_verdict(row, &verdict);
+                }
+            }
+        }
     }
 }
 
-/// The number of the least fault's kind, or 0.
-fn number_of(part: &Part) -> u8 {
+/// Writes the number of the least fault's kind, or 0.
+fn push_number(row: &mut Row<'_>, part: &Part) {
     match part.fault() {
-        None => 0,
-        Some(fault) => fault.kind.number(),
+        None => row.put("0"),
+        Some(fault) => row.say(fault.kind.number()),
     }
 }
 
 /// Writes the number of records, and of each its fate and whether it is visible.
-fn push_fates(line: &mut String, part: &Part) -> Result<(), AllocError> {
+fn push_fates(row: &mut Row<'_>, part: &Part) {
     let items = part.items();
-    push_value(line, "", &items.len())?;
+    row.say(items.len());
     for i in 0..items.len() {
         let fate = items.view(i).fate();
-        write!(line, " {fate:?}={}", is_visible(fate))?;
+        row.tell(" ", fate);
+        row.tell("=", is_visible(fate));
     }
-    Ok(())
 }
 
 /// Writes the ends of transactions, the markers and the records.
-fn push_records(alloc: Global, line: &mut String, part: &Part) -> Result<(), AllocError> {
-    write!(line, "{:?} {:?}", part.closes(), part.markers())?;
+fn push_records(row: &mut Row<'_>, part: &Part) {
+    row.say(part.closes());
+    row.tell(" ", part.markers());
     let items = part.items();
     for i in 0..items.len() {
-        line.push_str(" ")?;
-        show(line, items.get(alloc, i)?)?;
+        if let Some(item) = row.got(items.get(row.alloc, i)) {
+            row.tell(" ", item);
+        }
     }
-    line.push_str(" ")
+    row.put(" ");
 }
 
-/// Writes all that the log says.
-fn push_all(alloc: Global, line: &mut String, part: &Part) -> Result<(), AllocError> {
-    push_records(alloc, line, part)?;
-    push_fault(alloc, line, fault_of(part)?)
-}
-
-fn tell(alloc: Global, line: &mut String, call: &str, part: &Part) -> Result<(), AllocError> {
+fn tell(row: &mut Row<'_>, call: &str, part: &Part) {
     match call {
-        "part_kind" => push_value(line, "", &number_of(part)),
-        "part_fault" => push_fault(alloc, line, fault_of(part)?),
-        "fates" => push_fates(line, part),
-        "closes" => show(line, part.closes()),
-        "markers" => show(line, part.markers()),
-        _ => push_all(alloc, line, part),
+        "part_kind" => push_number(row, part),
+        "fates" => push_fates(row, part),
+        "closes" => row.say(part.closes()),
+        "markers" => row.say(part.markers()),
+        "part" => {
+            push_records(row, part);
+            push_fault(row, call, part);
+        }
+        _ => push_fault(row, call, part),
     }
 }
 
 /// What is said of the words `ORDER PART`; without the first from the left.
-pub(super) fn answer(
-    alloc: Global,
-    line: &mut Line,
-    call: &str,
-    rest: &str,
-) -> Result<(), AllocError> {
-    let (order, word) = rest.split_once(' ').unwrap_or(("left", rest));
-    let order = order_of(&mut line.notes, order);
-    match part_of(alloc, &mut line.notes, order, word) {
-        Ok(part) => tell(alloc, &mut line.text, call, &part),
-        Err(error) => Err(error),
+pub(super) fn answer(row: &mut Row<'_>, call: &str) {
+    let order = if row.rest.contains(' ') {
+        row.word()
+    } else {
+        "left"
+    };
+    if let Some(part) = part_of(row, order) {
+        tell(row, call, &part);
     }
 }

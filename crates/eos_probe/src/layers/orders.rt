@@ -3,31 +3,8 @@
 ghost use Rattle.std.specs.Prelude.{IsTrue};
 ghost use Rattle.eos_fold.specs.Sums.{Follows};
 
-use crate::words::{Notes, bad};
+use crate::row::Row;
 use eos_fold::Named;
-use std::alloc::{AllocError, Global};
-
-#[derive(Clone, Copy)]
-pub(super) enum Order {
-    /// Each run is put behind those before it.
-    FromTheLeft,
-    /// Each run is put before those behind it.
-    FromTheRight,
-    /// Neighbours are joined in pairs, and then the pairs, until one run is left.
-    ByPairs,
-}
-
-pub(super) fn order_of(notes: &mut Notes, word: &str) -> Order {
-    match word {
-        "left" => Order::FromTheLeft,
-        "right" => Order::FromTheRight,
-        "pairs" => Order::ByPairs,
-        _ => {
-            notes.is_bad = true;
-            Order::ByPairs
-        }
-    }
-}
 
 /// Whether the second run follows the first.
 #[tactic(auto, using(crate::proofs::Neighbours::one_topic))]
@@ -43,111 +20,77 @@ fn follows(before: &Named, after: &Named) -> bool
 }
 
 /// One run of two, of which the second follows the first.
-pub(crate) fn merged(
-    alloc: Global,
-    notes: &mut Notes,
-    before: Named,
-    after: Named,
-) -> Result<Named, AllocError> {
+pub(crate) fn merged(row: &mut Row<'_>, before: Named, after: Named) -> Option<Named> {
     if !follows(&before, &after) {
-        return bad(notes);
+        row.is_bad = true;
+        return None;
     }
-    match Named::merge(alloc, before, after) {
-        Ok(run) => Ok(run),
-        Err(_) => Err(AllocError),
+    row.got(Named::merge(row.alloc, before, after))
+}
+
+/// The one run of these; none of none. In the order `left` each run is put behind those before it, in the order `right` before
+/// those behind it, and in the order `pairs` neighbours are joined in pairs, and then the pairs, until one run is left.
+pub(super) fn joined(row: &mut Row<'_>, runs: Vec<Named>, order: &str) -> Option<Named> {
+    match order {
+        "left" => from_the_left(row, runs),
+        "right" => from_the_right(row, runs),
+        "pairs" => by_pairs(row, runs),
+        _ => {
+            row.is_bad = true;
+            None
+        }
     }
 }
 
-/// Puts a run behind those before it, or before those behind it.
-fn join_one(
-    alloc: Global,
-    notes: &mut Notes,
-    all: &mut Option<Named>,
-    run: Named,
-    is_behind: bool,
-) -> Result<(), AllocError> {
-    let joined = match all.take() {
-        None => run,
-        Some(before) if is_behind => merged(alloc, notes, before, run)?,
-        Some(after) => merged(alloc, notes, run, after)?,
-    };
-    *all = Some(joined);
-    Ok(())
-}
-
-fn from_the_left(
-    alloc: Global,
-    notes: &mut Notes,
-    runs: Vec<Named>,
-) -> Result<Option<Named>, AllocError> {
+fn from_the_left(row: &mut Row<'_>, runs: Vec<Named>) -> Option<Named> {
     let mut all = None;
     for run in runs {
-        join_one(alloc, notes, &mut all, run, true)?;
+        all = match all {
+            None => Some(run),
+            Some(before) => merged(row, before, run),
+        };
     }
-    Ok(all)
+    all
 }
 
-fn from_the_right(
-    alloc: Global,
-    notes: &mut Notes,
-    runs: Vec<Named>,
-) -> Result<Option<Named>, AllocError> {
+fn from_the_right(row: &mut Row<'_>, runs: Vec<Named>) -> Option<Named> {
     let mut all = None;
     for run in runs.into_iter().rev() {
-        join_one(alloc, notes, &mut all, run, false)?;
+        all = match all {
+            None => Some(run),
+            Some(after) => merged(row, run, after),
+        };
     }
-    Ok(all)
+    all
 }
 
-/// Adds the second run of a pair to the first, or keeps it for the next one.
-fn pair(
-    alloc: Global,
-    notes: &mut Notes,
-    pairs: &mut Vec<Named>,
-    first: &mut Option<Named>,
-    run: Named,
-) -> Result<(), AllocError> {
-    match first.take() {
-        Some(before) => pairs.push(merged(alloc, notes, before, run)?)?,
-        None => *first = Some(run),
+fn by_pairs(row: &mut Row<'_>, mut runs: Vec<Named>) -> Option<Named> {
+    for _ in 0..64 {
+        runs = paired(row, runs);
     }
-    Ok(())
+    runs.pop()
 }
 
 /// The first run with the second, the third with the fourth, and so on.
-fn paired(alloc: Global, notes: &mut Notes, runs: Vec<Named>) -> Result<Vec<Named>, AllocError> {
-    let mut pairs = Vec::new(alloc);
+fn paired(row: &mut Row<'_>, runs: Vec<Named>) -> Vec<Named> {
+    let mut pairs = Vec::new(row.alloc);
     let mut first = None;
     for run in runs {
-        pair(alloc, notes, &mut pairs, &mut first, run)?;
+        match first.take() {
+            None => first = Some(run),
+            Some(before) => {
+                let both = merged(row, before, run);
+                push(row, &mut pairs, both);
+            }
+        }
     }
-    if let Some(last) = first {
-        pairs.push(last)?;
-    }
-    Ok(pairs)
+    push(row, &mut pairs, first);
+    pairs
 }
 
-/// The one run of these, joined in this order; none of none.
-pub(super) fn joined(
-    alloc: Global,
-    notes: &mut Notes,
-    runs: Vec<Named>,
-    order: Order,
-) -> Result<Option<Named>, AllocError> {
-    match order {
-        Order::FromTheLeft => from_the_left(alloc, notes, runs),
-        Order::FromTheRight => from_the_right(alloc, notes, runs),
-        Order::ByPairs => by_pairs(alloc, notes, runs),
+/// Puts a run behind these, where there is one.
+fn push(row: &mut Row<'_>, runs: &mut Vec<Named>, run: Option<Named>) {
+    if let Some(run) = run {
+        row.push(runs, run);
     }
-}
-
-fn by_pairs(
-    alloc: Global,
-    notes: &mut Notes,
-    mut runs: Vec<Named>,
-) -> Result<Option<Named>, AllocError> {
-    for _ in 0..64 {
-        runs = paired(alloc, notes, runs)?;
-    }
-    from_the_left(alloc, notes, runs)
 }

@@ -1,54 +1,32 @@
 //! The logs of partitions as words: `TOPIC-NUMBER:END:BASE/BYTES,BASE/BYTES`, a base and bytes for each segment.
 
-ghost use Rattle.std.specs.Prelude.{IfOk, IsTrue};
+ghost use Rattle.std.specs.Prelude.{IfSome, IsTrue};
 ghost use Rattle.eos_fold.specs.Sums.{IsFit};
 ghost use Rattle.eos_fold.specs.Standing.{AreOf};
 
-use super::orders::{Order, joined};
-use crate::words::{Notes, bad, bytes_of, name_of, number_of, sides};
-use bytes::Bytes;
+use super::orders::joined;
+use crate::row::Row;
 use eos_base::PartitionName;
 use eos_evidence::Segment;
 use eos_fold::{Named, Part};
-use std::alloc::{AllocError, Global};
 
-/// A segment of the partition, within the limits.
-pub(super) fn segment_of(
-    alloc: Global,
-    notes: &mut Notes,
-    name: &PartitionName,
-    word: &str,
-) -> Result<Segment, AllocError>
-    ensures { IfOk result IsFit }
+/// The segment of the partition that is still to be read, within the limits.
+pub(crate) fn segment_of(row: &mut Row<'_>, name: &PartitionName) -> Option<Segment>
+    ensures { IfSome result IsFit }
 {
-    let (base, digits) = sides(notes, word, '/');
-    let base = number_of(notes, base);
-    let bytes = bytes_of(alloc, notes, digits)?;
+    let base = row.upto('/');
+    let base = row.parse(base, -1i64);
+    let bytes = row.bytes(row.rest);
     if base < 0 || bytes.len() > 1 << 30 {
-        notes.is_bad = true;
-        return Err(AllocError);
+        row.is_bad = true;
+        return None;
     }
-    Ok(Segment {
-        topic: name.topic.clone()?,
+    Some(Segment {
+        topic: row.got(name.topic.clone())?,
         partition: name.partition,
         base,
         bytes,
     })
-}
-
-/// The run of one segment.
-fn piece_of(
-    alloc: Global,
-    notes: &mut Notes,
-    name: &PartitionName,
-    piece: u64,
-    word: &str,
-) -> Result<Named, AllocError> {
-    let segment = segment_of(alloc, notes, name, word)?;
-    match Named::of(alloc, piece, segment) {
-        Ok(run) => Ok(run),
-        Err(_) => Err(AllocError),
-    }
 }
 
 /// Whether the run is of this partition.
@@ -60,68 +38,52 @@ fn is_of(name: &PartitionName, run: &Named) -> bool
 }
 
 /// The log of a partition that ends there.
-fn ended(
-    alloc: Global,
-    notes: &mut Notes,
-    name: PartitionName,
-    end: i64,
-    run: Option<Named>,
-) -> Result<Part, AllocError> {
-    match run {
-        None => Part::new(alloc, name.topic, name.partition, end, None),
-        Some(run) => {
-            if !is_of(&name, &run) {
-                return bad(notes);
-            }
-            Part::new(alloc, name.topic, name.partition, end, Some(run))
-        }
+fn ended(row: &mut Row<'_>, name: PartitionName, end: i64, run: Option<Named>) -> Option<Part> {
+    let Some(run) = run else {
+        return row.got(Part::new(row.alloc, name.topic, name.partition, end, None));
+    };
+    if !is_of(&name, &run) {
+        row.is_bad = true;
+        return None;
     }
+    row.got(Part::new(row.alloc, name.topic, name.partition, end, Some(run)))
 }
 
-/// The runs of these segments, one each.
-fn runs_of(
-    alloc: Global,
-    notes: &mut Notes,
-    name: &PartitionName,
-    segments: &str,
-) -> Result<Vec<Named>, AllocError> {
-    let mut runs = Vec::new(alloc);
+/// The runs of the segments that are still to be read, one each.
+fn runs_of(row: &mut Row<'_>, name: &PartitionName) -> Vec<Named> {
+    let mut runs = Vec::new(row.alloc);
     let mut piece = 0u64;
-    for segment in segments.split_terminator(',') {
-        runs.push(piece_of(alloc, notes, name, piece, segment)?)?;
+    for word in row.rest.split_terminator(',') {
+        row.rest = word;
+        if let Some(segment) = segment_of(row, name) {
+            if let Some(run) = row.got(Named::of(row.alloc, piece, segment)) {
+                row.push(&mut runs, run);
+            }
+        }
         piece = piece.saturating_add(1);
     }
-    Ok(runs)
+    runs
 }
 
-/// The partition of a word, its segments joined in this order.
-pub(super) fn part_of(
-    alloc: Global,
-    notes: &mut Notes,
-    order: Order,
-    word: &str,
-) -> Result<Part, AllocError> {
-    let (name, rest) = sides(notes, word, ':');
-    let (end, segments) = sides(notes, rest, ':');
-    let end = number_of(notes, end);
-    let (topic, partition) = name_of(notes, name);
-    let topic = Bytes::copy_from_slice(alloc, topic.as_bytes())?;
-    let name = PartitionName { topic, partition };
-    let runs = runs_of(alloc, notes, &name, segments)?;
-    let run = joined(alloc, notes, runs, order)?;
-    ended(alloc, notes, name, end, run)
+/// The partition that is still to be read, its segments joined in this order.
+pub(super) fn part_of(row: &mut Row<'_>, order: &str) -> Option<Part> {
+    let name = row.upto(':');
+    let name = row.name(name);
+    let end = row.upto(':');
+    let end = row.parse(end, 0i64);
+    let runs = runs_of(row, &name);
+    let run = joined(row, runs, order);
+    ended(row, name, end, run)
 }
 
-/// The partitions of these words.
-pub(super) fn parts_of(
-    alloc: Global,
-    notes: &mut Notes,
-    words: &str,
-) -> Result<Vec<eos_partition::Part>, AllocError> {
-    let mut parts = Vec::new(alloc);
-    for word in words.split_whitespace() {
-        let part = part_of(alloc, notes, Order::FromTheLeft, word)?;
-        parts.push(eos_partition::Part::whole(part))?;
+/// The partitions that are still to be read.
+pub(super) fn parts_of(row: &mut Row<'_>) -> Vec<eos_partition::Part> {
+    let mut parts = Vec::new(row.alloc);
+    for word in row.rest.split_whitespace() {
+        row.rest = word;
+        if let Some(part) = part_of(row, "left") {
+            row.push(&mut parts, eos_partition::Part::whole(part));
+        }
     }
-    Ok(parts)
+    parts
 }

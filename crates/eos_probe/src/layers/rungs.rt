@@ -1,16 +1,14 @@
 //! What a list of segments, summarised one after the other and joined, says of producer ids.
 
-ghost use Rattle.std.specs.Prelude.{◌<◌, length, All, IfOk, IsTrue};
+ghost use Rattle.std.specs.Prelude.{◌<◌, length, All, IsTrue};
 ghost use Rattle.eos_fold.specs.Standing.{AreOf};
 ghost use Rattle.eos_fold.specs.Sums.{IsFit};
 
 use super::parts::segment_of;
-use crate::words::{Line, Notes, bad, name_of, number_of, sides};
-use bytes::Bytes;
+use crate::row::Row;
 use eos_base::PartitionName;
 use eos_evidence::Segment;
 use eos_fold::{Summary, summarise};
-use std::alloc::{AllocError, Global};
 
 /// Whether the segments are of this partition.
 fn are_of(name: &PartitionName, segments: &[Segment]) -> bool
@@ -20,63 +18,55 @@ fn are_of(name: &PartitionName, segments: &[Segment]) -> bool
         && segment.partition == name.partition)
 }
 
-/// The segments of these words, all within the limits.
-fn segments_of(
-    alloc: Global,
-    notes: &mut Notes,
-    name: &PartitionName,
-    words: &str,
-) -> Result<Vec<Segment>, AllocError>
-    ensures { IfOk result (λ segments. All IsFit segments.items) }
+/// The segments that are still to be read, all within the limits.
+fn segments_of(row: &mut Row<'_>, name: &PartitionName) -> Vec<Segment>
+    ensures { All IsFit result.items }
 {
-    let mut segments = Vec::new(alloc);
-    for word in words.split_terminator(',') {
-        segments.push(segment_of(alloc, notes, name, word)?)?;
+    let mut segments = Vec::new(row.alloc);
+    for word in row.rest.split_terminator(',') {
+        row.rest = word;
+        if let Some(segment) = segment_of(row, name) {
+            if segments.push(segment).is_err() {
+                row.is_out = true;
+            }
+        }
     }
-    Ok(segments)
+    segments
 }
 
 /// The summary of these segments.
-fn sum_of(
-    alloc: Global,
-    notes: &mut Notes,
-    name: &PartitionName,
-    segments: &[Segment],
-) -> Result<Summary, AllocError>
+fn sum_of(row: &mut Row<'_>, name: &PartitionName, segments: &[Segment]) -> Option<Summary>
     requires { All IsFit segments.now }
 {
     if segments.is_empty() || !are_of(name, segments) {
-        return bad(notes);
+        row.is_bad = true;
+        return None;
     }
-    summarise(alloc, segments)
+    row.got(summarise(row.alloc, segments))
 }
 
 /// Writes what a summary says of a producer id: which of its data batches wait for a marker, which marker closes what waits
 /// before these segments, and the first and the last touch.
-fn push_id(line: &mut String, summary: &Summary, producer: i64) -> Result<(), AllocError> {
-    if !line.is_empty() {
-        line.push_str("; ")?;
-    }
-    let (waits, closes) = (summary.waiting(producer), summary.first_marker(producer));
-    let (first, last) = (summary.first_touch(producer), summary.last_touch(producer));
-    write!(
-        line,
-        "{producer} waits={waits:?} closes={closes:?} first={first:?} last={last:?}"
-    )
+fn push_id(row: &mut Row<'_>, summary: &Summary, producer: i64) {
+    row.apart("; ");
+    row.say(producer);
+    row.tell(" waits=", summary.waiting(producer));
+    row.tell(" closes=", summary.first_marker(producer));
+    row.tell(" first=", summary.first_touch(producer));
+    row.tell(" last=", summary.last_touch(producer));
 }
 
 /// Writes what the segments of a partition say of the producer ids of the words `ID,ID PART`.
-pub(super) fn answer(alloc: Global, line: &mut Line, words: &str) -> Result<(), AllocError> {
-    let (ids, word) = sides(&mut line.notes, words, ' ');
-    let (name, rest) = sides(&mut line.notes, word, ':');
-    let (_, segments) = sides(&mut line.notes, rest, ':');
-    let (topic, partition) = name_of(&mut line.notes, name);
-    let topic = Bytes::copy_from_slice(alloc, topic.as_bytes())?;
-    let name = PartitionName { topic, partition };
-    let segments = segments_of(alloc, &mut line.notes, &name, segments)?;
-    let summary = sum_of(alloc, &mut line.notes, &name, segments.as_slice())?;
-    for id in ids.split(',') {
-        push_id(&mut line.text, &summary, number_of(&mut line.notes, id))?;
+pub(super) fn answer(row: &mut Row<'_>) {
+    let ids = row.upto(' ');
+    let name = row.upto(':');
+    let name = row.name(name);
+    row.upto(':');
+    let segments = segments_of(row, &name);
+    if let Some(summary) = sum_of(row, &name, segments.as_slice()) {
+        for id in ids.split(',') {
+            let id = row.parse(id, 0);
+            push_id(row, &summary, id);
+        }
     }
-    Ok(())
 }

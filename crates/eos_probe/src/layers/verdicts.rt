@@ -1,35 +1,20 @@
 //! The text of a verdict.
 
-use super::logs::fault_of;
-use super::orders::Order;
-use super::parts::part_of;
-use crate::words::{Line, bad, number_of, place, show};
+use crate::row::Row;
 use eos_check::{Counts, Fault, Verdict};
-use eos_fold::Part;
 use eos_report::{verdict_json, verdict_line, write_verdict};
-use std::alloc::{AllocError, Global};
 use std::io::{self, ErrorKind, Write};
 
 /// Writes the line of a verdict, without its line feed.
-pub(crate) fn push_verdict(
-    alloc: Global,
-    line: &mut String,
-    verdict: &Verdict,
-) -> Result<(), AllocError> {
-    let text = verdict_line(alloc, verdict)?;
-    line.push_str(text.as_str().trim_end())
+pub(crate) fn push_verdict(row: &mut Row<'_>, verdict: &Verdict) {
+    if let Some(line) = row.got(verdict_line(row.alloc, verdict)) {
+        row.put(line.as_str().trim_end());
+    }
 }
 
-/// Writes the line of a fault, or `none`.
-pub(super) fn push_fault(
-    alloc: Global,
-    line: &mut String,
-    fault: Option<Fault>,
-) -> Result<(), AllocError> {
-    match fault {
-        None => line.push_str("none"),
-        Some(fault) => push_verdict(alloc, line, &Verdict::No(fault)),
-    }
+/// Writes the line of a fault.
+pub(super) fn push_fault(row: &mut Row<'_>, fault: Fault) {
+    push_verdict(row, &Verdict::No(fault));
 }
 
 /// A writer that takes so many bytes and then fails.
@@ -55,51 +40,34 @@ impl Write for Full {
     }
 }
 
-const YES: Verdict = Verdict::Yes(Counts {
+pub(super) const YES: Verdict = Verdict::Yes(Counts {
     transactions: 1,
     inputs: 2,
     outputs: 3,
 });
 
 /// What `write_verdict` answers where there is room for so many bytes, and what was written.
-pub(super) fn written(alloc: Global, line: &mut Line, room: &str) -> Result<(), AllocError> {
-    let room = place(number_of(&mut line.notes, room));
-    let taken = Vec::new(alloc);
+pub(super) fn write(row: &mut Row<'_>) {
+    let room = row.place(row.rest);
+    let taken = Vec::new(row.alloc);
     let mut writer = Full { taken, room };
-    tell_written(alloc, &mut line.text, &mut writer)
-}
-
-fn tell_written(alloc: Global, line: &mut String, writer: &mut Full) -> Result<(), AllocError> {
-    show(line, write_verdict(alloc, &YES, writer))?;
-    line.push_str(" ")?;
-    show(
-        line,
+    row.say(write_verdict(row.alloc, &YES, &mut writer));
+    row.tell(
+        " ",
         std::str::from_utf8(writer.taken.as_slice()).unwrap_or("no text"),
-    )
+    );
 }
 
-/// The line and the JSON text.
-fn tell_both(alloc: Global, line: &mut String, verdict: &Verdict) -> Result<(), AllocError> {
-    show(line, verdict_line(alloc, verdict)?)?;
-    line.push_str(" ")?;
-    let json = verdict_json(alloc, verdict)?.to_string(alloc)?;
-    line.push_str(&json)
-}
-
-fn tell_both_of(alloc: Global, line: &mut Line, part: &Part) -> Result<(), AllocError> {
-    match fault_of(part)? {
-        Some(fault) => tell_both(alloc, &mut line.text, &Verdict::No(fault)),
-        None => bad(&mut line.notes),
+/// Writes the line of a verdict and its JSON text.
+pub(super) fn tell_texts(row: &mut Row<'_>, verdict: &Verdict) {
+    let line = verdict_line(row.alloc, verdict);
+    if let Some(line) = row.got(line) {
+        row.say(line);
     }
-}
-
-/// Writes the texts of the verdict of a partition's fault, or of the one of counts where no partition is named.
-pub(super) fn both(alloc: Global, line: &mut Line, word: &str) -> Result<(), AllocError> {
-    if word.is_empty() {
-        return tell_both(alloc, &mut line.text, &YES);
-    }
-    match part_of(alloc, &mut line.notes, Order::FromTheLeft, word) {
-        Ok(part) => tell_both_of(alloc, line, &part),
-        Err(error) => Err(error),
+    row.put(" ");
+    if let Some(json) = row.got(verdict_json(row.alloc, verdict)) {
+        if let Some(text) = row.got(json.to_string(row.alloc)) {
+            row.put(&text);
+        }
     }
 }

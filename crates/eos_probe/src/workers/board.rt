@@ -1,32 +1,15 @@
 //! A board and one worker's receipt: what becomes of posts, merges and pairs that go back.
 
-ghost use Rattle.std.specs.Prelude.{◌≡◌, IfOk};
+ghost use Rattle.std.specs.Prelude.{◌≡◌, IfSome};
 ghost use Rattle.eos_fold.specs.Sums.{IsFit};
 
 use crate::layers::merged;
-use crate::words::{Line, Notes, numbers_of, place};
-use crate::workers::pool::tell_runs;
+use crate::row::{Row, place};
+use crate::workers::pool::push_runs;
 use eos_board::{Board, Loose, Receipt, Tied, Why};
 use eos_evidence::{Evidence, Segment};
-use eos_text::push_value;
-use std::alloc::{AllocError, Global};
 use std::marker::Brand;
 use std::sync::ledger::{Blank, Ledger};
-
-/// What is done to a board.
-#[derive(Clone, Copy)]
-enum Step {
-    /// Posts under this number the run of a piece.
-    Post(u64, u64),
-    /// Posts the run of a piece and of the number after it, with the piece's segment twice.
-    Twofold(u64),
-    /// Merges and posts pairs until there are none.
-    Join,
-    /// Takes a pair and puts it back.
-    Pair,
-    /// Puts back the runs of two pieces, made anew.
-    Back(u64, u64),
-}
 
 /// A board, and the receipt of its one worker.
 #[derive(Drop)]
@@ -35,231 +18,160 @@ struct Desk<L: Ledger> {
     receipt: Receipt<L>,
 }
 
-/// How many numbers a step has.
-fn count_of(name: &str) -> usize {
-    match name {
-        "post" | "back" => 2,
-        "twofold" => 1,
-        _ => 0,
-    }
-}
-
-/// The step of a word: `post:N,P`, `twofold:P`, `join`, `pair` or `back:P,Q`.
-fn step_of(notes: &mut Notes, word: &str) -> Step {
-    let (name, rest) = word.split_once(':').unwrap_or((word, ""));
-    let numbers = numbers_of(notes, rest, count_of(name));
-    let (first, second) = (place(numbers[0]) as u64, place(numbers[1]) as u64);
-    match name {
-        "post" => Step::Post(first, second),
-        "twofold" => Step::Twofold(first),
-        "join" => Step::Join,
-        "pair" => Step::Pair,
-        "back" => Step::Back(first, second),
-        _ => {
-            notes.is_bad = true;
-            Step::Join
-        }
-    }
-}
-
-fn steps_of(alloc: Global, notes: &mut Notes, words: &str) -> Result<Vec<Step>, AllocError> {
-    let mut steps = Vec::new(alloc);
-    for word in words.split_whitespace() {
-        steps.push(step_of(notes, word))?;
-    }
-    Ok(steps)
-}
-
 /// A copy of this piece's segment, which is within the limits.
-fn segment(evidence: &Evidence, piece: u64) -> Result<Segment, AllocError>
-    ensures { IfOk result IsFit }
+fn segment(row: &mut Row<'_>, evidence: &Evidence, piece: u64) -> Option<Segment>
+    ensures { IfSome result IsFit }
 {
     if piece >= evidence.pieces() {
-        return Err(AllocError);
+        row.is_bad = true;
+        return None;
     }
-    let segment = evidence.piece(piece).copy()?;
+    let segment = row.got(evidence.piece(piece).copy())?;
     if segment.base < 0 || segment.bytes.len() > 1073741824 {
-        return Err(AllocError);
+        row.is_bad = true;
+        return None;
     }
-    Ok(segment)
+    Some(segment)
 }
 
 /// The run of this piece's segment, under this number.
-fn named(
-    alloc: Global,
-    evidence: &Evidence,
-    number: u64,
-    piece: u64,
-) -> Result<Tied<Loose>, AllocError> {
-    match Tied::of(alloc, number, segment(evidence, piece)?) {
-        Ok(run) => Ok(run),
-        Err(_) => Err(AllocError),
-    }
+fn named(row: &mut Row<'_>, evidence: &Evidence, number: u64, piece: u64) -> Option<Tied<Loose>> {
+    let segment = segment(row, evidence, piece)?;
+    row.got(Tied::of(row.alloc, number, segment))
 }
 
 /// The run of a piece and of the number after it, with the piece's segment twice.
-fn twofold(
-    alloc: Global,
-    notes: &mut Notes,
-    evidence: &Evidence,
-    piece: u64,
-) -> Result<Tied<Loose>, AllocError> {
-    let before = named(alloc, evidence, piece, piece)?;
-    let after = named(alloc, evidence, piece.saturating_add(1), piece)?;
-    let both = merged(alloc, notes, before.into_named(), after.into_named())?;
-    Ok(Tied::new(both))
+fn twofold(row: &mut Row<'_>, evidence: &Evidence, piece: u64) -> Option<Tied<Loose>> {
+    let before = named(row, evidence, piece, piece)?;
+    let after = named(row, evidence, piece.saturating_add(1), piece)?;
+    let both = merged(row, before.into_named(), after.into_named())?;
+    Some(Tied::new(both))
 }
 
 /// What comes of a post: `Taken`, or why not.
-fn post<L: Ledger>(
-    board: &mut Board<L, Loose>,
-    receipt: &mut Receipt<L>,
-    run: Tied<Loose>,
-) -> &'static str {
-    if board.posts() >= 1 << 63 {
+fn post<L: Ledger>(desk: &mut Desk<L>, run: Tied<Loose>) -> &'static str {
+    if desk.board.posts() >= 1 << 63 {
         return "Full";
     }
-    match board.post(receipt, run) {
+    match desk.board.post(&mut desk.receipt, run) {
         Ok(()) => "Taken",
-        Err(refused) => name_of(refused.why),
+        Err(refused) => match refused.why {
+            Why::Stranger => "Stranger",
+            Why::Twice => "Twice",
+        },
     }
 }
 
-fn name_of(why: Why) -> &'static str {
-    match why {
-        Why::Stranger => "Stranger",
-        Why::Twice => "Twice",
-    }
-}
-
-/// Merges and posts pairs until there are none, and gives their number.
-fn join_all<L: Ledger>(
-    alloc: Global,
-    board: &mut Board<L, Loose>,
-    receipt: &mut Receipt<L>,
-) -> Result<u64, AllocError> {
+/// Merges and posts pairs until there are none, and writes their number.
+fn join_all<L: Ledger>(row: &mut Row<'_>, desk: &mut Desk<L>) {
     for merges in 0..64 {
-        let Some((before, after)) = board.take_pair() else {
-            return Ok(merges);
+        let Some((before, after)) = desk.board.take_pair() else {
+            return row.say(merges);
         };
-        let Ok(run) = Tied::merge(alloc, before, after) else {
-            return Err(AllocError);
-        };
-        post(board, receipt, run);
+        if let Some(run) = row.got(Tied::merge(row.alloc, before, after)) {
+            post(desk, run);
+        }
     }
-    Ok(64)
+    row.say(64);
 }
 
 /// Writes the pieces of two runs, and whether they go back.
 fn put_back<L: Ledger>(
-    line: &mut String,
-    board: &mut Board<L, Loose>,
+    row: &mut Row<'_>,
+    desk: &mut Desk<L>,
     before: Tied<Loose>,
     after: Tied<Loose>,
-) -> Result<(), AllocError> {
+) {
     let (a, b) = (before.pieces(), after.pieces());
-    match board.put_back(before, after) {
-        Ok(()) => write!(line, "{a:?},{b:?} went back"),
-        Err((c, d)) => write!(line, "{:?},{:?} came back", c.pieces(), d.pieces()),
-    }
-}
-
-/// Writes the pieces of the next pair, and whether it goes back.
-fn pair<L: Ledger>(line: &mut String, board: &mut Board<L, Loose>) -> Result<(), AllocError> {
-    match board.take_pair() {
-        None => line.push_str("none"),
-        Some((before, after)) => put_back(line, board, before, after),
-    }
-}
-
-/// Writes what a step does.
-fn happen<L: Ledger>(
-    alloc: Global,
-    line: &mut Line,
-    evidence: &Evidence,
-    desk: &mut Desk<L>,
-    step: Step,
-) -> Result<(), AllocError> {
-    let Line { text, notes } = line;
-    let Desk { board, receipt } = desk;
-    match step {
-        Step::Post(number, piece) => {
-            let run = named(alloc, evidence, number, piece)?;
-            text.push_str(post(board, receipt, run))
+    match desk.board.put_back(before, after) {
+        Ok(()) => {
+            row.tell("", a);
+            row.tell(",", b);
+            row.put(" went back");
         }
-        Step::Twofold(piece) => {
-            let run = twofold(alloc, notes, evidence, piece)?;
-            text.push_str(post(board, receipt, run))
-        }
-        Step::Join => push_value(text, "", &join_all(alloc, board, receipt)?),
-        Step::Pair => pair(text, board),
-        Step::Back(first, second) => {
-            let before = named(alloc, evidence, first, first)?;
-            let after = named(alloc, evidence, second, second)?;
-            put_back(text, board, before, after)
+        Err((c, d)) => {
+            row.tell("", c.pieces());
+            row.tell(",", d.pieces());
+            row.put(" came back");
         }
     }
 }
 
-fn happen_all<L: Ledger>(
-    alloc: Global,
-    line: &mut Line,
-    evidence: &Evidence,
-    desk: &mut Desk<L>,
-    steps: &[Step],
-) -> Result<(), AllocError> {
-    for step in steps {
-        happen(alloc, line, evidence, desk, *step)?;
-        line.text.push_str("; ")?;
+/// Writes what the step of a word does: `post:N,P` posts the run of a piece under a number; `twofold:P` the run of a piece and
+/// of the number after it, with the piece's segment twice; `join` merges and posts pairs until there are none; `pair` takes a
+/// pair and puts it back; `back:P,Q` puts back the runs of two pieces, made anew.
+fn happen<L: Ledger>(row: &mut Row<'_>, evidence: &Evidence, desk: &mut Desk<L>, name: &str) {
+    let count = match name {
+        "post" | "back" => 2,
+        "twofold" => 1,
+        _ => 0,
+    };
+    let numbers = row.numbers(count);
+    let (first, second) = (place(numbers[0]) as u64, place(numbers[1]) as u64);
+    match name {
+        "post" => {
+            if let Some(run) = named(row, evidence, first, second) {
+                row.put(post(desk, run));
+            }
+        }
+        "twofold" => {
+            if let Some(run) = twofold(row, evidence, first) {
+                row.put(post(desk, run));
+            }
+        }
+        "join" => join_all(row, desk),
+        "pair" => match desk.board.take_pair() {
+            None => row.put("none"),
+            Some((before, after)) => put_back(row, desk, before, after),
+        },
+        "back" => {
+            let before = named(row, evidence, first, first);
+            if let (Some(before), Some(after)) = (before, named(row, evidence, second, second)) {
+                put_back(row, desk, before, after);
+            }
+        }
+        _ => row.is_bad = true,
     }
-    Ok(())
+    row.put("; ");
 }
 
 /// Writes what is left of a board: the pieces of its runs, the posts that the receipt counts, those that the board counts, and
 /// what the audit says.
-fn tell_left<L: Ledger>(
-    alloc: Global,
-    line: &mut String,
-    board: Board<L, Loose>,
-    receipt: Receipt<L>,
-) -> Result<(), AllocError>
+fn push_left<L: Ledger>(row: &mut Row<'_>, mut board: Board<L, Loose>, receipt: Receipt<L>)
     requires { L.parts ≡ 1 }
 {
-    let mut board = board;
     let (count, posts) = (receipt.count(), board.posts());
-    let receipts = vec![in alloc; receipt]?;
-    let audited = board.audit(receipts);
-    tell_runs(alloc, line, board.into_runs().as_slice())?;
-    write!(line, " count={count} posts={posts} audited={audited}")
+    if let Some(receipts) = row.got(vec![in row.alloc; receipt]) {
+        let audited = board.audit(receipts);
+        push_runs(row, board.into_runs().as_slice());
+        row.tell(" count=", count);
+        row.tell(" posts=", posts);
+        row.tell(" audited=", audited);
+    }
 }
 
 /// Writes what each step does to a new board with one receipt, and what is left.
-fn course<L: Ledger>(
-    alloc: Global,
-    line: &mut Line,
-    evidence: &Evidence,
-    blank: Blank,
-    steps: &[Step],
-) -> Result<(), AllocError>
+fn course<L: Ledger>(row: &mut Row<'_>, evidence: &Evidence, blank: Blank)
     requires name { blank.name ≡ L.name }
     requires parts { (blank.parts ≡ L.parts) × (L.parts ≡ 1) }
 {
-    let (board, mut receipts) = Board::<L, Loose>::new(alloc, blank, evidence, 1)?;
+    let Some((board, mut receipts)) = row.got(Board::<L, Loose>::new(row.alloc, blank, evidence, 1))
+    else {
+        return;
+    };
     let Some(receipt) = receipts.pop() else {
-        return Err(AllocError);
+        return;
     };
     let mut desk = Desk { board, receipt };
-    happen_all(alloc, line, evidence, &mut desk, steps)?;
-    tell_left(alloc, &mut line.text, desk.board, desk.receipt)
+    for word in row.rest.split_whitespace() {
+        let (name, rest) = word.split_once(':').unwrap_or((word, ""));
+        row.rest = rest;
+        happen(row, evidence, &mut desk, name);
+    }
+    push_left(row, desk.board, desk.receipt);
 }
 
-/// The same with a ledger of its own. The words become steps first: a call that picks a ledger can't have a text.
-pub(super) fn run(
-    alloc: Global,
-    line: &mut Line,
-    evidence: &Evidence,
-    words: &str,
-) -> Result<(), AllocError> {
-    let steps = steps_of(alloc, &mut line.notes, words)?;
-    course::<Brand>(alloc, line, evidence, Blank::new(1), steps.as_slice())
+/// The same with a ledger of its own.
+pub(super) fn run(row: &mut Row<'_>, evidence: &Evidence) {
+    course::<Brand>(row, evidence, Blank::new(1));
 }

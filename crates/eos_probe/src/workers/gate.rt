@@ -1,13 +1,12 @@
 //! The check by workers behind a gate that holds some of them and notes what passes it, and by the caller alone.
 
 use crate::layers::push_verdict;
-use crate::words::{Line, Notes, first_of, number_of, numbers_of, or_bad, place};
+use crate::row::{Row, place};
 use eos_board::Gate;
 use eos_check::{Verdict, check, check_one};
 use eos_evidence::Evidence;
 use eos_fold::Named;
 use eos_workers::Workers;
-use std::alloc::{AllocError, Global};
 use std::sync::Wait;
 use std::sync::atomic::{AtomicU64, Ordering};
 use std::thread;
@@ -79,16 +78,14 @@ impl Gate for Held {
 }
 
 /// The gate of `HELD,OTHER`, of `chain`, or of nothing.
-fn gate_of(notes: &mut Notes, words: &str) -> Held {
-    let is_chain = words == "chain";
-    let count = if is_chain || words.is_empty() { 0 } else { 2 };
-    let numbers = numbers_of(notes, if count == 0 { "" } else { words }, count);
+fn gate_of(row: &mut Row<'_>) -> Held {
+    let is_chain = row.rest == "chain";
+    let mut numbers = [-1; 6];
+    if !is_chain && !row.rest.is_empty() {
+        numbers = row.numbers(2);
+    }
     Held {
-        held: if count == 0 {
-            u64::MAX
-        } else {
-            place(numbers[0]) as u64
-        },
+        held: place(numbers[0]) as u64,
         other: place(numbers[1]) as u64,
         is_chain,
         passed: AtomicU64::new(0),
@@ -98,49 +95,40 @@ fn gate_of(notes: &mut Notes, words: &str) -> Held {
     }
 }
 
-/// Writes a verdict, and what a gate has seen.
-fn tell(
-    alloc: Global,
-    line: &mut String,
-    verdict: &Verdict,
-    gate: &Held,
-) -> Result<(), AllocError> {
-    push_verdict(alloc, line, verdict)?;
-    let passed = gate.passed.load(Ordering::SeqCst);
-    let made = gate.made.load(Ordering::SeqCst);
-    let late = gate.late.load(Ordering::SeqCst);
-    write!(line, " passed={passed:x} made={made:x} late={late}")
-}
-
 /// Writes what so many workers say, and what their gate has seen: how often each of the first twelve pieces has passed, the
 /// first at the right, how often its own run was made, and whether a wait was given up. Behind the number of workers stands
 /// `HELD,OTHER`, or `chain`, or nothing.
 pub(super) fn check_behind<R: Threads + Wait + Sync>(
     rt: &R,
-    alloc: Global,
-    line: &mut Line,
+    row: &mut Row<'_>,
     evidence: &Evidence,
-    words: &str,
-) -> Result<(), AllocError> {
-    let (workers, words) = first_of(words);
-    let count = place(number_of(&mut line.notes, workers)) as u64;
-    let workers = or_bad(&mut line.notes, Workers::new(count), Workers::one());
-    let gate = gate_of(&mut line.notes, words);
-    match check(alloc, rt, evidence, workers, &gate) {
-        Ok(verdict) => tell(alloc, &mut line.text, &verdict, &gate),
-        Err(error) => Err(error),
+) {
+    let workers = row.word();
+    let count = row.place(workers) as u64;
+    let workers = row.known(Workers::new(count), Workers::one());
+    let gate = gate_of(row);
+    match check(row.alloc, rt, evidence, workers, &gate) {
+        Ok(verdict) => tell(row, &verdict, &gate),
+        Err(_) => row.is_out = true,
     }
 }
 
+/// Writes a verdict, and what a gate has seen.
+fn tell(row: &mut Row<'_>, verdict: &Verdict, gate: &Held) {
+    push_verdict(row, verdict);
+    let passed = gate.passed.load(Ordering::SeqCst);
+    let made = gate.made.load(Ordering::SeqCst);
+    let late = gate.late.load(Ordering::SeqCst);
+    let done = write!(
+        &mut row.text,
+        " passed={passed:x} made={made:x} late={late}"
+    );
+    row.done(done);
+}
+
 /// Writes what the caller alone says.
-pub(super) fn check_alone<R: Threads + Sync>(
-    rt: &R,
-    alloc: Global,
-    line: &mut String,
-    evidence: &Evidence,
-) -> Result<(), AllocError> {
-    match check_one(alloc, rt, evidence) {
-        Ok(verdict) => push_verdict(alloc, line, &verdict),
-        Err(error) => Err(error),
+pub(super) fn check_alone<R: Threads + Sync>(rt: &R, row: &mut Row<'_>, evidence: &Evidence) {
+    if let Some(verdict) = row.got(check_one(row.alloc, rt, evidence)) {
+        push_verdict(row, &verdict);
     }
 }

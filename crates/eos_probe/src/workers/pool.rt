@@ -1,21 +1,17 @@
 //! The pool's core: it takes the events of workers one after another.
 
-use crate::words::{Line, Notes, first_of, number_of, place, show};
+use crate::row::Row;
 use eos_board::{Loose, PoolCore, PoolEvent, PoolReply, Tied};
 use eos_evidence::Evidence;
-use std::alloc::{AllocError, Global};
 
 /// Writes the first and the last piece of each run.
-pub(super) fn tell_runs(
-    alloc: Global,
-    line: &mut String,
-    runs: &[Tied<Loose>],
-) -> Result<(), AllocError> {
-    let mut pieces = Vec::new(alloc);
+pub(super) fn push_runs(row: &mut Row<'_>, runs: &[Tied<Loose>]) {
+    row.put("[");
     for run in runs {
-        pieces.push(run.pieces())?;
+        row.apart(", ");
+        row.say(run.pieces());
     }
-    show(line, pieces)
+    row.put("]");
 }
 
 /// The event of a word, as `draw:0`.
@@ -42,44 +38,31 @@ fn reply_to(core: &mut PoolCore, event: PoolEvent) -> PoolReply {
     }
 }
 
-/// The reply to the event of a word, which happens again after want of memory.
-fn happen(notes: &mut Notes, core: &mut PoolCore, word: &str) -> PoolReply {
+/// Writes the reply to the event of a word, which happens again after want of memory.
+fn happen(row: &mut Row<'_>, core: &mut PoolCore, word: &str) {
     let Some(event) = event_of(word) else {
-        notes.is_bad = true;
-        return PoolReply::Idle;
+        row.is_bad = true;
+        return;
     };
-    let reply = reply_to(core, event);
-    if reply != PoolReply::OutOfMemory {
-        return reply;
+    let mut reply = reply_to(core, event);
+    if reply == PoolReply::OutOfMemory {
+        row.is_again = true;
+        reply = reply_to(core, event);
     }
-    notes.is_again = true;
-    reply_to(core, event)
-}
-
-fn tell_replies(
-    alloc: Global,
-    line: &mut Line,
-    core: &mut PoolCore,
-    words: &str,
-) -> Result<(), AllocError> {
-    let mut replies = Vec::new(alloc);
-    for word in words.split_whitespace() {
-        replies.push(happen(&mut line.notes, core, word))?;
-    }
-    show(&mut line.text, replies)?;
-    line.text.push_str(" ")
+    row.apart(", ");
+    row.say(reply);
 }
 
 /// Writes the replies of a core to the events of these words, after the number of its workers; and the pieces of its runs.
-pub(super) fn run(
-    alloc: Global,
-    line: &mut Line,
-    evidence: &Evidence,
-    words: &str,
-) -> Result<(), AllocError> {
-    let (workers, words) = first_of(words);
-    let workers = place(number_of(&mut line.notes, workers)).min(64) as u64;
-    let mut core = PoolCore::new(alloc, evidence, workers)?;
-    tell_replies(alloc, line, &mut core, words)?;
-    tell_runs(alloc, &mut line.text, core.into_runs().as_slice())
+pub(super) fn run(row: &mut Row<'_>, evidence: &Evidence) {
+    let workers = row.word();
+    let workers = row.place(workers).min(64) as u64;
+    if let Some(mut core) = row.got(PoolCore::new(row.alloc, evidence, workers)) {
+        row.put("[");
+        for word in row.rest.split_whitespace() {
+            happen(row, &mut core, word);
+        }
+        row.put("] ");
+        push_runs(row, core.into_runs().as_slice());
+    }
 }

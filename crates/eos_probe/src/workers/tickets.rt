@@ -2,8 +2,7 @@
 
 ghost use Rattle.std.specs.Prelude.{◌≡◌, false};
 
-use crate::words::{Line, numbers_of, place};
-use eos_text::push_value;
+use crate::row::{Row, place};
 use eos_tickets::{MAX_TICKETS, MAX_WORKERS, Seat, Tickets};
 use std::alloc::{AllocError, Global};
 use std::thread;
@@ -33,18 +32,19 @@ fn draw_all(alloc: Global, tickets: &Tickets, mut seat: Seat) -> Result<Drawn, A
 }
 
 /// Gathers the numbers of all workers, and says whether all are done.
-fn gather(lists: &[Result<Drawn, AllocError>], all: &mut Vec<u64>) -> Result<bool, AllocError> {
+fn gather(row: &mut Row<'_>, lists: &[Result<Drawn, AllocError>], all: &mut Vec<u64>) -> bool {
     let mut are_done = true;
     for list in lists {
         match list {
             Ok(drawn) => {
-                all.extend_from_slice(drawn.numbers.as_slice())?;
+                let added = all.extend_from_slice(drawn.numbers.as_slice());
+                row.done(added);
                 are_done = are_done && drawn.is_done;
             }
-            Err(_) => return Err(AllocError),
+            Err(_) => row.is_out = true,
         }
     }
-    Ok(are_done)
+    are_done
 }
 
 /// Whether these are the numbers below a count, in order.
@@ -58,38 +58,36 @@ fn are_all(numbers: &[u64], count: u64) -> bool {
 }
 
 /// Writes whether each number below a count was drawn once, by a single worker in order, and whether all workers are done.
-fn tell_of(
-    alloc: Global,
-    line: &mut String,
-    lists: &[Result<Drawn, AllocError>],
-    count: u64,
-) -> Result<(), AllocError> {
-    let mut all = Vec::new(alloc);
-    let are_done = gather(lists, &mut all)?;
+fn tell_of(row: &mut Row<'_>, lists: &[Result<Drawn, AllocError>], count: u64) {
+    let mut all = Vec::new(row.alloc);
+    let are_done = gather(row, lists, &mut all);
     if lists.len() > 1 {
-        all.sort()?;
+        let sorted = all.sort();
+        row.done(sorted);
     }
-    push_value(line, "each_once=", &are_all(all.as_slice(), count))?;
-    push_value(line, " done=", &are_done)
+    row.tell("each_once=", are_all(all.as_slice(), count));
+    row.tell(" done=", are_done);
 }
 
 /// So many workers draw the numbers below a count.
-pub(super) fn tell<R: Threads + Sync>(
-    rt: &R,
-    alloc: Global,
-    line: &mut Line,
-    words: &str,
-) -> Result<(), AllocError> {
-    let numbers = numbers_of(&mut line.notes, words, 2);
+pub(super) fn tell<R: Threads + Sync>(rt: &R, row: &mut Row<'_>) {
+    let numbers = row.numbers(2);
     let count = (place(numbers[0]) as u64).min(MAX_TICKETS);
     let workers = (place(numbers[1]) as u64).clamp(1, MAX_WORKERS);
-    let (tickets, seats) = Tickets::new(alloc, count, workers)?;
+    let alloc = row.alloc;
+    let Ok((tickets, seats)) = Tickets::new(alloc, count, workers) else {
+        row.is_out = true;
+        return;
+    };
     let lists = thread::map_vec(
         rt,
         seats,
         &|seat: Seat| -> Result<Drawn, AllocError>
             requires { (seat.of ≡ tickets) × (seat.is_done ≡ false) }
         { draw_all(alloc, &tickets, seat) },
-    )?;
-    tell_of(alloc, &mut line.text, lists.as_slice(), count)
+    );
+    match lists {
+        Ok(lists) => tell_of(row, lists.as_slice(), count),
+        Err(_) => row.is_out = true,
+    }
 }
