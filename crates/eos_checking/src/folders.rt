@@ -119,24 +119,18 @@ fn answer_shape<'x>(
     shape: Shape,
     asked: &Asked<'x, Progress<'_>>,
 ) -> Result<SourceAnswer, FolderFault> {
-    let Shape {
-        evidence,
-        forms,
-        listed,
-    } = shape;
     let source = FolderSource {
         rt,
         folder,
-        shape: &evidence,
-        forms: forms.as_slice(),
+        shape: &shape,
         watch: asked.gate,
     };
     let pieces = Pieces {
         source: &source,
-        shape: &evidence,
+        shape: &shape.evidence,
     };
     let answer = answer_source(rt.alloc(), threads, pieces, asked)?;
-    listed?;
+    shape.listed?;
     Ok(answer)
 }
 

@@ -8,18 +8,16 @@ use crate::fold::{read_bytes, read_fold, refused_unfit};
 use crate::reader::SegmentReader;
 use eos_evidence::{Evidence, ReadFault, Segment};
 use eos_fold_run::Unfit;
-use eos_folder::{Cause, FolderFault, Form, Watch, open_segment};
+use eos_folder::{Cause, FolderFault, Form, Shape, Watch, open_segment};
 use eos_source::{Piece, Source};
 use std::alloc::Global;
 
-/// A folder whose evidence has this shape, as `read_shape` gives it.
+/// A folder of this shape, as `read_shape` gives it.
 #[derive(Drop)]
 pub struct FolderSource<'a, W: Watch> {
     pub rt: &'a HostRuntime,
     pub folder: &'a str,
-    pub shape: &'a Evidence,
-    /// In which form each segment of the shape stands in the folder, by its number.
-    pub forms: &'a [Form],
+    pub shape: &'a Shape,
     /// Who is told of each segment that was read to its end.
     pub watch: &'a W,
 }
@@ -44,12 +42,12 @@ impl<'a, W: Watch> Source for FolderSource<'a, W> {
 
     ghost said = { λ s piece. None };
 
-    ghost is_log = { λ s piece. is_log_at s.forms.now piece };
+    ghost is_log = { λ s piece. is_log_at s.shape.now.forms.items piece };
 
     /// Opens the file of a segment. There is no file of a number that the shape doesn't have, which is answered as a segment too
     /// many.
     fn open(&self, alloc: Global, piece: u64) -> Result<Piece<SegmentReader<'a, W>>, FolderFault> {
-        match piece_of(self.shape, self.forms, piece) {
+        match piece_of(&self.shape.evidence, self.shape.forms.as_slice(), piece) {
             Some((name, Form::Log)) => {
                 let file = open_segment(self.rt, self.folder, name, Form::Log)?;
                 Ok(Piece::Log(SegmentReader::new(file, self.watch)))
@@ -75,7 +73,7 @@ impl<'a, W: Watch> Source for FolderSource<'a, W> {
     }
 
     fn unfit(&self, alloc: Global, piece: u64, why: Unfit) -> FolderFault {
-        match piece_of(self.shape, self.forms, piece) {
+        match piece_of(&self.shape.evidence, self.shape.forms.as_slice(), piece) {
             Some((name, _)) => refused_unfit(alloc, self.folder, name, why),
             None => FolderFault::Limit(Cause::Unknown),
         }
