@@ -50,7 +50,7 @@ same 'chain of an absent file' 2 "$scratch/nothing" "$scratch/message"
 unread "$scratch" 'a folder'
 run dump "$scratch"
 same 'dump of a folder' 2 "$scratch/nothing" "$scratch/message"
-for words in 'dump' 'dump a b' 'check' 'check --workers 0 x' 'check --workers 65 x' 'check --workers x x' 'check --quiet' 'check --progress' 'dump --quiet x' 'simulate x' 'simulate --seed 7 --events 10001 x' '--no-such-word' 'dump --no-such-word x'; do
+for words in 'dump' 'dump a b' 'check' 'check --workers 0 x' 'check --workers 65 x' 'check --workers x x' 'check --quiet' 'check --progress' 'dump --quiet x' 'fold' 'fold x' 'fold --manifest x' 'simulate x' 'simulate --seed 7 --events 10001 x' '--no-such-word' 'dump --no-such-word x'; do
   # shellcheck disable=SC2086
   run $words
   if [ "$status" = 2 ] && [ ! -s "$scratch/out" ] && [ -s "$scratch/err" ]; then ok; else bad "bad words: $words"; fi
@@ -67,7 +67,7 @@ run $'\xff'
 same 'a word that is no text' 2 "$scratch/nothing" "$scratch/message"
 run dump $'caf\xe9.log'
 same 'a file whose name is no text' 2 "$scratch/nothing" "$scratch/message"
-for words in '--help' 'check --help' 'dump --help' 'chain --help' 'explain --help' 'draw --help' 'init --help' 'simulate --help' '--version'; do
+for words in '--help' 'check --help' 'dump --help' 'chain --help' 'explain --help' 'draw --help' 'init --help' 'fold --help' 'simulate --help' '--version'; do
   # shellcheck disable=SC2086
   run $words
   if [ "$status" = 0 ] && [ -s "$scratch/out" ] && [ ! -s "$scratch/err" ]; then ok; else bad "help: $words"; fi
@@ -82,7 +82,7 @@ same 'dump to a full device' 2 "$scratch/nothing" "$scratch/message"
 "$program" chain "$segments/rdkafka-txn-1.log" > /dev/full 2> "$scratch/err"
 status=$?
 same 'chain to a full device' 2 "$scratch/nothing" "$scratch/message"
-for words in '--help' 'check --help' 'dump --help' 'chain --help' 'explain --help' 'draw --help' 'init --help' 'simulate --help' '--version'; do
+for words in '--help' 'check --help' 'dump --help' 'chain --help' 'explain --help' 'draw --help' 'init --help' 'fold --help' 'simulate --help' '--version'; do
   # shellcheck disable=SC2086
   "$program" $words > /dev/full 2> "$scratch/err"
   status=$?
