@@ -499,12 +499,13 @@ def counted_refusals(tests, words, after):
     after("no refused allocation", good)
     told, total = 0, int(read(count))
     for at in range(1, total + 1):
-        said = tests.run(*words(), LD_PRELOAD=refuse, REFUSE_AT=str(at))
+        given = words()
+        said = tests.run(*given, LD_PRELOAD=refuse, REFUSE_AT=str(at))
         out_of_memory = 3, "", "eoscheck: out of memory\n"
-        tests.same(f"{words()[0]}, allocation {at} refused", said in (good, out_of_memory), True)
+        tests.same(f"{given[0]}, allocation {at} refused", said in (good, out_of_memory), True)
         told += said == out_of_memory
         after(f"allocation {at} refused", said)
-    tests.same(f"{words()[0]}, refused allocations are told", told > 50, True)
+    tests.same("refused allocations are told", told > 50, True)
 
 
 def refused_memory(tests):
