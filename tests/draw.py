@@ -4,8 +4,9 @@
     python3 -B tests/draw.py PROGRAM [REFUSE.SO]
 
 Each picture is read by Python's XML parser; it may have no script and name nothing outside of itself. Its title has to be the line of `check`, its
-columns the transactions, and it has to have as many shapes of each kind as tests/plain_logs.py finds things to be drawn. Pictures of logs with
-hostile texts are among them. Where rsvg-convert or chromium is there, some are rendered and looked at. Run it in the repository's top folder.
+columns the transactions, and it has to have as many shapes of each kind as tests/plain_logs.py finds things to be drawn. Over the folds that the
+program makes of a folder, all of them or every other one, the picture has to be the same to the byte. Pictures of logs with hostile texts are among
+them. Where rsvg-convert or chromium is there, some are rendered and looked at. Run it in the repository's top folder.
 The last line is 'N passed, N failed'.
 """
 import collections
@@ -24,6 +25,7 @@ import xml.etree.ElementTree as xml
 import made_evidence
 import plain_logs
 import reference
+from fold_folders import files_in, fold_words, name_of, partitions_of, with_folds
 from made_evidence import text
 from plain_logs import ABORT, COMMIT, OFFSETS, STATES
 from random_evidence import Folder, Piece, sealed
@@ -189,6 +191,34 @@ def is_harmless(data):
     return not any(word in lower for word in (b"<script", b"href", b"url(", b"<style", b"<!", b"<?", b"<foreignobject", b"<image", b"<use"))
 
 
+def folds_in(folder):
+    """The folds that the program makes of a folder's segments, by their paths."""
+    out = os.path.join(scratch, "folds")
+    shutil.rmtree(out, ignore_errors=True)
+    if partitions_of(folder):
+        status, _, told = run(*fold_words(folder, out))
+        same(f"fold {folder}", (status, told), (0, ""))
+    return files_in(out)
+
+
+def over_folds(folder, folds, name, chosen=lambda path: True):
+    """A folder with these folds in place of the chosen segments."""
+    made = os.path.join(scratch, name)
+    shutil.rmtree(made, ignore_errors=True)
+    return with_folds(folder, folds, made, chosen)
+
+
+def check_folds(folder, words):
+    """The picture over a folder's folds, or over every other one, is that over its logs."""
+    status, printed, told, data = drawn(folder, *words)
+    folds = folds_in(folder)
+    some = set(sorted(folds)[::2])
+    for name, chosen in ("all-folds", lambda path: True), ("some-folds", lambda path: path in some):
+        found = drawn(over_folds(folder, folds, name, chosen), *words)
+        same(f"draw {folder} {words}, {name}", found[:3], (status, printed, told))
+        same(f"draw {folder} {words}, {name}: its bytes", found[3] == data, True)
+
+
 def check_picture(folder, around=None, number=None):
     what = f"draw {folder} {around} {number}"
     words = [*(["--around", str(around)] if around else []), *(["--fault", str(number)] if number else [])]
@@ -206,6 +236,8 @@ def check_picture(folder, around=None, number=None):
     same(f"{what}: name", root.find(SPACE + "title").text, line)
     same(f"{what}: title", "".join(it.text for it in root.iter(SPACE + "text") if it.get("class") == "title"), line)
     check_shapes(what, folder, root, printed, around or 6, line)
+    if not number:
+        check_folds(folder, words)
     return root
 
 
@@ -384,6 +416,37 @@ def refused_folders(good):
         yield folder
 
 
+def damaged_folds(good):
+    """Folders of folds that `check` refuses: one that is none, or is of another partition, beside its log, or made for other roles."""
+    folds = folds_in(good)
+    first, last = min(folds), max(folds)
+    changed = {
+        "cut": folds[first][:-1],
+        "turned": folds[first][:-1] + bytes([folds[first][-1] ^ 1]),
+        "moved": folds[last],
+        "twice": folds[first],
+        "roles": folds[first],
+    }
+    for name, data in changed.items():
+        folder = over_folds(good, {**folds, first: data}, f"fold-{name}")
+        if name == "twice":
+            log = first.removesuffix(".fold") + ".log"
+            shutil.copy(os.path.join(good, log), os.path.join(folder, log))
+        if name == "roles":
+            path = os.path.join(folder, "evidence.json")
+            with open(path, encoding="utf-8") as file:
+                manifest = json.load(file)
+            os.remove(path)
+            with open(path, "w", encoding="utf-8") as file:
+                json.dump({**manifest, "sources": manifest["outputs"], "outputs": manifest["sources"]}, file)
+        yield folder
+
+
+def first_of(folds):
+    """The fold that is read first."""
+    return min(folds, key=lambda path: (name_of(os.path.dirname(path)), path))
+
+
 def refusals():
     good, bad = "tests/evidence/row-yes-2", "tests/stories/34-dup-across-transactions"
     there, new = os.path.join(scratch, "there.svg"), os.path.join(scratch, "new.svg")
@@ -397,7 +460,13 @@ def refusals():
     refused("a fault at yes", ["draw", "--fault", "1", good, new], "eoscheck: there are 0 faults")
     refused("a fault past the list", ["draw", "--fault", "2", bad, new], "eoscheck: there are 1 faults")
     refused("a fault far past it", ["draw", "--fault", str(2**64 - 1), bad, new], "eoscheck: there are 1 faults")
-    for folder in refused_folders(good):
+    folds = folds_in(good)
+    refused("a fault at yes, over folds", ["draw", "--fault", "1", over_folds(good, folds, "good-folds"), new], "eoscheck: there are 0 faults")
+    folds = folds_in(bad)
+    made = over_folds(bad, folds, "bad-folds")
+    refused("a later fault, over folds", ["draw", "--fault", "2", made, new], "eoscheck: there are 1 faults")
+    same("the first fault, over folds", drawn(made, "--fault", "1"), drawn(bad))
+    for folder in [*refused_folders(good), *damaged_folds(good)]:
         status, printed, told = run("check", folder)
         same(f"{folder}: check refuses it", (status, printed, told.startswith("eoscheck: ")), (2, "", True))
         for words in [], ["--fault", "1"], ["--around", "2"]:

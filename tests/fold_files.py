@@ -9,7 +9,9 @@ import struct
 import plain_logs
 from mutants import LAST_OFFSET, REFUSALS, Refused, varint
 
-MAGIC, VERSION = b"EOSFOLD", 1
+MAGIC, VERSION = b"EOSFOLD", 2
+# The most bytes that a text shares with the one before.
+MOST_SHARED = 127
 PRESENCE, CLAIMS, TEXTS = 0, 1, 2
 KINDS = {"plain": 0, "txn": 1, "control": 2, plain_logs.COMMIT: 4, plain_logs.ABORT: 6}
 
@@ -82,7 +84,7 @@ def unsigned(value):
 
 
 def text(data):
-    return varint(-1) if data is None else varint(len(data)) + data
+    return varint(len(data)) + data
 
 
 def head_bytes(head):
@@ -102,9 +104,30 @@ def claim_bytes(claim, topics):
     return b"\2" + text(claim.topic) + numbers_of_claim(claim)
 
 
-def text_bytes(kept):
-    key, value, claim = kept
-    return text(key) + text(value) + (b"\0" if claim is None else b"\1" + text(claim.topic) + numbers_of_claim(claim))
+def shared(before, data):
+    """How many first bytes both have."""
+    least = min(len(before), len(data), MOST_SHARED)
+    return next((at for at in range(least) if before[at] != data[at]), least)
+
+
+def shared_bytes(before, data):
+    if data is None:
+        return b"\xff"
+    count = shared(before, data)
+    return bytes([count]) + text(data[count:])
+
+
+def optional_claim_bytes(claim):
+    return b"\0" if claim is None else b"\1" + text(claim.topic) + numbers_of_claim(claim)
+
+
+def texts_bytes(kept):
+    """Keys and values, each beside the last of its kind that isn't null."""
+    found, last_key, last_value = [], b"", b""
+    for key, value, claim in kept:
+        found.append(shared_bytes(last_key, key) + shared_bytes(last_value, value) + optional_claim_bytes(claim))
+        last_key, last_value = last_key if key is None else key, last_value if value is None else value
+    return b"".join(found)
 
 
 def stop_bytes(stop):
@@ -125,7 +148,7 @@ def front_bytes(fold):
         front += unsigned(len(fold.topics)) + b"".join(map(text, fold.topics))
         front += b"".join(claim_bytes(claim, fold.topics) for claim in fold.kept)
     if fold.roles == TEXTS:
-        front += b"".join(map(text_bytes, fold.kept))
+        front += texts_bytes(fold.kept)
     return front + stop_bytes(fold.stop)
 
 
@@ -172,11 +195,23 @@ class Reader:
             raise Refused("Number")
         return value
 
-    def text(self, least=0):
+    def text(self):
         length = self.number()
-        if length < least:
+        if length < 0:
             raise Refused("Number")
-        return None if length == -1 else self.take(length)
+        return self.take(length)
+
+    def shared(self, before):
+        """A text beside the one before."""
+        count = self.take(1)[0]
+        if count == 255:
+            return None
+        if count > 127:
+            raise Refused("Record")
+        found = before[:count] + self.text()
+        if shared(before, found) != count:
+            raise Refused("Record")
+        return found
 
     def head(self):
         kind = self.kind("Head", 7)
@@ -197,9 +232,13 @@ class Reader:
         kind = self.kind("Record", 2)
         return Claim(self.unsigned() if kind == 1 else self.text(), *self.numbers_of_claim()) if kind else None
 
-    def texts(self):
-        key, value = self.text(-1), self.text(-1)
-        return key, value, Claim(self.text(), *self.numbers_of_claim()) if self.kind("Record", 1) else None
+    def texts(self, count):
+        found, last_key, last_value = [], b"", b""
+        for _ in range(count):
+            key, value = self.shared(last_key), self.shared(last_value)
+            found.append((key, value, Claim(self.text(), *self.numbers_of_claim()) if self.kind("Record", 1) else None))
+            last_key, last_value = last_key if key is None else key, last_value if value is None else value
+        return found
 
     def stop(self):
         kind = self.kind("Stop", 2)
@@ -241,7 +280,7 @@ def read_fold(data):
         topics = [fields.text() for _ in range(fields.unsigned())]
     if roles != PRESENCE:
         records = sum(head.count for head in heads if head.kind < 2)
-        kept = [fields.claim() if roles == CLAIMS else fields.texts() for _ in range(records)]
+        kept = [fields.claim() for _ in range(records)] if roles == CLAIMS else fields.texts(records)
     if roles == CLAIMS:
         kept = [placed(claim, topics) for claim in kept]
     stop, checked = fields.stop(), fields.at

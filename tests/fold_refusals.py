@@ -84,7 +84,10 @@ def every_kind():
     size = sum(head.size for head in heads)
     kept = [None, some, some._replace(topic=b"other")]
     yield "out-0", fold_files.Fold(CLAIMS, b"out", 0, 0, size, heads, [b"in"], kept, (9,))
-    kept = [(None, None, None), (b"", b"value", some), (b"k", None, None)]
+    kept = [(b"key", None, None), (None, b"value", some), (b"ken", b"", None)]
+    yield "__consumer_offsets-0", fold_files.Fold(TEXTS, b"__consumer_offsets", 0, 0, size + 1, heads, [], kept, (0, size, 0))
+    # more bytes in common than are shared
+    kept = [(b"k" * 130, b"v", None), (b"k" * 127 + b"x", b"", None), (b"k" * 131, b"", None)]
     yield "__consumer_offsets-0", fold_files.Fold(TEXTS, b"__consumer_offsets", 0, 0, size + 1, heads, [], kept, (0, size, 0))
 
 
@@ -111,7 +114,7 @@ TOO_GREAT = b"\x80" * 9 + b"\x02"
 
 
 def front(roles=PRESENCE, topic=text(b"in"), partition=b"\0", base=b"\0", size=unsigned(77)):
-    return b"EOSFOLD\1" + bytes([roles]) + topic + partition + base + size
+    return b"EOSFOLD\2" + bytes([roles]) + topic + partition + base + size
 
 
 def with_heads(*heads, roles=PRESENCE, **more):
@@ -126,15 +129,25 @@ def with_claim(claim, topics=unsigned(1) + text(b"in")):
     return with_heads(head(count=unsigned(1)), roles=CLAIMS, topic=text(b"out")) + topics + claim
 
 
-def with_text(kept):
-    return with_heads(head(count=unsigned(1)), roles=TEXTS, topic=text(b"__consumer_offsets")) + kept
+def with_text(*kept):
+    return with_heads(head(count=unsigned(len(kept))), roles=TEXTS, topic=text(b"__consumer_offsets")) + b"".join(kept)
+
+
+def key(shared, rest):
+    """A record that has this key, and no value and no claim."""
+    return bytes([shared]) + text(rest) + b"\xff\0"
+
+
+def value(shared, rest):
+    return b"\xff" + bytes([shared]) + text(rest) + b"\0"
 
 
 GREATEST = varint(LAST_OFFSET)
 # Of each kind of fold fronts, what follows is left out where the fault comes before it.
 HOSTILE = [
     ("Version", "version 0", b"EOSFOLD\0"),
-    ("Version", "version 2, a newer one", b"EOSFOLD\2\0" + front()[9:] + b"\0\0"),
+    ("Version", "version 1, the one before", b"EOSFOLD\1\0" + front()[9:] + b"\0\0"),
+    ("Version", "version 3, a newer one", b"EOSFOLD\3\0" + front()[9:] + b"\0\0"),
     ("Version", "version -1", b"EOSFOLD\xff"),
     ("Magic", "another magic", b"EOSFOLK" + front()[7:] + b"\0\0"),
     ("Magic", "a log", read(os.path.join(GOOD, log_path("out-0", 0)))),
@@ -156,7 +169,10 @@ HOSTILE = [
     ("Number", "a count past 32 bits", with_heads(head(count=unsigned(2**32))) + b"\0"),
     ("Number", "a topic without bytes, null", front(topic=varint(-1)) + b"\0\0"),
     ("Number", "a topic of -2 bytes", front(topic=varint(-2)) + b"\0\0"),
-    ("Number", "a key of -2 bytes", with_text(varint(-2) + b"\1\0") + b"\0"),
+    ("Number", "the rest of a key, of -1 bytes", with_text(b"\0\1\xff\0") + b"\0"),
+    ("Number", "the rest of a value, of -2 bytes", with_text(b"\xff\0" + varint(-2) + b"\0") + b"\0"),
+    ("Number", "a longer spelling of a rest's length", with_text(b"\0" + LONG + b"key\xff\0") + b"\0"),
+    ("Number", "a rest of -1 bytes behind bytes that aren't there", with_text(b"\5\1\xff\0") + b"\0"),
     ("Head", "a head of kind 8", with_heads(head(8)) + b"\0"),
     ("Head", "a head of kind -1", with_heads(head(255)) + b"\0"),
     ("Head", "a batch without records", with_heads(head(count=b"\0")) + b"\0"),
@@ -181,8 +197,20 @@ HOSTILE = [
     ("Record", "a claim of an offset past i64", with_claim(b"\1\0\0" + unsigned(2**63) + b"\2\2") + b"\0"),
     ("Record", "a claim's output past i32", with_claim(b"\1\0\0\0" + varint(2**31) + b"\2") + b"\0"),
     ("Record", "a claim's count past i32", with_claim(b"\2" + text(b"x") + b"\0\0\2" + varint(2**31)) + b"\0"),
-    ("Record", "a claim that isn't said, of a text", with_text(b"\1\1\1" + text(b"in") + b"\1\0\2\2") + b"\0"),
-    ("Record", "a kept text of kind 2", with_text(b"\1\1\2" + text(b"in") + b"\0\0\2\2") + b"\0"),
+    ("Record", "a claim that isn't said, of a text", with_text(b"\xff\xff\1" + text(b"in") + b"\1\0\2\2") + b"\0"),
+    ("Record", "a kept text of kind 2", with_text(b"\xff\xff\2" + text(b"in") + b"\0\0\2\2") + b"\0"),
+    ("Record", "a key that shares -2 bytes", with_text(b"\xfe\0\xff\0") + b"\0"),
+    ("Record", "a value that shares -128 bytes", with_text(b"\xff\x80\0\0") + b"\0"),
+    ("Record", "a first key that shares a byte", with_text(key(1, b"")) + b"\0"),
+    ("Record", "a first value that shares 127 bytes", with_text(value(127, b"x" * 127)) + b"\0"),
+    ("Record", "a key that shares nothing and could", with_text(key(0, b"key"), key(0, b"k")) + b"\0"),
+    ("Record", "a key that shares two bytes of three", with_text(key(0, b"key"), key(2, b"y")) + b"\0"),
+    ("Record", "a key that shares four bytes of three", with_text(key(0, b"key"), key(4, b"")) + b"\0"),
+    ("Record", "a value that shares one byte less than it can", with_text(value(0, b"abc"), value(1, b"bd")) + b"\0"),
+    ("Record", "a value that shares bytes of the key", with_text(key(0, b"key"), value(3, b"")) + b"\0"),
+    ("Record", "a key that shares 126 bytes of 127", with_text(key(0, b"k" * 127), key(126, b"k")) + b"\0"),
+    ("Record", "a key that shares 126 bytes of 300", with_text(key(0, b"k" * 300), key(126, b"k" * 2)) + b"\0"),
+    ("Record", "a null key between two", with_text(key(0, b"key"), b"\xff\xff\0", key(0, b"kex")) + b"\0"),
     ("Stop", "a stop of kind 3", front() + b"\0\3"),
     ("Stop", "a stop of kind -1", front() + b"\0\xff"),
     ("Stop", "a twelfth reason", front() + b"\0\1\0\0\x0c"),
@@ -194,7 +222,8 @@ HOSTILE = [
     ("Short", "claims of 2^31 - 1 records", with_heads(head(count=unsigned(2**31 - 1)), roles=CLAIMS) + unsigned(1) + text(b"in")),
     ("Short", "texts of 2^31 - 1 records", with_heads(head(count=unsigned(2**31 - 1)), roles=TEXTS)),
     ("Short", "a topic of 2^63 - 1 bytes", front(topic=GREATEST)),
-    ("Short", "a value of 2^63 - 1 bytes", with_text(b"\1" + GREATEST)),
+    ("Short", "a value of 2^63 - 1 bytes", with_text(b"\xff\0" + GREATEST)),
+    ("Short", "a key without its rest, which shares bytes that aren't there", with_text(b"\x7f")),
 ]
 
 
@@ -340,10 +369,12 @@ def refused_places(tests):
     os.remove(os.path.join(folder, "in-0", "00000000000000000000.fold"))
     tests.same("a fold that wasn't carried", tests.check(folder), (1, "no 1.10 End in-0 offset=0 end=2\n", ""))
     picture = os.path.join(tests.room, "picture.svg")
-    for words in (["explain", folder], ["explain", "--fault", "1", folder], ["draw", folder, picture], ["check", "--all", folder]):
+    for words in (["explain", folder], ["explain", "--fault", "1", folder], ["check", "--all", folder]):
         status, out, err = tests.run(*words)
         tests.same(f"{words[0]} of folds", (status, out, err.split("\n")[0]), (2, "", f"eoscheck: {first}: Fold"))
-    tests.same("no picture", os.path.exists(picture), False)
+    said = tests.run("draw", "--fault", "1", folder, picture)
+    tests.same("draw of folds", (said[0], said[1].split(" ")[0], said[2], os.path.exists(picture)), (1, "drew", "", True))
+    os.remove(picture)
     place.back("in-0/00000000000000000000.fold")
 
 
@@ -524,7 +555,7 @@ def refused_memory(tests):
     for workers in "14":
         counted_refusals(tests, lambda: ["check", "--workers", workers, place.folder], lambda name, said: None)
     # one that is refused, with its second line or without
-    write(os.path.join(place.folder, fold_path("in-0", 0)), b"EOSFOLD\2")
+    write(os.path.join(place.folder, fold_path("in-0", 0)), b"EOSFOLD\1")
     counted_refusals(tests, lambda: ["check", "--workers", "1", place.folder], lambda name, said: None)
 
 

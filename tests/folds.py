@@ -37,7 +37,7 @@ RANDOM = 300
 # What a report says of the run alone.
 OF_THE_RUN = ("folder", "seconds")
 # How much of an evidence its folds may be: bytes of a value, inputs a transaction, and the share.
-SIZES = [(100, 500, 0.25), (100, 10, 0.25), (100, 1, 0.26), (1000, 500, 0.03), (1000, 10, 0.03), (1000, 1, 0.08)]
+SIZES = [(100, 500, 0.25), (100, 10, 0.25), (100, 1, 0.2), (1000, 500, 0.03), (1000, 10, 0.03), (1000, 1, 0.06)]
 # So much that most inputs are worked off, though they are written by 500.
 MEBIBYTES = {100: 4, 1000: 16}
 

@@ -4,7 +4,7 @@
     tests/limits.py PROGRAM
 
 Runs `dump` and `chain` with a bound on the address space or on the time, and compares what they print with the plain
-reading of tests/mutants.py; and of evidence that is large looks how much memory `check` takes. Prints what is wrong, and as its
+reading of tests/mutants.py; and of evidence that is large looks how much memory `check` and `draw` take. Prints what is wrong, and as its
 last line 'N passed, N failed'.
 """
 import os
@@ -190,7 +190,7 @@ def answers_the_largest(cases):
 
 
 def answers_evidence_in_little_memory(cases):
-    """Evidence of 256 MiB, in which each record has 100 bytes and each output a claim: at its peak `check` holds much less."""
+    """Evidence of 256 MiB, in which each record has 100 bytes and each output a claim: at their peak `check` and `draw` hold much less."""
     top = os.path.dirname(os.path.dirname(os.path.abspath(__file__)))
     maker, path = os.path.join(cases.folder, "maker"), os.path.join(cases.folder, "evidence")
     subprocess.run(["cc", "-O2", "-o", maker, os.path.join(top, "bench/folder.c")], check=True)
@@ -200,6 +200,10 @@ def answers_evidence_in_little_memory(cases):
     done = subprocess.run([sys.executable, "-c", PEAK, cases.program, "check", path], capture_output=True)
     right = (done.returncode, done.stdout) == (0, verdict) and int(done.stderr) * 1024 < 0.7 * 256 * MIB
     cases.tell("256 MiB of evidence", None if right else f"{done.returncode} {done.stdout!r} {done.stderr!r} KiB at the peak")
+    words = [cases.program, "draw", path, os.path.join(cases.folder, "picture.svg")]
+    done = subprocess.run([sys.executable, "-c", PEAK, *words], capture_output=True)
+    right = done.returncode == 0 and done.stdout.startswith(b"drew columns=12 ") and int(done.stderr) * 1024 < 0.7 * 256 * MIB
+    cases.tell("a picture of it", None if right else f"{done.returncode} {done.stdout!r} {done.stderr!r} KiB at the peak")
     shutil.rmtree(path)
 
 

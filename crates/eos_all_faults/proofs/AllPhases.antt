@@ -29,6 +29,7 @@ use Rattle.eos_fault_list.specs.AllOf.{IsAllOf}
 use Rattle.eos_fault_list.proofs.WholeList.{none_listed, plain_rises}
 use Rattle.eos_output_faults.specs.LineageFaults.{IsLaterOf, AreLineageFaults}
 use Rattle.eos_all_faults.specs.AllFaults.{AreAllFaults}
+use Rattle.eos_all_faults.specs.LaterFaults.{AreLaterFaults}
 use Rattle.eos_all_faults.proofs.PhaseLists.{partition_list, log_list, match_list}
 
 -- ---- an empty list
@@ -49,24 +50,23 @@ none_there {cmp = cmp} Stands xs n len e all = none_listed cmp Stands (subst (Is
 
 -- ---- the phases
 
-module _ (e : EvidenceParts) (ls : List PartLog) (of : AreLogsOf e.partitions ls) where
-  pub found_in_log : NoneStands (StandsInPartitions e.partitions ls of) → (xs : List LogFault) (n : ℕ) → n ≡ length xs → (n == 0) ≡ false → IsAllOf log_cmp (StandsInLog ls) xs
-      → AreAllFaults e ls of (map Log xs)
-  found_in_log none [] n len t all = absurd (not_zero n len t)
-  found_in_log none (x ∷ xs) n len t all = log_list e ls of x xs none all
+module _ (apps : List App) (ls : List PartLog) where
+  pub found_in_log : (xs : List LogFault) (n : ℕ) → n ≡ length xs → (n == 0) ≡ false → IsAllOf log_cmp (StandsInLog ls) xs → AreLaterFaults apps ls (map Log xs)
+  found_in_log [] n len t all = absurd (not_zero n len t)
+  found_in_log (x ∷ xs) n len t all = log_list apps ls x xs all
 
-  pub found_in_matching : NoneStands (StandsInPartitions e.partitions ls of) → NoneStands (StandsInLog ls) → (xs : List MatchFault) (n : ℕ) → n ≡ length xs → (n == 0) ≡ false
-      → IsAllOf fault_cmp (StandsInMatching ls) xs → AreAllFaults e ls of (map Match xs)
-  found_in_matching none no_log [] n len t all = absurd (not_zero n len t)
-  found_in_matching none no_log (x ∷ xs) n len t all = match_list e ls of x xs none no_log all
+  pub found_in_matching : NoneStands (StandsInLog ls) → (xs : List MatchFault) (n : ℕ) → n ≡ length xs → (n == 0) ≡ false → IsAllOf fault_cmp (StandsInMatching ls) xs
+      → AreLaterFaults apps ls (map Match xs)
+  found_in_matching no_log [] n len t all = absurd (not_zero n len t)
+  found_in_matching no_log (x ∷ xs) n len t all = match_list apps ls x xs no_log all
 
-  module _ (is : IsEvidence e) where
-    pub found_in_partitions : (f : PartitionFault) → IsFirstFault ls (Some f) → (xs : List PartitionFault) → IsAllOf partition_cmp (StandsInPartitions e.partitions ls of) xs → AreAllFaults e ls of (map InPartition xs)
-    found_in_partitions f first [] all = absurd (none_listed partition_cmp (StandsInPartitions e.partitions ls of) all f (least_of_first e.partitions ls of (sorted e is) (Some f) first).stands)
-    found_in_partitions f first (x ∷ xs) all = partition_list e ls of x xs all
+module _ (e : EvidenceParts) (ls : List PartLog) (of : AreLogsOf e.partitions ls) (is : IsEvidence e) where
+  pub found_in_partitions : (f : PartitionFault) → IsFirstFault ls (Some f) → (xs : List PartitionFault) → IsAllOf partition_cmp (StandsInPartitions e.partitions ls of) xs → AreAllFaults e ls of (map InPartition xs)
+  found_in_partitions f first [] all = absurd (none_listed partition_cmp (StandsInPartitions e.partitions ls of) all f (least_of_first e.partitions ls of (sorted e is) (Some f) first).stands)
+  found_in_partitions f first (x ∷ xs) all = partition_list e ls of x xs all
 
-    pub none_in_partitions : IsFirstFault ls None → NoneStands (StandsInPartitions e.partitions ls of)
-    none_in_partitions first = least_of_first e.partitions ls of (sorted e is) None first
+  pub none_in_partitions : IsFirstFault ls None → NoneStands (StandsInPartitions e.partitions ls of)
+  none_in_partitions first = least_of_first e.partitions ls of (sorted e is) None first
 
 -- ---- those of records, where one stands
 

@@ -3,6 +3,7 @@ use Rattle.std.proofs.Common.{◌≡◌, List, ◌∷◌, map, refl, subst, inl,
 use Rattle.eos_base.specs.Members.{Has}
 use Rattle.eos_base.specs.Least.{NoneStands}
 use Rattle.eos_base.proofs.Membership.{map_has, has_map}
+use Rattle.eos_evidence.specs.declared.application.App.{App}
 use Rattle.eos_evidence.specs.Evidence.{EvidenceParts}
 use Rattle.eos_touch.specs.declared.fault.PartitionFault.{PartitionFault}
 use Rattle.eos_fold.specs.Parts.{PartLog}
@@ -20,6 +21,7 @@ use Rattle.eos_fault_list.specs.AllOf.{IsAllOf}
 use Rattle.eos_fault_list.proofs.WholeList.{plain_rises}
 use Rattle.eos_output_faults.specs.LineageFaults.{IsLaterOf, AreLineageFaults}
 use Rattle.eos_all_faults.specs.AllFaults.{IsLaterMissing, AreAllFaults}
+use Rattle.eos_all_faults.specs.LaterFaults.{StandsLater, AreLaterFaults}
 
 -- the phases are told apart
 in_partition : (f : PartitionFault) (g : LineageFault) → InPartition f ≡ Lineage g → ⊥
@@ -52,10 +54,11 @@ module _ (e : EvidenceParts) (ls : List PartLog) (of : AreLogsOf e.partitions ls
       here (Match f) s = absurd (s.0 x first)
       here (Lineage f) s = absurd (s.0 x first)
 
-  pub log_list : (x : LogFault) (xs : List LogFault) → NoneStands (StandsInPartitions e.partitions ls of) → IsAllOf log_cmp (StandsInLog ls) (x ∷ xs) → AreAllFaults e ls of (map Log (x ∷ xs))
-  log_list x xs none all = record {
-    rises = plain_rises Log (verdict_cmp e.spec.apps) (x ∷ xs) all.rises;
-    each = λ f h. let r = map_has Log (x ∷ xs) f h in subst (Stands e ls of) r.2 (none, (all.members r.0).0 r.1);
+module _ (apps : List App) (ls : List PartLog) where
+  pub log_list : (x : LogFault) (xs : List LogFault) → IsAllOf log_cmp (StandsInLog ls) (x ∷ xs) → AreLaterFaults apps ls (map Log (x ∷ xs))
+  log_list x xs all = record {
+    rises = plain_rises Log (verdict_cmp apps) (x ∷ xs) all.rises;
+    each = λ f h. let r = map_has Log (x ∷ xs) f h in subst (StandsLater apps ls) r.2 ((all.members r.0).0 r.1);
     all = here;
     one_missing = λ group f g h k one. let r = map_has Log (x ∷ xs) _ h in absurd (in_log r.0 _ r.2);
   }
@@ -63,17 +66,16 @@ module _ (e : EvidenceParts) (ls : List PartLog) (of : AreLogsOf e.partitions ls
       first : StandsInLog ls x
       first = (all.members x).0 (inl refl)
 
-      here : (f : Fault) → Stands e ls of f → Has (map Log (x ∷ xs)) f ⊎ IsLaterMissing (map Log (x ∷ xs)) f
-      here (InPartition f) s = absurd (none f s)
-      here (Log f) s = inl (has_map Log (x ∷ xs) f ((all.members f).1 s.1))
-      here (Match f) s = absurd (s.1 x first)
-      here (Lineage f) s = absurd (s.1 x first)
+      here : (f : Fault) → StandsLater apps ls f → Has (map Log (x ∷ xs)) f ⊎ IsLaterMissing (map Log (x ∷ xs)) f
+      here (InPartition f) s = absurd s
+      here (Log f) s = inl (has_map Log (x ∷ xs) f ((all.members f).1 s))
+      here (Match f) s = absurd (s.0 x first)
+      here (Lineage f) s = absurd (s.0 x first)
 
-  pub match_list : (x : MatchFault) (xs : List MatchFault) → NoneStands (StandsInPartitions e.partitions ls of) → NoneStands (StandsInLog ls) → IsAllOf fault_cmp (StandsInMatching ls) (x ∷ xs)
-      → AreAllFaults e ls of (map Match (x ∷ xs))
-  match_list x xs none no_log all = record {
-    rises = plain_rises Match (verdict_cmp e.spec.apps) (x ∷ xs) all.rises;
-    each = λ f h. let r = map_has Match (x ∷ xs) f h in subst (Stands e ls of) r.2 (none, no_log, (all.members r.0).0 r.1);
+  pub match_list : (x : MatchFault) (xs : List MatchFault) → NoneStands (StandsInLog ls) → IsAllOf fault_cmp (StandsInMatching ls) (x ∷ xs) → AreLaterFaults apps ls (map Match (x ∷ xs))
+  match_list x xs no_log all = record {
+    rises = plain_rises Match (verdict_cmp apps) (x ∷ xs) all.rises;
+    each = λ f h. let r = map_has Match (x ∷ xs) f h in subst (StandsLater apps ls) r.2 (no_log, (all.members r.0).0 r.1);
     all = here;
     one_missing = λ group f g h k one. let r = map_has Match (x ∷ xs) _ h in absurd (in_matching r.0 _ r.2);
   }
@@ -81,17 +83,16 @@ module _ (e : EvidenceParts) (ls : List PartLog) (of : AreLogsOf e.partitions ls
       first : StandsInMatching ls x
       first = (all.members x).0 (inl refl)
 
-      here : (f : Fault) → Stands e ls of f → Has (map Match (x ∷ xs)) f ⊎ IsLaterMissing (map Match (x ∷ xs)) f
-      here (InPartition f) s = absurd (none f s)
-      here (Log f) s = absurd (no_log f s.1)
-      here (Match f) s = inl (has_map Match (x ∷ xs) f ((all.members f).1 s.2))
-      here (Lineage f) s = absurd (s.2 x first)
+      here : (f : Fault) → StandsLater apps ls f → Has (map Match (x ∷ xs)) f ⊎ IsLaterMissing (map Match (x ∷ xs)) f
+      here (InPartition f) s = absurd s
+      here (Log f) s = absurd (no_log f s)
+      here (Match f) s = inl (has_map Match (x ∷ xs) f ((all.members f).1 s.1))
+      here (Lineage f) s = absurd (s.1 x first)
 
-  pub lineage_list : (xs : List LineageFault) → NoneStands (StandsInPartitions e.partitions ls of) → NoneStands (StandsInLog ls) → NoneStands (StandsInMatching ls)
-      → AreLineageFaults e.spec.apps ls xs → AreAllFaults e ls of (map Lineage xs)
-  lineage_list xs none no_log no_match all = record {
-    rises = plain_rises Lineage (verdict_cmp e.spec.apps) xs all.rises;
-    each = λ f h. let r = map_has Lineage xs f h in subst (Stands e ls of) r.2 (none, no_log, no_match, all.each r.0 r.1);
+  pub lineage_list : (xs : List LineageFault) → NoneStands (StandsInLog ls) → NoneStands (StandsInMatching ls) → AreLineageFaults apps ls xs → AreLaterFaults apps ls (map Lineage xs)
+  lineage_list xs no_log no_match all = record {
+    rises = plain_rises Lineage (verdict_cmp apps) xs all.rises;
+    each = λ f h. let r = map_has Lineage xs f h in subst (StandsLater apps ls) r.2 (no_log, no_match, all.each r.0 r.1);
     all = here;
     one_missing = λ group f g h k one. all.one_missing group f g (back (Output group f) h) (back (Output group g) k) one;
   }
@@ -104,8 +105,8 @@ module _ (e : EvidenceParts) (ls : List PartLog) (of : AreLogsOf e.partitions ls
       told (Record f) (inr later) = absurd later
       told (Output group f) (inr later) = inr (later.0, has_map Lineage xs (Output group later.0) later.1, later.2, later.3)
 
-      here : (f : Fault) → Stands e ls of f → Has (map Lineage xs) f ⊎ IsLaterMissing (map Lineage xs) f
-      here (InPartition f) s = absurd (none f s)
-      here (Log f) s = absurd (no_log f s.1)
-      here (Match f) s = absurd (no_match f s.2)
-      here (Lineage f) s = told f (all.all f s.3)
+      here : (f : Fault) → StandsLater apps ls f → Has (map Lineage xs) f ⊎ IsLaterMissing (map Lineage xs) f
+      here (InPartition f) s = absurd s
+      here (Log f) s = absurd (no_log f s)
+      here (Match f) s = absurd (no_match f s.1)
+      here (Lineage f) s = told f (all.all f s.2)

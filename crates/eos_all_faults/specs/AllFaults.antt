@@ -1,8 +1,9 @@
--- All faults of an evidence as one list: each that stands, in the verdict's order; but of the outputs that one input lacks, which
--- may be very many, the first alone.
+-- All faults that stand as one list: each of them, in the verdict's order; but of the outputs that one input lacks, which may be
+-- very many, the first alone.
 use Rattle.std.specs.Prelude.{◌≡◌, ◌⊎◌, ◌<◌, List, Option}
 use Rattle.std.specs.List.Sorted.{IsStrictlySortedBy}
 use Rattle.eos_base.specs.Members.{Has}
+use Rattle.eos_evidence.specs.declared.application.App.{App}
 use Rattle.eos_evidence.specs.Evidence.{EvidenceParts}
 use Rattle.eos_fold.specs.Parts.{PartLog}
 use Rattle.eos_claims.specs.declared.fault.OutputFault.{OutputFault}
@@ -25,8 +26,13 @@ IsLaterMissing list (Log f) = ⊥
 IsLaterMissing list (Match f) = ⊥
 IsLaterMissing list (Lineage f) = IsLaterIn list f
 
-pub record AreAllFaults (e : EvidenceParts) (ls : List PartLog) (of : AreLogsOf e.partitions ls) (list : List Fault) : Type 0 where
-  pub rises : IsStrictlySortedBy (verdict_cmp e.spec.apps) list
-  pub each : (f : Fault) → Has list f → Stands e ls of f
-  pub all : (f : Fault) → Stands e ls of f → Has list f ⊎ IsLaterMissing list f
+-- all that stand so, in the order for these applications
+pub record AreAllOf (apps : List App) (Holds : Fault → Type 0) (list : List Fault) : Type 0 where
+  pub rises : IsStrictlySortedBy (verdict_cmp apps) list
+  pub each : (f : Fault) → Has list f → Holds f
+  pub all : (f : Fault) → Holds f → Has list f ⊎ IsLaterMissing list f
   pub one_missing : (group : Option Group) (f g : OutputFault) → Has list (Lineage (Output group f)) → Has list (Lineage (Output group g)) → OfOneInput f g → f ≡ g
+
+-- all of an evidence with these logs
+abbrev pub AreAllFaults : (e : EvidenceParts) (ls : List PartLog) → AreLogsOf e.partitions ls → List Fault → Type 0
+AreAllFaults e ls of list = AreAllOf e.spec.apps (Stands e ls of) list

@@ -1,2 +1,3 @@
 pub mod AllFaults
+pub mod LaterFaults
 pub mod steps

@@ -1,7 +1,7 @@
 //! What the list of all faults says beside the verdict, and which lists it is. These functions do nothing; their contracts are
 //! theorems.
 
-ghost use Rattle.std.specs.Prelude.{◌≡◌, List, [], ◌∷◌, map};
+ghost use Rattle.std.specs.Prelude.{◌≡◌, ◌↔◌, List, [], ◌∷◌, map};
 ghost use Rattle.eos_base.specs.Least.{NoneStands};
 ghost use Rattle.eos_evidence.specs.Evidence.{EvidenceParts};
 ghost use Rattle.eos_touch.specs.declared.fault.PartitionFault.{PartitionFault};
@@ -18,7 +18,9 @@ ghost use Rattle.eos_check.specs.declared.verdict.Verdict.TheVariants.{No};
 ghost use Rattle.eos_check.specs.Verdicts.{StandsInPartitions, StandsInLog, StandsInMatching, Stands, partition_cmp, IsVerdictOf};
 ghost use Rattle.eos_fault_list.specs.AllOf.{IsAllOf};
 ghost use Rattle.eos_output_faults.specs.LineageFaults.{AreLineageFaults};
+ghost use Rattle.eos_wanted_verdict.specs.KeptVerdicts.{kept_of};
 ghost use Rattle.eos_all_faults.specs.AllFaults.{AreAllFaults};
+ghost use Rattle.eos_all_faults.specs.LaterFaults.{AreLaterFaults};
 
 /// The first of all faults is the verdict's.
 pub fn first_fault()
@@ -62,4 +64,13 @@ pub fn faults_of_lineage()
     ensures { (e : EvidenceParts) (ls : List PartLog) (of : AreLogsOf e.partitions ls) (first : LineageFault) (others : List LineageFault) →
         NoneStands (StandsInPartitions e.partitions ls of) → NoneStands (StandsInLog ls) → NoneStands (StandsInMatching ls)
         → AreLineageFaults e.spec.apps ls (first ∷ others) → AreAllFaults e ls of (map Lineage (first ∷ others)) }
+{}
+
+/// Where no partition has a fault by itself, all faults of the phases behind the first are all faults of the evidence: those over its
+/// logs, and also those over what is kept of its logs for its applications.
+pub fn later()
+    ensures whole { (e : EvidenceParts) (ls : List PartLog) (of : AreLogsOf e.partitions ls) → NoneStands (StandsInPartitions e.partitions ls of) → (faults : List Fault)
+        → AreLaterFaults e.spec.apps ls faults ↔ AreAllFaults e ls of faults }
+    ensures kept { (e : EvidenceParts) (ls : List PartLog) (of : AreLogsOf e.partitions ls) → NoneStands (StandsInPartitions e.partitions ls of) → (faults : List Fault)
+        → AreLaterFaults e.spec.apps (kept_of e ls) faults ↔ AreAllFaults e ls of faults }
 {}

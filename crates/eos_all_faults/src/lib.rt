@@ -3,8 +3,10 @@
 #![tactic(auto)]
 
 mod all;
+mod later;
 pub mod laws;
 mod partitions;
 
-pub use all::all_faults;
+pub use all::{all_faults, of_partitions};
+pub use later::later_faults;
 pub use partitions::all_partition_faults;

@@ -1,5 +1,7 @@
 pub mod PushedMore
 pub mod Unasked
+pub mod SettledParts
+pub mod SettledBatches
 pub mod VisibleOrder
 pub mod RecordsLaw
 pub mod RoleSearch

@@ -1,5 +1,6 @@
 -- What only private functions promise: steps towards what the public calls say.
 pub mod Roles
 pub mod Walks
+pub mod Settled
 pub mod CommitLists
 pub mod Entries

@@ -1,30 +1,34 @@
 //! The walk over the visible records, which ends at the first fault.
 
-ghost use Rattle.std.specs.Prelude.{◌≡◌, [], option_map, IfOk};
+ghost use Rattle.std.specs.Prelude.{◌≡◌, [], true, ◌&&◌, ◌||◌, not, option_map, IfOk};
 ghost use Rattle.eos_base.specs.Least.{IsLeastOrNone};
 ghost use Rattle.eos_offsets.specs.Reading.{read_value};
 ghost use Rattle.eos_claims.specs.Headers.{claim_of};
 ghost use Rattle.eos_commits.specs.Commits.{key_at};
 ghost use Rattle.eos_commits.specs.Faults.{Stands, visible_cmp, AreInOrder};
+ghost use Rattle.eos_commits.specs.steps.Settled.{is_settled as is_settled_part, AreSettled};
 ghost use Rattle.eos_commits.specs.steps.Walks.{Homes as HomeList, is_none, kind_of_value as value_kind, judge_key, judge_visible as judge_record, judge_item as judge_any, role_of as role_in, walk_part, named, walk, Meets, plain_found};
 
 use crate::fault::{VisibleFault, VisibleFaultKind};
 use crate::homes::Homes;
 use crate::roles::Roles;
+use crate::settled::are_settled;
 use crate::visible::{is_of_offsets, is_visible};
 use eos_base::{PartitionName, RecordFault};
 use eos_evidence::App;
 use eos_offsets::{view_key, view_value};
 use eos_partition::{ItemRef, Part};
+use eos_workers::Workers;
 use std::alloc::{AllocError, Global};
+use std::thread::Threads;
 
 /// What is asked of a partition's records.
 #[derive(Clone, Copy)]
-struct PartRole {
+pub(crate) struct PartRole {
     /// It is of an output topic.
-    output: bool,
+    pub(crate) output: bool,
     /// It is of the offsets log.
-    offsets: bool,
+    pub(crate) offsets: bool,
     number: i32,
 }
 
@@ -87,7 +91,7 @@ fn judge_commit<'a>(
 }
 
 /// Whether the record's headers are no claim.
-fn is_unclaimed(item: ItemRef<'_>) -> bool
+pub(crate) fn is_unclaimed(item: ItemRef<'_>) -> bool
     ensures { result ≡ is_none (claim_of item.entry.headers) }
 {
     match item.into_claim() {
@@ -132,7 +136,7 @@ fn judge_item<'a>(
     }
 }
 
-fn role_of(roles: &Roles<'_>, part: &Part) -> PartRole
+pub(crate) fn role_of(roles: &Roles<'_>, part: &Part) -> PartRole
     ensures { result ≡ role_in roles.now part.now }
 {
     PartRole {
@@ -142,16 +146,25 @@ fn role_of(roles: &Roles<'_>, part: &Part) -> PartRole
     }
 }
 
-/// The first fault of a partition's records.
+/// Whether nothing is asked of the records of such a partition, where those of output topics may be settled.
+fn is_quiet(role: PartRole, settled: bool) -> bool
+    ensures { result ≡ (not role.offsets && (settled || not role.output)) }
+{
+    !role.offsets && (settled || !role.output)
+}
+
+/// The first fault of a partition's records, which may be settled.
 fn judge_part<'a>(
     roles: &Roles<'_>,
     homes: &mut Homes<'a>,
     part: &'a Part,
+    settled: bool,
 ) -> Result<Option<Found>, AllocError>
+    requires { settled ≡ true → is_settled_part roles.now part.now ≡ true }
     ensures { IfOk result (λ found. Meets (option_map plain_found found) homes.new (walk_part roles.now homes.old part.now)) }
 {
     let role = role_of(roles, part);
-    if !role.output && !role.offsets {
+    if is_quiet(role, settled) {
         return Ok(None);
     }
     let mut records = part.items().cursor();
@@ -177,17 +190,19 @@ fn fault_in(part: &Part, found: Found) -> Result<VisibleFault, AllocError>
     })
 }
 
-/// The first fault of all records.
+/// The first fault of all records, where all partitions may be settled.
 fn first_fault(
     alloc: Global,
     roles: &Roles<'_>,
     parts: &[Part],
+    settled: bool,
 ) -> Result<Option<VisibleFault>, AllocError>
+    requires { settled ≡ true → AreSettled roles.now parts.now }
     ensures { IfOk result (λ fault. (homes : HomeList) × Meets fault homes (walk roles.now [] parts.now)) }
 {
     let mut homes = Homes::new(alloc);
     for part in parts {
-        if let Some(found) = judge_part(roles, &mut homes, part)? {
+        if let Some(found) = judge_part(roles, &mut homes, part, settled)? {
             return Ok(Some(fault_in(part, found)?));
         }
     }
@@ -207,6 +222,26 @@ pub fn least_visible_fault(
     ensures { AreInOrder parts.now → IfOk result (IsLeastOrNone visible_cmp (Stands apps.now parts.now)) }
 {
     let roles = Roles::of(alloc, apps)?;
-    let fault = first_fault(alloc, &roles, parts)?;
+    let fault = first_fault(alloc, &roles, parts, false)?;
+    Ok(fault)
+}
+
+/// The same. At most so many threads read the records of output topics, of which the caller's is one: with one none is
+/// started.
+///
+/// # Errors
+/// Only want of memory.
+pub fn least_visible_fault_by(
+    alloc: Global,
+    rt: &(impl Threads + Sync),
+    workers: Workers,
+    apps: &[App],
+    parts: &[Part],
+) -> Result<Option<VisibleFault>, AllocError>
+    ensures { AreInOrder parts.now → IfOk result (IsLeastOrNone visible_cmp (Stands apps.now parts.now)) }
+{
+    let roles = Roles::of(alloc, apps)?;
+    let settled = are_settled(alloc, rt, workers, &roles, parts)?;
+    let fault = first_fault(alloc, &roles, parts, settled)?;
     Ok(fault)
 }

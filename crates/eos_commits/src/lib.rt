@@ -11,12 +11,13 @@ mod homes;
 mod judge;
 pub mod laws;
 mod roles;
+mod settled;
 mod table;
 mod visible;
 
 pub use commits::{CommitRef, commits_of, committed, last_committed};
 pub use fault::{VisibleFault, VisibleFaultKind};
-pub use judge::least_visible_fault;
+pub use judge::{least_visible_fault, least_visible_fault_by};
 pub use roles::TopicSet;
 pub use table::CommitTable;
 pub use visible::is_visible;

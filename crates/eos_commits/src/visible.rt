@@ -17,11 +17,11 @@ pub fn is_visible(fate: Fate) -> bool
     }
 }
 
-/// Whether two texts are the same bytes.
+/// Whether two texts are the same bytes. `==` of short ones is faster than their order.
 pub(crate) fn is_same(a: &[u8], b: &[u8]) -> bool
     ensures { result ≡ is_same_text a.now b.now }
 {
-    a.cmp(b).is_eq()
+    a == b
 }
 
 /// Whether the partition is one of the offsets log.

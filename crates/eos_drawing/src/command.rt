@@ -1,15 +1,16 @@
 //! `draw`: the picture of a fault of an evidence, as a new file.
 
-use eos_all_faults::all_faults;
-use eos_check::{Fault, Verdict, logs_of, verdict_of};
+use crate::picture::judged_picture;
+use eos_check::{Fault, Verdict};
 use eos_ending::{Ending, STANDARD, Subject, end, fill_file, make_file};
-use eos_evidence::Evidence;
-use eos_folder::read_folder;
+use eos_evidence::Spec;
+use eos_folder::{FolderFault, read_shape};
+use eos_folder_source::FolderSource;
 use eos_layout::drawing_of;
-use eos_partitions::Logs;
-use eos_picture::picture_of;
 use eos_progress::{Meter, Progress, end_unread};
 use eos_report::verdict_line;
+use eos_source_check::{Judged, judge_source};
+use eos_source_faults::{Unlisted, all_source_faults};
 use eos_svg::svg_text;
 use eos_words::Draw;
 use eos_workers::Workers;
@@ -82,59 +83,84 @@ fn made(
 ) -> Result<Drawn, u8> {
     let meter = Meter::start(rt, false, false);
     let progress = Progress::begin(&meter, Subject::Only);
-    let evidence = match read_folder(rt, threads, words.folder, Workers::standard(), &progress) {
-        Ok(evidence) => evidence,
-        Err(fault) => return Err(end_unread(rt, Subject::Only, &fault)),
-    };
-    match answer_of(rt.alloc(), threads, &evidence, words, &progress) {
+    match answer_of(rt, threads, words, &progress) {
         Ok(Answer::Drawn(drawn)) => Ok(drawn),
         Ok(Answer::TooFew(count)) => {
             let _ = eprint!(rt; "eoscheck: there are {count} faults\n");
             Err(2)
         }
-        Err(_) => Err(end(rt, Ending::OutOfMemory)),
+        Err(fault) => Err(end_unread(rt, Subject::Only, &fault)),
     }
 }
 
+/// What was judged of a folder's evidence, and its manifest.
+#[derive(Clone, Copy)]
+struct Checked<'a> {
+    spec: &'a Spec,
+    judged: &'a Judged,
+}
+
+/// Reads a folder, each segment once, and no more of it is held than its verdict wants; then draws what the words ask for.
 fn answer_of(
-    alloc: Global,
+    rt: &HostRuntime,
     threads: &(impl Threads + Wait + Sync),
-    evidence: &Evidence,
     words: &Draw<'_>,
     progress: &Progress<'_>,
-) -> Result<Answer, AllocError> {
+) -> Result<Answer, FolderFault> {
+    let shape = read_shape(rt, words.folder, progress)?;
+    let source = FolderSource {
+        rt,
+        folder: words.folder,
+        shape: &shape,
+        watch: progress,
+    };
     let workers = Workers::standard();
-    let logs = logs_of(alloc, threads, evidence, workers, progress)?;
-    let verdict = verdict_of(alloc, threads, evidence, &logs, workers)?;
-    match verdict {
-        Verdict::Yes(counts) => match words.fault {
-            Some(_) => Ok(Answer::TooFew(0)),
-            None => {
-                let verdict = Verdict::Yes(counts);
-                outcome_of(alloc, evidence, &logs, words, verdict)
-            }
-        },
-        Verdict::No(first) => match words.fault {
-            None | Some(1) => { outcome_of(alloc, evidence, &logs, words, Verdict::No(first)) }
-            Some(number) => outcome_of_later(alloc, evidence, &logs, words, number),
-        },
+    let judged = judge_source(rt.alloc(), threads, &source, &shape.evidence, workers)?;
+    let checked = Checked {
+        spec: shape.evidence.spec(),
+        judged: &judged,
+    };
+    let answer = match (&judged.verdict, words.fault) {
+        (Verdict::Yes(_), Some(_)) => Answer::TooFew(0),
+        (Verdict::No(_), Some(number)) if number > 1 => {
+            let faults = listed(rt.alloc(), &source, &judged)?;
+            answer_of_later(rt.alloc(), checked, words, faults, number)?
+        }
+        (verdict, _) => Answer::Drawn(drawn_of(rt.alloc(), checked, words, verdict)?),
+    };
+    shape.listed?;
+    Ok(answer)
+}
+
+/// All faults. Partitions that have some by themselves are read once more, whole, one after the other.
+fn listed(
+    alloc: Global,
+    source: &FolderSource<'_, Progress<'_>>,
+    judged: &Judged,
+) -> Result<Vec<Fault>, FolderFault> {
+    match all_source_faults(alloc, source, &source.shape.evidence, &judged.logs) {
+        Ok(faults) => Ok(faults),
+        Err(Unlisted::Refused(fault)) => Err(fault),
+        Err(Unlisted::Fold(piece)) => Err(source.needs_log(alloc, piece)),
+        Err(Unlisted::Changed(piece)) => Err(source.changed(alloc, piece)),
+        Err(Unlisted::OutOfMemory) => Err(FolderFault::OutOfMemory),
     }
 }
 
-/// Of the fault of this number, counted from 1.
-fn outcome_of_later(
+/// Of the fault of this number in the list of all, counted from 1.
+fn answer_of_later(
     alloc: Global,
-    evidence: &Evidence,
-    logs: &Logs,
+    checked: Checked<'_>,
     words: &Draw<'_>,
+    faults: Vec<Fault>,
     number: u64,
 ) -> Result<Answer, AllocError> {
-    let faults = all_faults(alloc, evidence, logs)?;
     let count = faults.len();
     let mut left = number;
     for fault in faults {
         if left <= 1 {
-            return outcome_of(alloc, evidence, logs, words, Verdict::No(fault));
+            let drawn = drawn_of(alloc, checked, words, &Verdict::No(fault))?;
+            return Ok(Answer::Drawn(drawn));
         }
         left -= 1;
     }
@@ -148,26 +174,24 @@ fn fault_of(verdict: &Verdict) -> Option<&Fault> {
     }
 }
 
-/// Of this fault, or of none at yes.
-fn outcome_of(
+/// Of the fault of this verdict, or of none at yes.
+fn drawn_of(
     alloc: Global,
-    evidence: &Evidence,
-    logs: &Logs,
+    checked: Checked<'_>,
     words: &Draw<'_>,
-    verdict: Verdict,
-) -> Result<Answer, AllocError> {
-    let fault = fault_of(&verdict);
+    verdict: &Verdict,
+) -> Result<Drawn, AllocError> {
+    let fault = fault_of(verdict);
     let around = words.around.unwrap_or(AROUND) as usize;
-    let apps = evidence.spec().apps().as_slice();
-    let picture = picture_of(alloc, apps, logs.parts.as_slice(), fault, around)?;
-    let title = title_of(alloc, &verdict)?;
+    let picture = judged_picture(alloc, checked.spec, checked.judged, fault, around)?;
+    let title = title_of(alloc, verdict)?;
     let drawing = drawing_of(alloc, &picture, title)?;
-    Ok(Answer::Drawn(Drawn {
+    Ok(Drawn {
         status: if fault.is_some() { 1 } else { 0 },
         columns: picture.columns.len(),
         rows: picture.rows.len(),
         text: svg_text(alloc, &drawing)?,
-    }))
+    })
 }
 
 /// The line of the verdict, without its end.

@@ -2,5 +2,7 @@
 #![tactic(auto)]
 
 mod command;
+mod picture;
 
 pub use command::draw_folder;
+pub use picture::judged_picture;

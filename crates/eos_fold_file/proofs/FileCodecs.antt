@@ -22,15 +22,17 @@ use Rattle.eos_fold_file.specs.declared.file.FoldKept.TheVariants.{Presence, Cla
 use Rattle.eos_fold_file.specs.declared.head.FoldHead.{FoldHead}
 use Rattle.eos_fold_file.specs.declared.read.Front.{Front}
 use Rattle.eos_fold_file.specs.Numbers.{present, u64_text, bytes_text, kind_from, number_from, i32_from, u64_from, bytes_from, many_from}
-use Rattle.eos_fold_file.specs.Records.{is_placed, output_text, output_from, key_value_text, key_value_from}
+use Rattle.eos_fold_file.specs.Records.{is_placed, output_text, output_from}
+use Rattle.eos_fold_file.specs.Texts.{key_values_from}
 use Rattle.eos_fold_file.specs.Heads.{head_text, head_from}
 use Rattle.eos_fold_file.specs.Stops.{stop_text, stop_from}
 use Rattle.eos_fold_file.specs.Files.{data_count, fits_offsets, wanted_in, wanted_number, magic, front_text, heads_text, kept_text, body_text, fold_text}
 use Rattle.eos_fold_file.specs.Reading.{magic_from, version_from, wanted_of, wanted_from, front_from, heads_from, placed_claims, claims_from, texts_from, kept_from, file_with, body_from, before, read_fold}
-use Rattle.eos_fold_file.specs.Legal.{Each, IsU64, IsText, IsLegalOutput, IsLegalText, IsLegalHead, IsLegalKept, IsLegal}
+use Rattle.eos_fold_file.specs.Legal.{Each, IsU64, IsText, IsLegalOutput, IsLegalHead, IsLegalKept, IsLegal}
 use Rattle.eos_fold_file.proofs.Takes.{as_passed, as_read, bind_ok, ok_is, present_ok, must_ok, glue, Taken, IsCodec, cut_sound, cut_whole, many_sound, many_whole}
 use Rattle.eos_fold_file.proofs.NumberCodecs.{kind_codec, number_codec, i32_codec, u64_codec, bytes_codec}
-use Rattle.eos_fold_file.proofs.RecordCodecs.{output_codec, text_codec}
+use Rattle.eos_fold_file.proofs.RecordCodecs.{output_codec}
+use Rattle.eos_fold_file.proofs.TextCodecs.{texts_sound, texts_whole}
 use Rattle.eos_fold_file.proofs.HeadCodecs.{head_codec, stop_codec}
 
 -- ---- what stands before the batches
@@ -55,15 +57,15 @@ magic_codec = record {
       rw (h, at) refl;
 }
 
-version_codec : IsCodec i8_text (λ z. z ≡ pos 1) version_from
+version_codec : IsCodec i8_text (λ z. z ≡ pos 2) version_from
 unfolding version_from
 version_codec = record {
   sound = λ bytes x fits e.
       let k = bind_ok (kind_from bytes) _ x e in
-      let m = must_ok (int_eq k.0.0 (pos 1)) faults.Version k.0 x k.2 in
+      let m = must_ok (int_eq k.0.0 (pos 2)) faults.Version k.0 x k.2 in
       let t = kind_codec.sound bytes k.0 fits k.1 in
-      as_passed i8_text (λ z. z ≡ pos 1) bytes k.0 x m.1 (record { parts = t.parts; legal = (Decides-int_eq k.0.0 (pos 1)).0 m.0; rest_fits = t.rest_fits });
-  whole = λ z rest h. rw (h, kind_codec.whole (pos 1) rest (record { sfits = omega arith })) refl;
+      as_passed i8_text (λ z. z ≡ pos 2) bytes k.0 x m.1 (record { parts = t.parts; legal = (Decides-int_eq k.0.0 (pos 2)).0 m.0; rest_fits = t.rest_fits });
+  whole = λ z rest h. rw (h, kind_codec.whole (pos 2) rest (record { sfits = omega arith })) refl;
 }
 
 abbrev wanted_text : Wanted → List ℕ
@@ -98,7 +100,7 @@ abbrev behind_text : Front → List ℕ
 behind_text f = bytes_text f.topic ++ (varlong_of f.partition ++ (varlong_of f.base ++ u64_text f.bytes))
 
 abbrev begin_text : Front → List ℕ
-begin_text f = magic ++ (i8_text (pos 1) ++ (wanted_text f.wanted ++ behind_text f))
+begin_text f = magic ++ (i8_text (pos 2) ++ (wanted_text f.wanted ++ behind_text f))
 
 record IsLegalFront (f : Front) : Type 0 where
   topic : IsText f.topic
@@ -130,11 +132,11 @@ front_codec = record {
       let q2 = glue t.0.1 (varlong_of p.0.0) p.0.1 (varlong_of b.0.0 ++ u64_text s.0.0) s.0.1 partition.parts q1 in
       let q3 = glue w.0.1 (bytes_text t.0.0) t.0.1 (varlong_of p.0.0 ++ (varlong_of b.0.0 ++ u64_text s.0.0)) s.0.1 topic.parts q2 in
       let q4 = glue v.0.1 (wanted_text w.0.0) w.0.1 (behind_text front) s.0.1 wanted.parts q3 in
-      let one : m.0.1 ≡ i8_text (pos 1) ++ v.0.1 = version.parts ∙ ap (λ (z : ℤ). i8_text z ++ v.0.1) version.legal in
-      let q5 = glue m.0.1 (i8_text (pos 1)) v.0.1 (wanted_text w.0.0 ++ behind_text front) s.0.1 one q4 in
+      let one : m.0.1 ≡ i8_text (pos 2) ++ v.0.1 = version.parts ∙ ap (λ (z : ℤ). i8_text z ++ v.0.1) version.legal in
+      let q5 = glue m.0.1 (i8_text (pos 2)) v.0.1 (wanted_text w.0.0 ++ behind_text front) s.0.1 one q4 in
       let named : bytes ≡ magic ++ m.0.1 = begin.parts ∙ ap (λ (ts : List ℕ). ts ++ m.0.1) begin.legal in
       as_read begin_text IsLegalFront bytes made x s.2 (record {
-        parts = glue bytes magic m.0.1 (i8_text (pos 1) ++ (wanted_text w.0.0 ++ behind_text front)) s.0.1 named q5;
+        parts = glue bytes magic m.0.1 (i8_text (pos 2) ++ (wanted_text w.0.0 ++ behind_text front)) s.0.1 named q5;
         legal = record { topic = topic.legal; partition = partition.legal; base = base.legal; bytes = size.legal };
         rest_fits = size.rest_fits;
       });
@@ -147,15 +149,15 @@ front_codec = record {
       append_assoc (bytes_text f.topic) (varlong_of f.partition ++ (varlong_of f.base ++ u64_text f.bytes)) rest
       ∙ ap (λ (ts : List ℕ). bytes_text f.topic ++ ts) (append_assoc (varlong_of f.partition) (varlong_of f.base ++ u64_text f.bytes) rest
       ∙ ap (λ (ts : List ℕ). varlong_of f.partition ++ ts) (append_assoc (varlong_of f.base) (u64_text f.bytes) rest)) in
-      let e : begin_text f ++ rest ≡ magic ++ (i8_text (pos 1) ++ b4) =
-      append_assoc magic (i8_text (pos 1) ++ (wanted_text f.wanted ++ behind_text f)) rest
-      ∙ ap (λ (ts : List ℕ). magic ++ ts) (append_assoc (i8_text (pos 1)) (wanted_text f.wanted ++ behind_text f) rest
-      ∙ ap (λ (ts : List ℕ). i8_text (pos 1) ++ ts) (append_assoc (wanted_text f.wanted) (behind_text f) rest
+      let e : begin_text f ++ rest ≡ magic ++ (i8_text (pos 2) ++ b4) =
+      append_assoc magic (i8_text (pos 2) ++ (wanted_text f.wanted ++ behind_text f)) rest
+      ∙ ap (λ (ts : List ℕ). magic ++ ts) (append_assoc (i8_text (pos 2)) (wanted_text f.wanted ++ behind_text f) rest
+      ∙ ap (λ (ts : List ℕ). i8_text (pos 2) ++ ts) (append_assoc (wanted_text f.wanted) (behind_text f) rest
       ∙ ap (λ (ts : List ℕ). wanted_text f.wanted ++ ts) r3)) in
       rw (
         e,
-        magic_codec.whole magic (i8_text (pos 1) ++ b4) refl,
-        version_codec.whole (pos 1) b4 refl,
+        magic_codec.whole magic (i8_text (pos 2) ++ b4) refl,
+        version_codec.whole (pos 2) b4 refl,
         wanted_codec.whole f.wanted b3 tt,
         bytes_codec.whole f.topic b2 h.topic,
         i32_codec.whole f.partition b1 h.partition,
@@ -228,8 +230,8 @@ kept_sound wants.Claims n bytes x fits e =
       rest_fits = outputs.rest_fits;
     }))
 kept_sound wants.Texts n bytes x fits e =
-    let t = bind_ok (many_from key_value_from n bytes) _ x e in
-    let texts = many_sound key_value_text IsLegalText key_value_from text_codec n bytes t.0 fits t.1 in
+    let t = bind_ok (key_values_from [] [] n bytes) _ x e in
+    let texts = texts_sound n [] [] bytes t.0 fits t.1 in
     let made : FoldKept × List ℕ = (Texts t.0.0, t.0.1) in
     as_read kept_text (IsKeptOf wants.Texts n) bytes made x t.2 (record { parts = texts.parts; legal = (refl, (texts.counted, texts.legal)); rest_fits = texts.rest_fits })
 
@@ -252,15 +254,15 @@ kept_whole n (Claims topics outputs) rest h =
       placed,
     )
     refl
-kept_whole n (Texts texts) rest h = rw (← h.0, many_whole key_value_text IsLegalText key_value_from text_codec texts rest h.1) refl
+kept_whole n (Texts texts) rest h = rw (← h.0, texts_whole texts [] [] rest h.1) refl
 
 -- ---- the body
 
 front_of : FoldFile → Front
 front_of f = record { wanted = wanted_in f.kept; topic = f.topic; partition = f.partition; base = f.base; bytes = f.bytes }
 
-begun_with : (f : Front) (w : Wanted) → f.wanted ≡ w → begin_text f ≡ magic ++ (i8_text (pos 1) ++ (wanted_text w ++ behind_text f))
-begun_with f w e = ap (λ (v : Wanted). magic ++ (i8_text (pos 1) ++ (wanted_text v ++ behind_text f))) e
+begun_with : (f : Front) (w : Wanted) → f.wanted ≡ w → begin_text f ≡ magic ++ (i8_text (pos 2) ++ (wanted_text w ++ behind_text f))
+begun_with f w e = ap (λ (v : Wanted). magic ++ (i8_text (pos 2) ++ (wanted_text v ++ behind_text f))) e
 
 body_sound : (bytes : List ℕ) (x : FoldFile × List ℕ) → IsBytes bytes → body_from bytes ≡ Ok x → Taken body_text IsLegal bytes x
 unfolding body_from body_text

@@ -3,6 +3,9 @@ pub mod Takes
 pub mod Shortest
 pub mod NumberCodecs
 pub mod RecordCodecs
+pub mod Shared
+pub mod TextCodecs
+pub mod TextLoop
 pub mod HeadCodecs
 pub mod FileCodecs
 pub mod LegalFolds

@@ -27,7 +27,7 @@ fails_through faults.Trailing r s k h = k faults.Trailing h
 abbrev pub with_front : {X : Type 0} → List X → Result (List X × List ℕ) FoldFault → Result (List X × List ℕ) FoldFault
 with_front front read = read >>= λ x. Ok (front ++ x.0, x.1)
 
-regroup : {X : Type 0} (front : List X) (x : X) (read : Result (List X × List ℕ) FoldFault)
+pub regroup : {X : Type 0} (front : List X) (x : X) (read : Result (List X × List ℕ) FoldFault)
     → with_front front (read >>= λ others. Ok (x ∷ others.0, others.1)) ≡ with_front (front ++ x ∷ []) read
 regroup {X} front x (Ok others) = ap (λ (xs : List X). Ok (xs, others.1)) (simp append_assoc)
 regroup front x (Err e) = refl

@@ -1,5 +1,5 @@
 -- The numbers and the texts of a fold file are read exactly as they are written.
-use Rattle.std.proofs.Common.{◌≡◌, ◌≢◌, ℕ, zero, suc, ◌-◌, ◌%◌, ◌/◌, ◌<◌, ◌≤◌, ◌^◌, Bool, true, false, eqb, ltb, not, ◌||◌, ◌&&◌, ℤ, pos, negsuc, List, ◌++◌, length, drop, get_or, Option, Some, None, Ok, refl, sym, ap, ◌∙◌, subst, append_assoc, arith, rules, inl, inr, ◌⊎◌, FitsSigned, Fits, ◌≤ℤ◌}
+use Rattle.std.proofs.Common.{◌≡◌, ◌≢◌, ℕ, ◌-◌, ◌%◌, ◌/◌, ◌<◌, ◌≤◌, ◌^◌, Bool, true, false, eqb, ltb, not, ◌||◌, ◌&&◌, ℤ, pos, negsuc, List, ◌++◌, length, drop, get_or, Option, Some, None, Ok, refl, sym, ap, ◌∙◌, subst, append_assoc, arith, rules, inl, inr, ◌⊎◌, FitsSigned, Fits, ◌≤ℤ◌}
 use Rattle.std.specs.Prelude.{int_le}
 use Rattle.std.specs.Int.{w8, w16, w32, w64, cast_signed, cast_unsigned}
 use Rattle.std.proofs.lemmas.Bool.{eqb-true, eqb-false, eq-eqb, ne_eqb, lt-ltb, ltb-true, cases_eq}
@@ -13,8 +13,8 @@ use Rattle.eos_wire.proofs.NumberTexts.{IsBytes-append_right, i8_sound, i8_whole
 use Rattle.eos_wire.proofs.VarintTexts.{front-drop, varlong_sound}
 use Rattle.eos_wire.proofs.Spellings.{varlong_written, zigzag-unzigzag, IsVarlong-some}
 use Rattle.eos_fold_file.specs.declared.fault.FoldFault.TheVariants as faults
-use Rattle.eos_fold_file.specs.Legal.{IsU64, IsU32, IsText, IsOptionalText}
-use Rattle.eos_fold_file.specs.Numbers.{present, u64_text, bytes_text, optional_text, kind_from, is_shortest, found_from, number_from, within_from, i32_from, i16_from, u64_from, u32_from, counted_from, bytes_from, optional_counted_from, optional_from}
+use Rattle.eos_fold_file.specs.Legal.{IsU64, IsU32, IsText}
+use Rattle.eos_fold_file.specs.Numbers.{present, u64_text, bytes_text, kind_from, is_shortest, found_from, number_from, within_from, i32_from, i16_from, u64_from, u32_from, counted_from, bytes_from}
 use Rattle.eos_fold_file.proofs.Takes.{as_passed, as_read, bind_ok, present_ok, must_ok, and_true, glue, Taken, IsCodec, cut_sound, cut_whole}
 use Rattle.eos_fold_file.proofs.Shortest.{last_group, last_is, shortest_is, some_groups, groups_shortest}
 
@@ -208,28 +208,3 @@ bytes_codec = record {
     bytes_told : (bytes : List ℕ) (n : ℤ × List ℕ) (x : List ℕ × List ℕ) → Taken varlong_of (FitsSigned w64) bytes n → counted_from n ≡ Ok x → Taken bytes_text IsText bytes x
     bytes_told bytes (pos n, rest) x t e = counted bytes n rest x t e
     bytes_told bytes (negsuc n, rest) x t e = absurd cc
-
-pub optional_codec : IsCodec optional_text IsOptionalText optional_from
-unfolding optional_from
-optional_codec = record {
-  sound = λ bytes x fits e.
-      let n = bind_ok (number_from bytes) optional_counted_from x e in
-      optional_told bytes n.0 x (number_sound bytes n.0 fits n.1) n.2;
-  whole = optional_whole;
-}
-  where
-    optional_told : (bytes : List ℕ) (n : ℤ × List ℕ) (x : Option (List ℕ) × List ℕ) → Taken varlong_of (FitsSigned w64) bytes n → optional_counted_from n ≡ Ok x → Taken optional_text IsOptionalText bytes x
-    optional_told bytes (pos n, rest) x t e =
-        let c = bind_ok (present (bytes_at n rest)) _ x e in
-        let k = counted bytes n rest c.0 t c.1 in
-        let made : Option (List ℕ) × List ℕ = (Some c.0.0, c.0.1) in
-        as_read optional_text IsOptionalText bytes made x c.2 (record { parts = k.parts; legal = k.legal; rest_fits = k.rest_fits })
-    optional_told bytes (negsuc zero, rest) x t e =
-        let made : Option (List ℕ) × List ℕ = (None, rest) in
-        as_read optional_text IsOptionalText bytes made x e (record { parts = t.parts; legal = tt; rest_fits = t.rest_fits })
-    optional_told bytes (negsuc (suc n), rest) x t e = absurd cc
-
-    optional_whole : (text : Option (List ℕ)) (rest : List ℕ) → IsOptionalText text → optional_from (optional_text text ++ rest) ≡ Ok (text, rest)
-    optional_whole None rest h = rw (number_whole (negsuc 0) rest (record { sfits = omega arith })) refl
-    optional_whole (Some text) rest lt =
-        rw (append_assoc (varlong_of (pos (length text))) text rest, number_whole (pos (length text)) (text ++ rest) (pos_fits (length text) lt), cut_whole text rest) refl

@@ -7,12 +7,11 @@ use Rattle.eos_claims.specs.declared.claim.Claim.{Claim}
 use Rattle.eos_keeping.specs.declared.output.KeptOutput.{KeptOutput}
 use Rattle.eos_keeping.specs.declared.output.KeptOutput.TheVariants.{Unclaimed, Asked, Foreign}
 use Rattle.eos_fold_file.specs.declared.claim.ClaimNumbers.{ClaimNumbers}
-use Rattle.eos_fold_file.specs.declared.claim.FoldText.{FoldText}
-use Rattle.eos_fold_file.specs.Legal.{AreClaimNumbers, IsLegalClaim, IsLegalOutput, IsLegalOptionalClaim, IsLegalText}
-use Rattle.eos_fold_file.specs.Numbers.{u64_text, bytes_text, optional_text, kind_from, i32_from, u64_from, u32_from, bytes_from, optional_from}
-use Rattle.eos_fold_file.specs.Records.{numbers_of, numbers_text, claim_text, numbers_from, claim_with, claim_from, output_text, asked_with, asked_from, foreign_from, output_of, output_from, optional_claim_text, key_value_text, some_claim_from, optional_claim_of, optional_claim_from, key_value_from}
+use Rattle.eos_fold_file.specs.Legal.{AreClaimNumbers, IsLegalClaim, IsLegalOutput, IsLegalOptionalClaim}
+use Rattle.eos_fold_file.specs.Numbers.{u64_text, bytes_text, kind_from, i32_from, u64_from, u32_from, bytes_from}
+use Rattle.eos_fold_file.specs.Records.{numbers_of, numbers_text, claim_text, numbers_from, claim_with, claim_from, output_text, asked_with, asked_from, foreign_from, output_of, output_from, optional_claim_text, some_claim_from, optional_claim_of, optional_claim_from}
 use Rattle.eos_fold_file.proofs.Takes.{as_read, bind_ok, ok_is, glue, Taken, IsCodec}
-use Rattle.eos_fold_file.proofs.NumberCodecs.{kind_codec, i32_codec, u64_codec, u32_codec, bytes_codec, optional_codec}
+use Rattle.eos_fold_file.proofs.NumberCodecs.{kind_codec, i32_codec, u64_codec, u32_codec, bytes_codec}
 
 -- ---- claims
 
@@ -155,33 +154,3 @@ optional_claim_codec = record {
     held None rest h = rw (kind_codec.whole (pos 0) rest (search rules)) refl
     held (Some c) rest h =
         rw (append_assoc (i8_text (pos 1)) (claim_text c) rest, kind_codec.whole (pos 1) (claim_text c ++ rest) (search rules), claim_codec.whole c rest h) refl
-
-pub text_codec : IsCodec key_value_text IsLegalText key_value_from
-unfolding key_value_from
-text_codec = record {
-  sound = λ bytes x fits e.
-      let k = bind_ok (optional_from bytes) _ x e in
-      let v = bind_ok (optional_from k.0.1) _ x k.2 in
-      let c = bind_ok (optional_claim_from v.0.1) _ x v.2 in
-      let key = optional_codec.sound bytes k.0 fits k.1 in
-      let value = optional_codec.sound k.0.1 v.0 key.rest_fits v.1 in
-      let claim = optional_claim_codec.sound v.0.1 c.0 value.rest_fits c.1 in
-      let behind = glue k.0.1 (optional_text v.0.0) v.0.1 (optional_claim_text c.0.0) c.0.1 value.parts claim.parts in
-      let made : FoldText × List ℕ = (record { key = k.0.0; value = v.0.0; claim = c.0.0 }, c.0.1) in
-      as_read key_value_text IsLegalText bytes made x c.2 (record {
-        parts = glue bytes (optional_text k.0.0) k.0.1 (optional_text v.0.0 ++ optional_claim_text c.0.0) c.0.1 key.parts behind;
-        legal = record { key = key.legal; value = value.legal; claim = claim.legal };
-        rest_fits = claim.rest_fits;
-      });
-  whole = λ t rest h.
-      let e : key_value_text t ++ rest ≡ optional_text t.key ++ (optional_text t.value ++ (optional_claim_text t.claim ++ rest)) =
-      append_assoc (optional_text t.key) (optional_text t.value ++ optional_claim_text t.claim) rest
-      ∙ ap (λ (ts : List ℕ). optional_text t.key ++ ts) (append_assoc (optional_text t.value) (optional_claim_text t.claim) rest) in
-      rw (
-        e,
-        optional_codec.whole t.key (optional_text t.value ++ (optional_claim_text t.claim ++ rest)) h.key,
-        optional_codec.whole t.value (optional_claim_text t.claim ++ rest) h.value,
-        optional_claim_codec.whole t.claim rest h.claim,
-      )
-      refl;
-}

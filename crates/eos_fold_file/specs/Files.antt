@@ -1,6 +1,6 @@
 -- A fold file: which bytes it is, and which values there are.
 --
---   magic, version, what was wanted    EOSFOLD, 1, and a kind
+--   magic, version, what was wanted    EOSFOLD, 2, and a kind
 --   topic, partition, base, bytes      of the segment
 --   heads                              their count, and each
 --   kept                               of each data record of these, as it was wanted
@@ -18,7 +18,8 @@ use Rattle.eos_fold_file.specs.declared.file.FoldKept.{FoldKept}
 use Rattle.eos_fold_file.specs.declared.file.FoldKept.TheVariants.{Presence, Claims, Texts}
 use Rattle.eos_fold_file.specs.declared.head.FoldHead.{FoldHead}
 use Rattle.eos_fold_file.specs.Numbers.{u64_text, bytes_text}
-use Rattle.eos_fold_file.specs.Records.{output_text, key_value_text}
+use Rattle.eos_fold_file.specs.Records.{output_text}
+use Rattle.eos_fold_file.specs.Texts.{key_values_text}
 use Rattle.eos_fold_file.specs.Heads.{is_control_kind, head_text}
 use Rattle.eos_fold_file.specs.Stops.{stop_text}
 
@@ -59,7 +60,7 @@ abbrev pub segment_text : FoldFile → List ℕ
 segment_text f = bytes_text f.topic ++ (varlong_of f.partition ++ (varlong_of f.base ++ u64_text f.bytes))
 
 abbrev pub front_text : FoldFile → List ℕ
-front_text f = magic ++ (i8_text (pos 1) ++ (i8_text (wanted_number (wanted_in f.kept)) ++ segment_text f))
+front_text f = magic ++ (i8_text (pos 2) ++ (i8_text (wanted_number (wanted_in f.kept)) ++ segment_text f))
 
 abbrev pub heads_text : List FoldHead → List ℕ
 heads_text heads = u64_text (length heads) ++ flat_map head_text heads
@@ -67,7 +68,7 @@ heads_text heads = u64_text (length heads) ++ flat_map head_text heads
 abbrev pub kept_text : FoldKept → List ℕ
 kept_text Presence = []
 kept_text (Claims topics outputs) = u64_text (length topics) ++ (flat_map bytes_text topics ++ flat_map output_text outputs)
-kept_text (Texts texts) = flat_map key_value_text texts
+kept_text (Texts texts) = key_values_text [] [] texts
 
 unfoldable pub body_text : FoldFile → List ℕ
 body_text f = front_text f ++ (heads_text f.heads ++ (kept_text f.kept ++ stop_text f.stop))

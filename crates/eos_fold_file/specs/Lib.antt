@@ -1,6 +1,7 @@
 pub mod Faults
 pub mod Numbers
 pub mod Records
+pub mod Texts
 pub mod Heads
 pub mod Stops
 pub mod Files

@@ -1,6 +1,6 @@
 -- The numbers and texts of a fold file. A number is a varlong in its shortest spelling (Kafka's protocol guide, VARLONG), so small
 -- ones take a byte, of either sign; an unsigned one of 64 bits is the signed one with the same bits. A text is the number of its
--- bytes, and the bytes; where it may be null, -1 stands for null. A kind is an INT8.
+-- bytes, and the bytes. A kind is an INT8.
 use Rattle.std.specs.Prelude.{ℕ, zero, suc, ◌-◌, ◌^◌, ℤ, pos, negsuc, List, [], ◌∷◌, ◌++◌, length, drop, Option, Some, None, Result, Ok, Err, Bool, nat_lt, int_le, ◌==◌, ◌&&◌, ◌||◌, not, slice_index, if◌then◌else◌}
 use Rattle.std.specs.Int.{w64, cast_signed, cast_unsigned}
 use Rattle.eos_wire.specs.Numbers.{bytes_at, i8_at}
@@ -21,10 +21,6 @@ u64_text n = varlong_of (cast_signed w64 n)
 
 abbrev pub bytes_text : List ℕ → List ℕ
 bytes_text bytes = varlong_of (pos (length bytes)) ++ bytes
-
-abbrev pub optional_text : Option (List ℕ) → List ℕ
-optional_text None = varlong_of (negsuc 0)
-optional_text (Some bytes) = bytes_text bytes
 
 -- ---- reading
 
@@ -73,14 +69,6 @@ counted_from (negsuc n, bytes) = Err faults.Number
 
 unfoldable pub bytes_from : List ℕ → Result (List ℕ × List ℕ) FoldFault
 bytes_from bytes = number_from bytes >>= counted_from
-
-abbrev pub optional_counted_from : ℤ × List ℕ → Result (Option (List ℕ) × List ℕ) FoldFault
-optional_counted_from (pos n, bytes) = present (bytes_at n bytes) >>= λ x. Ok (Some x.0, x.1)
-optional_counted_from (negsuc zero, bytes) = Ok (None, bytes)
-optional_counted_from (negsuc (suc n), bytes) = Err faults.Number
-
-unfoldable pub optional_from : List ℕ → Result (Option (List ℕ) × List ℕ) FoldFault
-optional_from bytes = number_from bytes >>= optional_counted_from
 
 -- so many, one after the other
 unfoldable pub many_from : {X : Type 0} → (List ℕ → Result (X × List ℕ) FoldFault) → ℕ → List ℕ → Result (List X × List ℕ) FoldFault

@@ -1,5 +1,5 @@
 -- Reading a fold file from left to right, with the first fault that is met: the order of the refusals.
-use Rattle.std.specs.Prelude.{ℕ, zero, suc, ◌-◌, ℤ, pos, negsuc, List, length, take, Result, Ok, Err, ◌==◌, nat_eq}
+use Rattle.std.specs.Prelude.{ℕ, zero, suc, ◌-◌, ℤ, pos, negsuc, List, [], length, take, Result, Ok, Err, ◌==◌, nat_eq}
 use Rattle.std.specs.List.{list_all}
 use Rattle.std.specs.Cmp.Lexicographic.{pointwise}
 use Rattle.std.specs.Ordering.{int_eq}
@@ -18,7 +18,8 @@ use Rattle.eos_fold_file.specs.declared.file.FoldKept.TheVariants.{Presence, Cla
 use Rattle.eos_fold_file.specs.declared.head.FoldHead.{FoldHead}
 use Rattle.eos_fold_file.specs.declared.read.Front.{Front}
 use Rattle.eos_fold_file.specs.Numbers.{present, kind_from, number_from, i32_from, u64_from, bytes_from, many_from}
-use Rattle.eos_fold_file.specs.Records.{is_placed, output_from, key_value_from}
+use Rattle.eos_fold_file.specs.Records.{is_placed, output_from}
+use Rattle.eos_fold_file.specs.Texts.{key_values_from}
 use Rattle.eos_fold_file.specs.Heads.{head_from}
 use Rattle.eos_fold_file.specs.Stops.{stop_from}
 use Rattle.eos_fold_file.specs.Files.{magic, data_count, fits_offsets}
@@ -33,7 +34,7 @@ magic_from bytes = do
 unfoldable pub version_from : List ℕ → Result (ℤ × List ℕ) FoldFault
 version_from bytes = do
   version ← kind_from bytes
-  must (int_eq version.0 (pos 1)) faults.Version version
+  must (int_eq version.0 (pos 2)) faults.Version version
 
 abbrev pub wanted_of : ℤ × List ℕ → Result (Wanted × List ℕ) FoldFault
 wanted_of (pos zero, bytes) = Ok (wants.Presence, bytes)
@@ -78,7 +79,7 @@ claims_from n bytes = do
 
 unfoldable pub texts_from : ℕ → List ℕ → Result (FoldKept × List ℕ) FoldFault
 texts_from n bytes = do
-  texts ← many_from key_value_from n bytes
+  texts ← key_values_from [] [] n bytes
   Ok (Texts texts.0, texts.1)
 
 -- of so many records

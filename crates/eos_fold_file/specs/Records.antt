@@ -1,5 +1,5 @@
--- What is kept of a record, as bytes of a fold file: of an output's its claim, with the place of its topic among those that were
--- asked for, or with the topic itself; of a record of Kafka's own logs its key, its value and its claim.
+-- What is kept of a record's headers, as bytes of a fold file: of an output's its claim, with the place of its topic among those that
+-- were asked for, or with the topic itself; of a record of Kafka's own logs its claim, if it has one.
 use Rattle.std.specs.Prelude.{ℕ, zero, suc, ℤ, pos, negsuc, Bool, true, nat_lt, List, ◌++◌, Option, Some, None, Result, Ok, Err}
 use Rattle.eos_base.specs.Fallible.{◌>>=◌}
 use Rattle.eos_wire.specs.Numbers.{i8_text}
@@ -10,8 +10,7 @@ use Rattle.eos_keeping.specs.declared.output.KeptOutput.TheVariants.{Unclaimed, 
 use Rattle.eos_fold_file.specs.declared.fault.FoldFault.{FoldFault}
 use Rattle.eos_fold_file.specs.declared.fault.FoldFault.TheVariants as faults
 use Rattle.eos_fold_file.specs.declared.claim.ClaimNumbers.{ClaimNumbers}
-use Rattle.eos_fold_file.specs.declared.claim.FoldText.{FoldText}
-use Rattle.eos_fold_file.specs.Numbers.{u64_text, bytes_text, optional_text, kind_from, i32_from, u64_from, u32_from, bytes_from, optional_from}
+use Rattle.eos_fold_file.specs.Numbers.{u64_text, bytes_text, kind_from, i32_from, u64_from, u32_from, bytes_from}
 
 -- ---- claims
 
@@ -85,9 +84,6 @@ abbrev pub optional_claim_text : Option Claim → List ℕ
 optional_claim_text None = i8_text (pos 0)
 optional_claim_text (Some c) = i8_text (pos 1) ++ claim_text c
 
-abbrev pub key_value_text : FoldText → List ℕ
-key_value_text t = optional_text t.key ++ (optional_text t.value ++ optional_claim_text t.claim)
-
 unfoldable pub some_claim_from : List ℕ → Result (Option Claim × List ℕ) FoldFault
 some_claim_from bytes = do
   claim ← claim_from bytes
@@ -101,10 +97,3 @@ optional_claim_of (negsuc n, bytes) = Err faults.Record
 
 unfoldable pub optional_claim_from : List ℕ → Result (Option Claim × List ℕ) FoldFault
 optional_claim_from bytes = kind_from bytes >>= optional_claim_of
-
-unfoldable pub key_value_from : List ℕ → Result (FoldText × List ℕ) FoldFault
-key_value_from bytes = do
-  key ← optional_from bytes
-  value ← optional_from key.1
-  claim ← optional_claim_from value.1
-  Ok (record { key = key.0; value = value.0; claim = claim.0 }, claim.1)

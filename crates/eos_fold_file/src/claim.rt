@@ -1,4 +1,4 @@
-//! What is kept of a record of an output, and of a record of Kafka's own logs.
+//! What is kept of a record of an output, and of the headers of a record of Kafka's own logs.
 //!
 //! | Field | Form | Meaning |
 //! |---|---|---|
@@ -6,7 +6,6 @@
 //! | at 1: topic | unsigned number | the topic's place among those that were asked for |
 //! | at 2: topic | text | its name |
 //! | at 1 and 2: partition, offset, output, of | number, unsigned numbers | the claim, as its headers say it |
-//! | of Kafka's own logs: key, value | texts, may be null | as in the log |
 //! | of Kafka's own logs: claim | kind | 0 none; 1 a claim: topic (text), partition, offset, output, of |
 
 ghost use Rattle.std.specs.Prelude.{◌≡◌, ◌++◌, IfOk, OnOk};
@@ -19,8 +18,7 @@ ghost use Rattle.eos_fold_file.specs.steps.Faults.{Gives};
 use crate::entry::Entry;
 use crate::fault::FoldFault;
 use crate::number::{
-    read_bytes, read_i32, read_kind, read_optional, read_u32, read_u64, write_number,
-    write_optional, write_slice, write_u64,
+    read_bytes, read_i32, read_kind, read_u32, read_u64, write_number, write_slice, write_u64,
 };
 use bytes::Bytes;
 use eos_claims::{Claim, ClaimRef};
@@ -28,8 +26,7 @@ use eos_keeping::{BoxedClaim, KeptOutput};
 use eos_wire::{Cursor, write_i8};
 use std::alloc::{AllocError, Global};
 
-/// What is kept of a record of Kafka's own logs: its key, its value and the claim in its headers, where there is one. Texts share
-/// the file's bytes.
+/// What is kept of a record of Kafka's own logs: its key, its value and the claim in its headers, where there is one.
 #[derive(Clone, Debug, PartialEq, Eq, Drop)]
 pub struct FoldText {
     pub key: Option<Bytes>,
@@ -258,7 +255,7 @@ fn read_some_claim(rest: &mut Cursor<'_>) -> Result<Option<Claim>, FoldFault>
 }
 
 #[tactic(auto, unfolding(crate::specs::Records::optional_claim_from))]
-fn read_optional_claim(rest: &mut Cursor<'_>) -> Result<Option<Claim>, FoldFault>
+pub(crate) fn read_optional_claim(rest: &mut Cursor<'_>) -> Result<Option<Claim>, FoldFault>
     ensures { Gives result rest.new (optional_claim_from rest.old) }
 {
     match read_kind(rest)? {
@@ -268,7 +265,10 @@ fn read_optional_claim(rest: &mut Cursor<'_>) -> Result<Option<Claim>, FoldFault
     }
 }
 
-fn write_optional_claim(out: &mut Vec<u8>, claim: &Option<Claim>) -> Result<(), AllocError>
+pub(crate) fn write_optional_claim(
+    out: &mut Vec<u8>,
+    claim: &Option<Claim>,
+) -> Result<(), AllocError>
     ensures text { OnOk result (out.new.items ≡ out.old.items ++ optional_claim_text claim.now) }
     ensures fit { OnOk result (IsLegalOptionalClaim claim.now) }
 {
@@ -278,30 +278,5 @@ fn write_optional_claim(out: &mut Vec<u8>, claim: &Option<Claim>) -> Result<(), 
             write_i8(out, 1)?;
             write_claim(out, claim)
         }
-    }
-}
-
-impl Entry for FoldText {
-    ghost use Rattle.eos_fold_file.specs.Legal.{IsLegalText};
-    ghost use Rattle.eos_fold_file.specs.Records.{key_value_from, key_value_text};
-
-    ghost entry_from = { key_value_from };
-
-    ghost entry_text = { key_value_text };
-
-    ghost entry_fits = { IsLegalText };
-
-    #[tactic(auto, unfolding(crate::specs::Records::key_value_from))]
-    fn read(_alloc: Global, rest: &mut Cursor<'_>) -> Result<FoldText, FoldFault> {
-        let key = read_optional(rest)?;
-        let value = read_optional(rest)?;
-        let claim = read_optional_claim(rest)?;
-        Ok(FoldText { key, value, claim })
-    }
-
-    fn write(&self, out: &mut Vec<u8>) -> Result<(), AllocError> {
-        write_optional(out, &self.key)?;
-        write_optional(out, &self.value)?;
-        write_optional_claim(out, &self.claim)
     }
 }

@@ -23,7 +23,7 @@ pub enum FoldFault {
     Number,
     /// No batch has this head, or the offsets of the batches pass the greatest i64.
     Head,
-    /// What is kept of a record is of no known kind.
+    /// What is kept of a record is of no known kind, or a text shares another number of bytes with the one before than it can.
     Record,
     /// The front ends for no known reason.
     Stop,

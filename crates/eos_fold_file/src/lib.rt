@@ -11,6 +11,7 @@ pub mod laws;
 mod number;
 mod read;
 mod stop;
+mod texts;
 mod write;
 
 pub use claim::FoldText;

@@ -5,16 +5,15 @@
 //! | kind | 1 | INT8: which of several forms follows |
 //! | number | 1 to 10 | VARLONG in its shortest spelling: signed, groups of seven bits |
 //! | unsigned number | 1 to 10 | the signed number of the same 64 bits |
-//! | text | 1 to 10, and its bytes | the number of its bytes, and the bytes; -1 is null where a text may be |
+//! | text | 1 to 10, and its bytes | the number of its bytes, and the bytes |
 //!
 //! The source of VARLONG is Kafka's protocol guide. A number in a longer spelling than its shortest is refused, so a value has one
 //! text only.
 
 ghost use Rattle.std.specs.Prelude.{◌≡◌, ◌++◌, ◌≤ℤ◌, ◌≤◌, length, OnOk, IfOk};
-ghost use Rattle.std.specs.Option.{option_map};
 ghost use Rattle.eos_wire.specs.Writing.{varlong_of};
-ghost use Rattle.eos_fold_file.specs.Numbers.{u64_text, bytes_text, optional_text, is_shortest, kind_from, number_from, within_from, i32_from, i16_from, u64_from, u32_from, bytes_from, optional_from};
-ghost use Rattle.eos_fold_file.specs.Legal.{IsText, IsOptionalText};
+ghost use Rattle.eos_fold_file.specs.Numbers.{u64_text, bytes_text, is_shortest, kind_from, number_from, within_from, i32_from, i16_from, u64_from, u32_from, bytes_from};
+ghost use Rattle.eos_fold_file.specs.Legal.{IsText};
 ghost use Rattle.eos_fold_file.specs.steps.Faults.{Gives};
 
 use crate::fault::FoldFault;
@@ -109,33 +108,24 @@ pub(crate) fn read_u32(rest: &mut Cursor<'_>) -> Result<u32, FoldFault>
     Ok(number as u32)
 }
 
-/// A text, which shares the file's bytes.
+/// A text, as a run of the file's bytes.
 #[tactic(auto, unfolding(crate::specs::Numbers::bytes_from))]
-pub(crate) fn read_bytes(rest: &mut Cursor<'_>) -> Result<Bytes, FoldFault>
+pub(crate) fn read_run<'a>(rest: &mut Cursor<'a>) -> Result<Cursor<'a>, FoldFault>
     ensures { Gives result rest.new (bytes_from rest.old) }
 {
     let len = read_number(rest)?;
     if len < 0 {
         return Err(FoldFault::Number);
     }
-    let text = rest.take(len as usize).ok_or(FoldFault::Short)?;
-    Ok(text.share()?)
+    rest.take(len as usize).ok_or(FoldFault::Short)
 }
 
-/// A text that may be null, which shares the file's bytes.
-#[tactic(auto, unfolding(crate::specs::Numbers::optional_from))]
-pub(crate) fn read_optional(rest: &mut Cursor<'_>) -> Result<Option<Bytes>, FoldFault>
-    ensures { Gives result rest.new (optional_from rest.old) }
+/// A text, which shares the file's bytes.
+pub(crate) fn read_bytes(rest: &mut Cursor<'_>) -> Result<Bytes, FoldFault>
+    ensures { Gives result rest.new (bytes_from rest.old) }
 {
-    let len = read_number(rest)?;
-    if len == -1 {
-        return Ok(None);
-    }
-    if len < 0 {
-        return Err(FoldFault::Number);
-    }
-    let text = rest.take(len as usize).ok_or(FoldFault::Short)?;
-    Ok(Some(text.share()?))
+    let text = read_run(rest)?;
+    Ok(text.share()?)
 }
 
 /// Appends a number.
@@ -159,15 +149,4 @@ pub(crate) fn write_slice(out: &mut Vec<u8>, text: &[u8]) -> Result<(), AllocErr
 {
     write_varlong(out, text.len() as i64)?;
     out.extend_from_slice(text)
-}
-
-/// Appends a text that may be null.
-pub(crate) fn write_optional(out: &mut Vec<u8>, text: &Option<Bytes>) -> Result<(), AllocError>
-    ensures text { OnOk result (out.new.items ≡ out.old.items ++ optional_text text.now) }
-    ensures fit { OnOk result (IsOptionalText text.now) }
-{
-    match text {
-        None => write_varlong(out, -1),
-        Some(text) => write_slice(out, text.as_slice()),
-    }
 }

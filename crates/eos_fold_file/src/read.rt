@@ -3,7 +3,7 @@
 //! | Field | Form | Meaning |
 //! |---|---|---|
 //! | magic | 7 bytes | `EOSFOLD` |
-//! | version | kind | 1 |
+//! | version | kind | 2 |
 //! | roles | kind | what was wanted of the records: 0 presence, 1 claims, 2 texts |
 //! | topic, partition, base | text, numbers | which segment it is |
 //! | bytes | unsigned number | how many bytes the segment has |
@@ -22,13 +22,14 @@ ghost use Rattle.eos_fold_file.specs.Reading.{magic_from, version_from, wanted_f
 ghost use Rattle.eos_fold_file.specs.steps.Faults.{Gives};
 ghost use Rattle.eos_fold_file.specs.steps.Counts.{IsCountedHeads, GivesHeads};
 
-use crate::claim::{FoldText, are_placed};
+use crate::claim::are_placed;
 use crate::entry::read_many;
 use crate::fault::FoldFault;
 use crate::file::{FoldFile, FoldKept};
 use crate::head::FoldHead;
 use crate::number::{read_bytes, read_i32, read_kind, read_number, read_u64};
 use crate::stop::read_stop;
+use crate::texts::read_texts;
 use bytes::Bytes;
 use eos_base::Listed;
 use eos_keeping::KeptOutput;
@@ -62,7 +63,7 @@ fn read_version(rest: &mut Cursor<'_>) -> Result<i8, FoldFault>
     ensures { Gives result rest.new (version_from rest.old) }
 {
     let version = read_kind(rest)?;
-    if version != 1 {
+    if version != 2 {
         return Err(FoldFault::Version);
     }
     Ok(version)
@@ -156,10 +157,10 @@ fn read_claims(alloc: Global, rest: &mut Cursor<'_>, count: u64) -> Result<FoldK
 }
 
 #[tactic(auto, unfolding(crate::specs::Reading::texts_from))]
-fn read_texts(alloc: Global, rest: &mut Cursor<'_>, count: u64) -> Result<FoldKept, FoldFault>
+fn read_kept_texts(alloc: Global, rest: &mut Cursor<'_>, count: u64) -> Result<FoldKept, FoldFault>
     ensures { Gives result rest.new (texts_from count rest.old) }
 {
-    let texts: Listed<FoldText> = read_many(alloc, rest, count)?;
+    let texts = read_texts(alloc, rest, count)?;
     Ok(FoldKept::Texts(texts))
 }
 
@@ -174,7 +175,7 @@ fn read_kept(
     match wanted {
         Wanted::Presence => Ok(FoldKept::Presence),
         Wanted::Claims => read_claims(alloc, rest, count),
-        Wanted::Texts => read_texts(alloc, rest, count),
+        Wanted::Texts => read_kept_texts(alloc, rest, count),
     }
 }
 

@@ -12,6 +12,7 @@ use crate::file::{FoldFile, FoldKept};
 use crate::head::FoldHead;
 use crate::number::{write_number, write_slice, write_u64};
 use crate::stop::write_stop;
+use crate::texts::write_texts;
 use eos_wanted::Wanted;
 use eos_wire::{crc32c, write_i8, write_u32};
 use std::alloc::{AllocError, Global};
@@ -42,7 +43,7 @@ fn write_front(out: &mut Vec<u8>, fold: &FoldFile) -> Result<(), AllocError>
     ensures fit { OnOk result (HasSegmentWidths fold.now) }
 {
     out.extend_from_slice(b"EOSFOLD".as_slice())?;
-    write_i8(out, 1)?;
+    write_i8(out, 2)?;
     write_i8(out, wanted_number(fold.kept.wanted()))?;
     write_segment(out, fold)
 }
@@ -66,7 +67,7 @@ fn write_kept(out: &mut Vec<u8>, kept: &FoldKept) -> Result<(), AllocError>
             write_many(out, topics.as_slice())?;
             write_many(out, outputs.as_slice())
         }
-        FoldKept::Texts(texts) => write_many(out, texts.as_slice()),
+        FoldKept::Texts(texts) => write_texts(out, texts.as_slice()),
     }
 }
 

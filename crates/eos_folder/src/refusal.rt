@@ -23,7 +23,7 @@ pub(crate) const TWICE: FoldRefusal = FoldRefusal {
 /// Records are to be shown, or read for a manifest.
 pub(crate) const NO_RECORDS: FoldRefusal = FoldRefusal {
     name: "Fold",
-    words: "explain, draw, init and check --all read records, which a fold doesn't have: they need the log",
+    words: "explain and init read records, which a fold doesn't have: they need the log",
 };
 
 /// The fold of this segment in the folder is refused so.

@@ -5,6 +5,7 @@
 //! but which of the two it is.
 #![tactic(auto)]
 
+mod again;
 mod fold;
 mod reader;
 mod source;

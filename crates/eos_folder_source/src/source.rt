@@ -23,7 +23,11 @@ pub struct FolderSource<'a, W: Watch> {
 }
 
 /// The name and the form of the piece of this number, where the shape has it.
-fn piece_of<'a>(shape: &'a Evidence, forms: &[Form], piece: u64) -> Option<(&'a Segment, Form)>
+pub(crate) fn piece_of<'a>(
+    shape: &'a Evidence,
+    forms: &[Form],
+    piece: u64,
+) -> Option<(&'a Segment, Form)>
     ensures { IfSome result (λ found. is_log_at forms.now piece ≡ true → found.1 ≡ Log) }
 {
     if piece >= shape.pieces() || piece >= forms.len() as u64 {

@@ -14,5 +14,7 @@ pub mod OutputsTally
 pub mod PartsLineage
 pub mod PassSearch
 pub mod TableLookups
+pub mod SharesTaken
+pub mod Stretches
 pub mod TakenInputs
 pub mod ToldKeys

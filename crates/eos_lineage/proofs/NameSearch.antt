@@ -3,7 +3,7 @@ use Rattle.std.proofs.Common.{◌≡◌, ◌<◌, ◌+◌, ℕ, zero, suc, List,
 use Rattle.std.specs.Prelude.{slice_get, slice_index_or, nat_lt}
 use Rattle.std.specs.List.{AllPairs}
 use Rattle.std.specs.List.Sorted.{IsBinarySearchResult, IsSearchInRange}
-use Rattle.std.specs.Ordering.{is_eq, is_lt, ordering_reverse}
+use Rattle.std.specs.Ordering.{is_lt, ordering_reverse}
 use Rattle.std.specs.Cmp.{IsTotalOrder}
 use Rattle.std.specs.declared.cmp.Ordering.{Ordering}
 use Rattle.std.specs.declared.cmp.Ordering.TheVariants.{Less, Equal}
@@ -11,7 +11,6 @@ use Rattle.std.proofs.lemmas.Bool.{ltb-true}
 use Rattle.eos_base.specs.declared.partition_name.PartitionName.{PartitionName}
 use Rattle.eos_base.specs.Members.{Has, is_found}
 use Rattle.eos_base.specs.PartitionNames.{name_cmp}
-use Rattle.eos_base.proofs.Exact.{is_tied}
 use Rattle.eos_base.proofs.NamesInOrder.{name_total, name_exact}
 use Rattle.eos_base.proofs.SortedSearch.{found_or_not}
 use Rattle.eos_base.proofs.Membership.{found_by, has_found}
@@ -52,13 +51,12 @@ pub found_named : (refs : List NameRef) (names : List PartitionName) (k : NameRe
 found_named refs names k i e lt tied =
     subst (λ ns. slice_get ns i ≡ Some (plain_name k)) e (get_map plain_name refs i k lt ∙ ap Some (name_exact (plain_name (slice_index_or refs i k)) (plain_name k) (tied k)))
 
--- one that stands at a place and is tied has the name
+-- one that stands at a place and is this one
 pub named_at : (refs : List NameRef) (names : List PartitionName) (k : PartitionName) (n : NameRef) (i : ℕ) → map plain_name refs ≡ names → true ≡ nat_lt i (length refs) → n ≡ slice_index_or refs i n
-    → is_eq (name_cmp (plain_name n) k) ≡ true → slice_get names i ≡ Some k
-named_at refs names k n i e inside is tied =
+    → plain_name n ≡ k → slice_get names i ≡ Some k
+named_at refs names k n i e inside is same =
     let lt : i < length refs = ltb-true i (length refs) (sym inside) in
-    subst (λ ns. slice_get ns i ≡ Some k) e
-    (get_map plain_name refs i n lt ∙ (ap (λ (m : NameRef). Some (plain_name m)) (sym is) ∙ ap Some (name_exact (plain_name n) k (is_tied (name_cmp (plain_name n) k) tied))))
+    subst (λ ns. slice_get ns i ≡ Some k) e (get_map plain_name refs i n lt ∙ (ap (λ (m : NameRef). Some (plain_name m)) (sym is) ∙ ap Some same))
 
 -- where names ascend, they are in order
 pub in_order : (refs : List NameRef) (names : List PartitionName) → map plain_name refs ≡ names → AreAscending names → IsSorted by_name refs

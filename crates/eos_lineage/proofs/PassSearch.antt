@@ -8,7 +8,7 @@ use Rattle.std.specs.List.Sorted.{IsBinarySearchResult, IsPartitionPoint, IsNonD
 use Rattle.std.specs.declared.cmp.Ordering.{Ordering}
 use Rattle.std.specs.declared.cmp.Ordering.TheVariants.{Less, Equal, Greater}
 use Rattle.std.proofs.lemmas.Bool.{cases_lt, lt-ltb, le-ltb}
-use Rattle.std.proofs.lemmas.Cmp.{alike_right, then_total, on_total, int_cmp_total, nat_cmp_total, nat_list_cmp_total, ranked}
+use Rattle.std.proofs.lemmas.Cmp.{alike_right, tied_itself, then_total, on_total, int_cmp_total, nat_cmp_total, nat_list_cmp_total, ranked}
 use Rattle.std.proofs.lemmas.List.Folds.{list_any_at, list_any_none}
 use Rattle.std.proofs.lemmas.List.Sorted.{sorted_far}
 use Rattle.std.proofs.lemmas.List.MinMax.{ranks_by}
@@ -183,8 +183,10 @@ at_next xs k i x up at inside is = go (is_eq (key_cmp (plain_pass x).key (plain_
     go false e = sym (list_any_none test xs (λ m d h. fails e m d h))
 
 -- the one at this place reaches as far
-pub at_reached : (xs : List Pass) (k : Pass) (i : ℕ) (x : Pass) → true ≡ nat_lt i (length xs) → x ≡ slice_index_or xs i x → is_eq (key_cmp (plain_pass x).key (plain_pass k).key) ≡ true → k.last ≤ x.last
+pub at_reached : (xs : List Pass) (k : Pass) (i : ℕ) (x : Pass) → true ≡ nat_lt i (length xs) → x ≡ slice_index_or xs i x → (plain_pass x).key ≡ (plain_pass k).key → k.last ≤ x.last
     → list_any (reaches (plain_pass k)) (map plain_pass xs) ≡ true
-at_reached xs k i x inside is tie far =
+at_reached xs k i x inside is same far =
+    let tied : key_cmp (plain_pass x).key (plain_pass k).key ≡ Equal = subst (λ z. key_cmp (plain_pass x).key z ≡ Equal) same (tied_itself key_total (plain_pass x).key) in
+    let tie : is_eq (key_cmp (plain_pass x).key (plain_pass k).key) ≡ true = rw tied refl in
     let t : reaches (plain_pass k) (plain_pass x) ≡ true = rw (tie, le-ltb x.last k.last far) refl in
     any_map (plain_pass k) xs ∙ list_any_at (λ y. reaches (plain_pass k) (plain_pass y)) xs i x (below_is i (length xs) inside) (subst (λ z. reaches (plain_pass k) (plain_pass z) ≡ true) is t)

@@ -1,7 +1,10 @@
 -- A walk over the items of a log, one after the other.
-use Rattle.std.proofs.Common.{◌≡◌, List, [], ◌∷◌, ◌++◌, sym, subst, ap, ◌∙◌}
-use Rattle.std.specs.List.{flat_map}
+use Rattle.std.proofs.Common.{◌≡◌, ℕ, suc, ◌+◌, List, [], ◌∷◌, ◌++◌, length, drop, Some, sym, subst, ap, ◌∙◌, arith}
+use Rattle.std.specs.List.{flat_map, slice_get}
+use Rattle.std.proofs.Math.Seq.{drop-length}
 use Rattle.std.proofs.lemmas.List.{append-nil, append_assoc}
+use Rattle.std.proofs.lemmas.Grind.{flat_map-append}
+use Rattle.eos_items.proofs.ListPlaces.{drop_get}
 
 -- what was done, of the items before those that are left
 pub record SoFar {X Y : Type 0} (f : X → List Y) (P : List Y → Type 0) (left all : List X) : Type 0 where
@@ -20,5 +23,27 @@ at_next {X} {Y} f P Q left rest all x s e more = record {
   holds = more s.done s.holds;
 }
 
+-- the same of several items
+pub at_block : {X Y : Type 0} (f : X → List Y) (P Q : List Y → Type 0) (left rest all xs : List X) → SoFar f P left all → left ≡ xs ++ rest
+    → ((ys : List Y) → P ys → Q (ys ++ flat_map f xs)) → SoFar f Q rest all
+at_block {X} {Y} f P Q left rest all xs s e more = record {
+  done = s.done ++ flat_map f xs;
+  parts = append_assoc s.done (flat_map f xs) (flat_map f rest)
+      ∙ (ap (λ (zs : List Y). s.done ++ zs) (sym (flat_map-append f xs rest))
+      ∙ (ap (λ (zs : List X). s.done ++ flat_map f zs) (sym e) ∙ s.parts));
+  holds = more s.done s.holds;
+}
+
+-- the same of the item at a place of all
+pub at_place : {X Y : Type 0} (f : X → List Y) (P Q : List Y → Type 0) (all : List X) (i : ℕ) (x : X) → SoFar f P (drop i all) all → slice_get all i ≡ Some x
+    → ((ys : List Y) → P ys → Q (ys ++ f x)) → SoFar f Q (drop (i + 1) all) all
+at_place f P Q all i x s e more =
+    let z : suc i ≡ i + 1 = omega arith in
+    at_next f P Q (drop i all) (drop (i + 1) all) all x s (drop_get all i x e ∙ ap (λ (k : ℕ). x ∷ drop k all) z) more
+
 pub at_last : {X Y : Type 0} (f : X → List Y) (P : List Y → Type 0) (left all : List X) → SoFar f P left all → left ≡ [] → P (flat_map f all)
 at_last {X} {Y} f P left all s e = subst P (sym (append-nil s.done) ∙ (ap (λ (zs : List X). s.done ++ flat_map f zs) (sym e) ∙ s.parts)) s.holds
+
+-- when as many places are passed as there are
+pub at_end : {X Y : Type 0} (f : X → List Y) (P : List Y → Type 0) (all : List X) (i : ℕ) → SoFar f P (drop i all) all → i ≡ length all → P (flat_map f all)
+at_end f P all i s e = at_last f P (drop i all) all s (ap (λ (k : ℕ). drop k all) e ∙ drop-length all)

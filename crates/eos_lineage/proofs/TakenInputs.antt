@@ -1,5 +1,5 @@
 -- The walk over inputs below their committed offsets, and the keys of their claims.
-use Rattle.std.proofs.Common.{◌≡◌, ◌+◌, ◌*◌, ◌<◌, ◌≤◌, ℕ, ℤ, pos, zero, suc, List, [], ◌∷◌, ◌++◌, length, map, take, take_all, get_or, Some, refl, sym, subst, ap, ◌∙◌, inl, inr, true, false, Bool, ◌&&◌, arith, if◌then◌else◌, cond}
+use Rattle.std.proofs.Common.{◌≡◌, ◌+◌, ◌*◌, ◌<◌, ◌≤◌, ℕ, ℤ, pos, zero, suc, List, [], ◌∷◌, ◌++◌, length, map, take, drop, get_or, Some, refl, sym, subst, ap, ◌∙◌, inl, inr, true, false, Bool, ◌&&◌, arith, if◌then◌else◌, cond}
 use Rattle.std.specs.Prelude.{slice_get, slice_index_or, int_lt}
 use Rattle.std.specs.List.{flat_map, filter}
 use Rattle.std.proofs.lemmas.List.Elements.{filter-append}
@@ -16,11 +16,12 @@ use Rattle.eos_commits.specs.Visible.{is_visible}
 use Rattle.eos_lineage.specs.Lineage.{Topic, is_part_of, place_in, inputs_below}
 use Rattle.eos_lineage.specs.declared.books.Books.{Books}
 use Rattle.eos_lineage.specs.steps.Keys.{LeftView, keys_for, spot, below_at, place_among, Told, AreBooks, HasTaken}
+use Rattle.eos_lineage.specs.steps.Shares.{below_of, inputs_between}
 use Rattle.eos_lineage.specs.steps.Walks.{input_at, inputs_at}
 use Rattle.eos_lineage.proofs.NamePlaces.{place_at}
 use Rattle.eos_lineage.proofs.NameSearch.{get_map}
 use Rattle.eos_lineage.proofs.PartsLineage.{partition_of}
-use Rattle.eos_lineage.proofs.PushedMore.{pieces_more}
+use Rattle.eos_lineage.proofs.Stretches.{one_further, all_between}
 
 pub taken_none : (ns : List PartitionName) (v : LeftView) → HasTaken ns v v []
 taken_none ns v = record { told = λ rest t. t; count = omega arith; offsets = λ i h. absurd h }
@@ -42,9 +43,6 @@ taken_one ns u v i place n at small few keys count = record {
 }
 
 -- ---- over the logs
-
-abbrev pub below_of : Application → List Topic → PartLog → List Place
-below_of a topics p = if is_part_of topics p then flat_map (below_at (committed_offset a.commits (part_name p)) (part_name p)) p.items else []
 
 one_item : (a : Application) (n : PartitionName) (x : Item) → below_at (committed_offset a.commits n) n x ≡ filter (is_committed a) (input_at n x)
 one_item a n x = go (is_visible x.fate)
@@ -80,11 +78,11 @@ in_parts a topics (p ∷ ps) =
     (λ j. e j ++ r j) ∙ sym (filter-append (is_committed a) (inputs_at topics p) (flat_map (inputs_at topics) ps))
 
 -- the inputs of one more log
-pub more_taken : (ns : List PartitionName) (a : Application) (topics : List Topic) (u v w : LeftView) (ps : List PartLog) (i : ℕ) (p : PartLog) → i < length ps → p ≡ get_or ps i p
-    → HasTaken ns u v (flat_map (below_of a topics) (take i ps)) → HasTaken ns v w (below_of a topics p) → HasTaken ns u w (flat_map (below_of a topics) (take (i + 1) ps))
-more_taken ns a topics u v w ps i p lt is h k =
-    subst (HasTaken ns u w) (pieces_more (below_of a topics) (flat_map (below_of a topics) (take i ps)) (flat_map (below_of a topics) (take i ps) ++ below_of a topics p) ps i p lt is refl refl)
-    (taken_then ns u v w (flat_map (below_of a topics) (take i ps)) (below_of a topics p) h k)
+more_taken : (ns : List PartitionName) (a : Application) (topics : List Topic) (u v w : LeftView) (ps : List PartLog) (from i : ℕ) (p : PartLog) → from ≤ i → i < length ps → p ≡ get_or ps i p
+    → HasTaken ns u v (flat_map (below_of a topics) (drop from (take i ps))) → HasTaken ns v w (below_of a topics p) → HasTaken ns u w (flat_map (below_of a topics) (drop from (take (i + 1) ps)))
+more_taken ns a topics u v w ps from i p le lt is h k =
+    subst (HasTaken ns u w) (sym (one_further (below_of a topics) ps from i p le lt is))
+    (taken_then ns u v w (flat_map (below_of a topics) (drop from (take i ps))) (below_of a topics p) h k)
 
 -- where a log stands among the names
 pub log_at : (a : Application) (b : Books) → AreBooks a b → (i : ℕ) (p : PartLog) → i < length b.parts.now → p ≡ get_or b.parts.now i p → i ≡ place_among b.names.now (part_name p)
@@ -110,30 +108,27 @@ offset_at a b are i p top lt is at =
     index_mapped f (q ∷ ps) (suc k) d e lt = index_mapped f ps k d e (omega (arith, lt))
 
 -- the inputs of one more log, of a source topic or another one
-pub source_taken : (a : Application) (b : Books) → AreBooks a b → (u v w : LeftView) (i : ℕ) (p : PartLog) (top : ℤ) → i < length b.parts.now → p ≡ get_or b.parts.now i p
+pub source_taken : (a : Application) (b : Books) → AreBooks a b → (u v w : LeftView) (from i : ℕ) (p : PartLog) (top : ℤ) → from ≤ i → i < length b.parts.now → p ≡ get_or b.parts.now i p
     → is_part_of b.sources.now p ≡ true → top ≡ slice_index_or b.offsets.now i top → HasTaken b.names.now v w (flat_map (below_at top (part_name p)) p.items)
-    → HasTaken b.names.now u v (flat_map (below_of a b.sources.now) (take i b.parts.now)) → HasTaken b.names.now u w (flat_map (below_of a b.sources.now) (take (i + 1) b.parts.now))
-source_taken a b are u v w i p top lt is source at here before = more_taken b.names.now a b.sources.now u v w b.parts.now i p lt is before
+    → HasTaken b.names.now u v (inputs_between a b from i) → HasTaken b.names.now u w (inputs_between a b from (i + 1))
+source_taken a b are u v w from i p top le lt is source at here before = more_taken b.names.now a b.sources.now u v w b.parts.now from i p le lt is before
     (subst (HasTaken b.names.now v w) (ap (λ t. flat_map (below_at t (part_name p)) p.items) (offset_at a b are i p top lt is at) ∙ sym (chosen (is_part_of b.sources.now p) source)) here)
   where
     chosen : (t : Bool) → t ≡ true → (if t then flat_map (below_at (committed_offset a.commits (part_name p)) (part_name p)) p.items else []) ≡ flat_map (below_at (committed_offset a.commits (part_name p)) (part_name p)) p.items
     chosen true e = refl
     chosen false e = absurd cc
 
-pub other_passed : (a : Application) (b : Books) (u v : LeftView) (i : ℕ) (p : PartLog) → i < length b.parts.now → p ≡ get_or b.parts.now i p
-    → is_part_of b.sources.now p ≡ false → HasTaken b.names.now u v (flat_map (below_of a b.sources.now) (take i b.parts.now))
-    → HasTaken b.names.now u v (flat_map (below_of a b.sources.now) (take (i + 1) b.parts.now))
-other_passed a b u v i p lt is other before = more_taken b.names.now a b.sources.now u v v b.parts.now i p lt is before
+pub other_passed : (a : Application) (b : Books) (u v : LeftView) (from i : ℕ) (p : PartLog) → from ≤ i → i < length b.parts.now → p ≡ get_or b.parts.now i p
+    → is_part_of b.sources.now p ≡ false → HasTaken b.names.now u v (inputs_between a b from i) → HasTaken b.names.now u v (inputs_between a b from (i + 1))
+other_passed a b u v from i p le lt is other before = more_taken b.names.now a b.sources.now u v v b.parts.now from i p le lt is before
     (subst (HasTaken b.names.now v v) (sym (chosen (is_part_of b.sources.now p) other)) (taken_none b.names.now v))
   where
     chosen : (t : Bool) → t ≡ false → (if t then flat_map (below_at (committed_offset a.commits (part_name p)) (part_name p)) p.items else []) ≡ []
     chosen false e = refl
     chosen true e = absurd cc
 
-pub all_taken : (a : Application) (b : Books) → AreBooks a b → (u v : LeftView) (i : ℕ) → length b.parts.now ≤ i → HasTaken b.names.now u v (flat_map (below_of a b.sources.now) (take i b.parts.now))
-    → HasTaken b.names.now u v (inputs_below a)
-all_taken a b are u v i end taken = subst (HasTaken b.names.now u v)
-    (ap (flat_map (below_of a b.sources.now)) (take_all i b.parts.now end) ∙ (in_parts a b.sources.now b.parts.now ∙ ap (filter (is_committed a)) are.inputs)) taken
+pub all_inputs : (a : Application) (b : Books) → AreBooks a b → inputs_between a b 0 (length b.parts.now) ≡ inputs_below a
+all_inputs a b are = ap (flat_map (below_of a b.sources.now)) (all_between b.parts.now) ∙ (in_parts a b.sources.now b.parts.now ∙ ap (filter (is_committed a)) are.inputs)
 
 pub input_named : (a : Application) (b : Books) → AreBooks a b → (i : Place) → Has (inputs_below a) i → Has b.names.now i.partition
 input_named a b are i h =

@@ -2,3 +2,4 @@
 pub mod Tables
 pub mod Walks
 pub mod Keys
+pub mod Shares

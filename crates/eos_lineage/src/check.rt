@@ -23,7 +23,7 @@ use crate::offsets::offsets_of;
 use crate::passes::PassTable;
 use crate::pipeline::Pipeline;
 use crate::tables::Tables;
-use eos_commits::{CommitTable, least_visible_fault};
+use eos_commits::{CommitTable, least_visible_fault_by};
 use eos_evidence::{App, GroupId, Spec};
 use eos_partition::Part;
 use eos_workers::Workers;
@@ -45,7 +45,7 @@ fn check_application(
     let commits = pipeline.commits.as_slice();
     let parts = logs.parts();
     let offsets = offsets_of(alloc, names, commits)?;
-    let passes = PassTable::of(alloc, commits)?;
+    let passes = PassTable::of(alloc, rt, workers, commits)?;
     let outputs = outputs_of(alloc, &pipeline.outputs, names.as_slice(), parts)?;
     let books = Books {
         names,
@@ -147,7 +147,7 @@ pub fn check_lineage_by(
     ensures { AreInOrder parts.now → IfOk result (IsAnswer spec.now.apps parts.now) }
 {
     let apps = spec.apps().as_slice();
-    if let Some(fault) = least_visible_fault(alloc, apps, parts)? {
+    if let Some(fault) = least_visible_fault_by(alloc, rt, workers, apps, parts)? {
         return Ok(Err(LineageFault::Record(fault)));
     }
     check_outputs(alloc, rt, workers, apps, parts)

@@ -5,13 +5,15 @@ ghost use Rattle.std.specs.Option.{option_to_list};
 ghost use Rattle.eos_claims.specs.Outputs.{Application};
 ghost use Rattle.eos_claims.specs.Plain.{plain_claim, plain_lent};
 ghost use Rattle.eos_fold.specs.Parts.{part_name};
+ghost use Rattle.eos_items.specs.declared.item.Item.{Item};
+ghost use Rattle.eos_part.specs.Looks.{IsLook};
 ghost use Rattle.eos_lineage.specs.steps.Walks.{kept_of, counted_ref, AreTables, HasWalked, plain_walk, begun, plain_placed, claim_at, output_claims, claims_of_part};
 
 use crate::tables::{Known, Marks, Tables, known_of, tests_of};
 use eos_base::PartitionName;
 use eos_claims::{ClaimRef, Found, LentClaim, NumberedClaim, PlaceRef, SourceRef, least_of_claim};
 use eos_commits::{TopicSet, is_visible};
-use eos_partition::{ItemRef, Part};
+use eos_partition::{ItemRef, Look, Part};
 use std::alloc::{AllocError, Global};
 
 /// What the walk has met: the least fault that claims show one by one, and the claims of inputs below their committed
@@ -38,19 +40,21 @@ pub(crate) struct PlacedRef<'a> {
 }
 
 /// The claim of a record, if it is visible and one.
-pub(crate) fn placed_of<'a>(name: &'a PartitionName, item: ItemRef<'a>) -> Option<PlacedRef<'a>>
-    ensures { option_to_list (option_map plain_placed result) ≡ claim_at name.now item.entry }
+pub(crate) fn placed_of<'a>(name: &'a PartitionName, look: &Look<'a>) -> Option<PlacedRef<'a>>
+    ensures { (item : Item) → IsLook item look.now → option_to_list (option_map plain_placed result) ≡ claim_at name.now item }
 {
-    if !is_visible(item.fate()) {
+    if !is_visible(look.fate) {
         return None;
     }
     let at = PlaceRef {
         partition: name,
-        offset: item.offset(),
+        offset: look.offset,
     };
-    let writer = item.writer();
-    let claim = item.into_claim()?;
-    Some(PlacedRef { claim, at, writer })
+    Some(PlacedRef {
+        claim: look.claim?,
+        at,
+        writer: look.writer,
+    })
 }
 
 /// Keeps a claim of an input that is below its committed offset.
@@ -117,7 +121,7 @@ fn take_item<'a>(
 ) -> Result<(), AllocError>
     ensures { (a : Application) → AreTables a tables.now → OnOk result (HasWalked a (plain_walk walk.old) (plain_walk walk.new) (claim_at name.now item.entry)) }
 {
-    match placed_of(name, item) {
+    match placed_of(name, &item.into_look()) {
         None => Ok(()),
         Some(placed) => take_claim(walk, tables, marks, &placed),
     }

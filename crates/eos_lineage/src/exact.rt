@@ -1,9 +1,13 @@
 //! Whether an application's outputs are exact, told by their claims as numbers.
 
-ghost use Rattle.std.specs.Prelude.{◌≡◌, ◌+◌, ◌<◌, ◌++◌, ◌∷◌, [], ℕ, List, flat_map, IfSome};
+ghost use Rattle.std.specs.Prelude.{◌≡◌, ◌+◌, ◌<◌, ◌++◌, ◌∷◌, [], ℕ, List, Some, map, flat_map, length, slice_index_or, IfSome};
+ghost use Rattle.std.specs.List.{sum};
 ghost use Rattle.eos_base.specs.declared.partition_name.PartitionName.{PartitionName};
 ghost use Rattle.eos_claims.specs.Outputs.{Application, ReadsSources};
+ghost use Rattle.eos_items.specs.declared.item.Item.{Item};
 ghost use Rattle.eos_lineage.specs.Lineage.{inputs_below};
+ghost use Rattle.eos_lineage.specs.declared.shares.Share.{Share};
+ghost use Rattle.eos_lineage.specs.steps.Shares.{untaken, inputs_between, IsCounted, AddUp};
 ghost use Rattle.eos_lineage.specs.steps.Keys.{place_among, steps, keys_for, below_at, plain_left, AreBooks, HasTaken};
 ghost use Rattle.eos_lineage.specs.steps.Walks.{output_claims, IsOutputsAnswer};
 
@@ -12,11 +16,14 @@ use crate::books::Books;
 use crate::claims::Output;
 use crate::keys::{Keys, keys_of};
 use crate::offsets::is_before;
+use crate::shares::{Share, shares_of};
 use crate::sorting::sorted;
 use eos_commits::is_visible;
-use eos_partition::{ItemRef, Part};
+use eos_items::Fate;
+use eos_partition::{KeptBatch, KeptBatches, Part};
 use eos_workers::Workers;
 use std::alloc::Global;
+use std::thread;
 use std::thread::Threads;
 
 /// The keys that are left, and how many inputs were taken whose keys stood before them.
@@ -24,6 +31,13 @@ use std::thread::Threads;
 struct Left<'k> {
     keys: &'k [u64],
     inputs: u64,
+}
+
+/// What threads walk over: the shares, with the books beside them.
+#[derive(Clone, Copy)]
+struct Ground<'n, 's, 'o, 'p, 'l, 'k, 'g, 'a> {
+    books: Books<'n, 's, 'o, 'p, 'l, 'a>,
+    shares: &'g [Share<'k>],
 }
 
 /// What follows so many keys, where each of them is the one before it with the next output's number.
@@ -75,47 +89,162 @@ fn take_input<'k>(left: Left<'k>, place: usize, offset: u64) -> Option<Left<'k>>
     Some(Left { keys, inputs })
 }
 
-/// Takes a record, if it is visible and below the offset.
+/// Takes the record of this fate and offset, if it is visible and below the committed one.
 fn take_record<'k>(
     left: Left<'k>,
     place: usize,
     committed: &i64,
-    item: &ItemRef<'_>,
+    fate: Fate,
+    offset: u64,
 ) -> Option<Left<'k>>
-    ensures { (ns : List PartitionName) (n : PartitionName) → place ≡ place_among ns n → IfSome result (λ after. HasTaken ns (plain_left left.entry) (plain_left after) (below_at committed.now n item.now)) }
+    ensures { (ns : List PartitionName) (n : PartitionName) (item : Item) → place ≡ place_among ns n → fate ≡ item.fate → offset ≡ item.offset
+        → IfSome result (λ after. HasTaken ns (plain_left left.entry) (plain_left after) (below_at committed.now n item)) }
 {
-    if is_visible(item.fate()) && is_before(item.offset(), *committed) {
-        take_input(left, place, item.offset())
+    if is_visible(fate) && is_before(offset, *committed) {
+        take_input(left, place, offset)
     } else {
         Some(left)
     }
+}
+
+/// Takes the visible records of a batch that are below the offset.
+fn take_batch<'k>(
+    before: Left<'k>,
+    place: usize,
+    committed: &i64,
+    batch: &KeptBatch<'_>,
+) -> Option<Left<'k>>
+    ensures { (ns : List PartitionName) (n : PartitionName) → place ≡ place_among ns n → IfSome result (λ after. HasTaken ns (plain_left before.entry) (plain_left after) (flat_map (below_at committed.now n) batch.now)) }
+{
+    let mut left = before;
+    for i in 0..batch.len() {
+        let look = batch.look(i);
+        left = take_record(left, place, committed, look.fate, look.offset)?;
+    }
+    Some(left)
+}
+
+/// Takes the visible records of batches that are below the offset.
+fn take_batches<'k>(
+    before: Left<'k>,
+    place: usize,
+    committed: &i64,
+    mut batches: KeptBatches<'_>,
+) -> Option<Left<'k>>
+    ensures { (ns : List PartitionName) (n : PartitionName) → place ≡ place_among ns n → IfSome result (λ after. HasTaken ns (plain_left before.entry) (plain_left after) (flat_map (below_at committed.now n) batches.entry)) }
+{
+    let mut left = before;
+    while let Some(batch) = batches.next() {
+        left = take_batch(left, place, committed, &batch)?;
+    }
+    Some(left)
 }
 
 /// Takes the visible records of a log that are below the offset.
 fn take_log<'k>(before: Left<'k>, place: usize, committed: &i64, part: &Part) -> Option<Left<'k>>
     ensures { (ns : List PartitionName) (n : PartitionName) → place ≡ place_among ns n → IfSome result (λ after. HasTaken ns (plain_left before.entry) (plain_left after) (flat_map (below_at committed.now n) part.now.items)) }
 {
+    let items = part.items();
+    if let Some(batches) = items.batches() {
+        return take_batches(before, place, committed, batches);
+    }
     let mut left = before;
-    let mut records = part.items().cursor();
+    let mut records = items.cursor();
     while let Some(item) = records.next() {
-        left = take_record(left, place, committed, &item)?;
+        left = take_record(left, place, committed, item.fate(), item.offset())?;
     }
     Some(left)
 }
 
-/// Takes all inputs below their committed offsets.
-fn take_logs<'k>(keys: &'k [u64], books: &Books<'_, '_, '_, '_, '_, '_>) -> Option<Left<'k>>
-    ensures { (a : Application) → AreBooks a books.now → IfSome result (λ after. HasTaken books.now.names.now (record { keys = keys.entry.now; inputs = 0 }) (plain_left after) (inputs_below a)) }
+/// Takes the inputs below their committed offsets of a share's partitions.
+fn take_logs<'k>(share: &Share<'k>, books: &Books<'_, '_, '_, '_, '_, '_>) -> Option<Left<'k>>
+    ensures { (a : Application) → AreBooks a books.now → IfSome result (λ after. HasTaken books.now.names.now (untaken share.now) (plain_left after) (inputs_between a books.now share.now.from share.now.until)) }
 {
-    let mut left = Left { keys, inputs: 0 };
-    for i in 0..books.parts.len() {
-        let part = &books.parts[i];
+    let mut left = Left {
+        keys: share.keys,
+        inputs: 0,
+    };
+    for i in share.from..share.until {
+        let part = books.parts.get(i)?;
         if books.sources.has(part.topic().as_slice()) {
             let committed = books.offsets.get(i)?;
             left = take_log(left, i, committed, part)?;
         }
     }
     Some(left)
+}
+
+/// The number of inputs below their committed offsets in a share's partitions, if its keys are those of their claims.
+fn count_share(books: &Books<'_, '_, '_, '_, '_, '_>, share: &Share<'_>) -> Option<u64>
+    ensures { (a : Application) → AreBooks a books.now → IfSome result (IsCounted a books.now share.now) }
+{
+    let left = take_logs(share, books)?;
+    if left.keys.is_empty() {
+        Some(left.inputs)
+    } else {
+        None
+    }
+}
+
+/// The same of the share at this place.
+fn count_at(ground: &Ground<'_, '_, '_, '_, '_, '_, '_, '_>, i: usize) -> Option<u64>
+    requires { i < length ground.now.shares.now }
+    ensures { (a : Application) (d : Share) → AreBooks a ground.now.books → IfSome result (IsCounted a ground.now.books (slice_index_or ground.now.shares.now i d)) }
+{
+    count_share(&ground.books, &ground.shares[i])
+}
+
+/// The sum of both, where the count is there.
+fn added(total: u64, count: &Option<u64>) -> Option<u64>
+    ensures { IfSome result (λ sum. (n : ℕ) × (count.now ≡ Some n) × (sum ≡ total + n)) }
+{
+    total.checked_add((*count)?)
+}
+
+/// The sum of counts, where all of them are there.
+fn sum_of(counts: &[Option<u64>]) -> Option<u64>
+    ensures { IfSome result (λ total. (ns : List ℕ) × (counts.now ≡ map Some ns) × (total ≡ sum ns)) }
+{
+    let mut total = 0u64;
+    for i in 0..counts.len() {
+        total = added(total, &counts[i])?;
+    }
+    Some(total)
+}
+
+/// The number of inputs below their committed offsets in all shares, if the keys of each are those of their claims. A thread is
+/// asked for for each share but one.
+fn count_shares<R: Threads + Sync>(
+    alloc: Global,
+    rt: &R,
+    books: &Books<'_, '_, '_, '_, '_, '_>,
+    shares: &[Share<'_>],
+) -> Option<u64>
+    ensures { (a : Application) → AreBooks a books.now → IfSome result (AddUp a books.now shares.now) }
+{
+    let ground = Ground {
+        books: *books,
+        shares,
+    };
+    match thread::map_indices(rt, alloc, shares.len(), &|i| { count_at(&ground, i) }) {
+        Ok(counts) => sum_of(counts.as_slice()),
+        Err(_) => None,
+    }
+}
+
+/// The number of inputs below their committed offsets, if the keys, which are in order, are those of their claims. They are
+/// counted by so many threads at most, of which the caller's is one.
+fn count_inputs<R: Threads + Sync>(
+    alloc: Global,
+    rt: &R,
+    workers: Workers,
+    keys: &[u64],
+    books: &Books<'_, '_, '_, '_, '_, '_>,
+) -> Option<u64>
+    ensures { (a : Application) → AreBooks a books.now → IfSome result (λ n. HasTaken books.now.names.now (record { keys = keys.now; inputs = 0 }) (record { keys = []; inputs = n }) (inputs_below a)) }
+{
+    let shares = shares_of(alloc, workers, books.parts.len(), keys)?;
+    count_shares(alloc, rt, books, shares.as_slice())
 }
 
 /// The counts of an application whose outputs are exact. None says nothing: a claim may have greater numbers than the keys have
@@ -132,13 +261,10 @@ pub(crate) fn exact_tally<'a, R: Threads + Sync>(
 {
     let Keys { keys, outputs } = keys_of(alloc, rt, workers, books, outputs)?;
     let keys = sorted(rt, workers, keys);
-    let left = take_logs(keys.as_slice(), books)?;
-    if !left.keys.is_empty() {
-        return None;
-    }
+    let inputs = count_inputs(alloc, rt, workers, keys.as_slice(), books)?;
     Some(Tally {
         fault: None,
-        inputs: left.inputs,
+        inputs,
         outputs,
     })
 }

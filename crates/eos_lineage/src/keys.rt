@@ -6,15 +6,18 @@
 ghost use Rattle.std.specs.Prelude.{◌≡◌, ◌≤◌, ◌<◌, ◌+◌, ◌*◌, ◌&&◌, ◌==◌, not, ◌∷◌, [], ℕ, List, flat_map, length, take, drop, IfSome};
 ghost use Rattle.eos_base.specs.declared.partition_name.PartitionName.{PartitionName};
 ghost use Rattle.eos_claims.specs.Outputs.{Application, PlacedClaim};
+ghost use Rattle.eos_items.specs.declared.item.Item.{Item};
+ghost use Rattle.eos_part.specs.Looks.{IsLook};
 ghost use Rattle.eos_lineage.specs.steps.Keys.{key_at, plain_keys, no_keys, joined_keys, AreBooks, HasKeyed, EachKeyed, in_turn};
 ghost use Rattle.eos_lineage.specs.steps.Walks.{one_if, plain_placed, claim_at, output_claims};
 ghost use Rattle.eos_lineage.specs.steps.Tables.{is_reached};
 
 use crate::books::Books;
 use crate::claims::{Output, PlacedRef, placed_of};
+use crate::passes::PassMarks;
 use eos_base::PartitionName;
 use eos_claims::{ClaimRef, SourceRef};
-use eos_partition::ItemRef;
+use eos_partition::{KeptBatch, KeptBatches, Look};
 use eos_workers::Workers;
 use std::alloc::Global;
 use std::thread;
@@ -31,7 +34,7 @@ pub(crate) struct Keys {
 #[derive(Clone, Copy)]
 struct Marks {
     name: usize,
-    pass: usize,
+    pass: PassMarks,
 }
 
 /// What threads walk over: the partitions, with the books beside them.
@@ -67,7 +70,7 @@ fn counted(outputs: u64, claim: &ClaimRef<'_>) -> Option<u64>
 /// Whether the claim's transaction committed past its source.
 fn is_passed(
     books: &Books<'_, '_, '_, '_, '_, '_>,
-    mark: &mut usize,
+    marks: &mut PassMarks,
     placed: &PlacedRef<'_>,
 ) -> bool
     ensures { result ≡ is_reached books.now.passes.now placed.now.writer (plain_placed placed.now).source }
@@ -78,7 +81,7 @@ fn is_passed(
         partition: claim.partition,
         offset: claim.offset,
     };
-    books.passes.is_passed(mark, placed.writer, &source)
+    books.passes.is_passed(marks, placed.writer, &source)
 }
 
 /// Takes a claim, if its numbers have the bits and its transaction committed past its source.
@@ -106,19 +109,52 @@ fn take_claim(
 }
 
 /// Takes the claim of a record, if it is visible and one.
-fn take_item<'a>(
+fn take_look<'a>(
     keys: &mut Keys,
     books: &Books<'_, '_, '_, '_, '_, 'a>,
     marks: &mut Marks,
     name: &'a PartitionName,
-    item: ItemRef<'a>,
+    look: &Look<'a>,
 ) -> Option<()>
-    ensures { (a : Application) → AreBooks a books.now → IfSome result (λ done. HasKeyed a books.now.names.now (plain_keys keys.old) (plain_keys keys.new) (claim_at name.now item.entry)) }
+    ensures { (a : Application) (item : Item) → AreBooks a books.now → IsLook item look.now
+        → IfSome result (λ done. HasKeyed a books.now.names.now (plain_keys keys.old) (plain_keys keys.new) (claim_at name.now item)) }
 {
-    match placed_of(name, item) {
+    match placed_of(name, look) {
         None => Some(()),
         Some(placed) => take_claim(keys, books, marks, &placed),
     }
+}
+
+/// Takes the claims of a batch.
+fn take_batch<'a>(
+    keys: &mut Keys,
+    books: &Books<'_, '_, '_, '_, '_, 'a>,
+    marks: &mut Marks,
+    name: &'a PartitionName,
+    batch: &KeptBatch<'a>,
+) -> Option<()>
+    ensures { (a : Application) → AreBooks a books.now → IfSome result (λ done. HasKeyed a books.now.names.now (plain_keys keys.old) (plain_keys keys.new) (flat_map (claim_at name.now) batch.now)) }
+{
+    for i in 0..batch.len() {
+        take_look(keys, books, marks, name, &batch.look(i))?;
+    }
+    Some(())
+}
+
+/// Takes the claims of batches.
+fn take_batches<'a>(
+    keys: &mut Keys,
+    books: &Books<'_, '_, '_, '_, '_, 'a>,
+    marks: &mut Marks,
+    name: &'a PartitionName,
+    mut batches: KeptBatches<'a>,
+) -> Option<()>
+    ensures { (a : Application) → AreBooks a books.now → IfSome result (λ done. HasKeyed a books.now.names.now (plain_keys keys.old) (plain_keys keys.new) (flat_map (claim_at name.now) batches.entry)) }
+{
+    while let Some(batch) = batches.next() {
+        take_batch(keys, books, marks, name, &batch)?;
+    }
+    Some(())
 }
 
 /// Takes the claims of a partition.
@@ -129,10 +165,17 @@ fn take_part<'a>(
 ) -> Option<()>
     ensures { (a : Application) → AreBooks a books.now → IfSome result (λ done. HasKeyed a books.now.names.now (plain_keys keys.old) (plain_keys keys.new) (output_claims output.now)) }
 {
-    let mut marks = Marks { name: 0, pass: 0 };
-    let mut records = output.part.items().cursor();
+    let mut marks = Marks {
+        name: 0,
+        pass: PassMarks::new(),
+    };
+    let items = output.part.items();
+    if let Some(batches) = items.batches() {
+        return take_batches(keys, books, &mut marks, output.name, batches);
+    }
+    let mut records = items.cursor();
     while let Some(item) = records.next() {
-        take_item(keys, books, &mut marks, output.name, item)?;
+        take_look(keys, books, &mut marks, output.name, &item.into_look())?;
     }
     Some(())
 }
@@ -179,6 +222,10 @@ fn join_two(keys: &mut Keys, next: Keys) -> Option<()>
         outputs,
     } = next;
     keys.outputs = keys.outputs.checked_add(outputs)?;
+    if keys.keys.is_empty() {
+        keys.keys = more;
+        return Some(());
+    }
     keys.keys.append(&mut more).ok()
 }
 

@@ -17,6 +17,7 @@ mod name;
 mod offsets;
 mod passes;
 mod pipeline;
+mod shares;
 mod sorting;
 mod tables;
 

@@ -36,6 +36,13 @@ impl<'a> Model for Names<'a> {
     ghost invariant = { λ n. map plain_name n.refs.items ≡ n.names.now };
 }
 
+/// Whether the name is this one. Numbers are compared first; `==` of short topics is faster than their order.
+fn is_named(name: &NameRef<'_>, topic: &[u8], partition: i32) -> bool
+    ensures { result ≡ true → plain_name name.now ≡ record { topic = topic.now; partition = partition } }
+{
+    name.partition == partition && name.topic == topic
+}
+
 /// A partition's place among the names, and its name.
 #[derive(Clone, Copy)]
 pub(crate) struct NamedPart<'a> {
@@ -109,7 +116,7 @@ impl<'a> Names<'a> {
     {
         match self.refs.get(place) {
             None => false,
-            Some(name) => name.cmp(&NameRef { topic, partition }).is_eq(),
+            Some(name) => is_named(name, topic, partition),
         }
     }
 

@@ -1,16 +1,18 @@
 //! Which transactions committed past which records.
 
-ghost use Rattle.std.specs.Prelude.{◌≡◌, ◌++◌, true, map, flat_map, option_map, IfOk, OnOk, IsPermutation, IsSorted};
+ghost use Rattle.std.specs.Prelude.{◌≡◌, ◌<◌, ◌++◌, true, map, flat_map, option_map, IfOk, OnOk, IsPermutation, IsSorted};
 ghost use Rattle.std.specs.List.{list_any};
 ghost use Rattle.eos_claims.specs.Plain.{plain_source};
 ghost use Rattle.eos_commits.specs.Plain.{plain_commit};
-ghost use Rattle.eos_lineage.specs.steps.Tables.{plain_pass, by_pass, last_below as last_offset_below, pass_of as pass_of_commit, passes_of, reaches, is_reached};
+ghost use Rattle.eos_lineage.specs.steps.Tables.{plain_key, plain_pass, by_pass, last_below as last_offset_below, pass_of as pass_of_commit, passes_of, reaches, is_reached};
 
-use eos_base::in_order;
+use crate::sorting::sorted;
 use eos_claims::SourceRef;
 use eos_commits::CommitRef;
+use eos_workers::Workers;
 use std::alloc::{AllocError, Global};
 use std::marker::Model;
+use std::thread::Threads;
 
 /// A transaction's producer id and epoch, and a partition.
 #[derive(Clone, Copy, PartialEq, Eq, PartialOrd, Ord)]
@@ -26,6 +28,33 @@ struct PassKey<'a> {
 struct Pass<'a> {
     key: PassKey<'a>,
     last: u64,
+}
+
+/// How many producers have a mark of their own.
+const MARKS: usize = 16;
+
+/// So far from a mark on a pass is looked for before it is searched. A producer's transactions mostly come one after the other,
+/// and so do what they passed.
+const NEAR: usize = 4;
+
+/// Where the last look-ups of each producer ended. The answers don't depend on these numbers.
+#[derive(Clone, Copy)]
+pub(crate) struct PassMarks {
+    places: [usize; MARKS],
+}
+
+impl PassMarks {
+    /// Nothing was looked up yet.
+    pub(crate) fn new() -> PassMarks {
+        PassMarks { places: [0; MARKS] }
+    }
+}
+
+/// The number of a producer's mark.
+fn mark_of(producer: i64) -> usize
+    ensures { result < 16 }
+{
+    (producer.unsigned_abs() % 16) as usize
 }
 
 /// What transactions passed, in order, which contracts see as a list.
@@ -54,6 +83,16 @@ fn last_below(offset: i64) -> Option<u64>
     } else {
         None
     }
+}
+
+/// Whether the keys are one. Numbers are compared first; `==` of short topics is faster than their order.
+fn is_same_key(a: &PassKey<'_>, b: &PassKey<'_>) -> bool
+    ensures { result ≡ true → plain_key a.now ≡ plain_key b.now }
+{
+    a.producer == b.producer
+        && a.epoch == b.epoch
+        && a.partition == b.partition
+        && a.topic == b.topic
 }
 
 /// What a commit passes: nothing where it is of no transaction or commits offset 0.
@@ -94,26 +133,37 @@ fn all_passes<'a>(alloc: Global, commits: &[CommitRef<'a>]) -> Result<Vec<Pass<'
 }
 
 impl<'a> PassTable<'a> {
-    /// What these commits pass.
-    pub(crate) fn of(alloc: Global, commits: &[CommitRef<'a>]) -> Result<PassTable<'a>, AllocError>
+    /// What these commits pass, sorted by so many threads at most.
+    pub(crate) fn of(
+        alloc: Global,
+        rt: &(impl Threads + Sync),
+        workers: Workers,
+        commits: &[CommitRef<'a>],
+    ) -> Result<PassTable<'a>, AllocError>
         ensures { IfOk result (λ table. IsPermutation (flat_map passes_of (map plain_commit commits.now)) table) }
     {
         let all = all_passes(alloc, commits)?;
         Ok(PassTable {
-            passes: in_order(all),
+            passes: sorted(rt, workers, all),
         })
     }
 
-    /// Whether one of them has this key, and an offset of at least its.
-    fn reaches(&self, wanted: &Pass<'_>) -> bool
+    /// Whether one of them has this key, and an offset of at least its: a binary search, to whose end the mark goes.
+    fn reaches(&self, mark: &mut usize, wanted: &Pass<'_>) -> bool
         ensures { result ≡ list_any (reaches (plain_pass wanted.now)) self.now }
     {
         match self.passes.binary_search(wanted) {
-            Ok(_) => true,
-            Err(place) => match self.passes.get(place) {
-                None => false,
-                Some(pass) => pass.key.cmp(&wanted.key).is_eq(),
-            },
+            Ok(place) => {
+                *mark = place;
+                true
+            }
+            Err(place) => {
+                *mark = place;
+                match self.passes.get(place) {
+                    None => false,
+                    Some(pass) => pass.key.cmp(&wanted.key).is_eq(),
+                }
+            }
         }
     }
 
@@ -123,53 +173,50 @@ impl<'a> PassTable<'a> {
     {
         match self.passes.get(place) {
             None => false,
-            Some(pass) => pass.key.cmp(&wanted.key).is_eq() && wanted.last <= pass.last,
+            Some(pass) => wanted.last <= pass.last && is_same_key(&pass.key, &wanted.key),
         }
     }
 
-    /// Where one with this key and offset stands, or would stand.
-    fn place_for(&self, wanted: &Pass<'_>) -> usize {
-        match self.passes.binary_search(wanted) {
-            Ok(place) => place,
-            Err(place) => place,
-        }
-    }
-
-    /// Whether one of them has this key, and an offset of at least its: looked for first where the last one stood.
+    /// Whether one of them has this key, and an offset of at least its: looked for first from where the last one stood.
     fn reaches_near(&self, mark: &mut usize, wanted: &Pass<'_>) -> bool
         ensures { result ≡ list_any (reaches (plain_pass wanted.now)) self.now }
     {
-        if self.reaches_at(*mark, wanted) {
-            return true;
+        let first = *mark;
+        for place in first..first.saturating_add(NEAR) {
+            if self.reaches_at(place, wanted) {
+                *mark = place;
+                return true;
+            }
         }
-        *mark = self.place_for(wanted);
-        self.reaches(wanted)
+        self.reaches(mark, wanted)
     }
 
-    /// Whether a transaction of this writer committed past the record. The mark is where the last such look-up ended; it
+    /// Whether a transaction of this writer committed past the record. The marks are where the last such look-ups ended; they
     /// may be any.
     pub(crate) fn is_passed(
         &self,
-        mark: &mut usize,
+        marks: &mut PassMarks,
         writer: Option<(i64, i16)>,
         source: &SourceRef<'_>,
     ) -> bool
         ensures { result ≡ is_reached self.now writer (plain_source source.now) }
     {
-        match writer {
-            None => false,
-            Some((producer, epoch)) => self.reaches_near(
-                mark,
-                &Pass {
-                    key: PassKey {
-                        producer,
-                        epoch,
-                        topic: source.topic,
-                        partition: source.partition,
-                    },
-                    last: source.offset,
-                },
-            ),
-        }
+        let Some((producer, epoch)) = writer else {
+            return false;
+        };
+        let wanted = Pass {
+            key: PassKey {
+                producer,
+                epoch,
+                topic: source.topic,
+                partition: source.partition,
+            },
+            last: source.offset,
+        };
+        let slot = mark_of(producer);
+        let mut mark = marks.places[slot];
+        let is_passed = self.reaches_near(&mut mark, &wanted);
+        marks.places[slot] = mark;
+        is_passed
     }
 }

@@ -10,7 +10,7 @@ ghost use Rattle.eos_lineage.specs.steps.Walks.{AreTables, KnowsPlace, AreTests,
 
 use crate::name::{NamedPart, Names};
 use crate::offsets::is_before;
-use crate::passes::PassTable;
+use crate::passes::{PassMarks, PassTable};
 use eos_claims::{PlaceRef, SourceRef, SourceTests};
 use eos_commits::TopicSet;
 
@@ -44,7 +44,7 @@ pub(crate) struct Known<'a> {
 pub(crate) struct Marks {
     input: usize,
     offset: u64,
-    pass: usize,
+    pass: PassMarks,
     /// Where the claims of the last input stand, or the first of a greater one.
     pub(crate) claim: usize,
 }
@@ -55,7 +55,7 @@ impl Marks {
         Marks {
             input: 0,
             offset: 0,
-            pass: 0,
+            pass: PassMarks::new(),
             claim: 0,
         }
     }

@@ -11,7 +11,7 @@ use Rattle.eos_part.specs.steps.Counts.{count_in}
 
 -- ---- how many there are
 
-at_length : (h : DataHead) (place : ℕ) (rs : List Record) → length (items_at h place rs) ≡ length rs
+pub at_length : (h : DataHead) (place : ℕ) (rs : List Record) → length (items_at h place rs) ≡ length rs
 at_length h place [] = refl
 at_length h place (r ∷ rs) = ap suc (at_length h (suc place) rs)
 
@@ -34,7 +34,7 @@ count_more hs i h at = let z : i + 1 ≡ suc i = omega arith in ap (λ (n : ℕ)
 
 -- ---- the one at a place
 
-at_get : (h : DataHead) (n : ℕ) (rs : List Record) (i : ℕ) (r : Record) → slice_get rs i ≡ Some r → slice_get (items_at h n rs) i ≡ Some (item_at h (n + i) r)
+pub at_get : (h : DataHead) (n : ℕ) (rs : List Record) (i : ℕ) (r : Record) → slice_get rs i ≡ Some r → slice_get (items_at h n rs) i ≡ Some (item_at h (n + i) r)
 at_get h n [] i r e = absurd cc
 at_get h n (q ∷ qs) zero r e =
     let same : q ≡ r = cc in

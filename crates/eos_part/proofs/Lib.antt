@@ -1,3 +1,4 @@
+pub mod BatchesUnder
 pub mod ItemsUnder
 pub mod HeadPlaces
 pub mod ItemsWanted

@@ -1,4 +1,5 @@
 pub mod Items
+pub mod Looks
 pub mod Parts
 pub mod Records
 pub mod Runs

@@ -6,6 +6,7 @@ ghost use Rattle.eos_part.specs.Items.{items_under, Fits};
 ghost use Rattle.eos_part.specs.Records.{records_in, ReadBack, SayClaims};
 ghost use Rattle.eos_part.specs.steps.Counts.{count_in};
 
+use crate::batches::KeptBatches;
 use crate::cursor::KeptCursor;
 use crate::item::KeptItem;
 use crate::records::Records;
@@ -82,6 +83,13 @@ impl KeptItems {
         ensures { result ≡ self.now }
     {
         KeptCursor::new(self.heads.as_slice(), &self.records)
+    }
+
+    /// Over the records batch by batch.
+    pub fn batches(&self) -> KeptBatches<'_>
+        ensures { result ≡ self.now }
+    {
+        KeptBatches::new(self.heads.as_slice(), &self.records)
     }
 
     /// The record at this place, lent. It takes no memory, and looks through the heads of the batches before it.

@@ -5,6 +5,7 @@
 #![tactic(auto)]
 
 mod apart;
+mod batches;
 mod close;
 mod cursor;
 mod headers;
@@ -15,6 +16,7 @@ mod records;
 mod run;
 mod whole;
 
+pub use batches::{KeptBatch, KeptBatches, Look};
 pub use cursor::KeptCursor;
 pub use item::KeptItem;
 pub use items::KeptItems;

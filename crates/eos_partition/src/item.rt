@@ -3,10 +3,12 @@
 ghost use Rattle.std.specs.Prelude.{◌≡◌, option_map};
 ghost use Rattle.eos_claims.specs.Headers.{claim_of};
 ghost use Rattle.eos_claims.specs.Slots.{plain_claim};
+ghost use Rattle.eos_part.specs.Looks.{IsLook};
 ghost use Rattle.eos_partition.specs.Forms.{item_in};
 
 use eos_claims::{ClaimRef, view_claim};
 use eos_items::Fate;
+use eos_part::Look;
 use std::marker::Model;
 
 /// In which form a record is lent.
@@ -105,6 +107,19 @@ impl<'a> ItemRef<'a> {
         match self.form {
             ItemForm::Whole(item) => view_claim(item.into_headers()),
             ItemForm::Kept(item) => item.claim(),
+        }
+    }
+
+    /// The same without its key and value.
+    pub fn into_look(self) -> Look<'a>
+        ensures { IsLook self.entry result }
+    {
+        let (offset, fate, writer) = (self.offset(), self.fate(), self.writer());
+        Look {
+            offset,
+            fate,
+            writer,
+            claim: self.into_claim(),
         }
     }
 }

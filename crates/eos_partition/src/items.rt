@@ -5,7 +5,7 @@ ghost use Rattle.eos_partition.specs.Forms.{items_in, items_left};
 
 use crate::item::ItemRef;
 use eos_items::{Item, ItemCursor};
-use eos_part::{KeptCursor, KeptItems};
+use eos_part::{KeptBatches, KeptCursor, KeptItems};
 use std::alloc::{AllocError, Global};
 use std::marker::Model;
 
@@ -75,6 +75,16 @@ impl<'a> Items<'a> {
             ItemsForm::Kept(items) => CursorForm::Kept(items.cursor()),
         };
         Cursor { form }
+    }
+
+    /// The records batch by batch, of a kept log; a whole one has none to lend.
+    pub fn batches(&self) -> Option<KeptBatches<'a>>
+        ensures { IfSome result (λ batches. batches ≡ self.now) }
+    {
+        match &self.form {
+            ItemsForm::Whole(_) => None,
+            ItemsForm::Kept(items) => Some(items.batches()),
+        }
     }
 
     /// The record at this place, lent. It takes no memory, and looks through what stands before it.

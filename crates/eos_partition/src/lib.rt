@@ -9,6 +9,7 @@ mod item;
 mod items;
 mod part;
 
+pub use eos_part::{KeptBatch, KeptBatches, Look};
 pub use item::ItemRef;
 pub use items::{Cursor, Items};
 pub use part::Part;

@@ -12,7 +12,8 @@ pub(crate) const CHECK_ANSWERS: &str =
 names in `ends` a folder TOPIC-N with the partition's segments, each a file of
 20 digits and `.log`, from offset 0 on. In its place its fold may lie, of the
 same digits and `.fold`, as `eoscheck fold` writes it: the answer is the same,
-but where a fault stands --all needs the logs. Other files are ignored.
+but of a partition with a fault by itself --all needs the logs. Other files are
+ignored.
 
 With several folders each line that is printed about one, also an error, begins
 with `FOLDER: `, and the exit status is the greatest; a folder that cannot be
@@ -242,8 +243,9 @@ what was written in one folder, put FILE there as evidence.json, and check that:
 
 That a fold was made of the log of its name, and that this log is whole, is
 yours to know. `check` refuses a fold that was made for other roles or other
-source topics than those of its manifest. `explain`, `draw`, `init` and `check
---all` read records, which a fold doesn't have: they need the logs.";
+source topics than those of its manifest. `explain` and `init` read records,
+which a fold doesn't have: they need the logs; and to list all faults of a
+partition by itself, so does `check --all`.";
 
 pub(crate) const SIMULATE: &str =
     "Writes a folder of logs as a simulated cluster leaves it, for `check`";

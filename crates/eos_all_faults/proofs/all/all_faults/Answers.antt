@@ -1,9 +1,13 @@
 use Rattle.std.proofs.Common.{◌≡◌, Some, None, sym, subst, rules}
+use Rattle.eos_evidence.specs.Parts.{Parts}
 use Rattle.eos_fold.specs.LeastFaults.{IsFirstFault}
 use Rattle.eos_partitions.specs.Faults.{first_of}
+use Rattle.eos_lineage.proofs.LogsInOrder.{in_order}
 use Rattle.eos_check.proofs.NamedFaults.{first_named}
 use Rattle.eos_all_faults.specs.AllFaults.{AreAllFaults}
+use Rattle.eos_all_faults.specs.LaterFaults.{AreLaterFaults}
 use Rattle.eos_all_faults.proofs.AllPhases.{none_in_partitions, found_in_partitions}
+use Rattle.eos_all_faults.proofs.LaterAlike.{whole_later}
 use Rattle.eos_all_faults.proofs.all.all_faults.Goals as goal
 
 pub returns-in-Some : goal.returns-in-Some
@@ -21,7 +25,8 @@ returns c = λ of faults.
     let e = c.args.evidence.now in
     let logs = c.args.logs.now.parts.items in
     let is = c.spec-spec.ensures.evidence in
+    let list = c.in_ok-list-2.list.items in
     let found : first_of c.args.logs.now.faults.items ≡ None = search rules in
     let none : IsFirstFault logs None = subst (IsFirstFault logs) found (first_named e.partitions logs of c.args.logs.now.faults.items faults) in
-    let listed = rw c.as_slice.ensures.value at c.in_ok-list-2.ensures in
-    listed e of is (sym c.spec-spec.ensures.value) (none_in_partitions e logs of is none)
+    let later = subst (λ (s : Parts). AreLaterFaults s.apps logs list) c.spec-spec.ensures.value (c.in_ok-list-2.ensures (in_order e logs is of)) in
+    (whole_later e logs of (none_in_partitions e logs of is none) list).0 later

@@ -1,13 +1,11 @@
-use Rattle.std.proofs.Common.{◌≡◌, false, Ok, subst, rules}
+use Rattle.std.proofs.Common.{◌≡◌, subst, rules, true, not, ◌&&◌, ◌||◌}
 use Rattle.eos_commits.specs.declared.judge.PartRole.{PartRole}
-use Rattle.eos_commits.specs.steps.Walks.{walk_items}
-use Rattle.eos_commits.proofs.Unasked.{nothing_asked}
+use Rattle.eos_commits.proofs.SettledParts.{passed}
 use Rattle.eos_commits.proofs.judge.judge_part.Goals as goal
 
-pub returns-then-not-role-2 : goal.returns-then-not-role-2
-returns-then-not-role-2 c =
+pub returns-then-is_quiet : goal.returns-then-is_quiet
+returns-then-is_quiet c =
     let role = c.role_of-role.result in
-    let output : role.output ≡ false = search rules in
-    let offsets : role.offsets ≡ false = search rules in
-    subst (λ (r : PartRole). walk_items c.args.roles.now r c.args.homes.now c.args.part.now.items ≡ Ok c.args.homes.now) c.role_of-role.ensures
-    (nothing_asked c.args.roles.now role c.args.homes.now c.args.part.now.items output offsets)
+    let yes : (not role.offsets && (c.args.settled || not role.output)) ≡ true = search rules in
+    passed c.args.roles.now c.args.part.now c.args.homes.now c.args.settled
+    (subst (λ (r : PartRole). (not r.offsets && (c.args.settled || not r.output)) ≡ true) c.role_of-role.ensures yes) c.requires

@@ -1,8 +1,6 @@
-use Rattle.std.proofs.Common.{rules, ◌≡◌, ◌∙◌, ap, sym, subst, length, List, ℕ, ℤ, true, w32, to_z, of_z}
+use Rattle.std.proofs.Common.{rules, ◌≡◌, subst, length, List, ℕ, ℤ, true, w32, to_z, of_z}
 use Rattle.std.specs.Prelude.{nat_lt, slice_index_or}
-use Rattle.std.specs.Ordering.{is_eq}
 use Rattle.eos_base.specs.declared.partition_name.PartitionName.{PartitionName}
-use Rattle.eos_base.specs.PartitionNames.{name_cmp}
 use Rattle.eos_lineage.specs.declared.name.NameRef.{NameRef}
 use Rattle.eos_lineage.specs.steps.Tables.{plain_name}
 use Rattle.eos_lineage.proofs.NameSearch.{named_at}
@@ -14,7 +12,7 @@ name_with topic number = record { topic = topic; partition = number }
 pub returns-in-Some : goal.returns-in-Some
 returns-in-Some c = λ h.
     let number : to_z w32 (of_z w32 c.args.partition) ≡ c.args.partition = search rules in
+    let same = subst (λ n. plain_name c.in-Some.name.now ≡ name_with c.args.topic.now n) number (c.is_named.ensures h) in
     let inside = subst (λ (xs : List NameRef). true ≡ nat_lt c.args.place (length xs)) c.deref.ensures.value c.in-Some.ensures.lookup.0 in
     let is = subst (λ (xs : List NameRef). c.in-Some.name.now ≡ slice_index_or xs c.args.place c.in-Some.name.now) c.deref.ensures.value c.in-Some.ensures.lookup.1 in
-    let tied = subst (λ n. is_eq (name_cmp (plain_name c.in-Some.name.now) (name_with c.args.topic.now n)) ≡ true) number (sym (c.is_eq.ensures ∙ ap is_eq c.cmp.ensures) ∙ h) in
-    rw (← c.self.view_is) (named_at c.self.inside.refs.items c.self.inside.names.now (name_with c.args.topic.now c.args.partition) c.in-Some.name.now c.args.place c.self.invariant inside is tied)
+    rw (← c.self.view_is) (named_at c.self.inside.refs.items c.self.inside.names.now (name_with c.args.topic.now c.args.partition) c.in-Some.name.now c.args.place c.self.invariant inside is same)

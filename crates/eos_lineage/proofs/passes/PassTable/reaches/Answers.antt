@@ -11,7 +11,7 @@ use Rattle.eos_lineage.proofs.passes.PassTable.reaches.Goals as goal
 pub returns-in-Ok : goal.returns-in-Ok
 returns-in-Ok c =
     rw (← c.self.view_is) (subst (λ (xs : List Pass). true ≡ list_any (reaches (plain_pass c.args.wanted.now)) (map plain_pass xs)) c.deref.ensures.value
-    (at_found c.deref.result.now c.args.wanted.now c.in-Ok.field-0 c.in-Ok.ensures.bound c.in-Ok.ensures.ok))
+    (at_found c.deref.result.now c.args.wanted.now c.in-Ok.place c.in-Ok.ensures.bound c.in-Ok.ensures.ok))
 
 pub returns-in-None : goal.returns-in-None
 returns-in-None c =

@@ -1,0 +1,217 @@
+//! The keys and values of Kafka's own logs.
+//!
+//! | Field of a key and of a value | Form | Meaning |
+//! |---|---|---|
+//! | shared | kind | -1 null; else how many first bytes it has in common with the last of its kind that wasn't null, at most 127 |
+//! | rest | text, unless null | the bytes behind those |
+//!
+//! A record is its key, its value, and its claim: kind 0 none; 1 a claim: topic (text), partition, offset, output, of. A text that
+//! shares fewer bytes than it can is refused, so it has one spelling only; one that shares as many as it can is at most 127 bytes
+//! longer than what stands of it.
+
+ghost use Rattle.std.specs.Prelude.{◌≡◌, ◌++◌, ◌≤◌, [], length, nat_eq, Some, IfOk, OnOk};
+ghost use Rattle.std.specs.List.{common_prefix_len};
+ghost use Rattle.eos_fold_file.specs.Faults.{Answers};
+ghost use Rattle.eos_fold_file.specs.Legal.{Each, IsText, IsOptionalText, IsLegalText};
+ghost use Rattle.eos_fold_file.specs.Texts.{shared, last_text, shared_text, key_value_text, key_values_text, joined, rest_from, shared_from, key_value_from, key_values_from};
+ghost use Rattle.eos_fold_file.specs.steps.Faults.{Gives};
+
+use crate::claim::{FoldText, read_optional_claim, write_optional_claim};
+use crate::fault::FoldFault;
+use crate::number::{read_kind, read_run, write_slice};
+use bytes::Bytes;
+use eos_base::Listed;
+use eos_wire::{Cursor, write_i8};
+use std::alloc::{AllocError, Global};
+
+/// The most bytes that are shared.
+const MOST: usize = 127;
+
+/// How many first bytes both have in common.
+fn common(front: &[u8], text: &[u8]) -> usize
+    ensures { result ≡ common_prefix_len nat_eq front.now text.now }
+{
+    let most = front.len().min(text.len());
+    for i in 0..most {
+        if front[i] != text[i] {
+            return i;
+        }
+    }
+    most
+}
+
+/// How many first bytes a text shares with the one before.
+#[tactic(auto, using(crate::proofs::Shared::shared_is, crate::proofs::Shared::shared_few, crate::proofs::Shared::shared_rest))]
+fn shared(before: &[u8], text: &[u8]) -> usize
+    ensures value { result ≡ shared before.now text.now }
+    ensures few { result ≤ 127 }
+    ensures within { result ≤ length text.now }
+{
+    common(&before[..MOST.min(before.len())], text)
+}
+
+// ---- reading
+
+/// Bytes, and those behind them.
+fn copied(alloc: Global, front: &[u8], rest: &[u8]) -> Result<Bytes, AllocError>
+    ensures { IfOk result (λ text. text ≡ front.now ++ rest.now) }
+{
+    let Some(size) = front.len().checked_add(rest.len()) else {
+        return Err(AllocError);
+    };
+    let mut text = Vec::with_capacity(alloc, size)?;
+    text.extend_from_slice(front)?;
+    text.extend_from_slice(rest)?;
+    Ok(Bytes::from_vec(text)?)
+}
+
+/// A text that shares so many bytes with the one before, and no more.
+fn joined(alloc: Global, before: &[u8], count: usize, rest: &[u8]) -> Result<Bytes, FoldFault>
+    ensures { Answers result (joined before.now count rest.now) }
+{
+    if before.len() < count {
+        return Err(FoldFault::Record);
+    }
+    let text = copied(alloc, &before[..count], rest)?;
+    if shared(before, text.as_slice()) != count {
+        return Err(FoldFault::Record);
+    }
+    Ok(text)
+}
+
+#[tactic(auto, unfolding(crate::specs::Texts::rest_from))]
+fn read_rest(
+    alloc: Global,
+    rest: &mut Cursor<'_>,
+    before: &[u8],
+    count: usize,
+) -> Result<Option<Bytes>, FoldFault>
+    ensures { Gives result rest.new (rest_from before.now count rest.old) }
+{
+    let behind = read_run(rest)?;
+    let text = joined(alloc, before, count, behind.rest())?;
+    Ok(Some(text))
+}
+
+#[tactic(auto, unfolding(crate::specs::Texts::shared_from))]
+fn read_shared(
+    alloc: Global,
+    rest: &mut Cursor<'_>,
+    before: &[u8],
+) -> Result<Option<Bytes>, FoldFault>
+    ensures { Gives result rest.new (shared_from before.now rest.old) }
+{
+    let shared = read_kind(rest)?;
+    if shared == -1 {
+        return Ok(None);
+    }
+    if shared < 0 {
+        return Err(FoldFault::Record);
+    }
+    read_rest(alloc, rest, before, shared as usize)
+}
+
+#[tactic(auto, unfolding(crate::specs::Texts::key_value_from))]
+fn read_text(
+    alloc: Global,
+    rest: &mut Cursor<'_>,
+    key_before: &[u8],
+    value_before: &[u8],
+) -> Result<FoldText, FoldFault>
+    ensures { Gives result rest.new (key_value_from key_before.now value_before.now rest.old) }
+{
+    let key = read_shared(alloc, rest, key_before)?;
+    let value = read_shared(alloc, rest, value_before)?;
+    let claim = read_optional_claim(rest)?;
+    Ok(FoldText { key, value, claim })
+}
+
+/// The last text that isn't null.
+fn last(before: Bytes, text: &Option<Bytes>) -> Result<Bytes, AllocError>
+    ensures { IfOk result (λ last. last ≡ last_text before text.now) }
+{
+    match text {
+        None => Ok(before),
+        Some(text) => text.clone(),
+    }
+}
+
+/// So many records. Their list grows as they are read.
+pub(crate) fn read_texts(
+    alloc: Global,
+    rest: &mut Cursor<'_>,
+    count: u64,
+) -> Result<Listed<FoldText>, FoldFault>
+    ensures { Gives result rest.new (key_values_from [] [] count rest.old) }
+{
+    let mut texts = Listed::new(Vec::new(alloc));
+    let mut key = Bytes::new();
+    let mut value = Bytes::new();
+    for _ in 0..count {
+        let text = read_text(alloc, rest, key.as_slice(), value.as_slice())?;
+        key = last(key, &text.key)?;
+        value = last(value, &text.value)?;
+        texts.push(text)?;
+    }
+    Ok(texts)
+}
+
+// ---- writing
+
+fn write_some(out: &mut Vec<u8>, before: &[u8], text: &[u8]) -> Result<(), AllocError>
+    ensures text { OnOk result (out.new.items ≡ out.old.items ++ shared_text before.now (Some text.now)) }
+    ensures fit { OnOk result (IsText text.now) }
+{
+    let count = shared(before, text);
+    write_i8(out, count as i8)?;
+    write_slice(out, &text[count..])
+}
+
+fn write_shared(out: &mut Vec<u8>, before: &[u8], text: &Option<Bytes>) -> Result<(), AllocError>
+    ensures text { OnOk result (out.new.items ≡ out.old.items ++ shared_text before.now text.now) }
+    ensures fit { OnOk result (IsOptionalText text.now) }
+{
+    match text {
+        None => write_i8(out, -1),
+        Some(text) => write_some(out, before, text.as_slice()),
+    }
+}
+
+fn write_text(
+    out: &mut Vec<u8>,
+    key_before: &[u8],
+    value_before: &[u8],
+    text: &FoldText,
+) -> Result<(), AllocError>
+    ensures text { OnOk result (out.new.items ≡ out.old.items ++ key_value_text key_before.now value_before.now text.now) }
+    ensures fit { OnOk result (IsLegalText text.now) }
+{
+    write_shared(out, key_before, &text.key)?;
+    write_shared(out, value_before, &text.value)?;
+    write_optional_claim(out, &text.claim)
+}
+
+/// The last text that isn't null, lent.
+fn last_of<'a>(before: &'a [u8], text: &'a Option<Bytes>) -> &'a [u8]
+    ensures { result.now ≡ last_text before.now text.now }
+{
+    match text {
+        None => before,
+        Some(text) => text.as_slice(),
+    }
+}
+
+/// Appends records, one after the other.
+pub(crate) fn write_texts(out: &mut Vec<u8>, texts: &[FoldText]) -> Result<(), AllocError>
+    ensures text { OnOk result (out.new.items ≡ out.old.items ++ key_values_text [] [] texts.now) }
+    ensures fit { OnOk result (Each IsLegalText texts.now) }
+{
+    let mut key: &[u8] = &[];
+    let mut value: &[u8] = &[];
+    for text in texts {
+        write_text(out, key, value, text)?;
+        key = last_of(key, &text.key);
+        value = last_of(value, &text.value);
+    }
+    Ok(())
+}

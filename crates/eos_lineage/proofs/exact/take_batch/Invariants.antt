@@ -1,0 +1,9 @@
+use Rattle.std.proofs.Common.{◌≡◌, List, drop}
+use Rattle.eos_base.specs.declared.partition_name.PartitionName.{PartitionName}
+use Rattle.eos_lineage.specs.steps.Keys.{place_among, below_at, plain_left, HasTaken}
+use Rattle.eos_lineage.proofs.SoFar.{SoFar}
+use Rattle.eos_lineage.proofs.exact.take_batch.Given as goal
+
+abbrev pub invariant-loop-i : goal.invariant-loop-i
+invariant-loop-i l = (ns : List PartitionName) (n : PartitionName) → l.place ≡ place_among ns n
+    → SoFar (below_at l.committed n) (HasTaken ns (plain_left l.fn.before) (plain_left l.left)) (drop l.i l.batch) l.batch

@@ -1,0 +1,4 @@
+pub mod LogsAgain
+pub mod PassedAgain
+pub mod ListedAgain
+pub mod KnownAgain

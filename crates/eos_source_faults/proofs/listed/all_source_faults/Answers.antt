@@ -1,0 +1,28 @@
+use Rattle.std.proofs.Common.{◌≡◌, List, Option, Some, None, subst, rules}
+use Rattle.eos_evidence.specs.Parts.{Parts}
+use Rattle.eos_touch.specs.declared.fault.PartitionFault.{PartitionFault}
+use Rattle.eos_partitions.specs.Faults.{first_of}
+use Rattle.eos_all_faults.specs.LaterFaults.{AreLaterFaults}
+use Rattle.eos_source.specs.Said.{known_by}
+use Rattle.eos_source_faults.specs.steps.FaultsAgain.{AreListedAgain}
+use Rattle.eos_source_faults.proofs.ListedAgain.{partitions_listed, later_listed}
+use Rattle.eos_source_faults.proofs.listed.all_source_faults.Goals as goal
+
+pub returns-in-Some : goal.returns-in-Some
+returns-in-Some g c =
+    let known = known_by (g.S.Source.said c.args.source.now) (g.S.Source.is_log c.args.source.now) in
+    let shape = c.args.shape.now in
+    let logs = c.args.logs.now in
+    let list = c.in_ok-faults.faults.items in
+    let found : first_of logs.faults.items ≡ Some c.in-Some._fault.now = search rules in
+    let listed = subst (λ (fs : List (Option PartitionFault)). AreListedAgain known shape.partitions fs list) c.as_slice.ensures.value c.in_ok-faults.ensures in
+    partitions_listed known shape logs c.in-Some._fault.now list _ c.spec-spec.ensures.evidence found listed c.in_ok-list.ensures
+
+pub returns : goal.returns
+returns g c =
+    let known = known_by (g.S.Source.said c.args.source.now) (g.S.Source.is_log c.args.source.now) in
+    let shape = c.args.shape.now in
+    let logs = c.args.logs.now in
+    let list = c.in_ok-list-2.list.items in
+    let found : first_of logs.faults.items ≡ None = search rules in
+    later_listed known shape logs list found (λ order. subst (λ (s : Parts). AreLaterFaults s.apps logs.parts.items list) c.spec-spec.ensures.value (c.in_ok-list-2.ensures order))

@@ -1,0 +1,44 @@
+use Rattle.std.proofs.Common.{◌≡◌, List, option_map, subst, arith}
+use Rattle.std.specs.List.{slice_get}
+use Rattle.eos_evidence.specs.declared.partition.Partition.{Partition}
+use Rattle.eos_source.specs.Said.{known_by}
+use Rattle.eos_source_faults.specs.steps.FaultsAgain.{AreListedAgain, HasFaultsIfFound}
+use Rattle.eos_source_faults.proofs.PassedAgain.{first_next, room, looked_up, passed, all_passed}
+use Rattle.eos_source_faults.proofs.listed.partition_faults.Goals as goal
+
+pub faults_if_found-requires-after_bounds : goal.faults_if_found-requires-after_bounds
+faults_if_found-requires-after_bounds g c κs within =
+    let at = c.loop-i.invariant.0 in
+    let fits = room c.args.shape.now c.partitions-partitions.result.now c.loop-i.i c.index-partitions-i.result c.partitions-partitions.ensures.value c.partitions-partitions.ensures.evidence
+    c.loop-i-test.true c.index-partitions-i.is in
+    omega (arith, at, fits)
+
+pub overflow_add-first : goal.overflow_add-first
+overflow_add-first g c =
+    let at = c.loop-i.invariant.0 in
+    let len = c.len.ensures in
+    let fits = room c.args.shape.now c.partitions-partitions.result.now c.loop-i.i c.index-partitions-i.result c.partitions-partitions.ensures.value c.partitions-partitions.ensures.evidence
+    c.loop-i-test.true c.index-partitions-i.is in
+    omega (arith, at, len, fits)
+
+pub loop-i-preserved : goal.loop-i-preserved
+loop-i-preserved g c =
+    let known = known_by (g.S.Source.said c.args.source.now) (g.S.Source.is_log c.args.source.now) in
+    let shapes = c.partitions-partitions.result.now in
+    let i = c.loop-i.i in
+    let p = c.index-partitions-i.result in
+    let at = c.loop-i.invariant.0 in
+    let len = c.len.ensures in
+    let next = first_next shapes i p c.loop-i-test.true c.index-partitions-i.is in
+    let looked : slice_get c.args.found.now i ≡ option_map (λ f. f.now) c.get.result = looked_up (λ f. f.now) c.args.found.now i _ c.get.result c.get.ensures.lookup.1 c.get.ensures.lookup.3 in
+    let has = subst (λ n. HasFaultsIfFound known n p (option_map (λ f. f.now) c.get.result) c.in_ok-more.more.items) at c.in_ok-more.ensures in (
+      omega (arith, at, len, next),
+      passed known shapes c.args.found.now i p c.loop-i-test.true c.index-partitions-i.is _ c.loop-i.list.items c.in_ok-more.more.items _ looked has c.in_ok-append.ensures.items c.loop-i.invariant.1,
+    )
+
+pub returns : goal.returns
+returns g c =
+    let known = known_by (g.S.Source.said c.args.source.now) (g.S.Source.is_log c.args.source.now) in
+    let shapes = c.partitions-partitions.result.now in
+    subst (λ (ps : List Partition). AreListedAgain known ps c.args.found.now c.loop-i.list.items) c.partitions-partitions.ensures.value
+    (all_passed known shapes c.args.found.now c.loop-i.i c.loop-i.list.items (omega (arith, c.loop-i-test.false)) c.loop-i.invariant.1)

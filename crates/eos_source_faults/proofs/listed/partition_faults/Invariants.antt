@@ -1,0 +1,9 @@
+use Rattle.std.proofs.Common.{◌≡◌}
+use Rattle.eos_source.specs.Said.{known_by}
+use Rattle.eos_source_faults.proofs.PassedAgain.{first_of, Passed}
+use Rattle.eos_source_faults.proofs.listed.partition_faults.Given as goal
+
+abbrev pub invariant-loop-i : goal.invariant-loop-i
+invariant-loop-i g l =
+    (l.first ≡ first_of l.partitions l.i)
+    × Passed (known_by (g.S.Source.said l.source) (g.S.Source.is_log l.source)) l.partitions l.found l.i l.list.items

@@ -1,0 +1,5 @@
+pub mod SeenSame
+pub mod KeptTexts
+pub mod SeenLogs
+pub mod KeptRows
+pub mod KeptColumns
