@@ -2,9 +2,10 @@
 """How many threads `check` starts, which only its speed depends on, and how many work at once: never more than there are workers.
 The caller does one share of each step itself, so a step in n shares starts n - 1, and with one worker none is started.
 
-With N workers, over O partitions of output topics, these are: those that draw pieces and read them, N, the matching in N shards, the
-claims in as many shares as runs of O / N partitions, rounded up, make; and where there are 4,096 claims or more, the sort of these, in
-at most N.
+With N workers, over P partitions, O of them of output topics, these are: those that draw pieces and read them, N, the matching in N
+shards, the faults of single records in N shares or P, if these are fewer, the claims in as many shares as runs of O / N partitions,
+rounded up, make; where there are 4,096 claims or more, the sort of these, in at most N; and the source logs beside the claims, in at
+most N, which is one or two where there is one source partition.
 
 Without `--workers` there are four. Who asks `check_lineage` and names no number gets at most 64: the probe does.
 
@@ -70,13 +71,14 @@ def check_runs(program, library):
     """For each run of `check` whether it starts so many threads, and a text."""
     with tempfile.TemporaryDirectory() as made:
         said = large(made)
-        # A folder, its answer, its outputs' partitions, its workers, and in how many shares at most the claims are sorted.
-        cases = [(SMALL, "yes transactions=1 inputs=2 outputs=3\n", 2, workers, 1) for workers in (None, 1, 2, 4, 8, 64)]
-        cases += [(made, said, OUTPUTS, workers, workers) for workers in (1, 2, 3, 8)]
-        for folder, answer, outputs, named, sorting in cases:
+        # A folder, its answer, its partitions, those of outputs, its workers, and in how many shares at most the claims are sorted.
+        cases = [(SMALL, "yes transactions=1 inputs=2 outputs=3\n", 5, 2, workers, 1) for workers in (None, 1, 2, 4, 8, 64)]
+        cases += [(made, said, OUTPUTS + 3, OUTPUTS, workers, workers) for workers in (1, 2, 3, 8)]
+        for folder, answer, partitions, outputs, named, sorting in cases:
             workers = named or 4
-            least = 2 * (workers - 1) + shares(outputs, workers) - 1 + min(sorting - 1, 1)
-            greatest = least + max(sorting - 2, 0)
+            alone = min(workers, partitions) - 1
+            least = 2 * (workers - 1) + alone + shares(outputs, workers) - 1 + min(sorting - 1, 1)
+            greatest = least + max(sorting - 2, 0) + min(workers - 1, 1)
             words = ["--workers", str(named)] if named else []
             done, started, most = counted([program, "check", *words, folder], library)
             right = (done.returncode, done.stdout) == (0, answer) and least <= started <= greatest and most <= workers - 1
@@ -92,8 +94,9 @@ def lineage_runs(probe, library):
         logs = "; ".join(f"out-{number}: plain (note of in-0:0)" for number in range(outputs))
         row = table_logs.expand("check_lineage g:in:out {in-0: plain (a); " + logs + "}", {})
         done, started, _ = counted([probe], library, input=row + "\n")
-        # The input isn't below the committed offset, which is 0: the first note comes too early.
-        right = done.stdout.startswith("no 5.7 Early source=in-0:0 output=0 at=out-0:0") and started == shares(outputs, 64) - 1
+        # The input isn't below the committed offset, which is 0: the first note comes too early, and no claim is held against a log.
+        alone = min(outputs + 1, 64) - 1
+        right = done.stdout.startswith("no 5.7 Early source=in-0:0 output=0 at=out-0:0") and started == alone + shares(outputs, 64) - 1
         yield right, f"the lineage of {outputs} partitions of outputs: {started} threads; {done.stdout}{done.stderr}"
 
 
