@@ -1,8 +1,8 @@
 -- A report by logs, whole or kept ones, is one on the evidence whose logs they are.
-use Rattle.std.proofs.Common.{◌≡◌, ℕ, Bool, false, List, Option, Some, None, is_some, refl, sym, subst, ◌∙◌}
+use Rattle.std.proofs.Common.{◌≡◌, ℕ, Bool, List, Option, Some, None, is_some, sym, subst, ◌∙◌}
 use Rattle.eos_check.specs.WholeLogs.{AreWholeLogs}
+use Rattle.eos_check.specs.declared.verdict.Fault.{Fault}
 use Rattle.eos_check.specs.declared.verdict.Verdict.{Verdict}
-use Rattle.eos_check.specs.declared.verdict.Verdict.TheVariants.{Yes, No}
 use Rattle.eos_check.specs.Verdicts.{IsVerdict}
 use Rattle.eos_commits.specs.Faults.{AreInOrder}
 use Rattle.eos_evidence.specs.Evidence.{EvidenceParts, IsEvidence}
@@ -25,7 +25,7 @@ use Rattle.eos_source_check.specs.Judged.{AreKeptOf}
 use Rattle.eos_source_check.specs.declared.judged.Judged.{Judged}
 use Rattle.eos_checking.specs.Checking.{AreTold, IsReport, IsReportAsked}
 use Rattle.eos_checking.specs.declared.report.Told.{Told}
-use Rattle.eos_checking.specs.steps.Tellings.{IsReportBy, ReportsOf, first_alone}
+use Rattle.eos_checking.specs.steps.Tellings.{IsReportBy, ReportsOf}
 
 -- by whole logs
 pub whole_report : (e : EvidenceParts) (told : Told) (all : Bool) (about : About) (text : List ℕ) → IsEvidence e → told.spec.now ≡ e.spec
@@ -52,13 +52,9 @@ whole_report e told all about text is spec logs counted verdict faults by =
 
 -- ---- by kept logs
 
-told_alone : (e : EvidenceParts) (v : Verdict) → AreTold e false v (first_alone v)
-told_alone e (Yes counts) = refl
-told_alone e (No first) = refl
-
-by_kept : (e : EvidenceParts) (logs : Logs) (told : Told) (about : About) (text : List ℕ) → AreKeptOf e logs → told.spec.now ≡ e.spec → told.logs.now ≡ logs
-    → AreCounted e.partitions told.counted.now → IsVerdict e told.verdict.now → told.faults.now ≡ first_alone told.verdict.now → IsReportBy told about text → IsReport e false about text
-by_kept e logs told about text k spec same counted verdict faults r =
+by_kept : (e : EvidenceParts) (logs : Logs) (told : Told) (all : Bool) (about : About) (text : List ℕ) → AreKeptOf e logs → told.spec.now ≡ e.spec → told.logs.now ≡ logs
+    → AreCounted e.partitions told.counted.now → IsVerdict e told.verdict.now → AreTold e all told.verdict.now told.faults.now → IsReportBy told about text → IsReport e all about text
+by_kept e logs told all about text k spec same counted verdict faults r =
     let named = told.logs.now.faults.items in
     let is_faults = subst (λ (l : Logs). Rattle.eos_partitions.specs.Faults.AreFaultsIn e.partitions l.faults.items) (sym same) k.faults in
     let parts : told.logs.now.parts.items ≡ wanted_logs e.spec.apps k.whole = (λ i. (same i).parts.items) ∙ k.parts in
@@ -74,7 +70,7 @@ by_kept e logs told about text k spec same counted verdict faults r =
     record {
       verdict = told.verdict.now;
       faults = told.faults.now;
-      told = subst (AreTold e false told.verdict.now) (sym faults) (told_alone e told.verdict.now);
+      told = faults;
       notes = r.notes;
       is = verdict;
       are = whole_notes e k.whole named r.notes k.of is_faults noted;
@@ -83,16 +79,17 @@ by_kept e logs told about text k spec same counted verdict faults r =
       says = r.says;
     }
 
-pub kept_report : (e : EvidenceParts) (spec : Parts) (j : Judged) (about : Option About) (text : Option (List ℕ)) → e.spec ≡ spec → AreKeptOf e j.logs
-    → AreCounted e.partitions j.counted.items → IsVerdict e j.verdict → ReportsOf spec j about text → IsReportAsked e false about text
-kept_report e spec j None text same k counted verdict r = r
-kept_report e spec j (Some about) None same k counted verdict r = absurd r
-kept_report e spec j (Some about) (Some text) same k counted verdict r =
+pub kept_report : (e : EvidenceParts) (spec : Parts) (j : Judged) (all : Bool) (faults : List Fault) (about : Option About) (text : Option (List ℕ)) → e.spec ≡ spec → AreKeptOf e j.logs
+    → AreCounted e.partitions j.counted.items → IsVerdict e j.verdict → AreTold e all j.verdict faults → ReportsOf spec j faults about text → IsReportAsked e all about text
+kept_report e spec j all faults None text same k counted verdict are r = r
+kept_report e spec j all faults (Some about) None same k counted verdict are r = absurd r
+kept_report e spec j all faults (Some about) (Some text) same k counted verdict are r =
     let told = r.0 in
-    by_kept e j.logs told about text k (r.1 ∙ sym same) r.2 (subst (AreCounted e.partitions) (sym r.3) counted) (subst (IsVerdict e) (sym r.4) verdict)
-    (r.5 ∙ (λ i. first_alone (sym r.4 i))) r.6
+    let of_told : AreTold e all told.verdict.now told.faults.now =
+    subst (λ (fs : List Fault). AreTold e all told.verdict.now fs) (sym r.5) (subst (λ (v : Verdict). AreTold e all v faults) (sym r.4) are) in
+    by_kept e j.logs told all about text k (r.1 ∙ sym same) r.2 (subst (AreCounted e.partitions) (sym r.3) counted) (subst (IsVerdict e) (sym r.4) verdict) of_told r.6
 
-pub reports : (spec : Parts) (j : Judged) (asked : Option About) (about : About) (text : List ℕ) (told : Told) → asked ≡ Some about → told.spec.now ≡ spec → told.logs.now ≡ j.logs
-    → told.counted.now ≡ j.counted.items → told.verdict.now ≡ j.verdict → told.faults.now ≡ first_alone j.verdict → IsReportBy told about text → ReportsOf spec j asked (Some text)
-reports spec j asked about text told is of_spec of_logs of_counted of_verdict of_faults by =
-    subst (λ (o : Option About). ReportsOf spec j o (Some text)) (sym is) (told, of_spec, of_logs, of_counted, of_verdict, of_faults, by)
+pub reports : (spec : Parts) (j : Judged) (faults : List Fault) (asked : Option About) (about : About) (text : List ℕ) (told : Told) → asked ≡ Some about → told.spec.now ≡ spec
+    → told.logs.now ≡ j.logs → told.counted.now ≡ j.counted.items → told.verdict.now ≡ j.verdict → told.faults.now ≡ faults → IsReportBy told about text → ReportsOf spec j faults asked (Some text)
+reports spec j faults asked about text told is of_spec of_logs of_counted of_verdict of_faults by =
+    subst (λ (o : Option About). ReportsOf spec j faults o (Some text)) (sym is) (told, of_spec, of_logs, of_counted, of_verdict, of_faults, by)

@@ -1,37 +1,36 @@
 -- What is told of kept logs is true of the evidence whose logs they are kept of.
-use Rattle.std.proofs.Common.{◌≡◌, ◌++◌, ℕ, Bool, true, false, List, [], ◌∷◌, Option, option_map, is_some, refl, sym, subst, string_bytes}
+use Rattle.std.proofs.Common.{◌≡◌, ℕ, Bool, true, false, List, [], Option, option_map, is_some, refl, sym, subst, tt, string_bytes}
+use Rattle.eos_check.specs.declared.verdict.Fault.{Fault}
 use Rattle.eos_check.specs.declared.verdict.Verdict.{Verdict}
 use Rattle.eos_check.specs.declared.verdict.Verdict.TheVariants.{Yes, No}
-use Rattle.eos_check.specs.Verdicts.{IsVerdict}
 use Rattle.eos_commits.specs.Faults.{AreInOrder}
 use Rattle.eos_ending.specs.declared.subject.Subject.{Subject}
-use Rattle.eos_ending.specs.Subjects.{subject_text}
+use Rattle.eos_evidence.specs.declared.partition.Partition.{Partition}
 use Rattle.eos_evidence.specs.Evidence.{EvidenceParts}
 use Rattle.eos_evidence.specs.Parts.{Parts}
 use Rattle.eos_fold.specs.Parts.{PartLog}
 use Rattle.eos_json_report.specs.declared.about.About.{About}
 use Rattle.eos_notes.specs.Lines.{IsNotesTextBy}
 use Rattle.eos_partitions.specs.Faults.{first_of}
-use Rattle.eos_report.specs.VerdictTexts.{status_of}
 use Rattle.eos_wanted.specs.Wanted.{wanted_logs}
 use Rattle.eos_wanted_notes.proofs.KeptNotes.{whole_text, kept_in_order}
 use Rattle.eos_source.specs.Said.{Known}
+use Rattle.eos_source_faults.specs.Again.{AreAgain, AreThere}
 use Rattle.eos_source_check.specs.declared.judged.Judged.{Judged}
 use Rattle.eos_source_check.specs.Judged.{IsJudgedFor, IsJudgedOf}
-use Rattle.eos_checking.specs.Checking.{verdict_answer, IsCheckAnswer}
-use Rattle.eos_checking.specs.Sources.{IsAnswerFor, IsSourceAnswer}
+use Rattle.eos_checking.specs.Checking.{AreTold}
+use Rattle.eos_checking.specs.Sources.{IsAnswerFor, IsSourceAnswer, IsListAnswer}
 use Rattle.eos_checking.specs.declared.source.SourceAnswer.{SourceAnswer}
-use Rattle.eos_checking.specs.steps.Tellings.{TellsOf}
+use Rattle.eos_checking.specs.steps.Tellings.{AreListed, TellsOf, first_alone}
 use Rattle.eos_checking.proofs.Reports.{kept_report}
 
-line_of : (about : List ℕ) (e : EvidenceParts) (json : Bool) (v : Verdict) (text : List ℕ) (status : ℕ) → IsVerdict e v → text ≡ about ++ verdict_answer json v → status ≡ status_of v
-    → IsCheckAnswer about e json false text status
-line_of about e json (Yes counts) text status is lines exit = record { verdict = Yes counts; faults = []; is = is; told = refl; lines = lines; exit = exit }
-line_of about e json (No first) text status is lines exit = record { verdict = No first; faults = first ∷ []; is = is; told = refl; lines = lines; exit = exit }
+told_alone : (e : EvidenceParts) (v : Verdict) → AreTold e false v (first_alone v)
+told_alone e (Yes counts) = refl
+told_alone e (No first) = refl
 
-answer_for : (shape e : EvidenceParts) (subject : Subject) (json quiet : Bool) (about : Option About) (judged : Judged) (answer : SourceAnswer) → e.spec ≡ shape.spec
-    → IsJudgedFor judged e → TellsOf shape.spec judged subject json quiet about answer → IsAnswerFor subject json quiet about answer e
-answer_for shape e subject json quiet about judged answer spec j t =
+answer_for : (shape e : EvidenceParts) (subject : Subject) (json all quiet : Bool) (about : Option About) (judged : Judged) (faults : List Fault) (answer : SourceAnswer) → e.spec ≡ shape.spec
+    → IsJudgedFor judged e → AreTold e all judged.verdict faults → TellsOf shape.spec judged faults subject json all quiet about answer → IsAnswerFor subject json all quiet about answer e
+answer_for shape e subject json all quiet about judged faults answer spec j told t =
     let k = j.logs in
     let faulty = is_some (first_of judged.logs.faults.items) in
     let order : AreInOrder judged.logs.parts.items = subst AreInOrder (sym k.parts) (kept_in_order e k.whole j.is_evidence k.of) in
@@ -41,12 +40,51 @@ answer_for shape e subject json quiet about judged answer spec j t =
     subst (λ (s : Parts). IsNotesTextBy s (wanted_logs e.spec.apps k.whole) faulty quiet (string_bytes answer.notes)) (sym spec) over_kept in
     record {
       is_evidence = j.is_evidence;
-      line = line_of (subject_text subject) e json judged.verdict (string_bytes answer.line) answer.status j.verdict t.line t.status;
+      lines = record { verdict = judged.verdict; faults = faults; is = j.verdict; told = told; lines = t.lines; exit = t.status };
       notes = whole_text e k.whole judged.logs.faults.items quiet (string_bytes answer.notes) k.of k.faults by;
-      report = kept_report e shape.spec judged about (option_map string_bytes answer.report) spec k j.counted j.verdict (t.report order);
+      report = kept_report e shape.spec judged all faults about (option_map string_bytes answer.report) spec k j.counted j.verdict told (t.report order);
     }
 
 pub answer_is : (known : ℕ → Known) (shape : EvidenceParts) (subject : Subject) (json quiet : Bool) (about : Option About) (judged : Judged) (answer : SourceAnswer)
-    → IsJudgedOf known shape judged → TellsOf shape.spec judged subject json quiet about answer → IsSourceAnswer known shape subject json quiet about answer
+    → IsJudgedOf known shape judged → TellsOf shape.spec judged (first_alone judged.verdict) subject json false quiet about answer → IsSourceAnswer known shape subject json quiet about answer
 answer_is known shape subject json quiet about judged answer j t =
-    record { said = j.said; as_known = j.as_known; holds = λ e of. answer_for shape e subject json quiet about judged answer of.spec (j.holds e of) t }
+    record {
+      said = j.said;
+      as_known = j.as_known;
+      holds = λ e of. answer_for shape e subject json false quiet about judged (first_alone judged.verdict) answer of.spec (j.holds e of) (told_alone e judged.verdict) t;
+    }
+
+-- ---- where all faults are told
+
+-- the partitions that were read again for a list, and that the list is that of each evidence that has them
+record IsListed (known : ℕ → Known) (shape : EvidenceParts) (judged : Judged) (faults : List Fault) : Type 0 where
+  again : List (Option Partition)
+  read : AreAgain known 0 shape.partitions again
+  told : (e : EvidenceParts) → e.spec ≡ shape.spec → IsJudgedFor judged e → AreThere again e.partitions → AreTold e true judged.verdict faults
+
+listed : (known : ℕ → Known) (shape : EvidenceParts) (judged : Judged) (v : Verdict) (faults : List Fault) → judged.verdict ≡ v → AreListed known shape judged v faults
+    → IsListed known shape judged faults
+listed known shape judged (Yes counts) faults is none =
+    record { again = []; read = tt; told = λ e spec j there. subst (λ (v : Verdict). AreTold e true v faults) (sym is) none }
+listed known shape judged (No first) faults is list =
+    record {
+      again = list.again;
+      read = list.read;
+      told = λ e spec j there. subst (λ (v : Verdict). AreTold e true v faults) (sym is)
+        (record { logs = j.logs.whole; of = j.logs.of; are = list.are e j.is_evidence spec j.logs there });
+    }
+
+pub list_is : (known : ℕ → Known) (shape : EvidenceParts) (subject : Subject) (json quiet : Bool) (about : Option About) (judged : Judged) (faults : List Fault) (answer : SourceAnswer)
+    → IsJudgedOf known shape judged → AreListed known shape judged judged.verdict faults → TellsOf shape.spec judged faults subject json true quiet about answer
+    → IsListAnswer known shape subject json quiet about answer
+list_is known shape subject json quiet about judged faults answer j are t =
+    let all = listed known shape judged judged.verdict faults refl are in
+    record {
+      again = all.again;
+      read = all.read;
+      are = record {
+        said = j.said;
+        as_known = j.as_known;
+        holds = λ e of there. answer_for shape e subject json true quiet about judged faults answer of.spec (j.holds e of) (all.told e of.spec (j.holds e of) there) t;
+      };
+    }

@@ -1,23 +1,32 @@
 -- What `check` tells of an evidence that is read from a source: there is what each piece said, and it is true of each evidence of
--- this shape whose segments are such.
-use Rattle.std.specs.Prelude.{ℕ, Bool, false, Option, string_bytes, option_map}
+-- this shape whose segments are such. Where all faults are told, some partitions may have been read again: then it is true of each
+-- such evidence that has these as they were read again.
+use Rattle.std.specs.Prelude.{ℕ, Bool, true, false, List, Option, string_bytes, option_map}
 use Rattle.eos_ending.specs.declared.subject.Subject.{Subject}
 use Rattle.eos_ending.specs.Subjects.{subject_text}
+use Rattle.eos_evidence.specs.declared.partition.Partition.{Partition}
 use Rattle.eos_evidence.specs.Evidence.{EvidenceParts, IsEvidence}
 use Rattle.eos_json_report.specs.declared.about.About.{About}
 use Rattle.eos_notes.specs.Lines.{IsNotesText}
 use Rattle.eos_source.specs.Said.{Known}
 use Rattle.eos_source.specs.Shapes.{HoldsAsSaid}
+use Rattle.eos_source_faults.specs.Again.{AreAgain, AreThere}
 use Rattle.eos_checking.specs.Checking.{IsCheckAnswer, IsReportAsked}
 use Rattle.eos_checking.specs.declared.source.SourceAnswer.{SourceAnswer}
 
--- the line is the answer to this evidence, the notes are its notes, and the report is one on it
-pub record IsAnswerFor (subject : Subject) (json quiet : Bool) (about : Option About) (answer : SourceAnswer) (evidence : EvidenceParts) : Type 0 where
+-- the lines are the answer to this evidence, the notes are its notes, and the report is one on it
+pub record IsAnswerFor (subject : Subject) (json all quiet : Bool) (about : Option About) (answer : SourceAnswer) (evidence : EvidenceParts) : Type 0 where
   pub is_evidence : IsEvidence evidence
-  pub line : IsCheckAnswer (subject_text subject) evidence json false (string_bytes answer.line) answer.status
+  pub lines : IsCheckAnswer (subject_text subject) evidence json all (string_bytes answer.lines) answer.status
   pub notes : IsNotesText evidence quiet (string_bytes answer.notes)
-  pub report : IsReportAsked evidence false about (option_map string_bytes answer.report)
+  pub report : IsReportAsked evidence all about (option_map string_bytes answer.report)
 
--- so it is with each evidence of this shape whose segments are such as the pieces said
+-- so it is with each evidence of this shape whose segments are such as the pieces said; the first fault alone is told
 abbrev pub IsSourceAnswer : (ℕ → Known) → EvidenceParts → Subject → Bool → Bool → Option About → SourceAnswer → Type 0
-IsSourceAnswer known shape subject json quiet about answer = HoldsAsSaid known shape (IsAnswerFor subject json quiet about answer)
+IsSourceAnswer known shape subject json quiet about answer = HoldsAsSaid known shape (IsAnswerFor subject json false quiet about answer)
+
+-- and where all are told, with each of these that has the partitions as they were read again
+pub record IsListAnswer (known : ℕ → Known) (shape : EvidenceParts) (subject : Subject) (json quiet : Bool) (about : Option About) (answer : SourceAnswer) : Type 0 where
+  pub again : List (Option Partition)
+  pub read : AreAgain known 0 shape.partitions again
+  pub are : HoldsAsSaid known shape (λ evidence. AreThere again evidence.partitions → IsAnswerFor subject json true quiet about answer evidence)

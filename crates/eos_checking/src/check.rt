@@ -68,6 +68,13 @@ pub(crate) struct Judged<'a> {
     pub faults: &'a [Fault],
 }
 
+/// The faults that are told, which are all or the first alone.
+#[derive(Clone, Copy)]
+pub(crate) struct Faults<'a> {
+    pub told: &'a [Fault],
+    pub all: bool,
+}
+
 /// Writes the verdict over an evidence, by so many workers, or where all faults are asked for and one stands, these; as lines of
 /// text or of JSON, of one of several folders after the words that say which. The workers pass the gate.
 ///
@@ -167,7 +174,11 @@ fn told<T: Timed>(
     ensures notes { IfOk result (λ r. IsNotesText judged.entry.evidence.now asked.now.quiet (string_bytes r.1.notes)) }
     ensures report { IfOk result (λ r. IsReportAsked judged.entry.evidence.now asked.now.all asked.now.report (option_map string_bytes r.1.report)) }
 {
-    let lines = lines_told(alloc, judged, asked)?;
+    let faults = Faults {
+        told: judged.faults,
+        all: asked.all,
+    };
+    let lines = lines_told(alloc, judged.verdict, faults, asked)?;
     let said = said_of(alloc, judged, asked)?;
     Ok((lines, said))
 }
@@ -195,22 +206,23 @@ fn said_of<T: Timed>(
 }
 
 /// The line of the verdict, or those of all faults.
-fn lines_told<T>(
+pub(crate) fn lines_told<T>(
     alloc: Global,
-    judged: Judged<'_>,
+    verdict: &Verdict,
+    faults: Faults<'_>,
     asked: &Asked<'_, T>,
 ) -> Result<String, AllocError>
-    ensures { IfOk result (λ lines. string_bytes lines ≡ answer_text (subject_text asked.now.subject) asked.now.json asked.now.all judged.entry.verdict.now judged.entry.faults.now) }
+    ensures { IfOk result (λ lines. string_bytes lines ≡ answer_text (subject_text asked.now.subject) asked.now.json faults.entry.all verdict.now faults.entry.told.now) }
 {
     let about = about_of(alloc, asked.subject)?;
-    match judged.verdict {
-        Verdict::No(_) if asked.all => list_lines(alloc, about.as_str(), asked.json, judged.faults),
+    match verdict {
+        Verdict::No(_) if faults.all => list_lines(alloc, about.as_str(), asked.json, faults.told),
         verdict => line_about(alloc, about.as_str(), asked.json, verdict),
     }
 }
 
 /// The words that say which folder a line is about.
-pub(crate) fn about_of(alloc: Global, subject: Subject<'_>) -> Result<String, AllocError>
+fn about_of(alloc: Global, subject: Subject<'_>) -> Result<String, AllocError>
     ensures { IfOk result (λ text. string_bytes text ≡ subject_text subject.entry) }
 {
     let mut text = String::new(alloc);
@@ -235,7 +247,7 @@ fn list_lines(
 }
 
 /// The line of a verdict after these words.
-pub(crate) fn line_about(
+fn line_about(
     alloc: Global,
     about: &str,
     json: bool,

@@ -1,14 +1,14 @@
 //! `check` of folders: reads them one after the other, and tells of each its verdict and what else is wanted.
 
-use crate::check::{Asked, check_to};
-use crate::source::{Pieces, SourceAnswer, answer_source};
+use crate::check::Asked;
+use crate::report::Timed;
+use crate::source::{Pieces, SourceAnswer, answer_all, answer_source};
 use eos_ending::{Ending, STANDARD, Subject, end_about, fill_file, make_file};
-use eos_evidence::Evidence;
-use eos_folder::{Cause, FolderFault, Shape, read_folder, read_shape};
+use eos_folder::{FolderFault, Shape, Watch, read_shape};
 use eos_folder_source::FolderSource;
 use eos_json_report::About;
 use eos_progress::{Meter, Progress, end_unread, say_notes};
-use eos_segment::RunFault;
+use eos_source_faults::Unlisted;
 use eos_text::finish;
 use eos_words::{Check, VERSION};
 use std::io;
@@ -89,7 +89,7 @@ impl Done {
     }
 }
 
-/// No more of a folder is held than its verdict wants; where all faults are asked for and one stands, it is read once more, and whole.
+/// No more of a folder is held than its answer wants.
 fn check_folder(
     rt: &HostRuntime,
     threads: &(impl Threads + Wait + Sync),
@@ -103,9 +103,6 @@ fn check_folder(
         Err(fault) => Err(fault),
     };
     match answered {
-        Ok(answer) if words.all && answer.status != 0 => {
-            check_whole(rt, threads, words, folder, progress)
-        }
         Ok(answer) => tell(rt, progress, answer),
         Err(fault) => Done::with_status(end_unread(rt, progress.subject, &fault)),
     }
@@ -125,19 +122,40 @@ fn answer_shape<'x>(
         shape: &shape,
         watch: asked.gate,
     };
-    let pieces = Pieces {
-        source: &source,
-        shape: &shape.evidence,
-    };
-    let answer = answer_source(rt.alloc(), threads, pieces, asked)?;
+    let answer = answer_pieces(rt, threads, &source, &shape, asked)?;
     shape.listed?;
     Ok(answer)
+}
+
+/// Answers by the pieces of a source: the first fault, or all.
+fn answer_pieces<W: Watch, T: Timed>(
+    rt: &HostRuntime,
+    threads: &(impl Threads + Wait + Sync),
+    source: &FolderSource<'_, W>,
+    shape: &Shape,
+    asked: &Asked<'_, T>,
+) -> Result<SourceAnswer, FolderFault> {
+    let alloc = rt.alloc();
+    let pieces = Pieces {
+        source,
+        shape: &shape.evidence,
+    };
+    if !asked.all {
+        return answer_source(alloc, threads, pieces, asked);
+    }
+    match answer_all(alloc, threads, pieces, asked) {
+        Ok(answer) => Ok(answer),
+        Err(Unlisted::Refused(fault)) => Err(fault),
+        Err(Unlisted::Fold(piece)) => Err(source.needs_log(alloc, piece)),
+        Err(Unlisted::Changed(piece)) => Err(source.changed(alloc, piece)),
+        Err(Unlisted::OutOfMemory) => Err(FolderFault::OutOfMemory),
+    }
 }
 
 /// Prints an answer, and then the notes.
 fn tell(rt: &HostRuntime, progress: &Progress<'_>, answer: SourceAnswer) -> Done {
     progress.end();
-    match finish(&mut io::writer(rt), answer.line.as_bytes()) {
+    match finish(&mut io::writer(rt), answer.lines.as_bytes()) {
         Ok(()) => {
             say_notes(rt, progress.subject, answer.notes.as_str());
             Done {
@@ -151,56 +169,6 @@ fn tell(rt: &HostRuntime, progress: &Progress<'_>, answer: SourceAnswer) -> Done
             is_last: true,
             report: None,
         },
-    }
-}
-
-/// The same of the whole evidence in memory.
-fn check_whole(
-    rt: &HostRuntime,
-    threads: &(impl Threads + Wait + Sync),
-    words: &Check<'_>,
-    folder: &str,
-    progress: &Progress<'_>,
-) -> Done {
-    match read_folder(rt, threads, folder, words.workers, progress) {
-        Ok(evidence) => judge(
-            rt,
-            threads,
-            folder,
-            &evidence,
-            &asked_by(words, folder, progress),
-        ),
-        Err(fault) => Done::with_status(end_unread(rt, progress.subject, &fault)),
-    }
-}
-
-fn judge(
-    rt: &HostRuntime,
-    threads: &(impl Threads + Wait + Sync),
-    folder: &str,
-    evidence: &Evidence,
-    asked: &Asked<'_, Progress<'_>>,
-) -> Done {
-    let progress = asked.gate;
-    let answered = check_to(rt.alloc(), threads, evidence, asked, &mut io::writer(rt));
-    progress.end();
-    match answered {
-        Ok(said) => {
-            say_notes(rt, progress.subject, said.notes.as_str());
-            Done {
-                status: end_about(rt, progress.subject, Ending::Answered(said.status)),
-                is_last: false,
-                report: said.report,
-            }
-        }
-        Err(fault) => {
-            let ending = Ending::of_answer(Err(fault), folder, STANDARD, &Cause::Unknown);
-            Done {
-                status: end_about(rt, progress.subject, ending),
-                is_last: matches!(fault, RunFault::Write),
-                report: None,
-            }
-        }
     }
 }
 

@@ -10,4 +10,4 @@ mod source;
 pub use check::{Asked, Said, check_to};
 pub use folders::check_words;
 pub use report::Timed;
-pub use source::{Pieces, SourceAnswer, answer_source};
+pub use source::{Pieces, SourceAnswer, answer_all, answer_source};

@@ -1,18 +1,21 @@
-//! The answer of `check` for an evidence that is read from a source, each piece once and chunk by chunk.
+//! The answer of `check` for an evidence that is read from a source, chunk by chunk, of which no more is held than what it is worked
+//! out of.
 
-ghost use Rattle.std.specs.Prelude.{◌≡◌, IfOk, option_map, string_bytes};
+ghost use Rattle.std.specs.Prelude.{◌≡◌, true, List, IfOk, option_map, string_bytes};
+ghost use Rattle.eos_check.specs.declared.verdict.Fault.{Fault};
 ghost use Rattle.eos_commits.specs.Faults.{AreInOrder};
 ghost use Rattle.eos_source.specs.Said.{known_by};
-ghost use Rattle.eos_checking.specs.Sources.{IsSourceAnswer};
-ghost use Rattle.eos_checking.specs.steps.Tellings.{TellsOf, ReportsOf, first_alone};
+ghost use Rattle.eos_checking.specs.Sources.{IsSourceAnswer, IsListAnswer};
+ghost use Rattle.eos_checking.specs.steps.Tellings.{AreListed, TellsOf, ReportsOf, first_alone};
 
-use crate::check::{Asked, about_of, line_about, status_of};
+use crate::check::{Asked, Faults, lines_told, status_of};
 use crate::report::{Timed, Told, text_of};
 use eos_check::{Fault, Verdict};
 use eos_evidence::{Evidence, Spec};
 use eos_notes::lines_of;
 use eos_source::Source;
 use eos_source_check::{Judged, judge_source};
+use eos_source_faults::{Unlisted, all_source_faults};
 use std::alloc::{AllocError, Global};
 use std::slice;
 use std::thread::Threads;
@@ -28,8 +31,8 @@ pub struct Pieces<'a, S> {
 /// The answer: what is printed, the exit status, and what else is told.
 #[derive(Drop)]
 pub struct SourceAnswer {
-    /// The line of the verdict.
-    pub line: String,
+    /// The line of the verdict, or those of all faults.
+    pub lines: String,
     /// 0 for yes, 1 for no.
     pub status: u8,
     /// The lines of the notes, which are empty where these are left out.
@@ -48,14 +51,15 @@ fn faults_of(verdict: &Verdict) -> &[Fault]
     }
 }
 
-/// The report on what was judged, if one is wanted.
+/// The report on what was judged, with these faults, if one is wanted.
 fn report_on<T: Timed>(
     alloc: Global,
     spec: &Spec,
     judged: &Judged,
+    faults: &[Fault],
     asked: &Asked<'_, T>,
 ) -> Result<Option<String>, AllocError>
-    ensures { AreInOrder judged.now.logs.parts.items → IfOk result (λ r. ReportsOf spec.now judged.now asked.now.report (option_map string_bytes r)) }
+    ensures { AreInOrder judged.now.logs.parts.items → IfOk result (λ r. ReportsOf spec.now judged.now faults.now asked.now.report (option_map string_bytes r)) }
 {
     match asked.report {
         None => Ok(None),
@@ -65,7 +69,7 @@ fn report_on<T: Timed>(
                 logs: &judged.logs,
                 counted: judged.counted.as_slice(),
                 verdict: &judged.verdict,
-                faults: faults_of(&judged.verdict),
+                faults,
             };
             let text = text_of(alloc, told, about, asked.gate)?;
             Ok(Some(text))
@@ -78,16 +82,16 @@ fn told<T: Timed>(
     alloc: Global,
     spec: &Spec,
     judged: &Judged,
+    faults: Faults<'_>,
     asked: &Asked<'_, T>,
 ) -> Result<SourceAnswer, AllocError>
-    ensures { IfOk result (TellsOf spec.now judged.now asked.now.subject asked.now.json asked.now.quiet asked.now.report) }
+    ensures { IfOk result (TellsOf spec.now judged.now faults.entry.told.now asked.now.subject asked.now.json faults.entry.all asked.now.quiet asked.now.report) }
 {
-    let about = about_of(alloc, asked.subject)?;
-    let line = line_about(alloc, about.as_str(), asked.json, &judged.verdict)?;
+    let lines = lines_told(alloc, &judged.verdict, faults, asked)?;
     let notes = lines_of(alloc, spec, &judged.logs, asked.quiet)?;
-    let report = report_on(alloc, spec, judged, asked)?;
+    let report = report_on(alloc, spec, judged, faults.told, asked)?;
     Ok(SourceAnswer {
-        line,
+        lines,
         status: status_of(&judged.verdict),
         notes,
         report,
@@ -110,6 +114,66 @@ pub fn answer_source<S: Source, T: Timed, R: Threads + Sync>(
     ensures { IfOk result (IsSourceAnswer (known_by (S.said pieces.entry.source.now) (S.is_log pieces.entry.source.now)) pieces.entry.shape.now asked.now.subject asked.now.json asked.now.quiet asked.now.report) }
 {
     let judged = judge_source(alloc, rt, pieces.source, pieces.shape, asked.workers)?;
-    let answer = told(alloc, pieces.shape.spec(), &judged, asked)?;
+    let faults = Faults {
+        told: faults_of(&judged.verdict),
+        all: false,
+    };
+    let answer = told(alloc, pieces.shape.spec(), &judged, faults, asked)?;
     Ok(answer)
+}
+
+/// All faults of what was judged.
+fn listed_of<S: Source>(
+    alloc: Global,
+    pieces: &Pieces<'_, S>,
+    judged: &Judged,
+) -> Result<Vec<Fault>, Unlisted<S::Fault>>
+    ensures { IfOk result (λ faults. AreListed (known_by (S.said pieces.now.source.now) (S.is_log pieces.now.source.now)) pieces.now.shape.now judged.now judged.now.verdict faults.items) }
+{
+    match judged.verdict {
+        Verdict::Yes(_) => Ok(Vec::new(alloc)),
+        Verdict::No(_) => all_source_faults(alloc, pieces.source, pieces.shape, &judged.logs),
+    }
+}
+
+/// What is told of what was judged, with all faults.
+fn all_told<S: Source, T: Timed>(
+    alloc: Global,
+    pieces: &Pieces<'_, S>,
+    judged: &Judged,
+    asked: &Asked<'_, T>,
+) -> Result<SourceAnswer, Unlisted<S::Fault>>
+    ensures { IfOk result (λ answer. (faults : List Fault) × AreListed (known_by (S.said pieces.now.source.now) (S.is_log pieces.now.source.now)) pieces.now.shape.now judged.now judged.now.verdict faults
+        × TellsOf pieces.now.shape.now.spec judged.now faults asked.now.subject asked.now.json true asked.now.quiet asked.now.report answer) }
+{
+    let list = listed_of(alloc, pieces, judged)?;
+    let faults = Faults {
+        told: list.as_slice(),
+        all: true,
+    };
+    let answer = told(alloc, pieces.shape.spec(), judged, faults, asked)?;
+    Ok(answer)
+}
+
+/// The same, but of a no all faults are told. Where partitions have faults by themselves, each of these is read again, one after the
+/// other: the answer is true of each such evidence that has these partitions as they were read then.
+///
+/// # Errors
+/// Those of `answer_source`; and of a partition that is read again: a piece that isn't there or is a fold, or that its least fault
+/// is another than the one that was found.
+pub fn answer_all<S: Source, T: Timed, R: Threads + Sync>(
+    alloc: Global,
+    rt: &R,
+    pieces: Pieces<'_, S>,
+    asked: &Asked<'_, T>,
+) -> Result<SourceAnswer, Unlisted<S::Fault>>
+    ensures { IfOk result (IsListAnswer (known_by (S.said pieces.entry.source.now) (S.is_log pieces.entry.source.now)) pieces.entry.shape.now asked.now.subject asked.now.json asked.now.quiet asked.now.report) }
+{
+    match judge_source(alloc, rt, pieces.source, pieces.shape, asked.workers) {
+        Ok(judged) => {
+            let answer = all_told(alloc, &pieces, &judged, asked)?;
+            Ok(answer)
+        }
+        Err(fault) => Err(Unlisted::Refused(fault)),
+    }
 }

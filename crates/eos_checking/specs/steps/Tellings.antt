@@ -1,11 +1,12 @@
 -- What is told of a verdict and of logs, whole or kept ones, whatever evidence they are of.
-use Rattle.std.specs.Prelude.{◌≡◌, ◌++◌, ℕ, List, [], ◌∷◌, Bool, Option, None, Some, is_some, string_bytes, option_map}
+use Rattle.std.specs.Prelude.{◌≡◌, ℕ, List, [], ◌∷◌, Bool, Option, None, Some, is_some, string_bytes, option_map}
 use Rattle.eos_ending.specs.declared.subject.Subject.{Subject}
 use Rattle.eos_ending.specs.Subjects.{subject_text}
 use Rattle.eos_check.specs.declared.verdict.Fault.{Fault}
 use Rattle.eos_check.specs.declared.verdict.Verdict.{Verdict}
 use Rattle.eos_check.specs.declared.verdict.Verdict.TheVariants.{Yes, No}
 use Rattle.eos_commits.specs.Faults.{AreInOrder}
+use Rattle.eos_evidence.specs.Evidence.{EvidenceParts}
 use Rattle.eos_evidence.specs.Parts.{Parts}
 use Rattle.eos_json_report.specs.declared.about.About.{About}
 use Rattle.eos_json_report.specs.Reports.{IsReportText}
@@ -16,7 +17,9 @@ use Rattle.eos_partitions.specs.Faults.{first_of}
 use Rattle.eos_report.specs.VerdictTexts.{status_of}
 use Rattle.eos_source_check.specs.declared.judged.Judged.{Judged}
 use Rattle.eos_tallies.specs.TalliesByLogs.{tallies_by}
-use Rattle.eos_checking.specs.Checking.{verdict_answer}
+use Rattle.eos_source.specs.Said.{Known}
+use Rattle.eos_source_faults.specs.Listed.{IsListOf}
+use Rattle.eos_checking.specs.Checking.{answer_text}
 use Rattle.eos_checking.specs.declared.report.Told.{Told}
 use Rattle.eos_checking.specs.declared.source.SourceAnswer.{SourceAnswer}
 
@@ -31,16 +34,22 @@ abbrev pub first_alone : Verdict → List Fault
 first_alone (Yes counts) = []
 first_alone (No first) = first ∷ []
 
--- the report of what was judged, or none where none is wanted
-abbrev pub ReportsOf : Parts → Judged → Option About → Option (List ℕ) → Type 0
-ReportsOf spec judged None text = text ≡ None
-ReportsOf spec judged (Some about) None = ⊥
-ReportsOf spec judged (Some about) (Some text) =
-    (told : Told) × (told.spec.now ≡ spec) × (told.logs.now ≡ judged.logs) × (told.counted.now ≡ judged.counted.items)
-    × (told.verdict.now ≡ judged.verdict) × (told.faults.now ≡ first_alone judged.verdict) × IsReportBy told about text
+-- of a no the list of all faults over these logs
+abbrev pub AreListed : (ℕ → Known) → EvidenceParts → Judged → Verdict → List Fault → Type 0
+AreListed known shape judged (Yes counts) faults = faults ≡ []
+AreListed known shape judged (No first) faults = IsListOf known shape judged.logs faults
 
-pub record TellsOf (spec : Parts) (judged : Judged) (subject : Subject) (json quiet : Bool) (about : Option About) (answer : SourceAnswer) : Type 0 where
-  pub line : string_bytes answer.line ≡ subject_text subject ++ verdict_answer json judged.verdict
+-- the report of what was judged, with these faults, or none where none is wanted
+abbrev pub ReportsOf : Parts → Judged → List Fault → Option About → Option (List ℕ) → Type 0
+ReportsOf spec judged faults None text = text ≡ None
+ReportsOf spec judged faults (Some about) None = ⊥
+ReportsOf spec judged faults (Some about) (Some text) =
+    (told : Told) × (told.spec.now ≡ spec) × (told.logs.now ≡ judged.logs) × (told.counted.now ≡ judged.counted.items)
+    × (told.verdict.now ≡ judged.verdict) × (told.faults.now ≡ faults) × IsReportBy told about text
+
+-- what is told of what was judged, with these faults, which are all or the first alone
+pub record TellsOf (spec : Parts) (judged : Judged) (faults : List Fault) (subject : Subject) (json all quiet : Bool) (about : Option About) (answer : SourceAnswer) : Type 0 where
+  pub lines : string_bytes answer.lines ≡ answer_text (subject_text subject) json all judged.verdict faults
   pub status : answer.status ≡ status_of judged.verdict
   pub notes : AreInOrder judged.logs.parts.items → IsNotesTextBy spec judged.logs.parts.items (is_some (first_of judged.logs.faults.items)) quiet (string_bytes answer.notes)
-  pub report : AreInOrder judged.logs.parts.items → ReportsOf spec judged about (option_map string_bytes answer.report)
+  pub report : AreInOrder judged.logs.parts.items → ReportsOf spec judged faults about (option_map string_bytes answer.report)

@@ -4,4 +4,4 @@ use Rattle.eos_checking.proofs.source.report_on.Goals as goal
 
 pub returns-in_ok-text-in-Some : goal.returns-in_ok-text-in-Some
 returns-in_ok-text-in-Some g c = λ order.
-    reports c.args.spec.now c.args.judged.now c.args.asked.now.report c.in-Some.about _ _ c.in-Some.is refl refl c.as_slice.ensures.value refl c.faults_of.ensures (c.in_ok-text-in-Some.ensures order)
+    reports c.args.spec.now c.args.judged.now c.args.faults.now c.args.asked.now.report c.in-Some.about _ _ c.in-Some.is refl refl c.as_slice.ensures.value refl refl (c.in_ok-text-in-Some.ensures order)
