@@ -369,7 +369,8 @@ def refused_places(tests):
     os.remove(os.path.join(folder, "in-0", "00000000000000000000.fold"))
     tests.same("a fold that wasn't carried", tests.check(folder), (1, "no 1.10 End in-0 offset=0 end=2\n", ""))
     picture = os.path.join(tests.room, "picture.svg")
-    for words in (["explain", folder], ["explain", "--fault", "1", folder], ["check", "--all", folder]):
+    tests.same("all of it", tests.check(folder, "--all"), (1, "no 1.10 End in-0 offset=0 end=2\nfaults=1\n", ""))
+    for words in ["explain", folder], ["explain", "--fault", "1", folder]:
         status, out, err = tests.run(*words)
         tests.same(f"{words[0]} of folds", (status, out, err.split("\n")[0]), (2, "", f"eoscheck: {first}: Fold"))
     said = tests.run("draw", "--fault", "1", folder, picture)

@@ -132,16 +132,23 @@ def report_of(tests, folder, workers):
     return {name: value for name, value in report.items() if name not in OF_THE_RUN}
 
 
+def faulty_in(lines):
+    """The partitions that have a fault by itself: to list all of these their logs are read again."""
+    return {line.split()[3] for line in lines if line.startswith("no 1.")}
+
+
 def all_of_folds(tests, folder, made, folds, name):
-    """`check --all`: where no fault stands the counts, else a refusal that names the first fold."""
-    status, out, err = tests.check(folder, "--all")
-    if status == 1:
-        first = min(folds, key=lambda path: (name_of(os.path.dirname(path)), path))
-        said = tests.run("check", "--all", made)
-        lines = said[2].splitlines()
-        tests.same(f"{name}, --all of folds", (*said[:2], lines[:1], len(lines)), (2, "", [f"eoscheck: {made}/{first}: Fold"], 2))
-    else:
-        tests.same(f"{name}, --all of folds", tests.check(made, "--all"), (status, out, err))
+    """`check --all` of folds alone, and beside the logs of those partitions that are read again: the list of the logs, or a refusal
+    that names the first fold of the first partition whose log is wanted."""
+    whole = tests.check(folder, "--all")
+    faulty = faulty_in(whole[1].splitlines())
+    wanted = sorted((path for path in folds if os.path.dirname(path) in faulty), key=lambda path: (name_of(os.path.dirname(path)), path))
+    if wanted:
+        status, out, err = tests.run("check", "--all", made)
+        lines = err.splitlines()
+        tests.same(f"{name}, --all of folds", (status, out, lines[:1], len(lines)), (2, "", [f"eoscheck: {made}/{wanted[0]}: Fold"], 2))
+        made = with_folds(folder, folds, tests.new("beside"), lambda path: path not in wanted)
+    tests.same(f"{name}, --all of folds", tests.check(made, "--all"), whole)
 
 
 def randoms(tests):

@@ -71,7 +71,7 @@ listed known shape judged (No first) faults is list =
       again = list.again;
       read = list.read;
       told = λ e spec j there. subst (λ (v : Verdict). AreTold e true v faults) (sym is)
-        (record { logs = j.logs.whole; of = j.logs.of; are = list.are e j.is_evidence spec j.logs there });
+          (record { logs = j.logs.whole; of = j.logs.of; are = list.are e j.is_evidence spec j.logs there });
     }
 
 pub list_is : (known : ℕ → Known) (shape : EvidenceParts) (subject : Subject) (json quiet : Bool) (about : Option About) (judged : Judged) (faults : List Fault) (answer : SourceAnswer)
