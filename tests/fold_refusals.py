@@ -558,6 +558,10 @@ def refused_memory(tests):
     # one that is refused, with its second line or without
     write(os.path.join(place.folder, fold_path("in-0", 0)), b"EOSFOLD\1")
     counted_refusals(tests, lambda: ["check", "--workers", "1", place.folder], lambda name, said: None)
+    # one where the log is read again
+    faulty = "tests/evidence/row-ZombieEpoch-1"
+    again = with_folds(faulty, folds_of(faulty)[0], tests.new("again"))
+    counted_refusals(tests, lambda: ["check", "--all", "--workers", "1", again], lambda name, said: None)
 
 
 # ---- words

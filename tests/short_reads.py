@@ -1,11 +1,12 @@
 #!/usr/bin/env -S python3 -B
-"""Folders whose files are read in small pieces, and files that fail while they are read.
+"""Folders whose files are read in small pieces, and files that fail or change while they are read.
 
     python3 -B tests/short_reads.py PROGRAM LIBRARY
 
 LIBRARY is tests/streams.c. Each folder of evidence is checked with reads of 1, 7, 61 and 4,096 bytes at most: the answer, the
 notes and the status are those of whole reads. Of one folder every file that is longer than so many bytes fails behind them: the
-first of these is named, in the order of partitions and segments, the manifest before all.
+first of these is named, in the order of partitions and segments, the manifest before all. And where all faults are asked for, a
+partition with a fault by itself is read once more: one whose least fault is another by then is refused.
 """
 import glob
 import os
@@ -18,6 +19,10 @@ STEPS = [1, 7, 61, 4096]
 # Each folder is read with each step, the number of threads in turn.
 WORKERS = ["1", "4", "2", "64"]
 FAILING = "tests/evidence/row-yes-2"
+# A folder with a fault in one partition by itself, that partition's log, and logs that it can have become.
+FAULTY = "tests/evidence/row-ZombieEpoch-1"
+LOG = f"{FAULTY}/out-0/00000000000000000000.log"
+OTHERS = ["tests/evidence/row-MarkerKind-1/out-0/00000000000000000000.log", "tests/evidence/row-yes-2/out-0/00000000000000000000.log"]
 
 
 def ran(program, words, **settings):
@@ -69,12 +74,23 @@ class Tests:
                 found = found[0], found[1], found[2][: len(wanted[2])]
             self.same(f"{folder}, files that fail behind {breaks} bytes", found, wanted)
 
+    def changing(self):
+        words = ["--all", "--workers", "1", FAULTY]
+        whole = ran(self.program, words)
+        self.same(f"{FAULTY} has a fault", whole[0], 1)
+        self.same("the same once more", ran(self.program, words, LD_PRELOAD=self.library, FILE_AGAIN=LOG), whole)
+        for other in OTHERS:
+            found = ran(self.program, words, LD_PRELOAD=self.library, FILE_AGAIN=other)
+            told = f"eoscheck: cannot read {LOG}\n  its partition changed while the folder was checked\n"
+            self.same(f"{LOG} becomes {other}", found, (2, b"", told.encode()))
+
 
 def main():
     tests = Tests(*map(os.path.realpath, sys.argv[1:]))
     for folder in folders():
         tests.in_steps(folder)
     tests.failing(FAILING)
+    tests.changing()
     print(f"{tests.passed} passed, {tests.failed} failed")
     sys.exit(1 if tests.failed or not tests.passed else 0)
 
