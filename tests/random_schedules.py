@@ -1,14 +1,15 @@
 #!/usr/bin/env -S python3 -B
 """Random events in any order: a simulated cluster comes to rest, and the checker accuses none of its logs.
 
-    tests/random_schedules.py PROBE [LISTS]
+    tests/random_schedules.py LISTS
 
-LISTS (1000) lists of 40 events, one for each seed from 0 on; then each open transaction is ended, and all messages are
-delivered. Prints what is wrong, and as its last line 'N passed, N failed'.
+LISTS lists of 40 events, one for each seed from 0 on; then each open transaction is ended, and all messages are delivered. Prints
+what is wrong, and as its last line 'N passed, N failed'. tests/unproved.py asks 1000.
 """
 import re
-import subprocess
 import sys
+
+from unproved import Asked, tell
 
 SIZES = "3,2,2,2,5,1"
 # Every other list is of a cluster with a second group, whose application is number 2.
@@ -83,32 +84,30 @@ def line(seed):
     events = [event(words) for _ in range(40)]
     events += ["start:0", "start:1", "start:2", "coordinator"]
     events += [f"deliver:{message}" for message in range(MESSAGES)]
-    return f"cluster {CHAIN if seed % 2 else SIZES} " + " ".join("-" + word for word in events) + f" deliver:{MESSAGES} at-rest ends verdict:1\n"
+    return f"cluster {CHAIN if seed % 2 else SIZES} " + " ".join("-" + word for word in events) + f" deliver:{MESSAGES} at-rest ends verdict:1"
 
 
-def main():
-    program = sys.argv[1]
-    count = int(sys.argv[2]) if len(sys.argv) > 2 else 1000
-    seven = Words(7)
-    if [seven.next() for _ in range(5)] != [2442223337, 414063806, 2743600285, 3524868804, 2371632060]:
-        sys.exit("the words of seed 7 are others")
-    lines = "".join(line(seed) for seed in range(count))
-    answers = subprocess.run([program], input=lines, capture_output=True, text=True, timeout=600).stdout.splitlines()
-    failed = abs(len(answers) - count)
+def judged(answers, count):
+    """How many of the answers to so many lists are right, and a text for each that isn't."""
+    failures = [] if len(answers) == count else [f"{len(answers)} answers to {count} lists"]
     with_outputs = [0] * (1 + (count - 1) // 200)
-    for seed, answer in enumerate(answers):
+    for seed, answer in enumerate(answers[:count]):
         found = re.fullmatch(r"Unknown true \[(.*)\] (yes|no),(\d+)\S+", answer)
         if not found or (found[2] == "no" and found[3] in "123"):
-            failed += 1
-            print(f"FAILED: seed {seed}: {answer}")
+            failures.append(f"seed {seed}: {answer[:2000]}")
         elif any(int(end) for end in found[1].split(",")[-2:]):
             with_outputs[seed // 200] += 1
     if min(with_outputs) <= 4:
-        failed += 1
-        print(f"FAILED: of each 200 lists {with_outputs} wrote an output")
-    print(f"{count + 1 - failed} passed, {failed} failed")
-    sys.exit(1 if failed else 0)
+        failures.append(f"of each 200 lists {with_outputs} wrote an output")
+    return max(count + 1 - len(failures), 0), failures
+
+
+def all_asked(count=1000):
+    seven = Words(7)
+    if [seven.next() for _ in range(5)] != [2442223337, 414063806, 2743600285, 3524868804, 2371632060]:
+        sys.exit("the words of seed 7 are others")
+    return [Asked("random_schedules", [line(seed) for seed in range(count)], lambda answers: judged(answers, count))]
 
 
 if __name__ == "__main__":
-    main()
+    sys.exit(tell(all_asked(int(sys.argv[1]))))

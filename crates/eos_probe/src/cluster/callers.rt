@@ -2,7 +2,7 @@
 
 ghost use Rattle.std.specs.Prelude.{◌≡◌, ◌≤◌, true, vec_len, IfOk};
 
-use crate::cluster::readings::read_logs;
+use crate::cluster::readings::push_ends;
 use crate::row::{Row, place};
 use eos_cluster::Cluster;
 use eos_drive::{Script, run_threads};
@@ -113,7 +113,7 @@ pub(super) fn feeders<R: Threads + Wait + Sync>(rt: &R, row: &mut Row<'_>) {
         tell(row, &finished, 2);
         row.tell(" pair=", *finished.cluster.config() == PAIR);
         row.put(" ends=");
-        read_logs(rt, row, &finished.cluster, "ends");
+        push_ends(row, &finished.cluster);
     }
 }
 

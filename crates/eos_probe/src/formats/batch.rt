@@ -2,7 +2,6 @@
 
 use crate::formats::chunks;
 use crate::row::Row;
-use crate::texts;
 use bytes::Bytes;
 use eos_batch::{
     Batch, BatchFault, Headers, Record, Records, decode_batch, decode_segment, encode_batch,
@@ -21,8 +20,6 @@ pub(super) fn answer(row: &mut Row<'_>, call: &str, bytes: &Bytes) {
         "count_batches" | "encode_segment" => of_segment(row, call, bytes),
         "encode_records" => of_records(row, bytes),
         "chain" => row.say(chain(row.alloc, bytes)),
-        "chain_fault" => chain_fault(row, bytes),
-        "round_trip" => texts::round_trip(row, bytes),
         _ => chunks::answer(row, call, bytes),
     }
 }
@@ -108,14 +105,4 @@ fn records_of(row: &mut Row<'_>, value: &Bytes, count: u32) -> Records {
         row.done(pushed);
     }
     records
-}
-
-/// The number and the name of a segment's fault.
-fn chain_fault(row: &mut Row<'_>, bytes: &Bytes) {
-    if let Some(told) = row.got(chain(row.alloc, bytes)) {
-        let fault = told
-            .err()
-            .map(|fault| (fault.kind.number(), fault.kind.name()));
-        row.say(Ok::<_, AllocError>(fault));
-    }
 }

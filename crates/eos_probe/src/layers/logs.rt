@@ -4,7 +4,6 @@ use super::parts::part_of;
 use super::verdicts::{push_verdict, tell_texts};
 use crate::row::Row;
 use eos_check::{Fault, Verdict};
-use eos_commits::is_visible;
 use eos_fold::{Part, PartitionFault};
 
 /// The verdict of a fault.
@@ -18,7 +17,7 @@ fn verdict_of(row: &mut Row<'_>, fault: &PartitionFault) -> Option<Verdict> {
 }
 
 /// Writes the line of the least fault, or for `verdict` both texts of it.
-fn push_fault(row: &mut Row<'_>, call: &str, part: &Part) {
+pub(crate) fn push_fault(row: &mut Row<'_>, call: &str, part: &Part) {
     match part.fault() {
         None if call == "verdict" => row.is_bad = true,
         None => row.put("none"),
@@ -31,25 +30,6 @@ fn push_fault(row: &mut Row<'_>, call: &str, part: &Part) {
                 }
             }
         }
-    }
-}
-
-/// Writes the number of the least fault's kind, or 0.
-fn push_number(row: &mut Row<'_>, part: &Part) {
-    match part.fault() {
-        None => row.put("0"),
-        Some(fault) => row.say(fault.kind.number()),
-    }
-}
-
-/// Writes the number of records, and of each its fate and whether it is visible.
-fn push_fates(row: &mut Row<'_>, part: &Part) {
-    let items = part.items();
-    row.say(items.len());
-    for i in 0..items.len() {
-        let fate = items.view(i).fate();
-        row.tell(" ", fate);
-        row.tell("=", is_visible(fate));
     }
 }
 
@@ -66,28 +46,17 @@ fn push_records(row: &mut Row<'_>, part: &Part) {
     row.put(" ");
 }
 
-fn tell(row: &mut Row<'_>, call: &str, part: &Part) {
-    match call {
-        "part_kind" => push_number(row, part),
-        "fates" => push_fates(row, part),
-        "closes" => row.say(part.closes()),
-        "markers" => row.say(part.markers()),
-        "part" => {
-            push_records(row, part);
-            push_fault(row, call, part);
-        }
-        _ => push_fault(row, call, part),
+/// Writes all of a log that `part` asks for, or of its fault alone.
+pub(crate) fn tell(row: &mut Row<'_>, call: &str, part: &Part) {
+    if call == "part" {
+        push_records(row, part);
     }
+    push_fault(row, call, part);
 }
 
-/// What is said of the words `ORDER PART`; without the first from the left.
+/// What is said of the word `PART`.
 pub(super) fn answer(row: &mut Row<'_>, call: &str) {
-    let order = if row.rest.contains(' ') {
-        row.word()
-    } else {
-        "left"
-    };
-    if let Some(part) = part_of(row, order) {
+    if let Some(part) = part_of(row) {
         tell(row, call, &part);
     }
 }

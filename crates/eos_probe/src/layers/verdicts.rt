@@ -13,7 +13,7 @@ pub(crate) fn push_verdict(row: &mut Row<'_>, verdict: &Verdict) {
 }
 
 /// Writes the line of a fault.
-pub(super) fn push_fault(row: &mut Row<'_>, fault: Fault) {
+pub(crate) fn push_fault(row: &mut Row<'_>, fault: Fault) {
     push_verdict(row, &Verdict::No(fault));
 }
 
@@ -40,7 +40,7 @@ impl Write for Full {
     }
 }
 
-pub(super) const YES: Verdict = Verdict::Yes(Counts {
+pub(crate) const YES: Verdict = Verdict::Yes(Counts {
     transactions: 1,
     inputs: 2,
     outputs: 3,
@@ -59,7 +59,7 @@ pub(super) fn write(row: &mut Row<'_>) {
 }
 
 /// Writes the line of a verdict and its JSON text.
-pub(super) fn tell_texts(row: &mut Row<'_>, verdict: &Verdict) {
+pub(crate) fn tell_texts(row: &mut Row<'_>, verdict: &Verdict) {
     let line = verdict_line(row.alloc, verdict);
     if let Some(line) = row.got(line) {
         row.say(line);
