@@ -3,8 +3,8 @@
 
     tests/chunks.py NUMBER SEED
 
-Each segment of tests/segments, cuts of it, and NUMBER damaged and made-up ones (see tests/mutants.py) are fed in chunks of 1, 7, 61
-and 4,096 bytes and whole: to `chain_in` (the chain), `count_in` (the batches, their data records and where they stop) and
+Each segment of tests/segments, cuts of it, and NUMBER damaged and made-up ones (see tests/mutants.py) are fed in chunks of 1, 7,
+61 and 4,096 bytes and whole, as to `chain_in` (the chain), `count_in` (the batches, their data records and where they stop) and
 `count_from` (the same from a reader). Prints what differs, and as its last line 'N passed, N failed'. tests/unproved.py asks 60.
 """
 import glob
@@ -18,6 +18,7 @@ from chain_of_listing import answer
 from unproved import Asked, tell
 
 SEGMENTS = os.path.join(os.path.dirname(os.path.abspath(__file__)), "segments")
+CALLS = "chain_in", "count_in", "count_from"
 # Bytes in a chunk; 0 for all at once.
 SIZES = 1, 7, 61, 4096, 0
 KEPT = re.compile(r"ok batches=(\d+) producers=(\d+)")
@@ -70,22 +71,26 @@ def segments(folder, number, seed):
 
 
 def all_asked(number=60, seed=7):
-    rows = []
+    asked = []
     for name, data in segments(SEGMENTS, number, seed):
         lines = mutants.read(data)
         chain, counts = of_chain(answer(lines)), of_listing(lines)
-        for size in SIZES:
-            for call, want in ("chain_in", chain), ("count_in", counts), ("count_from", counts):
-                rows.append((f"{name}, {call} {size}", f"{call} {data.hex() or '-'} {size}", want))
+        sizes = ",".join(map(str, SIZES))
+        asked.append((name, f"in_chunks {data.hex() or '-'} {sizes}", (chain, counts, counts)))
 
     def judge(answers):
-        failed = [f"{name}: {found}, not {want}" for (name, _, want), found in zip(rows, answers) if found.strip() != want]
-        passed = min(len(rows), len(answers)) - len(failed)
-        if len(answers) != len(rows):
-            failed.append(f"{len(answers)} answers to {len(rows)} rows of chunks")
-        return passed, failed
+        failed = [] if len(answers) == len(asked) else [f"{len(answers)} answers to {len(asked)} segments in chunks"]
+        for (name, _, wants), text in zip(asked, answers):
+            found = text.strip().split("; ")
+            if len(found) != len(CALLS) * len(SIZES):
+                failed.append(f"{name}: {text[:200]}")
+            for place, (want, said) in enumerate(zip(wants * len(SIZES), found)):
+                if said != want:
+                    size, call = SIZES[place // len(CALLS)], CALLS[place % len(CALLS)]
+                    failed.append(f"{name}, {call} {size}: {said}, not {want}")
+        return max(len(asked) * len(SIZES) * len(CALLS) - len(failed), 0), failed
 
-    return [Asked("chunks", [row for _, row, _ in rows], judge)]
+    return [Asked("chunks", [row for _, row, _ in asked], judge)]
 
 
 if __name__ == "__main__":

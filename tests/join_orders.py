@@ -4,9 +4,9 @@
     tests/join_orders.py
 
 The logs are the segments that tests/segments/cases names, in a topic whose sequences are checked and in one whose sequences
-aren't, and the logs of one segment in tests/tables/partitions.txt. Each is cut at each border by itself and at all of them at once,
-also before a batch that can't be read; how many batches a segment has is read from its listing, so that none is missed. The call
-`part` says everything of a log: its fault, the ends of its transactions, its markers and its records. The script prints what
+aren't, and the logs of one segment in tests/tables/partitions.txt. Each is cut at each border by itself and at all of them at
+once, also before a batch that can't be read; how many batches a segment has is read from its listing, so that none is missed. The
+call `part` says everything of a log: its fault, the ends of its transactions, its markers and its records. The script prints what
 differs, and as its last line 'N passed, N failed', of the logs. tests/unproved.py asks it.
 """
 import os

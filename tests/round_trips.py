@@ -1,5 +1,5 @@
-"""Each segment's batches, decoded, encoded and decoded again: as many as its listing has, the same batches, and the same bytes where
-their numbers were the shortest. tests/unproved.py asks it.
+"""Each segment's batches, decoded, encoded and decoded again: as many as its listing has, the same batches, and the same bytes
+where their numbers were the shortest. tests/unproved.py asks it.
 """
 import os
 

@@ -1,7 +1,7 @@
 #!/usr/bin/env python3
-"""Tables of cases: what is read of them, and how answers are compared with them. Asked with a program, it sends the rows of tables
-through that, a line in and a line out, and prints each difference with its file and line, and last 'N passed, N failed'; the exit
-status is 1 where one failed. tests/unproved.py asks all tables.
+"""Tables of cases: what is read of them, and how answers are compared with them. It runs tables through a program that answers
+each line with a line, and prints each difference with its file and line, and last 'N passed, N failed'; the exit status is 1
+where one failed. tests/unproved.py asks all tables.
 
     python3 tests/tables.py PROGRAM TABLE ..
 

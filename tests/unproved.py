@@ -124,8 +124,12 @@ def main():
     words = sys.argv[1:]
     if words == ["--layout"]:
         return lay_out()
-    # These import this module.
-    import chunks, join_orders, random_schedules, round_trips, tables
+    # (here, since they import this module)
+    import chunks
+    import join_orders
+    import random_schedules
+    import round_trips
+    import tables
 
     if words:
         return tell(map(tables.asked, words))

@@ -1,6 +1,6 @@
 //! Calls of the simulated cluster, and of many callers of one.
 
-mod callers;
+pub(crate) mod callers;
 pub(crate) mod course;
 pub(crate) mod readings;
 
@@ -13,7 +13,6 @@ pub(crate) fn answer<R: Threads + Wait + Sync>(rt: &R, row: &mut Row<'_>, call: 
     match call {
         "cluster" => course::run(row),
         "callers" => callers::scripts(rt, row),
-        "feeders" => callers::feeders(rt, row),
         _ => workers::answer(rt, row, call),
     }
 }

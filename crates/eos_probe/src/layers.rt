@@ -14,7 +14,7 @@ use std::thread::Threads;
 
 pub(crate) fn answer<R: Threads + Sync>(rt: &R, row: &mut Row<'_>, call: &str) {
     match call {
-        "part" | "verdict" => logs::answer(row, call),
+        "part" => logs::answer(row),
         "summarise" => rungs::answer(row),
         "all_log_faults" | "all_match_faults" => transactions::answer(row, call),
         "write_verdict" => verdicts::write(row),

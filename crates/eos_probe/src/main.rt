@@ -1,5 +1,5 @@
-//! Calls libraries' public functions, a call as a line in, what it answers as a line out: those calls that ask for a program as the
-//! product's is, since each of their allocations is refused in turn, or they run in little memory, or their threads are counted. What
+//! Calls libraries' public functions, a call as a line in, what it answers as a line out: those calls that need a program built as
+//! the product is, since their allocations are refused in turn, or they run in little memory, or their threads are counted. What
 //! else the tables of cases ask for is in `tests/rows`, an unproved program that has these modules too. It promises nothing of its
 //! own. A row that it can't read, or whose call it doesn't know, is answered `bad row`.
 //!

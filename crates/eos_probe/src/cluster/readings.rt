@@ -27,7 +27,7 @@ pub(crate) fn evidence_again(
 }
 
 /// Writes how many records each partition has, or why there is no evidence.
-pub(super) fn push_ends(row: &mut Row<'_>, cluster: &Cluster) {
+pub(crate) fn push_ends(row: &mut Row<'_>, cluster: &Cluster) {
     match evidence_again(row, cluster) {
         Ok(evidence) => {
             row.put("[");

@@ -1,13 +1,13 @@
-//! What the log of one partition says.
+//! All that the log of one partition says.
 
 use super::parts::part_of;
-use super::verdicts::{push_verdict, tell_texts};
+use super::verdicts::push_verdict;
 use crate::row::Row;
 use eos_check::{Fault, Verdict};
 use eos_fold::{Part, PartitionFault};
 
 /// The verdict of a fault.
-fn verdict_of(row: &mut Row<'_>, fault: &PartitionFault) -> Option<Verdict> {
+pub(crate) fn verdict_of(row: &mut Row<'_>, fault: &PartitionFault) -> Option<Verdict> {
     Some(Verdict::No(Fault::Partition(PartitionFault {
         topic: row.got(fault.topic.clone())?,
         partition: fault.partition,
@@ -16,25 +16,20 @@ fn verdict_of(row: &mut Row<'_>, fault: &PartitionFault) -> Option<Verdict> {
     })))
 }
 
-/// Writes the line of the least fault, or for `verdict` both texts of it.
-pub(crate) fn push_fault(row: &mut Row<'_>, call: &str, part: &Part) {
+/// Writes the line of the least fault.
+pub(crate) fn push_fault(row: &mut Row<'_>, part: &Part) {
     match part.fault() {
-        None if call == "verdict" => row.is_bad = true,
         None => row.put("none"),
         Some(fault) => {
             if let Some(verdict) = verdict_of(row, fault) {
-                if call == "verdict" {
-                    tell_texts(row, &verdict);
-                } else {
-                    push_verdict(row, &verdict);
-                }
+                push_verdict(row, &verdict);
             }
         }
     }
 }
 
-/// Writes the ends of transactions, the markers and the records.
-fn push_records(row: &mut Row<'_>, part: &Part) {
+/// Writes the ends of transactions, the markers, the records and the least fault.
+pub(crate) fn tell(row: &mut Row<'_>, part: &Part) {
     row.say(part.closes());
     row.tell(" ", part.markers());
     let items = part.items();
@@ -44,19 +39,12 @@ fn push_records(row: &mut Row<'_>, part: &Part) {
         }
     }
     row.put(" ");
-}
-
-/// Writes all of a log that `part` asks for, or of its fault alone.
-pub(crate) fn tell(row: &mut Row<'_>, call: &str, part: &Part) {
-    if call == "part" {
-        push_records(row, part);
-    }
-    push_fault(row, call, part);
+    push_fault(row, part);
 }
 
 /// What is said of the word `PART`.
-pub(super) fn answer(row: &mut Row<'_>, call: &str) {
+pub(super) fn answer(row: &mut Row<'_>) {
     if let Some(part) = part_of(row) {
-        tell(row, call, &part);
+        tell(row, &part);
     }
 }
