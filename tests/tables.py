@@ -21,7 +21,7 @@ import re
 import subprocess
 import sys
 
-from unproved import Asked
+from unproved import Asked, together
 
 try:
     import table_logs
@@ -148,8 +148,8 @@ def all_asked():
     """All tables, and the rows that can't be read."""
     found = sorted(glob.glob(os.path.join(HERE, "tables", "*.txt")))
     bad_rows = os.path.join(HERE, "bad_rows.txt")
-    yield asked_of(bad_rows, unreadable(bad_rows), [] if found else ["no tables"])
-    yield from map(asked, found)
+    first = asked_of(bad_rows, unreadable(bad_rows), [] if found else ["no tables"])
+    return [together("tables", [first, *map(asked, found)])]
 
 
 def run(program, table):

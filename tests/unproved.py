@@ -20,12 +20,26 @@ import tempfile
 TOP = os.path.dirname(os.path.dirname(os.path.abspath(__file__)))
 SOURCES = f"{TOP}/tests/rows"
 # What the kit's interpreter, which is slow, may do, and how long the compiled program may take for one file of rows.
-LIMITS = "--steps", "1", "--seconds", "300"
+LIMITS = "--steps", "1", "--seconds", "600"
 # Lines of the kit's own on standard error, which every run has.
 OWN = re.compile(r"(interpreter: |checked: the program ended|allocations: |races: )")
 
 # Rows of one run: its name, the calls, and what finds in the answers how many pass, and a text for each failure.
 Asked = collections.namedtuple("Asked", "name rows judge")
+
+
+def together(name, asked):
+    """These lists of rows as those of one run: each run takes a second more than its rows."""
+
+    def judge(answers):
+        passed, failures, at = 0, [], 0
+        for it in asked:
+            last = at + len(it.rows) if it is not asked[-1] else None
+            good, bad = it.judge(answers[at:last])
+            passed, failures, at = passed + good, failures + bad, last
+        return passed, failures
+
+    return Asked(name, [row for it in asked for row in it.rows], judge)
 
 
 def make_crate(folder):
@@ -132,7 +146,7 @@ def main():
     import tables
 
     if words:
-        return tell(map(tables.asked, words))
+        return tell([together("tables", list(map(tables.asked, words)))])
     return tell(it for asks in (tables, round_trips, join_orders, chunks, random_schedules) for it in asks.all_asked())
 
 
