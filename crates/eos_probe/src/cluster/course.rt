@@ -41,13 +41,18 @@ pub(super) fn run(row: &mut Row<'_>) {
     row.rest = sizes;
     match Cluster::new(row.alloc, sizes_of(row)) {
         Ok(mut cluster) => {
-            for word in words.split_whitespace() {
-                row.rest = word;
-                row.apart(" ");
-                tell(row, &mut cluster);
-            }
+            row.rest = words;
+            tell_all(row, &mut cluster);
         }
         Err(fault) => row.put(fault.name()),
+    }
+}
+
+fn tell_all(row: &mut Row<'_>, cluster: &mut Cluster) {
+    for word in row.rest.split_whitespace() {
+        row.rest = word;
+        row.apart(" ");
+        tell(row, cluster);
     }
 }
 

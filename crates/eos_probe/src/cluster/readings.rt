@@ -29,14 +29,16 @@ pub(crate) fn evidence_again(
 /// Writes how many records each partition has, or why there is no evidence.
 pub(crate) fn push_ends(row: &mut Row<'_>, cluster: &Cluster) {
     match evidence_again(row, cluster) {
-        Ok(evidence) => {
-            row.put("[");
-            for end in evidence.spec().ends().as_slice() {
-                row.apart(", ");
-                row.say(end.end);
-            }
-            row.put("]");
-        }
+        Ok(evidence) => push_counts(row, &evidence),
         Err(refusal) => row.put(refusal.name()),
     }
+}
+
+fn push_counts(row: &mut Row<'_>, evidence: &Evidence) {
+    row.put("[");
+    for end in evidence.spec().ends().as_slice() {
+        row.apart(", ");
+        row.say(end.end);
+    }
+    row.put("]");
 }

@@ -3,7 +3,7 @@
 use crate::formats::chunks;
 use crate::row::Row;
 use bytes::Bytes;
-use eos_batch::{decode_batch, decode_segment, encode_batch};
+use eos_batch::{Batch, decode_batch, decode_segment, encode_batch};
 use eos_fold::chain;
 use eos_items::read_head;
 
@@ -31,8 +31,12 @@ fn head(row: &mut Row<'_>, bytes: &Bytes) {
 /// A segment's batches, read and written.
 fn recode(row: &mut Row<'_>, bytes: &Bytes) {
     if let Some(text) = row.got(decode_segment(row.alloc, bytes)) {
-        for batch in text.batches.as_slice() {
-            row.digits(encode_batch(row.alloc, batch));
-        }
+        write(row, text.batches.as_slice());
+    }
+}
+
+fn write(row: &mut Row<'_>, batches: &[Batch]) {
+    for batch in batches {
+        row.digits(encode_batch(row.alloc, batch));
     }
 }
