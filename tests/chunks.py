@@ -1,22 +1,24 @@
 #!/usr/bin/env -S python3 -B
 """Segments that are fed chunk by chunk: wherever the bytes are cut, the answer is that of a plain reading of all of them.
 
-    tests/chunks.py PROBE SEGMENTS [NUMBER [SEED]]
+    tests/chunks.py NUMBER SEED
 
-Each segment of the folder SEGMENTS, cuts of it, and NUMBER (60) damaged and made-up ones (see tests/mutants.py) are fed to the
-probe in chunks of 1, 7, 61 and 4,096 bytes and whole: to `chain_in` (the chain), `count_in` (the batches, their data records and
-where they stop) and `count_from` (the same from a reader). Prints what differs, and as its last line 'N passed, N failed'.
+Each segment of tests/segments, cuts of it, and NUMBER damaged and made-up ones (see tests/mutants.py) are fed in chunks of 1, 7,
+61 and 4,096 bytes and whole, as to `chain_in` (the chain), `count_in` (the batches, their data records and where they stop) and
+`count_from` (the same from a reader). Prints what differs, and as its last line 'N passed, N failed'. tests/unproved.py asks 60.
 """
 import glob
 import os
 import random
 import re
-import subprocess
 import sys
 
 import mutants
 from chain_of_listing import answer
+from unproved import Asked, tell
 
+SEGMENTS = os.path.join(os.path.dirname(os.path.abspath(__file__)), "segments")
+CALLS = "chain_in", "count_in", "count_from"
 # Bytes in a chunk; 0 for all at once.
 SIZES = 1, 7, 61, 4096, 0
 KEPT = re.compile(r"ok batches=(\d+) producers=(\d+)")
@@ -24,7 +26,7 @@ BROKEN = re.compile(r"no 1\.\d (\w+) offset=(\d+)(?: segment=(\d+) byte=(\d+) ba
 
 
 def of_chain(text):
-    """The line of `chain` as the probe shows such an answer."""
+    """The line of `chain` as such an answer is shown."""
     kept = KEPT.fullmatch(text)
     if kept:
         return "Ok(Ok(Chain {{ batches: {}, producers: {} }}))".format(*kept.groups())
@@ -68,27 +70,28 @@ def segments(folder, number, seed):
         yield f"number {place} of seed {seed}", mutants.made(rng, batches)
 
 
-def main():
-    probe, folder = sys.argv[1:3]
-    number, seed = (int(word) for word in (sys.argv[3:] + ["60", "7"][len(sys.argv) - 3 :]))
-    rows = []
-    for name, data in segments(folder, number, seed):
+def all_asked(number=60, seed=7):
+    asked = []
+    for name, data in segments(SEGMENTS, number, seed):
         lines = mutants.read(data)
         chain, counts = of_chain(answer(lines)), of_listing(lines)
-        for size in SIZES:
-            for call, want in ("chain_in", chain), ("count_in", counts), ("count_from", counts):
-                rows.append((f"{name}, {call} {size}", f"{call} {data.hex() or '-'} {size}", want))
-    done = subprocess.run([probe], input="".join(f"{row}\n" for _, row, _ in rows).encode(), capture_output=True, timeout=600)
-    answers = done.stdout.decode(errors="replace").splitlines()
-    failed = [f"{name}: {found}, not {want}" for (name, _, want), found in zip(rows, answers) if found.strip() != want]
-    passed = min(len(rows), len(answers)) - len(failed)
-    if done.returncode or done.stderr or len(answers) != len(rows):
-        failed.append(f"status {done.returncode}, {len(answers)} answers to {len(rows)} rows, {done.stderr[-200:]}")
-    for line in failed[:20]:
-        print(line)
-    print(f"{passed} passed, {len(failed)} failed")
-    sys.exit(1 if failed else 0)
+        sizes = ",".join(map(str, SIZES))
+        asked.append((name, f"in_chunks {data.hex() or '-'} {sizes}", (chain, counts, counts)))
+
+    def judge(answers):
+        failed = [] if len(answers) == len(asked) else [f"{len(answers)} answers to {len(asked)} segments in chunks"]
+        for (name, _, wants), text in zip(asked, answers):
+            found = text.strip().split("; ")
+            if len(found) != len(CALLS) * len(SIZES):
+                failed.append(f"{name}: {text[:200]}")
+            for place, (want, said) in enumerate(zip(wants * len(SIZES), found)):
+                if said != want:
+                    size, call = SIZES[place // len(CALLS)], CALLS[place % len(CALLS)]
+                    failed.append(f"{name}, {call} {size}: {said}, not {want}")
+        return max(len(asked) * len(SIZES) * len(CALLS) - len(failed), 0), failed
+
+    return [Asked("chunks", [row for _, row, _ in asked], judge)]
 
 
 if __name__ == "__main__":
-    main()
+    sys.exit(tell(all_asked(*map(int, sys.argv[1:3]))))

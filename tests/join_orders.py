@@ -1,23 +1,27 @@
 #!/usr/bin/env -S python3 -B
 """Logs, cut at the borders of their batches and joined in three orders, say what they say whole.
 
-    tests/join_orders.py PROBE SEGMENTS TABLE
+    tests/join_orders.py
 
-The logs are the segments that SEGMENTS/cases names, in a topic whose sequences are checked and in one whose sequences
-aren't, and the logs of one segment in TABLE. Each is cut at each border by itself and at all of them at once, also before
-a batch that can't be read; how many batches a segment has is read from its listing, so that none is missed. The probe's
-call `part` says everything of a log: its fault, the ends of its transactions, its markers and its records. The script
-prints what differs and how much was compared, and ends in 1 where something differs or there are too few logs.
+The logs are the segments that tests/segments/cases names, in a topic whose sequences are checked and in one whose sequences
+aren't, and the logs of one segment in tests/tables/partitions.txt. Each is cut at each border by itself and at all of them at
+once, also before a batch that can't be read; how many batches a segment has is read from its listing, so that none is missed. The
+call `part` says everything of a log: its fault, the ends of its transactions, its markers and its records. The script prints what
+differs, and as its last line 'N passed, N failed', of the logs. tests/unproved.py asks it.
 """
 import os
 import re
-import subprocess
 import sys
 
 import plain_logs
 import tables
 from mutants import Refused
+from unproved import Asked, tell
 
+SEGMENTS = os.path.join(os.path.dirname(os.path.abspath(__file__)), "segments")
+TABLE = os.path.join(os.path.dirname(os.path.abspath(__file__)), "tables", "partitions.txt")
+# The kit's try gives no answers of more than 1 MiB; these have about one and a half times the characters of their calls.
+MOST = 300_000
 NAMES = "out-0", "__consumer_offsets-0"
 
 
@@ -78,27 +82,42 @@ def counted(answer, cuts):
     return re.sub(r" segment=(\d+) byte=(\d+) batch=(?=[A-Za-z]+$)", place, answer)
 
 
-def main():
-    probe, folder, table = sys.argv[1:]
-    segments, rows = list(of_segments(folder)), list(of_table(table))
-    logs = [list(calls_of(*log)) for log in segments + rows]
-    lines = [call for log in logs for call, _ in log]
-    done = subprocess.run([probe], input="\n".join(lines + [""]).encode(), capture_output=True, timeout=600)
-    answers = done.stdout.decode().splitlines()
-    if done.returncode or len(answers) != len(lines):
-        sys.exit(f"status {done.returncode}, {len(answers)} answers to {len(lines)} calls: {done.stderr.decode()[:300]}")
-    failures, answers = 0, iter(answers)
+def judged(logs, answers):
+    """How many of these logs say the same however they are cut, and a text for each that doesn't."""
+    failures, answers = [], iter(answers)
     for log in logs:
         # (the log first: zip takes of the answers no more than there are calls)
         said = [counted(answer, cuts) for (_, cuts), answer in zip(log, answers)]
-        for (call, _), answer in zip(log, said):
-            if answer != said[0] or not answer.startswith("["):
-                failures += 1
-                print(f"{call[:200]}\n    is   {answer[-300:]}\n    not  {said[0][-300:]}")
-    print(f"{len(segments)} segments, {len(rows)} logs of the table, {len(lines)} calls, {failures} failures")
-    files = sum(name.endswith(".log") for name in os.listdir(folder))
-    return 1 if failures or len(segments) < 2 * max(files, 18) or len(rows) < 56 else 0
+        wrong = [at for at, answer in enumerate(said) if answer != said[0] or not answer.startswith("[")]
+        if len(said) < len(log):
+            failures.append(f"{len(said)} answers to {len(log)} calls such as {log[0][0][:200]}")
+        elif wrong:
+            at = wrong[0]
+            failures.append(f"{log[at][0][:200]}\n    is   {said[at][-300:]}\n    not  {said[0][-300:]}")
+    return len(logs) - len(failures), failures
+
+
+def asked_of(number, logs):
+    rows = [call for log in logs for call, _ in log]
+    return Asked(f"join_orders-{number}", rows, lambda answers: judged(logs, answers))
+
+
+def all_asked():
+    segments, rows = list(of_segments(SEGMENTS)), list(of_table(TABLE))
+    files = sum(name.endswith(".log") for name in os.listdir(SEGMENTS))
+    if len(segments) < 2 * max(files, 18) or len(rows) < 56:
+        sys.exit(f"{len(segments)} segments and {len(rows)} logs of the table are too few")
+    groups, size = [[]], 0
+    for log in segments + rows:
+        calls = list(calls_of(*log))
+        length = sum(len(call) for call, _ in calls)
+        if size + length > MOST and groups[-1]:
+            groups.append([])
+            size = 0
+        groups[-1].append(calls)
+        size += length
+    return [asked_of(number, logs) for number, logs in enumerate(groups, 1)]
 
 
 if __name__ == "__main__":
-    sys.exit(main())
+    sys.exit(tell(all_asked()))

@@ -1,19 +1,22 @@
 #!/usr/bin/env -S python3 -B
 """Random events in any order: a simulated cluster comes to rest, and the checker accuses none of its logs.
 
-    tests/random_schedules.py PROBE [LISTS]
+    tests/random_schedules.py LISTS
 
-LISTS (1000) lists of 40 events, one for each seed from 0 on; then each open transaction is ended, and all messages are
-delivered. Prints what is wrong, and as its last line 'N passed, N failed'.
+LISTS lists of 40 events, one for each seed from 0 on; then each open transaction is ended, and all messages are delivered. Prints
+what is wrong, and as its last line 'N passed, N failed'. tests/unproved.py asks 1000.
 """
 import re
-import subprocess
 import sys
+
+from unproved import Asked, tell
 
 SIZES = "3,2,2,2,5,1"
 # Every other list is of a cluster with a second group, whose application is number 2.
 CHAIN = "2,2,2,2,5,1,chain"
 MESSAGES = 400
+# Lists that are asked at once; some of them write an output.
+EACH = 200
 
 
 class Words:
@@ -81,34 +84,37 @@ def event(words):
 def line(seed):
     words = Words(seed)
     events = [event(words) for _ in range(40)]
-    events += ["start:0", "start:1", "start:2", "coordinator"]
-    events += [f"deliver:{message}" for message in range(MESSAGES)]
-    return f"cluster {CHAIN if seed % 2 else SIZES} " + " ".join("-" + word for word in events) + f" deliver:{MESSAGES} at-rest ends verdict:1\n"
+    events += ["start:0", "start:1", "start:2", "coordinator", f"below:{MESSAGES}"]
+    told = " ".join("-" + word for word in events)
+    return f"cluster {CHAIN if seed % 2 else SIZES} {told} deliver:{MESSAGES} at-rest ends verdict:1"
 
 
-def main():
-    program = sys.argv[1]
-    count = int(sys.argv[2]) if len(sys.argv) > 2 else 1000
+def judged(answers, first, count):
+    """How many of the answers to so many lists, from this seed on, are right, and a text for each that isn't."""
+    failures = [] if len(answers) == count else [f"{len(answers)} answers to {count} lists from seed {first} on"]
+    with_outputs = 0
+    for seed, answer in enumerate(answers[:count], first):
+        found = re.fullmatch(r"Unknown true \[(.*)\] (yes|no),(\d+)\S+", answer)
+        if not found or (found[2] == "no" and found[3] in "123"):
+            failures.append(f"seed {seed}: {answer[:2000]}")
+        elif any(int(end) for end in found[1].split(",")[-2:]):
+            with_outputs += 1
+    if with_outputs <= 4:
+        failures.append(f"of the {count} lists from seed {first} on {with_outputs} wrote an output")
+    return max(count - len(failures), 0), failures
+
+
+def asked_of(first, count):
+    rows = [line(seed) for seed in range(first, first + count)]
+    return Asked(f"random_schedules-{first}", rows, lambda answers: judged(answers, first, count))
+
+
+def all_asked(count=1000):
     seven = Words(7)
     if [seven.next() for _ in range(5)] != [2442223337, 414063806, 2743600285, 3524868804, 2371632060]:
         sys.exit("the words of seed 7 are others")
-    lines = "".join(line(seed) for seed in range(count))
-    answers = subprocess.run([program], input=lines, capture_output=True, text=True, timeout=600).stdout.splitlines()
-    failed = abs(len(answers) - count)
-    with_outputs = [0] * (1 + (count - 1) // 200)
-    for seed, answer in enumerate(answers):
-        found = re.fullmatch(r"Unknown true \[(.*)\] (yes|no),(\d+)\S+", answer)
-        if not found or (found[2] == "no" and found[3] in "123"):
-            failed += 1
-            print(f"FAILED: seed {seed}: {answer}")
-        elif any(int(end) for end in found[1].split(",")[-2:]):
-            with_outputs[seed // 200] += 1
-    if min(with_outputs) <= 4:
-        failed += 1
-        print(f"FAILED: of each 200 lists {with_outputs} wrote an output")
-    print(f"{count + 1 - failed} passed, {failed} failed")
-    sys.exit(1 if failed else 0)
+    return [asked_of(first, min(count - first, EACH)) for first in range(0, count, EACH)]
 
 
 if __name__ == "__main__":
-    main()
+    sys.exit(tell(all_asked(int(sys.argv[1]))))

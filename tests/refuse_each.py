@@ -1,6 +1,7 @@
 #!/usr/bin/env python3
 """Refuses each allocation of a crate's tests, or of the rows of tables, in turn. A test then passes, and a row is answered
-as it says; or either says that memory ran out. Any other answer, and any crash, is printed, and the exit status is 1.
+as it says; or either says that memory ran out. Any other answer, and any crash, is printed, and the exit status is 1. Of a
+table these are the rows whose calls tests/allocating.txt names, since what else allocates is refused to one of them or to a run.
 
 The builder of evidence, the simulated cluster and the pool's core go on after a refusal: the probe makes such a call again,
 answers the row as it says, and marks that by 'again'. Of each call of GOES_ON some row has to be marked so.
@@ -12,12 +13,14 @@ refuse.so is tests/refuse.c, built. Rows with more than MOST allocations are lef
 """
 import collections
 import os
+import re
 import subprocess
 import sys
 import tempfile
 
 import tables
 
+NAMES = "tests/allocating.txt"
 # A test ends in 0 where it passes, in 101 where its result is an error, and by SIGABRT where an assertion fails; a probe ends
 # in 1 where memory ran out outside a call.
 PASSES, RESULT, ASSERTION, ENDED = 0, 101, -6, 1
@@ -33,13 +36,20 @@ FAILED_WRITES = {"write_verdict": 'status 0, Err(Write) ""'}
 Case = collections.namedtuple("Case", "name words input answer")
 
 
+def calls_of(table):
+    """The calls of a table that the list of what allocates names."""
+    with open(NAMES, encoding="utf-8") as file:
+        return set(re.findall(rf" {re.escape(os.path.basename(table))}=(\w+)$", file.read(), re.M))
+
+
 def cases_of(names):
     cases = [Case(name, [name], "", None) for name in names if not name.endswith(".txt")]
     for table in names[len(cases) :]:
         rows, bad = tables.rows_of(table)
         if bad:
             sys.exit("\n".join(bad))
-        cases += [Case(row.place, [], f"{row.call}\n", row.answer) for row in rows]
+        calls = calls_of(table)
+        cases += [Case(row.place, [], f"{row.call}\n", row.answer) for row in rows if row.call.split()[0] in calls]
     return cases
 
 

@@ -33,7 +33,7 @@ refused() {
   else bad "$*: $wrong of $total refused allocations change the answer, $told are told"; fi
 }
 
-# each_refused TABLE ..: of the rows of these tables, each allocation
+# each_refused TABLE ..: of the rows of these tables whose calls tests/allocating.txt names, each allocation
 each_refused() {
   local table
   for table in "$@"; do

@@ -130,16 +130,21 @@ def bodies(text):
                 name = None
 
 
+def unproved():
+    """The files of the unproved program that tests/unproved.py builds, each without its comments."""
+    for path in sorted(glob.glob("tests/rows/*.rattle")):
+        yield path, COMMENTS["rt"].sub("", read(path))
+
+
 def of_sizes(found, say):
     """The sizes of files and functions."""
-    for crate in found:
-        for path, text in sources(crate, "rt"):
-            lines = len(text.splitlines())
-            say(lines <= MOST_LINES_OF_A_FILE, f"{path} has {lines} lines")
-            for name, count in bodies(text):
-                say(count <= MOST_LINES, f"{path}: {name} has {count} lines")
-            for name, count in functions(TEXTS.sub('""', text)):
-                say(count <= MOST_PARAMETERS, f"{path}: {name} has {count} parameters")
+    for path, text in [it for crate in found for it in sources(crate, "rt")] + list(unproved()):
+        lines = len(text.splitlines())
+        say(lines <= MOST_LINES_OF_A_FILE, f"{path} has {lines} lines")
+        for name, count in bodies(text):
+            say(count <= MOST_LINES, f"{path}: {name} has {count} lines")
+        for name, count in functions(TEXTS.sub('""', text)):
+            say(count <= MOST_PARAMETERS, f"{path}: {name} has {count} parameters")
 
 
 def main():

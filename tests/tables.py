@@ -1,12 +1,13 @@
 #!/usr/bin/env python3
-"""Runs tables of cases through the probe, a program that answers each line with a line (crates/eos_probe). It prints each
-difference with its file and line, and last 'N passed, N failed'; the exit status is 1 where one failed.
+"""Tables of cases: what is read of them, and how answers are compared with them. It runs tables through a program that answers
+each line with a line, and prints each difference with its file and line, and last 'N passed, N failed'; the exit status is 1
+where one failed. tests/unproved.py asks all tables.
 
-    python3 tests/tables.py PROGRAM [TABLE ..]       without a TABLE: all of tests/tables, and tests/bad_rows.txt
+    python3 tests/tables.py PROGRAM TABLE ..
 
 A row is 'CALL ARGS => ANSWER'; empty lines and lines that begin with '#' say nothing. A row without an answer, an answer
-of no row, a table without rows and a probe that ends early or in a status other than 0 are failures too. What the probe says
-of a row that it can't read, 'bad row', no row may ask for; it has to say so of each line of tests/bad_rows.txt.
+of no row, a table without rows and a program that ends early or in a status other than 0 are failures too. What a program says of
+a row that it can't read, 'bad row', no row may ask for; it has to say so of each line of tests/bad_rows.txt.
 
 Bytes may be put together between '<' and '>', of hexadecimal digits, texts such as 'in', and names in capitals. Each may
 be cut, as in KEY[2:], and repeated, as in 'a'*300; a '#' in a text is the number of the repetition. They stand for their
@@ -20,6 +21,8 @@ import re
 import subprocess
 import sys
 
+from unproved import Asked, together
+
 try:
     import table_logs
 except ModuleNotFoundError as error:
@@ -27,12 +30,14 @@ except ModuleNotFoundError as error:
         raise
     table_logs = None
 
+HERE = os.path.dirname(os.path.abspath(__file__))
+
 Row = collections.namedtuple("Row", "place call answer")
 
 PART = r"((?:[0-9a-f]{2})+|'[^']*'|[A-Z][A-Z_0-9]*)(?:\[(-?[0-9]*):(-?[0-9]*)\])?(?:\*([0-9]+))?"
 PARTS = re.compile(rf"<(\s*{PART}(?:\s+{PART})*\s*)>")
 NAMING = re.compile(r"([A-Z][A-Z_0-9]*) = (.*)")
-# What the probe answers to a row that it can't read.
+# What is answered to a row that can't be read.
 UNREADABLE = "bad row"
 
 
@@ -112,15 +117,9 @@ def cut(text):
     return text if len(text) < 2000 else text[:2000] + " .."
 
 
-def run(program, table, rows, failures):
-    """How many rows pass, and a text for each failure, behind those that there are already."""
-    lines = "".join(f"{row.call}\n" for row in rows)
-    done = subprocess.run([program], input=lines.encode(), capture_output=True, timeout=600)
-    answers = done.stdout.decode(errors="replace").split("\n")
-    last = answers.pop()
-    if last:
-        failures.append(f"{table}: a part of a line at the end: {cut(last)}")
-    passed = 0
+def compare(table, rows, answers):
+    """How many of these answers are those of the rows, and a text for each failure."""
+    passed, failures = 0, []
     for row, answer in zip(rows, answers):
         if answer.strip() == row.answer:
             passed += 1
@@ -128,21 +127,52 @@ def run(program, table, rows, failures):
             failures.append(f"{row.place}: {cut(row.call)}\n    is   {cut(answer)}\n    not  {cut(row.answer)}")
     failures += [f"{row.place}: no answer" for row in rows[len(answers) :]]
     failures += [f"{table}: an answer of no row: {cut(answer)}" for answer in answers[len(rows) :]]
+    return passed, failures
+
+
+def asked_of(table, rows, bad):
+    """What tests/unproved.py asks for these rows of a table, whose other lines are bad."""
+
+    def judge(answers):
+        passed, failures = compare(table, rows, answers)
+        return passed, bad + failures
+
+    return Asked(os.path.basename(table), [row.call for row in rows], judge)
+
+
+def asked(table):
+    return asked_of(table, *rows_of(table))
+
+
+def all_asked():
+    """All tables, and the rows that can't be read."""
+    found = sorted(glob.glob(os.path.join(HERE, "tables", "*.txt")))
+    bad_rows = os.path.join(HERE, "bad_rows.txt")
+    first = asked_of(bad_rows, unreadable(bad_rows), [] if found else ["no tables"])
+    return [together("tables", [first, *map(asked, found)])]
+
+
+def run(program, table):
+    """What comes of a table's rows by a program."""
+    rows, failures = rows_of(table)
+    lines = "".join(f"{row.call}\n" for row in rows)
+    done = subprocess.run([program], input=lines.encode(), capture_output=True, timeout=600, check=False)
+    answers = done.stdout.decode(errors="replace").split("\n")
+    last = answers.pop()
+    if last:
+        failures.append(f"{table}: a part of a line at the end: {cut(last)}")
+    passed, bad = compare(table, rows, answers)
+    failures += bad
     if done.returncode or done.stderr:
         failures.append(f"{table}: status {done.returncode}, {cut(done.stderr.decode(errors='replace'))}")
     return passed, failures
 
 
 def main():
-    program, *tables = sys.argv[1:]
-    here = os.path.dirname(os.path.abspath(__file__))
-    passed, failures = 0, []
-    if not tables:
-        tables = sorted(glob.glob(os.path.join(here, "tables", "*.txt")))
-        bad_rows = os.path.join(here, "bad_rows.txt")
-        passed, failures = run(program, bad_rows, unreadable(bad_rows), [] if tables else ["no tables"])
-    for table in tables:
-        good, bad = run(program, table, *rows_of(table))
+    program, *found = sys.argv[1:]
+    passed, failures = 0, [] if found else ["no tables"]
+    for table in found:
+        good, bad = run(program, table)
         passed, failures = passed + good, failures + bad
     for failure in failures:
         print(failure)

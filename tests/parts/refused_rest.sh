@@ -23,7 +23,7 @@ counted 'messages without memory' python3 -B tests/messages.py "$program" "$scra
 passes 'work done once' python3 -B tests/work_once.py "$scratch/refuse.so" "$probe"
 
 # calls of which no run meets all refusals: rows of tables, and tests
-each_refused batch chunks txnlog offsets evidence wire refusals all_faults
+each_refused batch chunks txnlog offsets evidence refusals all_faults
 tests_refused segment_reader segment_reader::reads_all_bytes
 tests_refused kept_history kept_history::a_tail_is_kept kept_history::each_decision_counts_once kept_history::a_kept_run_runs_again
 end

@@ -22,22 +22,6 @@ for file in "$segments"/*.log; do
   if grep -qx "$(basename "$file" .log)" "$segments/cases"; then ok; else bad "$(basename "$file") is in no case"; fi
 done
 
-# each segment's batches, decoded, encoded and decoded again: as many as its listing has, the same batches, and the same
-# bytes where their numbers were the shortest
-while read -r name; do
-  case $name in odd-longvarints) same=batches ;; *) same=bytes ;; esac
-  echo "$(grep -c '^batch ' "$segments/$name.dump") same $same" > "$scratch/line"
-  python3 -c 'import sys; print("round_trip", open(sys.argv[1], "rb").read().hex() or "-")' "$segments/$name.log" \
-    | "$probe" > "$scratch/out" 2>&1
-  if cmp -s "$scratch/out" "$scratch/line"; then ok; else bad "round trip of $name"; tail -3 "$scratch/out"; fi
-done < "$segments/cases"
-
-# each segment and each log of a table, cut at its batches' borders and joined in three orders, says what it says whole
-passes 'segments cut and joined' python3 -B tests/join_orders.py "$probe" "$segments" tests/tables/partitions.txt
-
-# segments that are fed chunk by chunk, wherever they are cut, against a plain reading
-counted 'segments in chunks' python3 -B tests/chunks.py "$probe" "$segments"
-
 # what records say, their headers and ranges of offsets, against a plain reading
 counted 'decoded listings' python3 -B tests/decoded_dump.py "$program"
 

@@ -1,4 +1,4 @@
-# What the simulator writes, its histories, and its cluster after random events.
+# What the simulator writes, and its histories.
 . tests/common.sh
 preloaded refuse
 
@@ -19,7 +19,4 @@ counted 'simulated folders' python3 -B tests/simulate.py "$program" "$scratch/re
 
 # their histories, and schedules that are run again
 counted 'histories' python3 -B tests/histories.py "$program" "$scratch/refuse.so"
-
-# a cluster after a thousand lists of random events
-counted 'random schedules' python3 -B tests/random_schedules.py "$probe"
 end

@@ -1,9 +1,8 @@
-//! Calls of the simulated cluster, of what drives it, and of many callers of one.
+//! Calls of the simulated cluster, and of many callers of one.
 
-mod callers;
-mod course;
-mod events;
-mod readings;
+pub(crate) mod callers;
+pub(crate) mod course;
+pub(crate) mod readings;
 
 use crate::row::Row;
 use crate::workers;
@@ -12,9 +11,8 @@ use std::thread::Threads;
 
 pub(crate) fn answer<R: Threads + Wait + Sync>(rt: &R, row: &mut Row<'_>, call: &str) {
     match call {
-        "cluster" => course::run(rt, row),
+        "cluster" => course::run(row),
         "callers" => callers::scripts(rt, row),
-        "feeders" => callers::feeders(rt, row),
         _ => workers::answer(rt, row, call),
     }
 }

@@ -1,5 +1,7 @@
-//! Calls the libraries' public functions for the tables of cases in `tests/tables`: a call as a line in, what it answers as
-//! a line out. It promises nothing of its own. A row that it can't read, or whose call it doesn't know, is answered `bad row`.
+//! Calls libraries' public functions, a call as a line in, what it answers as a line out: those calls that need a program built as
+//! the product is, since their allocations are refused in turn, or they run in little memory, or their threads are counted. What
+//! else the tables of cases ask for is in `tests/rows`, an unproved program that has these modules too. It promises nothing of its
+//! own. A row that it can't read, or whose call it doesn't know, is answered `bad row`.
 //!
 //! The modules ask each other for a call: the cluster's first, then that of the workers, of the layers and of the formats.
 #![tactic(auto)]
@@ -8,7 +10,6 @@ mod cluster;
 mod formats;
 mod layers;
 mod row;
-mod texts;
 mod workers;
 
 use crate::row::Row;

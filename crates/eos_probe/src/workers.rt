@@ -1,33 +1,35 @@
-//! Calls of what workers share: the tickets, the board, the pool's core, and the check by workers behind a gate.
+//! Calls of what workers share: the pool's core, and the check by workers and by the caller alone.
 
-mod board;
 mod evidence;
 mod gate;
-mod pool;
-mod tickets;
+pub(crate) mod pool;
 
 use crate::layers;
 use crate::row::Row;
+use eos_evidence::Evidence;
 use std::sync::Wait;
 use std::thread::Threads;
 
 pub(crate) fn answer<R: Threads + Wait + Sync>(rt: &R, row: &mut Row<'_>, call: &str) {
     match call {
-        "tickets" => tickets::tell(rt, row),
-        "board" | "pool" | "check" | "check_one" => answer_of(rt, row, call),
+        "pool" | "check_noted" | "check_one" => answer_of(rt, row, call),
         _ => layers::answer(rt, row, call),
     }
 }
 
-/// What is said of evidence, which stands behind `|`.
-fn answer_of<R: Threads + Wait + Sync>(rt: &R, row: &mut Row<'_>, call: &str) {
+/// The evidence that stands behind `|`; the words before it are still to be read.
+pub(crate) fn evidence_behind(row: &mut Row<'_>) -> Option<Evidence> {
     let words = row.upto('|').trim_end();
-    if let Some(evidence) = evidence::evidence_of(row) {
-        row.rest = words;
+    let evidence = evidence::evidence_of(row);
+    row.rest = words;
+    evidence
+}
+
+fn answer_of<R: Threads + Wait + Sync>(rt: &R, row: &mut Row<'_>, call: &str) {
+    if let Some(evidence) = evidence_behind(row) {
         match call {
-            "board" => board::run(row, &evidence),
             "pool" => pool::run(row, &evidence),
-            "check" => gate::check_behind(rt, row, &evidence),
+            "check_noted" => gate::check_noted(rt, row, &evidence),
             _ => gate::check_alone(rt, row, &evidence),
         }
     }

@@ -2,21 +2,19 @@
 
 ghost use Rattle.std.specs.Prelude.{◌≡◌, ◌≤◌, true, vec_len, IfOk};
 
-use crate::cluster::readings::read_logs;
 use crate::row::{Row, place};
 use eos_cluster::Cluster;
 use eos_drive::{Script, run_threads};
 use eos_history::{Finished, Pass, Shared};
-use eos_machine::{Config, Event, Reply};
+use eos_machine::Config;
 use std::alloc::{AllocError, Global};
 use std::marker::Brand;
 use std::sync::Wait;
 use std::sync::ledger::{Blank, Ledger};
-use std::thread;
 use std::thread::Threads;
 
 /// Two of each.
-const PAIR: Config = Config {
+pub(crate) const PAIR: Config = Config {
     applications: 2,
     inputs: 2,
     outputs: 2,
@@ -37,7 +35,7 @@ fn new_cluster(alloc: Global) -> Result<Cluster, AllocError>
 }
 
 /// A new cluster that so many callers share.
-fn new_shared<L: Ledger>(
+pub(crate) fn new_shared<L: Ledger>(
     alloc: Global,
     blank: Blank,
     callers: u64,
@@ -51,7 +49,7 @@ fn new_shared<L: Ledger>(
 }
 
 /// Writes whether the callers agree, how many entries there are, and how many of each pass.
-fn tell(row: &mut Row<'_>, finished: &Finished, callers: u64) {
+pub(crate) fn tell(row: &mut Row<'_>, finished: &Finished, callers: u64) {
     row.tell("agree=", finished.agree);
     row.tell(" entries=", finished.entries.len());
     row.put(" passes=[");
@@ -71,50 +69,6 @@ fn count_of(finished: &Finished, pass: u64) -> u64 {
         }
     }
     count
-}
-
-/// An input to a partition, which comes in again after want of memory.
-fn feed<L: Ledger>(rt: &impl Wait, shared: &Shared<L>, pass: &mut Pass<L>, source: usize) {
-    let called = shared.call(rt, pass, Event::Feed { source });
-    if called.reply == Reply::OutOfMemory {
-        shared.call(rt, pass, Event::Feed { source });
-    }
-}
-
-/// Ten inputs by one pass, to the two partitions in turn.
-fn feed_ten<L: Ledger>(rt: &impl Wait, shared: &Shared<L>, pass: Pass<L>) -> Pass<L> {
-    let mut pass = pass;
-    for i in 0..10usize {
-        feed(rt, shared, &mut pass, i % 2);
-    }
-    pass
-}
-
-/// Two callers of ten inputs each, at once.
-fn ten_each<L: Ledger + Send + Sync, R: Threads + Wait + Sync>(
-    rt: &R,
-    alloc: Global,
-    blank: Blank,
-) -> Result<Finished, AllocError>
-    requires { (blank.name ≡ L.name) × (blank.parts ≡ L.parts) × (L.parts ≡ 2) }
-{
-    let (shared, passes) = new_shared::<L>(alloc, blank, 2)?;
-    let passes = thread::map_vec(
-        rt,
-        passes,
-        &|pass: Pass<L>| -> Pass<L> { feed_ten(rt, &shared, pass) },
-    )?;
-    Ok(shared.finish(passes))
-}
-
-/// Writes what two callers of ten inputs each were told, the cluster's sizes, and the records of each partition.
-pub(super) fn feeders<R: Threads + Wait + Sync>(rt: &R, row: &mut Row<'_>) {
-    if let Some(finished) = row.got(ten_each::<Brand, R>(rt, row.alloc, Blank::new(2))) {
-        tell(row, &finished, 2);
-        row.tell(" pair=", *finished.cluster.config() == PAIR);
-        row.put(" ends=");
-        read_logs(rt, row, &finished.cluster, "ends");
-    }
 }
 
 /// As many scripts of seed 7 and this length.

@@ -1,14 +1,12 @@
-//! What a cluster is told and asked, word by word.
+//! What a cluster is told and asked, word by word: the events of a session, and switches.
 
-use crate::cluster::events::{count_of, event_of, sizes_of};
-use crate::cluster::readings::{read_logs, words};
+use crate::cluster::readings::push_ends;
 use crate::row::{Row, place};
+use bytes::Bytes;
+use eos_batch::Kind;
 use eos_cluster::{Cluster, Switch, Switches};
-use eos_drive::{Script, run_script, run_tail};
-use eos_machine::Reply;
-use std::mem;
-use std::sync::Wait;
-use std::thread::Threads;
+use eos_drive::run_tail;
+use eos_machine::{Claim, Config, Event, Reply};
 
 const SWITCHES: [Switch; 7] = [
     Switch::KeepDuplicates,
@@ -20,92 +18,107 @@ const SWITCHES: [Switch; 7] = [
     Switch::IgnoreGeneration,
 ];
 
-/// Writes what a new cluster of these sizes answers to each of these words; those behind `-` are not told of.
-pub(super) fn run<R: Threads + Wait + Sync>(rt: &R, row: &mut Row<'_>) {
+/// The sizes of a cluster that are still to be read, in the order of their fields; `,chain` after them where it has a second group.
+pub(crate) fn sizes_of(row: &mut Row<'_>) -> Config {
+    let sizes = row.rest.strip_suffix(",chain");
+    row.rest = sizes.unwrap_or(row.rest);
+    let numbers = row.numbers(6);
+    Config {
+        applications: place(numbers[0]),
+        inputs: place(numbers[1]),
+        outputs: place(numbers[2]),
+        transaction_logs: place(numbers[3]),
+        segment_records: place(numbers[4]),
+        batch_records: place(numbers[5]),
+        chain: sizes.is_some(),
+    }
+}
+
+/// Writes what a new cluster of these sizes answers to each of these words.
+pub(super) fn run(row: &mut Row<'_>) {
     let sizes = row.word();
     let words = row.rest;
     row.rest = sizes;
     match Cluster::new(row.alloc, sizes_of(row)) {
         Ok(mut cluster) => {
             row.rest = words;
-            tell_all(rt, row, &mut cluster);
+            tell_all(row, &mut cluster);
         }
         Err(fault) => row.put(fault.name()),
     }
 }
 
-fn tell_all<R: Threads + Wait + Sync>(rt: &R, row: &mut Row<'_>, cluster: &mut Cluster) {
+fn tell_all(row: &mut Row<'_>, cluster: &mut Cluster) {
     for word in row.rest.split_whitespace() {
-        match word.strip_prefix('-') {
-            None => {
-                row.rest = word;
-                row.apart(" ");
-                tell(rt, row, cluster);
-            }
-            Some(word) => {
-                row.rest = word;
-                tell_silently(rt, row, cluster);
-            }
-        }
+        row.rest = word;
+        row.apart(" ");
+        tell(row, cluster);
     }
 }
 
-fn tell_silently<R: Threads + Wait + Sync>(rt: &R, row: &mut Row<'_>, cluster: &mut Cluster) {
-    let text = mem::replace(&mut row.text, String::new(row.alloc));
-    tell(rt, row, cluster);
-    row.text = text;
-}
-
 /// Tells or asks the word that is still to be read, and writes what is answered.
-fn tell<R: Threads + Wait + Sync>(rt: &R, row: &mut Row<'_>, cluster: &mut Cluster) {
+pub(crate) fn tell(row: &mut Row<'_>, cluster: &mut Cluster) {
     let (name, rest) = row.rest.split_once(':').unwrap_or((row.rest, ""));
     row.rest = rest;
     match name {
         "set" | "tail" => switch(row, cluster, name),
-        "script" => script(row, cluster),
-        "at-rest" => row.say(cluster.at_rest()),
         "honest" => row.say(cluster.is_honest()),
         "events" => row.say(cluster.events()),
-        "past" => {
-            let number = row.place(rest);
-            row.say(cluster.events() > number as u64);
-        }
-        "words" => words(row),
-        "pieces" | "ends" | "batches" | "verdict" | "processed" => {
-            read_logs(rt, row, cluster, name)
-        }
+        "ends" => push_ends(row, cluster),
         _ => happen(row, cluster, name),
     }
 }
 
+/// The one output of the input at in-0:0.
+fn claim() -> Claim {
+    Claim {
+        topic: Bytes::from_static(b"in"),
+        partition: 0,
+        offset: 0,
+        output: 1,
+        of: 1,
+    }
+}
+
+/// The event of this name with these numbers: of a session, and the partition of `out` or `in`.
+fn event_of(name: &str, first: usize, second: usize) -> Option<Event> {
+    match name {
+        "feed" => Some(Event::Feed { source: first }),
+        "start" => Some(Event::Start { application: first }),
+        "produce" => Some(Event::Produce {
+            session: first,
+            partition: second,
+            claim: Some(claim()),
+        }),
+        "commit" => Some(Event::End {
+            session: first,
+            kind: Kind::Commit,
+        }),
+        "deliver" => Some(Event::Deliver {
+            message: first as u64,
+        }),
+        _ => None,
+    }
+}
+
 /// The reply to the event of this name with these numbers, if there is one.
-fn reply_to(cluster: &mut Cluster, name: &str, numbers: [i64; 6]) -> Option<Reply> {
-    let event = event_of(name, numbers)?;
+fn reply_to(cluster: &mut Cluster, name: &str, first: usize, second: usize) -> Option<Reply> {
+    let event = event_of(name, first, second)?;
     Some(cluster.step(event))
 }
 
 /// An event, which happens again after want of memory.
 fn happen(row: &mut Row<'_>, cluster: &mut Cluster, name: &str) {
-    let numbers = row.numbers(count_of(name));
-    let mut reply = reply_to(cluster, name, numbers);
+    let numbers = row.numbers(if name == "produce" { 2 } else { 1 });
+    let (first, second) = (place(numbers[0]), place(numbers[1]));
+    let mut reply = reply_to(cluster, name, first, second);
     if reply == Some(Reply::OutOfMemory) {
         row.is_again = true;
-        reply = reply_to(cluster, name, numbers);
+        reply = reply_to(cluster, name, first, second);
     }
     match reply {
         Some(reply) => row.say(reply),
         None => row.is_bad = true,
-    }
-}
-
-/// Drives the cluster by the script of a seed, of so many words.
-fn script(row: &mut Row<'_>, cluster: &mut Cluster) {
-    let numbers = row.numbers(2);
-    row.put("done");
-    let (seed, length) = (place(numbers[0]) as u64, place(numbers[1]) as u64);
-    if let Some(script) = row.got(Script::from_seed(row.alloc, seed, length)) {
-        let done = run_script(row.alloc, cluster, &script);
-        row.done(done);
     }
 }
 

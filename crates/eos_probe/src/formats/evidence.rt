@@ -3,18 +3,12 @@
 use crate::formats::batch;
 use crate::row::Row;
 use bytes::Bytes;
-use eos_base::Listed;
-use eos_evidence::{
-    AddFault, End, Evidence, EvidenceBuilder, Segment, Spec, SpecFault, parse_spec, spec_text,
-};
-use std::alloc::AllocError;
+use eos_evidence::{AddFault, Evidence, EvidenceBuilder, Segment, parse_spec, spec_text};
 
 pub(super) fn answer(row: &mut Row<'_>, call: &str, bytes: &Bytes) {
     match call {
         "parse_spec" => row.say(parse_spec(row.alloc, bytes.as_slice())),
-        "spec_fault" => row.say(parse_spec(row.alloc, bytes.as_slice()).err()),
         "write_spec" => rewrite(row, bytes),
-        "end_twice" => twice(row),
         "add_segments" => add_segments(row, bytes),
         _ => batch::answer(row, call, bytes),
     }
@@ -26,21 +20,6 @@ fn rewrite(row: &mut Row<'_>, bytes: &Bytes) {
         Ok(spec) => row.digits(spec_text(row.alloc, &spec)),
         Err(fault) => row.say(fault),
     }
-}
-
-/// What `Spec::new` says of a partition that stands twice, with two ends.
-fn twice(row: &mut Row<'_>) {
-    let mut ends = Listed::new(Vec::new(row.alloc));
-    for end in [3, 4] {
-        let pushed = ends.push(End {
-            topic: Bytes::from_static(b"out"),
-            partition: 0,
-            end,
-        });
-        row.done(pushed);
-    }
-    let apps = Listed::new(Vec::new(row.alloc));
-    row.say(Ok::<Option<SpecFault>, AllocError>(Spec::new(row.alloc, apps, ends).err()));
 }
 
 /// What segments are answered that are added as TOPIC/PARTITION/FROM/TO, one for each base; the bases of the first of them in

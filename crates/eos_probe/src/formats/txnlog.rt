@@ -5,8 +5,7 @@ use crate::row::Row;
 use bytes::Bytes;
 use eos_base::RecordFault;
 use eos_txnlog::{
-    TxnValue, decode_key, decode_value, encode_key, encode_value, is_same_set, is_skipped, lists,
-    step_ok,
+    TxnValue, decode_key, decode_value, encode_key, encode_value, is_same_set, is_skipped,
 };
 
 pub(super) fn answer(row: &mut Row<'_>, call: &str, bytes: &Bytes) {
@@ -15,10 +14,8 @@ pub(super) fn answer(row: &mut Row<'_>, call: &str, bytes: &Bytes) {
         "encode_txn_key" => row.digits(encode_key(row.alloc, bytes)),
         "decode_txn_value" => row.say(decode_value(row.alloc, bytes)),
         "encode_txn_value" => recode(row, bytes),
-        "lists" => list(row, bytes),
         "is_same_set" => compare(row, bytes),
-        "is_skipped_first" => skip_first(row, bytes),
-        "is_skipped" | "step_ok" => follow(row, call, bytes),
+        "is_skipped" => skip(row, bytes),
         _ => offsets::answer(row, call, bytes),
     }
 }
@@ -33,26 +30,13 @@ fn recode(row: &mut Row<'_>, bytes: &Bytes) {
 }
 
 /// A value; where it doesn't read, that is said.
-fn value_of(row: &mut Row<'_>, bytes: &Bytes) -> Option<TxnValue> {
+pub(crate) fn value_of(row: &mut Row<'_>, bytes: &Bytes) -> Option<TxnValue> {
     match decode_value(row.alloc, bytes) {
         Ok(value) => Some(value),
         Err(fault) => {
             row.say(Err::<(), RecordFault>(fault));
             None
         }
-    }
-}
-
-/// Whether a value lists this partition of a topic.
-fn list(row: &mut Row<'_>, bytes: &Bytes) {
-    let topic = row.word();
-    let number = row.parse(row.rest, 0);
-    if let Some(value) = value_of(row, bytes) {
-        row.say(Ok::<bool, RecordFault>(lists(
-            value.partitions.as_slice(),
-            topic.as_bytes(),
-            number,
-        )));
     }
 }
 
@@ -72,34 +56,23 @@ fn compare_values(row: &mut Row<'_>, first: &TxnValue, second: &TxnValue) {
 }
 
 /// The value of a record, None for a tombstone, which has no bytes; where it doesn't read, that is said.
-fn state_of(row: &mut Row<'_>, bytes: &Bytes) -> Option<Option<TxnValue>> {
+pub(crate) fn state_of(row: &mut Row<'_>, bytes: &Bytes) -> Option<Option<TxnValue>> {
     if bytes.is_empty() {
         return Some(None);
     }
     Some(Some(value_of(row, bytes)?))
 }
 
-/// Whether nothing leads to the first value of an id.
-fn skip_first(row: &mut Row<'_>, bytes: &Bytes) {
-    if let Some(next) = state_of(row, bytes) {
-        row.say(is_skipped(row.alloc, None, next.as_ref()));
-    }
-}
-
-/// What is said of a value, or a tombstone, behind another one.
-fn follow(row: &mut Row<'_>, call: &str, bytes: &Bytes) {
+/// Whether nothing leads from a value, or a tombstone, to another one.
+fn skip(row: &mut Row<'_>, bytes: &Bytes) {
     let next = row.bytes(row.rest);
     if let Some(last) = state_of(row, bytes) {
         if let Some(next) = state_of(row, &next) {
-            follow_values(row, call, last.as_ref(), next.as_ref());
+            skip_values(row, last.as_ref(), next.as_ref());
         }
     }
 }
 
-fn follow_values(row: &mut Row<'_>, call: &str, last: Option<&TxnValue>, next: Option<&TxnValue>) {
-    if call == "step_ok" {
-        row.say(Ok::<_, RecordFault>(step_ok(last, next)));
-    } else {
-        row.say(is_skipped(row.alloc, Some(last), next));
-    }
+fn skip_values(row: &mut Row<'_>, last: Option<&TxnValue>, next: Option<&TxnValue>) {
+    row.say(is_skipped(row.alloc, Some(last), next));
 }

@@ -6,9 +6,7 @@ use super::verdicts::push_fault;
 use crate::row::Row;
 use eos_base::Listed;
 use eos_check::Fault;
-use eos_commits::{
-    CommitRef, TopicSet, commits_of, committed, last_committed, least_visible_fault,
-};
+use eos_commits::{committed, least_visible_fault};
 use eos_evidence::{App, End, GroupId, Spec, SpecFault};
 use eos_lineage::{LineageFault, check_lineage};
 use eos_output_faults::all_output_faults;
@@ -94,38 +92,6 @@ pub(super) fn answer<R: Threads + Sync>(rt: &R, row: &mut Row<'_>, call: &str) {
     }
 }
 
-/// Writes the commits of a group, and the last for the partition of this name.
-fn push_commits(row: &mut Row<'_>, all: &[CommitRef<'_>], topic: &[u8], number: i32) {
-    row.tell("last=", last_committed(all, topic, number));
-    for commit in all {
-        let topic = std::str::from_utf8(commit.topic).unwrap_or("no text");
-        row.put(" ");
-        row.put(topic);
-        row.tell("-", commit.partition);
-        row.tell(":", commit.offset);
-        row.tell("=", commit.writer);
-    }
-}
-
-/// What is said of the words `GROUP TOPIC,TOPIC NAME PART PART ..`.
-pub(super) fn commits(row: &mut Row<'_>) {
-    let group = row.upto(' ');
-    let topics = row.upto(' ');
-    let topics = row.topics(topics);
-    let name = row.upto(' ');
-    let name = row.name(name);
-    let parts = parts_of(row);
-    match commits_of(
-        row.alloc,
-        group.as_bytes(),
-        topics.as_slice(),
-        parts.as_slice(),
-    ) {
-        Ok(all) => push_commits(row, all.as_slice(), name.topic.as_slice(), name.partition),
-        Err(_) => row.is_out = true,
-    }
-}
-
 /// What is said of the words `GROUP NAME PART PART ..`: the committed offset.
 pub(super) fn offset_of(row: &mut Row<'_>) {
     let group = row.upto(' ');
@@ -142,14 +108,5 @@ pub(super) fn offset_of(row: &mut Row<'_>) {
     );
     if let Some(offset) = row.got(offset) {
         row.say(offset);
-    }
-}
-
-/// Whether the topics of the words `TOPIC,TOPIC TOPIC` have the last one among them.
-pub(super) fn has(row: &mut Row<'_>) {
-    let topics = row.upto(' ');
-    let topics = row.topics(topics);
-    if let Some(set) = row.got(TopicSet::of(row.alloc, topics.as_slice())) {
-        row.say(set.has(row.rest.as_bytes()));
     }
 }

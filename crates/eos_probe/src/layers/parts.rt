@@ -4,7 +4,7 @@ ghost use Rattle.std.specs.Prelude.{IfSome, IsTrue};
 ghost use Rattle.eos_fold.specs.Sums.{IsFit};
 ghost use Rattle.eos_fold.specs.Standing.{AreOf};
 
-use super::orders::joined;
+use super::orders::from_the_left;
 use crate::row::Row;
 use eos_base::PartitionName;
 use eos_evidence::Segment;
@@ -38,7 +38,12 @@ fn is_of(name: &PartitionName, run: &Named) -> bool
 }
 
 /// The log of a partition that ends there.
-fn ended(row: &mut Row<'_>, name: PartitionName, end: i64, run: Option<Named>) -> Option<Part> {
+pub(crate) fn ended(
+    row: &mut Row<'_>,
+    name: PartitionName,
+    end: i64,
+    run: Option<Named>,
+) -> Option<Part> {
     let Some(run) = run else {
         return row.got(Part::new(row.alloc, name.topic, name.partition, end, None));
     };
@@ -50,7 +55,7 @@ fn ended(row: &mut Row<'_>, name: PartitionName, end: i64, run: Option<Named>) -
 }
 
 /// The runs of the segments that are still to be read, one each.
-fn runs_of(row: &mut Row<'_>, name: &PartitionName) -> Vec<Named> {
+pub(crate) fn runs_of(row: &mut Row<'_>, name: &PartitionName) -> Vec<Named> {
     let mut runs = Vec::new(row.alloc);
     let mut piece = 0u64;
     for word in row.rest.split_terminator(',') {
@@ -65,23 +70,23 @@ fn runs_of(row: &mut Row<'_>, name: &PartitionName) -> Vec<Named> {
     runs
 }
 
-/// The partition that is still to be read, its segments joined in this order.
-pub(super) fn part_of(row: &mut Row<'_>, order: &str) -> Option<Part> {
+/// The partition that is still to be read.
+pub(super) fn part_of(row: &mut Row<'_>) -> Option<Part> {
     let name = row.upto(':');
     let name = row.name(name);
     let end = row.upto(':');
     let end = row.parse(end, 0i64);
     let runs = runs_of(row, &name);
-    let run = joined(row, runs, order);
+    let run = from_the_left(row, runs);
     ended(row, name, end, run)
 }
 
 /// The partitions that are still to be read.
-pub(super) fn parts_of(row: &mut Row<'_>) -> Vec<eos_partition::Part> {
+pub(crate) fn parts_of(row: &mut Row<'_>) -> Vec<eos_partition::Part> {
     let mut parts = Vec::new(row.alloc);
     for word in row.rest.split_whitespace() {
         row.rest = word;
-        if let Some(part) = part_of(row, "left") {
+        if let Some(part) = part_of(row) {
             row.push(&mut parts, eos_partition::Part::whole(part));
         }
     }

@@ -2,7 +2,7 @@
 
 use crate::row::Row;
 use eos_check::{Counts, Fault, Verdict};
-use eos_report::{verdict_json, verdict_line, write_verdict};
+use eos_report::{verdict_line, write_verdict};
 use std::io::{self, ErrorKind, Write};
 
 /// Writes the line of a verdict, without its line feed.
@@ -13,7 +13,7 @@ pub(crate) fn push_verdict(row: &mut Row<'_>, verdict: &Verdict) {
 }
 
 /// Writes the line of a fault.
-pub(super) fn push_fault(row: &mut Row<'_>, fault: Fault) {
+pub(crate) fn push_fault(row: &mut Row<'_>, fault: Fault) {
     push_verdict(row, &Verdict::No(fault));
 }
 
@@ -40,7 +40,7 @@ impl Write for Full {
     }
 }
 
-pub(super) const YES: Verdict = Verdict::Yes(Counts {
+pub(crate) const YES: Verdict = Verdict::Yes(Counts {
     transactions: 1,
     inputs: 2,
     outputs: 3,
@@ -56,18 +56,4 @@ pub(super) fn write(row: &mut Row<'_>) {
         " ",
         std::str::from_utf8(writer.taken.as_slice()).unwrap_or("no text"),
     );
-}
-
-/// Writes the line of a verdict and its JSON text.
-pub(super) fn tell_texts(row: &mut Row<'_>, verdict: &Verdict) {
-    let line = verdict_line(row.alloc, verdict);
-    if let Some(line) = row.got(line) {
-        row.say(line);
-    }
-    row.put(" ");
-    if let Some(json) = row.got(verdict_json(row.alloc, verdict)) {
-        if let Some(text) = row.got(json.to_string(row.alloc)) {
-            row.put(&text);
-        }
-    }
 }

@@ -1,7 +1,8 @@
 //! Evidence of words: a partition is `TOPIC-NUMBER:END:BASE/BYTES,BASE/BYTES`, a base and bytes for each segment. The group `g`
 //! reads `in` and writes `out`.
 
-use crate::layers::{segment_of, spec_of};
+use crate::layers::applications::spec_of;
+use crate::layers::parts::segment_of;
 use crate::row::Row;
 use eos_base::PartitionName;
 use eos_evidence::{AddFault, End, Evidence, EvidenceBuilder};

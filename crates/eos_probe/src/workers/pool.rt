@@ -5,7 +5,7 @@ use eos_board::{Loose, PoolCore, PoolEvent, PoolReply, Tied};
 use eos_evidence::Evidence;
 
 /// Writes the first and the last piece of each run.
-pub(super) fn push_runs(row: &mut Row<'_>, runs: &[Tied<Loose>]) {
+pub(crate) fn push_runs(row: &mut Row<'_>, runs: &[Tied<Loose>]) {
     row.put("[");
     for run in runs {
         row.apart(", ");
