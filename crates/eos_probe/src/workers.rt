@@ -3,6 +3,7 @@
 mod evidence;
 mod gate;
 pub(crate) mod pool;
+mod told;
 
 use crate::layers;
 use crate::row::Row;
@@ -12,7 +13,7 @@ use std::thread::Threads;
 
 pub(crate) fn answer<R: Threads + Wait + Sync>(rt: &R, row: &mut Row<'_>, call: &str) {
     match call {
-        "pool" | "check_noted" | "check_one" => answer_of(rt, row, call),
+        "pool" | "check_noted" | "check_one" | "check_by" | "check_to" => answer_of(rt, row, call),
         _ => layers::answer(rt, row, call),
     }
 }
@@ -30,6 +31,8 @@ fn answer_of<R: Threads + Wait + Sync>(rt: &R, row: &mut Row<'_>, call: &str) {
         match call {
             "pool" => pool::run(row, &evidence),
             "check_noted" => gate::check_noted(rt, row, &evidence),
+            "check_by" => told::check_by(rt, row, &evidence),
+            "check_to" => told::answer_to(rt, row, &evidence),
             _ => gate::check_alone(rt, row, &evidence),
         }
     }

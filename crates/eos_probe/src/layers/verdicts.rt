@@ -3,6 +3,7 @@
 use crate::row::Row;
 use eos_check::{Counts, Fault, Verdict};
 use eos_report::{verdict_line, write_verdict};
+use std::alloc::Global;
 use std::io::{self, ErrorKind, Write};
 
 /// Writes the line of a verdict, without its line feed.
@@ -19,9 +20,23 @@ pub(crate) fn push_fault(row: &mut Row<'_>, fault: Fault) {
 
 /// A writer that takes so many bytes and then fails.
 #[derive(Drop)]
-struct Full {
+pub(crate) struct Full {
     taken: Vec<u8>,
     room: usize,
+}
+
+impl Full {
+    pub(crate) fn new(alloc: Global, room: usize) -> Full {
+        Full {
+            taken: Vec::new(alloc),
+            room,
+        }
+    }
+
+    /// What was written.
+    pub(crate) fn text(&self) -> &str {
+        std::str::from_utf8(self.taken.as_slice()).unwrap_or("no text")
+    }
 }
 
 impl Write for Full {
@@ -49,11 +64,7 @@ pub(crate) const YES: Verdict = Verdict::Yes(Counts {
 /// What `write_verdict` answers where there is room for so many bytes, and what was written.
 pub(super) fn write(row: &mut Row<'_>) {
     let room = row.place(row.rest);
-    let taken = Vec::new(row.alloc);
-    let mut writer = Full { taken, room };
+    let mut writer = Full::new(row.alloc, room);
     row.say(write_verdict(row.alloc, &YES, &mut writer));
-    row.tell(
-        " ",
-        std::str::from_utf8(writer.taken.as_slice()).unwrap_or("no text"),
-    );
+    row.tell(" ", writer.text());
 }
