@@ -61,6 +61,13 @@ def make_crate(folder):
     return crate
 
 
+def laid_out(crate):
+    """Lays out the program's crate, and names the files of tests/rows that were otherwise."""
+    done = subprocess.run(["rt", "fmt"], cwd=crate, capture_output=True, text=True, check=False)
+    names = re.findall(r"^rt: formatted src/(\w+)\.rt$", done.stdout, re.M)
+    return [name for name in names if os.path.isfile(f"{SOURCES}/{name}.rattle")]
+
+
 def parts_of(text, names):
     """What stands behind each line '== NAME' of these names, in its order."""
     parts, found = {}, []
@@ -86,9 +93,10 @@ def ends_of(text):
 
 
 def run(asked):
-    """The answers to each list of rows, how its run ended, and what was said besides."""
+    """The answers to each list of rows, how its run ended, what was said besides, and which sources have another layout."""
     with tempfile.TemporaryDirectory() as folder:
         crate = make_crate(folder)
+        others = laid_out(crate)
         os.mkdir(f"{folder}/cases")
         for it in asked:
             with open(f"{folder}/cases/{it.name}", "w", encoding="utf-8") as file:
@@ -96,16 +104,16 @@ def run(asked):
         words = ["rt", "try", *LIMITS, "--cases", f"{folder}/cases"]
         done = subprocess.run(words, cwd=crate, capture_output=True, text=True, errors="replace", check=False)
     ends, said = ends_of(done.stderr)
-    return parts_of(done.stdout, {it.name for it in asked}), ends, said
+    return parts_of(done.stdout, {it.name for it in asked}), ends, said, others
 
 
 def failures_of(asked):
     """How many rows pass, and a text for each failure."""
-    parts, ends, said = run(asked)
+    parts, ends, said, others = run(asked)
     if not ends:
         error = next((at for at, line in enumerate(said) if "error" in line), max(len(said) - 9, 0))
         return 0, ["the unproved program wasn't built or run:\n" + "\n".join(said[error : error + 9])]
-    passed, failures = 0, []
+    passed, failures = 0, [f"tests/rows/{name}.rattle has another layout: tests/unproved.py --layout" for name in others]
     for it in asked:
         end, why = ends.get(it.name, ("it wasn't run", []))
         if not end.startswith("run=ended status=0 "):
@@ -125,13 +133,13 @@ def tell(asked):
 
 
 def lay_out():
-    """Has the kit lay out the program's sources, and takes back those that it changed."""
+    """Lays out the program's sources."""
     with tempfile.TemporaryDirectory() as folder:
         crate = make_crate(folder)
-        done = subprocess.run(["rt", "fmt"], cwd=crate, check=False)
-        for path in glob.glob(f"{SOURCES}/*.rattle"):
-            shutil.copy(f"{crate}/src/{os.path.basename(path)[: -len('.rattle')]}.rt", path)
-    return done.returncode
+        for name in laid_out(crate):
+            shutil.copy(f"{crate}/src/{name}.rt", f"{SOURCES}/{name}.rattle")
+            print(f"laid out tests/rows/{name}.rattle")
+    return 0
 
 
 def main():

@@ -11,10 +11,10 @@ use std::sync::Wait;
 use std::sync::atomic::{AtomicU64, Ordering};
 use std::thread::Threads;
 
-/// Notes the first piece of the run that was made last.
+/// Notes that a worker has made the run of the first piece.
 #[derive(Drop)]
 struct Noted {
-    /// Not 0 once the run of the first piece was made.
+    /// Not 0 once it was made.
     made: AtomicU64,
 }
 
