@@ -101,7 +101,7 @@ def run(asked):
         for it in asked:
             with open(f"{folder}/cases/{it.name}", "w", encoding="utf-8") as file:
                 file.writelines(f"{row}\n" for row in it.rows)
-        words = ["rt", "try", *LIMITS, "--cases", f"{folder}/cases"]
+        words = [f"{TOP}/tools/try", *LIMITS, "--cases", f"{folder}/cases"]
         done = subprocess.run(words, cwd=crate, capture_output=True, text=True, errors="replace", check=False)
     ends, said = ends_of(done.stderr)
     return parts_of(done.stdout, {it.name for it in asked}), ends, said, others
