@@ -88,14 +88,14 @@ static const char *opened(const char *path) {
     return path;
 }
 
-int openat(int folder, const char *path, int flags, ...) {
-    static int (*real)(int, const char *, int, ...);
+int open(const char *path, int flags, ...) {
+    static int (*real)(const char *, int, ...);
     va_list more;
     va_start(more, flags);
     mode_t mode = flags & (O_CREAT | O_TMPFILE) ? va_arg(more, mode_t) : 0;
     va_end(more);
-    if (!real) real = dlsym(RTLD_NEXT, "openat");
-    return real(folder, opened(path), flags, mode);
+    if (!real) real = dlsym(RTLD_NEXT, "open");
+    return real(opened(path), flags, mode);
 }
 
 ssize_t write(int file, const void *bytes, size_t size) {
