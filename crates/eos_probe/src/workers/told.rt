@@ -62,7 +62,8 @@ pub(super) fn answer_to<R: Threads + Wait + Sync>(rt: &R, row: &mut Row<'_>, evi
             row.tell(" ", writer.text());
             row.tell(" ", said.notes.as_str());
         }
-        Err(RunFault::OutOfMemory) => row.is_out = true,
+        // The writer has room, and fails for want of memory alone.
+        Err(RunFault::OutOfMemory | RunFault::Write) => row.is_out = true,
         Err(fault) => row.say(fault),
     }
 }
