@@ -640,6 +640,8 @@ def compare(program, path, seen, rng):
     line, status, notes = lines[0], 0 if lines[0].startswith("yes") else 1, notes_reference.lines(path)
     seen.update([line.split()[2] if line.startswith("no") else "yes"])
     json_form, workers, found, wanted = rng.random() < 0.3, rng.sample("14", 2), [], []
+    if seen.total() % 2:
+        workers = [{"1": "2", "4": "64"}[it] for it in workers]
     for words, count, shown in ([], workers[0], (json_of(line) if json_form else line) + "\n"), (
         ["--all"],
         workers[1],
