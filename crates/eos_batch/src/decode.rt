@@ -81,13 +81,16 @@ pub(crate) fn frame_of<'a>(rest: &mut Cursor<'a>) -> Result<(i64, Cursor<'a>), B
     ensures answers { Answers result (frame_at rest.old) }
     ensures real { IfErr result IsReal }
 {
-    let base_offset = rest.i64().ok_or(BatchFault::Truncated)?;
-    let len = rest.i32().ok_or(BatchFault::Truncated)?;
+    let (Some(base_offset), Some(len)) = (rest.i64(), rest.i32()) else {
+        return Err(BatchFault::Truncated);
+    };
     if len < LEAST_LENGTH {
         return Err(BatchFault::Length);
     }
-    let body = rest.take(len as usize).ok_or(BatchFault::Truncated)?;
-    Ok((base_offset, body))
+    match rest.take(len as usize) {
+        Some(body) => Ok((base_offset, body)),
+        None => Err(BatchFault::Truncated),
+    }
 }
 
 /// The leader epoch of a batch with the right checksum.
@@ -96,12 +99,15 @@ pub(crate) fn sealed_of(rest: &mut Cursor) -> Result<i32, BatchFault>
     ensures gives { Gives result rest.new (sealed_at rest.old) }
     ensures real { IfErr result IsReal }
 {
-    let leader_epoch = rest.i32().ok_or(BatchFault::Truncated)?;
-    let magic = rest.i8().ok_or(BatchFault::Truncated)?;
+    let (Some(leader_epoch), Some(magic)) = (rest.i32(), rest.i8()) else {
+        return Err(BatchFault::Truncated);
+    };
     if magic != MAGIC {
         return Err(BatchFault::Magic);
     }
-    let checksum = rest.u32().ok_or(BatchFault::Truncated)?;
+    let Some(checksum) = rest.u32() else {
+        return Err(BatchFault::Truncated);
+    };
     if checksum != crc32c(rest.rest()) {
         return Err(BatchFault::Crc);
     }
@@ -118,14 +124,22 @@ pub(crate) fn head_of(
     ensures gives { Gives result rest.new (head_at base_offset leader_epoch rest.old) }
     ensures real { IfErr result IsReal }
 {
-    let attributes = rest.i16().ok_or(BatchFault::Truncated)?;
-    let last_offset_delta = rest.i32().ok_or(BatchFault::Truncated)?;
-    let base_timestamp = rest.i64().ok_or(BatchFault::Truncated)?;
-    let max_timestamp = rest.i64().ok_or(BatchFault::Truncated)?;
-    let producer = rest.i64().ok_or(BatchFault::Truncated)?;
-    let epoch = rest.i16().ok_or(BatchFault::Truncated)?;
-    let sequence = rest.i32().ok_or(BatchFault::Truncated)?;
-    let count = rest.i32().ok_or(BatchFault::Truncated)?;
+    let (Some(attributes), Some(last_offset_delta), Some(base_timestamp), Some(max_timestamp)) = (
+        rest.i16(),
+        rest.i32(),
+        rest.i64(),
+        rest.i64(),
+    ) else {
+        return Err(BatchFault::Truncated);
+    };
+    let (Some(producer), Some(epoch), Some(sequence), Some(count)) = (
+        rest.i64(),
+        rest.i16(),
+        rest.i32(),
+        rest.i32(),
+    ) else {
+        return Err(BatchFault::Truncated);
+    };
     Ok(Head {
         batch: Batch {
             base_offset,

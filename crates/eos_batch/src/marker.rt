@@ -11,7 +11,7 @@
 
 ghost use Rattle.std.specs.Prelude.{◌≡◌};
 ghost use Rattle.std.specs.Option.{option_map};
-ghost use Rattle.eos_batch.specs.Marker.{kind_of, control_type, coordinator_epoch_of, end_kind, marker_of};
+ghost use Rattle.eos_batch.specs.Marker.{control_type, coordinator_epoch_of, end_kind, marker_of};
 
 use crate::batch::Batch;
 use crate::rules::is_control;
@@ -37,16 +37,6 @@ pub struct Marker {
     pub coordinator_epoch: i32,
 }
 
-fn kind_of(number: i16) -> Option<Kind>
-    ensures { result ≡ kind_of number }
-{
-    match number {
-        0 => Some(Kind::Abort),
-        1 => Some(Kind::Commit),
-        _ => None,
-    }
-}
-
 /// The bytes of a key or value, lent.
 pub(crate) fn lent(bytes: &Option<Bytes>) -> Option<&[u8]>
     ensures { option_map (λ s. s.now) result ≡ bytes.now }
@@ -65,11 +55,10 @@ pub(crate) fn control_type(key: Option<&[u8]>) -> Option<i16>
         return None;
     };
     let mut fields = Fields::new(bytes);
-    let version = fields.i16()?;
-    if version < 0 {
-        return None;
+    match fields.i16() {
+        Some(version) if version >= 0 => fields.i16(),
+        _ => None,
     }
-    fields.i16()
 }
 
 /// The coordinator's epoch, by the value of an end marker.
@@ -80,18 +69,21 @@ pub(crate) fn coordinator_epoch(value: Option<&[u8]>) -> Option<i32>
         return None;
     };
     let mut fields = Fields::new(bytes);
-    let version = fields.i16()?;
-    if version < 0 {
-        return None;
+    match fields.i16() {
+        Some(version) if version >= 0 => fields.i32(),
+        _ => None,
     }
-    fields.i32()
 }
 
 /// The kind of an end marker, by its key.
 pub(crate) fn end_kind(key: Option<&[u8]>) -> Option<Kind>
     ensures { result ≡ end_kind (option_map (λ s. s.now) key.entry) }
 {
-    kind_of(control_type(key)?)
+    match control_type(key) {
+        Some(0) => Some(Kind::Abort),
+        Some(1) => Some(Kind::Commit),
+        _ => None,
+    }
 }
 
 impl Batch {
@@ -105,13 +97,16 @@ impl Batch {
         let [only] = self.records.as_slice() else {
             return None;
         };
-        let kind = end_kind(lent(&only.key))?;
-        let coordinator_epoch = coordinator_epoch(lent(&only.value))?;
-        Some(Marker {
-            producer: self.producer,
-            epoch: self.epoch,
-            kind,
-            coordinator_epoch,
-        })
+        let kind = end_kind(lent(&only.key));
+        let coordinator_epoch = coordinator_epoch(lent(&only.value));
+        match (kind, coordinator_epoch) {
+            (Some(kind), Some(coordinator_epoch)) => Some(Marker {
+                producer: self.producer,
+                epoch: self.epoch,
+                kind,
+                coordinator_epoch,
+            }),
+            _ => None,
+        }
     }
 }
