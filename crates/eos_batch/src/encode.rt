@@ -77,25 +77,23 @@ fn test(batch: &Batch) -> Result<(), BatchFault>
 }
 
 /// What the checksum covers: from the attributes to the end.
-fn covered(alloc: Global, batch: &Batch) -> Result<Vec<u8>, AllocError>
+fn write_covered(out: &mut Vec<u8>, batch: &Batch) -> Result<(), AllocError>
     requires some { 1 ≤ length batch.now.records }
     requires count { length batch.now.records < 2 ^ 31 }
     requires size { length (records_text 0 batch.now.records) ≤ 2 ^ 30 }
-    ensures text { IfOk result (λ v. v.items ≡ covered_text batch.now) }
+    ensures text { OnOk result (out.new.items ≡ out.old.items ++ covered_text batch.now) }
     ensures widths { OnOk result (HasCoveredWidths batch.now) }
 {
     let records = batch.records.as_slice();
-    let mut out = Vec::new(alloc);
-    write_i16(&mut out, batch.attributes)?;
-    write_i32(&mut out, (records.len() - 1) as i32)?;
-    write_i64(&mut out, batch.base_timestamp)?;
-    write_i64(&mut out, batch.max_timestamp)?;
-    write_i64(&mut out, batch.producer)?;
-    write_i16(&mut out, batch.epoch)?;
-    write_i32(&mut out, batch.sequence)?;
-    write_i32(&mut out, records.len() as i32)?;
-    write_records(&mut out, records)?;
-    Ok(out)
+    write_i16(out, batch.attributes)?;
+    write_i32(out, (records.len() - 1) as i32)?;
+    write_i64(out, batch.base_timestamp)?;
+    write_i64(out, batch.max_timestamp)?;
+    write_i64(out, batch.producer)?;
+    write_i16(out, batch.epoch)?;
+    write_i32(out, batch.sequence)?;
+    write_i32(out, records.len() as i32)?;
+    write_records(out, records)
 }
 
 /// The whole batch, with its length and the checksum of what is covered.
@@ -123,7 +121,8 @@ fn write(alloc: Global, batch: &Batch) -> Result<Bytes, AllocError>
     ensures value { IfOk result (λ text. text ≡ batch_text_of batch.now) }
     ensures text { IfOk result (λ text. IsBatchText text batch.now) }
 {
-    let covered = covered(alloc, batch)?;
+    let mut covered = Vec::new(alloc);
+    write_covered(&mut covered, batch)?;
     let text = sealed(alloc, batch, covered.as_slice())?;
     Ok(Bytes::from_vec(text)?)
 }

@@ -2,11 +2,12 @@ use Rattle.std.proofs.Common.{◌≡◌, ◌++◌, List, ℕ, ℤ, ◌-◌, pos,
 use Rattle.std.specs.Prelude.{FitsSigned}
 use Rattle.std.specs.Int.{w16, w32, w64}
 use Rattle.std.proofs.lemmas.Int.{ints, to_z-of_z, to_z_pos}
+use Rattle.std.proofs.lemmas.Result.{on_ok_weaker}
 use Rattle.eos_wire.specs.Numbers.{i32_text}
 use Rattle.eos_batch.specs.declared.record.Record.{Record}
 use Rattle.eos_batch.specs.Encoding.{covered_text, records_text}
 use Rattle.eos_batch.proofs.EncodingSteps.{appended_9}
-use Rattle.eos_batch.proofs.encode.covered.Goals as goal
+use Rattle.eos_batch.proofs.encode.write_covered.Goals as goal
 
 pub returns-clause-text : goal.returns-clause-text
 unfolding covered_text
@@ -27,7 +28,8 @@ returns-clause-text c =
     let sequence = simp to_z-of_z at c.in_ok-write_i32-2.ensures.ok in
     let last = to_z_pos w32 (length c.as_slice-records.result.now - 1) (omega (arith, n)) in
     let count = to_z_pos w32 (length c.as_slice-records.result.now) (omega (arith, n)) in
-    appended_9 c.new-out.result.items _ _ _ _ _ _ _ _ _ _ _ _ _ _ _ _ _ _ c.new-out.ensures.items
+    on_ok_weaker c.write_records.result
+    (λ last_part. appended_9 c.args.out.now.items _ _ _ _ _ _ _ _ _ _ _ _ _ _ _ _ _ _
     attributes
     (c.in_ok-write_i32.ensures.ok ∙ ap (λ (z : ℤ). c.write_i16.new.out.items ++ i32_text z) (last ∙ ap (λ (n : ℕ). pos (n - 1)) n))
     base
@@ -36,4 +38,5 @@ returns-clause-text c =
     epoch
     sequence
     (c.in_ok-write_i32-3.ensures.ok ∙ ap (λ (z : ℤ). c.write_i32-2.new.out.items ++ i32_text z) (count ∙ ap pos n))
-    (c.in_ok-write_records.ensures.text ∙ ap (λ (rs : List Record). c.write_i32-3.new.out.items ++ records_text 0 rs) rs)
+    (last_part ∙ ap (λ (rs : List Record). c.write_i32-3.new.out.items ++ records_text 0 rs) rs))
+    c.write_records.ensures.text
