@@ -1,5 +1,7 @@
 -- Records that are read where they stand: what reads once reads again.
-use Rattle.std.proofs.Common.{◌≡◌, ℕ, ℤ, Option, suc, ◌-◌, List, [], ◌∷◌, length, drop, eqb, Result, Ok, Err, refl, sym, ap, subst, ◌∙◌, arith}
+use Rattle.std.proofs.Common.{◌≡◌, ◌≢◌, ℕ, ℤ, pos, suc, ◌-◌, Bool, true, false, List, [], ◌∷◌, length, drop, eqb, Result, Ok, Err, refl, sym, ap, subst, ◌∙◌, arith}
+use Rattle.std.specs.Ordering.{int_eq}
+use Rattle.std.proofs.lemmas.Bool.Decides.{Decides-int_eq}
 use Rattle.eos_wire.specs.Numbers.{i8_at}
 use Rattle.eos_batch.specs.declared.fault.BatchFault.{BatchFault}
 use Rattle.eos_batch.specs.declared.fault.BatchFault.TheVariants as faults
@@ -7,13 +9,13 @@ use Rattle.eos_batch.specs.declared.record.Header.{Header}
 use Rattle.eos_batch.specs.declared.record.Record.{Record}
 use Rattle.eos_batch.specs.declared.view.Parts.{Parts}
 use Rattle.eos_batch.specs.Real.{IsReal}
-use Rattle.eos_base.specs.Fallible.{or_fault}
+use Rattle.eos_base.specs.Fallible.{◌>>=◌, or_fault, must}
 use Rattle.eos_batch.specs.Answers.{Fails}
-use Rattle.eos_batch.specs.Reading.{used_up, int_at, long_at, optional_at, count_at, bytes_at, header_at, headers_at, body_at}
+use Rattle.eos_batch.specs.Reading.{used_up, int_at, long_at, optional_at, count_at, bytes_at, header_at, headers_at, body_at, placed_at, record_at}
 use Rattle.eos_batch.specs.Places.{whole_at, found_at, read_headers}
-use Rattle.eos_batch.specs.steps.Places.{parts_at}
-use Rattle.eos_batch.proofs.TextParts.{bind_ok, done, ok_is, must_ok}
-use Rattle.eos_batch.proofs.ReadLoops.{real_fault}
+use Rattle.eos_batch.specs.steps.Places.{parts_at, made_of, whole_from, placed_from}
+use Rattle.eos_batch.proofs.TextParts.{bind_ok, ok_is, must_ok}
+use Rattle.eos_batch.proofs.ReadLoops.{fails_through, real_fault}
 
 header_first : (n : ℕ) (rest : List ℕ) (x : List Header × List ℕ) → headers_at (suc n) rest ≡ Ok x
     → (h : Header × List ℕ) × (o : List Header × List ℕ) × (header_at rest ≡ Ok h) × (headers_at n h.1 ≡ Ok o) × (x ≡ (h.0 ∷ o.0, o.1))
@@ -48,49 +50,110 @@ no_headers count rest z = rw z refl
 
 -- ---- a record
 
-abbrev pub made_of : Parts → List Header → Record
-made_of p hs = record { attributes = p.attributes; timestamp_delta = p.timestamp_delta; key = p.key; value = p.value; headers = hs }
+-- what a step gives goes through the ones after it
+pub through : {A B C : Type 0} (r : Result A BatchFault) (f : A → Result B BatchFault) (g : A → Result C BatchFault) (k : B → Result C BatchFault) → ((x : A) → g x ≡ (f x >>= k)) → (r >>= g) ≡ ((r >>= f) >>= k)
+through (Ok x) f g k h = h x
+through (Err e) f g k h = refl
 
-parts_from : (text : List ℕ) (a t : ℤ × List ℕ) (d : ℤ × List ℕ) (k v : Option (List ℕ) × List ℕ) (n : ℕ × List ℕ)
-    → or_fault faults.Record (i8_at text) ≡ Ok a → long_at a.1 ≡ Ok t → int_at t.1 ≡ Ok d → optional_at d.1 ≡ Ok k → optional_at k.1 ≡ Ok v → count_at v.1 ≡ Ok n
-    → parts_at text ≡ Ok (record { attributes = a.0; timestamp_delta = t.0; key = k.0; value = v.0; count = n.0; rest = n.1 })
-unfolding parts_at
-parts_from text a t d k v n ea et ed ek ev en = rw (ea, et, ed, ek, ev, en) refl
+abbrev body_of : Parts → List Header × List ℕ → Result ((ℤ × Record) × List ℕ) BatchFault
+body_of p h = Ok ((p.delta, made_of p h.0), h.1)
 
-abbrev parts_made : ℤ × List ℕ → ℤ × List ℕ → Option (List ℕ) × List ℕ → Option (List ℕ) × List ℕ → ℕ × List ℕ → Parts
-parts_made a t k v n = record { attributes = a.0; timestamp_delta = t.0; key = k.0; value = v.0; count = n.0; rest = n.1 }
+abbrev body_from : Parts → Result ((ℤ × Record) × List ℕ) BatchFault
+body_from p = headers_at p.count p.rest >>= body_of p
+
+body_parts : (text : List ℕ) → body_at text ≡ (parts_at text >>= body_from)
+unfolding body_at parts_at
+body_parts text =
+    through (or_fault faults.Record (i8_at text)) _ _ body_from (λ a. through (long_at a.1) _ _ body_from (λ t. through (int_at t.1) _ _ body_from
+    (λ d. through (optional_at d.1) _ _ body_from (λ k. through (optional_at k.1) _ _ body_from (λ v. through (count_at v.1) _ _ body_from (λ n. refl))))))
+
+abbrev whole_of : Parts → List Header × List ℕ → Result Record BatchFault
+whole_of p h = used_up faults.Record (made_of p h.0, h.1)
+
+-- what is still asked of a body, where its place doesn't matter, and where it does
+abbrev at_any : (ℤ × Record) × List ℕ → Result Record BatchFault
+at_any b = used_up faults.Record b >>= λ w. Ok w.1
+
+abbrev at_place : ℕ → (ℤ × Record) × List ℕ → Result Record BatchFault
+at_place place b = used_up faults.Record b >>= λ w. must (int_eq w.0 (pos place)) faults.Delta w.1
+
+pub whole_parts : (text : List ℕ) → whole_at text ≡ (parts_at text >>= whole_from)
+unfolding whole_at
+whole_parts text = rw (body_parts text) (parts (parts_at text))
+  where
+    tested : (b : Bool) (w : ℤ × Record) → (must b faults.Record w >>= λ v. Ok v.1) ≡ must b faults.Record w.1
+    tested true w = refl
+    tested false w = refl
+
+    headers : (p : Parts) (hs : Result (List Header × List ℕ) BatchFault) → ((hs >>= body_of p) >>= at_any) ≡ (hs >>= whole_of p)
+    headers p (Ok h) = tested (eqb (length h.1) 0) (p.delta, made_of p h.0)
+    headers p (Err e) = refl
+
+    parts : (r : Result Parts BatchFault) → ((r >>= body_from) >>= at_any) ≡ (r >>= whole_from)
+    parts (Ok p) = headers p (headers_at p.count p.rest)
+    parts (Err e) = refl
+
+pub placed_parts : (place : ℕ) (text : List ℕ) → placed_at place text ≡ (parts_at text >>= placed_from place)
+unfolding placed_at
+placed_parts place text = rw (body_parts text) (parts (parts_at text))
+  where
+    tested : (b : Bool) (w : ℤ × Record) → (must b faults.Record w >>= λ v. must (int_eq v.0 (pos place)) faults.Delta v.1) ≡ (must b faults.Record w.1 >>= λ r. must (int_eq w.0 (pos place)) faults.Delta r)
+    tested true w = refl
+    tested false w = refl
+
+    headers : (p : Parts) (hs : Result (List Header × List ℕ) BatchFault)
+        → ((hs >>= body_of p) >>= at_place place) ≡ ((hs >>= whole_of p) >>= λ r. must (int_eq p.delta (pos place)) faults.Delta r)
+    headers p (Ok h) = tested (eqb (length h.1) 0) (p.delta, made_of p h.0)
+    headers p (Err e) = refl
+
+    parts : (r : Result Parts BatchFault) → ((r >>= body_from) >>= at_place place) ≡ (r >>= placed_from place)
+    parts (Ok p) = headers p (headers_at p.count p.rest)
+    parts (Err e) = refl
+
+-- a record at this place, whose text was read
+pub parts_fail : (place : ℕ) (bytes text rest : List ℕ) (e : BatchFault) → bytes_at bytes ≡ Ok (text, rest) → Fails e (parts_at text) → Fails e (record_at place bytes)
+unfolding record_at
+parts_fail place bytes text rest e read h = fails_through e (parts_at text) (record_at place bytes) (λ f q. rw (read, placed_parts place text, q) refl) h
+
+pub placed_fail : (place : ℕ) (bytes text rest : List ℕ) (p : Parts) (e : BatchFault) → bytes_at bytes ≡ Ok (text, rest) → parts_at text ≡ Ok p → Fails e (placed_from place p) → Fails e (record_at place bytes)
+unfolding record_at
+placed_fail place bytes text rest p e read parts h = fails_through e (placed_from place p) (record_at place bytes) (λ f q. rw (read, placed_parts place text, parts, q) refl) h
+
+pub whole_fail : (place : ℕ) (bytes text rest : List ℕ) (p : Parts) (e : BatchFault) → bytes_at bytes ≡ Ok (text, rest) → parts_at text ≡ Ok p → Fails e (whole_from p) → Fails e (record_at place bytes)
+whole_fail place bytes text rest p e read parts h = placed_fail place bytes text rest p e read parts (fails_through e (whole_from p) (placed_from place p) (λ f q. rw q refl) h)
+
+pub placed_is : (place : ℕ) (text : List ℕ) (p : Parts) (r : Record) → parts_at text ≡ Ok p → placed_from place p ≡ Ok r → placed_at place text ≡ Ok r
+placed_is place text p r parts e = rw (placed_parts place text, parts) e
+
+abbrev and_rest : List ℕ → Record → Result (Record × List ℕ) BatchFault
+and_rest rest r = Ok (r, rest)
+
+pub delta_fails : (place : ℕ) (bytes text rest : List ℕ) (p : Parts) (r : Record) → bytes_at bytes ≡ Ok (text, rest) → parts_at text ≡ Ok p → whole_from p ≡ Ok r → p.delta ≢ pos place → record_at place bytes ≡ Err faults.Delta
+unfolding record_at
+delta_fails place bytes text rest p r read parts e is = rw (read, placed_parts place text, parts, e) (off (int_eq p.delta (pos place)) refl)
+  where
+    off : (b : Bool) → int_eq p.delta (pos place) ≡ b → (must b faults.Delta r >>= and_rest rest) ≡ Err faults.Delta
+    off true q = absurd (is ((Decides-int_eq p.delta (pos place)).0 q))
+    off false q = refl
+
+pub record_is : (place : ℕ) (bytes text rest : List ℕ) (p : Parts) (r : Record) → bytes_at bytes ≡ Ok (text, rest) → parts_at text ≡ Ok p → whole_from p ≡ Ok r → p.delta ≡ pos place → record_at place bytes ≡ Ok (r, rest)
+unfolding record_at
+record_is place bytes text rest p r read parts e is = rw (read, placed_parts place text, parts, e, (Decides-int_eq p.delta (pos place)).1 is) refl
 
 abbrev HasParts : List ℕ → Record → Type 0
 HasParts text r = (p : Parts) × (hs : List Header × List ℕ) × (parts_at text ≡ Ok p) × (headers_at p.count p.rest ≡ Ok hs) × (r ≡ made_of p hs.0)
 
--- a record whose fields were read one after the other
-whole_made : (text : List ℕ) (r : Record) (a t d : ℤ × List ℕ) (k v : Option (List ℕ) × List ℕ) (n : ℕ × List ℕ) (h : List Header × List ℕ) (b : (ℤ × Record) × List ℕ) (w : ℤ × Record)
-    → or_fault faults.Record (i8_at text) ≡ Ok a → long_at a.1 ≡ Ok t → int_at t.1 ≡ Ok d → optional_at d.1 ≡ Ok k → optional_at k.1 ≡ Ok v → count_at v.1 ≡ Ok n → headers_at n.0 n.1 ≡ Ok h
-    → done ((d.0, made_of (parts_made a t k v n) h.0), h.1) ≡ done b → b.0 ≡ w → done w.1 ≡ done r → HasParts text r
-whole_made text r a t d k v n h b w ea et ed ek ev en eh eb ew er =
-    let last : w.1 ≡ r = ok_is w.1 r er in
-    let made : ((d.0, made_of (parts_made a t k v n) h.0), h.1) ≡ b = ok_is ((d.0, made_of (parts_made a t k v n) h.0), h.1) b eb in
-    (parts_made a t k v n, h, parts_from text a t d k v n ea et ed ek ev en, eh, sym last ∙ (ap (λ (z : ℤ × Record). z.1) (sym ew) ∙ ap (λ (z : (ℤ × Record) × List ℕ). z.0.1) (sym made)))
-
-whole_parts : (text : List ℕ) (r : Record) → whole_at text ≡ Ok r → HasParts text r
-unfolding whole_at body_at
-whole_parts text r e =
-    let b = bind_ok (body_at text) _ r e in
-    let w = bind_ok (used_up faults.Record b.0) _ r b.2 in
-    let g = must_ok (eqb (length b.0.1) 0) faults.Record b.0.0 w.0 w.1 in
-    let a = bind_ok (or_fault faults.Record (i8_at text)) _ b.0 b.1 in
-    let t = bind_ok (long_at a.0.1) _ b.0 a.2 in
-    let d = bind_ok (int_at t.0.1) _ b.0 t.2 in
-    let k = bind_ok (optional_at d.0.1) _ b.0 d.2 in
-    let v = bind_ok (optional_at k.0.1) _ b.0 k.2 in
-    let n = bind_ok (count_at v.0.1) _ b.0 v.2 in
-    let h = bind_ok (headers_at n.0.0 n.0.1) _ b.0 n.2 in
-    whole_made text r a.0 t.0 d.0 k.0 v.0 n.0 h.0 b.0 w.0 a.1 t.1 d.1 k.1 v.1 n.1 h.1 h.2 g.1 w.2
+has_parts : (text : List ℕ) (r : Record) → whole_at text ≡ Ok r → HasParts text r
+has_parts text r e =
+    let p = bind_ok (parts_at text) whole_from r (sym (whole_parts text) ∙ e) in
+    let h = bind_ok (headers_at p.0.count p.0.rest) _ r p.2 in
+    let g = must_ok (eqb (length h.0.1) 0) faults.Record (made_of p.0 h.0.0) r h.2 in
+    (p.0, h.0, p.1, h.1, sym g.1)
 
 pub view_is : (text : List ℕ) (r : Record) (p : Parts) → whole_at text ≡ Ok r → parts_at text ≡ Ok p
     → ((x : List Header × List ℕ) × (headers_at p.count p.rest ≡ Ok x)) × (whole_at text ≡ Ok (made_of p (read_headers (headers_at p.count p.rest))))
 view_is text r p e q =
-    let w = whole_parts text r e in
+    let w = has_parts text r e in
     let same : w.0 ≡ p = ok_is w.0 p (sym w.2 ∙ q) in
     let reads : headers_at p.count p.rest ≡ Ok w.1 = subst (λ (z : Parts). headers_at z.count z.rest ≡ Ok w.1) same w.3 in
     let made : r ≡ made_of p w.1.0 = subst (λ (z : Parts). r ≡ made_of z w.1.0) same w.4 in
@@ -98,7 +161,7 @@ view_is text r p e q =
 
 pub parts_stand : (text : List ℕ) (r : Record) (e : BatchFault) → whole_at text ≡ Ok r → IsReal e → Fails e (parts_at text) → ⊥
 parts_stand text r e h real fails =
-    let w = whole_parts text r h in
+    let w = has_parts text r h in
     not_both (parts_at text) w.0 e w.2 (real_fault e (parts_at text) real fails)
 
 -- ---- a record where it stands
@@ -113,6 +176,14 @@ found_text at bytes r text rest e q =
 pub text_found : (at : ℕ) (bytes : List ℕ) (r : Record) (text rest : List ℕ) → bytes_at (drop at bytes) ≡ Ok (text, rest) → whole_at text ≡ Ok r → found_at at bytes ≡ Ok r
 unfolding found_at
 text_found at bytes r text rest q e = rw q e
+
+pub found_is : (at : ℕ) (bytes text rest : List ℕ) (p : Parts) → bytes_at (drop at bytes) ≡ Ok (text, rest) → parts_at text ≡ Ok p → found_at at bytes ≡ whole_from p
+unfolding found_at
+found_is at bytes text rest p read parts = rw (read, whole_parts text, parts) refl
+
+pub found_fails : (at : ℕ) (bytes text rest : List ℕ) (e : BatchFault) → bytes_at (drop at bytes) ≡ Ok (text, rest) → Fails e (parts_at text) → Fails e (found_at at bytes)
+unfolding found_at
+found_fails at bytes text rest e read h = fails_through e (parts_at text) (found_at at bytes) (λ f q. rw (read, whole_parts text, q) refl) h
 
 pub text_stands : (at : ℕ) (bytes : List ℕ) (r : Record) (e : BatchFault) → found_at at bytes ≡ Ok r → IsReal e → Fails e (bytes_at (drop at bytes)) → ⊥
 unfolding found_at

@@ -17,12 +17,15 @@
 
 ghost use Rattle.std.specs.Prelude.{◌≡◌, IfOk};
 ghost use Rattle.eos_batch.specs.steps.Answers.{Gives};
-ghost use Rattle.eos_batch.specs.steps.Reading.{Pushes, PushesFrom};
-ghost use Rattle.eos_batch.specs.Reading.{header_at, headers_at, placed_at, record_at, records_at};
+ghost use Rattle.eos_batch.specs.steps.Places.{whole_from};
+ghost use Rattle.eos_batch.specs.steps.Reading.{PushesFrom};
+ghost use Rattle.eos_batch.specs.Answers.{Answers};
+ghost use Rattle.eos_batch.specs.Reading.{header_at, headers_at, record_at, records_at};
 
 use crate::fault::BatchFault;
-use crate::field::{read_bytes, read_count, read_int, read_long, read_optional};
+use crate::field::{read_bytes, read_optional};
 use crate::record::{Header, Headers, Record, Records};
+use crate::view::{Parts, parts_of};
 use bytes::Bytes;
 use eos_wire::Cursor;
 use std::alloc::{AllocError, Global};
@@ -66,39 +69,31 @@ pub(crate) fn headers_of(
     Ok(Headers::new(headers))
 }
 
-/// Reads a record without its length, which takes all bytes, straight into the list, since moving a record costs about as
-/// much as reading its numbers.
+/// The record of these fields, whose headers take all bytes that are left.
 #[inline(always)]
-#[tactic(auto, unfolding(crate::specs::Reading::placed_at, crate::specs::Reading::body_at))]
-fn push_placed(
-    alloc: Global,
-    records: &mut Vec<Record>,
-    rest: &mut Cursor,
-    place: u32,
-) -> Result<(), BatchFault>
-    ensures { Pushes result records.old.items records.new.items (placed_at place rest.old) }
+pub(crate) fn own_parts(alloc: Global, parts: Parts) -> Result<Record, BatchFault>
+    ensures { Answers result (whole_from parts.entry) }
 {
-    let attributes = rest.i8().ok_or(BatchFault::Record)?;
-    let timestamp_delta = read_long(rest)?;
-    let delta = read_int(rest)?;
-    let key = read_optional(rest)?;
-    let value = read_optional(rest)?;
-    let count = read_count(rest)?;
-    let headers = headers_of(alloc, rest, count)?;
+    let Parts {
+        attributes,
+        timestamp_delta,
+        key,
+        value,
+        count,
+        mut rest,
+        ..
+    } = parts;
+    let headers = headers_of(alloc, &mut rest, count)?;
     if !rest.is_empty() {
         return Err(BatchFault::Record);
     }
-    if i64::from(delta) != i64::from(place) {
-        return Err(BatchFault::Delta);
-    }
-    records.push(Record {
+    Ok(Record {
         attributes,
         timestamp_delta,
         key: shared(key)?,
         value: shared(value)?,
         headers,
-    })?;
-    Ok(())
+    })
 }
 
 /// Reads the record at this place of its batch into the list.
@@ -112,8 +107,15 @@ fn push_record(
 ) -> Result<(), BatchFault>
     ensures { PushesFrom result records.old.items records.new.items rest.new (record_at place rest.old) }
 {
-    let mut text = read_bytes(rest)?;
-    push_placed(alloc, records, &mut text, place)
+    let text = read_bytes(rest)?;
+    let parts = parts_of(text)?;
+    let delta = parts.delta;
+    let record = own_parts(alloc, parts)?;
+    if i64::from(delta) != i64::from(place) {
+        return Err(BatchFault::Delta);
+    }
+    records.push(record)?;
+    Ok(())
 }
 
 /// So many records from the batch's first on.

@@ -7,14 +7,14 @@ ghost use Rattle.eos_batch.specs.declared.record.Record.{Record};
 ghost use Rattle.eos_batch.specs.Real.{IsReal};
 ghost use Rattle.eos_batch.specs.Answers.{Answers, Fails};
 ghost use Rattle.eos_batch.specs.steps.Answers.{Gives};
-ghost use Rattle.eos_batch.specs.Reading.{header_at, headers_at, placed_at, record_at};
+ghost use Rattle.eos_batch.specs.Reading.{header_at, headers_at, record_at};
 ghost use Rattle.eos_batch.specs.Places.{IsAt, whole_at, found_at};
-ghost use Rattle.eos_batch.specs.steps.Places.{parts_at};
+ghost use Rattle.eos_batch.specs.steps.Places.{parts_at, placed_from};
 
 use crate::fault::BatchFault;
 use crate::field::{read_bytes, read_count, read_int, read_long, read_optional};
 use crate::passing::pass_headers;
-use crate::read_record::{headers_of, shared};
+use crate::read_record::own_parts;
 use crate::record::Record;
 use bytes::Bytes;
 use eos_wire::{Cursor, are_bytes};
@@ -25,59 +25,47 @@ use std::marker::Model;
 ///
 /// # Errors
 /// Want of memory, or the first test that fails where no record stands there.
-#[tactic(auto, unfolding(crate::specs::Places::found_at, crate::specs::Places::whole_at, crate::specs::Reading::body_at, crate::specs::steps::Places::parts_at))]
+#[tactic(auto, unfolding(crate::specs::Places::found_at))]
 pub fn own_record(alloc: Global, bytes: &Bytes, at: usize) -> Result<Record, BatchFault>
     requires { at ≤ length bytes.now }
     ensures { Answers result (found_at at bytes.now) }
 {
     let mut all = Cursor::starting_at(bytes, at);
-    let Parts {
-        attributes,
-        timestamp_delta,
-        key,
-        value,
-        count,
-        mut rest,
-    } = parts_of(read_bytes(&mut all)?)?;
-    let headers = headers_of(alloc, &mut rest, count)?;
-    if !rest.is_empty() {
-        return Err(BatchFault::Record);
-    }
-    Ok(Record {
-        attributes,
-        timestamp_delta,
-        key: shared(key)?,
-        value: shared(value)?,
-        headers,
-    })
+    let text = read_bytes(&mut all)?;
+    let parts = parts_of(text)?;
+    own_parts(alloc, parts)
 }
 
-/// A record's fields before its headers.
+/// A record's fields before its headers, and what is left for these.
 #[derive(Drop)]
-struct Parts<'a> {
-    attributes: i8,
-    timestamp_delta: i64,
-    key: Option<Cursor<'a>>,
-    value: Option<Cursor<'a>>,
-    count: u32,
-    rest: Cursor<'a>,
+pub(crate) struct Parts<'a> {
+    pub(crate) attributes: i8,
+    pub(crate) timestamp_delta: i64,
+    pub(crate) delta: i32,
+    pub(crate) key: Option<Cursor<'a>>,
+    pub(crate) value: Option<Cursor<'a>>,
+    pub(crate) count: u32,
+    pub(crate) rest: Cursor<'a>,
 }
 
 #[inline(always)]
 #[tactic(auto, unfolding(crate::specs::steps::Places::parts_at))]
-fn parts_of<'a>(mut rest: Cursor<'a>) -> Result<Parts<'a>, BatchFault>
+pub(crate) fn parts_of<'a>(mut rest: Cursor<'a>) -> Result<Parts<'a>, BatchFault>
     ensures gives { Answers result (parts_at rest.entry) }
     ensures real { IfErr result IsReal }
 {
-    let attributes = rest.i8().ok_or(BatchFault::Record)?;
+    let Some(attributes) = rest.i8() else {
+        return Err(BatchFault::Record);
+    };
     let timestamp_delta = read_long(&mut rest)?;
-    let _delta = read_int(&mut rest)?;
+    let delta = read_int(&mut rest)?;
     let key = read_optional(&mut rest)?;
     let value = read_optional(&mut rest)?;
     let count = read_count(&mut rest)?;
     Ok(Parts {
         attributes,
         timestamp_delta,
+        delta,
         key,
         value,
         count,
@@ -119,8 +107,9 @@ impl<'a> HeaderRef<'a> {
     }
 }
 
+#[inline(always)]
 #[tactic(auto, unfolding(crate::specs::Reading::header_at))]
-fn header_of<'a>(rest: &mut Cursor<'a>) -> Result<HeaderRef<'a>, BatchFault>
+pub(crate) fn header_of<'a>(rest: &mut Cursor<'a>) -> Result<HeaderRef<'a>, BatchFault>
     ensures gives { Gives result rest.new (header_at rest.old) }
     ensures real { IfErr result IsReal }
 {
@@ -295,19 +284,21 @@ pub fn view_record<'a>(bytes: &'a Bytes, at: usize) -> RecordRef<'a>
     }
 }
 
-/// A record without its length, which takes all bytes, at this place of its batch.
+/// The record of these fields, at this place of its batch, whose headers take all bytes that are left.
 #[inline(always)]
-#[tactic(auto, unfolding(crate::specs::Reading::placed_at, crate::specs::Reading::body_at))]
-fn placed_record<'a>(mut rest: Cursor<'a>, place: u32) -> Result<RecordRef<'a>, BatchFault>
-    ensures gives { Answers result (placed_at place rest.entry) }
+fn placed<'a>(parts: Parts<'a>, place: u32) -> Result<RecordRef<'a>, BatchFault>
+    ensures gives { Answers result (placed_from place parts.entry) }
     ensures real { IfErr result IsReal }
 {
-    let attributes = rest.i8().ok_or(BatchFault::Record)?;
-    let timestamp_delta = read_long(&mut rest)?;
-    let delta = read_int(&mut rest)?;
-    let key = read_optional(&mut rest)?;
-    let value = read_optional(&mut rest)?;
-    let count = read_count(&mut rest)?;
+    let Parts {
+        attributes,
+        timestamp_delta,
+        delta,
+        key,
+        value,
+        count,
+        mut rest,
+    } = parts;
     let headers = HeaderRefs::tested(&mut rest, count)?;
     if !rest.is_empty() {
         return Err(BatchFault::Record);
@@ -348,6 +339,7 @@ pub fn lend_record<'a>(
     let _size = bytes.len();
     let mut rest = Cursor::between(bytes, from, end);
     let text = read_bytes(&mut rest)?;
-    let record = placed_record(text, place)?;
+    let parts = parts_of(text)?;
+    let record = placed(parts, place)?;
     Ok((record, end - rest.left()))
 }

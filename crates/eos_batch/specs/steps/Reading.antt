@@ -3,12 +3,7 @@ use Rattle.std.specs.Prelude.{◌≡◌, ℕ, List, [], ◌∷◌, ◌++◌, Res
 use Rattle.eos_batch.specs.declared.fault.BatchFault.{BatchFault}
 use Rattle.eos_batch.specs.Answers.{Fails}
 
--- what reading gives is put there
-abbrev pub Pushes : {X Y : Type 0} → Result Y BatchFault → List X → List X → Result X BatchFault → Type 0
-Pushes {X} (Ok _) before after read = (x : X) × (read ≡ Ok x) × (after ≡ before ++ x ∷ [])
-Pushes (Err e) before after read = Fails e read
-
--- the same, and these bytes are left
+-- what reading gives is put there, and these bytes are left
 abbrev pub PushesFrom : {X Y : Type 0} → Result Y BatchFault → List X → List X → List ℕ → Result (X × List ℕ) BatchFault → Type 0
 PushesFrom {X} (Ok _) before after rest read = (x : X) × (read ≡ Ok (x, rest)) × (after ≡ before ++ x ∷ [])
 PushesFrom (Err e) before after rest read = Fails e read

@@ -12,14 +12,14 @@ loop-init c =
 
 pub loop-preserved : goal.loop-preserved
 loop-preserved c =
-    let n = c.in_ok-pass_header.ensures.passes.0 in
+    let n = c.in_ok-_header._header in
     let front = c.loop.invariant.0 in
-    (front ++ n ∷ [], header_goes_on front c.args.count c.loop.counter c.loop.rest n c.pass_header.new.rest (headers_at c.args.count c.args.rest.now) c.loop-test.true c.in_ok-pass_header.ensures.passes.1 c.loop.invariant.1)
+    (front ++ n ∷ [], header_goes_on front c.args.count c.loop.counter c.loop.rest n c.header_of.new.rest (headers_at c.args.count c.args.rest.now) c.loop-test.true c.in_ok-_header.ensures.gives c.loop.invariant.1)
 
-pub returns-in_err-pass_header-clause-passes : goal.returns-in_err-pass_header-clause-passes
-returns-in_err-pass_header-clause-passes c =
+pub returns-in_err-_header-clause-passes : goal.returns-in_err-_header-clause-passes
+returns-in_err-_header-clause-passes c =
     let p = err_from_is_err_and c.from_residual.result c.from_residual.ensures.1 in
-    rw (p.1, p.2) (header_ends c.in_err-pass_header.field-0.0 c.loop.invariant.0 c.args.count c.loop.counter c.loop.rest (headers_at c.args.count c.args.rest.now) c.loop-test.true c.in_err-pass_header.ensures.passes c.loop.invariant.1)
+    rw (p.1, p.2) (header_ends c.in_err-_header.field-0.0 c.loop.invariant.0 c.args.count c.loop.counter c.loop.rest (headers_at c.args.count c.args.rest.now) c.loop-test.true c.in_err-_header.ensures.gives c.loop.invariant.1)
 
 pub returns-clause-passes : goal.returns-clause-passes
 returns-clause-passes c = (c.loop.invariant.0, headers_done c.loop.invariant.0 c.args.count c.loop.counter c.loop.rest (headers_at c.args.count c.args.rest.now) c.loop-test.false c.loop.invariant.1)
