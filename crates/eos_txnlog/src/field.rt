@@ -20,8 +20,10 @@ use eos_wire::Cursor;
 pub(crate) fn read_status(rest: &mut Cursor<'_>) -> Result<Status, RecordFault>
     ensures { Parses result rest.new (status_from rest.old) }
 {
-    let number = rest.i8().ok_or(RecordFault::Short)?;
-    Status::from_number(number).ok_or(RecordFault::Status)
+    match rest.i8() {
+        Some(number) => Status::from_number(number).ok_or(RecordFault::Status),
+        None => Err(RecordFault::Short),
+    }
 }
 
 /// The number of a partition.

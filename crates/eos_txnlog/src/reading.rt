@@ -140,14 +140,15 @@ fn read_partitions(
 fn read_body(alloc: Global, mut rest: Cursor<'_>, form: Form) -> Result<TxnValue, RecordFault>
     ensures { Settles result (whole_body form rest.entry) }
 {
-    let producer = rest.i64().ok_or(RecordFault::Short)?;
-    let epoch = rest.i16().ok_or(RecordFault::Short)?;
-    let timeout = rest.i32().ok_or(RecordFault::Short)?;
+    let (Some(producer), Some(epoch), Some(timeout)) = (rest.i64(), rest.i16(), rest.i32()) else {
+        return Err(RecordFault::Short);
+    };
     let status = read_status(&mut rest)?;
     let mut listed = rest.fork();
     skip_partitions(&mut rest, form)?;
-    let last_update = rest.i64().ok_or(RecordFault::Short)?;
-    let start = rest.i64().ok_or(RecordFault::Short)?;
+    let (Some(last_update), Some(start)) = (rest.i64(), rest.i64()) else {
+        return Err(RecordFault::Short);
+    };
     skip_section(&mut rest, form)?;
     if !rest.is_empty() {
         return Err(RecordFault::Trailing);
@@ -168,7 +169,9 @@ fn read_body(alloc: Global, mut rest: Cursor<'_>, form: Form) -> Result<TxnValue
 fn read_value(alloc: Global, mut rest: Cursor<'_>) -> Result<TxnValue, RecordFault>
     ensures { Settles result (read_value rest.entry) }
 {
-    let version = rest.i16().ok_or(RecordFault::Short)?;
+    let Some(version) = rest.i16() else {
+        return Err(RecordFault::Short);
+    };
     let Some(form) = form_of(version) else {
         return Err(RecordFault::Version);
     };
