@@ -111,11 +111,9 @@ fn int32(value: &[u8]) -> Option<u32>
     ensures below { IfSome result (λ n. n < 2 ^ 31) }
 {
     let mut fields = Fields::new(value);
-    let number = fields.i32()?;
-    if fields.left() == 0 && number >= 0 {
-        Some(number as u32)
-    } else {
-        None
+    match fields.i32() {
+        Some(number) if fields.left() == 0 && number >= 0 => Some(number as u32),
+        _ => None,
     }
 }
 
@@ -124,11 +122,9 @@ fn int64(value: &[u8]) -> Option<u64>
     ensures number { result ≡ int64_of value.now }
 {
     let mut fields = Fields::new(value);
-    let number = fields.i64()?;
-    if fields.left() == 0 && number >= 0 {
-        Some(number as u64)
-    } else {
-        None
+    match fields.i64() {
+        Some(number) if fields.left() == 0 && number >= 0 => Some(number as u64),
+        _ => None,
     }
 }
 
@@ -143,31 +139,41 @@ fn int32_in(slot: Option<Option<&[u8]>>) -> Option<u32>
     ensures number { result ≡ int32_within (plain_slot slot.entry) }
     ensures below { IfSome result (λ n. n < 2 ^ 31) }
 {
-    int32(the(slot)?)
+    match the(slot) {
+        Some(value) => int32(value),
+        None => None,
+    }
 }
 
 fn int64_in(slot: Option<Option<&[u8]>>) -> Option<u64>
     ensures number { result ≡ int64_within (plain_slot slot.entry) }
 {
-    int64(the(slot)?)
+    match the(slot) {
+        Some(value) => int64(value),
+        None => None,
+    }
 }
 
 #[tactic(auto, unfolding(crate::specs::steps::Slots::claim_in))]
 fn claim_from<'a>(slots: &Slots<'a>) -> Option<ClaimRef<'a>>
     ensures { option_map plain_claim result ≡ claim_in (plain_slots slots.entry.now) }
 {
-    let topic = the(slots.topic)?;
-    let partition = int32_in(slots.partition)?;
-    let offset = int64_in(slots.offset)?;
-    let output = int32_in(slots.output)?;
-    let of = int32_in(slots.of)?;
-    Some(ClaimRef {
-        topic,
-        partition: partition as i32,
-        offset,
-        output,
-        of,
-    })
+    match (
+        the(slots.topic),
+        int32_in(slots.partition),
+        int64_in(slots.offset),
+        int32_in(slots.output),
+        int32_in(slots.of),
+    ) {
+        (Some(topic), Some(partition), Some(offset), Some(output), Some(of)) => Some(ClaimRef {
+            topic,
+            partition: partition as i32,
+            offset,
+            output,
+            of,
+        }),
+        _ => None,
+    }
 }
 
 /// The value of a header, lent.
