@@ -43,7 +43,9 @@ fn read_fields(mut rest: Cursor<'_>) -> Result<OffsetKey, RecordFault>
 {
     let group = read_text(&mut rest, Form::Plain)?;
     let topic = read_text(&mut rest, Form::Plain)?;
-    let partition = rest.i32().ok_or(RecordFault::Short)?;
+    let Some(partition) = rest.i32() else {
+        return Err(RecordFault::Short);
+    };
     if !rest.is_empty() {
         return Err(RecordFault::Trailing);
     }
@@ -59,7 +61,9 @@ fn read_key(mut rest: Cursor<'_>) -> Result<Option<OffsetKey>, RecordFault>
     ensures answer { Settles result (read_key rest.entry) }
     ensures faults { IfErr result IsNotStatus }
 {
-    let version = rest.i16().ok_or(RecordFault::Short)?;
+    let Some(version) = rest.i16() else {
+        return Err(RecordFault::Short);
+    };
     if version != 0 && version != 1 {
         return Ok(None);
     }

@@ -63,15 +63,19 @@ fn skip_metadata(fields: &mut Fields<'_>) -> Result<(), RecordFault>
     ensures reading { Passes result fields.new (after_metadata fields.old) }
     ensures faults { IfErr result IsOfBytes }
 {
-    let len = fields.i16().ok_or(RecordFault::Short)?;
+    let Some(len) = fields.i16() else {
+        return Err(RecordFault::Short);
+    };
     if len == -1 {
         return Ok(());
     }
     if len < 0 {
         return Err(RecordFault::Length);
     }
-    fields.take(len as usize).ok_or(RecordFault::Short)?;
-    Ok(())
+    match fields.take(len as usize) {
+        Some(_) => Ok(()),
+        None => Err(RecordFault::Short),
+    }
 }
 
 /// Reads the fields after the version, which are all that is left.
@@ -80,14 +84,18 @@ fn read_fields(mut fields: Fields<'_>, version: i16) -> Result<i64, RecordFault>
     ensures reading { result ≡ value_fields_of version fields.entry }
     ensures faults { IfErr result IsOfBytes }
 {
-    let offset = fields.i64().ok_or(RecordFault::Short)?;
-    if version == LEADER_EPOCH_VERSION {
-        fields.i32().ok_or(RecordFault::Short)?;
+    let Some(offset) = fields.i64() else {
+        return Err(RecordFault::Short);
+    };
+    if version == LEADER_EPOCH_VERSION && fields.i32().is_none() {
+        return Err(RecordFault::Short);
     }
     skip_metadata(&mut fields)?;
-    fields.i64().ok_or(RecordFault::Short)?;
-    if version == EXPIRE_TIMESTAMP_VERSION {
-        fields.i64().ok_or(RecordFault::Short)?;
+    if fields.i64().is_none() {
+        return Err(RecordFault::Short);
+    }
+    if version == EXPIRE_TIMESTAMP_VERSION && fields.i64().is_none() {
+        return Err(RecordFault::Short);
     }
     if fields.left() > 0 {
         return Err(RecordFault::Trailing);
@@ -100,7 +108,9 @@ pub(crate) fn read_value(mut fields: Fields<'_>) -> Result<i64, RecordFault>
     ensures reading { result ≡ read_value fields.entry }
     ensures faults { IfErr result IsOfBytes }
 {
-    let version = fields.i16().ok_or(RecordFault::Short)?;
+    let Some(version) = fields.i16() else {
+        return Err(RecordFault::Short);
+    };
     if !is_known(version) {
         return Err(RecordFault::Version);
     }
