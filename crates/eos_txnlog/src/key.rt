@@ -25,7 +25,10 @@ use std::alloc::{AllocError, Global};
 fn read_key(mut rest: Cursor<'_>) -> Result<Option<Bytes>, RecordFault>
     ensures { Settles result (read_key rest.entry) }
 {
-    if rest.i16().ok_or(RecordFault::Short)? != 0 {
+    let Some(version) = rest.i16() else {
+        return Err(RecordFault::Short);
+    };
+    if version != 0 {
         return Ok(None);
     }
     let id = read_text(&mut rest, Form::Plain)?;
