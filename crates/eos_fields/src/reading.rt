@@ -41,7 +41,9 @@ fn read_length(rest: &mut Cursor<'_>, form: Form) -> Result<u32, RecordFault>
 {
     match form {
         Form::Plain => {
-            let len = rest.i16().ok_or(RecordFault::Short)?;
+            let Some(len) = rest.i16() else {
+                return Err(RecordFault::Short);
+            };
             if len < 0 {
                 return Err(RecordFault::Length);
             }
@@ -68,7 +70,9 @@ pub fn read_count(rest: &mut Cursor<'_>, form: Form) -> Result<Option<u32>, Reco
 {
     match form {
         Form::Plain => {
-            let count = rest.i32().ok_or(RecordFault::Short)?;
+            let Some(count) = rest.i32() else {
+                return Err(RecordFault::Short);
+            };
             if count == -1 {
                 return Ok(None);
             }
@@ -108,8 +112,10 @@ fn skip_tagged(rest: &mut Cursor<'_>) -> Result<(), RecordFault>
 {
     let _tag = read_unsigned(rest)?;
     let size = read_unsigned(rest)?;
-    rest.take(size as usize).ok_or(RecordFault::Short)?;
-    Ok(())
+    match rest.take(size as usize) {
+        Some(_) => Ok(()),
+        None => Err(RecordFault::Short),
+    }
 }
 
 fn skip_many_tagged(rest: &mut Cursor<'_>, count: u32) -> Result<(), RecordFault>
