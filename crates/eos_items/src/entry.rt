@@ -38,7 +38,7 @@ impl Ending {
 }
 
 /// A data batch of a segment, with the numbers of its records among those of the segment.
-#[derive(Clone, Copy, Debug, PartialEq, Eq)]
+#[derive(Clone, Copy)]
 pub(crate) struct Source {
     /// The base offset.
     pub(crate) offset: u64,
@@ -51,7 +51,7 @@ pub(crate) struct Source {
 }
 
 /// A data record of a segment: 8 bytes.
-#[derive(Clone, Copy, Debug, PartialEq, Eq)]
+#[derive(Clone, Copy)]
 pub(crate) struct Entry {
     /// The byte of its length.
     pub(crate) at: u32,
