@@ -9,7 +9,7 @@
 
 ghost use Rattle.eos_batch.specs.Real.{IsReal};
 ghost use Rattle.eos_batch.specs.steps.Answers.{Gives};
-ghost use Rattle.eos_batch.specs.Reading.{int_at, long_at, count_at, take_at, bytes_at, optional_at};
+ghost use Rattle.eos_batch.specs.Reading.{int_at, long_at, count_at, bytes_at, optional_at};
 ghost use Rattle.std.specs.Prelude.{IfErr};
 
 use crate::fault::BatchFault;
@@ -47,14 +47,6 @@ pub(crate) fn read_count(rest: &mut Cursor<'_>) -> Result<u32, BatchFault>
     Ok(count as u32)
 }
 
-#[inline(always)]
-fn take<'a>(rest: &mut Cursor<'a>, len: u32) -> Result<Cursor<'a>, BatchFault>
-    ensures gives { Gives result rest.new (take_at len rest.old) }
-    ensures real { IfErr result IsReal }
-{
-    rest.take(len as usize).ok_or(BatchFault::Record)
-}
-
 /// A length and that many bytes.
 #[inline(always)]
 #[tactic(auto, unfolding(crate::specs::Reading::bytes_at))]
@@ -63,7 +55,7 @@ pub(crate) fn read_bytes<'a>(rest: &mut Cursor<'a>) -> Result<Cursor<'a>, BatchF
     ensures real { IfErr result IsReal }
 {
     let len = read_count(rest)?;
-    take(rest, len)
+    rest.take(len as usize).ok_or(BatchFault::Record)
 }
 
 /// The same, or null.
@@ -80,5 +72,8 @@ pub(crate) fn read_optional<'a>(rest: &mut Cursor<'a>) -> Result<Option<Cursor<'
     if len < 0 {
         return Err(BatchFault::Record);
     }
-    Ok(Some(take(rest, len as u32)?))
+    match rest.take(len as usize) {
+        Some(bytes) => Ok(Some(bytes)),
+        None => Err(BatchFault::Record),
+    }
 }
