@@ -11,7 +11,7 @@ use eos_text::push_text;
 use std::alloc::{AllocError, Global};
 
 /// A drawing.
-#[derive(Debug, PartialEq, Eq, Drop)]
+#[derive(Drop)]
 pub struct Drawing {
     pub size: Size,
     /// What it is called. Its bytes may be any.

@@ -10,28 +10,28 @@ use eos_text::{push_text, push_value};
 use std::alloc::AllocError;
 
 /// A point of the drawing, in pixels from its left and its upper edge.
-#[derive(Clone, Copy, Debug, PartialEq, Eq)]
+#[derive(Clone, Copy)]
 pub struct Point {
     pub x: u64,
     pub y: u64,
 }
 
 /// In pixels.
-#[derive(Clone, Copy, Debug, PartialEq, Eq)]
+#[derive(Clone, Copy)]
 pub struct Size {
     pub width: u64,
     pub height: u64,
 }
 
 /// From a point to another.
-#[derive(Clone, Copy, Debug, PartialEq, Eq)]
+#[derive(Clone, Copy)]
 pub struct Line {
     pub from: Point,
     pub to: Point,
 }
 
 /// A part of a drawing.
-#[derive(Debug, PartialEq, Eq, Drop)]
+#[derive(Drop)]
 pub enum Shape {
     /// A rectangle, by its upper left corner.
     Rectangle { at: Point, size: Size, look: Look },
