@@ -1,7 +1,7 @@
 //! As what a record is read.
 
 /// As what the data records of a partition are read.
-#[derive(Clone, Copy, Debug, PartialEq, Eq)]
+#[derive(Clone, Copy)]
 pub enum Reading {
     /// Records of an output topic, which claim an input in their headers.
     Outputs,

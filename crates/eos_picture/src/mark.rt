@@ -6,7 +6,7 @@ use eos_batch::Kind;
 use eos_fold::Fate;
 
 /// A transaction.
-#[derive(Debug, PartialEq, Eq, Drop)]
+#[derive(Drop)]
 pub struct Column {
     /// The producer id of its data.
     pub producer: i64,
@@ -17,7 +17,7 @@ pub struct Column {
 }
 
 /// A Prepare record of the transaction log.
-#[derive(Debug, PartialEq, Eq, Drop)]
+#[derive(Drop)]
 pub struct Decided {
     /// The transactional id.
     pub id: Bytes,
@@ -30,7 +30,7 @@ pub struct Decided {
 }
 
 /// What stands in a cell.
-#[derive(Debug, PartialEq, Eq, Drop)]
+#[derive(Drop)]
 pub enum Sign {
     /// The Prepare record.
     Decision {
@@ -62,7 +62,7 @@ pub enum Sign {
 }
 
 /// A sign, and where it stands.
-#[derive(Debug, PartialEq, Eq, Drop)]
+#[derive(Drop)]
 pub struct Mark {
     /// The place of its column among those of the picture.
     pub column: usize,
@@ -72,7 +72,7 @@ pub struct Mark {
 }
 
 /// A partition.
-#[derive(Debug, PartialEq, Eq, Drop)]
+#[derive(Drop)]
 pub struct Row {
     pub name: PartitionName,
     /// What the transactions did there, by kind of sign and offset.
@@ -80,7 +80,7 @@ pub struct Row {
 }
 
 /// A picture.
-#[derive(Debug, PartialEq, Eq, Drop)]
+#[derive(Drop)]
 pub struct Picture {
     /// The transactions that are shown, in the order of their Prepare records; behind them those without one.
     pub columns: Vec<Column>,

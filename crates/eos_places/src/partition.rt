@@ -10,7 +10,7 @@ use eos_evidence::{Partition, Segment};
 use std::alloc::{AllocError, Global};
 
 /// A batch of a partition: the name of its segment, and where it stands there.
-#[derive(Clone, Copy, Debug, PartialEq, Eq)]
+#[derive(Clone, Copy)]
 pub struct Placed {
     pub segment: i64,
     pub standing: Standing,

@@ -6,14 +6,14 @@ ghost use Rattle.eos_places.specs.Wanted.{is_wanted};
 use eos_batch::BatchHead;
 
 /// A batch of a segment, and the byte at which it begins.
-#[derive(Clone, Copy, Debug, PartialEq, Eq)]
+#[derive(Clone, Copy)]
 pub struct Standing {
     pub byte: usize,
     pub head: BatchHead,
 }
 
 /// Which batches are wanted.
-#[derive(Clone, Copy, Debug, PartialEq, Eq)]
+#[derive(Clone, Copy)]
 pub enum Wanted {
     /// The one that holds the record of this offset.
     Holding { offset: u64 },

@@ -5,7 +5,7 @@ ghost use Rattle.std.specs.Prelude.{◌≡◌, ◌≤ℤ◌, pos};
 use eos_decoded::Reading;
 
 /// Which records are listed, and what of them.
-#[derive(Clone, Copy, Debug, PartialEq, Eq)]
+#[derive(Clone, Copy)]
 pub struct ListingOptions {
     /// Whether each record is followed by its timestamp and headers.
     pub headers: bool,

@@ -22,7 +22,7 @@ use eos_sought::{Find, Sought, find_records};
 use std::alloc::{AllocError, Global};
 
 /// The name of a header of a claim.
-#[derive(Clone, Copy, Debug, PartialEq, Eq)]
+#[derive(Clone, Copy)]
 pub enum HeaderName {
     Topic,
     Partition,

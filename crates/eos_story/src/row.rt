@@ -14,7 +14,7 @@ use eos_sought::{Find, Sought};
 use std::alloc::AllocError;
 
 /// A place in the logs and its role, or that nothing has it.
-#[derive(Debug, Drop)]
+#[derive(Drop)]
 pub enum Row {
     /// A data record that is sought, and the batch that holds it.
     Record {

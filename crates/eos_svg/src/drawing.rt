@@ -2,22 +2,30 @@
 
 ghost use Rattle.std.specs.Prelude.{◌≡◌, flat_map, IfOk, OnOk, string_bytes};
 ghost use Rattle.eos_text.specs.Adding.{Adds};
-ghost use Rattle.eos_svg.specs.Shapes.{head_text, shape_text, svg_text};
+ghost use Rattle.eos_svg.specs.Shapes.{pair_text, head_text, shape_text, svg_text};
 
 use crate::escaping::push_xml;
-use crate::shape::{Shape, Size, push_pair, push_shape};
+use crate::shape::{Shape, Size, push_shape};
 use eos_base::Listed;
 use eos_text::push_text;
 use std::alloc::{AllocError, Global};
 
 /// A drawing.
-#[derive(Debug, PartialEq, Eq, Drop)]
+#[derive(Drop)]
 pub struct Drawing {
     pub size: Size,
     /// What it is called. Its bytes may be any.
     pub title: String,
     /// What is drawn, the later upon the earlier.
     pub shapes: Listed<Shape>,
+}
+
+/// Adds two numbers, each after a label.
+#[tactic(auto, unfolding(crate::specs::Shapes::pair_text))]
+fn push_pair(out: &mut String, first: &str, a: u64, second: &str, b: u64) -> Result<(), AllocError>
+    ensures { OnOk result (Adds (string_bytes out.old) (string_bytes out.new) (pair_text first.now a second.now b)) }
+{
+    write!(out, "{first}{a}{second}{b}")
 }
 
 fn push_head(out: &mut String, drawing: &Drawing) -> Result<(), AllocError>

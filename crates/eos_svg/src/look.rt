@@ -5,7 +5,7 @@ ghost use Rattle.eos_svg.specs.Looks.{look_text};
 
 /// How a shape or a text looks: what it stands for, of which its colours follow. Colours differ in lightness too, and no two
 /// kinds of shape by their colour alone, so that nobody has to tell colours apart.
-#[derive(Clone, Copy, Debug, PartialEq, Eq)]
+#[derive(Clone, Copy)]
 pub enum Look {
     /// The page.
     Page,

@@ -2,36 +2,36 @@
 
 ghost use Rattle.std.specs.Prelude.{◌≡◌, OnOk, string_bytes};
 ghost use Rattle.eos_text.specs.Adding.{Adds};
-ghost use Rattle.eos_svg.specs.Shapes.{pair_text, end_text, rectangle_text, diamond_text, line_text, arc_text, words_text, shape_text};
+ghost use Rattle.eos_svg.specs.Shapes.{rectangle_text, diamond_text, line_text, arc_text, words_text, shape_text};
 
 use crate::escaping::push_xml;
 use crate::look::Look;
-use eos_text::{push_text, push_value};
+use eos_text::push_text;
 use std::alloc::AllocError;
 
 /// A point of the drawing, in pixels from its left and its upper edge.
-#[derive(Clone, Copy, Debug, PartialEq, Eq)]
+#[derive(Clone, Copy)]
 pub struct Point {
     pub x: u64,
     pub y: u64,
 }
 
 /// In pixels.
-#[derive(Clone, Copy, Debug, PartialEq, Eq)]
+#[derive(Clone, Copy)]
 pub struct Size {
     pub width: u64,
     pub height: u64,
 }
 
 /// From a point to another.
-#[derive(Clone, Copy, Debug, PartialEq, Eq)]
+#[derive(Clone, Copy)]
 pub struct Line {
     pub from: Point,
     pub to: Point,
 }
 
 /// A part of a drawing.
-#[derive(Debug, PartialEq, Eq, Drop)]
+#[derive(Drop)]
 pub enum Shape {
     /// A rectangle, by its upper left corner.
     Rectangle { at: Point, size: Size, look: Look },
@@ -45,74 +45,77 @@ pub enum Shape {
     Text { at: Point, text: String, look: Look },
 }
 
-/// Adds two numbers, each after a label.
-pub(crate) fn push_pair(
-    out: &mut String,
-    first: &str,
-    a: u64,
-    second: &str,
-    b: u64,
-) -> Result<(), AllocError>
-    ensures { OnOk result (Adds (string_bytes out.old) (string_bytes out.new) (pair_text first.now a second.now b)) }
-{
-    push_value(out, first, &a)?;
-    push_value(out, second, &b)?;
-    Ok(())
-}
-
-/// Adds how an empty element ends.
-fn push_end(out: &mut String, before: &str, look: Look) -> Result<(), AllocError>
-    ensures { OnOk result (Adds (string_bytes out.old) (string_bytes out.new) (end_text before.now look)) }
-{
-    push_text(out, before)?;
-    push_text(out, look.attributes())?;
-    push_text(out, "/>\n")?;
-    Ok(())
-}
-
+#[tactic(auto, unfolding(crate::specs::Shapes::rectangle_text, crate::specs::Shapes::pair_text, crate::specs::Shapes::end_text))]
 fn push_rectangle(out: &mut String, at: Point, size: Size, look: Look) -> Result<(), AllocError>
     ensures { OnOk result (Adds (string_bytes out.old) (string_bytes out.new) (rectangle_text at size look)) }
 {
-    push_pair(out, "<rect x=\"", at.x, "\" y=\"", at.y)?;
-    push_pair(out, "\" width=\"", size.width, "\" height=\"", size.height)?;
-    push_end(out, "\"", look)?;
-    Ok(())
+    write!(
+        out,
+        "<rect x=\"{}\" y=\"{}\" width=\"{}\" height=\"{}\"{}/>\n",
+        at.x,
+        at.y,
+        size.width,
+        size.height,
+        look.attributes()
+    )
 }
 
+#[tactic(auto, unfolding(crate::specs::Shapes::diamond_text, crate::specs::Shapes::pair_text, crate::specs::Shapes::end_text))]
 fn push_diamond(out: &mut String, at: Point, look: Look) -> Result<(), AllocError>
     ensures { OnOk result (Adds (string_bytes out.old) (string_bytes out.new) (diamond_text at look)) }
 {
-    push_pair(out, "<path d=\"M", at.x, " ", at.y)?;
-    push_end(out, "l7 7 -7 7 -7 -7z\"", look)?;
-    Ok(())
+    write!(
+        out,
+        "<path d=\"M{} {}l7 7 -7 7 -7 -7z\"{}/>\n",
+        at.x,
+        at.y,
+        look.attributes()
+    )
 }
 
+#[tactic(auto, unfolding(crate::specs::Shapes::line_text, crate::specs::Shapes::pair_text, crate::specs::Shapes::end_text))]
 fn push_line(out: &mut String, line: Line, look: Look) -> Result<(), AllocError>
     ensures { OnOk result (Adds (string_bytes out.old) (string_bytes out.new) (line_text line look)) }
 {
-    push_pair(out, "<line x1=\"", line.from.x, "\" y1=\"", line.from.y)?;
-    push_pair(out, "\" x2=\"", line.to.x, "\" y2=\"", line.to.y)?;
-    push_end(out, "\"", look)?;
-    Ok(())
+    write!(
+        out,
+        "<line x1=\"{}\" y1=\"{}\" x2=\"{}\" y2=\"{}\"{}/>\n",
+        line.from.x,
+        line.from.y,
+        line.to.x,
+        line.to.y,
+        look.attributes()
+    )
 }
 
+#[tactic(auto, unfolding(crate::specs::Shapes::arc_text, crate::specs::Shapes::pair_text, crate::specs::Shapes::end_text))]
 fn push_arc(out: &mut String, line: Line, over: Point, look: Look) -> Result<(), AllocError>
     ensures { OnOk result (Adds (string_bytes out.old) (string_bytes out.new) (arc_text line over look)) }
 {
-    push_pair(out, "<path d=\"M", line.from.x, " ", line.from.y)?;
-    push_pair(out, "Q", over.x, " ", over.y)?;
-    push_pair(out, " ", line.to.x, " ", line.to.y)?;
-    push_end(out, "\"", look)?;
-    Ok(())
+    write!(
+        out,
+        "<path d=\"M{} {}Q{} {} {} {}\"{}/>\n",
+        line.from.x,
+        line.from.y,
+        over.x,
+        over.y,
+        line.to.x,
+        line.to.y,
+        look.attributes()
+    )
 }
 
+#[tactic(auto, unfolding(crate::specs::Shapes::words_text, crate::specs::Shapes::pair_text))]
 fn push_words(out: &mut String, at: Point, text: &str, look: Look) -> Result<(), AllocError>
     ensures { OnOk result (Adds (string_bytes out.old) (string_bytes out.new) (words_text at text.now look)) }
 {
-    push_pair(out, "<text x=\"", at.x, "\" y=\"", at.y)?;
-    push_text(out, "\"")?;
-    push_text(out, look.attributes())?;
-    push_text(out, ">")?;
+    write!(
+        out,
+        "<text x=\"{}\" y=\"{}\"{}>",
+        at.x,
+        at.y,
+        look.attributes()
+    )?;
     push_xml(out, text.as_bytes())?;
     push_text(out, "</text>\n")?;
     Ok(())
