@@ -84,9 +84,9 @@ impl<L: Ledger, E: Pieces> Board<L, E> {
         ensures posts { IfOk result (λ r. r.0.posts ≡ 0) }
         ensures receipts { IfOk result (λ r. (vec_len r.1 ≡ workers) × All (λ t. t.count ≡ 0) r.1.items) }
     {
-        let places = Places::new(alloc, evidence.pieces())?;
         let (book, whole) = blank.open::<L>();
         let receipts = receipts_of(alloc, whole, workers)?;
+        let places = Places::new(alloc, evidence.pieces())?;
         let board = Board {
             places,
             posts: 0,

@@ -56,12 +56,12 @@ impl<E: Pieces> Places<E> {
         ensures runs { IfOk result (λ p. p.runs ≡ []) }
     {
         let count = pieces as usize;
-        let runs = nones(alloc, count)?;
         let firsts = nones(alloc, count)?;
         let reaches = Reaches::new(alloc, count)?;
         let seams = VecDeque::with_capacity(alloc, count)?;
-        let listed = unlisted(alloc, count)?;
+        let listed = vec![in alloc; false; count]?;
         let leaving = Vec::with_capacity(alloc, count)?;
+        let runs = nones(alloc, count)?;
         Ok(Places {
             pieces,
             runs,
@@ -264,17 +264,6 @@ fn nones<T: Drop>(alloc: Global, count: usize) -> Result<Vec<Option<T>>, AllocEr
     let mut all = Vec::new(alloc);
     for _ in 0..count {
         all.push(None)?;
-    }
-    Ok(all)
-}
-
-/// So many times false.
-fn unlisted(alloc: Global, count: usize) -> Result<Vec<bool>, AllocError>
-    ensures { IfOk result (λ v. v.items ≡ replicate count false) }
-{
-    let mut all = Vec::new(alloc);
-    for _ in 0..count {
-        all.push(false)?;
     }
     Ok(all)
 }

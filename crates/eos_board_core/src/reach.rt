@@ -34,7 +34,7 @@ impl Reaches {
         ensures { IfOk result (λ r. r ≡ replicate count 0) }
     {
         let size = count.checked_mul(2).ok_or(AllocError)?;
-        let nodes = zeros(alloc, size)?;
+        let nodes = vec![in alloc; 0; size]?;
         Ok(Reaches { nodes, count })
     }
 
@@ -53,17 +53,6 @@ impl Reaches {
     {
         are_at_most(&self.nodes, self.count, places, most)
     }
-}
-
-/// So many zeros.
-fn zeros(alloc: Global, count: usize) -> Result<Vec<u64>, AllocError>
-    ensures { IfOk result (λ v. v.items ≡ replicate count 0) }
-{
-    let mut all = Vec::new(alloc);
-    for _ in 0..count {
-        all.push(0)?;
-    }
-    Ok(all)
 }
 
 fn greater(a: u64, b: u64) -> u64

@@ -1,16 +1,12 @@
--- The commits record by record are the commits of the log, whatever the order in which the topics stand.
-use Rattle.std.proofs.Common.{◌≡◌, ◌∙◌, ◌++◌, ◌&&◌, List, [], ◌∷◌, flat_map, refl, ap, Bool, true, false, cond, if◌then◌else◌, IsPermutation}
+-- The commits record by record are the commits of the log.
+use Rattle.std.proofs.Common.{◌≡◌, ◌∙◌, ◌++◌, List, [], ◌∷◌, flat_map, refl, ap, Bool, true, false, cond, if◌then◌else◌}
 use Rattle.std.specs.Prelude.{filter}
-use Rattle.std.specs.Ordering.{nat_cmp}
-use Rattle.std.specs.Cmp.Lexicographic.{slice_cmp}
-use Rattle.eos_offsets.specs.declared.key.OffsetKey.{OffsetKey}
 use Rattle.eos_items.specs.declared.item.Item.{Item}
 use Rattle.eos_fold.specs.Parts.{PartLog}
 use Rattle.eos_claims.specs.Outputs.{Commit}
 use Rattle.eos_commits.specs.Visible.{is_visible}
-use Rattle.eos_commits.specs.Commits.{Group, Topic, is_same, is_of, is_offsets_part, commit_in, commits_in, commits_of}
+use Rattle.eos_commits.specs.Commits.{Group, Topic, is_of, is_offsets_part, commit_in, commits_in, commits_of}
 use Rattle.eos_commits.specs.steps.CommitLists.{commits_at, commits_by}
-use Rattle.eos_commits.proofs.RoleSearch.{found_in_order}
 
 -- a list without what a test refuses, or nothing for that
 pub flat_filter : {X Y : Type 0} (f : X → List Y) (p : X → Bool) (xs : List X) → flat_map (λ x. if p x then f x else []) xs ≡ flat_map f (filter p xs)
@@ -27,9 +23,3 @@ in_part group sources p = ap (λ (cs : List Commit). if is_offsets_part p then c
 
 pub in_log : (group : Group) (sources : List Topic) (ps : List PartLog) → commits_by (is_of group sources) ps ≡ commits_of group sources ps
 in_log group sources ps = (λ i. flat_map (λ p. in_part group sources p i) ps) ∙ flat_filter (commits_in group sources) is_offsets_part ps
-
-pub same_test : (group : Group) (sources set : List Topic) → IsPermutation sources set → is_of group set ≡ is_of group sources
-same_test group sources set p = λ i key. is_same group key.group && found_in_order (slice_cmp nat_cmp) sources set key.topic p i
-
-pub commits_by_any : (group : Group) (sources set : List Topic) (ps : List PartLog) → IsPermutation sources set → commits_by (is_of group set) ps ≡ commits_of group sources ps
-commits_by_any group sources set ps p = ap (λ (ours : OffsetKey → Bool). commits_by ours ps) (same_test group sources set p) ∙ in_log group sources ps

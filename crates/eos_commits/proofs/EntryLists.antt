@@ -1,5 +1,5 @@
 -- What a table picks for an application are its commits.
-use Rattle.std.proofs.Common.{◌≡◌, ◌∙◌, ◌++◌, ◌&&◌, ℕ, ℤ, Option, None, Some, Result, Ok, Err, List, [], ◌∷◌, map, flat_map, refl, sym, ap, Bool, true, false, if◌then◌else◌, IsPermutation}
+use Rattle.std.proofs.Common.{◌≡◌, ◌∙◌, ◌++◌, ◌&&◌, ℕ, ℤ, Option, None, Some, Result, Ok, Err, List, [], ◌∷◌, map, flat_map, refl, sym, ap, subst, Bool, true, false, if◌then◌else◌, IsPermutation}
 use Rattle.std.specs.Prelude.{filter}
 use Rattle.std.specs.Ordering.{nat_cmp, is_eq}
 use Rattle.std.specs.Cmp.Lexicographic.{slice_cmp}
@@ -10,7 +10,7 @@ use Rattle.std.proofs.lemmas.List.Folds.{flat_map-map}
 use Rattle.eos_base.specs.declared.record_fault.RecordFault.{RecordFault}
 use Rattle.eos_base.specs.Members.{Has, is_found}
 use Rattle.eos_base.proofs.Exact.{bytes_exact}
-use Rattle.eos_base.proofs.Membership.{found_has}
+use Rattle.eos_base.proofs.Membership.{found_has, has_found, has_map}
 use Rattle.eos_evidence.specs.declared.application.App.{App}
 use Rattle.eos_offsets.specs.declared.key.OffsetKey.{OffsetKey}
 use Rattle.eos_items.specs.declared.item.Item.{Item}
@@ -21,10 +21,10 @@ use Rattle.eos_commits.specs.Visible.{is_visible}
 use Rattle.eos_commits.specs.Commits.{Group, Topic, is_same, is_of, is_offsets_part, key_of, value_of, commit_with, commit_under, commits_of}
 use Rattle.eos_commits.specs.Tables.{Tabled, IsTableOf, pick, pick_of_topics, picked}
 use Rattle.eos_commits.specs.steps.CommitLists.{commit_at, commits_at}
-use Rattle.eos_commits.specs.steps.Entries.{plain_entry, is_read, is_under, entry_under, entry_at, entries_at, entries_by}
-use Rattle.eos_commits.specs.steps.Roles.{Source, source_cmp, sources_of}
+use Rattle.eos_commits.specs.steps.Entries.{AreEntriesOf, plain_entry, is_read, is_under, entry_under, entry_at, entries_at, entries_by}
+use Rattle.eos_commits.specs.steps.Roles.{Source, source_cmp, sources_of, sources_under}
 use Rattle.eos_commits.proofs.CommitSets.{flat_filter, in_log}
-use Rattle.eos_commits.proofs.RoleSearch.{found_in_order, IsRead, read_is_found}
+use Rattle.eos_commits.proofs.RoleSearch.{found_in_order, IsRead, read_is_found, source_total}
 
 -- ---- texts
 
@@ -108,24 +108,32 @@ picked_log group sources ours covers ps =
 
 -- ---- an application's groups and topics are covered
 
-covered : (apps : List App) (keys : List Source) → IsPermutation (sources_of apps) keys → (app : App) → Has apps app → Covers (is_read keys) app.group app.sources
-covered apps keys p app has key e = found_in_order source_cmp (sources_of apps) keys (key.group, key.topic) p ∙ read_is_found apps key.group key.topic read
+is_of_parts : (group : Group) (sources : List Topic) (key : OffsetKey) → is_of group sources key ≡ true → (group ≡ key.group) × Has sources key.topic
+is_of_parts group sources key e =
+    let p = both (is_same group key.group) (is_found (slice_cmp nat_cmp) sources key.topic) e in
+    (same_is group key.group p.0, found_has (slice_cmp nat_cmp) bytes_exact sources key.topic p.1)
   where
     both : (a b : Bool) → (a && b) ≡ true → (a ≡ true) × (b ≡ true)
     both true true e = (refl, refl)
     both true false e = absurd cc
     both false b e = absurd cc
 
-    parts : (is_same app.group key.group ≡ true) × (is_found (slice_cmp nat_cmp) app.sources key.topic ≡ true)
-    parts = both (is_same app.group key.group) (is_found (slice_cmp nat_cmp) app.sources key.topic) e
+covered : (apps : List App) (keys : List Source) → IsPermutation (sources_of apps) keys → (app : App) → Has apps app → Covers (is_read keys) app.group app.sources
+covered apps keys p app has key e = found_in_order source_cmp (sources_of apps) keys (key.group, key.topic) p ∙ read_is_found apps key.group key.topic read
+  where
+    parts : (app.group ≡ key.group) × Has app.sources key.topic
+    parts = is_of_parts app.group app.sources key e
 
     read : IsRead apps key.group key.topic
-    read = record {
-      app = app;
-      has = has;
-      group_is = same_is app.group key.group parts.0;
-      source = found_has (slice_cmp nat_cmp) bytes_exact app.sources key.topic parts.1;
-    }
+    read = record { app = app; has = has; group_is = parts.0; source = parts.1 }
+
+covered_group : (group : Group) (sources : List Topic) (keys : List Source) → IsPermutation (sources_under group sources) keys → Covers (is_read keys) group sources
+covered_group group sources keys p key e =
+    let parts = is_of_parts group sources key e in
+    let own = sources_under group sources in
+    let has : Has own (group, key.topic) = has_map (λ t. (group, t)) sources key.topic parts.1 in
+    found_in_order source_cmp own keys (key.group, key.topic) p
+    ∙ has_found source_cmp source_total own (key.group, key.topic) (subst (λ (g : Group). Has own (g, key.topic)) parts.0 has)
 
 -- ---- a table in another order
 
@@ -133,14 +141,21 @@ picked_filter : (group : Group) (sources : List Topic) (es : List Entry)
     → picked group sources (map plain_entry es) ≡ flat_map (λ e. pick_of_topics sources (plain_entry e)) (filter (is_under group) es)
 picked_filter group sources es = flat_map-map (pick group sources) plain_entry es ∙ flat_filter (λ e. pick_of_topics sources (plain_entry e)) (is_under group) es
 
-pub is_table : (apps : List App) (ps : List PartLog) (keys : List Source) (flat sorted : List Entry) → IsPermutation (sources_of apps) keys → map plain_entry flat ≡ entries_by (is_read keys) ps
-    → ((group : Group) → filter (is_under group) sorted ≡ filter (is_under group) flat) → IsTableOf apps ps (map plain_entry sorted)
-is_table apps ps keys flat sorted p all stable app has =
-    picked_filter app.group app.sources sorted
-    ∙ (ap (flat_map (λ e. pick_of_topics app.sources (plain_entry e))) (stable app.group)
-    ∙ (sym (picked_filter app.group app.sources flat)
-    ∙ (ap (picked app.group app.sources) all
-    ∙ picked_log app.group app.sources (is_read keys) (covered apps keys p app has) ps)))
+table_of : (group : Group) (sources : List Topic) (ps : List PartLog) (keys : List Source) (es : List Entry) → Covers (is_read keys) group sources → AreEntriesOf (is_read keys) ps es
+    → picked group sources (map plain_entry es) ≡ commits_of group sources ps
+table_of group sources ps keys es covers are =
+    picked_filter group sources es
+    ∙ (ap (flat_map (λ e. pick_of_topics sources (plain_entry e))) (are.stable group)
+    ∙ (sym (picked_filter group sources are.flat)
+    ∙ (ap (picked group sources) are.all
+    ∙ picked_log group sources (is_read keys) covers ps)))
+
+pub is_table : (apps : List App) (ps : List PartLog) (keys : List Source) (es : List Entry) → IsPermutation (sources_of apps) keys → AreEntriesOf (is_read keys) ps es → IsTableOf apps ps (map plain_entry es)
+is_table apps ps keys es p are app has = table_of app.group app.sources ps keys es (covered apps keys p app has) are
+
+pub of_group : (group : Group) (sources : List Topic) (ps : List PartLog) (keys : List Source) (es : List Entry) → IsPermutation (sources_under group sources) keys → AreEntriesOf (is_read keys) ps es
+    → picked group sources (map plain_entry es) ≡ commits_of group sources ps
+of_group group sources ps keys es p are = table_of group sources ps keys es (covered_group group sources keys p) are
 
 -- the topics in another order
 pub picked_any : (group : Group) (sources set : List Topic) (table : List Tabled) → IsPermutation sources set → picked group set table ≡ picked group sources table

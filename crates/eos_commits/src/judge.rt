@@ -222,8 +222,7 @@ pub fn least_visible_fault(
     ensures { AreInOrder parts.now → IfOk result (IsLeastOrNone visible_cmp (Stands apps.now parts.now)) }
 {
     let roles = Roles::of(alloc, apps)?;
-    let fault = first_fault(alloc, &roles, parts, false)?;
-    Ok(fault)
+    first_fault(alloc, &roles, parts, false)
 }
 
 /// The same. At most so many threads read the records of output topics, of which the caller's is one: with one none is
@@ -242,6 +241,5 @@ pub fn least_visible_fault_by(
 {
     let roles = Roles::of(alloc, apps)?;
     let settled = are_settled(alloc, rt, workers, &roles, parts)?;
-    let fault = first_fault(alloc, &roles, parts, settled)?;
-    Ok(fault)
+    first_fault(alloc, &roles, parts, settled)
 }

@@ -15,9 +15,9 @@ mod settled;
 mod table;
 mod visible;
 
-pub use commits::{CommitRef, commits_of, committed, last_committed};
+pub use commits::{CommitRef, last_committed};
 pub use fault::{VisibleFault, VisibleFaultKind};
 pub use judge::{least_visible_fault, least_visible_fault_by};
 pub use roles::TopicSet;
-pub use table::CommitTable;
+pub use table::{CommitTable, commits_of, committed};
 pub use visible::is_visible;

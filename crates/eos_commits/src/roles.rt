@@ -5,7 +5,7 @@ ghost use Rattle.std.specs.Ordering.{nat_cmp};
 ghost use Rattle.std.specs.Cmp.Lexicographic.{slice_cmp};
 ghost use Rattle.eos_base.specs.Members.{is_found};
 ghost use Rattle.eos_evidence.specs.Parts.{outputs_of};
-ghost use Rattle.eos_commits.specs.steps.Roles.{plain_topic, by_topic, plain_source, source_cmp, by_source, sources_in, sources_of};
+ghost use Rattle.eos_commits.specs.steps.Roles.{plain_topic, by_topic, plain_source, source_cmp, by_source, sources_under, sources_of};
 
 use bytes::Bytes;
 use eos_base::{holds, in_order};
@@ -38,12 +38,14 @@ fn push_topics<'a>(all: &mut Vec<TopicRef<'a>>, topics: &'a [Bytes]) -> Result<(
     Ok(())
 }
 
-/// Puts the topics that an application reads at the end, each with its group.
-fn push_sources<'a>(all: &mut Vec<SourceRef<'a>>, app: &'a App) -> Result<(), AllocError>
-    ensures { OnOk result (map plain_source all.new.items ≡ map plain_source all.old.items ++ sources_in app.now) }
+/// Puts the topics that a group reads at the end, each with the group.
+fn push_sources<'a>(
+    all: &mut Vec<SourceRef<'a>>,
+    group: &'a [u8],
+    topics: &'a [Bytes],
+) -> Result<(), AllocError>
+    ensures { OnOk result (map plain_source all.new.items ≡ map plain_source all.old.items ++ sources_under group.now topics.now) }
 {
-    let group = app.group.as_bytes();
-    let topics = app.sources.as_slice();
     for topic in topics {
         all.push(SourceRef {
             group,
@@ -68,7 +70,7 @@ fn all_sources<'a>(alloc: Global, apps: &'a [App]) -> Result<Vec<SourceRef<'a>>,
 {
     let mut all = Vec::new(alloc);
     for app in apps {
-        push_sources(&mut all, app)?;
+        push_sources(&mut all, app.group.as_bytes(), app.sources.as_slice())?;
     }
     Ok(all)
 }
@@ -164,6 +166,22 @@ impl<'a> Roles<'a> {
         Ok(Roles {
             sources: in_order(sources),
             outputs: TopicSet::new(outputs),
+        })
+    }
+
+    /// What a group reads, and no output.
+    pub(crate) fn of_group(
+        alloc: Global,
+        group: &'a [u8],
+        topics: &'a [Bytes],
+    ) -> Result<Roles<'a>, AllocError>
+        ensures { IfOk result (λ r. IsPermutation (sources_under group.now topics.now) r.sources) }
+    {
+        let mut sources = Vec::new(alloc);
+        push_sources(&mut sources, group, topics)?;
+        Ok(Roles {
+            sources: in_order(sources),
+            outputs: TopicSet::new(Vec::new(alloc)),
         })
     }
 

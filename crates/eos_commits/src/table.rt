@@ -1,6 +1,6 @@
-//! The commits of all applications, tabled by their groups in one walk over the logs.
+//! The commits of all applications, or of one group, tabled by their groups in one walk over the logs.
 
-ghost use Rattle.std.specs.Prelude.{◌≡◌, ◌++◌, ◌≤◌, ◌<◌, ℕ, List, map, length, option_map, slice_index_or, true, false, IfOk, OnOk, IsSorted, MatchBool};
+ghost use Rattle.std.specs.Prelude.{◌≡◌, ◌++◌, ◌≤◌, ◌<◌, ℕ, List, [], ◌∷◌, map, length, option_map, slice_index_or, true, false, IfOk, OnOk, IsSorted, MatchBool};
 ghost use Rattle.std.specs.Option.{option_to_list};
 ghost use Rattle.std.specs.Ordering.{is_lt, nat_cmp};
 ghost use Rattle.std.specs.Cmp.Lexicographic.{slice_cmp};
@@ -8,14 +8,16 @@ ghost use Rattle.std.specs.List.{filter};
 ghost use Rattle.eos_base.specs.Members.{Has};
 ghost use Rattle.eos_evidence.specs.declared.application.App.{App};
 ghost use Rattle.eos_fold.specs.Parts.{PartLog};
+ghost use Rattle.eos_claims.specs.Outputs.{committed_offset};
 ghost use Rattle.eos_commits.specs.Commits.{Group, key_of, commits_of as commits_in_log};
 ghost use Rattle.eos_commits.specs.Plain.{plain_commit};
 ghost use Rattle.eos_commits.specs.Tables.{IsTableOf, pick_of_topics, picked};
-ghost use Rattle.eos_commits.specs.steps.Entries.{by_group, entries_at, entries_by, entry_at as entry_in, entry_under, is_read, is_under, plain_entry};
+ghost use Rattle.eos_commits.specs.steps.Entries.{AreEntriesOf, by_group, entries_at, entries_by, entry_at as entry_in, entry_under, is_read, is_under, plain_entry};
 
-use crate::commits::{CommitRef, commit_with};
+use crate::commits::{CommitRef, commit_with, last_committed};
 use crate::roles::{Roles, TopicSet};
 use crate::visible::{is_of_offsets, is_same, is_visible};
+use bytes::Bytes;
 use eos_evidence::App;
 use eos_offsets::view_key;
 use eos_partition::{ItemRef, Part};
@@ -206,6 +208,33 @@ fn commits_from<'a>(
     Ok(all)
 }
 
+/// The entries of all partitions by their groups, those of one group in the order of the log.
+fn entries_of<'a>(
+    alloc: Global,
+    roles: &Roles<'_>,
+    parts: &'a [Part],
+) -> Result<Vec<Entry<'a>>, AllocError>
+    ensures sorted { IfOk result (λ all. IsSorted by_group all.items) }
+    ensures entries { IfOk result (λ all. AreEntriesOf (is_read roles.now.sources) parts.now all.items) }
+{
+    let entries = all_entries(alloc, roles, parts)?;
+    sorted_by_group(entries)
+}
+
+/// The commits of a group and these topics among these entries.
+fn picked_of<'a>(
+    alloc: Global,
+    entries: &[Entry<'a>],
+    group: &[u8],
+    sources: &[Bytes],
+) -> Result<Vec<CommitRef<'a>>, AllocError>
+    requires { IsSorted by_group entries.now }
+    ensures { IfOk result (λ all. map plain_commit all.items ≡ picked group.now sources.now (map plain_entry entries.now)) }
+{
+    let set = TopicSet::of(alloc, sources)?;
+    commits_from(alloc, entries, group, &set)
+}
+
 impl<'a> CommitTable<'a> {
     /// The commits of these applications' groups, of the topics that they read: one walk over the logs for all of them.
     ///
@@ -215,8 +244,7 @@ impl<'a> CommitTable<'a> {
         ensures { IfOk result (λ table. IsTableOf apps.now parts.now table) }
     {
         let roles = Roles::of(alloc, apps)?;
-        let entries = all_entries(alloc, &roles, parts)?;
-        let entries = sorted_by_group(entries)?;
+        let entries = entries_of(alloc, &roles, parts)?;
         Ok(CommitTable { entries })
     }
 
@@ -228,9 +256,44 @@ impl<'a> CommitTable<'a> {
         ensures { (apps : List App) (parts : List PartLog) → IsTableOf apps parts self.now → Has apps app.now
             → IfOk result (λ all. map plain_commit all.items ≡ commits_in_log app.now.group app.now.sources parts) }
     {
-        let sources = TopicSet::of(alloc, app.sources.as_slice())?;
         let entries = self.entries.as_slice();
-        let all = commits_from(alloc, entries, app.group.as_bytes(), &sources)?;
-        Ok(all)
+        picked_of(alloc, entries, app.group.as_bytes(), app.sources.as_slice())
     }
+}
+
+/// The commits of a group that reads these topics, in the order of the log: of each visible record of
+/// `__consumer_offsets` whose key names the group and one of the topics and whose value reads.
+///
+/// # Errors
+/// Only want of memory.
+pub fn commits_of<'a>(
+    alloc: Global,
+    group: &[u8],
+    sources: &[Bytes],
+    parts: &'a [Part],
+) -> Result<Vec<CommitRef<'a>>, AllocError>
+    ensures { IfOk result (λ all. map plain_commit all.items ≡ commits_in_log group.now sources.now parts.now) }
+{
+    let roles = Roles::of_group(alloc, group, sources)?;
+    let entries = entries_of(alloc, &roles, parts)?;
+    picked_of(alloc, entries.as_slice(), group, sources)
+}
+
+/// The committed offset of a partition for a group: the offset in the last visible record of `__consumer_offsets` that
+/// commits one of it, and 0 where there is none. Records whose value doesn't read are left out; where no fault of the
+/// offsets log stands there are none.
+///
+/// # Errors
+/// Only want of memory.
+pub fn committed(
+    alloc: Global,
+    parts: &[Part],
+    group: &[u8],
+    topic: &Bytes,
+    partition: i32,
+) -> Result<i64, AllocError>
+    ensures { IfOk result (λ offset. offset ≡ committed_offset (commits_in_log group.now (topic.now ∷ []) parts.now) (record { topic = topic.now; partition = partition })) }
+{
+    let commits = commits_of(alloc, group, std::slice::from_ref(topic), parts)?;
+    Ok(last_committed(commits.as_slice(), topic.as_slice(), partition))
 }

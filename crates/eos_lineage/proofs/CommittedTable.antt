@@ -1,6 +1,6 @@
 -- The table of committed offsets, commit by commit.
 use Rattle.std.proofs.Common.{◌≡◌, ◌<◌, ◌+◌, ℕ, ℤ, pos, zero, suc, List, [], ◌∷◌, ◌++◌, length, map, take, get_or, Some, refl, sym, subst, ap, ◌∙◌, inl, inr, true, false, Bool, arith, if◌then◌else◌}
-use Rattle.std.specs.Prelude.{slice_get, slice_set, filter, cond}
+use Rattle.std.specs.Prelude.{slice_get, slice_set, filter, cond, replicate}
 use Rattle.std.specs.Ordering.{is_eq}
 use Rattle.std.specs.declared.cmp.Ordering.TheVariants.{Less, Equal}
 use Rattle.std.proofs.lemmas.Cmp.{tied_itself}
@@ -93,3 +93,8 @@ taken f xs i d lt =
 pub length_of_map : {X Y : Type 0} (f : X → Y) (xs : List X) → length (map f xs) ≡ length xs
 length_of_map f [] = refl
 length_of_map f (x ∷ xs) = let r = length_of_map f xs in omega (arith, r)
+
+-- no commit yet
+pub none_committed : (ns : List PartitionName) → replicate (length ns) (pos 0) ≡ map (committed_offset []) ns
+none_committed [] = refl
+none_committed (n ∷ ns) = ap (λ (os : List ℤ). pos 0 ∷ os) (none_committed ns)

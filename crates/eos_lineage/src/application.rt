@@ -1,18 +1,17 @@
 //! The outputs of one application: the least fault, and what is counted.
 
-ghost use Rattle.std.specs.Prelude.{◌≡◌, ◌≤◌, true, map, flat_map, filter, length, fold, option_map, IfOk, IsSorted};
-ghost use Rattle.eos_base.specs.Members.{Has};
+ghost use Rattle.std.specs.Prelude.{◌≡◌, ◌≤◌, map, flat_map, filter, length, fold, option_map, IfOk, IsSorted};
 ghost use Rattle.eos_base.specs.Least.{lesser_of};
 ghost use Rattle.eos_claims.specs.Outputs.{Application, ReadsSources};
 ghost use Rattle.eos_claims.specs.Faults.{fault_cmp};
-ghost use Rattle.eos_claims.specs.Candidates.{AreApart, unclaimed, is_committed as is_committed_in};
+ghost use Rattle.eos_claims.specs.Candidates.{AreApart, unclaimed};
 ghost use Rattle.eos_claims.specs.Plain.{plain_place, plain_source, plain_fault, plain_claim};
 ghost use Rattle.eos_lineage.specs.Lineage.{inputs_below};
 ghost use Rattle.eos_lineage.specs.steps.Walks.{one_if, AreTables, AreNamed, by_source, is_named, output_claims, is_no_note, IsOutputsAnswer};
 
 use crate::claims::{Output, take_outputs};
 use crate::sorting::sorted;
-use crate::tables::{Marks, Tables, is_committed};
+use crate::tables::{Tables, is_committed, source_of};
 use bytes::Bytes;
 use eos_base::PartitionName;
 use eos_claims::{
@@ -44,37 +43,13 @@ fn count_outputs(claims: &[NumberedClaim<'_>]) -> u64
     count
 }
 
-/// Whether the claim at this place is of the input.
-fn names_at<'a>(claims: &[NumberedClaim<'a>], place: usize, input: &PlaceRef<'a>) -> bool
-    ensures { result ≡ true → is_named claims.now (plain_place input.now) ≡ true }
-{
-    match claims.get(place) {
-        None => false,
-        Some(claim) => claim.source.cmp(input).is_eq(),
-    }
-}
-
-/// Whether one of the claims, which are in order, is of the input: looked for first at a place where it may stand, then by
-/// a binary search.
-fn is_claimed<'a>(claims: &[NumberedClaim<'a>], near: usize, input: &PlaceRef<'a>) -> bool
+/// Whether one of the claims, which are in order, is of the input: a binary search.
+fn is_claimed<'a>(claims: &[NumberedClaim<'a>], input: &PlaceRef<'a>) -> bool
     ensures { IsSorted by_source claims.now → result ≡ is_named claims.now (plain_place input.now) }
 {
-    if names_at(claims, near, input) {
-        return true;
-    }
     claims
         .binary_search_by_key(input, |claim| claim.source)
         .is_ok()
-}
-
-/// From a place on, the first of the claims that isn't of a lesser input. Only a guess where the input's stand: it says
-/// nothing of claims before the place.
-fn advanced<'a>(claims: &[NumberedClaim<'a>], from: usize, input: &PlaceRef<'a>) -> usize {
-    let mut place = from;
-    while place < claims.len() && claims[place].source.cmp(input).is_lt() {
-        place += 1;
-    }
-    place
 }
 
 fn one_where(test: bool) -> u64
@@ -84,73 +59,25 @@ fn one_where(test: bool) -> u64
     if test { 1 } else { 0 }
 }
 
-/// The number of inputs below their committed offsets.
-fn count_inputs(tables: &Tables<'_, '_, '_, '_, '_, '_>) -> u64
-    ensures { (a : Application) → AreTables a tables.now → result ≡ length (inputs_below a) }
-{
-    let mut count = 0u64;
-    let mut marks = Marks::new();
-    for input in tables.inputs {
-        count += one_where(is_committed(tables, &mut marks, input));
-    }
-    count
-}
-
-/// The lesser of the least so far and what an input shows.
-fn take_input<'a>(
-    tables: &Tables<'_, '_, '_, '_, '_, 'a>,
-    marks: &mut Marks,
-    claims: &[NumberedClaim<'a>],
-    best: Option<Found<'a>>,
-    input: &PlaceRef<'a>,
-) -> Option<Found<'a>>
-    ensures { (a : Application) → AreTables a tables.entry.now → AreNamed a claims.now → Has a.inputs (plain_place input.entry.now)
-        → option_map plain_fault result ≡ fold (lesser_of fault_cmp) (option_map plain_fault best.entry) (unclaimed a (plain_place input.entry.now)) }
-{
-    let committed = is_committed(tables, marks, input);
-    marks.claim = advanced(claims, marks.claim, input);
-    let claimed = is_claimed(claims, marks.claim, input);
-    least_of_input(best, *input, committed, claimed)
-}
-
-/// The lesser of the least so far and what inputs show.
+/// The lesser of the least so far and what inputs show, and the number of inputs below their committed offsets.
 fn take_inputs<'a>(
     tables: &Tables<'_, '_, '_, '_, '_, 'a>,
     claims: &[NumberedClaim<'a>],
-    best: Option<Found<'a>>,
-) -> Option<Found<'a>>
-    ensures { (a : Application) → AreTables a tables.entry.now → AreNamed a claims.now
-        → option_map plain_fault result ≡ fold (lesser_of fault_cmp) (option_map plain_fault best.entry) (flat_map (unclaimed a) a.inputs) }
+    first: Option<Found<'a>>,
+) -> (Option<Found<'a>>, u64)
+    ensures best { (a : Application) → AreTables a tables.entry.now → AreNamed a claims.now
+        → option_map plain_fault result.0 ≡ fold (lesser_of fault_cmp) (option_map plain_fault first.entry) (flat_map (unclaimed a) a.inputs) }
+    ensures count { (a : Application) → AreTables a tables.entry.now → result.1 ≡ length (inputs_below a) }
 {
-    let mut best = best;
-    let mut marks = Marks::new();
+    let mut best = first;
+    let mut count = 0u64;
     for input in tables.inputs {
-        best = take_input(tables, &mut marks, claims, best, input);
+        let committed = is_committed(tables, input);
+        let claimed = is_claimed(claims, input);
+        best = least_of_input(best, *input, committed, claimed);
+        count += one_where(committed);
     }
-    best
-}
-
-/// The place with a name of its own.
-fn own_place(place: &PlaceRef<'_>) -> Result<Place, AllocError>
-    ensures { IfOk result (λ p. p ≡ plain_place place.now) }
-{
-    let name = place.partition;
-    Ok(Place {
-        partition: PartitionName {
-            topic: name.topic.clone()?,
-            partition: name.partition,
-        },
-        offset: place.offset,
-    })
-}
-
-fn own_place_if(place: &Option<PlaceRef<'_>>) -> Result<Option<Place>, AllocError>
-    ensures { IfOk result (λ p. p ≡ option_map plain_place place.now) }
-{
-    match place {
-        None => Ok(None),
-        Some(place) => Ok(Some(own_place(place)?)),
-    }
+    (best, count)
 }
 
 /// The source with a name of its own.
@@ -166,12 +93,21 @@ fn own_source(alloc: Global, source: &SourceRef<'_>) -> Result<Place, AllocError
     })
 }
 
+fn own_place_if(alloc: Global, place: &Option<PlaceRef<'_>>) -> Result<Option<Place>, AllocError>
+    ensures { IfOk result (λ p. p ≡ option_map plain_place place.now) }
+{
+    match place {
+        None => Ok(None),
+        Some(place) => Ok(Some(own_source(alloc, &source_of(place))?)),
+    }
+}
+
 /// The fault with names of its own.
 fn published(alloc: Global, found: &Found<'_>) -> Result<OutputFault, AllocError>
     ensures { IfOk result (λ f. f ≡ plain_fault found.now) }
 {
     let source = own_source(alloc, &found.source)?;
-    let at = own_place_if(&found.at)?;
+    let at = own_place_if(alloc, &found.at)?;
     Ok(OutputFault {
         source,
         output: found.output,
@@ -204,8 +140,7 @@ pub(crate) fn make_tally<'a, R: Threads + Sync>(
     let outputs = count_outputs(walk.below.as_slice());
     let below = sorted(rt, workers, walk.below);
     let best = least_of_runs(walk.best, below.as_slice());
-    let best = take_inputs(tables, below.as_slice(), best);
-    let inputs = count_inputs(tables);
+    let (best, inputs) = take_inputs(tables, below.as_slice(), best);
     let fault = published_if(alloc, best)?;
     Ok(Tally {
         fault,

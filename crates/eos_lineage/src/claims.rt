@@ -9,7 +9,7 @@ ghost use Rattle.eos_items.specs.declared.item.Item.{Item};
 ghost use Rattle.eos_part.specs.Looks.{IsLook};
 ghost use Rattle.eos_lineage.specs.steps.Walks.{kept_of, counted_ref, AreTables, HasWalked, plain_walk, begun, plain_placed, claim_at, output_claims, claims_of_part};
 
-use crate::tables::{Known, Marks, Tables, known_of, tests_of};
+use crate::tables::{Known, Tables, known_of, tests_of};
 use eos_base::PartitionName;
 use eos_claims::{ClaimRef, Found, LentClaim, NumberedClaim, PlaceRef, SourceRef, least_of_claim};
 use eos_commits::{TopicSet, is_visible};
@@ -99,14 +99,13 @@ fn lent_of<'a>(placed: &PlacedRef<'a>) -> LentClaim<'a>
 fn take_claim<'a>(
     walk: &mut Walk<'a>,
     tables: &Tables<'_, '_, '_, '_, '_, 'a>,
-    marks: &mut Marks,
     placed: &PlacedRef<'a>,
 ) -> Result<(), AllocError>
     ensures { (a : Application) → AreTables a tables.now → OnOk result (HasWalked a (plain_walk walk.old) (plain_walk walk.new) (plain_placed placed.now ∷ [])) }
 {
     let lent = lent_of(placed);
-    let known = known_of(tables, marks, &lent.source);
-    let tests = tests_of(tables, marks, &known, &lent.source, placed.writer);
+    let known = known_of(tables, &lent.source);
+    let tests = tests_of(tables, &known, &lent.source, placed.writer);
     walk.best = least_of_claim(walk.best, tests, &lent);
     keep_below(&mut walk.below, &known, &lent)
 }
@@ -115,7 +114,6 @@ fn take_claim<'a>(
 fn take_item<'a>(
     walk: &mut Walk<'a>,
     tables: &Tables<'_, '_, '_, '_, '_, 'a>,
-    marks: &mut Marks,
     name: &'a PartitionName,
     item: ItemRef<'a>,
 ) -> Result<(), AllocError>
@@ -123,7 +121,7 @@ fn take_item<'a>(
 {
     match placed_of(name, &item.into_look()) {
         None => Ok(()),
-        Some(placed) => take_claim(walk, tables, marks, &placed),
+        Some(placed) => take_claim(walk, tables, &placed),
     }
 }
 
@@ -136,10 +134,9 @@ fn take_part<'a>(
 ) -> Result<(), AllocError>
     ensures { (a : Application) → AreTables a tables.now → OnOk result (HasWalked a (plain_walk walk.old) (plain_walk walk.new) (flat_map (claim_at name.now) part.now.items)) }
 {
-    let mut marks = Marks::new();
     let mut records = part.items().cursor();
     while let Some(item) = records.next() {
-        take_item(walk, tables, &mut marks, name, item)?;
+        take_item(walk, tables, name, item)?;
     }
     Ok(())
 }

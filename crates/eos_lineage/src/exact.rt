@@ -174,24 +174,18 @@ fn take_logs<'k>(share: &Share<'k>, books: &Books<'_, '_, '_, '_, '_, '_>) -> Op
     Some(left)
 }
 
-/// The number of inputs below their committed offsets in a share's partitions, if its keys are those of their claims.
-fn count_share(books: &Books<'_, '_, '_, '_, '_, '_>, share: &Share<'_>) -> Option<u64>
-    ensures { (a : Application) → AreBooks a books.now → IfSome result (IsCounted a books.now share.now) }
+/// The number of inputs below their committed offsets in the partitions of the share at this place, if its keys are those of
+/// their claims.
+fn count_at(ground: &Ground<'_, '_, '_, '_, '_, '_, '_, '_>, i: usize) -> Option<u64>
+    requires { i < length ground.now.shares.now }
+    ensures { (a : Application) (d : Share) → AreBooks a ground.now.books → IfSome result (IsCounted a ground.now.books (slice_index_or ground.now.shares.now i d)) }
 {
-    let left = take_logs(share, books)?;
+    let left = take_logs(&ground.shares[i], &ground.books)?;
     if left.keys.is_empty() {
         Some(left.inputs)
     } else {
         None
     }
-}
-
-/// The same of the share at this place.
-fn count_at(ground: &Ground<'_, '_, '_, '_, '_, '_, '_, '_>, i: usize) -> Option<u64>
-    requires { i < length ground.now.shares.now }
-    ensures { (a : Application) (d : Share) → AreBooks a ground.now.books → IfSome result (IsCounted a ground.now.books (slice_index_or ground.now.shares.now i d)) }
-{
-    count_share(&ground.books, &ground.shares[i])
 }
 
 /// The sum of both, where the count is there.

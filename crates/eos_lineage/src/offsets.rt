@@ -1,6 +1,6 @@
 //! The committed offset of each partition.
 
-ghost use Rattle.std.specs.Prelude.{◌≡◌, ◌<◌, [], map, length, slice_set, int_lt, pos, IfOk};
+ghost use Rattle.std.specs.Prelude.{◌≡◌, ◌<◌, map, length, slice_set, int_lt, pos, IfOk};
 ghost use Rattle.eos_claims.specs.Outputs.{committed_offset};
 ghost use Rattle.eos_commits.specs.Faults.{AreInOrder};
 ghost use Rattle.eos_commits.specs.Plain.{plain_commit};
@@ -8,7 +8,6 @@ ghost use Rattle.eos_fold.specs.Parts.{part_name};
 ghost use Rattle.eos_lineage.specs.steps.Tables.{AreAscending, set_named};
 
 use crate::name::{Names, names_of};
-use eos_base::PartitionName;
 use eos_commits::CommitRef;
 use eos_partition::Part;
 use std::alloc::{AllocError, Global};
@@ -31,17 +30,6 @@ fn commit_one(offsets: &mut Vec<i64>, names: &Names<'_>, commit: &CommitRef<'_>)
     }
 }
 
-/// Nothing is committed yet.
-fn none_committed(alloc: Global, names: &[PartitionName]) -> Result<Vec<i64>, AllocError>
-    ensures { IfOk result (λ offsets. offsets.items ≡ map (committed_offset []) names.now) }
-{
-    let mut offsets = Vec::new(alloc);
-    for _name in names {
-        offsets.push(0)?;
-    }
-    Ok(offsets)
-}
-
 /// The committed offset of each partition, in the order of the names.
 pub(crate) fn offsets_of(
     alloc: Global,
@@ -50,7 +38,7 @@ pub(crate) fn offsets_of(
 ) -> Result<Vec<i64>, AllocError>
     ensures { IfOk result (λ offsets. AreAscending names.now → offsets.items ≡ map (committed_offset (map plain_commit commits.now)) names.now) }
 {
-    let mut offsets = none_committed(alloc, names.as_slice())?;
+    let mut offsets = vec![in alloc; 0; names.as_slice().len()]?;
     for commit in commits {
         commit_one(&mut offsets, names, commit);
     }
@@ -72,8 +60,7 @@ pub fn committed_offsets(
 {
     let all = names_of(alloc, parts)?;
     let names = Names::of(alloc, all.as_slice())?;
-    let offsets = offsets_of(alloc, &names, commits)?;
-    Ok(offsets)
+    offsets_of(alloc, &names, commits)
 }
 
 /// Whether the offset is below the committed one.

@@ -52,19 +52,12 @@ fn list_closes(alloc: Global, heads: &[DataHead]) -> Result<Vec<Close>, AllocErr
     Ok(closes)
 }
 
-/// Each unequal close once, in ascending order.
-fn once(mut closes: Vec<Close>) -> Vec<Close>
-    ensures { AreCloses closes.items result.items }
-{
-    closes.sort_unstable();
-    closes.dedup();
-    closes
-}
-
 /// The unequal closes of a log's data batches, in ascending order.
 pub(crate) fn closes_of(alloc: Global, heads: &[DataHead]) -> Result<Vec<Close>, AllocError>
     ensures { IfOk result (λ closes. AreCloses (closes_under heads.now) closes.items) }
 {
-    let closes = list_closes(alloc, heads)?;
-    Ok(once(closes))
+    let mut closes = list_closes(alloc, heads)?;
+    closes.sort_unstable();
+    closes.dedup();
+    Ok(closes)
 }

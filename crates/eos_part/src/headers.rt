@@ -54,17 +54,17 @@ fn count_bytes(alloc: Global, count: u32) -> Result<Bytes, AllocError>
 fn claim_headers(alloc: Global, claim: &ClaimRef<'_>) -> Result<Vec<Header>, AllocError>
     ensures { IfOk result (λ h. h.items ≡ claim_headers (plain_claim claim.entry.now)) }
 {
+    let mut headers = Vec::with_capacity(alloc, 5)?;
     let topic = Bytes::copy_from_slice(alloc, claim.topic)?;
+    headers.push_reserved(header(b"eo.topic".as_slice(), topic));
     let partition = partition_bytes(alloc, claim.partition)?;
+    headers.push_reserved(header(b"eo.partition".as_slice(), partition));
     let offset = offset_bytes(alloc, claim.offset)?;
+    headers.push_reserved(header(b"eo.offset".as_slice(), offset));
     let output = count_bytes(alloc, claim.output)?;
+    headers.push_reserved(header(b"eo.output".as_slice(), output));
     let of = count_bytes(alloc, claim.of)?;
-    let mut headers = Vec::new(alloc);
-    headers.push(header(b"eo.topic".as_slice(), topic))?;
-    headers.push(header(b"eo.partition".as_slice(), partition))?;
-    headers.push(header(b"eo.offset".as_slice(), offset))?;
-    headers.push(header(b"eo.output".as_slice(), output))?;
-    headers.push(header(b"eo.of".as_slice(), of))?;
+    headers.push_reserved(header(b"eo.of".as_slice(), of));
     Ok(headers)
 }
 

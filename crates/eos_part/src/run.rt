@@ -27,7 +27,7 @@ pub enum KeptRun {
 }
 
 /// What is asked of a segment: what is wanted of its log, and the topics that are asked for.
-#[derive(Clone, Copy, Debug)]
+#[derive(Clone, Copy)]
 pub struct Asked<'a> {
     pub wanted: Wanted,
     pub topics: &'a [Bytes],
@@ -87,8 +87,11 @@ impl KeptRun {
         ensures sequenced { IfOk result (λ run. (front_of run).run.sequenced ≡ (front_of before).run.sequenced) }
         ensures err { IfErr result (λ back. SameKeptRun before back.0 × SameKeptRun after back.1) }
     {
-        match (before, after) {
-            (KeptRun::Presence(before), KeptRun::Presence(after)) => {
+        match before {
+            KeptRun::Presence(before) => {
+                let KeptRun::Presence(after) = after else {
+                    unreachable!()
+                };
                 match Kept::join(alloc, before, after) {
                     Ok(run) => Ok(KeptRun::Presence(run)),
                     Err((before, after)) => {
@@ -96,19 +99,24 @@ impl KeptRun {
                     }
                 }
             }
-            (KeptRun::Claims(before), KeptRun::Claims(after)) => {
+            KeptRun::Claims(before) => {
+                let KeptRun::Claims(after) = after else {
+                    unreachable!()
+                };
                 match Kept::join(alloc, before, after) {
                     Ok(run) => Ok(KeptRun::Claims(run)),
                     Err((before, after)) => Err((KeptRun::Claims(before), KeptRun::Claims(after))),
                 }
             }
-            (KeptRun::Texts(before), KeptRun::Texts(after)) => {
+            KeptRun::Texts(before) => {
+                let KeptRun::Texts(after) = after else {
+                    unreachable!()
+                };
                 match Kept::join(alloc, before, after) {
                     Ok(run) => Ok(KeptRun::Texts(run)),
                     Err((before, after)) => Err((KeptRun::Texts(before), KeptRun::Texts(after))),
                 }
             }
-            _ => unreachable!(),
         }
     }
 }

@@ -1,5 +1,6 @@
 -- The entries of a table of commits, record by record of all records of a log.
-use Rattle.std.specs.Prelude.{Bool, Option, Some, None, Result, Ok, Err, List, [], map, flat_map, if◌then◌else◌}
+use Rattle.std.specs.Prelude.{◌≡◌, Bool, Option, Some, None, Result, Ok, Err, List, [], map, flat_map, if◌then◌else◌}
+use Rattle.std.specs.List.{filter}
 use Rattle.std.specs.Ordering.{nat_cmp}
 use Rattle.std.specs.Cmp.Lexicographic.{slice_cmp}
 use Rattle.std.specs.declared.cmp.Ordering.{Ordering}
@@ -42,3 +43,9 @@ entries_at ours p = if is_offsets_part p then flat_map (entry_at ours) p.items e
 
 abbrev pub entries_by : (OffsetKey → Bool) → List PartLog → List Tabled
 entries_by ours ps = flat_map (entries_at ours) ps
+
+-- the entries of these logs, those of one group in the order of the log
+pub record AreEntriesOf (ours : OffsetKey → Bool) (ps : List PartLog) (es : List Entry) : Type 0 where
+  pub flat : List Entry
+  pub all : map plain_entry flat ≡ entries_by ours ps
+  pub stable : (group : Group) → filter (is_under group) es ≡ filter (is_under group) flat

@@ -27,6 +27,9 @@ source_cmp = then_cmp (on (λ s. s.0) (slice_cmp nat_cmp)) (on (λ s. s.1) (slic
 abbrev pub by_source : SourceRef → SourceRef → Ordering
 by_source a b = source_cmp (plain_source a) (plain_source b)
 
+abbrev pub sources_under : Group → List Topic → List Source
+sources_under group topics = map (λ t. (group, t)) topics
+
 abbrev pub sources_in : App → List Source
 sources_in a = map (λ t. (a.group, t)) a.sources
 

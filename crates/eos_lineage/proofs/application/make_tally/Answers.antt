@@ -20,8 +20,8 @@ returns g c = λ a are reads apart claims.
     let up = c.sorted-below.ensures.in_order in
     let first = c.least_of_runs-best.ensures ∙ ap (λ (cs : List NumberedClaim). fold (lesser_of fault_cmp) b0 (runs (map plain_claim cs))) c.as_slice-2.ensures.value in
     let named = are_named a kept sorted walked.below perm up in
-    let second = c.take_inputs-best.ensures a are (subst (AreNamed a) (sym c.as_slice-3.ensures.value) named) in
+    let second = c.take_inputs-inputs.ensures.best a are (subst (AreNamed a) (sym c.as_slice-3.ensures.value) named) in
     let notes = c.count_outputs-outputs.ensures ∙ ap (λ (cs : List NumberedClaim). length (filter is_no_note (map plain_claim cs))) c.as_slice.ensures.value in
-    subst (λ o. IsOutputsAnswer a o c.count_inputs-inputs.result c.count_outputs-outputs.result) (sym c.in_ok-fault.ensures)
-    (tallied a kept sorted b0 b1 (option_map plain_fault c.take_inputs-best.result) c.count_inputs-inputs.result c.count_outputs-outputs.result reads apart walked perm up first second
-    (c.count_inputs-inputs.ensures a are) notes)
+    subst (λ o. IsOutputsAnswer a o c.take_inputs-inputs.result.1 c.count_outputs-outputs.result) (sym c.in_ok-fault.ensures)
+    (tallied a kept sorted b0 b1 (option_map plain_fault c.take_inputs-inputs.result.0) c.take_inputs-inputs.result.1 c.count_outputs-outputs.result reads apart walked perm up first second
+    (c.take_inputs-inputs.ensures.count a are) notes)

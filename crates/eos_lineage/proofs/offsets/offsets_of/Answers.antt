@@ -1,15 +1,18 @@
-use Rattle.std.proofs.Common.{◌≡◌, ◌∙◌, ap, map, take, take_all, length, List, []}
+use Rattle.std.proofs.Common.{◌≡◌, ◌∙◌, ap, map, take, take_all, length, List, [], pos}
+use Rattle.std.specs.Prelude.{replicate}
+use Rattle.eos_base.specs.declared.partition_name.PartitionName.{PartitionName}
 use Rattle.eos_claims.specs.Outputs.{Commit, committed_offset}
 use Rattle.eos_commits.specs.declared.commits.CommitRef.{CommitRef}
 use Rattle.eos_commits.specs.Plain.{plain_commit}
 use Rattle.eos_lineage.specs.steps.Tables.{set_named}
-use Rattle.eos_lineage.proofs.CommittedTable.{set_more, taken, length_of_map}
+use Rattle.eos_lineage.proofs.CommittedTable.{set_more, taken, length_of_map, none_committed}
 use Rattle.eos_lineage.proofs.offsets.offsets_of.Goals as goal
 
 pub loop-commit-init : goal.loop-commit-init
 loop-commit-init c =
-    let e : c.in_ok-offsets.offsets.items ≡ map (committed_offset []) c.args.names.now = c.in_ok-offsets.ensures ∙ ap (map (committed_offset [])) c.as_slice.ensures in
-    record { len = ap length e ∙ length_of_map (committed_offset []) c.args.names.now; offsets_are = λ up. e }
+    let names = c.args.names.now in
+    let e : c.in_ok-offsets.offsets.items ≡ map (committed_offset []) names = c.in_ok-offsets.ensures.items_if_clones_equal (λ y same. same) ∙ (ap (λ (ns : List PartitionName). replicate (length ns) (pos 0)) c.as_slice.ensures ∙ none_committed names) in
+    record { len = ap length e ∙ length_of_map (committed_offset []) names; offsets_are = λ up. e }
 
 pub loop-commit-preserved : goal.loop-commit-preserved
 loop-commit-preserved c = record {

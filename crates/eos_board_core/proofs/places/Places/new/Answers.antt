@@ -6,7 +6,7 @@ use Rattle.eos_board_core.proofs.places.Places.new.Goals as goal
 
 pub invariant_of-result : goal.invariant_of-result
 invariant_of-result g c = (
-  rw (c.in_ok-runs.ensures, c.in_ok-firsts.ensures, c.in_ok-reaches.ensures, c.in_ok-seams.ensures.items, c.in_ok-listed.ensures) (empty_sound c.args.pieces),
+  rw (c.in_ok-runs.ensures, c.in_ok-firsts.ensures, c.in_ok-reaches.ensures, c.in_ok-seams.ensures.items, c.in_ok-listed.ensures.items_if_clones_equal (λ y e. e)) (empty_sound c.args.pieces),
   omega (arith, c.in_ok-seams.ensures.capacity),
   omega (arith, c.in_ok-leaving.ensures.capacity),
   c.in_ok-leaving.ensures.items,

@@ -3,5 +3,5 @@ use Rattle.eos_commits.proofs.table.CommitTable.of.Goals as goal
 
 pub returns : goal.returns
 returns c =
-    is_table c.args.apps.now c.args.parts.now c.in_ok-roles.roles.sources c.in_ok-entries.entries.items c.in_ok-entries-2.entries.items
-    c.in_ok-roles.ensures.sources c.in_ok-entries.ensures c.in_ok-entries-2.ensures.stable
+    is_table c.args.apps.now c.args.parts.now c.in_ok-roles.roles.sources c.in_ok-entries.entries.items
+    c.in_ok-roles.ensures.sources c.in_ok-entries.ensures.entries

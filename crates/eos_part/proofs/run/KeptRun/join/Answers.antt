@@ -9,8 +9,8 @@ use Rattle.eos_part.proofs.run.KeptRun.join.Goals as goal
 
 pub returns-in-Ok-join-clause-claims : goal.returns-in-Ok-join-clause-claims
 returns-in-Ok-join-clause-claims c = λ topics h k.
-    joined_all (λ (one : KeptOutput). ReadsBack (claim_kept topics one)) c.in-Claims-Claims.before.kept c.in-Claims-Claims.after.kept _ c.in-Ok-join.ensures.kept (subst (HasClaims topics) c.in-Claims-Claims.is-0 h) (subst (HasClaims topics) c.in-Claims-Claims.is-1 k)
+    joined_all (λ (one : KeptOutput). ReadsBack (claim_kept topics one)) c.in-Claims.before.kept c.in-Claims-after.after.kept _ c.in-Ok-join.ensures.kept (subst (HasClaims topics) c.in-Claims.is h) (subst (HasClaims topics) c.in-Claims-after.is k)
 
 pub returns-in-Ok-join-2-clause-claims : goal.returns-in-Ok-join-2-clause-claims
 returns-in-Ok-join-2-clause-claims c = λ topics h k.
-    joined_all SaysClaim c.in-Texts-Texts.before.kept c.in-Texts-Texts.after.kept _ c.in-Ok-join-2.ensures.kept (subst (HasClaims topics) c.in-Texts-Texts.is-0 h) (subst (HasClaims topics) c.in-Texts-Texts.is-1 k)
+    joined_all SaysClaim c.in-Texts.before.kept c.in-Texts-after.after.kept _ c.in-Ok-join-2.ensures.kept (subst (HasClaims topics) c.in-Texts.is h) (subst (HasClaims topics) c.in-Texts-after.is k)
