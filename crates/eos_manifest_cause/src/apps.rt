@@ -1,51 +1,63 @@
 //! The applications of a manifest, where they stand in its JSON value.
 
-use crate::finding::{Finding, Owner, Place, Wanted};
+use crate::place::{Owner, Place};
+use crate::printing::{push_another, push_place, push_version, refused};
+use crate::types::array_at;
+use eos_evidence::SpecFault;
 use serde_json::Value;
 use std::slice;
 
-/// The applications of a manifest.
+/// The applications of a manifest, in order.
 #[derive(Clone, Copy)]
-pub(crate) enum AppList<'a> {
-    /// The manifest is the one, in version 1.
-    One(&'a Value),
-    /// The manifest lists them, in version 2.
-    Listed(&'a Value),
+pub(crate) struct AppList<'a> {
+    pub(crate) values: &'a [Value],
+    /// The manifest lists them, in version 2; in version 1 it is the one itself.
+    are_listed: bool,
 }
 
 impl<'a> AppList<'a> {
     /// Them as a manifest has them: by its version, which is looked at here.
-    pub(crate) fn of(manifest: &'a Value) -> Result<AppList<'a>, Finding<'a>> {
-        if !manifest.is_object() {
-            let place = Place::Whole(Owner::Manifest);
-            return Err(Finding::Another(place, manifest, Wanted::Object));
-        }
-        let place = Place::Member(Owner::Manifest, "version");
-        let Some(version) = manifest.get("version") else {
-            return Err(Finding::Absent(place));
+    pub(crate) fn of(out: &mut String, manifest: &'a Value) -> Result<AppList<'a>, SpecFault> {
+        let are_listed = is_version_two(out, manifest)?;
+        let values = if are_listed {
+            array_at(out, manifest, Owner::Manifest, "apps")?
+        } else {
+            slice::from_ref(manifest)
         };
-        match version.as_i64() {
-            Some(1) => Ok(AppList::One(manifest)),
-            Some(2) => Ok(AppList::Listed(manifest)),
-            Some(_) => Err(Finding::Version(version)),
-            None if version.is_u64() => Err(Finding::Version(version)),
-            None => Err(Finding::Another(place, version, Wanted::Integer)),
-        }
-    }
-
-    /// Them in order; none where there is no list of them.
-    pub(crate) fn values(self) -> &'a [Value] {
-        match self {
-            AppList::One(manifest) => slice::from_ref(manifest),
-            AppList::Listed(manifest) => items_of(manifest, "apps"),
-        }
+        Ok(AppList { values, are_listed })
     }
 
     /// Whose members those of the application at this place are.
     pub(crate) fn owner(self, at: usize) -> Owner {
-        match self {
-            AppList::One(_) => Owner::Manifest,
-            AppList::Listed(_) => Owner::App(at),
+        if self.are_listed {
+            Owner::App(at)
+        } else {
+            Owner::Manifest
+        }
+    }
+}
+
+/// Whether a manifest is of version 2, where it isn't of version 1.
+fn is_version_two(out: &mut String, manifest: &Value) -> Result<bool, SpecFault> {
+    if !manifest.is_object() {
+        let place = Place::Whole(Owner::Manifest);
+        let said = push_another(out, place, manifest, "an object");
+        return Err(refused(said, SpecFault::Field));
+    }
+    let place = Place::Member(Owner::Manifest, "version");
+    let Some(version) = manifest.get("version") else {
+        return Err(refused(push_place(out, place, " is absent"), SpecFault::Field));
+    };
+    match version.as_i64() {
+        Some(1) => Ok(false),
+        Some(2) => Ok(true),
+        None if !version.is_u64() => {
+            let said = push_another(out, place, version, "an integer");
+            Err(refused(said, SpecFault::Field))
+        }
+        _ => {
+            let said = push_version(out, version);
+            Err(refused(said, SpecFault::Version))
         }
     }
 }

@@ -4,9 +4,9 @@
 
 mod apps;
 mod cause;
-mod finding;
 mod json_place;
 mod names;
+mod place;
 mod printing;
 mod repeats;
 mod search;
