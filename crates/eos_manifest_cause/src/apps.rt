@@ -1,8 +1,8 @@
 //! The applications of a manifest, where they stand in its JSON value.
 
 use crate::place::{Owner, Place};
-use crate::printing::{push_another, push_place, push_version, refused};
 use crate::types::array_at;
+use crate::words::Words;
 use eos_evidence::SpecFault;
 use serde_json::Value;
 use std::slice;
@@ -17,10 +17,10 @@ pub(crate) struct AppList<'a> {
 
 impl<'a> AppList<'a> {
     /// Them as a manifest has them: by its version, which is looked at here.
-    pub(crate) fn of(out: &mut String, manifest: &'a Value) -> Result<AppList<'a>, SpecFault> {
-        let are_listed = is_version_two(out, manifest)?;
+    pub(crate) fn of(words: &mut Words, manifest: &'a Value) -> Result<AppList<'a>, SpecFault> {
+        let are_listed = is_version_two(words, manifest)?;
         let values = if are_listed {
-            array_at(out, manifest, Owner::Manifest, "apps")?
+            array_at(words, manifest, Owner::Manifest, "apps")?
         } else {
             slice::from_ref(manifest)
         };
@@ -38,26 +38,28 @@ impl<'a> AppList<'a> {
 }
 
 /// Whether a manifest is of version 2, where it isn't of version 1.
-fn is_version_two(out: &mut String, manifest: &Value) -> Result<bool, SpecFault> {
+fn is_version_two(words: &mut Words, manifest: &Value) -> Result<bool, SpecFault> {
     if !manifest.is_object() {
         let place = Place::Whole(Owner::Manifest);
-        let said = push_another(out, place, manifest, "an object");
-        return Err(refused(said, SpecFault::Field));
+        words.add_another(place, manifest, "an object");
+        return Err(SpecFault::Field);
     }
     let place = Place::Member(Owner::Manifest, "version");
     let Some(version) = manifest.get("version") else {
-        return Err(refused(push_place(out, place, " is absent"), SpecFault::Field));
+        words.add_place(place, " is absent");
+        return Err(SpecFault::Field);
     };
     match version.as_i64() {
         Some(1) => Ok(false),
         Some(2) => Ok(true),
         None if !version.is_u64() => {
-            let said = push_another(out, place, version, "an integer");
-            Err(refused(said, SpecFault::Field))
+            words.add_another(place, version, "an integer");
+            Err(SpecFault::Field)
         }
         _ => {
-            let said = push_version(out, version);
-            Err(refused(said, SpecFault::Version))
+            words.add_value("version is ", version);
+            words.add("; 1 or 2 is wanted");
+            Err(SpecFault::Version)
         }
     }
 }

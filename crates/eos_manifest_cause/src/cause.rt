@@ -4,6 +4,7 @@ ghost use Rattle.std.specs.Prelude.{◌≡◌, IfSome};
 
 use crate::json_place::parse;
 use crate::search::search;
+use crate::words::Words;
 use eos_evidence::SpecFault;
 use std::alloc::Global;
 
@@ -21,11 +22,12 @@ pub struct SpecCause {
 pub fn explain_spec(alloc: Global, bytes: &[u8], fault: SpecFault) -> Option<SpecCause>
     ensures { IfSome result (λ cause. cause.fault ≡ fault) }
 {
-    let mut text = String::new(alloc);
-    let Err(found) = look_at(alloc, &mut text, bytes) else {
+    let mut words = Words::new(alloc);
+    let Err(found) = look_at(alloc, &mut words, bytes) else {
         return None;
     };
     if found == fault && found != SpecFault::OutOfMemory {
+        let text = words.into_text()?;
         Some(SpecCause { fault: found, text })
     } else {
         None
@@ -33,7 +35,7 @@ pub fn explain_spec(alloc: Global, bytes: &[u8], fault: SpecFault) -> Option<Spe
 }
 
 /// Finds nothing where the manifest isn't refused; else the words say why it is.
-fn look_at(alloc: Global, out: &mut String, bytes: &[u8]) -> Result<(), SpecFault> {
-    let manifest = parse(alloc, out, bytes)?;
-    search(alloc, out, &manifest)
+fn look_at(alloc: Global, words: &mut Words, bytes: &[u8]) -> Result<(), SpecFault> {
+    let manifest = parse(alloc, words, bytes)?;
+    search(alloc, words, &manifest)
 }

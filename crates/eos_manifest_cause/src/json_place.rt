@@ -1,43 +1,46 @@
 //! Where bytes stop being a JSON text.
 
-use crate::printing::refused;
+use crate::words::Words;
 use eos_evidence::SpecFault;
-use eos_text::push_value;
 use serde_json::{Error, Value};
-use std::alloc::{AllocError, Global};
+use std::alloc::Global;
 use std::str;
 
 /// How deep a JSON text may nest.
 const MAX_DEPTH: usize = 127;
 
 /// The JSON value of bytes. Where they are no JSON text, the words say why, and at which byte, counted from 0.
-pub(crate) fn parse(alloc: Global, out: &mut String, bytes: &[u8]) -> Result<Value, SpecFault> {
+pub(crate) fn parse(alloc: Global, words: &mut Words, bytes: &[u8]) -> Result<Value, SpecFault> {
     let text = match str::from_utf8(bytes) {
         Ok(text) => text,
         Err(e) => {
-            let said = push_value(out, "the bytes stop being UTF-8 at byte ", &e.valid_up_to());
-            return Err(refused(said, SpecFault::Json));
+            words.add_value("the bytes stop being UTF-8 at byte ", &e.valid_up_to());
+            return Err(SpecFault::Json);
         }
     };
     match Value::from_str(alloc, text) {
         Ok(value) => Ok(value),
         Err(e) if e.is_memory() => Err(SpecFault::OutOfMemory),
-        Err(e) => Err(refused(push_stop(out, bytes, &e), SpecFault::Json)),
+        Err(e) => {
+            add_stop(words, bytes, &e);
+            Err(SpecFault::Json)
+        }
     }
 }
 
 /// Adds where a text stops being JSON.
-fn push_stop(out: &mut String, bytes: &[u8], e: &Error) -> Result<(), AllocError> {
+fn add_stop(words: &mut Words, bytes: &[u8], e: &Error) {
     if e.is_eof() {
-        return push_value(out, "the text ends too early, at byte ", &bytes.len());
+        words.add_value("the text ends too early, at byte ", &bytes.len());
+        return;
     }
     let byte = byte_of(bytes, e.line(), e.column());
     match deep_at(bytes, byte) {
         Some(deep) => {
-            push_value(out, "the text nests deeper than ", &MAX_DEPTH)?;
-            push_value(out, " at byte ", &deep)
+            words.add_value("the text nests deeper than ", &MAX_DEPTH);
+            words.add_value(" at byte ", &deep);
         }
-        None => push_value(out, "the text stops being JSON at byte ", &byte),
+        None => words.add_value("the text stops being JSON at byte ", &byte),
     }
 }
 

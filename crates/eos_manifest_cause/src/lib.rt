@@ -7,9 +7,9 @@ mod cause;
 mod json_place;
 mod names;
 mod place;
-mod printing;
 mod repeats;
 mod search;
 mod types;
+mod words;
 
 pub use cause::{SpecCause, explain_spec};

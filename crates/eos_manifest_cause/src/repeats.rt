@@ -2,7 +2,7 @@
 
 use crate::apps::items_of;
 use crate::place::{Owner, Place};
-use crate::printing::{push_named, push_shared, refused};
+use crate::words::Words;
 use eos_evidence::SpecFault;
 use serde_json::Value;
 use std::alloc::{AllocError, Global};
@@ -11,17 +11,17 @@ use std::collections::BTreeSet;
 /// Looks whether a topic stands twice in an application's two lists together.
 pub(crate) fn look_at_repeats(
     alloc: Global,
-    out: &mut String,
+    words: &mut Words,
     app: &Value,
     owner: Owner,
 ) -> Result<(), SpecFault> {
     let mut seen = BTreeSet::new(alloc);
-    look_at_list(out, &mut seen, app, owner, "sources")?;
-    look_at_list(out, &mut seen, app, owner, "outputs")
+    look_at_list(words, &mut seen, app, owner, "sources")?;
+    look_at_list(words, &mut seen, app, owner, "outputs")
 }
 
 fn look_at_list<'a>(
-    out: &mut String,
+    words: &mut Words,
     seen: &mut BTreeSet<&'a str>,
     app: &'a Value,
     owner: Owner,
@@ -30,8 +30,8 @@ fn look_at_list<'a>(
     match seen_before(seen, app, name)? {
         Some((at, topic)) => {
             let more = " again; an application names a topic once";
-            let said = push_named(out, Place::Item(owner, name, at), topic, more);
-            Err(refused(said, SpecFault::Field))
+            words.add_named(Place::Item(owner, name, at), topic, more);
+            Err(SpecFault::Field)
         }
         None => Ok(()),
     }
@@ -40,15 +40,15 @@ fn look_at_list<'a>(
 /// Looks whether two applications have one group.
 pub(crate) fn look_at_groups(
     alloc: Global,
-    out: &mut String,
+    words: &mut Words,
     apps: &[Value],
 ) -> Result<(), SpecFault> {
     let mut seen = BTreeSet::new(alloc);
     for app in apps {
         if let Some(group) = app.get("group").and_then(Value::as_str) {
             if !is_new(&mut seen, group)? {
-                let said = push_shared(out, "the group ", group);
-                return Err(refused(said, SpecFault::Field));
+                words.add_shared("the group ", group);
+                return Err(SpecFault::Field);
             }
         }
     }
@@ -58,14 +58,14 @@ pub(crate) fn look_at_groups(
 /// Looks whether two applications have one output topic.
 pub(crate) fn look_at_outputs(
     alloc: Global,
-    out: &mut String,
+    words: &mut Words,
     apps: &[Value],
 ) -> Result<(), SpecFault> {
     let mut seen = BTreeSet::new(alloc);
     for app in apps {
         if let Some((_, topic)) = seen_before(&mut seen, app, "outputs")? {
-            let said = push_shared(out, "the output topic ", topic);
-            return Err(refused(said, SpecFault::Field));
+            words.add_shared("the output topic ", topic);
+            return Err(SpecFault::Field);
         }
     }
     Ok(())

@@ -4,43 +4,43 @@
 use crate::apps::{AppList, items_of};
 use crate::names::{is_own_topic, is_topic, topic_of};
 use crate::place::{Owner, Place};
-use crate::printing::{push_count, push_no_end, push_place, push_unfit, refused};
 use crate::repeats::{look_at_groups, look_at_outputs, look_at_repeats};
 use crate::types::{ends_of, look_at_app_types};
+use crate::words::Words;
 use eos_evidence::{MAX_APPS, MAX_PARTITIONS, SpecFault};
 use serde_json::{Map, Value};
 use std::alloc::Global;
 
 /// Finds nothing where the manifest isn't refused. Where it is, the words say which place it is, what stands there and what is wanted.
-pub(crate) fn search(alloc: Global, out: &mut String, manifest: &Value) -> Result<(), SpecFault> {
-    let apps = AppList::of(out, manifest)?;
-    look_at_app_types(out, apps)?;
-    let ends = ends_of(out, manifest)?;
-    look_at_apps(alloc, out, apps)?;
-    look_at_ends(alloc, out, ends, apps.values.len())
+pub(crate) fn search(alloc: Global, words: &mut Words, manifest: &Value) -> Result<(), SpecFault> {
+    let apps = AppList::of(words, manifest)?;
+    look_at_app_types(words, apps)?;
+    let ends = ends_of(words, manifest)?;
+    look_at_apps(alloc, words, apps)?;
+    look_at_ends(alloc, words, ends, apps.values.len())
 }
 
-fn look_at_apps(alloc: Global, out: &mut String, apps: AppList<'_>) -> Result<(), SpecFault> {
+fn look_at_apps(alloc: Global, words: &mut Words, apps: AppList<'_>) -> Result<(), SpecFault> {
     for (at, app) in apps.values.iter().enumerate() {
         let owner = apps.owner(at);
-        look_at_topics(alloc, out, app, owner, "sources")?;
-        look_at_topics(alloc, out, app, owner, "outputs")?;
-        look_at_repeats(alloc, out, app, owner)?;
+        look_at_topics(alloc, words, app, owner, "sources")?;
+        look_at_topics(alloc, words, app, owner, "outputs")?;
+        look_at_repeats(alloc, words, app, owner)?;
     }
-    look_at_groups(alloc, out, apps.values)?;
-    look_at_outputs(alloc, out, apps.values)
+    look_at_groups(alloc, words, apps.values)?;
+    look_at_outputs(alloc, words, apps.values)
 }
 
 fn look_at_topics(
     alloc: Global,
-    out: &mut String,
+    words: &mut Words,
     app: &Value,
     owner: Owner,
     name: &str,
 ) -> Result<(), SpecFault> {
     for (at, item) in items_of(app, name).iter().enumerate() {
         if let Some(topic) = item.as_str() {
-            look_at_topic(alloc, out, topic, Place::Item(owner, name, at))?;
+            look_at_topic(alloc, words, topic, Place::Item(owner, name, at))?;
         }
     }
     Ok(())
@@ -48,7 +48,7 @@ fn look_at_topics(
 
 fn look_at_topic(
     alloc: Global,
-    out: &mut String,
+    words: &mut Words,
     topic: &str,
     place: Place<'_>,
 ) -> Result<(), SpecFault> {
@@ -59,40 +59,47 @@ fn look_at_topic(
     } else {
         return Ok(());
     };
-    Err(refused(push_unfit(out, place, topic, wanted), SpecFault::Field))
+    words.add_unfit(place, topic, wanted);
+    Err(SpecFault::Field)
 }
 
 /// Looks at the ends of a manifest with so many applications, and then at both numbers.
 fn look_at_ends(
     alloc: Global,
-    out: &mut String,
+    words: &mut Words,
     ends: &Map<String, Value>,
     apps: usize,
 ) -> Result<(), SpecFault> {
     for (name, end) in ends.iter() {
-        look_at_end(alloc, out, name.as_str(), end)?;
+        look_at_end(alloc, words, name.as_str(), end)?;
     }
     if apps > MAX_APPS {
-        let said = push_count(out, "apps has ", apps, " items", MAX_APPS);
-        return Err(refused(said, SpecFault::Limit));
+        words.add_count("apps has ", apps, " items", MAX_APPS);
+        return Err(SpecFault::Limit);
     }
     if ends.len() > MAX_PARTITIONS {
-        let said = push_count(out, "ends has ", ends.len(), " members", MAX_PARTITIONS);
-        return Err(refused(said, SpecFault::Limit));
+        words.add_count("ends has ", ends.len(), " members", MAX_PARTITIONS);
+        return Err(SpecFault::Limit);
     }
     Ok(())
 }
 
-fn look_at_end(alloc: Global, out: &mut String, name: &str, end: &Value) -> Result<(), SpecFault> {
+fn look_at_end(alloc: Global, words: &mut Words, name: &str, end: &Value) -> Result<(), SpecFault> {
     let place = Place::End(name);
     if let Some(topic) = topic_of(name) {
         if !is_topic(alloc, topic)? {
-            let more = " isn't a partition's name, since its topic's isn't one";
-            return Err(refused(push_place(out, place, more), SpecFault::Field));
+            words.add_place(
+                place,
+                " isn't a partition's name, since its topic's isn't one",
+            );
+            return Err(SpecFault::Field);
         }
     }
     match end.as_i64() {
-        Some(offset) if offset < 0 => Err(refused(push_no_end(out, place, end), SpecFault::Field)),
+        Some(offset) if offset < 0 => {
+            words.add_no_end(place, end);
+            Err(SpecFault::Field)
+        }
         _ => Ok(()),
     }
 }

@@ -3,78 +3,84 @@
 use crate::apps::AppList;
 use crate::names::topic_of;
 use crate::place::{Owner, Place};
-use crate::printing::{push_another, push_no_end, push_place, refused};
+use crate::words::Words;
 use eos_evidence::SpecFault;
 use serde_json::{Map, Value};
 
 /// Looks at the types of the applications, one after the other.
-pub(crate) fn look_at_app_types(out: &mut String, apps: AppList<'_>) -> Result<(), SpecFault> {
+pub(crate) fn look_at_app_types(words: &mut Words, apps: AppList<'_>) -> Result<(), SpecFault> {
     for (at, app) in apps.values.iter().enumerate() {
-        look_at_app(out, app, apps.owner(at))?;
+        look_at_app(words, app, apps.owner(at))?;
     }
     Ok(())
 }
 
-fn look_at_app(out: &mut String, app: &Value, owner: Owner) -> Result<(), SpecFault> {
+fn look_at_app(words: &mut Words, app: &Value, owner: Owner) -> Result<(), SpecFault> {
     if !app.is_object() {
-        let said = push_another(out, Place::Whole(owner), app, "an object");
-        return Err(refused(said, SpecFault::Field));
+        words.add_another(Place::Whole(owner), app, "an object");
+        return Err(SpecFault::Field);
     }
-    let group = value_at(out, app, owner, "group")?;
-    look_at_text(out, group, Place::Member(owner, "group"))?;
-    look_at_texts(out, app, owner, "sources")?;
-    look_at_texts(out, app, owner, "outputs")
+    let group = value_at(words, app, owner, "group")?;
+    look_at_text(words, group, Place::Member(owner, "group"))?;
+    look_at_texts(words, app, owner, "sources")?;
+    look_at_texts(words, app, owner, "outputs")
 }
 
-fn look_at_texts(out: &mut String, app: &Value, owner: Owner, name: &str) -> Result<(), SpecFault> {
-    let items = array_at(out, app, owner, name)?;
+fn look_at_texts(
+    words: &mut Words,
+    app: &Value,
+    owner: Owner,
+    name: &str,
+) -> Result<(), SpecFault> {
+    let items = array_at(words, app, owner, name)?;
     for (at, item) in items.iter().enumerate() {
-        look_at_text(out, item, Place::Item(owner, name, at))?;
+        look_at_text(words, item, Place::Item(owner, name, at))?;
     }
     Ok(())
 }
 
-fn look_at_text(out: &mut String, value: &Value, place: Place<'_>) -> Result<(), SpecFault> {
+fn look_at_text(words: &mut Words, value: &Value, place: Place<'_>) -> Result<(), SpecFault> {
     if value.is_string() {
         Ok(())
     } else {
-        Err(refused(push_another(out, place, value, "a text"), SpecFault::Field))
+        words.add_another(place, value, "a text");
+        Err(SpecFault::Field)
     }
 }
 
 /// The ends, whose names and types are looked at.
 pub(crate) fn ends_of<'a>(
-    out: &mut String,
+    words: &mut Words,
     manifest: &'a Value,
 ) -> Result<&'a Map<String, Value>, SpecFault> {
-    let value = value_at(out, manifest, Owner::Manifest, "ends")?;
+    let value = value_at(words, manifest, Owner::Manifest, "ends")?;
     let Some(ends) = value.as_object() else {
         let place = Place::Member(Owner::Manifest, "ends");
-        let said = push_another(out, place, value, "an object");
-        return Err(refused(said, SpecFault::Field));
+        words.add_another(place, value, "an object");
+        return Err(SpecFault::Field);
     };
     for (name, end) in ends.iter() {
-        look_at_end(out, name.as_str(), end)?;
+        look_at_end(words, name.as_str(), end)?;
     }
     Ok(ends)
 }
 
-fn look_at_end(out: &mut String, name: &str, end: &Value) -> Result<(), SpecFault> {
+fn look_at_end(words: &mut Words, name: &str, end: &Value) -> Result<(), SpecFault> {
     let place = Place::End(name);
-    let said = if topic_of(name).is_none() {
-        push_place(out, place, " isn't a partition's name")
+    if topic_of(name).is_none() {
+        words.add_place(place, " isn't a partition's name");
     } else if end.is_i64() {
         return Ok(());
     } else if end.is_u64() {
-        push_no_end(out, place, end)
+        words.add_no_end(place, end);
     } else {
-        push_another(out, place, end, "an integer")
-    };
-    Err(refused(said, SpecFault::Field))
+        words.add_another(place, end, "an integer");
+    }
+    Err(SpecFault::Field)
 }
 
 fn value_at<'a>(
-    out: &mut String,
+    words: &mut Words,
     value: &'a Value,
     owner: Owner,
     name: &str,
@@ -82,25 +88,25 @@ fn value_at<'a>(
     match value.get(name) {
         Some(member) => Ok(member),
         None => {
-            let said = push_place(out, Place::Member(owner, name), " is absent");
-            Err(refused(said, SpecFault::Field))
+            words.add_place(Place::Member(owner, name), " is absent");
+            Err(SpecFault::Field)
         }
     }
 }
 
 /// The items of a member that has to be an array.
 pub(crate) fn array_at<'a>(
-    out: &mut String,
+    words: &mut Words,
     value: &'a Value,
     owner: Owner,
     name: &str,
 ) -> Result<&'a [Value], SpecFault> {
-    let member = value_at(out, value, owner, name)?;
+    let member = value_at(words, value, owner, name)?;
     match member.as_array() {
         Some(items) => Ok(items.as_slice()),
         None => {
-            let said = push_another(out, Place::Member(owner, name), member, "an array");
-            Err(refused(said, SpecFault::Field))
+            words.add_another(Place::Member(owner, name), member, "an array");
+            Err(SpecFault::Field)
         }
     }
 }
