@@ -1,6 +1,6 @@
 //! `EvidenceBuilder` takes the segments in any order and refuses what can't be evidence.
 
-ghost use Rattle.std.specs.Prelude.{◌≡◌, Ok, Err, IfOk, IfErr, OnErr, MatchOption, None, find, map};
+ghost use Rattle.std.specs.Prelude.{◌≡◌, Ok, Err, IfOk, IfErr, OnErr, MatchOption, None, find, map, length, vec_len};
 ghost use Rattle.std.specs.List.Sorted.{IsStrictlySortedBy};
 ghost use Rattle.eos_evidence.specs.Ends.{end_cmp};
 ghost use Rattle.eos_evidence.specs.Evidence.{IsEvidence, is_in, is_past_limit, without_segments, added, empty_partition, AddAnswers};
@@ -46,8 +46,7 @@ impl EvidenceBuilder {
     pub fn new(alloc: Global, spec: Spec) -> Result<EvidenceBuilder, AllocError>
         ensures { IfOk result (λ builder. builder ≡ without_segments spec) }
     {
-        let partitions = empty_partitions(alloc, spec.ends().as_slice())?;
-        let firsts = vec![in alloc; 0; partitions.len()]?;
+        let (partitions, firsts) = empty_places(alloc, spec.ends().as_slice())?;
         Ok(EvidenceBuilder {
             spec,
             partitions,
@@ -107,6 +106,16 @@ impl EvidenceBuilder {
         number_pieces(&mut firsts, self.partitions.as_slice());
         Evidence::of_parts(self.spec, self.partitions, firsts, self.count)
     }
+}
+
+/// A partition with no segments for each end, and room for the place of its first segment.
+fn empty_places(alloc: Global, ends: &[End]) -> Result<(Vec<Partition>, Vec<usize>), AllocError>
+    ensures partitions { IfOk result (λ made. made.0.items ≡ map empty_partition ends.now) }
+    ensures firsts { IfOk result (λ made. vec_len made.1 ≡ length ends.now) }
+{
+    let firsts = vec![in alloc; 0; ends.len()]?;
+    let partitions = empty_partitions(alloc, ends)?;
+    Ok((partitions, firsts))
 }
 
 /// A partition with no segments for each end.

@@ -19,7 +19,7 @@ ghost use Rattle.serde_json.specs.Find.{as_number, as_integer};
 ghost use Rattle.eos_evidence.specs.Parts.{Answers};
 ghost use Rattle.eos_evidence.specs.Manifest.{texts_of, app_in, apps_of, apps_in, end_of, ends_of, group_in, topics_in, ends_in, version_in, version_test, manifest_of, spec_said_by};
 ghost use Rattle.eos_evidence.specs.declared.fault.SpecFault.TheVariants as faults;
-ghost use Rattle.eos_evidence.specs.declared.manifest_reader.Version.TheVariants.{One, Two};
+ghost use Rattle.eos_evidence.specs.declared.manifest_reader.Version.TheVariants.{Two};
 
 use crate::application::{App, GroupId};
 use crate::ends::End;
@@ -30,6 +30,7 @@ use bytes::Bytes;
 use eos_base::Listed;
 use serde_json::{Map, Value};
 use std::alloc::{AllocError, Global};
+use std::slice;
 
 /// The versions of a manifest.
 #[derive(Clone, Copy)]
@@ -104,25 +105,14 @@ fn version_of_number(version: &Value) -> Result<Version, SpecFault>
     }
 }
 
+/// The applications of a manifest, which in version 1 is the one itself.
 fn read_apps(alloc: Global, value: &Value, version: Version) -> Result<Option<Vec<App>>, AllocError>
     ensures { IfOk result (λ apps. option_map (λ v. v.items) apps ≡ apps_in version (view value.now)) }
 {
     match version {
-        Version::One => read_only_app(alloc, value),
+        Version::One => read_app_items(alloc, slice::from_ref(value)),
         Version::Two => read_app_list(alloc, value),
     }
-}
-
-/// The application that a manifest of version 1 is.
-fn read_only_app(alloc: Global, value: &Value) -> Result<Option<Vec<App>>, AllocError>
-    ensures { IfOk result (λ apps. option_map (λ v. v.items) apps ≡ apps_in One (view value.now)) }
-{
-    let Some(app) = read_app(alloc, value)? else {
-        return Ok(None);
-    };
-    let mut apps = Vec::new(alloc);
-    apps.push(app)?;
-    Ok(Some(apps))
 }
 
 /// The applications that a manifest of version 2 lists.

@@ -1,19 +1,19 @@
 //! Writing the manifest of a spec, as a text that reads back as the same spec.
 
-ghost use Rattle.std.specs.Prelude.{◌≡◌, ◌≤◌, ◌++◌, ◌∷◌, true, Ok, Some, IfOk, OnOk, FitsSigned, string_bytes};
+ghost use Rattle.std.specs.Prelude.{◌≡◌, ◌≤◌, ◌++◌, ◌∷◌, true, codes, Ok, Some, IfOk, OnOk, FitsSigned, string_bytes};
 ghost use Rattle.std.specs.Int.{w32, w64};
 ghost use Rattle.serde_json.specs.Find.{of_integer};
 ghost use Rattle.std.specs.Fmt.{signed_decimal};
 ghost use Rattle.std.specs.List.{list_all};
 ghost use Rattle.std.specs.List.Sorted.{IsStrictlySortedBy};
-ghost use Rattle.serde_json.specs.Data.{Members, object, string, number, depth, put as with_member};
+ghost use Rattle.serde_json.specs.Data.{Members, array, string, number, depth, put as with_member};
 ghost use Rattle.serde_json.specs.Read.{max_depth};
 ghost use Rattle.serde_json.specs.View.{view, items_view, members_view};
 ghost use Rattle.eos_evidence.specs.Topics.{is_topic};
 ghost use Rattle.eos_evidence.specs.Ends.{end_cmp, is_legal_end};
 ghost use Rattle.eos_evidence.specs.Manifest.{manifest_of, version_in, spec_said_by, version_said_by, version_for};
-ghost use Rattle.eos_evidence.specs.steps.WrittenEnds.{HoldsEnds};
-ghost use Rattle.eos_evidence.specs.steps.WrittenApps.{are_topics, items_of_texts, written_one, written_two, written_apps, written_app};
+ghost use Rattle.eos_evidence.specs.steps.WrittenEnds.{HoldsEnds, HasEnds, only_ends};
+ghost use Rattle.eos_evidence.specs.steps.WrittenApps.{are_topics, items_of_texts, with_app, written_one, written_two, written_apps, written_app};
 
 use crate::application::App;
 use crate::ends::End;
@@ -41,37 +41,62 @@ fn value_of_spec(alloc: Global, spec: &Spec) -> Result<Value, AllocError>
     ensures version { IfOk result (λ v. version_in (view v) ≡ Some (version_for spec.now.apps)) }
     ensures shallow { IfOk result (λ v. depth (view v) ≤ max_depth) }
 {
-    let ends = members_of_ends(alloc, spec.ends().as_slice())?;
+    let members = members_with_ends(alloc, spec.ends().as_slice())?;
     let apps = spec.apps().as_slice();
     if apps.len() == 1 {
-        value_of_only_app(alloc, &apps[0], Value::Object(ends))
+        value_of_only_app(alloc, &apps[0], members)
     } else {
-        value_of_apps(alloc, apps, Value::Object(ends))
+        value_of_apps(alloc, apps, members)
     }
 }
 
-/// A manifest of version 1: the application's own members, the version and the ends.
-fn value_of_only_app(alloc: Global, app: &App, ends: Value) -> Result<Value, AllocError>
-    requires { are_topics app.now ≡ true }
-    ensures { (members : Members) → view ends ≡ object members → IfOk result (λ v. view v ≡ written_one app.now members) }
+/// The member that both versions have.
+fn members_with_ends(alloc: Global, ends: &[End]) -> Result<Map<String, Value>, AllocError>
+    requires legal { list_all is_legal_end ends.now ≡ true }
+    requires ascending { IsStrictlySortedBy end_cmp ends.now }
+    ensures { IfOk result (λ members. HasEnds (members_view members.entries) ends.now) }
 {
-    let mut members = members_of_app(alloc, app)?;
+    let ends = members_of_ends(alloc, ends)?;
+    let mut members = Map::new(alloc);
+    put(alloc, &mut members, "ends", Value::Object(ends))?;
+    Ok(members)
+}
+
+/// A manifest of version 1: the application's own members and the version, beside the ends.
+fn value_of_only_app(
+    alloc: Global,
+    app: &App,
+    mut members: Map<String, Value>,
+) -> Result<Value, AllocError>
+    requires { are_topics app.now ≡ true }
+    ensures { (ends : Members) → members_view members.entries ≡ only_ends ends → IfOk result (λ v. view v ≡ written_one app.now ends) }
+{
+    put_app(alloc, &mut members, app)?;
     put(alloc, &mut members, "version", Value::from(1))?;
-    put(alloc, &mut members, "ends", ends)?;
     Ok(Value::Object(members))
 }
 
 /// A manifest of version 2.
-fn value_of_apps(alloc: Global, apps: &[App], ends: Value) -> Result<Value, AllocError>
+fn value_of_apps(
+    alloc: Global,
+    apps: &[App],
+    mut members: Map<String, Value>,
+) -> Result<Value, AllocError>
     requires { list_all are_topics apps.now ≡ true }
-    ensures { (members : Members) → view ends ≡ object members → IfOk result (λ v. view v ≡ written_two apps.now members) }
+    ensures { (ends : Members) → members_view members.entries ≡ only_ends ends → IfOk result (λ v. view v ≡ written_two apps.now ends) }
+{
+    put_apps(alloc, &mut members, apps)?;
+    put(alloc, &mut members, "version", Value::from(2))?;
+    Ok(Value::Object(members))
+}
+
+/// Puts in the list of the applications.
+fn put_apps(alloc: Global, members: &mut Map<String, Value>, apps: &[App]) -> Result<(), AllocError>
+    requires { list_all are_topics apps.now ≡ true }
+    ensures { OnOk result (members_view members.new.entries ≡ with_member (codes "apps") (array (written_apps apps.now)) (members_view members.old.entries)) }
 {
     let apps = items_of_apps(alloc, apps)?;
-    let mut members = Map::new(alloc);
-    put(alloc, &mut members, "version", Value::from(2))?;
-    put(alloc, &mut members, "apps", Value::Array(apps))?;
-    put(alloc, &mut members, "ends", ends)?;
-    Ok(Value::Object(members))
+    put(alloc, members, "apps", Value::Array(apps))
 }
 
 fn items_of_apps(alloc: Global, apps: &[App]) -> Result<Vec<Value>, AllocError>
@@ -90,21 +115,22 @@ fn value_of_app(alloc: Global, app: &App) -> Result<Value, AllocError>
     requires { are_topics app.now ≡ true }
     ensures { IfOk result (λ v. view v ≡ written_app app.now) }
 {
-    Ok(Value::Object(members_of_app(alloc, app)?))
+    let mut members = Map::new(alloc);
+    put_app(alloc, &mut members, app)?;
+    Ok(Value::Object(members))
 }
 
-fn members_of_app(alloc: Global, app: &App) -> Result<Map<String, Value>, AllocError>
+/// Puts in an application's own members.
+fn put_app(alloc: Global, members: &mut Map<String, Value>, app: &App) -> Result<(), AllocError>
     requires { are_topics app.now ≡ true }
-    ensures { IfOk result (λ members. object (members_view members.entries) ≡ written_app app.now) }
+    ensures { OnOk result (members_view members.new.entries ≡ with_app app.now (members_view members.old.entries)) }
 {
-    let mut members = Map::new(alloc);
     let group = String::from_str(alloc, app.group.as_str())?;
-    put(alloc, &mut members, "group", Value::String(group))?;
+    put(alloc, members, "group", Value::String(group))?;
     let sources = texts_of_topics(alloc, app.sources.as_slice())?;
-    put(alloc, &mut members, "sources", Value::Array(sources))?;
+    put(alloc, members, "sources", Value::Array(sources))?;
     let outputs = texts_of_topics(alloc, app.outputs.as_slice())?;
-    put(alloc, &mut members, "outputs", Value::Array(outputs))?;
-    Ok(members)
+    put(alloc, members, "outputs", Value::Array(outputs))
 }
 
 /// Puts a member in, or in the place of one of its name.

@@ -3,9 +3,10 @@
 
 ghost use Rattle.std.specs.Prelude.{◌≡◌};
 ghost use Rattle.eos_evidence.specs.Parts.{accepted, IsAccepted};
+ghost use Rattle.eos_evidence.specs.steps.AcceptedParts.{Accepts};
 
-use crate::application::Apps;
-use crate::ends::{Ends, are_ends_legal, put_in_order};
+use crate::application::{App, Apps};
+use crate::ends::{End, Ends, are_ends_legal, put_in_order};
 use crate::fault::SpecFault;
 use crate::legal_applications::are_apps_legal;
 use eos_base::Listed;
@@ -44,26 +45,14 @@ impl Spec {
     pub fn new(alloc: Global, apps: Apps, ends: Ends) -> Result<Spec, SpecFault>
         ensures { result ≡ accepted (record { apps = apps; ends = ends }) }
     {
-        if !are_apps_legal(alloc, apps.as_slice()) {
-            return Err(SpecFault::Field);
-        }
-        if !are_ends_legal(ends.as_slice()) {
-            return Err(SpecFault::Field);
-        }
         let mut ends = ends.into_vec();
-        if !put_in_order(&mut ends) {
-            return Err(SpecFault::Field);
+        match accept(alloc, apps.as_slice(), &mut ends) {
+            Ok(()) => Ok(Spec {
+                apps,
+                ends: Listed::new(ends),
+            }),
+            Err(fault) => Err(fault),
         }
-        if apps.len() > MAX_APPS {
-            return Err(SpecFault::Limit);
-        }
-        if ends.len() > MAX_PARTITIONS {
-            return Err(SpecFault::Limit);
-        }
-        Ok(Spec {
-            apps,
-            ends: Listed::new(ends),
-        })
     }
 
     /// The applications, in the order given.
@@ -81,4 +70,26 @@ impl Spec {
     {
         &self.ends
     }
+}
+
+/// Tests the parts, and puts the ends in order where no test refuses them.
+fn accept(alloc: Global, apps: &[App], ends: &mut Vec<End>) -> Result<(), SpecFault>
+    ensures { Accepts result (record { apps = apps.now; ends = ends.old.items }) (record { apps = apps.now; ends = ends.new.items }) }
+{
+    if !are_apps_legal(alloc, apps) {
+        return Err(SpecFault::Field);
+    }
+    if !are_ends_legal(ends.as_slice()) {
+        return Err(SpecFault::Field);
+    }
+    if !put_in_order(ends) {
+        return Err(SpecFault::Field);
+    }
+    if apps.len() > MAX_APPS {
+        return Err(SpecFault::Limit);
+    }
+    if ends.len() > MAX_PARTITIONS {
+        return Err(SpecFault::Limit);
+    }
+    Ok(())
 }

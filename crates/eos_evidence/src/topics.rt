@@ -6,8 +6,6 @@ ghost use Rattle.eos_evidence.specs.Topics.{is_topic_byte, is_dots, has_topic_le
 
 use bytes::Bytes;
 use eos_base::Listed;
-use std::alloc::{AllocError, Global};
-use std::collections::BTreeSet;
 
 /// The greatest number of bytes of a topic's name.
 const MAX_TOPIC_BYTES: usize = 249;
@@ -61,5 +59,5 @@ pub(crate) fn is_internal_topic(topic: &[u8]) -> bool
 pub(crate) fn is_one_of(topic: &Bytes, topics: &[Bytes]) -> bool
     ensures { result ≡ is_among topic.now topics.now }
 {
-    topics.iter().any(|other| topic == other)
+    topics.iter().any(|other| *topic == *other)
 }

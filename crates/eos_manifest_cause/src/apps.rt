@@ -1,51 +1,65 @@
 //! The applications of a manifest, where they stand in its JSON value.
 
-use crate::finding::{Finding, Owner, Place, Wanted};
+use crate::place::{Owner, Place};
+use crate::types::array_at;
+use crate::words::Words;
+use eos_evidence::SpecFault;
 use serde_json::Value;
 use std::slice;
 
-/// The applications of a manifest.
+/// The applications of a manifest, in order.
 #[derive(Clone, Copy)]
-pub(crate) enum AppList<'a> {
-    /// The manifest is the one, in version 1.
-    One(&'a Value),
-    /// The manifest lists them, in version 2.
-    Listed(&'a Value),
+pub(crate) struct AppList<'a> {
+    pub(crate) values: &'a [Value],
+    /// The manifest lists them, in version 2; in version 1 it is the one itself.
+    are_listed: bool,
 }
 
 impl<'a> AppList<'a> {
     /// Them as a manifest has them: by its version, which is looked at here.
-    pub(crate) fn of(manifest: &'a Value) -> Result<AppList<'a>, Finding<'a>> {
-        if !manifest.is_object() {
-            let place = Place::Whole(Owner::Manifest);
-            return Err(Finding::Another(place, manifest, Wanted::Object));
-        }
-        let place = Place::Member(Owner::Manifest, "version");
-        let Some(version) = manifest.get("version") else {
-            return Err(Finding::Absent(place));
+    pub(crate) fn of(words: &mut Words, manifest: &'a Value) -> Result<AppList<'a>, SpecFault> {
+        let are_listed = is_version_two(words, manifest)?;
+        let values = if are_listed {
+            array_at(words, manifest, Owner::Manifest, "apps")?
+        } else {
+            slice::from_ref(manifest)
         };
-        match version.as_i64() {
-            Some(1) => Ok(AppList::One(manifest)),
-            Some(2) => Ok(AppList::Listed(manifest)),
-            Some(_) => Err(Finding::Version(version)),
-            None if version.is_u64() => Err(Finding::Version(version)),
-            None => Err(Finding::Another(place, version, Wanted::Integer)),
-        }
-    }
-
-    /// Them in order; none where there is no list of them.
-    pub(crate) fn values(self) -> &'a [Value] {
-        match self {
-            AppList::One(manifest) => slice::from_ref(manifest),
-            AppList::Listed(manifest) => items_of(manifest, "apps"),
-        }
+        Ok(AppList { values, are_listed })
     }
 
     /// Whose members those of the application at this place are.
     pub(crate) fn owner(self, at: usize) -> Owner {
-        match self {
-            AppList::One(_) => Owner::Manifest,
-            AppList::Listed(_) => Owner::App(at),
+        if self.are_listed {
+            Owner::App(at)
+        } else {
+            Owner::Manifest
+        }
+    }
+}
+
+/// Whether a manifest is of version 2, where it isn't of version 1.
+fn is_version_two(words: &mut Words, manifest: &Value) -> Result<bool, SpecFault> {
+    if !manifest.is_object() {
+        let place = Place::Whole(Owner::Manifest);
+        words.add_another(place, manifest, "an object");
+        return Err(SpecFault::Field);
+    }
+    let place = Place::Member(Owner::Manifest, "version");
+    let Some(version) = manifest.get("version") else {
+        words.add_place(place, " is absent");
+        return Err(SpecFault::Field);
+    };
+    match version.as_i64() {
+        Some(1) => Ok(false),
+        Some(2) => Ok(true),
+        None if !version.is_u64() => {
+            words.add_another(place, version, "an integer");
+            Err(SpecFault::Field)
+        }
+        _ => {
+            words.add_value("version is ", version);
+            words.add("; 1 or 2 is wanted");
+            Err(SpecFault::Version)
         }
     }
 }

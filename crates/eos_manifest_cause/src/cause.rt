@@ -2,10 +2,9 @@
 
 ghost use Rattle.std.specs.Prelude.{◌≡◌, IfSome};
 
-use crate::finding::Finding;
-use crate::json_place::{NoJson, parse};
-use crate::printing::{text_of_finding, text_of_no_json};
+use crate::json_place::parse;
 use crate::search::search;
+use crate::words::Words;
 use eos_evidence::SpecFault;
 use std::alloc::Global;
 
@@ -23,33 +22,20 @@ pub struct SpecCause {
 pub fn explain_spec(alloc: Global, bytes: &[u8], fault: SpecFault) -> Option<SpecCause>
     ensures { IfSome result (λ cause. cause.fault ≡ fault) }
 {
-    let cause = cause_in(alloc, bytes)?;
-    if cause.fault == fault {
-        Some(cause)
+    let mut words = Words::new(alloc);
+    let Err(found) = look_at(alloc, &mut words, bytes) else {
+        return None;
+    };
+    if found == fault && found != SpecFault::OutOfMemory {
+        let text = words.into_text()?;
+        Some(SpecCause { fault: found, text })
     } else {
         None
     }
 }
 
-fn cause_in(alloc: Global, bytes: &[u8]) -> Option<SpecCause> {
-    match parse(alloc, bytes) {
-        Ok(value) => match search(alloc, &value) {
-            Ok(()) => None,
-            Err(finding) => cause_of(alloc, &finding),
-        },
-        Err(NoJson::OutOfMemory) => None,
-        Err(place) => {
-            let text = text_of_no_json(alloc, place).ok()?;
-            Some(SpecCause {
-                fault: SpecFault::Json,
-                text,
-            })
-        }
-    }
-}
-
-fn cause_of(alloc: Global, finding: &Finding<'_>) -> Option<SpecCause> {
-    let fault = finding.fault()?;
-    let text = text_of_finding(alloc, finding).ok()?;
-    Some(SpecCause { fault, text })
+/// Finds nothing where the manifest isn't refused; else the words say why it is.
+fn look_at(alloc: Global, words: &mut Words, bytes: &[u8]) -> Result<(), SpecFault> {
+    let manifest = parse(alloc, words, bytes)?;
+    search(alloc, words, &manifest)
 }

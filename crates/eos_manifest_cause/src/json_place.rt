@@ -1,46 +1,46 @@
 //! Where bytes stop being a JSON text.
 
-use serde_json::Value;
+use crate::words::Words;
+use eos_evidence::SpecFault;
+use serde_json::{Error, Value};
 use std::alloc::Global;
 use std::str;
 
 /// How deep a JSON text may nest.
-pub(crate) const MAX_DEPTH: usize = 127;
+const MAX_DEPTH: usize = 127;
 
-/// Why bytes are no JSON text, and at which byte, counted from 0.
-#[derive(Clone, Copy)]
-pub(crate) enum NoJson {
-    /// They are no UTF-8 from there on.
-    NotText(usize),
-    /// The text ends there, and more has to follow.
-    Short(usize),
-    /// Something else stands there than may follow.
-    Stops(usize),
-    /// The text nests too deep there.
-    Deep(usize),
-    /// A growth of memory was refused, so nothing was found.
-    OutOfMemory,
-}
-
-/// The JSON value of bytes.
-pub(crate) fn parse(alloc: Global, bytes: &[u8]) -> Result<Value, NoJson> {
+/// The JSON value of bytes. Where they are no JSON text, the words say why, and at which byte, counted from 0.
+pub(crate) fn parse(alloc: Global, words: &mut Words, bytes: &[u8]) -> Result<Value, SpecFault> {
     let text = match str::from_utf8(bytes) {
         Ok(text) => text,
-        Err(e) => return Err(NoJson::NotText(e.valid_up_to())),
+        Err(e) => {
+            words.add_value("the bytes stop being UTF-8 at byte ", &e.valid_up_to());
+            return Err(SpecFault::Json);
+        }
     };
     match Value::from_str(alloc, text) {
         Ok(value) => Ok(value),
-        Err(e) if e.is_memory() => Err(NoJson::OutOfMemory),
-        Err(e) if e.is_eof() => Err(NoJson::Short(bytes.len())),
-        Err(e) => Err(no_json_at(bytes, byte_of(bytes, e.line(), e.column()))),
+        Err(e) if e.is_memory() => Err(SpecFault::OutOfMemory),
+        Err(e) => {
+            add_stop(words, bytes, &e);
+            Err(SpecFault::Json)
+        }
     }
 }
 
-/// What is wrong in a text that a reader gave up at this byte.
-fn no_json_at(bytes: &[u8], byte: usize) -> NoJson {
+/// Adds where a text stops being JSON.
+fn add_stop(words: &mut Words, bytes: &[u8], e: &Error) {
+    if e.is_eof() {
+        words.add_value("the text ends too early, at byte ", &bytes.len());
+        return;
+    }
+    let byte = byte_of(bytes, e.line(), e.column());
     match deep_at(bytes, byte) {
-        Some(place) => NoJson::Deep(place),
-        None => NoJson::Stops(byte),
+        Some(deep) => {
+            words.add_value("the text nests deeper than ", &MAX_DEPTH);
+            words.add_value(" at byte ", &deep);
+        }
+        None => words.add_value("the text stops being JSON at byte ", &byte),
     }
 }
 

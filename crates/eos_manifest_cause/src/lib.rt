@@ -4,12 +4,12 @@
 
 mod apps;
 mod cause;
-mod finding;
 mod json_place;
 mod names;
-mod printing;
+mod place;
 mod repeats;
 mod search;
 mod types;
+mod words;
 
 pub use cause::{SpecCause, explain_spec};

@@ -1,50 +1,54 @@
 //! What stands twice in a manifest and may not. A set of what was seen finds it, so that a long list takes no long time.
 
 use crate::apps::items_of;
-use crate::finding::{Finding, Owner, Place};
+use crate::place::{Owner, Place};
+use crate::words::Words;
+use eos_evidence::SpecFault;
 use serde_json::Value;
 use std::alloc::{AllocError, Global};
 use std::collections::BTreeSet;
 
-/// Whether this wasn't seen yet; now it is.
-fn is_new<'a>(seen: &mut BTreeSet<&'a str>, name: &'a str) -> Result<bool, AllocError> {
-    Ok(seen.insert(name)?)
-}
-
 /// Looks whether a topic stands twice in an application's two lists together.
-pub(crate) fn look_at_repeats<'a>(
+pub(crate) fn look_at_repeats(
     alloc: Global,
-    app: &'a Value,
+    words: &mut Words,
+    app: &Value,
     owner: Owner,
-) -> Result<(), Finding<'a>> {
+) -> Result<(), SpecFault> {
     let mut seen = BTreeSet::new(alloc);
-    look_at_list(&mut seen, app, owner, "sources")?;
-    look_at_list(&mut seen, app, owner, "outputs")
+    look_at_list(words, &mut seen, app, owner, "sources")?;
+    look_at_list(words, &mut seen, app, owner, "outputs")
 }
 
 fn look_at_list<'a>(
+    words: &mut Words,
     seen: &mut BTreeSet<&'a str>,
     app: &'a Value,
     owner: Owner,
-    name: &'a str,
-) -> Result<(), Finding<'a>> {
-    for (at, item) in items_of(app, name).iter().enumerate() {
-        if let Some(topic) = item.as_str() {
-            if !is_new(seen, topic)? {
-                return Err(Finding::TopicAgain(Place::Item(owner, name, at), topic));
-            }
+    name: &str,
+) -> Result<(), SpecFault> {
+    match seen_before(seen, app, name)? {
+        Some((at, topic)) => {
+            let more = " again; an application names a topic once";
+            words.add_named(Place::Item(owner, name, at), topic, more);
+            Err(SpecFault::Field)
         }
+        None => Ok(()),
     }
-    Ok(())
 }
 
 /// Looks whether two applications have one group.
-pub(crate) fn look_at_groups<'a>(alloc: Global, apps: &'a [Value]) -> Result<(), Finding<'a>> {
+pub(crate) fn look_at_groups(
+    alloc: Global,
+    words: &mut Words,
+    apps: &[Value],
+) -> Result<(), SpecFault> {
     let mut seen = BTreeSet::new(alloc);
     for app in apps {
         if let Some(group) = app.get("group").and_then(Value::as_str) {
             if !is_new(&mut seen, group)? {
-                return Err(Finding::GroupAgain(group));
+                words.add_shared("the group ", group);
+                return Err(SpecFault::Field);
             }
         }
     }
@@ -52,21 +56,38 @@ pub(crate) fn look_at_groups<'a>(alloc: Global, apps: &'a [Value]) -> Result<(),
 }
 
 /// Looks whether two applications have one output topic.
-pub(crate) fn look_at_outputs<'a>(alloc: Global, apps: &'a [Value]) -> Result<(), Finding<'a>> {
+pub(crate) fn look_at_outputs(
+    alloc: Global,
+    words: &mut Words,
+    apps: &[Value],
+) -> Result<(), SpecFault> {
     let mut seen = BTreeSet::new(alloc);
     for app in apps {
-        look_at_outputs_of(&mut seen, app)?;
+        if let Some((_, topic)) = seen_before(&mut seen, app, "outputs")? {
+            words.add_shared("the output topic ", topic);
+            return Err(SpecFault::Field);
+        }
     }
     Ok(())
 }
 
-fn look_at_outputs_of<'a>(seen: &mut BTreeSet<&'a str>, app: &'a Value) -> Result<(), Finding<'a>> {
-    for item in items_of(app, "outputs") {
-        if let Some(topic) = item.as_str() {
-            if !is_new(seen, topic)? {
-                return Err(Finding::OutputAgain(topic));
+/// The first text of a member's items, with its place among them, that was seen before. Those before it are seen now.
+fn seen_before<'a>(
+    seen: &mut BTreeSet<&'a str>,
+    app: &'a Value,
+    name: &str,
+) -> Result<Option<(usize, &'a str)>, AllocError> {
+    for (at, item) in items_of(app, name).iter().enumerate() {
+        if let Some(text) = item.as_str() {
+            if !is_new(seen, text)? {
+                return Ok(Some((at, text)));
             }
         }
     }
-    Ok(())
+    Ok(None)
+}
+
+/// Whether this wasn't seen yet; now it is.
+fn is_new<'a>(seen: &mut BTreeSet<&'a str>, name: &'a str) -> Result<bool, AllocError> {
+    Ok(seen.insert(name)?)
 }

@@ -2,88 +2,104 @@
 //! the ends, and how many there are of both.
 
 use crate::apps::{AppList, items_of};
-use crate::finding::{Finding, Owner, Place};
 use crate::names::{is_own_topic, is_topic, topic_of};
+use crate::place::{Owner, Place};
 use crate::repeats::{look_at_groups, look_at_outputs, look_at_repeats};
-use crate::types::{look_at_app_types, look_at_end_types};
-use eos_evidence::{MAX_APPS, MAX_PARTITIONS};
+use crate::types::{ends_of, look_at_app_types};
+use crate::words::Words;
+use eos_evidence::{MAX_APPS, MAX_PARTITIONS, SpecFault};
 use serde_json::{Map, Value};
 use std::alloc::Global;
 
-/// Finds nothing where the manifest isn't refused.
-pub(crate) fn search(alloc: Global, manifest: &Value) -> Result<(), Finding<'_>> {
-    let apps = AppList::of(manifest)?;
-    look_at_app_types(manifest, apps)?;
-    look_at_end_types(manifest)?;
-    look_at_apps(alloc, apps)?;
-    match manifest.get("ends").and_then(Value::as_object) {
-        Some(ends) => look_at_ends(alloc, ends, apps.values().len()),
-        None => Ok(()),
-    }
+/// Finds nothing where the manifest isn't refused. Where it is, the words say which place it is, what stands there and what is wanted.
+pub(crate) fn search(alloc: Global, words: &mut Words, manifest: &Value) -> Result<(), SpecFault> {
+    let apps = AppList::of(words, manifest)?;
+    look_at_app_types(words, apps)?;
+    let ends = ends_of(words, manifest)?;
+    look_at_apps(alloc, words, apps)?;
+    look_at_ends(alloc, words, ends, apps.values.len())
 }
 
-fn look_at_apps<'a>(alloc: Global, apps: AppList<'a>) -> Result<(), Finding<'a>> {
-    for (at, app) in apps.values().iter().enumerate() {
+fn look_at_apps(alloc: Global, words: &mut Words, apps: AppList<'_>) -> Result<(), SpecFault> {
+    for (at, app) in apps.values.iter().enumerate() {
         let owner = apps.owner(at);
-        look_at_topics(alloc, app, owner, "sources")?;
-        look_at_topics(alloc, app, owner, "outputs")?;
-        look_at_repeats(alloc, app, owner)?;
+        look_at_topics(alloc, words, app, owner, "sources")?;
+        look_at_topics(alloc, words, app, owner, "outputs")?;
+        look_at_repeats(alloc, words, app, owner)?;
     }
-    look_at_groups(alloc, apps.values())?;
-    look_at_outputs(alloc, apps.values())
+    look_at_groups(alloc, words, apps.values)?;
+    look_at_outputs(alloc, words, apps.values)
 }
 
-fn look_at_topics<'a>(
+fn look_at_topics(
     alloc: Global,
-    app: &'a Value,
+    words: &mut Words,
+    app: &Value,
     owner: Owner,
-    name: &'a str,
-) -> Result<(), Finding<'a>> {
+    name: &str,
+) -> Result<(), SpecFault> {
     for (at, item) in items_of(app, name).iter().enumerate() {
         if let Some(topic) = item.as_str() {
-            look_at_topic(alloc, topic, Place::Item(owner, name, at))?;
+            look_at_topic(alloc, words, topic, Place::Item(owner, name, at))?;
         }
     }
     Ok(())
 }
 
-fn look_at_topic<'a>(alloc: Global, topic: &'a str, place: Place<'a>) -> Result<(), Finding<'a>> {
-    if !is_topic(alloc, topic)? {
-        Err(Finding::NoTopic(place, topic))
+fn look_at_topic(
+    alloc: Global,
+    words: &mut Words,
+    topic: &str,
+    place: Place<'_>,
+) -> Result<(), SpecFault> {
+    let wanted = if !is_topic(alloc, topic)? {
+        "a topic's name"
     } else if !is_own_topic(alloc, topic)? {
-        Err(Finding::Internal(place, topic))
+        "a topic that isn't Kafka's own"
     } else {
-        Ok(())
-    }
+        return Ok(());
+    };
+    words.add_unfit(place, topic, wanted);
+    Err(SpecFault::Field)
 }
 
 /// Looks at the ends of a manifest with so many applications, and then at both numbers.
-fn look_at_ends<'a>(
+fn look_at_ends(
     alloc: Global,
-    ends: &'a Map<String, Value>,
+    words: &mut Words,
+    ends: &Map<String, Value>,
     apps: usize,
-) -> Result<(), Finding<'a>> {
+) -> Result<(), SpecFault> {
     for (name, end) in ends.iter() {
-        look_at_end(alloc, name.as_str(), end)?;
+        look_at_end(alloc, words, name.as_str(), end)?;
     }
     if apps > MAX_APPS {
-        return Err(Finding::ManyApps(apps));
+        words.add_count("apps has ", apps, " items", MAX_APPS);
+        return Err(SpecFault::Limit);
     }
     if ends.len() > MAX_PARTITIONS {
-        return Err(Finding::ManyEnds(ends.len()));
+        words.add_count("ends has ", ends.len(), " members", MAX_PARTITIONS);
+        return Err(SpecFault::Limit);
     }
     Ok(())
 }
 
-fn look_at_end<'a>(alloc: Global, name: &'a str, end: &'a Value) -> Result<(), Finding<'a>> {
+fn look_at_end(alloc: Global, words: &mut Words, name: &str, end: &Value) -> Result<(), SpecFault> {
     let place = Place::End(name);
     if let Some(topic) = topic_of(name) {
         if !is_topic(alloc, topic)? {
-            return Err(Finding::NoTopicOfPartition(place));
+            words.add_place(
+                place,
+                " isn't a partition's name, since its topic's isn't one",
+            );
+            return Err(SpecFault::Field);
         }
     }
     match end.as_i64() {
-        Some(offset) if offset < 0 => Err(Finding::NoEnd(place, end)),
+        Some(offset) if offset < 0 => {
+            words.add_no_end(place, end);
+            Err(SpecFault::Field)
+        }
         _ => Ok(()),
     }
 }

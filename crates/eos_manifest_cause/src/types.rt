@@ -1,95 +1,112 @@
 //! Whether what stands in a manifest is of the types that are wanted.
 
 use crate::apps::AppList;
-use crate::finding::{Finding, Owner, Place, Wanted};
 use crate::names::topic_of;
+use crate::place::{Owner, Place};
+use crate::words::Words;
+use eos_evidence::SpecFault;
 use serde_json::{Map, Value};
 
 /// Looks at the types of the applications, one after the other.
-pub(crate) fn look_at_app_types<'a>(
-    manifest: &'a Value,
-    apps: AppList<'a>,
-) -> Result<(), Finding<'a>> {
-    if let AppList::Listed(_) = apps {
-        array_at(manifest, Owner::Manifest, "apps")?;
-    }
-    for (at, app) in apps.values().iter().enumerate() {
-        look_at_app(app, apps.owner(at))?;
+pub(crate) fn look_at_app_types(words: &mut Words, apps: AppList<'_>) -> Result<(), SpecFault> {
+    for (at, app) in apps.values.iter().enumerate() {
+        look_at_app(words, app, apps.owner(at))?;
     }
     Ok(())
 }
 
-fn look_at_app<'a>(app: &'a Value, owner: Owner) -> Result<(), Finding<'a>> {
+fn look_at_app(words: &mut Words, app: &Value, owner: Owner) -> Result<(), SpecFault> {
     if !app.is_object() {
-        return Err(Finding::Another(Place::Whole(owner), app, Wanted::Object));
+        words.add_another(Place::Whole(owner), app, "an object");
+        return Err(SpecFault::Field);
     }
-    let group = value_at(app, owner, "group")?;
-    look_at_text(group, Place::Member(owner, "group"))?;
-    look_at_texts(app, owner, "sources")?;
-    look_at_texts(app, owner, "outputs")
+    let group = value_at(words, app, owner, "group")?;
+    look_at_text(words, group, Place::Member(owner, "group"))?;
+    look_at_texts(words, app, owner, "sources")?;
+    look_at_texts(words, app, owner, "outputs")
 }
 
-fn look_at_texts<'a>(app: &'a Value, owner: Owner, name: &'a str) -> Result<(), Finding<'a>> {
-    let items = array_at(app, owner, name)?;
+fn look_at_texts(
+    words: &mut Words,
+    app: &Value,
+    owner: Owner,
+    name: &str,
+) -> Result<(), SpecFault> {
+    let items = array_at(words, app, owner, name)?;
     for (at, item) in items.iter().enumerate() {
-        look_at_text(item, Place::Item(owner, name, at))?;
+        look_at_text(words, item, Place::Item(owner, name, at))?;
     }
     Ok(())
 }
 
-fn look_at_text<'a>(value: &'a Value, place: Place<'a>) -> Result<(), Finding<'a>> {
+fn look_at_text(words: &mut Words, value: &Value, place: Place<'_>) -> Result<(), SpecFault> {
     if value.is_string() {
         Ok(())
     } else {
-        Err(Finding::Another(place, value, Wanted::Text))
+        words.add_another(place, value, "a text");
+        Err(SpecFault::Field)
     }
 }
 
-/// Looks at the names and the types of the ends.
-pub(crate) fn look_at_end_types(manifest: &Value) -> Result<(), Finding<'_>> {
-    let value = value_at(manifest, Owner::Manifest, "ends")?;
+/// The ends, whose names and types are looked at.
+pub(crate) fn ends_of<'a>(
+    words: &mut Words,
+    manifest: &'a Value,
+) -> Result<&'a Map<String, Value>, SpecFault> {
+    let value = value_at(words, manifest, Owner::Manifest, "ends")?;
     let Some(ends) = value.as_object() else {
         let place = Place::Member(Owner::Manifest, "ends");
-        return Err(Finding::Another(place, value, Wanted::Object));
+        words.add_another(place, value, "an object");
+        return Err(SpecFault::Field);
     };
-    look_at_members(ends)
-}
-
-fn look_at_members(ends: &Map<String, Value>) -> Result<(), Finding<'_>> {
     for (name, end) in ends.iter() {
-        look_at_end(name.as_str(), end)?;
+        look_at_end(words, name.as_str(), end)?;
     }
-    Ok(())
+    Ok(ends)
 }
 
-fn look_at_end<'a>(name: &'a str, end: &'a Value) -> Result<(), Finding<'a>> {
+fn look_at_end(words: &mut Words, name: &str, end: &Value) -> Result<(), SpecFault> {
     let place = Place::End(name);
     if topic_of(name).is_none() {
-        return Err(Finding::NoPartition(place));
-    }
-    if end.is_i64() {
-        Ok(())
+        words.add_place(place, " isn't a partition's name");
+    } else if end.is_i64() {
+        return Ok(());
     } else if end.is_u64() {
-        Err(Finding::NoEnd(place, end))
+        words.add_no_end(place, end);
     } else {
-        Err(Finding::Another(place, end, Wanted::Integer))
+        words.add_another(place, end, "an integer");
     }
+    Err(SpecFault::Field)
 }
 
-fn value_at<'a>(value: &'a Value, owner: Owner, name: &'a str) -> Result<&'a Value, Finding<'a>> {
+fn value_at<'a>(
+    words: &mut Words,
+    value: &'a Value,
+    owner: Owner,
+    name: &str,
+) -> Result<&'a Value, SpecFault> {
     match value.get(name) {
         Some(member) => Ok(member),
-        None => Err(Finding::Absent(Place::Member(owner, name))),
+        None => {
+            words.add_place(Place::Member(owner, name), " is absent");
+            Err(SpecFault::Field)
+        }
     }
 }
 
-fn array_at<'a>(value: &'a Value, owner: Owner, name: &'a str) -> Result<&'a [Value], Finding<'a>> {
-    let member = value_at(value, owner, name)?;
+/// The items of a member that has to be an array.
+pub(crate) fn array_at<'a>(
+    words: &mut Words,
+    value: &'a Value,
+    owner: Owner,
+    name: &str,
+) -> Result<&'a [Value], SpecFault> {
+    let member = value_at(words, value, owner, name)?;
     match member.as_array() {
         Some(items) => Ok(items.as_slice()),
         None => {
-            let place = Place::Member(owner, name);
-            Err(Finding::Another(place, member, Wanted::Array))
+            words.add_another(Place::Member(owner, name), member, "an array");
+            Err(SpecFault::Field)
         }
     }
 }

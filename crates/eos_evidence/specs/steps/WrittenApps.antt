@@ -1,7 +1,7 @@
 -- What a written manifest holds of the applications.
 use Rattle.std.specs.Prelude.{ℕ, List, ◌&&◌, Bool, codes, map}
 use Rattle.std.specs.List.{list_all}
-use Rattle.serde_json.specs.Data.{Data, Items, Members, no_members, member, object, array, string, number, unsigned}
+use Rattle.serde_json.specs.Data.{Data, Items, Members, no_members, member, object, array, string, number, unsigned, put}
 use Rattle.serde_json.specs.View.{items_of}
 use Rattle.eos_evidence.specs.declared.application.App.{App}
 use Rattle.eos_evidence.specs.Topics.{is_topic}
@@ -12,6 +12,10 @@ are_topics app = list_all is_topic app.sources && list_all is_topic app.outputs
 
 abbrev pub items_of_texts : List (List ℕ) → Items
 items_of_texts texts = items_of (map string texts)
+
+-- these members, and an application's own
+abbrev pub with_app : App → Members → Members
+with_app app ms = put (codes "outputs") (array (items_of_texts app.outputs)) (put (codes "sources") (array (items_of_texts app.sources)) (put (codes "group") (string app.group) ms))
 
 abbrev pub written_app : App → Data
 written_app app =

@@ -1,0 +1,160 @@
+//! The words of a refusal: a place of the manifest, what stands there and what is wanted.
+
+use crate::place::{Owner, Place};
+use eos_text::{push_text, push_value};
+use serde_json::Value;
+use std::alloc::{AllocError, Global};
+use std::fmt::Display;
+
+/// Words, of which those are missing for which memory was refused.
+#[derive(Drop)]
+pub(crate) struct Words {
+    text: String,
+    is_whole: bool,
+}
+
+impl Words {
+    pub(crate) fn new(alloc: Global) -> Words {
+        Words {
+            text: String::new(alloc),
+            is_whole: true,
+        }
+    }
+
+    /// The text of them, where none is missing.
+    pub(crate) fn into_text(self) -> Option<String> {
+        if self.is_whole { Some(self.text) } else { None }
+    }
+
+    pub(crate) fn add(&mut self, text: &str) {
+        let added = push_text(&mut self.text, text);
+        self.note(added);
+    }
+
+    /// Adds a label and a value.
+    pub(crate) fn add_value<T: Display>(&mut self, label: &str, value: &T) {
+        let added = push_value(&mut self.text, label, value);
+        self.note(added);
+    }
+
+    fn note(&mut self, added: Result<(), AllocError>) {
+        if added.is_err() {
+            self.is_whole = false;
+        }
+    }
+
+    /// Adds what stands at a place, and what is wanted there.
+    pub(crate) fn add_another(&mut self, place: Place<'_>, value: &Value, wanted: &str) {
+        self.add_place(place, " is ");
+        self.add(type_of(value));
+        self.add("; ");
+        self.add(wanted);
+        self.add(" is wanted");
+    }
+
+    /// Adds a name that stands there, and what is said of it.
+    pub(crate) fn add_named(&mut self, place: Place<'_>, name: &str, more: &str) {
+        self.add_place(place, " is ");
+        self.add_quoted("", name);
+        self.add(more);
+    }
+
+    /// Adds a name that stands there, and what is wanted in its place.
+    pub(crate) fn add_unfit(&mut self, place: Place<'_>, name: &str, wanted: &str) {
+        self.add_named(place, name, "; ");
+        self.add(wanted);
+        self.add(" is wanted");
+    }
+
+    /// Adds what two applications have.
+    pub(crate) fn add_shared(&mut self, what: &str, name: &str) {
+        self.add("two applications have ");
+        self.add_quoted(what, name);
+    }
+
+    /// Adds a whole number at which no partition can end.
+    pub(crate) fn add_no_end(&mut self, place: Place<'_>, value: &Value) {
+        self.add_place(place, " is ");
+        self.add_value("", value);
+        self.add("; 0 to 9223372036854775807 is wanted");
+    }
+
+    /// Adds how many there are of something, and how many may be.
+    pub(crate) fn add_count(&mut self, label: &str, count: usize, what: &str, most: usize) {
+        self.add_value(label, &count);
+        self.add(what);
+        self.add_value("; at most ", &most);
+        self.add(" are allowed");
+    }
+
+    /// Adds a place and what follows.
+    pub(crate) fn add_place(&mut self, place: Place<'_>, more: &str) {
+        match place {
+            Place::Whole(Owner::Manifest) => self.add("the manifest"),
+            Place::Whole(Owner::App(at)) => self.add_index("apps", at),
+            Place::Member(owner, name) => self.add_member(owner, name),
+            Place::Item(owner, name, at) => {
+                self.add_member(owner, "");
+                self.add_index(name, at);
+            }
+            Place::End(name) => {
+                self.add_quoted("ends[", name);
+                self.add("]");
+            }
+        }
+        self.add(more);
+    }
+
+    fn add_member(&mut self, owner: Owner, name: &str) {
+        if let Owner::App(at) = owner {
+            self.add_index("apps", at);
+            self.add(".");
+        }
+        self.add(name);
+    }
+
+    fn add_index(&mut self, name: &str, at: usize) {
+        self.add(name);
+        self.add_value("[", &at);
+        self.add("]");
+    }
+
+    /// Adds a label and a text as JSON writes it, on one line whatever stands in it.
+    fn add_quoted(&mut self, label: &str, text: &str) {
+        self.add(label);
+        self.add("\"");
+        for c in text.chars() {
+            let added = push_char(&mut self.text, c);
+            self.note(added);
+        }
+        self.add("\"");
+    }
+}
+
+fn push_char(out: &mut String, c: char) -> Result<(), AllocError> {
+    if c.is_control() {
+        return write!(out, "\\u{:04x}", c as u32);
+    }
+    if c == '"' || c == '\\' {
+        out.push('\\')?;
+    }
+    out.push(c)
+}
+
+/// What a JSON value is.
+fn type_of<'a>(value: &Value) -> &'a str {
+    match value {
+        Value::Null => "null",
+        Value::Bool(_) => "a boolean",
+        Value::Number(number) => {
+            if number.is_f64() {
+                "a number that isn't an integer of 64 bits"
+            } else {
+                "an integer"
+            }
+        }
+        Value::String(_) => "a text",
+        Value::Array(_) => "an array",
+        Value::Object(_) => "an object",
+    }
+}
