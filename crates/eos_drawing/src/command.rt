@@ -7,6 +7,7 @@ use eos_evidence::Spec;
 use eos_folder::{FolderFault, read_shape};
 use eos_folder_source::FolderSource;
 use eos_layout::drawing_of;
+use eos_picture::Picture;
 use eos_progress::{Meter, Progress, end_unread};
 use eos_report::verdict_line;
 use eos_source_check::{Judged, judge_source};
@@ -114,22 +115,43 @@ fn answer_of(
         shape: &shape,
         watch: progress,
     };
-    let workers = Workers::standard();
-    let judged = judge_source(rt.alloc(), threads, &source, &shape.evidence, workers)?;
-    let checked = Checked {
-        spec: shape.evidence.spec(),
-        judged: &judged,
-    };
-    let answer = match (&judged.verdict, words.fault) {
-        (Verdict::Yes(_), Some(_)) => Answer::TooFew(0),
-        (Verdict::No(_), Some(number)) if number > 1 => {
-            let faults = listed(rt.alloc(), &source, &judged)?;
-            answer_of_later(rt.alloc(), checked, words, faults, number)?
-        }
-        (verdict, _) => Answer::Drawn(drawn_of(rt.alloc(), checked, words, verdict)?),
-    };
+    let answer = answer_source(rt, threads, words, &source)?;
     shape.listed?;
     Ok(answer)
+}
+
+/// The same of a folder's pieces.
+fn answer_source(
+    rt: &HostRuntime,
+    threads: &(impl Threads + Wait + Sync),
+    words: &Draw<'_>,
+    source: &FolderSource<'_, Progress<'_>>,
+) -> Result<Answer, FolderFault> {
+    let evidence = &source.shape.evidence;
+    let workers = Workers::standard();
+    let judged = judge_source(rt.alloc(), threads, source, evidence, workers)?;
+    answer_judged(rt.alloc(), words, source, &judged)
+}
+
+/// Draws of what was judged what the words ask for.
+fn answer_judged(
+    alloc: Global,
+    words: &Draw<'_>,
+    source: &FolderSource<'_, Progress<'_>>,
+    judged: &Judged,
+) -> Result<Answer, FolderFault> {
+    let checked = Checked {
+        spec: source.shape.evidence.spec(),
+        judged,
+    };
+    match (&judged.verdict, words.fault) {
+        (Verdict::Yes(_), Some(_)) => Ok(Answer::TooFew(0)),
+        (Verdict::No(_), Some(number)) if number > 1 => {
+            let faults = listed(alloc, source, judged)?;
+            answer_of_later(alloc, checked, words, faults, number)
+        }
+        (verdict, _) => drawn_of(alloc, checked, words, verdict),
+    }
 }
 
 /// All faults. Partitions that have some by themselves are read once more, whole, one after the other.
@@ -154,17 +176,24 @@ fn answer_of_later(
     words: &Draw<'_>,
     faults: Vec<Fault>,
     number: u64,
-) -> Result<Answer, AllocError> {
-    let count = faults.len();
-    let mut left = number;
-    for fault in faults {
-        if left <= 1 {
-            let drawn = drawn_of(alloc, checked, words, &Verdict::No(fault))?;
-            return Ok(Answer::Drawn(drawn));
-        }
-        left -= 1;
+) -> Result<Answer, FolderFault> {
+    match later_of(faults, number) {
+        Ok(verdict) => drawn_of(alloc, checked, words, &verdict),
+        Err(count) => Ok(Answer::TooFew(count)),
     }
-    Ok(Answer::TooFew(count))
+}
+
+/// The fault of this number as a verdict; or there are only so many.
+fn later_of(mut faults: Vec<Fault>, number: u64) -> Result<Verdict, usize> {
+    let count = faults.len();
+    if number > count as u64 {
+        return Err(count);
+    }
+    faults.truncate(number as usize);
+    match faults.pop() {
+        Some(fault) => Ok(Verdict::No(fault)),
+        None => Err(count),
+    }
 }
 
 fn fault_of(verdict: &Verdict) -> Option<&Fault> {
@@ -180,17 +209,24 @@ fn drawn_of(
     checked: Checked<'_>,
     words: &Draw<'_>,
     verdict: &Verdict,
-) -> Result<Drawn, AllocError> {
-    let fault = fault_of(verdict);
+) -> Result<Answer, FolderFault> {
     let around = words.around.unwrap_or(AROUND) as usize;
+    let fault = fault_of(verdict);
     let picture = judged_picture(alloc, checked.spec, checked.judged, fault, around)?;
+    let drawn = drawn_picture(alloc, &picture, verdict)?;
+    Ok(Answer::Drawn(drawn))
+}
+
+/// This picture, with the verdict's line as its title.
+fn drawn_picture(alloc: Global, picture: &Picture, verdict: &Verdict) -> Result<Drawn, AllocError> {
     let title = title_of(alloc, verdict)?;
-    let drawing = drawing_of(alloc, &picture, title)?;
+    let drawing = drawing_of(alloc, picture, title)?;
+    let text = svg_text(alloc, &drawing)?;
     Ok(Drawn {
-        status: if fault.is_some() { 1 } else { 0 },
+        status: if fault_of(verdict).is_some() { 1 } else { 0 },
         columns: picture.columns.len(),
         rows: picture.rows.len(),
-        text: svg_text(alloc, &drawing)?,
+        text,
     })
 }
 
