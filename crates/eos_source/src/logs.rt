@@ -27,7 +27,7 @@ use std::thread::Threads;
 use std::vec::IntoIter;
 
 /// How much there is of a partition's log: the batches of its front, control batches too, and its segments with their bytes.
-#[derive(Clone, Copy, Debug)]
+#[derive(Clone, Copy)]
 pub struct Tally {
     pub batches: u64,
     pub sizes: Sizes,
@@ -89,9 +89,10 @@ fn next_told<S: Source>(
         → IfOk result (λ told. IsToldOf (known_by (S.said plan.now.source.now) (S.is_log plan.now.source.now)) said plan.now.shape.now.spec.apps piece shape.now told
         × AreSlotsOf (known_by (S.said plan.now.source.now) (S.is_log plan.now.source.now)) said plan.now.topics.now plan.now.shape.now.spec.apps (piece + length shape.now.segments) later (into_iter_items slots.new)) }
 {
+    let end = shape.end.clone()?;
     let run = next_run(alloc, shape.segments.as_slice(), slots)?;
     let asked = plan.asked_of(shape.end.topic.as_slice());
-    Ok(told_of(alloc, shape.end.clone()?, asked, run)?)
+    Ok(told_of(alloc, end, asked, run)?)
 }
 
 /// What is told of all partitions, out of the slots of all pieces.

@@ -79,8 +79,9 @@ pub(crate) fn told_of(
     match asked.wanted {
         Wanted::Presence => Part::of_presence(alloc, end, presence_in(run)),
         Wanted::Claims => {
+            let kept = claims_in(run);
             let topics = copy_of(alloc, asked.topics)?;
-            Part::of_outputs(alloc, end, topics, claims_in(run))
+            Part::of_outputs(alloc, end, topics, kept)
         }
         Wanted::Texts => Part::of_texts(alloc, end, texts_in(run)),
     }

@@ -1,12 +1,13 @@
-//! Keys for look-ups, of the producer ids of one shard. Names are borrowed, so that a key costs no copy of a topic.
+//! Keys for look-ups, in order, of the producer ids of one shard. Names are borrowed, so that a key costs no copy of a topic.
 
-ghost use Rattle.std.specs.Prelude.{◌≡◌, ◌++◌, IfOk, OnOk, map};
+ghost use Rattle.std.specs.Prelude.{◌≡◌, ◌++◌, IfOk, OnOk, IsPermutation, map};
 ghost use Rattle.eos_txnlog.specs.PartitionSets.{names_in_topic, names_of};
 ghost use Rattle.eos_fold.specs.Parts.{part_name};
 ghost use Rattle.eos_table.specs.steps.Keys.{plain_name, decided, judged, listed, listed_of, plain_listed, ended, ended_of, plain_ended, marked, marked_of, names};
 
 use crate::one_shard::Shard;
 use bytes::Bytes;
+use eos_base::Sorted;
 use eos_batch::Kind;
 use eos_fold::Close;
 use eos_partition::Part;
@@ -120,8 +121,8 @@ pub(crate) fn listed_keys<'a>(
     alloc: Global,
     decisions: &'a [Decision],
     shard: Shard,
-) -> Result<Vec<Listed<'a>>, AllocError>
-    ensures { IfOk result (λ v. map plain_listed v.items ≡ listed shard.of shard.number decisions.now) }
+) -> Result<Sorted<Listed<'a>>, AllocError>
+    ensures { IfOk result (λ keys. IsPermutation (listed shard.of shard.number decisions.now) (map plain_listed keys)) }
 {
     let mut keys = Vec::new(alloc);
     for decision in decisions {
@@ -129,7 +130,7 @@ pub(crate) fn listed_keys<'a>(
             push_listed(&mut keys, decision)?;
         }
     }
-    Ok(keys)
+    Ok(Sorted::of(keys))
 }
 
 fn push_ended_topic<'a>(
@@ -167,8 +168,8 @@ pub(crate) fn ended_keys<'a>(
     alloc: Global,
     decisions: &'a [Decision],
     shard: Shard,
-) -> Result<Vec<Ended<'a>>, AllocError>
-    ensures { IfOk result (λ v. map plain_ended v.items ≡ ended shard.of shard.number decisions.now) }
+) -> Result<Sorted<Ended<'a>>, AllocError>
+    ensures { IfOk result (λ keys. IsPermutation (ended shard.of shard.number decisions.now) (map plain_ended keys)) }
 {
     let mut keys = Vec::new(alloc);
     for decision in decisions {
@@ -176,7 +177,7 @@ pub(crate) fn ended_keys<'a>(
             push_ended(&mut keys, decision)?;
         }
     }
-    Ok(keys)
+    Ok(Sorted::of(keys))
 }
 
 fn push_marked<'a>(
@@ -205,26 +206,26 @@ pub(crate) fn marked_keys<'a>(
     alloc: Global,
     parts: &'a [Part],
     shard: Shard,
-) -> Result<Vec<Ended<'a>>, AllocError>
-    ensures { IfOk result (λ v. map plain_ended v.items ≡ marked shard.of shard.number parts.now) }
+) -> Result<Sorted<Ended<'a>>, AllocError>
+    ensures { IfOk result (λ keys. IsPermutation (marked shard.of shard.number parts.now) (map plain_ended keys)) }
 {
     let mut keys = Vec::new(alloc);
     for part in parts {
         push_marked(&mut keys, part, shard)?;
     }
-    Ok(keys)
+    Ok(Sorted::of(keys))
 }
 
 /// The names of the partitions.
 pub(crate) fn name_keys<'a>(
     alloc: Global,
     parts: &'a [Part],
-) -> Result<Vec<NameRef<'a>>, AllocError>
-    ensures { IfOk result (λ v. map plain_name v.items ≡ names parts.now) }
+) -> Result<Sorted<NameRef<'a>>, AllocError>
+    ensures { IfOk result (λ keys. IsPermutation (names parts.now) (map plain_name keys)) }
 {
     let mut keys = Vec::new(alloc);
     for part in parts {
         keys.push(name_of_part(part))?;
     }
-    Ok(keys)
+    Ok(Sorted::of(keys))
 }

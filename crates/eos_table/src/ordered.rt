@@ -1,11 +1,10 @@
 //! The keys in order, for binary search.
 
 ghost use Rattle.std.specs.Prelude.{IfOk, IsPermutation, map};
-ghost use Rattle.eos_table.specs.steps.Keys.{plain_name, decided, judged, listed, plain_listed, ended, plain_ended, marked, names};
+ghost use Rattle.eos_table.specs.steps.Keys.{plain_name, decided, judged, listed, plain_listed, plain_ended, marked, names};
 
 use crate::key::{
-    Ended, Listed, NameRef, decided_keys, ended_keys, judged_keys, listed_keys, marked_keys,
-    name_keys,
+    Ended, Listed, NameRef, decided_keys, judged_keys, listed_keys, marked_keys, name_keys,
 };
 use crate::one_shard::Shard;
 use eos_base::Sorted;
@@ -34,17 +33,6 @@ pub(crate) struct PresentKeys<'a> {
     pub marked: Sorted<Ended<'a>>,
 }
 
-fn listed_in_order<'a>(
-    alloc: Global,
-    decisions: &'a [Decision],
-    shard: Shard,
-) -> Result<Sorted<Listed<'a>>, AllocError>
-    ensures { IfOk result (λ keys. IsPermutation (listed shard.of shard.number decisions.now) (map plain_listed keys)) }
-{
-    let keys = listed_keys(alloc, decisions, shard)?;
-    Ok(Sorted::of(keys))
-}
-
 pub(crate) fn data_keys<'a>(
     alloc: Global,
     decisions: &'a [Decision],
@@ -56,42 +44,12 @@ pub(crate) fn data_keys<'a>(
 {
     let decided = decided_keys(alloc, decisions, shard)?;
     let judged = judged_keys(alloc, decisions, shard)?;
-    let listed = listed_in_order(alloc, decisions, shard)?;
+    let listed = listed_keys(alloc, decisions, shard)?;
     Ok(DataKeys {
         decided: Sorted::of(decided),
         judged: Sorted::of(judged),
         listed,
     })
-}
-
-/// The end markers that decisions want.
-pub(crate) fn ended_in_order<'a>(
-    alloc: Global,
-    decisions: &'a [Decision],
-    shard: Shard,
-) -> Result<Sorted<Ended<'a>>, AllocError>
-    ensures { IfOk result (λ keys. IsPermutation (ended shard.of shard.number decisions.now) (map plain_ended keys)) }
-{
-    let keys = ended_keys(alloc, decisions, shard)?;
-    Ok(Sorted::of(keys))
-}
-
-fn marked_in_order<'a>(
-    alloc: Global,
-    parts: &'a [Part],
-    shard: Shard,
-) -> Result<Sorted<Ended<'a>>, AllocError>
-    ensures { IfOk result (λ keys. IsPermutation (marked shard.of shard.number parts.now) (map plain_ended keys)) }
-{
-    let keys = marked_keys(alloc, parts, shard)?;
-    Ok(Sorted::of(keys))
-}
-
-fn names_in_order<'a>(alloc: Global, parts: &'a [Part]) -> Result<Sorted<NameRef<'a>>, AllocError>
-    ensures { IfOk result (λ keys. IsPermutation (names parts.now) (map plain_name keys)) }
-{
-    let keys = name_keys(alloc, parts)?;
-    Ok(Sorted::of(keys))
 }
 
 pub(crate) fn present_keys<'a>(
@@ -102,7 +60,7 @@ pub(crate) fn present_keys<'a>(
     ensures names { IfOk result (λ keys. IsPermutation (names parts.now) (map plain_name keys.names)) }
     ensures marked { IfOk result (λ keys. IsPermutation (marked shard.of shard.number parts.now) (map plain_ended keys.marked)) }
 {
-    let names = names_in_order(alloc, parts)?;
-    let marked = marked_in_order(alloc, parts, shard)?;
+    let names = name_keys(alloc, parts)?;
+    let marked = marked_keys(alloc, parts, shard)?;
     Ok(PresentKeys { names, marked })
 }

@@ -141,19 +141,6 @@ fn after_marker<'a>(
     with(best, marker.producer, marker.epoch, name, kind)
 }
 
-fn after_name<'a>(
-    best: Option<Found<'a>>,
-    present: &PresentKeys<'_>,
-    decision: &Decision,
-    name: NameRef<'a>,
-) -> Option<Found<'a>>
-    ensures { option_map plain result ≡ fold (lesser_of fault_cmp) (option_map plain best.entry)
-        (faults_at_name (map plain_name present.now.names) (map plain_ended present.now.marked) decision.now (plain_name name.entry)) }
-{
-    let kind = kind_at_name(present, decision, name);
-    with(best, decision.producer, decision.epoch, name, kind)
-}
-
 fn closes_of_part<'a>(
     first: Option<Found<'a>>,
     keys: &DataKeys<'_>,
@@ -202,7 +189,8 @@ fn after_number<'a>(
         topic: &topic.topic,
         partition: *partition,
     };
-    after_name(best, present, decision, name)
+    let kind = kind_at_name(present, decision, name);
+    with(best, decision.producer, decision.epoch, name, kind)
 }
 
 fn names_of_topic<'a>(

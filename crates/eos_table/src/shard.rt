@@ -5,10 +5,11 @@ ghost use Rattle.eos_table.specs.steps.Candidates.{plain, IsTwice};
 ghost use Rattle.eos_table.specs.Shards.{IsAnswer};
 
 use crate::best::Found;
+use crate::key::ended_keys;
 use crate::look::first_twice;
 use crate::match_fault::{MatchFault, MatchFaultKind};
 use crate::one_shard::Shard;
-use crate::ordered::{data_keys, ended_in_order, present_keys};
+use crate::ordered::{data_keys, present_keys};
 use crate::pass::{closes_of, markers_of, names_of};
 use crate::table::TxnTable;
 use eos_base::PartitionName;
@@ -40,7 +41,7 @@ fn least<'a>(
     ensures { IfOk result (λ o. IsAnswer decisions.now parts.now shard.of shard.number (option_map plain o)) }
 {
     let keys = data_keys(alloc, decisions, shard)?;
-    let ended = ended_in_order(alloc, decisions, shard)?;
+    let ended = ended_keys(alloc, decisions, shard)?;
     let present = present_keys(alloc, parts, shard)?;
     let at_keys = twice_found(keys.decided.as_slice());
     let at_closes = closes_of(at_keys, &keys, parts, shard);

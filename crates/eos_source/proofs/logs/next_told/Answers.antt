@@ -69,7 +69,7 @@ returns g c = λ said piece later given.
     let read = subst (λ (xs : List Segment). AreRead known said (asking topics apps topic) piece xs run) c.as_slice.ensures both.0 in
     let next = subst (λ (xs : List Segment). AreSlotsOf known said topics apps (piece + length xs) later (into_iter_items c.next_run.new.slots)) c.as_slice.ensures both.1 in
     let wanted : c.asked_of-asked.result.wanted ≡ wanted_of apps topic = c.asked_of-asked.ensures.wanted ∙ ap (wanted_of apps) c.as_slice-2.ensures in
-    let cloned : c.in_ok-clone.field-0 ≡ shape.end = same_end c.in_ok-clone.field-0 shape.end c.in_ok-clone.ensures.cases.0 c.in_ok-clone.ensures.cases.1.0 c.in_ok-clone.ensures.cases.1.1 in
+    let cloned : c.in_ok-end.end ≡ shape.end = same_end c.in_ok-end.end shape.end c.in_ok-end.ensures.cases.0 c.in_ok-end.ensures.cases.1.0 c.in_ok-end.ensures.cases.1.1 in
     let is : (segments : List Segment) → AreKeptRun topics segments run → AreOf shape.end.topic shape.end.partition segments → IsTold (wanted_of apps topic) shape.end segments told = λ segments kept of.
     subst (λ (w : Wanted). IsTold w shape.end segments told) wanted
     (subst (λ (e : End). IsTold c.asked_of-asked.result.wanted e segments told) cloned

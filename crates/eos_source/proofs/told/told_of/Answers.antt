@@ -10,7 +10,7 @@ use Rattle.eos_source.proofs.told.told_of.Goals as goal
 
 pub of_outputs-requires : goal.of_outputs-requires
 of_outputs-requires c =
-    c.claims_in.ensures.claims c.in_ok-topics-in-Claims.topics.items (subst (λ (topics : List (List ℕ)). HaveClaims topics c.args.run) (sym c.in_ok-topics-in-Claims.ensures) c.requires.claims)
+    c.claims_in-kept.ensures.claims c.in_ok-topics-in-Claims.topics.items (subst (λ (topics : List (List ℕ)). HaveClaims topics c.args.run) (sym c.in_ok-topics-in-Claims.ensures) c.requires.claims)
 
 pub of_texts-requires : goal.of_texts-requires
 of_texts-requires c = c.texts_in.ensures.claims c.args.asked.topics.now c.requires.claims
@@ -23,8 +23,8 @@ returns-in-Presence c =
 pub returns-in_ok-topics-in-Claims : goal.returns-in_ok-topics-in-Claims
 returns-in_ok-topics-in-Claims c =
     let topics = c.in_ok-topics-in-Claims.topics.items in
-    made_told wants.Claims c.args.asked.wanted (λ (n : ℕ) (r : Record). kept_output topics (claim_of r.headers)) c.args.end c.args.asked.topics.now c.args.run c.claims_in.result c.of_outputs.result c.in-Claims.is
-    (λ segments kept. c.claims_in.ensures.kept topics segments (subst (λ (names : List (List ℕ)). AreKeptRun names segments c.args.run) (sym c.in_ok-topics-in-Claims.ensures) kept)) c.of_outputs.ensures
+    made_told wants.Claims c.args.asked.wanted (λ (n : ℕ) (r : Record). kept_output topics (claim_of r.headers)) c.args.end c.args.asked.topics.now c.args.run c.claims_in-kept.result c.of_outputs.result c.in-Claims.is
+    (λ segments kept. c.claims_in-kept.ensures.kept topics segments (subst (λ (names : List (List ℕ)). AreKeptRun names segments c.args.run) (sym c.in_ok-topics-in-Claims.ensures) kept)) c.of_outputs.ensures
 
 pub returns-in-Texts : goal.returns-in-Texts
 returns-in-Texts c =

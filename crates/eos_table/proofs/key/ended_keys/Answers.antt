@@ -1,8 +1,9 @@
-use Rattle.std.proofs.Common.{◌≡◌, [], ◌++◌, ◌∙◌, ap, sym, map, rules, w64, to_z, of_z, if◌then◌else◌}
+use Rattle.std.proofs.Common.{◌≡◌, [], ◌++◌, ◌∙◌, ap, sym, map, rules, w64, to_z, of_z, if◌then◌else◌, subst, take_all, IsPermutation}
 use Rattle.std.proofs.lemmas.List.{append-nil}
 use Rattle.eos_txnlog.specs.declared.decision.Decision.{Decision}
 use Rattle.eos_txnlog.specs.PartitionSets.{names_of}
-use Rattle.eos_table.specs.steps.Keys.{mine, plain_ended, ended_of}
+use Rattle.std.proofs.lemmas.List.Sorted.{IsPermutation-map}
+use Rattle.eos_table.specs.steps.Keys.{ended, mine, plain_ended, ended_of}
 use Rattle.eos_table.proofs.FoldMore.{pushed_more}
 use Rattle.eos_table.proofs.key.ended_keys.Goals.{then-has+in_ok-push_ended, else-has}
 use Rattle.eos_table.proofs.key.ended_keys.Goals as goal
@@ -20,3 +21,8 @@ loop-decision-preserved c =
       | then-has+in_ok-push_ended w ↦ (λ i. map plain_ended (w.keys-is i).items) ∙ (w.in_ok-push_ended.ensures ∙ ap (λ b. before ++ (if b then here else [])) (w.if-has.ensures ∙ own))
       | else-has w ↦ (λ i. map plain_ended (w.keys-is i).items) ∙ (sym (append-nil before) ∙ ap (λ b. before ++ (if b then here else [])) (w.if-has.ensures ∙ own))
     ])
+
+pub returns : goal.returns
+returns c =
+    let all = c.loop-decision.invariant ∙ ap (ended c.args.shard.of c.args.shard.number) (take_all c.loop-decision.decision-index c.args.decisions.now c.loop-decision-test.false) in
+    subst (λ z. IsPermutation z (map plain_ended c.of.result)) all (IsPermutation-map plain_ended _ _ c.of.ensures)

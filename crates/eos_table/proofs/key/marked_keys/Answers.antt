@@ -1,6 +1,7 @@
-use Rattle.std.proofs.Common.{map}
+use Rattle.std.proofs.Common.{map, ◌∙◌, ap, subst, take_all, IsPermutation}
 use Rattle.eos_fold.specs.Parts.{part_name, PartLog}
-use Rattle.eos_table.specs.steps.Keys.{plain_ended, marked_of}
+use Rattle.std.proofs.lemmas.List.Sorted.{IsPermutation-map}
+use Rattle.eos_table.specs.steps.Keys.{marked, plain_ended, marked_of}
 use Rattle.eos_table.proofs.FoldMore.{pushed_more}
 use Rattle.eos_table.proofs.key.marked_keys.Goals as goal
 
@@ -8,3 +9,8 @@ pub loop-part-preserved : goal.loop-part-preserved
 loop-part-preserved c =
     pushed_more (λ (p : PartLog). marked_of c.args.shard.of c.args.shard.number (part_name p) p.markers) (map plain_ended c.loop-part.keys.items) (map plain_ended c.push_marked.new.keys.items)
     c.args.parts.now c.loop-part.part-index c.part-item.result c.loop-part-test.true c.part-item.is c.loop-part.invariant c.in_ok-push_marked.ensures
+
+pub returns : goal.returns
+returns c =
+    let all = c.loop-part.invariant ∙ ap (marked c.args.shard.of c.args.shard.number) (take_all c.loop-part.part-index c.args.parts.now c.loop-part-test.false) in
+    subst (λ z. IsPermutation z (map plain_ended c.of.result)) all (IsPermutation-map plain_ended _ _ c.of.ensures)
