@@ -98,14 +98,10 @@ impl Cause {
             ErrorKind::PermissionDenied => Cause::PermissionDenied,
             ErrorKind::IsADirectory => Cause::Folder,
             ErrorKind::NotADirectory => Cause::NotFolder,
-            kind => Cause::told(words_of(alloc, e, kind)),
-        }
-    }
-
-    pub(crate) fn told(words: Result<String, AllocError>) -> Cause {
-        match words {
-            Ok(words) => Cause::Told(words),
-            Err(_) => Cause::Unknown,
+            kind => match words_of(alloc, e, kind) {
+                Ok(words) => Cause::Told(words),
+                Err(_) => Cause::Unknown,
+            },
         }
     }
 }

@@ -9,7 +9,7 @@ use eos_evidence::{End, ReadFault, Segment, read_segment};
 use std::alloc::Global;
 use std::fs::File;
 use std::io;
-use std::io::{ErrorKind, Read};
+use std::io::{Error, ErrorKind, Read};
 
 /// A file that is read, with the path that a refusal of it names.
 #[derive(Drop)]
@@ -29,11 +29,7 @@ impl NamedFile {
     pub fn open(rt: &HostRuntime, path: String) -> Result<NamedFile, FolderFault> {
         match File::open(rt, path.as_str()) {
             Ok(file) => Ok(NamedFile { path, file }),
-            Err(e) if e.kind() == ErrorKind::OutOfMemory => Err(FolderFault::OutOfMemory),
-            Err(e) => {
-                let cause = Cause::of_error(rt.alloc(), &e);
-                Err(FolderFault::CannotRead(path, cause))
-            }
+            Err(e) => Err(unread(rt.alloc(), path, &e)),
         }
     }
 
@@ -58,6 +54,14 @@ impl NamedFile {
             ReadFault::OutOfMemory => FolderFault::OutOfMemory,
         }
     }
+}
+
+/// Why the file or folder of this path isn't read.
+pub(crate) fn unread(alloc: Global, path: String, e: &Error) -> FolderFault {
+    if e.kind() == ErrorKind::OutOfMemory {
+        return FolderFault::OutOfMemory;
+    }
+    FolderFault::CannotRead(path, Cause::of_error(alloc, e))
 }
 
 /// Opens the file of a segment, which stands in this form in a folder of evidence. Of the segment itself only the name counts: its

@@ -66,8 +66,6 @@ pub struct Shape {
 struct Listing {
     spec: Spec,
     segments: Segments,
-    /// Why these are not all, if that was refused.
-    listed: Result<(), FolderFault>,
 }
 
 /// A file that is named as a segment of a partition.
@@ -86,18 +84,27 @@ pub fn read_shape<W: Watch>(
     folder: &str,
     watch: &W,
 ) -> Result<Shape, FolderFault> {
-    let Listing {
-        spec,
-        segments,
-        listed,
-    } = list_folder(rt, folder, watch)?;
+    let mut listed = Ok(());
+    match shape_of(rt, folder, watch, &mut listed) {
+        Ok((evidence, forms)) => Ok(Shape {
+            evidence,
+            forms,
+            listed,
+        }),
+        Err(fault) => Err(fault),
+    }
+}
+
+fn shape_of<W: Watch>(
+    rt: &HostRuntime,
+    folder: &str,
+    watch: &W,
+    listed: &mut Result<(), FolderFault>,
+) -> Result<(Evidence, Vec<Form>), FolderFault> {
+    let Listing { spec, segments } = list_folder(rt, folder, watch, listed)?;
     let Segments { names, forms } = segments;
     let evidence = evidence_of(rt, spec, names)?;
-    Ok(Shape {
-        evidence,
-        forms,
-        listed,
-    })
+    Ok((evidence, forms))
 }
 
 /// Reads the evidence of a folder: its shape, and the bytes of each segment, by at most as many threads as there are workers. A
@@ -109,40 +116,59 @@ pub fn read_folder<W: Watch>(
     workers: Workers,
     watch: &W,
 ) -> Result<Evidence, FolderFault> {
-    let Listing {
-        spec,
-        segments,
-        listed,
-    } = list_folder(rt, folder, watch)?;
-    if let Some(name) = segments.first_fold() {
-        return Err(refused_fold(rt.alloc(), folder, name, NO_RECORDS));
-    }
-    let mut files = unread(rt.alloc(), segments.names)?;
-    thread::for_each_mut(
-        threads,
-        files.as_mut_slice(),
-        workers.get() as usize,
-        &|_, file: &mut SegmentFile| { file.read(rt, folder, watch) },
-    );
-    let evidence = evidence_of(rt, spec, segments_of(rt.alloc(), files)?)?;
+    let mut listed = Ok(());
+    let evidence = match list_logs(rt, folder, watch, &mut listed) {
+        Ok((spec, mut files)) => {
+            thread::for_each_mut(
+                threads,
+                files.as_mut_slice(),
+                workers.get() as usize,
+                &|_, file: &mut SegmentFile| { file.read(rt, folder, watch) },
+            );
+            evidence_of_files(rt, spec, files)
+        }
+        Err(fault) => Err(fault),
+    };
+    first_refusal(evidence, listed)
+}
+
+/// What refuses a segment comes before what refused to list more of them.
+fn first_refusal(
+    evidence: Result<Evidence, FolderFault>,
+    listed: Result<(), FolderFault>,
+) -> Result<Evidence, FolderFault> {
+    let evidence = evidence?;
     listed?;
     Ok(evidence)
 }
 
+/// What a folder lists that has no fold: its manifest, and the files of its segments, of which none is read yet.
+fn list_logs<W: Watch>(
+    rt: &HostRuntime,
+    folder: &str,
+    watch: &W,
+    listed: &mut Result<(), FolderFault>,
+) -> Result<(Spec, Vec<SegmentFile>), FolderFault> {
+    let Listing { spec, segments } = list_folder(rt, folder, watch, listed)?;
+    if let Some(name) = segments.first_fold() {
+        return Err(refused_fold(rt.alloc(), folder, name, NO_RECORDS));
+    }
+    let files = unread_files(rt.alloc(), segments.names)?;
+    Ok((spec, files))
+}
+
+/// Lists a folder, and why these aren't all of its segments, if that was refused.
 fn list_folder<W: Watch>(
     rt: &HostRuntime,
     folder: &str,
     watch: &W,
+    listed: &mut Result<(), FolderFault>,
 ) -> Result<Listing, FolderFault> {
     let spec = read_manifest(rt, manifest_path(rt.alloc(), folder)?)?;
     let mut segments = Segments::new(rt.alloc());
-    let listed = segments.add_all(rt, folder, spec.ends().as_slice());
+    *listed = segments.add_all(rt, folder, spec.ends().as_slice());
     watch.found(segments.names.len() as u64);
-    Ok(Listing {
-        spec,
-        segments,
-        listed,
-    })
+    Ok(Listing { spec, segments })
 }
 
 /// Reads the manifest in the file of this path.
@@ -173,21 +199,25 @@ fn evidence_of(
 ) -> Result<Evidence, FolderFault> {
     let mut builder = EvidenceBuilder::new(rt.alloc(), spec)?;
     for segment in segments {
-        match builder.add(segment) {
-            Ok(()) => {}
-            Err(AddFault::OutOfMemory) => return Err(FolderFault::OutOfMemory),
-            Err(AddFault::Limit | AddFault::Name | AddFault::Duplicate) => {
-                return Err(FolderFault::Limit(Cause::Unknown));
-            }
-        }
+        add(&mut builder, segment)?;
     }
     Ok(builder.finish())
+}
+
+fn add(builder: &mut EvidenceBuilder, segment: Segment) -> Result<(), FolderFault> {
+    match builder.add(segment) {
+        Ok(()) => Ok(()),
+        Err(AddFault::OutOfMemory) => Err(FolderFault::OutOfMemory),
+        Err(AddFault::Limit | AddFault::Name | AddFault::Duplicate) => {
+            Err(FolderFault::Limit(Cause::Unknown))
+        }
+    }
 }
 
 // ---- what is in them
 
 /// The files of these names, of which none is read yet.
-fn unread(alloc: Global, names: Vec<Segment>) -> Result<Vec<SegmentFile>, AllocError> {
+fn unread_files(alloc: Global, names: Vec<Segment>) -> Result<Vec<SegmentFile>, AllocError> {
     let mut files = Vec::new(alloc);
     for name in names {
         files.push(SegmentFile {
@@ -206,23 +236,35 @@ impl SegmentFile {
             watch.read(bytes.len() as u64);
         }
     }
+
+    /// The segment with what was read of it.
+    fn into_segment(self) -> Result<Segment, FolderFault> {
+        let SegmentFile { name, bytes } = self;
+        match bytes {
+            Ok(bytes) => Ok(Segment {
+                topic: name.topic,
+                partition: name.partition,
+                base: name.base,
+                bytes,
+            }),
+            Err(fault) => Err(fault),
+        }
+    }
 }
 
 fn bytes_of(rt: &HostRuntime, folder: &str, name: &Segment) -> Result<Bytes, FolderFault> {
     open_segment(rt, folder, name, Form::Log)?.read_whole(rt.alloc())
 }
 
-/// The segments of the files in order, or the first refusal among them.
-fn segments_of(alloc: Global, files: Vec<SegmentFile>) -> Result<Vec<Segment>, FolderFault> {
-    let mut segments = Vec::new(alloc);
+/// The evidence of the files in order, or the first refusal among them.
+fn evidence_of_files(
+    rt: &HostRuntime,
+    spec: Spec,
+    files: Vec<SegmentFile>,
+) -> Result<Evidence, FolderFault> {
+    let mut builder = EvidenceBuilder::new(rt.alloc(), spec)?;
     for file in files {
-        let SegmentFile { name, bytes } = file;
-        segments.push(Segment {
-            topic: name.topic,
-            partition: name.partition,
-            base: name.base,
-            bytes: bytes?,
-        })?;
+        add(&mut builder, file.into_segment()?)?;
     }
-    Ok(segments)
+    Ok(builder.finish())
 }

@@ -1,10 +1,11 @@
 //! Which segments a folder has, by the names of the files in it.
 
 use crate::cause::Cause;
+use crate::files::unread;
 use crate::folder::FolderFault;
 use crate::names::{FileName, Form, read_file_name};
-use crate::paths::{partition_path, segment_path};
-use crate::refusal::{NO_RECORDS, TWICE, refused_fold};
+use crate::paths::{file_path, partition_path};
+use crate::refusal::{NO_RECORDS, TWICE, refused_at};
 use bytes::Bytes;
 use eos_evidence::{End, MAX_SEGMENTS, Segment};
 use std::alloc::{AllocError, Global};
@@ -60,16 +61,19 @@ impl Segments {
         let Some(file) = files.first() else {
             return Ok(());
         };
-        let name = named(end, file.base)?;
         if self.names.len() as u64 >= MAX_SEGMENTS {
-            let path = segment_path(alloc, folder, &name, file.form)?;
+            let path = path_of(alloc, folder, end, *file)?;
             return Err(FolderFault::Limit(Cause::ManySegments(path)));
         }
         if files.len() > 1 && files[1].base == file.base {
-            return Err(refused_fold(alloc, folder, &name, TWICE));
+            let fold = FileName {
+                base: file.base,
+                form: Form::Fold,
+            };
+            return Err(refused_at(path_of(alloc, folder, end, fold), TWICE));
         }
         self.forms.push(file.form)?;
-        self.names.push(name)?;
+        self.names.push(named(end, file.base)?)?;
         Ok(())
     }
 
@@ -90,11 +94,16 @@ pub fn bases_of(rt: &HostRuntime, folder: &str, end: &End) -> Result<Vec<i64>, F
     let files = files_of(rt, folder, end)?;
     for file in files.as_slice() {
         if let Form::Fold = file.form {
-            let name = named(end, file.base)?;
-            return Err(refused_fold(rt.alloc(), folder, &name, NO_RECORDS));
+            return Err(refused_at(path_of(rt.alloc(), folder, end, *file), NO_RECORDS));
         }
     }
     Ok(bases_of_logs(rt.alloc(), files.as_slice())?)
+}
+
+/// The path of a file of a partition.
+fn path_of(alloc: Global, folder: &str, end: &End, file: FileName) -> Result<String, AllocError> {
+    let partition = partition_path(alloc, folder, end.topic.as_slice(), end.partition)?;
+    file_path(alloc, &partition, file.base, file.form)
 }
 
 /// The segment of a partition with this first offset, without its bytes.
@@ -111,7 +120,7 @@ fn named(end: &End, base: i64) -> Result<Segment, AllocError> {
 pub fn bases_in(rt: &HostRuntime, path: &str) -> Result<Vec<i64>, FolderFault> {
     match list_files(rt, path) {
         Ok(files) => Ok(bases_of_logs(rt.alloc(), files.as_slice())?),
-        Err(e) => Err(unlisted(rt.alloc(), String::from_str(rt.alloc(), path)?, &e)),
+        Err(e) => Err(unread(rt.alloc(), String::from_str(rt.alloc(), path)?, &e)),
     }
 }
 
@@ -131,16 +140,8 @@ fn files_of(rt: &HostRuntime, folder: &str, end: &End) -> Result<Vec<FileName>, 
     match list_files(rt, &path) {
         Ok(files) => Ok(files),
         Err(e) if is_absent(rt, &path, e.kind()) => Ok(Vec::new(rt.alloc())),
-        Err(e) => Err(unlisted(rt.alloc(), path, &e)),
+        Err(e) => Err(unread(rt.alloc(), path, &e)),
     }
-}
-
-/// Why the files in the folder of this path aren't known.
-fn unlisted(alloc: Global, path: String, e: &Error) -> FolderFault {
-    if e.kind() == ErrorKind::OutOfMemory {
-        return FolderFault::OutOfMemory;
-    }
-    FolderFault::CannotRead(path, Cause::of_error(alloc, e))
 }
 
 /// Whether an error at this path says that nothing is there: no folder, and no link that leads nowhere; or a folder whose name
@@ -160,19 +161,22 @@ fn is_absent(rt: &HostRuntime, path: &str, kind: ErrorKind) -> bool {
 fn list_files(rt: &HostRuntime, folder: &str) -> Result<Vec<FileName>, Error> {
     let mut files = Vec::new(rt.alloc());
     for entry in fs::read_dir(rt, folder)? {
-        if let Some(file) = file_of_entry(entry)? {
-            files.push(file)?;
-        }
+        push_entry(&mut files, entry)?;
     }
     files.as_mut_slice().sort_unstable_by_key(|file| file.base);
     Ok(files)
 }
 
-/// An entry that is named as a segment. A name that isn't UTF-8 is none of these.
-fn file_of_entry(entry: Result<DirEntry, Error>) -> Result<Option<FileName>, Error> {
+/// Adds an entry that is named as a segment. A name that isn't UTF-8 is none of these.
+fn push_entry(files: &mut Vec<FileName>, entry: Result<DirEntry, Error>) -> Result<(), Error> {
     match entry {
-        Ok(entry) => Ok(read_file_name(entry.file_name().as_bytes())),
-        Err(e) if e.kind() == ErrorKind::InvalidFilename => Ok(None),
+        Ok(entry) => {
+            if let Some(file) = read_file_name(entry.file_name().as_bytes()) {
+                files.push(file)?;
+            }
+            Ok(())
+        }
+        Err(e) if e.kind() == ErrorKind::InvalidFilename => Ok(()),
         Err(e) => Err(e),
     }
 }

@@ -5,7 +5,7 @@ use crate::folder::FolderFault;
 use crate::names::Form;
 use crate::paths::segment_path;
 use eos_evidence::Segment;
-use std::alloc::Global;
+use std::alloc::{AllocError, Global};
 
 /// Why a fold is refused: the name of the refusal, and the same in words.
 #[derive(Clone, Copy)]
@@ -33,7 +33,12 @@ pub fn refused_fold(
     name: &Segment,
     refusal: FoldRefusal,
 ) -> FolderFault {
-    match segment_path(alloc, folder, name, Form::Fold) {
+    refused_at(segment_path(alloc, folder, name, Form::Fold), refusal)
+}
+
+/// The fold at this path is refused so.
+pub(crate) fn refused_at(path: Result<String, AllocError>, refusal: FoldRefusal) -> FolderFault {
+    match path {
         Ok(path) => FolderFault::Fold(path, refusal.name, Cause::Words(refusal.words)),
         Err(_) => FolderFault::OutOfMemory,
     }
