@@ -322,7 +322,7 @@ deed_back (Asked event reply) ms h set none =
     (past_event (codes "reply") event base (record { source = refl; application = refl; session = refl; partition = refl; claim = refl; offset = refl; kind = refl; topic = refl; message = refl }) refl)
     (past_event (codes "value") event base (record { source = refl; application = refl; session = refl; partition = refl; claim = refl; offset = refl; kind = refl; topic = refl; message = refl }) refl)
     none in
-    ap (λ o. deed_from o d) no_set ∙ ap (λ o. option_and_then (λ e. option_map (λ r. Asked e r) (reply_in d)) o) (event_said event base h) ∙ ap (λ o. option_map (λ r. Asked event r) o) replied
+    ap (λ o. deed_from o d) no_set ∙ ap (λ o. option_and_then (λ r. option_map (λ e. Asked e r) (event_in d)) o) replied ∙ ap (λ o. option_map (λ e. Asked e reply) o) (event_said event base h)
 deed_back (Set switches) ms h set none =
     ap (λ o. deed_from o (object (put (codes "set") (array (items_of (switch_names switches))) ms))) (get_member-put (codes "set") (array (items_of (switch_names switches))) ms)
     ∙ ap (λ (s : Switches). Some (Set s)) (switches_back switches)

@@ -3,10 +3,10 @@
 ghost use Rattle.std.specs.Prelude.{◌≡◌, IfOk, OnOk};
 ghost use Rattle.serde_json.specs.View.{view};
 ghost use Rattle.eos_history_lines.specs.steps.Held.{held};
-ghost use Rattle.eos_history_lines.specs.Lines.{with_claim, claim_value, claimed, offset_or_null, with_arguments, with_event};
-ghost use Rattle.eos_history_lines.specs.steps.Reading.{event_in, event_called, feed_in, start_in, restart_in, deliver_in, event_of_session, produce_in, claim_within, claim_or_none, claim_in, commit_in, offset_within, offset_or_none, end_in, fetch_in};
+ghost use Rattle.eos_history_lines.specs.Lines.{with_claim, claimed, offset_or_null, with_arguments, with_event};
+ghost use Rattle.eos_history_lines.specs.steps.Reading.{event_in, plain_event, event_of_session, feed_in, start_in, deliver_in, restart_in, produce_in, commit_in, end_in, fetch_in, claim_within, claim_in, offset_within};
 
-use crate::members::{count_in, integer_in, kind_in, size_in, small_in, text_in};
+use crate::members::{count_in, integer_in, kind_called, size_in, small_in, text_in};
 use crate::object::Object;
 use crate::words::{event_word, kind_word};
 use bytes::Bytes;
@@ -38,7 +38,7 @@ fn put_arguments(alloc: Global, out: &mut Object, event: &Event) -> Result<(), A
         } => {
             out.put_size("session", *session)?;
             out.put_size("partition", *partition)?;
-            out.put("claim", value_of_claimed(alloc, claim)?)
+            out.put("claim", value_of_claim(alloc, claim)?)
         }
         Event::Commit {
             session,
@@ -76,19 +76,13 @@ fn value_of_offset(offset: Option<i64>) -> Value
     }
 }
 
-fn value_of_claimed(alloc: Global, claim: &Option<Claim>) -> Result<Value, AllocError>
+#[tactic(auto, unfolding(crate::specs::Lines::claim_value))]
+fn value_of_claim(alloc: Global, claim: &Option<Claim>) -> Result<Value, AllocError>
     ensures { IfOk result (λ value. view value ≡ claimed claim.now) }
 {
-    match claim {
-        Some(claim) => value_of_claim(alloc, claim),
-        None => Ok(Value::Null),
-    }
-}
-
-#[tactic(auto, unfolding(crate::specs::Lines::claim_value))]
-fn value_of_claim(alloc: Global, claim: &Claim) -> Result<Value, AllocError>
-    ensures { IfOk result (λ value. view value ≡ claim_value claim.now) }
-{
+    let Some(claim) = claim else {
+        return Ok(Value::Null);
+    };
     let mut made = Object::new(alloc);
     put_claim(&mut made, claim)?;
     Ok(made.into_value())
@@ -111,29 +105,47 @@ fn put_claim(out: &mut Object, claim: &Claim) -> Result<(), AllocError>
 pub(crate) fn read_event(alloc: Global, value: &Value) -> Result<Option<Event>, AllocError>
     ensures { IfOk result (λ event. event ≡ event_in (view value.now)) }
 {
-    match text_in(value, "event") {
-        Some(word) => read_event_called(alloc, word, value),
-        None => Ok(None),
+    let Some(word) = text_in(value, "event") else {
+        return Ok(None);
+    };
+    if word == "produce" {
+        read_produce(alloc, value)
+    } else if word == "broker-restart" {
+        read_restart(alloc, value)
+    } else {
+        Ok(read_plain_event(word, value))
     }
 }
 
-fn read_event_called(alloc: Global, word: &str, value: &Value) -> Result<Option<Event>, AllocError>
-    ensures { IfOk result (λ event. event ≡ event_called word.now (view value.now)) }
+fn read_restart(alloc: Global, value: &Value) -> Result<Option<Event>, AllocError>
+    ensures { IfOk result (λ event. event ≡ restart_in (view value.now)) }
+{
+    let Some(topic) = text_in(value, "topic") else {
+        return Ok(None);
+    };
+    let Some(partition) = size_in(value, "partition") else {
+        return Ok(None);
+    };
+    let topic = Bytes::copy_from_slice(alloc, topic.as_bytes())?;
+    Ok(Some(Event::BrokerRestart { topic, partition }))
+}
+
+/// An event that takes no memory.
+fn read_plain_event(word: &str, value: &Value) -> Option<Event>
+    ensures { result ≡ plain_event word.now (view value.now) }
 {
     if word == "feed" {
-        Ok(read_feed(value))
+        read_feed(value)
     } else if word == "start" {
-        Ok(read_start(value))
-    } else if word == "members" {
-        Ok(Some(Event::Members))
-    } else if word == "broker-restart" {
-        read_restart(alloc, value)
-    } else if word == "coordinator-restart" {
-        Ok(Some(Event::CoordinatorRestart))
+        read_start(value)
     } else if word == "deliver" {
-        Ok(read_delivery(value))
+        read_delivery(value)
+    } else if word == "members" {
+        Some(Event::Members)
+    } else if word == "coordinator-restart" {
+        Some(Event::CoordinatorRestart)
     } else {
-        read_event_of_session(alloc, word, value)
+        read_event_of_session(word, value)
     }
 }
 
@@ -151,19 +163,6 @@ fn read_start(value: &Value) -> Option<Event>
     Some(Event::Start { application })
 }
 
-fn read_restart(alloc: Global, value: &Value) -> Result<Option<Event>, AllocError>
-    ensures { IfOk result (λ event. event ≡ restart_in (view value.now)) }
-{
-    let Some(topic) = text_in(value, "topic") else {
-        return Ok(None);
-    };
-    let Some(partition) = size_in(value, "partition") else {
-        return Ok(None);
-    };
-    let topic = Bytes::copy_from_slice(alloc, topic.as_bytes())?;
-    Ok(Some(Event::BrokerRestart { topic, partition }))
-}
-
 fn read_delivery(value: &Value) -> Option<Event>
     ensures { result ≡ deliver_in (view value.now) }
 {
@@ -173,63 +172,78 @@ fn read_delivery(value: &Value) -> Option<Event>
 
 // ---- those of a session
 
-fn read_event_of_session(
-    alloc: Global,
-    word: &str,
-    value: &Value,
-) -> Result<Option<Event>, AllocError>
-    ensures { IfOk result (λ event. event ≡ event_of_session word.now (view value.now)) }
+fn read_event_of_session(word: &str, value: &Value) -> Option<Event>
+    ensures { result ≡ event_of_session word.now (view value.now) }
+{
+    let session = size_in(value, "session")?;
+    if word == "commit" {
+        read_commit(session, value)
+    } else if word == "end" {
+        read_end(session, value)
+    } else if word == "resume" {
+        Some(Event::Resume { session })
+    } else if word == "fetch" {
+        read_fetch(session, value)
+    } else {
+        None
+    }
+}
+
+fn read_commit(session: usize, value: &Value) -> Option<Event>
+    ensures { result ≡ commit_in session (view value.now) }
+{
+    let source = size_in(value, "source")?;
+    let offset = read_offset(value)?;
+    Some(Event::Commit {
+        session,
+        source,
+        offset,
+    })
+}
+
+fn read_end(session: usize, value: &Value) -> Option<Event>
+    ensures { result ≡ end_in session (view value.now) }
+{
+    let kind = kind_called(text_in(value, "kind")?)?;
+    Some(Event::End { session, kind })
+}
+
+fn read_fetch(session: usize, value: &Value) -> Option<Event>
+    ensures { result ≡ fetch_in session (view value.now) }
+{
+    let source = size_in(value, "source")?;
+    Some(Event::Fetch { session, source })
+}
+
+fn read_produce(alloc: Global, value: &Value) -> Result<Option<Event>, AllocError>
+    ensures { IfOk result (λ event. event ≡ produce_in (view value.now)) }
 {
     let Some(session) = size_in(value, "session") else {
         return Ok(None);
     };
-    if word == "produce" {
-        read_produce(alloc, session, value)
-    } else if word == "commit" {
-        Ok(read_commit(session, value))
-    } else if word == "end" {
-        Ok(read_end(session, value))
-    } else if word == "resume" {
-        Ok(Some(Event::Resume { session }))
-    } else if word == "fetch" {
-        Ok(read_fetch(session, value))
-    } else {
-        Ok(None)
-    }
-}
-
-fn read_produce(alloc: Global, session: usize, value: &Value) -> Result<Option<Event>, AllocError>
-    ensures { IfOk result (λ event. event ≡ produce_in session (view value.now)) }
-{
     let Some(partition) = size_in(value, "partition") else {
         return Ok(None);
     };
-    let Some(claim) = read_claim_in(alloc, value)? else {
-        return Ok(None);
-    };
-    Ok(Some(Event::Produce {
-        session,
-        partition,
-        claim,
-    }))
-}
-
-fn read_claim_in(alloc: Global, value: &Value) -> Result<Option<Option<Claim>>, AllocError>
-    ensures { IfOk result (λ claim. claim ≡ claim_within (view value.now)) }
-{
-    match value.get("claim") {
-        Some(claim) => read_claim_or_none(alloc, claim),
+    match read_claimed(alloc, value)? {
+        Some(claim) => Ok(Some(Event::Produce {
+            session,
+            partition,
+            claim,
+        })),
         None => Ok(None),
     }
 }
 
-fn read_claim_or_none(alloc: Global, value: &Value) -> Result<Option<Option<Claim>>, AllocError>
-    ensures { IfOk result (λ claim. claim ≡ claim_or_none (view value.now)) }
+fn read_claimed(alloc: Global, value: &Value) -> Result<Option<Option<Claim>>, AllocError>
+    ensures { IfOk result (λ claim. claim ≡ claim_within (view value.now)) }
 {
-    if value.is_null() {
+    let Some(claim) = value.get("claim") else {
+        return Ok(None);
+    };
+    if claim.is_null() {
         return Ok(Some(None));
     }
-    match read_claim(alloc, value)? {
+    match read_claim(alloc, claim)? {
         Some(claim) => Ok(Some(Some(claim))),
         None => Ok(None),
     }
@@ -263,49 +277,12 @@ fn read_claim(alloc: Global, value: &Value) -> Result<Option<Claim>, AllocError>
     }))
 }
 
-fn read_commit(session: usize, value: &Value) -> Option<Event>
-    ensures { result ≡ commit_in session (view value.now) }
-{
-    let source = size_in(value, "source")?;
-    let offset = offset_within(value)?;
-    Some(Event::Commit {
-        session,
-        source,
-        offset,
-    })
-}
-
-fn offset_within(value: &Value) -> Option<Option<i64>>
+fn read_offset(value: &Value) -> Option<Option<i64>>
     ensures { result ≡ offset_within (view value.now) }
 {
-    match value.get("offset") {
-        Some(offset) => offset_or_none(offset),
-        None => None,
-    }
-}
-
-fn offset_or_none(value: &Value) -> Option<Option<i64>>
-    ensures { result ≡ offset_or_none (view value.now) }
-{
-    if value.is_null() {
+    let offset = value.get("offset")?;
+    if offset.is_null() {
         return Some(None);
     }
-    match value.as_i64() {
-        Some(offset) => Some(Some(offset)),
-        None => None,
-    }
-}
-
-fn read_end(session: usize, value: &Value) -> Option<Event>
-    ensures { result ≡ end_in session (view value.now) }
-{
-    let kind = kind_in(value)?;
-    Some(Event::End { session, kind })
-}
-
-fn read_fetch(session: usize, value: &Value) -> Option<Event>
-    ensures { result ≡ fetch_in session (view value.now) }
-{
-    let source = size_in(value, "source")?;
-    Some(Event::Fetch { session, source })
+    Some(Some(offset.as_i64()?))
 }

@@ -3,7 +3,7 @@
 use eos_machine::{Config, Event, Reply, Switches};
 
 /// What a simulated cluster was, and what it was asked for: the first line.
-#[derive(Clone, Copy, Debug, PartialEq, Eq)]
+#[derive(Clone, Copy, Debug)]
 pub struct Head {
     pub config: Config,
     /// The rules that the run was asked to break.
@@ -32,7 +32,7 @@ pub struct Line {
 }
 
 /// What came of it: the last line.
-#[derive(Clone, Copy, Debug, PartialEq, Eq)]
+#[derive(Clone, Copy, Debug)]
 pub struct Tail {
     pub events: u64,
     pub transactions: u64,

@@ -2,7 +2,7 @@
 
 ghost use Rattle.std.specs.Prelude.{◌≡◌, option_map};
 ghost use Rattle.serde_json.specs.View.{view};
-ghost use Rattle.eos_history_lines.specs.steps.Reading.{count_in, integer_in, as_small, small_in, truth_in, text_in, kind_called, kind_in};
+ghost use Rattle.eos_history_lines.specs.steps.Reading.{count_in, integer_in, as_small, small_in, text_in, kind_called};
 
 use eos_batch::Kind;
 use serde_json::Value;
@@ -55,16 +55,6 @@ pub(crate) fn as_small(number: i64) -> Option<i32>
     }
 }
 
-/// `true` or `false`.
-pub(crate) fn truth_in(value: &Value, name: &str) -> Option<bool>
-    ensures { result ≡ truth_in name.now (view value.now) }
-{
-    match value.get(name) {
-        Some(found) => found.as_bool(),
-        None => None,
-    }
-}
-
 pub(crate) fn text_in<'a>(value: &'a Value, name: &str) -> Option<&'a str>
     ensures { option_map (λ text. text.now) result ≡ text_in name.now (view value.now) }
 {
@@ -75,15 +65,6 @@ pub(crate) fn text_in<'a>(value: &'a Value, name: &str) -> Option<&'a str>
 }
 
 /// How a transaction is to end.
-pub(crate) fn kind_in(value: &Value) -> Option<Kind>
-    ensures { result ≡ kind_in (view value.now) }
-{
-    match text_in(value, "kind") {
-        Some(word) => kind_called(word),
-        None => None,
-    }
-}
-
 pub(crate) fn kind_called(word: &str) -> Option<Kind>
     ensures { result ≡ kind_called word.now }
 {

@@ -65,23 +65,19 @@ impl Object {
     pub(crate) fn put_topic(&mut self, name: &str, topic: &[u8]) -> Result<(), AllocError>
         ensures { OnOk result (held self.new ≡ with_member name.now (topic_value topic.now) (held self.old)) }
     {
-        let value = value_of_topic(self.alloc, topic)?;
-        self.put(name, value)
+        match str::from_utf8(topic) {
+            Ok(text) => self.put_str(name, text),
+            Err(_) => {
+                let digits = value_of_digits(self.alloc, topic)?;
+                self.put(name, digits)
+            }
+        }
     }
 
     pub(crate) fn into_value(self) -> Value
         ensures { view result ≡ object (held self) }
     {
         Value::Object(self.members)
-    }
-}
-
-fn value_of_topic(alloc: Global, topic: &[u8]) -> Result<Value, AllocError>
-    ensures { IfOk result (λ value. view value ≡ topic_value topic.now) }
-{
-    match str::from_utf8(topic) {
-        Ok(text) => value_of_text(alloc, text),
-        Err(_) => value_of_digits(alloc, topic),
     }
 }
 

@@ -7,7 +7,7 @@ ghost use Rattle.eos_history_lines.specs.steps.Reading.{switches_at, sizes_in, h
 
 use crate::events::read_event;
 use crate::line::{Deed, Head, Line, Tail};
-use crate::members::{count_in, size_in, truth_in};
+use crate::members::{count_in, size_in};
 use crate::replies::read_reply;
 use crate::switch_names::switches_in;
 use eos_machine::{Config, Switches};
@@ -38,7 +38,7 @@ fn read_sizes(value: &Value) -> Option<Config>
     let transaction_logs = size_in(value, "transaction_logs")?;
     let segment_records = size_in(value, "segment_records")?;
     let batch_records = size_in(value, "batch_records")?;
-    let chain = truth_in(value, "chain")?;
+    let chain = value.get("chain")?.as_bool()?;
     Some(Config {
         applications,
         inputs,
@@ -53,7 +53,7 @@ fn read_sizes(value: &Value) -> Option<Config>
 fn read_switches(value: &Value, name: &str) -> Option<Switches>
     ensures { result ≡ switches_at name.now (view value.now) }
 {
-    let names = value.get(name).and_then(Value::as_array)?;
+    let names = value.get(name)?.as_array()?;
     Some(switches_in(names.as_slice()))
 }
 
@@ -63,10 +63,10 @@ pub(crate) fn read_line(alloc: Global, value: &Value) -> Result<Option<Line>, Al
     let Some(number) = count_in(value, "number") else {
         return Ok(None);
     };
-    let Some(deed) = read_deed(alloc, value)? else {
-        return Ok(None);
-    };
-    Ok(Some(Line { number, deed }))
+    match read_deed(alloc, value)? {
+        Some(deed) => Ok(Some(Line { number, deed })),
+        None => Ok(None),
+    }
 }
 
 fn read_deed(alloc: Global, value: &Value) -> Result<Option<Deed>, AllocError>
@@ -84,13 +84,13 @@ fn read_deed(alloc: Global, value: &Value) -> Result<Option<Deed>, AllocError>
 fn read_asked(alloc: Global, value: &Value) -> Result<Option<Deed>, AllocError>
     ensures { IfOk result (λ deed. deed ≡ asked_in (view value.now)) }
 {
-    let Some(event) = read_event(alloc, value)? else {
-        return Ok(None);
-    };
     let Some(reply) = read_reply(value) else {
         return Ok(None);
     };
-    Ok(Some(Deed::Asked { event, reply }))
+    match read_event(alloc, value)? {
+        Some(event) => Ok(Some(Deed::Asked { event, reply })),
+        None => Ok(None),
+    }
 }
 
 pub(crate) fn read_tail(value: &Value) -> Option<Tail>

@@ -2,7 +2,7 @@
 
 ghost use Rattle.std.specs.Prelude.{◌≡◌};
 ghost use Rattle.serde_json.specs.View.{view};
-ghost use Rattle.eos_history_lines.specs.steps.Reading.{reply_in, reply_said, reply_called, plain_reply, refusal_called};
+ghost use Rattle.eos_history_lines.specs.steps.Reading.{reply_in, plain_reply, refusal_called};
 
 use crate::members::count_in;
 use eos_machine::Reply;
@@ -12,35 +12,16 @@ use serde_json::Value;
 pub(crate) fn read_reply(value: &Value) -> Option<Option<Reply>>
     ensures { result ≡ reply_in (view value.now) }
 {
-    match value.get("reply") {
-        None => Some(None),
-        Some(word) => match read_reply_said(word, value) {
-            Some(reply) => Some(Some(reply)),
-            None => None,
-        },
-    }
-}
-
-fn read_reply_said(word: &Value, value: &Value) -> Option<Reply>
-    ensures { result ≡ reply_said (view word.now) (view value.now) }
-{
-    match word.as_str() {
-        Some(word) => read_reply_called(word, value),
-        None => None,
-    }
-}
-
-fn read_reply_called(word: &str, value: &Value) -> Option<Reply>
-    ensures { result ≡ reply_called word.now (view value.now) }
-{
-    if word == "done" {
-        match count_in(value, "value") {
-            Some(number) => Some(Reply::Done(number)),
-            None => None,
-        }
+    let Some(word) = value.get("reply") else {
+        return Some(None);
+    };
+    let word = word.as_str()?;
+    let reply = if word == "done" {
+        Reply::Done(count_in(value, "value")?)
     } else {
-        plain_reply(word)
-    }
+        plain_reply(word)?
+    };
+    Some(Some(reply))
 }
 
 /// A reply that has no value.

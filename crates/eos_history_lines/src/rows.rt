@@ -1,24 +1,24 @@
 //! Lines read from their texts.
 
-ghost use Rattle.std.specs.Prelude.{◌≡◌, ◌≢◌, ◌≤◌, Err, Some, None, IfOk, IfErr, IfSome, IsUtf8, option_map};
+ghost use Rattle.std.specs.Prelude.{◌≡◌, ◌≢◌, ◌≤◌, ◌++◌, Err, Some, None, IfOk, IfErr, IfSome, IsUtf8, codes, string_bytes};
 ghost use Rattle.serde_json.specs.Data.{depth};
 ghost use Rattle.serde_json.specs.Read.{read as read_text, max_depth};
 ghost use Rattle.serde_json.specs.View.{view};
+ghost use Rattle.serde_json.specs.Written.{compact_text};
 ghost use Rattle.eos_history_lines.specs.Lines.{head_value, row_value};
 ghost use Rattle.eos_history_lines.specs.Fits.{FitsRow};
-ghost use Rattle.eos_history_lines.specs.steps.Reading.{line_in, tail_in, row_in};
+ghost use Rattle.eos_history_lines.specs.steps.Reading.{row_in};
 ghost use Rattle.eos_history_lines.specs.declared.fault.LineFault.TheVariants.{NotJson, OutOfMemory};
 ghost use Rattle.eos_history_lines.specs.declared.line.Head.{Head};
 ghost use Rattle.eos_history_lines.specs.declared.line.Row.{Row};
-ghost use Rattle.eos_history_lines.specs.declared.line.Row.TheVariants as rows;
 
 use crate::fault::LineFault;
 use crate::line::{Head, Row};
 use crate::mistake::Mistake;
 use crate::reader::{read_head, read_line, read_tail};
 use crate::same::is_same;
-use crate::search::{mistake_of_head, mistake_of_line, mistake_of_tail};
-use crate::values::{value_of_head, value_of_row};
+use crate::search::{look_at_head, look_at_row};
+use crate::writer::{head_text, line_text, tail_text};
 use serde_json::Value;
 use std::alloc::{AllocError, Global};
 
@@ -37,7 +37,7 @@ pub fn head_of(alloc: Global, text: &[u8]) -> Result<Head, LineFault>
     };
     match exact_head(alloc, &value) {
         Ok(Some(head)) => Ok(head),
-        Ok(None) => Err(LineFault::Mistaken(mistake_of_head(&value))),
+        Ok(None) => Err(LineFault::Mistaken(found(look_at_head(&value)))),
         Err(_) => Err(LineFault::OutOfMemory),
     }
 }
@@ -57,7 +57,7 @@ pub fn row_of(alloc: Global, text: &[u8]) -> Result<Row, LineFault>
     };
     match exact_row(alloc, &value) {
         Ok(Some(row)) => Ok(row),
-        Ok(None) => Err(LineFault::Mistaken(mistake_of_row(&value))),
+        Ok(None) => Err(LineFault::Mistaken(found(look_at_row(&value)))),
         Err(_) => Err(LineFault::OutOfMemory),
     }
 }
@@ -90,7 +90,7 @@ fn exact_head(alloc: Global, value: &Value) -> Result<Option<Head>, AllocError>
     let Some(head) = read_head(value) else {
         return Ok(None);
     };
-    let written = value_of_head(alloc, &head)?;
+    let written = head_text(alloc, &head)?;
     let same = is_same(alloc, value, &written)?;
     if same { Ok(Some(head)) } else { Ok(None) }
 }
@@ -105,41 +105,41 @@ fn exact_row(alloc: Global, value: &Value) -> Result<Option<Row>, AllocError>
     let Some(row) = found else {
         return Ok(None);
     };
-    let written = value_of_row(alloc, &row)?;
+    let written = row_text(alloc, &row)?;
     let same = is_same(alloc, value, &written)?;
     if same { Ok(Some(row)) } else { Ok(None) }
+}
+
+/// A line after the first, as it is written.
+fn row_text(alloc: Global, row: &Row) -> Result<String, AllocError>
+    ensures says { IfOk result (λ text. string_bytes text ≡ compact_text (row_value row.now) ++ codes "\n") }
+    ensures reads { IfOk result (λ text. read_text (compact_text (row_value row.now)) ≡ Some (row_value row.now)) }
+{
+    match row {
+        Row::Line(line) => line_text(alloc, line),
+        Row::Tail(tail) => tail_text(alloc, tail),
+    }
 }
 
 fn read_row(alloc: Global, value: &Value) -> Result<Option<Row>, AllocError>
     ensures { IfOk result (λ row. row ≡ row_in (view value.now)) }
 {
     match value.get("events") {
-        Some(_) => Ok(read_last_row(value)),
-        None => read_line_row(alloc, value),
+        Some(_) => match read_tail(value) {
+            Some(tail) => Ok(Some(Row::Tail(tail))),
+            None => Ok(None),
+        },
+        None => match read_line(alloc, value)? {
+            Some(line) => Ok(Some(Row::Line(line))),
+            None => Ok(None),
+        },
     }
 }
 
-fn read_last_row(value: &Value) -> Option<Row>
-    ensures { result ≡ option_map (λ t. rows.Tail t) (tail_in (view value.now)) }
-{
-    match read_tail(value) {
-        Some(tail) => Some(Row::Tail(tail)),
-        None => None,
-    }
-}
-
-fn read_line_row(alloc: Global, value: &Value) -> Result<Option<Row>, AllocError>
-    ensures { IfOk result (λ row. row ≡ option_map (λ l. rows.Line l) (line_in (view value.now))) }
-{
-    match read_line(alloc, value)? {
-        Some(line) => Ok(Some(Row::Line(line))),
-        None => Ok(None),
-    }
-}
-
-fn mistake_of_row(value: &Value) -> Mistake {
-    match value.get("events") {
-        Some(_) => mistake_of_tail(value),
-        None => mistake_of_line(value),
+/// The mistake that was found, or else that a member is there which such a line hasn't.
+fn found(looked: Result<(), Mistake>) -> Mistake {
+    match looked {
+        Ok(()) => Mistake::Surplus,
+        Err(mistake) => mistake,
     }
 }

@@ -25,7 +25,7 @@ pub struct Schedule {
 }
 
 /// Why a file of lines is refused: the first line that is, counted from 1.
-#[derive(Clone, Copy, Debug, PartialEq, Eq)]
+#[derive(Clone, Copy, Debug)]
 pub struct ScheduleFault {
     pub line: u64,
     pub fault: LineFault,

@@ -9,42 +9,18 @@ use serde_json::Value;
 /// What a member has to be.
 #[derive(Clone, Copy)]
 enum Wanted {
+    One,
     Count,
     Integer,
     Small,
     Truth,
     Kind,
     Text,
-}
-
-/// A member that has to be there.
-#[derive(Clone, Copy)]
-enum Argument {
-    Source,
-    Application,
-    Session,
-    Partition,
-    Claim,
+    /// An integer, or null.
     Offset,
-    Kind,
-    Topic,
-    Message,
+    /// An object, or null.
+    Claim,
 }
-
-/// The names of the events.
-static NAMES: [&str; 11] = [
-    "feed",
-    "start",
-    "produce",
-    "commit",
-    "end",
-    "resume",
-    "fetch",
-    "members",
-    "broker-restart",
-    "coordinator-restart",
-    "deliver",
-];
 
 static SWITCHES: [Switch; 7] = [
     Switch::KeepDuplicates,
@@ -58,145 +34,108 @@ static SWITCHES: [Switch; 7] = [
 
 // ---- whole lines
 
-pub(crate) fn mistake_of_head(value: &Value) -> Mistake {
+/// What is wrong with a first line, if it isn't a member that such a line hasn't.
+pub(crate) fn look_at_head(value: &Value) -> Result<(), Mistake> {
     if !value.is_object() {
-        return Mistake::NoObject;
+        return Err(Mistake::NoObject);
     }
-    match look_at_head(value) {
-        Ok(()) => Mistake::Surplus,
-        Err(mistake) => mistake,
-    }
-}
-
-fn look_at_head(value: &Value) -> Result<(), Mistake> {
-    let schema = value_at(value, "schema")?;
-    if schema.as_u64() != Some(1) {
-        return Err(Mistake::Another("schema", "1"));
-    }
-    look_at_counts(
+    look_at(
         value,
         &[
-            "applications",
-            "inputs",
-            "outputs",
-            "transaction_logs",
-            "segment_records",
-            "batch_records",
+            ("schema", Wanted::One),
+            ("applications", Wanted::Count),
+            ("inputs", Wanted::Count),
+            ("outputs", Wanted::Count),
+            ("transaction_logs", Wanted::Count),
+            ("segment_records", Wanted::Count),
+            ("batch_records", Wanted::Count),
+            ("chain", Wanted::Truth),
         ],
     )?;
-    look_at(value, "chain", Wanted::Truth)?;
-    look_at_switches(value_at(value, "switches")?, "switches")?;
-    look_at_counts(value, &["seed", "words"])
+    look_at_switches(value, "switches")?;
+    look_at(value, &[("seed", Wanted::Count), ("words", Wanted::Count)])
 }
 
-pub(crate) fn mistake_of_line(value: &Value) -> Mistake {
+/// The same of a line after the first.
+pub(crate) fn look_at_row(value: &Value) -> Result<(), Mistake> {
     if !value.is_object() {
-        return Mistake::NoObject;
+        return Err(Mistake::NoObject);
     }
-    match look_at_line(value) {
-        Ok(()) => Mistake::Surplus,
-        Err(mistake) => mistake,
+    if value.get("events").is_some() {
+        return look_at(
+            value,
+            &[
+                ("events", Wanted::Count),
+                ("transactions", Wanted::Count),
+                ("lost", Wanted::Count),
+                ("repeated", Wanted::Count),
+            ],
+        );
     }
-}
-
-fn look_at_line(value: &Value) -> Result<(), Mistake> {
-    look_at_counts(value, &["number"])?;
-    match value.get("set") {
-        Some(names) => look_at_switches(names, "set"),
-        None => look_at_asked(value),
+    look_at(value, &[("number", Wanted::Count)])?;
+    if value.get("set").is_some() {
+        return look_at_switches(value, "set");
     }
-}
-
-pub(crate) fn mistake_of_tail(value: &Value) -> Mistake {
-    match look_at_counts(value, &["events", "transactions", "lost", "repeated"]) {
-        Ok(()) => Mistake::Surplus,
-        Err(mistake) => mistake,
-    }
+    look_at_event(value, text_at(value, "event")?)?;
+    look_at_reply(value)
 }
 
 // ---- events
 
-fn look_at_asked(value: &Value) -> Result<(), Mistake> {
-    let word = text_at(value, "event")?;
-    if !NAMES.as_slice().contains(&word) {
+fn look_at_event(value: &Value, word: &str) -> Result<(), Mistake> {
+    let Some(arguments) = arguments_of(word) else {
         return Err(Mistake::UnknownEvent);
-    }
-    for argument in arguments_of(word) {
-        look_at_argument(value, *argument)?;
-    }
-    look_at_reply(value)
-}
-
-fn arguments_of(word: &str) -> &'static [Argument] {
-    match word {
-        "feed" => &[Argument::Source],
-        "start" => &[Argument::Application],
-        "produce" => &[Argument::Session, Argument::Partition, Argument::Claim],
-        "commit" => &[Argument::Session, Argument::Source, Argument::Offset],
-        "end" => &[Argument::Session, Argument::Kind],
-        "resume" => &[Argument::Session],
-        "fetch" => &[Argument::Session, Argument::Source],
-        "broker-restart" => &[Argument::Topic, Argument::Partition],
-        "deliver" => &[Argument::Message],
-        _ => &[],
+    };
+    look_at(value, arguments)?;
+    match value.get("claim") {
+        Some(claim) if word == "produce" && claim.is_object() => look_at(
+            claim,
+            &[
+                ("topic", Wanted::Text),
+                ("partition", Wanted::Small),
+                ("offset", Wanted::Integer),
+                ("output", Wanted::Small),
+                ("of", Wanted::Small),
+            ],
+        ),
+        _ => Ok(()),
     }
 }
 
-impl Argument {
-    fn name(self) -> &'static str {
-        match self {
-            Argument::Source => "source",
-            Argument::Application => "application",
-            Argument::Session => "session",
-            Argument::Partition => "partition",
-            Argument::Claim => "claim",
-            Argument::Offset => "offset",
-            Argument::Kind => "kind",
-            Argument::Topic => "topic",
-            Argument::Message => "message",
-        }
-    }
-}
-
-fn look_at_argument(value: &Value, argument: Argument) -> Result<(), Mistake> {
-    let name = argument.name();
-    match argument {
-        Argument::Claim => look_at_claim(value_at(value, name)?),
-        Argument::Offset if value_at(value, name)?.is_null() => Ok(()),
-        Argument::Offset => look_at(value, name, Wanted::Integer),
-        Argument::Kind => look_at(value, name, Wanted::Kind),
-        Argument::Topic => look_at(value, name, Wanted::Text),
-        Argument::Source
-        | Argument::Application
-        | Argument::Session
-        | Argument::Partition
-        | Argument::Message => look_at(value, name, Wanted::Count),
-    }
-}
-
-fn look_at_claim(claim: &Value) -> Result<(), Mistake> {
-    if claim.is_null() {
-        return Ok(());
-    }
-    if !claim.is_object() {
-        return Err(Mistake::Another("claim", "an object"));
-    }
-    look_at(claim, "topic", Wanted::Text)?;
-    look_at(claim, "partition", Wanted::Small)?;
-    look_at(claim, "offset", Wanted::Integer)?;
-    look_at(claim, "output", Wanted::Small)?;
-    look_at(claim, "of", Wanted::Small)
+/// The members that an event of this name has to have, if there is one.
+fn arguments_of(word: &str) -> Option<&'static [(&'static str, Wanted)]> {
+    let arguments: &'static [(&'static str, Wanted)] = match word {
+        "feed" => &[("source", Wanted::Count)],
+        "start" => &[("application", Wanted::Count)],
+        "produce" => &[
+            ("session", Wanted::Count),
+            ("partition", Wanted::Count),
+            ("claim", Wanted::Claim),
+        ],
+        "commit" => &[
+            ("session", Wanted::Count),
+            ("source", Wanted::Count),
+            ("offset", Wanted::Offset),
+        ],
+        "end" => &[("session", Wanted::Count), ("kind", Wanted::Kind)],
+        "resume" => &[("session", Wanted::Count)],
+        "fetch" => &[("session", Wanted::Count), ("source", Wanted::Count)],
+        "broker-restart" => &[("topic", Wanted::Text), ("partition", Wanted::Count)],
+        "deliver" => &[("message", Wanted::Count)],
+        "members" | "coordinator-restart" => &[],
+        _ => return None,
+    };
+    Some(arguments)
 }
 
 fn look_at_reply(value: &Value) -> Result<(), Mistake> {
-    let Some(reply) = value.get("reply") else {
+    if value.get("reply").is_none() {
         return Ok(());
-    };
-    match reply.as_str() {
-        None => Err(Mistake::Another("reply", "a text")),
-        Some("done") => look_at_counts(value, &["value"]),
-        Some(word) if plain_reply(word).is_none() => Err(Mistake::UnknownReply),
-        Some(_) => Ok(()),
+    }
+    match text_at(value, "reply")? {
+        "done" => look_at(value, &[("value", Wanted::Count)]),
+        word if plain_reply(word).is_none() => Err(Mistake::UnknownReply),
+        _ => Ok(()),
     }
 }
 
@@ -216,50 +155,47 @@ fn text_at<'a>(value: &'a Value, name: &'static str) -> Result<&'a str, Mistake>
     }
 }
 
-fn look_at_counts(value: &Value, names: &[&'static str]) -> Result<(), Mistake> {
-    for name in names {
-        look_at(value, *name, Wanted::Count)?;
+/// Looks at members, one after the other.
+fn look_at(value: &Value, members: &[(&'static str, Wanted)]) -> Result<(), Mistake> {
+    for (name, wanted) in members {
+        let (fits, words) = wanted.look(value_at(value, *name)?);
+        if !fits {
+            return Err(Mistake::Another(*name, words));
+        }
     }
     Ok(())
 }
 
-fn look_at(value: &Value, name: &'static str, wanted: Wanted) -> Result<(), Mistake> {
-    let found = value_at(value, name)?;
-    if wanted.fits(found) {
-        Ok(())
-    } else {
-        Err(Mistake::Another(name, wanted.words()))
-    }
-}
-
 impl Wanted {
-    fn fits(self, value: &Value) -> bool {
+    /// Whether a value is that, and what that is in words.
+    fn look(self, value: &Value) -> (bool, &'static str) {
         match self {
-            Wanted::Count => value.is_u64(),
-            Wanted::Integer => value.is_i64(),
-            Wanted::Small => value.as_i64().and_then(as_small).is_some(),
-            Wanted::Truth => value.as_bool().is_some(),
-            Wanted::Kind => value.as_str().and_then(kind_called).is_some(),
-            Wanted::Text => value.is_string(),
-        }
-    }
-
-    fn words(self) -> &'static str {
-        match self {
-            Wanted::Count => "a whole number from 0 to 2^64 - 1",
-            Wanted::Integer => "a whole number of 64 bits",
-            Wanted::Small => "a whole number of 32 bits",
-            Wanted::Truth => "true or false",
-            Wanted::Kind => "commit or abort",
-            Wanted::Text => "a text",
+            Wanted::One => (value.as_u64() == Some(1), "1"),
+            Wanted::Count => (value.is_u64(), "a whole number from 0 to 2^64 - 1"),
+            Wanted::Integer => (value.is_i64(), "a whole number of 64 bits"),
+            Wanted::Small => (
+                matches!(value.as_i64(), Some(number) if as_small(number).is_some()),
+                "a whole number of 32 bits",
+            ),
+            Wanted::Truth => (value.is_boolean(), "true or false"),
+            Wanted::Kind => (
+                matches!(value.as_str(), Some(word) if kind_called(word).is_some()),
+                "commit or abort",
+            ),
+            Wanted::Text => (value.is_string(), "a text"),
+            Wanted::Offset => (
+                value.is_null() || value.is_i64(),
+                "a whole number of 64 bits",
+            ),
+            Wanted::Claim => (value.is_null() || value.is_object(), "an object"),
         }
     }
 }
 
 // ---- switches
 
-fn look_at_switches(names: &Value, name: &'static str) -> Result<(), Mistake> {
-    let Some(names) = names.as_array() else {
+fn look_at_switches(value: &Value, name: &'static str) -> Result<(), Mistake> {
+    let Some(names) = value_at(value, name)?.as_array() else {
         return Err(Mistake::Another(name, "an array of switches"));
     };
     let mut least = 0usize;

@@ -3,7 +3,7 @@
 ghost use Rattle.std.specs.Prelude.{◌≡◌, ◌++◌, IfOk, OnOk, map};
 ghost use Rattle.serde_json.specs.View.{view, items_view};
 ghost use Rattle.eos_machine.specs.Switching.{switch_name};
-ghost use Rattle.eos_history_lines.specs.Lines.{named_if, switches_value};
+ghost use Rattle.eos_history_lines.specs.Lines.{named_if, switch_names, switches_value};
 ghost use Rattle.eos_history_lines.specs.steps.Reading.{is_text, is_named, switches_in};
 
 use crate::object::value_of_text;
@@ -17,29 +17,30 @@ pub(crate) fn value_of_switches(alloc: Global, switches: Switches) -> Result<Val
     ensures { IfOk result (λ value. view value ≡ switches_value switches) }
 {
     let mut names = Vec::new(alloc);
+    push_names(alloc, &mut names, switches)?;
+    Ok(Value::Array(names))
+}
+
+fn push_names(alloc: Global, names: &mut Vec<Value>, switches: Switches) -> Result<(), AllocError>
+    ensures { OnOk result (map view names.new.items ≡ map view names.old.items ++ switch_names switches) }
+{
     push_if(
         alloc,
-        &mut names,
+        names,
         switches.keep_duplicates,
         Switch::KeepDuplicates,
     )?;
-    push_if(alloc, &mut names, switches.no_fence, Switch::NoFence)?;
-    push_if(alloc, &mut names, switches.no_bump, Switch::NoBump)?;
-    push_if(alloc, &mut names, switches.lose_marker, Switch::LoseMarker)?;
-    push_if(alloc, &mut names, switches.swap_marker, Switch::SwapMarker)?;
+    push_if(alloc, names, switches.no_fence, Switch::NoFence)?;
+    push_if(alloc, names, switches.no_bump, Switch::NoBump)?;
+    push_if(alloc, names, switches.lose_marker, Switch::LoseMarker)?;
+    push_if(alloc, names, switches.swap_marker, Switch::SwapMarker)?;
+    push_if(alloc, names, switches.hide_listing, Switch::HideListing)?;
     push_if(
         alloc,
-        &mut names,
-        switches.hide_listing,
-        Switch::HideListing,
-    )?;
-    push_if(
-        alloc,
-        &mut names,
+        names,
         switches.ignore_generation,
         Switch::IgnoreGeneration,
-    )?;
-    Ok(Value::Array(names))
+    )
 }
 
 fn push_if(

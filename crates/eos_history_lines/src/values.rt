@@ -1,12 +1,11 @@
-//! The JSON values of lines.
+//! The members of lines.
 
-ghost use Rattle.std.specs.Prelude.{◌≡◌, IfOk, OnOk};
-ghost use Rattle.serde_json.specs.View.{view};
-ghost use Rattle.eos_history_lines.specs.steps.Held.{held};
-ghost use Rattle.eos_history_lines.specs.Lines.{with_sizes, with_asked, head_value, with_value, with_reply, with_deed, line_value, with_tail, tail_value, row_value};
+ghost use Rattle.std.specs.Prelude.{◌≡◌, OnOk};
+ghost use Rattle.eos_history_lines.specs.steps.Held.{held, with_head, with_line};
+ghost use Rattle.eos_history_lines.specs.Lines.{with_sizes, with_reply, with_tail};
 
 use crate::events::put_event;
-use crate::line::{Deed, Head, Line, Row, Tail};
+use crate::line::{Deed, Head, Line, Tail};
 use crate::object::Object;
 use crate::switch_names::value_of_switches;
 use crate::words::reply_word;
@@ -14,17 +13,16 @@ use eos_machine::{Config, Reply};
 use serde_json::Value;
 use std::alloc::{AllocError, Global};
 
-// ---- the first
-
-#[tactic(auto, unfolding(crate::specs::Lines::head_value))]
-pub(crate) fn value_of_head(alloc: Global, head: &Head) -> Result<Value, AllocError>
-    ensures { IfOk result (λ value. view value ≡ head_value head.now) }
+/// Those of the first.
+#[tactic(auto, unfolding(crate::specs::Lines::with_asked))]
+pub(crate) fn put_head(alloc: Global, out: &mut Object, head: &Head) -> Result<(), AllocError>
+    ensures { OnOk result (held out.new ≡ with_head head.now (held out.old)) }
 {
-    let mut made = Object::new(alloc);
-    made.put_count("schema", 1)?;
-    put_sizes(&mut made, head.config)?;
-    put_asked(alloc, &mut made, head)?;
-    Ok(made.into_value())
+    out.put_count("schema", 1)?;
+    put_sizes(out, head.config)?;
+    out.put("switches", value_of_switches(alloc, head.switches)?)?;
+    out.put_count("seed", head.seed)?;
+    out.put_count("words", head.words)
 }
 
 #[tactic(auto, unfolding(crate::specs::Lines::with_sizes))]
@@ -40,70 +38,29 @@ fn put_sizes(out: &mut Object, config: Config) -> Result<(), AllocError>
     out.put("chain", Value::Bool(config.chain))
 }
 
-#[tactic(auto, unfolding(crate::specs::Lines::with_asked))]
-fn put_asked(alloc: Global, out: &mut Object, head: &Head) -> Result<(), AllocError>
-    ensures { OnOk result (held out.new ≡ with_asked head.now (held out.old)) }
-{
-    let switches = value_of_switches(alloc, head.switches)?;
-    out.put("switches", switches)?;
-    out.put_count("seed", head.seed)?;
-    out.put_count("words", head.words)
-}
-
-// ---- those after it
-
-pub(crate) fn value_of_row(alloc: Global, row: &Row) -> Result<Value, AllocError>
-    ensures { IfOk result (λ value. view value ≡ row_value row.now) }
-{
-    match row {
-        Row::Line(line) => value_of_line(alloc, line),
-        Row::Tail(tail) => value_of_tail(alloc, *tail),
-    }
-}
-
-#[tactic(auto, unfolding(crate::specs::Lines::line_value))]
-pub(crate) fn value_of_line(alloc: Global, line: &Line) -> Result<Value, AllocError>
-    ensures { IfOk result (λ value. view value ≡ line_value line.now) }
-{
-    let mut made = Object::new(alloc);
-    made.put_count("number", line.number)?;
-    put_deed(alloc, &mut made, &line.deed)?;
-    Ok(made.into_value())
-}
-
+/// Those of what was done.
 #[tactic(auto, unfolding(crate::specs::Lines::with_deed))]
-fn put_deed(alloc: Global, out: &mut Object, deed: &Deed) -> Result<(), AllocError>
-    ensures { OnOk result (held out.new ≡ with_deed deed.now (held out.old)) }
+pub(crate) fn put_line(alloc: Global, out: &mut Object, line: &Line) -> Result<(), AllocError>
+    ensures { OnOk result (held out.new ≡ with_line line.now (held out.old)) }
 {
-    match deed {
+    out.put_count("number", line.number)?;
+    match &line.deed {
         Deed::Asked { event, reply } => {
             put_reply(out, *reply)?;
             put_event(alloc, out, event)
         }
-        Deed::Set(switches) => {
-            let switches = value_of_switches(alloc, *switches)?;
-            out.put("set", switches)
-        }
+        Deed::Set(switches) => out.put("set", value_of_switches(alloc, *switches)?),
     }
 }
 
-#[tactic(auto, unfolding(crate::specs::Lines::with_reply))]
+#[tactic(auto, unfolding(crate::specs::Lines::with_reply, crate::specs::Lines::with_value))]
 fn put_reply(out: &mut Object, reply: Option<Reply>) -> Result<(), AllocError>
     ensures { OnOk result (held out.new ≡ with_reply reply (held out.old)) }
 {
-    match reply {
-        None => Ok(()),
-        Some(reply) => {
-            out.put_str("reply", reply_word(reply))?;
-            put_value(out, reply)
-        }
-    }
-}
-
-#[tactic(auto, unfolding(crate::specs::Lines::with_value))]
-fn put_value(out: &mut Object, reply: Reply) -> Result<(), AllocError>
-    ensures { OnOk result (held out.new ≡ with_value reply (held out.old)) }
-{
+    let Some(reply) = reply else {
+        return Ok(());
+    };
+    out.put_str("reply", reply_word(reply))?;
     match reply {
         Reply::Done(number) => out.put_count("value", number),
         Reply::Fenced
@@ -119,18 +76,10 @@ fn put_value(out: &mut Object, reply: Reply) -> Result<(), AllocError>
     }
 }
 
-#[tactic(auto, unfolding(crate::specs::Lines::tail_value))]
-pub(crate) fn value_of_tail(alloc: Global, tail: Tail) -> Result<Value, AllocError>
-    ensures { IfOk result (λ value. view value ≡ tail_value tail) }
-{
-    let mut made = Object::new(alloc);
-    put_tail(&mut made, tail)?;
-    Ok(made.into_value())
-}
-
+/// Those of the last.
 #[tactic(auto, unfolding(crate::specs::Lines::with_tail))]
-fn put_tail(out: &mut Object, tail: Tail) -> Result<(), AllocError>
-    ensures { OnOk result (held out.new ≡ with_tail tail (held out.old)) }
+pub(crate) fn put_tail(out: &mut Object, tail: &Tail) -> Result<(), AllocError>
+    ensures { OnOk result (held out.new ≡ with_tail tail.now (held out.old)) }
 {
     out.put_count("events", tail.events)?;
     out.put_count("transactions", tail.transactions)?;

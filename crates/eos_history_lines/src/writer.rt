@@ -1,15 +1,15 @@
 //! The texts of lines.
 
 ghost use Rattle.std.specs.Prelude.{◌≡◌, ◌≤◌, ◌++◌, false, Some, IfOk, codes, string_bytes};
-ghost use Rattle.serde_json.specs.Data.{depth};
+ghost use Rattle.serde_json.specs.Data.{depth, object};
 ghost use Rattle.serde_json.specs.Read.{read as read_text, max_depth};
-ghost use Rattle.serde_json.specs.View.{view};
 ghost use Rattle.serde_json.specs.Written.{has_float, compact_text};
 ghost use Rattle.eos_history_lines.specs.Lines.{head_value, line_value, tail_value};
+ghost use Rattle.eos_history_lines.specs.steps.Held.{held};
 
 use crate::line::{Head, Line, Tail};
-use crate::values::{value_of_head, value_of_line, value_of_tail};
-use serde_json::Value;
+use crate::object::Object;
+use crate::values::{put_head, put_line, put_tail};
 use std::alloc::{AllocError, Global};
 
 /// The first line of a history, with its line feed. It reads back as its value.
@@ -20,8 +20,9 @@ pub fn head_text(alloc: Global, head: &Head) -> Result<String, AllocError>
     ensures says { IfOk result (λ text. string_bytes text ≡ compact_text (head_value head.now) ++ codes "\n") }
     ensures reads { IfOk result (λ text. read_text (compact_text (head_value head.now)) ≡ Some (head_value head.now)) }
 {
-    let value = value_of_head(alloc, head)?;
-    text_of(alloc, &value)
+    let mut made = Object::new(alloc);
+    put_head(alloc, &mut made, head)?;
+    text_of(alloc, made)
 }
 
 /// A line of what was done, with its line feed. It reads back as its value.
@@ -32,8 +33,9 @@ pub fn line_text(alloc: Global, line: &Line) -> Result<String, AllocError>
     ensures says { IfOk result (λ text. string_bytes text ≡ compact_text (line_value line.now) ++ codes "\n") }
     ensures reads { IfOk result (λ text. read_text (compact_text (line_value line.now)) ≡ Some (line_value line.now)) }
 {
-    let value = value_of_line(alloc, line)?;
-    text_of(alloc, &value)
+    let mut made = Object::new(alloc);
+    put_line(alloc, &mut made, line)?;
+    text_of(alloc, made)
 }
 
 /// The last line of a history, with its line feed. It reads back as its value.
@@ -44,18 +46,19 @@ pub fn tail_text(alloc: Global, tail: &Tail) -> Result<String, AllocError>
     ensures says { IfOk result (λ text. string_bytes text ≡ compact_text (tail_value tail.now) ++ codes "\n") }
     ensures reads { IfOk result (λ text. read_text (compact_text (tail_value tail.now)) ≡ Some (tail_value tail.now)) }
 {
-    let value = value_of_tail(alloc, *tail)?;
-    text_of(alloc, &value)
+    let mut made = Object::new(alloc);
+    put_tail(&mut made, tail)?;
+    text_of(alloc, made)
 }
 
-/// A value on one line.
-fn text_of(alloc: Global, value: &Value) -> Result<String, AllocError>
-    requires plain { has_float (view value.now) ≡ false }
-    requires shallow { depth (view value.now) ≤ max_depth }
-    ensures says { IfOk result (λ text. string_bytes text ≡ compact_text (view value.now) ++ codes "\n") }
-    ensures reads { IfOk result (λ text. read_text (compact_text (view value.now)) ≡ Some (view value.now)) }
+/// An object on one line.
+fn text_of(alloc: Global, made: Object) -> Result<String, AllocError>
+    requires plain { has_float (object (held made)) ≡ false }
+    requires shallow { depth (object (held made)) ≤ max_depth }
+    ensures says { IfOk result (λ text. string_bytes text ≡ compact_text (object (held made)) ++ codes "\n") }
+    ensures reads { IfOk result (λ text. read_text (compact_text (object (held made))) ≡ Some (object (held made))) }
 {
-    let mut text = value.to_string(alloc)?;
+    let mut text = made.into_value().to_string(alloc)?;
     text.push_str("\n")?;
     Ok(text)
 }

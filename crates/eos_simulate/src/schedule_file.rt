@@ -56,7 +56,7 @@ fn end_unread(rt: &HostRuntime, path: &str, fault: ReadFault) -> u8 {
 
 /// Says which line of a file is refused, and why.
 fn end_refused(rt: &HostRuntime, path: &str, fault: ScheduleFault) -> u8 {
-    if fault.fault == LineFault::OutOfMemory {
+    if matches!(fault.fault, LineFault::OutOfMemory) {
         return end(rt, Ending::OutOfMemory);
     }
     let _ = eprint!(rt; "eoscheck: {path}: {fault}\n");

@@ -36,31 +36,16 @@ as_small z = if int_le (negsuc 2147483647) z && int_le z (pos 2147483647) then S
 abbrev pub small_in : List ℕ → Data → Option ℤ
 small_in name d = option_and_then as_small (integer_in name d)
 
-abbrev pub truth_in : List ℕ → Data → Option Bool
-truth_in name d = option_and_then as_bool (get name d)
-
 abbrev pub text_in : List ℕ → Data → Option (List ℕ)
 text_in name d = option_and_then as_str (get name d)
 
 abbrev pub kind_called : List ℕ → Option Kind
 kind_called word = if bytes_eq word (codes "commit") then Some kinds.Commit else (if bytes_eq word (codes "abort") then Some kinds.Abort else None)
 
-abbrev pub kind_in : Data → Option Kind
-kind_in d = option_and_then kind_called (text_in (codes "kind") d)
-
 -- ---- events
-
-abbrev pub feed_in : Data → Option Event
-feed_in d = option_map (λ source. Feed source) (count_in (codes "source") d)
-
-abbrev pub start_in : Data → Option Event
-start_in d = option_map (λ application. Start application) (count_in (codes "application") d)
 
 abbrev pub restart_in : Data → Option Event
 restart_in d = option_and_then (λ topic. option_map (λ partition. BrokerRestart topic partition) (count_in (codes "partition") d)) (text_in (codes "topic") d)
-
-abbrev pub deliver_in : Data → Option Event
-deliver_in d = option_map (λ message. Deliver message) (count_in (codes "message") d)
 
 abbrev pub claim_in : Data → Option Claim
 claim_in d =
@@ -81,37 +66,53 @@ offset_or_none d = if is_some (as_null d) then Some None else option_map (λ z. 
 abbrev pub offset_within : Data → Option (Option ℤ)
 offset_within d = option_and_then offset_or_none (get (codes "offset") d)
 
-abbrev pub produce_in : ℕ → Data → Option Event
-produce_in session d = option_and_then (λ partition. option_map (λ claim. Produce session partition claim) (claim_within d)) (count_in (codes "partition") d)
+abbrev pub produce_in : Data → Option Event
+produce_in d =
+    option_and_then (λ session. option_and_then (λ partition. option_map (λ claim. Produce session partition claim)
+    (claim_within d)) (count_in (codes "partition") d)) (count_in (codes "session") d)
+
+abbrev pub feed_in : Data → Option Event
+feed_in d = option_map (λ source. Feed source) (count_in (codes "source") d)
+
+abbrev pub start_in : Data → Option Event
+start_in d = option_map (λ application. Start application) (count_in (codes "application") d)
+
+abbrev pub deliver_in : Data → Option Event
+deliver_in d = option_map (λ message. Deliver message) (count_in (codes "message") d)
 
 abbrev pub commit_in : ℕ → Data → Option Event
 commit_in session d = option_and_then (λ source. option_map (λ offset. Commit session source offset) (offset_within d)) (count_in (codes "source") d)
 
 abbrev pub end_in : ℕ → Data → Option Event
-end_in session d = option_map (λ kind. End session kind) (kind_in d)
+end_in session d = option_map (λ kind. End session kind) (option_and_then kind_called (text_in (codes "kind") d))
 
 abbrev pub fetch_in : ℕ → Data → Option Event
 fetch_in session d = option_map (λ source. Fetch session source) (count_in (codes "source") d)
 
 abbrev pub event_of : List ℕ → ℕ → Data → Option Event
 event_of word session d =
-    if bytes_eq word (codes "produce") then produce_in session d
-    else (if bytes_eq word (codes "commit") then commit_in session d
+    if bytes_eq word (codes "commit") then commit_in session d
     else (if bytes_eq word (codes "end") then end_in session d
     else (if bytes_eq word (codes "resume") then Some (Resume session)
-    else (if bytes_eq word (codes "fetch") then fetch_in session d else None))))
+    else (if bytes_eq word (codes "fetch") then fetch_in session d else None)))
 
 abbrev pub event_of_session : List ℕ → Data → Option Event
 event_of_session word d = option_and_then (λ session. event_of word session d) (count_in (codes "session") d)
 
-abbrev pub event_called : List ℕ → Data → Option Event
-event_called word d =
+-- one that takes no memory
+abbrev pub plain_event : List ℕ → Data → Option Event
+plain_event word d =
     if bytes_eq word (codes "feed") then feed_in d
     else (if bytes_eq word (codes "start") then start_in d
+    else (if bytes_eq word (codes "deliver") then deliver_in d
     else (if bytes_eq word (codes "members") then Some Members
-    else (if bytes_eq word (codes "broker-restart") then restart_in d
     else (if bytes_eq word (codes "coordinator-restart") then Some CoordinatorRestart
-    else (if bytes_eq word (codes "deliver") then deliver_in d else event_of_session word d)))))
+    else event_of_session word d))))
+
+abbrev pub event_called : List ℕ → Data → Option Event
+event_called word d =
+    if bytes_eq word (codes "produce") then produce_in d
+    else (if bytes_eq word (codes "broker-restart") then restart_in d else plain_event word d)
 
 abbrev pub event_in : Data → Option Event
 event_in d = option_and_then (λ word. event_called word d) (text_in (codes "event") d)
@@ -182,7 +183,7 @@ abbrev pub sizes_in : Data → Option Config
 sizes_in d =
     option_and_then (λ applications. option_and_then (λ inputs. option_and_then (λ outputs. option_and_then (λ logs. option_and_then (λ records. option_and_then (λ most.
     option_map (λ chain. record { applications = applications; inputs = inputs; outputs = outputs; transaction_logs = logs; segment_records = records; batch_records = most; chain = chain })
-    (truth_in (codes "chain") d)) (count_in (codes "batch_records") d)) (count_in (codes "segment_records") d)) (count_in (codes "transaction_logs") d)) (count_in (codes "outputs") d)) (count_in (codes "inputs") d)) (count_in (codes "applications") d)
+    (option_and_then as_bool (get (codes "chain") d))) (count_in (codes "batch_records") d)) (count_in (codes "segment_records") d)) (count_in (codes "transaction_logs") d)) (count_in (codes "outputs") d)) (count_in (codes "inputs") d)) (count_in (codes "applications") d)
 
 abbrev pub head_in : Data → Option Head
 head_in d =
@@ -191,7 +192,7 @@ head_in d =
     (count_in (codes "words") d)) (count_in (codes "seed") d)) (switches_at (codes "switches") d)) (sizes_in d)
 
 abbrev pub asked_in : Data → Option Deed
-asked_in d = option_and_then (λ event. option_map (λ reply. Asked event reply) (reply_in d)) (event_in d)
+asked_in d = option_and_then (λ reply. option_map (λ event. Asked event reply) (event_in d)) (reply_in d)
 
 abbrev pub deed_from : Option Data → Data → Option Deed
 deed_from None d = asked_in d

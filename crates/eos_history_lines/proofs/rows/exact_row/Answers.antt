@@ -1,19 +1,10 @@
--- What was read is written again, and has to be the value that was read.
-use Rattle.std.proofs.Common.{◌≡◌, ◌≤◌, ◌∙◌, false, None, Some, sym, ap, subst, arith}
-use Rattle.serde_json.specs.Data.{depth}
-use Rattle.serde_json.specs.Read.{max_depth}
-use Rattle.serde_json.specs.Written.{has_float}
-use Rattle.eos_history_lines.proofs.PlainLines.{row_flat, allowed}
+-- What was read is written again, and has to be the text of the value that was read.
+use Rattle.std.proofs.Common.{◌≡◌, ◌∙◌, None, Some, sym, ap}
+use Rattle.eos_history_lines.proofs.PlainLines.{row_flat}
 use Rattle.eos_history_lines.proofs.ReadBack.{row_back}
 use Rattle.eos_history_lines.specs.Lines.{row_value}
 use Rattle.eos_history_lines.specs.steps.Reading.{row_in}
 use Rattle.eos_history_lines.proofs.rows.exact_row.Goals as goal
-
-pub is_same-requires-clause-shallow_too : goal.is_same-requires-clause-shallow_too
-is_same-requires-clause-shallow_too c = subst (λ d. depth d ≤ max_depth) (sym c.in_ok-written.ensures) (allowed 3 _ (omega arith) (row_flat c.in-Some.row))
-
-pub is_same-requires-clause-plain : goal.is_same-requires-clause-plain
-is_same-requires-clause-plain c = subst (λ d. has_float d ≡ false) (sym c.in_ok-written.ensures) (row_flat c.in-Some.row).plain
 
 pub returns-in_default-clause-none : goal.returns-in_default-clause-none
 returns-in_default-clause-none c = λ _ x fits is.
@@ -21,7 +12,7 @@ returns-in_default-clause-none c = λ _ x fits is.
     absurd (cc bad)
 
 pub returns-then-same-clause-some : goal.returns-then-same-clause-some
-returns-then-same-clause-some c = c.in_ok-same.ensures.same c.if-same.true ∙ c.in_ok-written.ensures
+returns-then-same-clause-some c = c.in_ok-same.ensures.same c.if-same.true _ c.in_ok-written.ensures.says c.in_ok-written.ensures.reads
 
 pub returns-then-same-clause-none : goal.returns-then-same-clause-none
 returns-then-same-clause-none c = λ bad. absurd (cc bad)
@@ -30,4 +21,4 @@ pub returns-else-same-clause-none : goal.returns-else-same-clause-none
 returns-else-same-clause-none c = λ _ x fits is.
     let both : Some c.in-Some.row ≡ Some x = sym c.in-Some.is ∙ c.in_ok-found.ensures ∙ ap row_in is ∙ row_back x fits in
     let one : c.in-Some.row ≡ x = cc both in
-    c.in_ok-same.ensures.differ c.if-same.false (is ∙ ap row_value (sym one) ∙ sym c.in_ok-written.ensures)
+    c.in_ok-same.ensures.differ c.if-same.false _ c.in_ok-written.ensures.says (row_flat c.in-Some.row).plain (is ∙ ap row_value (sym one))

@@ -1,18 +1,25 @@
-use Rattle.std.proofs.Common.{◌≡◌, ◌≤◌, ◌++◌, false, Some, IfOk, codes, string_bytes, sym, subst, arith}
-use Rattle.serde_json.specs.Data.{depth}
+use Rattle.std.proofs.Common.{◌≡◌, ◌≤◌, ◌++◌, ◌∙◌, false, Some, IfOk, codes, string_bytes, sym, ap, subst, arith}
+use Rattle.serde_json.specs.Data.{Data, Members, no_members, object, depth}
 use Rattle.serde_json.specs.Read.{read, max_depth}
 use Rattle.serde_json.specs.Written.{has_float, compact_text}
+use Rattle.eos_history_lines.specs.declared.line.Line.{Line}
+use Rattle.eos_history_lines.specs.Lines.{line_value}
+use Rattle.eos_history_lines.specs.steps.Held.{with_line}
 use Rattle.eos_history_lines.proofs.PlainLines.{line_flat, allowed}
 use Rattle.eos_history_lines.proofs.writer.line_text.Goals as goal
 
+made_is : (v : Line) (made before : Members) → made ≡ with_line v before → before ≡ no_members → object made ≡ line_value v
+unfolding line_value
+made_is v made before is none = ap object (is ∙ ap (with_line v) none)
+
 pub text_of-requires-clause-plain : goal.text_of-requires-clause-plain
-text_of-requires-clause-plain c = subst (λ d. has_float d ≡ false) (sym c.in_ok-value.ensures) (line_flat c.args.line.now).plain
+text_of-requires-clause-plain c = subst (λ d. has_float d ≡ false) (sym (made_is _ _ _ c.in_ok-put_line.ensures c.new-made.ensures)) (line_flat c.args.line.now).plain
 
 pub text_of-requires-clause-shallow : goal.text_of-requires-clause-shallow
-text_of-requires-clause-shallow c = subst (λ d. depth d ≤ max_depth) (sym c.in_ok-value.ensures) (allowed 3 _ (omega arith) (line_flat c.args.line.now))
+text_of-requires-clause-shallow c = subst (λ d. depth d ≤ max_depth) (sym (made_is _ _ _ c.in_ok-put_line.ensures c.new-made.ensures)) (allowed 3 _ (omega arith) (line_flat c.args.line.now))
 
 pub returns-clause-says : goal.returns-clause-says
-returns-clause-says c = subst (λ d. IfOk c.text_of.result (λ text. string_bytes text ≡ compact_text d ++ codes "\n")) c.in_ok-value.ensures c.text_of.ensures.says
+returns-clause-says c = subst (λ d. IfOk c.text_of.result (λ text. string_bytes text ≡ compact_text d ++ codes "\n")) (made_is _ _ _ c.in_ok-put_line.ensures c.new-made.ensures) c.text_of.ensures.says
 
 pub returns-clause-reads : goal.returns-clause-reads
-returns-clause-reads c = subst (λ d. IfOk c.text_of.result (λ text. read (compact_text d) ≡ Some d)) c.in_ok-value.ensures c.text_of.ensures.reads
+returns-clause-reads c = subst (λ d. IfOk c.text_of.result (λ text. read (compact_text d) ≡ Some d)) (made_is _ _ _ c.in_ok-put_line.ensures c.new-made.ensures) c.text_of.ensures.reads

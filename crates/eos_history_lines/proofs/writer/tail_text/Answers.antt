@@ -1,18 +1,24 @@
-use Rattle.std.proofs.Common.{◌≡◌, ◌≤◌, ◌++◌, false, Some, IfOk, codes, string_bytes, sym, subst, arith}
-use Rattle.serde_json.specs.Data.{depth}
+use Rattle.std.proofs.Common.{◌≡◌, ◌≤◌, ◌++◌, ◌∙◌, false, Some, IfOk, codes, string_bytes, sym, ap, subst, arith}
+use Rattle.serde_json.specs.Data.{Data, Members, no_members, object, depth}
 use Rattle.serde_json.specs.Read.{read, max_depth}
 use Rattle.serde_json.specs.Written.{has_float, compact_text}
+use Rattle.eos_history_lines.specs.declared.line.Tail.{Tail}
+use Rattle.eos_history_lines.specs.Lines.{tail_value, with_tail}
 use Rattle.eos_history_lines.proofs.PlainLines.{tail_flat, allowed}
 use Rattle.eos_history_lines.proofs.writer.tail_text.Goals as goal
 
+made_is : (v : Tail) (made before : Members) → made ≡ with_tail v before → before ≡ no_members → object made ≡ tail_value v
+unfolding tail_value
+made_is v made before is none = ap object (is ∙ ap (with_tail v) none)
+
 pub text_of-requires-clause-plain : goal.text_of-requires-clause-plain
-text_of-requires-clause-plain c = subst (λ d. has_float d ≡ false) (sym c.in_ok-value.ensures) (tail_flat c.args.tail.now).plain
+text_of-requires-clause-plain c = subst (λ d. has_float d ≡ false) (sym (made_is _ _ _ c.in_ok-put_tail.ensures c.new-made.ensures)) (tail_flat c.args.tail.now).plain
 
 pub text_of-requires-clause-shallow : goal.text_of-requires-clause-shallow
-text_of-requires-clause-shallow c = subst (λ d. depth d ≤ max_depth) (sym c.in_ok-value.ensures) (allowed 1 _ (omega arith) (tail_flat c.args.tail.now))
+text_of-requires-clause-shallow c = subst (λ d. depth d ≤ max_depth) (sym (made_is _ _ _ c.in_ok-put_tail.ensures c.new-made.ensures)) (allowed 1 _ (omega arith) (tail_flat c.args.tail.now))
 
 pub returns-clause-says : goal.returns-clause-says
-returns-clause-says c = subst (λ d. IfOk c.text_of.result (λ text. string_bytes text ≡ compact_text d ++ codes "\n")) c.in_ok-value.ensures c.text_of.ensures.says
+returns-clause-says c = subst (λ d. IfOk c.text_of.result (λ text. string_bytes text ≡ compact_text d ++ codes "\n")) (made_is _ _ _ c.in_ok-put_tail.ensures c.new-made.ensures) c.text_of.ensures.says
 
 pub returns-clause-reads : goal.returns-clause-reads
-returns-clause-reads c = subst (λ d. IfOk c.text_of.result (λ text. read (compact_text d) ≡ Some d)) c.in_ok-value.ensures c.text_of.ensures.reads
+returns-clause-reads c = subst (λ d. IfOk c.text_of.result (λ text. read (compact_text d) ≡ Some d)) (made_is _ _ _ c.in_ok-put_tail.ensures c.new-made.ensures) c.text_of.ensures.reads
