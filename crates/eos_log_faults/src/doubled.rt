@@ -1,8 +1,8 @@
 //! The unskipped records of the transaction log against those before: an id in two partitions, two ids of one producer id.
 
-ghost use Rattle.std.specs.Prelude.{◌≡◌, ℕ, List, ◌∷◌, [], ◌++◌, IfOk, OnOk, Some, cond};
+ghost use Rattle.std.specs.Prelude.{◌≡◌, List, ◌∷◌, [], ◌++◌, IfOk, OnOk};
 ghost use Rattle.std.specs.Option.{option_copied};
-ghost use Rattle.std.specs.Ordering.{nat_cmp, is_eq};
+ghost use Rattle.std.specs.Ordering.{nat_cmp};
 ghost use Rattle.std.specs.Cmp.Lexicographic.{slice_cmp};
 ghost use Rattle.std.specs.BTreeMap.{get};
 ghost use Rattle.eos_table.specs.TransactionLog.{same_id};
@@ -54,14 +54,6 @@ fn lesser_home(home: Option<i32>, partition: i32) -> i32
     }
 }
 
-fn put_home(homes: &mut Homes, id: &Bytes, home: i32) -> Result<(), AllocError>
-    ensures { OnOk result ((other : List ℕ) → get (slice_cmp nat_cmp) homes.new other ≡ cond (same_id id.now other) (Some home) (get (slice_cmp nat_cmp) homes.old other)) }
-{
-    let key = id.clone()?;
-    homes.insert(key, home)?;
-    Ok(())
-}
-
 fn push_split(faults: &mut Vec<LogFault>, mark: &Mark, home: Option<i32>) -> Result<(), AllocError>
     ensures { OnOk result (faults.new.items ≡ faults.old.items ++ split_at mark.now home) }
 {
@@ -84,7 +76,8 @@ fn take_home(faults: &mut Vec<LogFault>, homes: &mut Homes, mark: &Mark) -> Resu
 {
     let home = home_of(homes, &mark.id);
     push_split(faults, mark, home)?;
-    put_home(homes, &mark.id, lesser_home(home, mark.partition))?;
+    let key = mark.id.clone()?;
+    homes.insert(key, lesser_home(home, mark.partition))?;
     Ok(())
 }
 
@@ -107,13 +100,6 @@ fn with_id(known: Option<&Ids>, id: &Bytes) -> Result<Ids, AllocError>
             is_shared: ids.is_shared || !is_same(&ids.first, id),
         }),
     }
-}
-
-fn put_ids(producers: &mut Producers, producer: u64, ids: Ids) -> Result<(), AllocError>
-    ensures { OnOk result ((p : ℕ) → get nat_cmp producers.new p ≡ cond (is_eq (nat_cmp producer p)) (Some ids) (get nat_cmp producers.old p)) }
-{
-    producers.insert(producer, ids)?;
-    Ok(())
 }
 
 fn push_shared(faults: &mut Vec<LogFault>, mark: &Mark, is_shared: bool) -> Result<(), AllocError>
@@ -141,8 +127,9 @@ fn take_producer(
         return Ok(());
     };
     let ids = with_id(producers.get(&producer), &mark.id)?;
-    push_shared(faults, mark, ids.is_shared)?;
-    put_ids(producers, producer, ids)?;
+    let is_shared = ids.is_shared;
+    producers.insert(producer, ids)?;
+    push_shared(faults, mark, is_shared)?;
     Ok(())
 }
 

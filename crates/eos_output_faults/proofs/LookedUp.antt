@@ -13,7 +13,7 @@ use Rattle.eos_claims.specs.declared.place.Place.{Place}
 use Rattle.eos_claims.specs.Outputs.{Writer, PlacedClaim, Commit, last_offset, committed_offset}
 use Rattle.eos_claims.specs.Candidates.{is_by, passes}
 use Rattle.eos_output_faults.specs.steps.Gathered.{disagrees, is_repeated, top_of, first_absent}
-use Rattle.eos_output_faults.specs.steps.Tables.{seen, next_offset, last_of, further, next_reach, goes_past, key_by, or_zero, is_reached, seen_disagrees, place_before, seen_top}
+use Rattle.eos_output_faults.specs.steps.Tables.{seen, next_offset, last_of, further, next_reach, goes_past, key_by, is_reached, seen_disagrees, place_before, seen_top}
 
 -- ---- committed offsets
 
@@ -30,12 +30,15 @@ last_from n z r (m ∷ ms) = go (λ q. last_from n z q ms) (is_eq (name_cmp m.pa
     go more true = more (Some m.offset)
     go more false = more r
 
-zero_is : (o : Option ℤ) → or_zero o ≡ or_else (pos 0) o
-zero_is None = refl
-zero_is (Some z) = refl
+below_zero : (o : ℕ) → false ≡ int_lt (pos o) (pos 0)
+below_zero o = grind (arith, ints)
 
-pub committed_is : (ms : List Commit) (n : PartitionName) → or_zero (last_of ms n) ≡ committed_offset ms n
-committed_is ms n = zero_is (last_of ms n) ∙ last_from n (pos 0) None ms
+below_is : (o : ℕ) (last : Option ℤ) → goes_past o last ≡ int_lt (pos o) (or_else (pos 0) last)
+below_is o None = below_zero o
+below_is o (Some z) = refl
+
+pub committed_is : (ms : List Commit) (i : Place) → goes_past i.offset (last_of ms i.partition) ≡ int_lt (pos i.offset) (committed_offset ms i.partition)
+committed_is ms i = below_is i.offset (last_of ms i.partition) ∙ ap (int_lt (pos i.offset)) (last_from i.partition (pos 0) None ms)
 
 -- ---- what was passed
 

@@ -10,10 +10,10 @@ ghost use Rattle.eos_output_faults.specs.steps.Tables.{AreTables};
 
 use crate::commits::{offsets_of, reached_by};
 use crate::firsts::{firsts_of, places_of};
-use crate::inputs::Inputs;
 use crate::lent::{LentPlace, VisibleClaim};
 use crate::shown::found;
 use crate::tables::Tables;
+use eos_base::Sorted;
 use eos_claims::OutputFault;
 use eos_commits::{CommitRef, TopicSet};
 use eos_fault_list::distinct_in_order;
@@ -36,7 +36,7 @@ fn tables_of<'a>(
     let places = places_of(alloc, claims)?;
     Ok(Tables {
         sources,
-        inputs: Inputs::of(inputs),
+        inputs: Sorted::of(inputs),
         offsets,
         reached,
         firsts,

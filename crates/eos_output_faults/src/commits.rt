@@ -1,12 +1,9 @@
 //! The committed offset of each partition, and how far each transaction committed.
 
-ghost use Rattle.std.specs.Prelude.{◌≡◌, ◌++◌, ◌∷◌, [], List, ℤ, Some, cond, map, option_map, IfOk, OnOk};
+ghost use Rattle.std.specs.Prelude.{◌≡◌, ◌++◌, ◌∷◌, [], List, map, option_map, IfOk, OnOk};
 ghost use Rattle.std.specs.BTreeMap.{get};
-ghost use Rattle.std.specs.Ordering.{is_eq};
 ghost use Rattle.eos_claims.specs.Outputs.{Commit};
 ghost use Rattle.eos_commits.specs.Plain.{plain_commit};
-ghost use Rattle.eos_output_faults.specs.declared.lent.LentName.{LentName as Name};
-ghost use Rattle.eos_output_faults.specs.declared.commits.PassKey.{PassKey as Key};
 ghost use Rattle.eos_output_faults.specs.steps.Plain.{name_at, by_name};
 ghost use Rattle.eos_output_faults.specs.steps.Tables.{AreOffsets, AreReached, by_pass, further, key_by, pass_view};
 
@@ -51,21 +48,10 @@ pub(crate) fn offset_in<'a>(offsets: &Offsets<'a>, name: &LentName<'a>) -> Optio
     offsets.get(name).copied()
 }
 
-fn put_offset<'a>(
-    offsets: &mut Offsets<'a>,
-    name: LentName<'a>,
-    offset: Offset,
-) -> Result<(), AllocError>
-    ensures { OnOk result ((k : Name) → get by_name offsets.new k ≡ cond (is_eq (by_name name.entry k)) (Some offset) (get by_name offsets.old k)) }
-{
-    offsets.insert(name, offset)?;
-    Ok(())
-}
-
 fn take_offset<'a>(offsets: &mut Offsets<'a>, commit: &CommitRef<'a>) -> Result<(), AllocError>
     ensures { (before : List Commit) → AreOffsets offsets.old before → OnOk result (AreOffsets offsets.new (before ++ plain_commit commit.now ∷ [])) }
 {
-    put_offset(offsets, name_of(commit), offset_of(commit))?;
+    offsets.insert(name_of(commit), offset_of(commit))?;
     Ok(())
 }
 
@@ -128,17 +114,6 @@ pub(crate) fn reach_in<'a>(reached: &Reached<'a>, key: &PassKey<'a>) -> Option<O
     reached.get(key).copied()
 }
 
-fn put_reach<'a>(
-    reached: &mut Reached<'a>,
-    key: PassKey<'a>,
-    reach: Offset,
-) -> Result<(), AllocError>
-    ensures { OnOk result ((k : Key) → get by_pass reached.new k ≡ cond (is_eq (by_pass key.entry k)) (Some reach) (get by_pass reached.old k)) }
-{
-    reached.insert(key, reach)?;
-    Ok(())
-}
-
 fn take_reach<'a>(reached: &mut Reached<'a>, commit: &CommitRef<'a>) -> Result<(), AllocError>
     ensures { (before : List Commit) → AreReached reached.old before → OnOk result (AreReached reached.new (before ++ plain_commit commit.now ∷ [])) }
 {
@@ -146,7 +121,7 @@ fn take_reach<'a>(reached: &mut Reached<'a>, commit: &CommitRef<'a>) -> Result<(
         return Ok(());
     };
     let reach = further(reach_in(reached, &key), offset_of(commit));
-    put_reach(reached, key, reach)?;
+    reached.insert(key, reach)?;
     Ok(())
 }
 

@@ -10,7 +10,7 @@ ghost use Rattle.eos_lineage.specs.Faults.{named_group};
 ghost use Rattle.eos_lineage.specs.Lineage.{application_of};
 ghost use Rattle.eos_output_faults.specs.LineageFaults.{AreLineageFaults};
 ghost use Rattle.eos_output_faults.specs.steps.Gathered.{AreOutputFaults};
-ghost use Rattle.eos_output_faults.specs.steps.Taken.{AreTaken, in_group};
+ghost use Rattle.eos_output_faults.specs.steps.Taken.{in_group};
 
 use crate::application::output_faults;
 use crate::reading::{claims_of, inputs_of};
@@ -71,19 +71,6 @@ fn push_faults(
     Ok(())
 }
 
-/// The faults of the applications, one after the other.
-fn each_app(alloc: Global, apps: &[App], parts: &[Part]) -> Result<Vec<LineageFault>, AllocError>
-    ensures { AreInOrder parts.now → IfOk result (λ list. AreTaken apps.now parts.now apps.now list.items) }
-{
-    let table = CommitTable::of(alloc, apps, parts)?;
-    let mut list = Vec::new(alloc);
-    for app in apps {
-        let faults = faults_of(alloc, app, &table, parts)?;
-        push_faults(&mut list, apps, app, faults)?;
-    }
-    Ok(list)
-}
-
 /// Every fault of the applications' outputs that stands, where no fault of a record does, in the order in which the least of
 /// them counts, each once: each kind at each claim by itself. Of the outputs that one input lacks, which may be very many, it
 /// has the first alone. None where each application's outputs are exact; else the first is that of `check_lineage`.
@@ -101,6 +88,12 @@ pub fn all_output_faults(
 ) -> Result<Vec<LineageFault>, AllocError>
     ensures { AreInOrder parts.now → NoneStands (StandsAtRecord spec.now.apps parts.now) → IfOk result (λ faults. AreLineageFaults spec.now.apps parts.now faults.items) }
 {
-    let list = each_app(alloc, spec.apps().as_slice(), parts)?;
+    let apps = spec.apps().as_slice();
+    let table = CommitTable::of(alloc, apps, parts)?;
+    let mut list = Vec::new(alloc);
+    for app in apps {
+        let faults = faults_of(alloc, app, &table, parts)?;
+        push_faults(&mut list, apps, app, faults)?;
+    }
     Ok(list)
 }

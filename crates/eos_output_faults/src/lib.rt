@@ -5,7 +5,6 @@ mod application;
 mod commits;
 mod every;
 mod firsts;
-mod inputs;
 mod lent;
 mod reading;
 mod shown;

@@ -196,6 +196,6 @@ pub(crate) fn found<'a>(
 {
     let mut faults = Vec::new(alloc);
     push_claims(alloc, &mut faults, tables, claims)?;
-    push_inputs(alloc, &mut faults, tables, tables.inputs.places())?;
+    push_inputs(alloc, &mut faults, tables, tables.inputs.as_slice())?;
     Ok(faults)
 }

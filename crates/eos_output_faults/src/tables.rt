@@ -1,17 +1,16 @@
 //! What is looked up of a claim and of an input, in the tables of one application.
 
-ghost use Rattle.std.specs.Prelude.{◌≡◌, pos, int_lt, option_map};
-ghost use Rattle.eos_base.specs.Members.{is_found};
-ghost use Rattle.eos_claims.specs.Outputs.{Application, committed_offset};
+ghost use Rattle.std.specs.Prelude.{◌≡◌, option_map};
+ghost use Rattle.eos_claims.specs.Outputs.{Application};
 ghost use Rattle.eos_claims.specs.Candidates.{is_source as is_source_of, is_input as is_input_of, is_committed as is_committed_of, is_passed as is_passed_of};
 ghost use Rattle.eos_output_faults.specs.steps.Gathered.{first_of, first_at, first_absent as first_absent_of, is_there as is_there_in, disagrees as disagrees_with, is_repeated as is_repeated_after, top_of as top_by};
-ghost use Rattle.eos_output_faults.specs.steps.Plain.{claim_at, name_at, place_at};
-ghost use Rattle.eos_output_faults.specs.steps.Tables.{AreTables, first_seen, goes_past as is_past, is_reached as is_reached_in, or_zero as zero_or, pass_view, place_before, seen_disagrees, seen_top};
+ghost use Rattle.eos_output_faults.specs.steps.Plain.{claim_at, place_at};
+ghost use Rattle.eos_output_faults.specs.steps.Tables.{AreTables, first_seen, goes_past as is_past, place_before, seen_disagrees, seen_top};
 
-use crate::commits::{Offset, Offsets, PassKey, Reached, offset_in, pass_key, reach_in};
+use crate::commits::{Offset, Offsets, Reached, offset_in, pass_key, reach_in};
 use crate::firsts::{First, Firsts, OutputKey, Places, first_in, place_in};
-use crate::inputs::Inputs;
-use crate::lent::{LentName, LentPlace, VisibleClaim};
+use crate::lent::{LentPlace, VisibleClaim};
+use eos_base::Sorted;
 use eos_commits::TopicSet;
 
 /// What an application reads, commits and writes.
@@ -20,33 +19,21 @@ pub(crate) struct Tables<'a> {
     /// The topics that it reads.
     pub sources: TopicSet<'a>,
     /// The visible records of these.
-    pub inputs: Inputs<'a>,
+    pub inputs: Sorted<LentPlace<'a>>,
     pub offsets: Offsets<'a>,
     pub reached: Reached<'a>,
     pub firsts: Firsts<'a>,
     pub places: Places<'a>,
 }
 
-/// Whether the offset is below the committed one.
-fn is_below(offset: u64, committed: Offset) -> bool
-    ensures { result ≡ int_lt (pos offset) committed.offset }
+/// Whether an offset was committed, and this one is below it.
+fn goes_past(committed: Option<Offset>, offset: u64) -> bool
+    ensures { result ≡ is_past offset (option_map (λ o. o.offset) committed) }
 {
-    committed.offset > 0 && offset < committed.offset as u64
-}
-
-fn or_zero(last: Option<Offset>) -> Offset
-    ensures { result.offset ≡ zero_or (option_map (λ o. o.offset) last) }
-{
-    match last {
-        None => Offset { offset: 0 },
-        Some(last) => last,
+    match committed {
+        None => false,
+        Some(last) => last.offset > 0 && offset < last.offset as u64,
     }
-}
-
-fn committed_of<'a>(tables: &Tables<'a>, name: &LentName<'a>) -> Offset
-    ensures { (a : Application) → AreTables a tables.now → result.offset ≡ committed_offset a.commits (name_at name.now) }
-{
-    or_zero(offset_in(&tables.offsets, name))
 }
 
 /// Whether the application reads the place's topic.
@@ -60,41 +47,24 @@ pub(crate) fn is_source<'a>(tables: &Tables<'a>, source: &LentPlace<'a>) -> bool
 pub(crate) fn is_input<'a>(tables: &Tables<'a>, source: &LentPlace<'a>) -> bool
     ensures { (a : Application) → AreTables a tables.now → result ≡ is_input_of a (place_at source.now) }
 {
-    tables.inputs.has(source)
+    tables.inputs.holds(source)
 }
 
 /// Whether the place is below its committed offset.
 pub(crate) fn is_committed<'a>(tables: &Tables<'a>, source: &LentPlace<'a>) -> bool
     ensures { (a : Application) → AreTables a tables.now → result ≡ is_committed_of a (place_at source.now) }
 {
-    is_below(source.offset, committed_of(tables, &source.partition))
-}
-
-fn goes_past(reach: Option<Offset>, offset: u64) -> bool
-    ensures { result ≡ is_past offset (option_map (λ o. o.offset) reach) }
-{
-    match reach {
-        None => false,
-        Some(reach) => is_below(offset, reach),
-    }
-}
-
-/// Whether the transaction commits an offset of its partition past this one.
-fn is_reached<'a>(tables: &Tables<'a>, key: Option<PassKey<'a>>, offset: u64) -> bool
-    ensures { (a : Application) → AreTables a tables.now → result ≡ is_reached_in (option_map pass_view key.entry) offset a.commits }
-{
-    match key {
-        None => false,
-        Some(key) => goes_past(reach_in(&tables.reached, &key), offset),
-    }
+    goes_past(offset_in(&tables.offsets, &source.partition), source.offset)
 }
 
 /// Whether the claim's transaction committed past its source.
 pub(crate) fn is_passed<'a>(tables: &Tables<'a>, claim: &VisibleClaim<'a>) -> bool
     ensures { (a : Application) → AreTables a tables.now → result ≡ is_passed_of a (claim_at claim.now) }
 {
-    let key = pass_key(claim.writer, claim.source.partition);
-    is_reached(tables, key, claim.source.offset)
+    match pass_key(claim.writer, claim.source.partition) {
+        None => false,
+        Some(key) => goes_past(reach_in(&tables.reached, &key), claim.source.offset),
+    }
 }
 
 fn has_other_count(first: Option<First<'_>>, of: u32) -> bool

@@ -13,7 +13,7 @@ use eos_partition::{ItemRef, Part};
 use std::alloc::{AllocError, Global};
 
 /// A data record of a partition's log.
-#[derive(Clone, Debug, Drop)]
+#[derive(Debug, Drop)]
 pub struct Find {
     pub partition: PartitionName,
     pub item: Item,

@@ -1,12 +1,13 @@
 //! Which data records are sought.
 
-ghost use Rattle.std.specs.Prelude.{◌≡◌, ◌&&◌, ◌==◌, not, IfOk};
+ghost use Rattle.std.specs.Prelude.{◌≡◌, ◌&&◌, ◌==◌, not, IfOk, Some};
 ghost use Rattle.std.specs.Option.{option_map, option_copied};
 ghost use Rattle.eos_claims.specs.Slots.{plain_claim};
 ghost use Rattle.eos_claims.specs.Headers.{claim_of};
 ghost use Rattle.eos_commits.specs.Visible.{is_visible as is_visible_fate};
 ghost use Rattle.eos_sought.specs.States.{id_in, state_in};
-ghost use Rattle.eos_sought.specs.Sought.{is_at, is_before, is_state, is_id, is_by, is_one_of, is_within, is_marked, decides, claims, meets as is_met};
+ghost use Rattle.eos_sought.specs.Sought.{is_at, is_before, is_state, is_id, is_one_of, is_marked, claims, meets as is_met};
+ghost use Rattle.eos_sought.specs.steps.Such.{is_such};
 ghost use Rattle.eos_sought.specs.Passing.{is_of_group, passes, is_passed};
 
 use crate::commits::{is_of_group, is_passed, passes};
@@ -27,7 +28,7 @@ pub struct Epochs {
 }
 
 /// Which data records of the logs are sought.
-#[derive(Clone, Debug, Drop)]
+#[derive(Debug, Drop)]
 pub enum Sought {
     /// The one of this place.
     At(Place),
@@ -90,38 +91,11 @@ fn is_hidden(place: &Place, item: ItemRef<'_>) -> bool
     !is_visible(item.fate()) && claims(place, item.into_claim())
 }
 
-fn is_id(id: &[u8], found: Option<Bytes>) -> bool
-    ensures { result ≡ is_id id.now found }
-{
-    match found {
-        None => false,
-        Some(found) => is_same(found.as_slice(), id),
-    }
-}
-
-fn is_by(producer: i64, state: Option<TxnValue>) -> bool
-    ensures { result ≡ is_by producer state }
-{
-    match state {
-        None => false,
-        Some(state) => state.producer == producer,
-    }
-}
-
 fn is_one_of(epochs: &Epochs, state: &TxnValue) -> bool
     ensures { result ≡ is_one_of epochs.now state.now }
 {
     let epoch = state.epoch;
     state.producer == epochs.producer && epochs.from <= epoch && epoch <= epochs.to
-}
-
-fn is_within(epochs: &Epochs, state: Option<TxnValue>) -> bool
-    ensures { result ≡ is_within epochs.now state }
-{
-    match state {
-        None => false,
-        Some(state) => is_one_of(epochs, &state),
-    }
 }
 
 fn is_marked(producer: i64, epoch: i16, state: &TxnValue) -> bool
@@ -130,21 +104,17 @@ fn is_marked(producer: i64, epoch: i16, state: &TxnValue) -> bool
     state.producer == producer && state.epoch == epoch
 }
 
-fn both(a: bool, b: bool) -> bool
-    ensures { result ≡ (a && b) }
+/// Whether a state is one of those that are sought by what they say.
+fn is_such(sought: &Sought, state: &TxnValue) -> bool
+    ensures { result ≡ is_such sought.now (Some state.now) }
 {
-    a && b
-}
-
-fn decides(producer: i64, epoch: i16, state: Option<TxnValue>) -> bool
-    ensures { result ≡ decides producer epoch state }
-{
-    match state {
-        None => false,
-        Some(state) => {
-            let prepares = state.status.is_prepare();
-            both(prepares, is_marked(producer, epoch, &state))
+    match sought {
+        Sought::OfProducer(producer) => state.producer == *producer,
+        Sought::Within(epochs) => is_one_of(epochs, state),
+        Sought::Deciding { producer, epoch } => {
+            state.status.is_prepare() && is_marked(*producer, *epoch, state)
         }
+        _ => false,
     }
 }
 
@@ -160,23 +130,10 @@ fn is_of_id(alloc: Global, id: &[u8], part: &Part, item: &ItemRef<'_>) -> Result
     if !is_state(part) {
         return Ok(false);
     }
-    let found = id_of(alloc, item.key())?;
-    Ok(is_id(id, found))
-}
-
-fn is_of_producer(
-    alloc: Global,
-    producer: i64,
-    part: &Part,
-    item: &ItemRef<'_>,
-) -> Result<bool, AllocError>
-    ensures { IfOk result (λ met. met ≡ (is_state part.now && is_by producer (state_in item.now.value))) }
-{
-    if !is_state(part) {
-        return Ok(false);
+    match id_of(alloc, item.key())? {
+        None => Ok(false),
+        Some(found) => Ok(is_same(found.as_slice(), id)),
     }
-    let state = state_of(alloc, item.value())?;
-    Ok(is_by(producer, state))
 }
 
 fn is_of_id_before(
@@ -194,35 +151,21 @@ fn is_of_id_before(
     is_of_id(alloc, id, part, item)
 }
 
-fn is_of_epochs(
+fn is_of_state(
     alloc: Global,
-    epochs: &Epochs,
+    sought: &Sought,
     part: &Part,
     item: &ItemRef<'_>,
 ) -> Result<bool, AllocError>
-    ensures { IfOk result (λ met. met ≡ (is_state part.now && is_within epochs.now (state_in item.now.value))) }
+    ensures { IfOk result (λ met. met ≡ (is_state part.now && is_such sought.now (state_in item.now.value))) }
 {
     if !is_state(part) {
         return Ok(false);
     }
-    let state = state_of(alloc, item.value())?;
-    Ok(is_within(epochs, state))
-}
-
-fn is_decision(
-    alloc: Global,
-    producer: i64,
-    epoch: i16,
-    part: &Part,
-    item: &ItemRef<'_>,
-) -> Result<bool, AllocError>
-    ensures { IfOk result (λ met. met ≡ (is_state part.now && decides producer epoch (state_in item.now.value))) }
-{
-    if !is_state(part) {
-        return Ok(false);
+    match state_of(alloc, item.value())? {
+        None => Ok(false),
+        Some(state) => Ok(is_such(sought, &state)),
     }
-    let state = state_of(alloc, item.value())?;
-    Ok(decides(producer, epoch, state))
 }
 
 /// Whether a record of a partition's log is one of those that are sought.
@@ -243,11 +186,9 @@ pub(crate) fn meets(
         Sought::Hidden(place) => Ok(is_hidden(place, item)),
         Sought::OfId(id) => is_of_id(alloc, id.as_slice(), part, &item),
         Sought::Before { id, place } => is_of_id_before(alloc, id.as_slice(), place, part, &item),
-        Sought::OfProducer(producer) => is_of_producer(alloc, *producer, part, &item),
-        Sought::Within(epochs) => is_of_epochs(alloc, epochs, part, &item),
-        Sought::Deciding { producer, epoch } => {
-            is_decision(alloc, *producer, *epoch, part, &item)
-        }
+        Sought::OfProducer(_) => is_of_state(alloc, sought, part, &item),
+        Sought::Within(_) => is_of_state(alloc, sought, part, &item),
+        Sought::Deciding { .. } => is_of_state(alloc, sought, part, &item),
         Sought::OfGroup(group) => Ok(is_of_group(group.as_slice(), part, &item)),
         Sought::Passing { group, place } => Ok(passes(group.as_slice(), place, part, &item)),
         Sought::Passed(place) => Ok(is_passed(place, part, &item)),

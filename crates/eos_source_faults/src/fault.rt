@@ -12,7 +12,8 @@ pub enum Unlisted<F> {
     Refused(F),
     /// The piece of this number is to be read again, and is a fold.
     Fold(u64),
-    /// A partition whose first piece has this number is another than when it was judged: its least fault is another.
+    /// A partition whose first piece has this number is another than when it was judged: its least fault is another. One that is
+    /// another with the same least fault isn't refused, but listed as it is read now.
     Changed(u64),
     /// A growth of memory was refused.
     OutOfMemory,

@@ -8,7 +8,7 @@ ghost use Rattle.eos_fold.specs.Parts.{part_name};
 ghost use Rattle.eos_lineage.specs.Lineage.{is_part_of};
 ghost use Rattle.eos_lineage.specs.EvidenceLogs.{commits_for};
 ghost use Rattle.eos_partitions.specs.Faults.{first_of};
-ghost use Rattle.eos_tallies.specs.GroupTallies.{source_tally, source_tally_at, group_tally as tally_of_group};
+ghost use Rattle.eos_tallies.specs.GroupTallies.{source_tally, group_tally as tally_of_group};
 ghost use Rattle.eos_tallies.specs.TalliesByLogs.{group_tallies};
 ghost use Rattle.eos_tallies.specs.steps.Counted.{source_if};
 
@@ -22,18 +22,6 @@ use eos_partition::Part;
 use eos_partitions::Logs;
 use std::alloc::{AllocError, Global};
 
-fn tally_of_source(part: &Part, committed: i64) -> Result<SourceTally, AllocError>
-    ensures { IfOk result (λ t. t ≡ source_tally_at committed part.now) }
-{
-    Ok(SourceTally {
-        topic: part.topic().clone()?,
-        partition: part.partition(),
-        committed,
-        end: part.end(),
-        visible_inputs_below: count_below(part, committed)?,
-    })
-}
-
 /// Puts a partition at the end, if it is of one of these topics.
 fn push_source(
     all: &mut Vec<SourceTally>,
@@ -44,7 +32,13 @@ fn push_source(
     ensures { OnOk result (all.new.items ≡ all.old.items ++ source_if sources.now committed part.now) }
 {
     if sources.has(part.topic().as_slice()) {
-        all.push(tally_of_source(part, committed)?)?;
+        all.push(SourceTally {
+            topic: part.topic().clone()?,
+            partition: part.partition(),
+            committed,
+            end: part.end(),
+            visible_inputs_below: count_below(part, committed)?,
+        })?;
     }
     Ok(())
 }

@@ -12,7 +12,7 @@ use eos_evidence::GroupId;
 use eos_kept::Sizes;
 
 /// What a topic is for the applications and for Kafka.
-#[derive(Clone, Copy, Debug, PartialEq, Eq)]
+#[derive(Clone, Copy)]
 pub struct TopicRoles {
     /// An application reads it.
     pub source: bool,
@@ -25,7 +25,7 @@ pub struct TopicRoles {
 }
 
 /// What is counted of a partition's segments, which a log that is kept has no more.
-#[derive(Clone, Copy, Debug)]
+#[derive(Clone, Copy)]
 pub struct Counted {
     /// The batches of the front: data batches and control batches.
     pub batches: u64,
@@ -49,7 +49,7 @@ impl Counted {
 
 /// How much a partition holds. Where its log has a fault, its batches and records are those of its front: those that stand before
 /// the first bytes that are no batch, or no batch of the next offset.
-#[derive(Debug, PartialEq, Eq, Drop)]
+#[derive(Drop)]
 pub struct PartitionTally {
     pub topic: Bytes,
     /// The partition's number in its topic.
@@ -70,7 +70,7 @@ pub struct PartitionTally {
 }
 
 /// How far a group has got in a partition of a topic that it reads.
-#[derive(Debug, PartialEq, Eq, Drop)]
+#[derive(Drop)]
 pub struct SourceTally {
     pub topic: Bytes,
     /// The partition's number in its topic.
@@ -84,7 +84,7 @@ pub struct SourceTally {
 }
 
 /// How far an application's group has got.
-#[derive(Debug, PartialEq, Eq, Drop)]
+#[derive(Drop)]
 pub struct GroupTally {
     pub group: GroupId,
     /// The partitions of the evidence whose topics the application reads, in the order of the evidence.
@@ -92,7 +92,7 @@ pub struct GroupTally {
 }
 
 /// The tables of an evidence.
-#[derive(Debug, PartialEq, Eq, Drop)]
+#[derive(Drop)]
 pub struct Tallies {
     /// One for each partition of the evidence, in its order.
     pub partitions: Listed<PartitionTally>,

@@ -103,10 +103,6 @@ goes_past o (Some z) = int_lt (pos o) z
 
 -- ---- what is looked up
 
-abbrev pub or_zero : Option ℤ → ℤ
-or_zero None = pos 0
-or_zero (Some z) = z
-
 abbrev pub is_reached : Option (Writer × PartitionName) → ℕ → List Commit → Bool
 is_reached None o ms = false
 is_reached (Some k) o ms = goes_past o (reach_of ms k.0 k.1)

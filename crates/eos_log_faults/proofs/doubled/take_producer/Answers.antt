@@ -14,4 +14,4 @@ returns-clause-faults c = λ before are.
 pub returns-clause-producers : goal.returns-clause-producers
 returns-clause-producers c = λ before are.
     let next = c.in_ok-ids.ensures ∙ ap (λ z. with_id z c.args.mark.now.id) c.get.ensures.value in
-    ids_more c.args.producers.now c.put_ids.new.producers before c.args.mark.now c.in-Some.producer c.in_ok-ids.ids are c.in-Some.is next c.in_ok-put_ids.ensures
+    ids_more c.args.producers.now c.insert.new.self before c.args.mark.now c.in-Some.producer c.in_ok-ids.ids are c.in-Some.is next c.in_ok-insert.ensures.updates.0

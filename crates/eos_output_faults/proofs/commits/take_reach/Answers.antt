@@ -12,6 +12,6 @@ returns-in_default c = λ before are.
 
 pub returns : goal.returns
 returns c = λ before are.
-    reach_more c.args.reached.now c.put_reach.new.reached before (plain_commit c.args.commit.now) c.in-Some.key c.reach_in.result c.further-reach.result are
+    reach_more c.args.reached.now c.insert.new.self before (plain_commit c.args.commit.now) c.in-Some.key c.reach_in.result c.further-reach.result are
     (ap (option_map pass_view) (sym c.in-Some.is) ∙ (c.pass_key.ensures ∙ ap (key_by c.args.commit.now.writer) c.name_of.ensures))
-    c.reach_in.ensures (c.further-reach.ensures ∙ ap (λ z. further (option_map (λ o. o.offset) c.reach_in.result) z) c.offset_of.ensures) c.in_ok-put_reach.ensures
+    c.reach_in.ensures (c.further-reach.ensures ∙ ap (λ z. further (option_map (λ o. o.offset) c.reach_in.result) z) c.offset_of.ensures) c.in_ok-insert.ensures.updates.0

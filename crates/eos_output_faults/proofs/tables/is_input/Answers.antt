@@ -2,4 +2,4 @@ use Rattle.std.proofs.Common.{◌∙◌}
 use Rattle.eos_output_faults.proofs.tables.is_input.Goals as goal
 
 pub returns : goal.returns
-returns c = λ a are. c.has.ensures ∙ are.inputs c.args.source.now
+returns c = λ a are. c.holds.ensures ∙ are.inputs c.args.source.now
