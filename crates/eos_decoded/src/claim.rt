@@ -9,9 +9,9 @@ ghost use Rattle.eos_decoded.specs.Lines.{claim_line};
 use crate::name::{push_name, push_unread};
 use eos_batch::Header;
 use eos_claims::{Claim, read_claim};
-use eos_text::{push_text, push_value};
 use std::alloc::{AllocError, Global};
 
+#[tactic(auto, unfolding(crate::specs::Lines::claim_line))]
 fn push_claim(alloc: Global, out: &mut String, claim: &Claim) -> Result<(), AllocError>
     ensures { OnOk result (Adds (string_bytes out.old) (string_bytes out.new) (claim_line claim.now)) }
 {
@@ -22,11 +22,7 @@ fn push_claim(alloc: Global, out: &mut String, claim: &Claim) -> Result<(), Allo
         claim.topic.as_slice(),
         &claim.partition,
     )?;
-    push_value(out, ":", &claim.offset)?;
-    push_value(out, " ", &claim.output)?;
-    push_value(out, "/", &claim.of)?;
-    push_text(out, "\n")?;
-    Ok(())
+    write!(out, ":{} {}/{}\n", claim.offset, claim.output, claim.of)
 }
 
 /// Adds what these headers claim.

@@ -10,7 +10,7 @@ use crate::name::{push_name, push_unread};
 use bytes::Bytes;
 use eos_base::RecordFault;
 use eos_offsets::{KeyRef, view_key, view_value};
-use eos_text::{push_escaped, push_text, push_value};
+use eos_text::{push_escaped, push_text};
 use std::alloc::{AllocError, Global};
 
 fn push_head(alloc: Global, out: &mut String, key: &KeyRef<'_>) -> Result<(), AllocError>
@@ -21,6 +21,7 @@ fn push_head(alloc: Global, out: &mut String, key: &KeyRef<'_>) -> Result<(), Al
     Ok(())
 }
 
+#[tactic(auto, unfolding(crate::specs::Lines::commit_line))]
 fn push_committed(
     alloc: Global,
     out: &mut String,
@@ -30,9 +31,7 @@ fn push_committed(
     ensures { OnOk result (Adds (string_bytes out.old) (string_bytes out.new) (commit_line (plain_key key.now) offset.now)) }
 {
     push_head(alloc, out, key)?;
-    push_value(out, "=", offset)?;
-    push_text(out, "\n")?;
-    Ok(())
+    write!(out, "={offset}\n")
 }
 
 fn push_deleted(alloc: Global, out: &mut String, key: &KeyRef<'_>) -> Result<(), AllocError>

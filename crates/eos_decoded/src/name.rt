@@ -6,7 +6,7 @@ ghost use Rattle.eos_txnlog.specs.PartitionSets.{names_in_topic, names_of};
 ghost use Rattle.eos_decoded.specs.Lines.{unread_line};
 ghost use Rattle.eos_decoded.specs.Names.{name_text, names_text, separator as separator_of};
 
-use eos_text::{push_escaped, push_text, push_value};
+use eos_text::{push_escaped, push_value};
 use eos_txnlog::TopicPartitions;
 use std::alloc::{AllocError, Global};
 
@@ -82,7 +82,5 @@ pub(crate) fn push_names(
 pub(crate) fn push_unread(out: &mut String, name: &str) -> Result<(), AllocError>
     ensures { OnOk result (Adds (string_bytes out.old) (string_bytes out.new) (unread_line name.now)) }
 {
-    push_value(out, "  unread ", &name)?;
-    push_text(out, "\n")?;
-    Ok(())
+    write!(out, "  unread {name}\n")
 }
