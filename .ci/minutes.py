@@ -6,8 +6,8 @@
 
 The gate proves crates, their tests and their edits side by side, and says nothing of what each took. So the processes
 below it are looked at twice a second, and what each has used when it is last seen counts for the crate and the part that its
-words or its folder tell. What ran too short to be seen, and the building and running of programs, is the rest. The status is
-the gate's.
+words or its folder tell. The building of proved programs has a row for each of the two compilers. What ran too short to be seen,
+and the running of programs and tests, is the rest. The status is the gate's.
 """
 import collections
 import os
@@ -52,7 +52,9 @@ def part_of(pid):
         return crate, "edits"
     if "--test" in words:
         return crate, "tests"
-    return (crate, "proofs") if "--crate-checked" not in words else None
+    if "--crate-checked" in words:
+        return None, f"building by {words[words.index('--backend') + 1]}" if "--backend" in words else "building"
+    return crate, "proofs"
 
 
 class Times:
@@ -93,11 +95,13 @@ def run(path, words):
     # What the gate has waited for counts as a whole; of the rest, what was seen.
     rest = max(rest, (used.ru_utime + used.ru_stime) / 60 - sum(minutes.values()))
     with open(path, "w", encoding="utf-8") as file:
-        for crate in sorted({crate for crate, _ in minutes}):
+        for crate in sorted({crate for crate, _ in minutes if crate}):
             row = [minutes[crate, part] for part in PARTS]
             file.write(f"{crate:20}" + "".join(f"{it:8.1f}" for it in row) + "\n")
         row = [sum(used for (_, it), used in minutes.items() if it == part) for part in PARTS]
         file.write(f"{'all':20}" + "".join(f"{it:8.1f}" for it in row) + "\n")
+        for part in sorted(part for crate, part in minutes if not crate):
+            file.write(f"{part:20}{minutes[None, part]:8.1f}\n")
         file.write(f"{'the rest':20}{rest:8.1f}\n")
     return gate.returncode
 
@@ -116,7 +120,7 @@ def beside(last, now):
     """Prints the rows of a table, each with the sum of what the last one had."""
     old, new = rows_of(last), rows_of(now)
     print(f"processor minutes   {''.join(f'{it:>8}' for it in PARTS)}     sum    last")
-    for name, row in [*new.items(), ("the gate in all", [sum(sum(it) for name, it in new.items() if name in ENDS)])]:
+    for name, row in [*new.items(), ("the gate in all", [sum(sum(it) for name, it in new.items() if name in ENDS or name.startswith(BUILDING))])]:
         was = sum(old[name]) if name in old else None
         cells = "".join(f"{it:8.1f}" for it in row) if len(row) == len(PARTS) else " " * 8 * len(PARTS)
         print(f"{name:20}{cells}{sum(row):8.1f}{f'{was:8.1f}' if was is not None else '       -'}")
@@ -124,8 +128,9 @@ def beside(last, now):
         print(f"{name}: no longer there")
 
 
-# The rows whose sum is the whole.
+# The rows whose sum is the whole, with those of the compilers.
 ENDS = ["all", "the rest", "end-to-end tests"]
+BUILDING = "building"
 
 
 def main():

@@ -30,12 +30,19 @@ class Refused(Exception):
     pass
 
 
+def crc_word(byte):
+    for _ in range(8):
+        byte = byte >> 1 ^ (0x82F63B78 if byte & 1 else 0)
+    return byte
+
+
+CRC_WORDS = [crc_word(byte) for byte in range(256)]
+
+
 def crc32c(data):
     register = 0xFFFFFFFF
     for byte in data:
-        register ^= byte
-        for _ in range(8):
-            register = register >> 1 ^ (0x82F63B78 if register & 1 else 0)
+        register = register >> 8 ^ CRC_WORDS[(register ^ byte) & 255]
     return register ^ 0xFFFFFFFF
 
 
