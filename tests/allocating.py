@@ -7,9 +7,9 @@ It says what is missing, or what isn't there, and ends in 1 then; else how many 
 refuses the allocations.
 
 A line of the list is 'CRATE::FUNCTION PLACE': the function, of a type 'CRATE::TYPE::FUNCTION', and who refuses its
-allocations: 'TABLE.txt=CALL', a call of a table whose rows a part of tests/run refuses; 'test LAYER::NAME', a test that it names; 'run
-COMMAND', a command that it runs so; or 'none', and why nobody can. A function is one of the list's where its crate exports it or its type, and its
-result can be want of memory.
+allocations: 'TABLE.txt=CALL', a call of a table, whose rows tests/refuse_each.py has refused; 'run COMMAND', a command that a part of tests/run
+runs so; or 'none', and why nobody can. A function is one of the list's where its crate exports it or its type, and its result can be
+want of memory.
 """
 import glob
 import os
@@ -95,19 +95,13 @@ def crates():
 
 def is_there(kind, name, run):
     """Whether the place of a line is there."""
-    if kind == "test":
-        layer, _, test = name.partition("::")
-        there = any(f"fn {test}(" in open(path, encoding="utf-8").read() for path in glob.glob(f"crates/*/src/{layer}.rt"))
-        return there and re.search(rf"^(.* )?{name}( .*)?$", run, re.M) is not None
     if kind == "run":
         return f"refused 1 {name} " in run.replace("\n", " \n") or f"{name}.py" in run
     if kind == "none":
         return bool(name)
     table, _, call = kind.partition(".txt=")
     path = f"tests/tables/{table}.txt"
-    tables = re.search(r"^each_refused (.*)$", run, re.M)
-    there = os.path.isfile(path) and re.search(rf"^{call} ", open(path, encoding="utf-8").read(), re.M)
-    return bool(there) and tables is not None and table in tables[1].split()
+    return os.path.isfile(path) and re.search(rf"^{call} ", open(path, encoding="utf-8").read(), re.M) is not None
 
 
 def main():

@@ -1,7 +1,6 @@
 # What the parts of the end-to-end tests share: it is sourced at the beginning of each, and its `end` is each one's last line.
 set -u
 program=$PWD/crates/eoscheck/out/eoscheck
-probe=$PWD/crates/eos_probe/out/eos_probe
 segments=tests/segments
 passed=0
 failed=0

@@ -1,100 +1,91 @@
-#!/usr/bin/env python3
-"""Refuses each allocation of a crate's tests, or of the rows of tables, in turn. A test then passes, and a row is answered
-as it says; or either says that memory ran out. Any other answer, and any crash, is printed, and the exit status is 1. Of a
-table these are the rows whose calls tests/allocating.txt names, since what else allocates is refused to one of them or to a run.
+"""Rows of tables, of which each allocation is refused in turn. The row is then answered as it says, or it is said that memory ran out.
+Any other answer is a failure. Of a table these are the rows whose calls tests/allocating.txt names, since what else allocates is
+refused to one of them or to a run.
 
-The builder of evidence, the simulated cluster and the pool's core go on after a refusal: the probe makes such a call again,
-answers the row as it says, and marks that by 'again'. Of each call of GOES_ON some row has to be marked so.
+The builder of evidence, the simulated cluster and the pool's core go on after a refusal: tests/rows makes such a call again,
+answers the row as it says, and marks that. Of each call of GOES_ON some row of the table has to be marked so.
 
-    python3 tests/refuse_each.py refuse.so crates/NAME/out/NAME_tests TEST ..
-    python3 tests/refuse_each.py refuse.so crates/eos_probe/out/eos_probe TABLE.txt ..
-
-refuse.so is tests/refuse.c, built. Rows with more than MOST allocations are left out, of which refusals.txt has none.
+tests/unproved.py asks them, of the program whose heap is tests/rows/heap.c. Rows with more than MOST allocations are left out, of
+which refusals.txt has none.
 """
 import collections
 import os
 import re
-import subprocess
-import sys
-import tempfile
 
 import tables
+from unproved import Asked, together
 
-NAMES = "tests/allocating.txt"
-# A test ends in 0 where it passes, in 101 where its result is an error, and by SIGABRT where an assertion fails; a probe ends
-# in 1 where memory ran out outside a call.
-PASSES, RESULT, ASSERTION, ENDED = 0, 101, -6, 1
-REFUSED = ("OutOfMemory", "AllocError", "AllocFailed")
+HERE = os.path.dirname(os.path.abspath(__file__))
+NAMES = f"{HERE}/allocating.txt"
+REFUSED = ("OutOfMemory", "AllocError", "AllocFailed", "out of memory")
 MOST = 300
-# The calls after whose refusals the probe goes on, and its mark.
+# That table, of small rows, and how many allocations its rows may have.
+SMALL, SMALL_MOST = "refusals.txt", 3000
+# The calls after whose refusals the program goes on.
 GOES_ON = {"add_segments", "cluster", "pool"}
-AGAIN = " again"
 # Where the writer is refused memory of its own, that is a failed write.
-FAILED_WRITES = {"write_verdict": 'status 0, Err(Write) ""'}
+FAILED_WRITES = {"write_verdict": 'Err(Write) ""'}
+# What is said of a row: how many allocations there are, a sign for each, and texts.
+SAID = re.compile(r"(\d+) ([=+a-z]*)\t([^\t]*)(?:\t(.*))?")
 
-# What is run: its name, the words and the input of the program, and what it has to print (None: a test, anything).
-Case = collections.namedtuple("Case", "name words input answer")
 
-
-def calls_of(table):
-    """The calls of a table that the list of what allocates names."""
+def calls():
+    """Of each table the calls that the list of what allocates names."""
+    found = collections.defaultdict(set)
     with open(NAMES, encoding="utf-8") as file:
-        return set(re.findall(rf" {re.escape(os.path.basename(table))}=(\w+)$", file.read(), re.M))
+        for table, call in re.findall(r" (\w+\.txt)=(\w+)$", file.read(), re.M):
+            found[table].add(call)
+    return found
 
 
-def cases_of(names):
-    cases = [Case(name, [name], "", None) for name in names if not name.endswith(".txt")]
-    for table in names[len(cases) :]:
-        rows, bad = tables.rows_of(table)
-        if bad:
-            sys.exit("\n".join(bad))
-        calls = calls_of(table)
-        cases += [Case(row.place, [], f"{row.call}\n", row.answer) for row in rows if row.call.split()[0] in calls]
-    return cases
+def judged(row, answer, most):
+    """Of a row the signs of its refusals, how many of these are told, and a text for each that is something else."""
+    said = SAID.fullmatch(answer)
+    if not said or said[3].strip() != row.answer:
+        return "", 0, [f"{row.place}: with none refused it is {tables.cut(answer)}"]
+    count, signs, call = int(said[1]), said[2], row.call.split()[0]
+    if len(signs) != (count if count <= most else 0) or not count:
+        return "", 0, [f"{row.place}: {count} allocations, {len(signs)} of them refused"]
+    others = dict(zip("abcdefghijklmnopqrstuvwxyz", said[4].split("\t") if said[4] is not None else []))
+    is_told = {sign: any(name in text for name in REFUSED) for sign, text in others.items()}
+    wrong = [sign for sign in set(signs) - {"=", "+"} if not is_told.get(sign) and others.get(sign, "").strip() != FAILED_WRITES.get(call)]
+    failures = [f"{row.place}, allocation {signs.index(sign) + 1}: {tables.cut(others.get(sign, ''))}" for sign in sorted(wrong)]
+    return signs, sum(sign == "+" or is_told.get(sign, False) for sign in signs), failures
 
 
-def run(library, program, case, **settings):
-    """Whether the case passes, whether it says that memory ran out, whether it went on after that, and what it says."""
-    words = dict(os.environ, LD_PRELOAD=library, **settings)
-    done = subprocess.run(
-        [program, *case.words], input=case.input, env=words, capture_output=True, text=True, errors="replace", timeout=60
-    )
-    text = done.stdout + done.stderr
-    is_again = case.answer is not None and text.rstrip().endswith(AGAIN)
-    said = text.rstrip().removesuffix(AGAIN).strip() if is_again else text.strip()
-    passes = done.returncode == PASSES and case.answer in (None, said)
-    ends = (RESULT, ASSERTION) if case.answer is None else (ENDED, PASSES)
-    told = done.returncode in ends and (any(name in text for name in REFUSED) if not passes else is_again)
-    return passes, told, passes and is_again, f"status {done.returncode}, {text[:200]}"
+def judge(name, rows, answers):
+    """How many rows of a table pass, and a text for each failure."""
+    most = SMALL_MOST if name == SMALL else MOST
+    failures = [f"{name}: {len(answers)} answers to {len(rows)} rows"] * (len(answers) != len(rows))
+    told = tried = passed = 0
+    again = {row.call.split()[0]: False for row in rows}
+    for row, answer in zip(rows, answers):
+        signs, refusals, wrong = judged(row, answer, most)
+        again[row.call.split()[0]] |= "+" in signs
+        told, tried, passed, failures = told + refusals, tried + bool(signs), passed + (not wrong), failures + wrong
+        if not signs and not wrong and name == SMALL:
+            failures.append(f"{row.place}: too many allocations")
+    failures += [f"{name}: no {call} goes on after a refusal" for call in sorted(again) if call in GOES_ON and not again[call]]
+    if told < tried or not tried:
+        failures.append(f"{name}: of {tried} rows {told} refusals are told")
+    return passed, failures
 
 
-def main():
-    library, program, *names = sys.argv[1:]
-    told = wrong = tried = 0
-    again = collections.Counter()
-    for case in cases_of(names):
-        with tempfile.NamedTemporaryFile(mode="r") as count:
-            passes, says, _, text = run(library, program, case, REFUSE_COUNT=count.name)
-            total = int(count.read())
-        if not passes or says or total == 0:
-            sys.exit(f"{case.name}: {total} allocations with none refused: {text}")
-        if total > MOST and case.answer is not None:
-            if "/refusals.txt:" in case.name:
-                sys.exit(f"{case.name}: {total} allocations are too many")
-            continue
-        tried += 1
-        for at in range(1, total + 1):
-            passes, says, goes_on, text = run(library, program, case, REFUSE_AT=str(at))
-            told += says
-            call = case.input.partition(" ")[0]
-            again[call] += goes_on
-            if not passes and not says and text.strip() != FAILED_WRITES.get(call):
-                wrong += 1
-                print(f"{case.name}, allocation {at}: {text}")
-    stopped = sorted(call for call in again if call in GOES_ON and not again[call])
-    if wrong or told < tried or not tried or stopped:
-        sys.exit(f"{wrong} refused allocations are told as something else, {told} as want of memory; none goes on: {stopped}")
+def asked_of(name, rows):
+    most = SMALL_MOST if name == SMALL else MOST
+    return Asked(name, [f"refused {most} {row.call}" for row in rows], lambda answers: judge(name, rows, answers))
 
 
-if __name__ == "__main__":
-    main()
+def asked(paths):
+    """The rows of these tables whose allocations are refused."""
+    found = []
+    for path in paths:
+        name = os.path.basename(path)
+        rows = [row for row in tables.rows_of(path)[0] if row.call.split()[0] in calls()[name]]
+        if rows:
+            found.append(asked_of(name, rows))
+    return together("refused", found)
+
+
+def all_asked():
+    return [asked(f"{HERE}/tables/{name}" for name in sorted(calls()))]

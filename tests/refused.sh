@@ -40,19 +40,3 @@ refused() {
   if [ $wrong = 0 ] && [ $told -gt 5 ]; then ok
   else bad "$*: $wrong of $total refused allocations change the answer, $told are told"; fi
 }
-
-# each_refused TABLE ..: of the rows of these tables whose calls tests/allocating.txt names, each allocation
-each_refused() {
-  local table
-  for table in "$@"; do
-    passes "refused allocations of $table" python3 -B tests/refuse_each.py "$scratch/refuse.so" "$probe" "tests/tables/$table.txt"
-  done
-}
-
-# tests_refused LAYER TEST ..: of these tests of the file LAYER.rt, each allocation
-tests_refused() {
-  local layer=$1 made file
-  shift
-  for file in crates/*_tests/src/"$layer".rt; do made=${file%%/src/*}; done
-  passes "refused allocations of $layer" python3 -B tests/refuse_each.py "$scratch/refuse.so" "$made/out/${made#crates/}_tests" "$@"
-}

@@ -16,8 +16,8 @@ import sys
 MOST_PARAMETERS = 5
 MOST_LINES = 45
 MOST_LINES_OF_A_FILE = 400
-# Crates that are nothing but tests.
-TESTS = {"eos_probe", "eos_tests"}
+# The crate that is nothing but callers.
+TESTS = {"eos_tests"}
 COMMENTS = {"rt": re.compile(r"//.*"), "antt": re.compile(r"--.*")}
 TEXTS = re.compile(r'"(?:\\.|[^"\\])*"')
 OPENING = {"(": ")", "[": "]", "{": "}", "<": ">"}
@@ -132,7 +132,7 @@ def bodies(text):
 
 def unproved():
     """The files of the unproved program that tests/unproved.py builds, each without its comments."""
-    for path in sorted(glob.glob("tests/rows/*.rattle")):
+    for path in sorted(glob.glob("tests/rows/**/*.rattle", recursive=True)):
         yield path, COMMENTS["rt"].sub("", read(path))
 
 

@@ -39,6 +39,8 @@ PARTS = re.compile(rf"<(\s*{PART}(?:\s+{PART})*\s*)>")
 NAMING = re.compile(r"([A-Z][A-Z_0-9]*) = (.*)")
 # What is answered to a row that can't be read.
 UNREADABLE = "bad row"
+# How many bytes the rows of hostile.txt may hold, whose counts no bytes bear out.
+LITTLE = 8 << 20
 
 
 def bytes_of(parts, names):
@@ -149,7 +151,9 @@ def all_asked():
     found = sorted(glob.glob(os.path.join(HERE, "tables", "*.txt")))
     bad_rows = os.path.join(HERE, "bad_rows.txt")
     first = asked_of(bad_rows, unreadable(bad_rows), [] if found else ["no tables"])
-    return [together("tables", [first, *map(asked, found)])]
+    hostile = rows_of(os.path.join(HERE, "tables", "hostile.txt"))[0]
+    little = asked_of("hostile.txt in little room", [row._replace(call=f"within {LITTLE} {row.call}") for row in hostile], [])
+    return [together("tables", [first, *map(asked, found), little])]
 
 
 def run(program, table):

@@ -7,11 +7,11 @@ shards, the faults of single records in N shares or P, if these are fewer, the c
 rounded up, make; where there are 4,096 claims or more, the sort of these, in at most N; and the source logs beside the claims, in at
 most N, which is one or two where there is one source partition.
 
-Without `--workers` there are four. Who asks `check_lineage` and names no number gets at most 64: the probe does.
+Without `--workers` there are four. Who asks `check_lineage` and names no number gets at most 64: tests/unproved.py asks that.
 
-    python3 -B tests/threads.py PROGRAM threads.so PROBE
+    python3 -B tests/threads.py PROGRAM threads.so
 
-threads.so is tests/threads.c, built, and PROBE crates/eos_probe. The last line is 'N passed, N failed'.
+threads.so is tests/threads.c, built. The last line is 'N passed, N failed'.
 """
 import json
 import os
@@ -20,6 +20,7 @@ import sys
 import tempfile
 
 import table_logs
+from unproved import Asked
 
 SMALL = "tests/evidence/row-yes-2"
 EACH, OUTPUTS = 1500, 4
@@ -88,22 +89,35 @@ def check_runs(program, library):
             )
 
 
-def lineage_runs(probe, library):
-    """The same of the lineage alone, over so many partitions of outputs."""
-    for outputs in (1, OUTPUTS, 64, 65):
-        logs = "; ".join(f"out-{number}: plain (note of in-0:0)" for number in range(outputs))
-        row = table_logs.expand("check_lineage g:in:out {in-0: plain (a); " + logs + "}", {})
-        done, started, _ = counted([probe], library, input=row + "\n")
+# Over so many partitions of outputs the lineage alone is asked for.
+LINEAGES = 1, OUTPUTS, 64, 65
+
+
+def lineage(outputs):
+    logs = "; ".join(f"out-{number}: plain (note of in-0:0)" for number in range(outputs))
+    return table_logs.expand("counted check_lineage g:in:out {in-0: plain (a); " + logs + "}", {})
+
+
+def judge(answers):
+    """The same of the lineage alone, which tests/unproved.py asks."""
+    failures = [f"the lineage: {len(answers)} answers"] * (len(answers) != len(LINEAGES))
+    for outputs, answer in zip(LINEAGES, answers):
         # The input isn't below the committed offset, which is 0: the first note comes too early, and no claim is held against a log.
-        alone = min(outputs + 1, 64) - 1
-        right = done.stdout.startswith("no 5.7 Early source=in-0:0 output=0 at=out-0:0") and started == alone + shares(outputs, 64) - 1
-        yield right, f"the lineage of {outputs} partitions of outputs: {started} threads; {done.stdout}{done.stderr}"
+        started = min(outputs + 1, 64) - 1 + shares(outputs, 64) - 1
+        _, _, said = answer.partition(" ")
+        if not said.startswith(f"threads={started} no 5.7 Early source=in-0:0 output=0 at=out-0:0"):
+            failures.append(f"the lineage of {outputs} partitions of outputs, not by {started} threads: {answer}")
+    return max(len(LINEAGES) - len(failures), 0), failures
+
+
+def all_asked():
+    return [Asked("threads", list(map(lineage, LINEAGES)), judge)]
 
 
 def main():
-    program, library, probe = sys.argv[1:]
+    program, library = sys.argv[1:]
     passed = failed = 0
-    for right, text in [*check_runs(program, library), *lineage_runs(probe, library)]:
+    for right, text in check_runs(program, library):
         if right:
             passed += 1
         else:

@@ -2,11 +2,12 @@
 """What an unproved program answers: one build of the calls that the tables of cases and some scripts ask for, and a run for each.
 
     python3 -B tests/unproved.py            all tables of tests/tables, tests/bad_rows.txt, and what scripts ask
-    python3 -B tests/unproved.py TABLE ..   these tables alone
+    python3 -B tests/unproved.py TABLE ..   these tables alone, with what tests/refuse_each.py refuses to their rows
     python3 -B tests/unproved.py --layout   lays out the sources of tests/rows
 
-The program is made of tests/rows and the modules of crates/eos_probe, in a crate of its own beside copies of the repository's.
-The kit's `rt try` builds it without any proof, and it tests what it does as it runs. The last line is 'N passed, N failed'.
+The program is made of tests/rows, in a crate of its own beside copies of the repository's. The kit's `rt try` builds it without any
+proof, and it tests what it does as it runs. Its heap is that of tests/rows/heap.c, so that rows can be asked of which each allocation
+is refused, or what they hold is bounded. The last line is 'N passed, N failed'.
 """
 import collections
 import glob
@@ -22,7 +23,7 @@ SOURCES = f"{TOP}/tests/rows"
 # What the kit's interpreter, which is slow, may do, and how long the compiled program may take for one file of rows.
 LIMITS = "--steps", "1", "--seconds", "600"
 # Lines of the kit's own on standard error, which every run has.
-OWN = re.compile(r"(interpreter: |checked: the program ended|allocations: |races: )")
+OWN = re.compile(r"(interpreter: |checked: the program ended|allocations: |races: |rt: compiling )")
 
 # Rows of one run: its name, the calls, and what finds in the answers how many pass, and a text for each failure.
 Asked = collections.namedtuple("Asked", "name rows judge")
@@ -42,20 +43,27 @@ def together(name, asked):
     return Asked(name, [row for it in asked for row in it.rows], judge)
 
 
+def sources():
+    """The program's sources in Rattle, by their paths below tests/rows."""
+    paths = sorted(glob.glob(f"{SOURCES}/**/*.rattle", recursive=True))
+    return [os.path.relpath(path, SOURCES)[: -len(".rattle")] for path in paths]
+
+
 def make_crate(folder):
     """The program's crate, below this folder."""
     shutil.copytree(f"{TOP}/crates", f"{folder}/crates", ignore=shutil.ignore_patterns("out"))
     crate = f"{folder}/crates/rows"
-    shutil.copytree(f"{folder}/crates/eos_probe/src", f"{crate}/src")
-    for path in glob.glob(f"{SOURCES}/*.rattle"):
-        shutil.copy(path, f"{crate}/src/{os.path.basename(path)[: -len('.rattle')]}.rt")
     words = set()
-    for path in glob.glob(f"{crate}/src/**/*.rt", recursive=True):
-        with open(path, encoding="utf-8") as file:
+    for name in sources():
+        os.makedirs(os.path.dirname(f"{crate}/src/{name}"), exist_ok=True)
+        shutil.copy(f"{SOURCES}/{name}.rattle", f"{crate}/src/{name}.rt")
+        with open(f"{crate}/src/{name}.rt", encoding="utf-8") as file:
             words.update(re.findall(r"\w+(?=::)", file.read()))
+    os.mkdir(f"{crate}/c")
+    shutil.copy(f"{SOURCES}/heap.c", f"{crate}/c")
     with open(f"{TOP}/crates.txt", encoding="utf-8") as file:
         lines = file.read()
-    known = re.findall(r"^(\w+)[^:#\n]*:", lines, re.M) + re.search(r"^eos_probe:(.*)", lines, re.M)[1].split()
+    known = re.findall(r"\w+", re.sub(r"#.*", "", lines))
     with open(f"{folder}/crates.txt", "w", encoding="utf-8") as file:
         file.write(f"{lines}rows: {' '.join(sorted(words & set(known)))}\n")
     return crate
@@ -64,8 +72,7 @@ def make_crate(folder):
 def laid_out(crate):
     """Lays out the program's crate, and names the files of tests/rows that were otherwise."""
     done = subprocess.run(["rt", "fmt"], cwd=crate, capture_output=True, text=True, check=False)
-    names = re.findall(r"^rt: formatted src/(\w+)\.rt$", done.stdout, re.M)
-    return [name for name in names if os.path.isfile(f"{SOURCES}/{name}.rattle")]
+    return re.findall(r"^rt: formatted src/([\w/]+)\.rt$", done.stdout, re.M)
 
 
 def parts_of(text, names):
@@ -101,8 +108,9 @@ def run(asked):
         for it in asked:
             with open(f"{folder}/cases/{it.name}", "w", encoding="utf-8") as file:
                 file.writelines(f"{row}\n" for row in it.rows)
-        words = [f"{TOP}/tools/try", *LIMITS, "--cases", f"{folder}/cases"]
-        done = subprocess.run(words, cwd=crate, capture_output=True, text=True, errors="replace", check=False)
+        words = [f"{TOP}/tools/try", "--own-heap", *LIMITS, "--cases", f"{folder}/cases"]
+        allowed = dict(os.environ, RT_ALLOW_C="rows")
+        done = subprocess.run(words, cwd=crate, env=allowed, capture_output=True, text=True, errors="replace", check=False)
     ends, said = ends_of(done.stderr)
     return parts_of(done.stdout, {it.name for it in asked}), ends, said, others
 
@@ -150,12 +158,16 @@ def main():
     import chunks
     import join_orders
     import random_schedules
+    import refuse_each
     import round_trips
     import tables
+    import threads
+    import work_once
 
     if words:
-        return tell([together("tables", list(map(tables.asked, words)))])
-    return tell(it for asks in (tables, round_trips, join_orders, chunks, random_schedules) for it in asks.all_asked())
+        return tell([together("tables", list(map(tables.asked, words))), refuse_each.asked(words)])
+    scripts = tables, refuse_each, work_once, threads, round_trips, join_orders, chunks, random_schedules
+    return tell(it for asks in scripts for it in asks.all_asked())
 
 
 if __name__ == "__main__":

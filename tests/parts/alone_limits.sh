@@ -2,5 +2,5 @@
 . tests/common.sh
 counted 'large and hostile segments' python3 -B tests/limits.py "$program"
 preloaded threads
-counted threads python3 -B tests/threads.py "$program" "$scratch/threads.so" "$probe"
+counted threads python3 -B tests/threads.py "$program" "$scratch/threads.so"
 end

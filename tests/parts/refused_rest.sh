@@ -1,4 +1,4 @@
-# Refused allocations of the other commands, and of calls of which no run meets all refusals.
+# Refused allocations of the other commands. Calls of which no run meets all refusals are asked by tests/unproved.py.
 . tests/common.sh
 . tests/refused.sh
 refused 1 dump "$segments/sarama-txn-markers.log"
@@ -18,12 +18,4 @@ if [ $parts -gt 5 ]; then ok; else bad "no part of a long listing was written be
 
 # what is said of a refused manifest where memory is refused to its cause
 counted 'messages without memory' python3 -B tests/messages.py "$program" "$scratch/refuse.so"
-
-# the caller doesn't do a worker's work again
-passes 'work done once' python3 -B tests/work_once.py "$scratch/refuse.so" "$probe"
-
-# calls of which no run meets all refusals: rows of tables, and tests
-each_refused batch chunks txnlog offsets evidence refusals all_faults
-tests_refused segment_reader segment_reader::reads_all_bytes
-tests_refused kept_history kept_history::a_tail_is_kept kept_history::each_decision_counts_once kept_history::a_kept_run_runs_again
 end

@@ -2,11 +2,12 @@
 
 use eos_batch::Kind;
 use eos_batch::laws::prefix_free;
+use eos_broker::laws::appends_in_order;
 use eos_touch::Touch;
 use eos_touch::laws::neighbours;
 
-#[test]
-fn hold_of_samples(_rt: HostRuntime) {
+/// Calls them.
+pub fn hold_of_samples() {
     let plain = Touch::Data {
         epoch: 1,
         transactional: false,
@@ -19,4 +20,5 @@ fn hold_of_samples(_rt: HostRuntime) {
     };
     neighbours(&[plain, commit], true);
     prefix_free(b"a", b"ab");
+    appends_in_order();
 }
