@@ -1,8 +1,7 @@
 //! The decisions of each producer id and data epoch.
 
-ghost use Rattle.std.specs.Prelude.{◌≡◌, ℤ, List, ◌∷◌, [], ◌++◌, IfOk, OnOk, Some, cond};
+ghost use Rattle.std.specs.Prelude.{◌≡◌, List, ◌∷◌, [], ◌++◌, IfOk, OnOk};
 ghost use Rattle.std.specs.BTreeMap.{get};
-ghost use Rattle.std.specs.Ordering.{is_eq};
 ghost use Rattle.eos_txnlog.specs.declared.decision.Decision.{Decision as DecisionOf};
 ghost use Rattle.eos_table.specs.steps.Keys.{pair_cmp};
 ghost use Rattle.eos_match_faults.specs.steps.Deciders.{with_decision, AreDeciders};
@@ -48,24 +47,12 @@ fn with_decision(known: Option<Decided>, decision: &Decision) -> Decided
     }
 }
 
-fn put_decided(
-    deciders: &mut Deciders,
-    producer: i64,
-    epoch: i16,
-    decided: Decided,
-) -> Result<(), AllocError>
-    ensures { OnOk result ((p e : ℤ) → get pair_cmp deciders.new (p, e) ≡ cond (is_eq (pair_cmp (producer, epoch) (p, e))) (Some decided) (get pair_cmp deciders.old (p, e))) }
-{
-    deciders.insert((producer, epoch), decided)?;
-    Ok(())
-}
-
 fn take_decision(deciders: &mut Deciders, decision: &Decision) -> Result<(), AllocError>
     ensures { (before : List DecisionOf) → AreDeciders deciders.old before → OnOk result (AreDeciders deciders.new (before ++ decision.now ∷ [])) }
 {
     let known = decided_of(deciders, decision.producer, decision.epoch);
     let decided = with_decision(known, decision);
-    put_decided(deciders, decision.producer, decision.epoch, decided)?;
+    deciders.insert((decision.producer, decision.epoch), decided)?;
     Ok(())
 }
 

@@ -8,9 +8,9 @@ ghost use Rattle.eos_fault_list.specs.AllOf.{IsAllOf};
 ghost use Rattle.eos_match_faults.specs.MatchPlaces.{at_decision, at_closes, at_markers, at_names, gathered};
 
 use crate::decided::deciders_of;
+use crate::key::{ended_in_order, listed_in_order, marked_in_order, names_in_order};
 use crate::places::{push_closes, push_decisions, push_markers, push_names};
 use crate::reading::read_decisions;
-use crate::tables::{ended_in_order, listed_in_order, marked_in_order, names_in_order};
 use eos_fault_list::distinct_in_order;
 use eos_partition::Part;
 use eos_table::MatchFault;

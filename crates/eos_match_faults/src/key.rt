@@ -1,12 +1,13 @@
-//! Keys for look-ups. Names are borrowed, so that a key costs no copy of a topic.
+//! Keys for look-ups, in order. Names are borrowed, so that a key costs no copy of a topic.
 
-ghost use Rattle.std.specs.Prelude.{◌≡◌, ◌++◌, IfOk, OnOk, map};
+ghost use Rattle.std.specs.Prelude.{◌≡◌, ◌++◌, IfOk, OnOk, IsPermutation, map};
 ghost use Rattle.eos_txnlog.specs.PartitionSets.{name_of, names_in_topic, names_of};
 ghost use Rattle.eos_fold.specs.Parts.{part_name};
 ghost use Rattle.eos_table.specs.steps.Keys.{listed_of, ended_of};
 ghost use Rattle.eos_match_faults.specs.steps.Keys.{plain_name, listed, plain_listed, ended, plain_ended, marked, marked_of, names};
 
 use bytes::Bytes;
+use eos_base::Sorted;
 use eos_batch::Kind;
 use eos_partition::Part;
 use eos_txnlog::{Decision, TopicPartitions};
@@ -86,17 +87,17 @@ fn push_listed<'a>(keys: &mut Vec<Listed<'a>>, decision: &'a Decision) -> Result
 }
 
 /// The partitions that decisions list.
-pub(crate) fn listed_keys<'a>(
+pub(crate) fn listed_in_order<'a>(
     alloc: Global,
     decisions: &'a [Decision],
-) -> Result<Vec<Listed<'a>>, AllocError>
-    ensures { IfOk result (λ v. map plain_listed v.items ≡ listed decisions.now) }
+) -> Result<Sorted<Listed<'a>>, AllocError>
+    ensures { IfOk result (λ v. IsPermutation (listed decisions.now) (map plain_listed v)) }
 {
     let mut keys = Vec::new(alloc);
     for decision in decisions {
         push_listed(&mut keys, decision)?;
     }
-    Ok(keys)
+    Ok(Sorted::of(keys))
 }
 
 fn push_ended_topic<'a>(
@@ -130,17 +131,17 @@ fn push_ended<'a>(keys: &mut Vec<Ended<'a>>, decision: &'a Decision) -> Result<(
 }
 
 /// The end markers that decisions want.
-pub(crate) fn ended_keys<'a>(
+pub(crate) fn ended_in_order<'a>(
     alloc: Global,
     decisions: &'a [Decision],
-) -> Result<Vec<Ended<'a>>, AllocError>
-    ensures { IfOk result (λ v. map plain_ended v.items ≡ ended decisions.now) }
+) -> Result<Sorted<Ended<'a>>, AllocError>
+    ensures { IfOk result (λ v. IsPermutation (ended decisions.now) (map plain_ended v)) }
 {
     let mut keys = Vec::new(alloc);
     for decision in decisions {
         push_ended(&mut keys, decision)?;
     }
-    Ok(keys)
+    Ok(Sorted::of(keys))
 }
 
 fn push_marked<'a>(keys: &mut Vec<Ended<'a>>, part: &'a Part) -> Result<(), AllocError>
@@ -159,29 +160,29 @@ fn push_marked<'a>(keys: &mut Vec<Ended<'a>>, part: &'a Part) -> Result<(), Allo
 }
 
 /// The end markers that are there.
-pub(crate) fn marked_keys<'a>(
+pub(crate) fn marked_in_order<'a>(
     alloc: Global,
     parts: &'a [Part],
-) -> Result<Vec<Ended<'a>>, AllocError>
-    ensures { IfOk result (λ v. map plain_ended v.items ≡ marked parts.now) }
+) -> Result<Sorted<Ended<'a>>, AllocError>
+    ensures { IfOk result (λ v. IsPermutation (marked parts.now) (map plain_ended v)) }
 {
     let mut keys = Vec::new(alloc);
     for part in parts {
         push_marked(&mut keys, part)?;
     }
-    Ok(keys)
+    Ok(Sorted::of(keys))
 }
 
 /// The names of the partitions.
-pub(crate) fn name_keys<'a>(
+pub(crate) fn names_in_order<'a>(
     alloc: Global,
     parts: &'a [Part],
-) -> Result<Vec<NameRef<'a>>, AllocError>
-    ensures { IfOk result (λ v. map plain_name v.items ≡ names parts.now) }
+) -> Result<Sorted<NameRef<'a>>, AllocError>
+    ensures { IfOk result (λ v. IsPermutation (names parts.now) (map plain_name v)) }
 {
     let mut keys = Vec::new(alloc);
     for part in parts {
         keys.push(name_of_part(part))?;
     }
-    Ok(keys)
+    Ok(Sorted::of(keys))
 }

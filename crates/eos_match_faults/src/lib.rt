@@ -10,6 +10,5 @@ pub mod laws;
 mod look;
 mod places;
 mod reading;
-mod tables;
 
 pub use faults::all_match_faults;

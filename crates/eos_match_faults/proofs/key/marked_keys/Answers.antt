@@ -1,9 +1,0 @@
-use Rattle.std.proofs.Common.{map}
-use Rattle.eos_table.proofs.FoldMore.{pushed_more}
-use Rattle.eos_match_faults.specs.steps.Keys.{plain_ended, marked_of}
-use Rattle.eos_match_faults.proofs.key.marked_keys.Goals as goal
-
-pub loop-part-preserved : goal.loop-part-preserved
-loop-part-preserved c =
-    pushed_more marked_of (map plain_ended c.loop-part.keys.items) (map plain_ended c.push_marked.new.keys.items)
-    c.args.parts.now c.loop-part.part-index c.part-item.result c.loop-part-test.true c.part-item.is c.loop-part.invariant c.in_ok-push_marked.ensures
