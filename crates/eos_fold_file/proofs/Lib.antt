@@ -1,6 +1,7 @@
 pub mod Loop
 pub mod Takes
 pub mod Shortest
+pub mod SmallNumbers
 pub mod NumberCodecs
 pub mod RecordCodecs
 pub mod Shared

@@ -1,9 +1,10 @@
 -- How many first bytes a text shares with the one before.
-use Rattle.std.proofs.Common.{◌≡◌, ℕ, suc, ◌+◌, ◌<◌, ◌≤◌, ◌^◌, Bool, true, false, eqb, ltb, cond, List, [], ◌∷◌, ◌++◌, length, take, drop, Ok, Err, refl, sym, ap, ◌∙◌, subst, arith}
+use Rattle.std.proofs.Common.{◌≡◌, ℕ, zero, suc, ◌+◌, ◌<◌, ◌≤◌, ◌^◌, Bool, true, false, eqb, ltb, not, cond, List, [], ◌∷◌, ◌++◌, length, take, drop, get_or, Ok, Err, refl, sym, ap, ◌∙◌, subst, arith}
 use Rattle.std.specs.Prelude.{nat_eq, min}
 use Rattle.std.specs.List.{common_prefix_len}
 use Rattle.std.proofs.lemmas.Bool.{eqb-true, eq-eqb, ne_eqb, lt-ltb, ltb-true}
-use Rattle.std.proofs.lemmas.List.{take-append-drop, take-append-le, length-take, length-take-le, drop_at, take_min}
+use Rattle.std.proofs.Math.ListN.{drop_of_length-le}
+use Rattle.std.proofs.lemmas.List.{take-append-drop, take-append-le, length-take, length-take-le, drop_at, drop_more, get_or-take, take_min}
 use Rattle.std.proofs.lemmas.List.Sums.{common_prefix_len-le}
 use Rattle.eos_fold_file.specs.declared.fault.FoldFault.TheVariants as faults
 use Rattle.eos_fold_file.specs.Texts.{shared, is_joined, joined}
@@ -77,3 +78,68 @@ pub joined_far : (before : List ℕ) (count : ℕ) (rest : List ℕ) → length 
 joined_far before count rest lt =
     let whole = take count before ++ rest in
     rw (ne_eqb (shared before whole) count (λ q. omega (arith, q, shared_within before whole, lt))) refl
+
+-- ---- whether a joined text shares no more
+
+zero_more : (n : ℕ) → n ≡ 0 + n
+zero_more n = omega arith
+
+common_from : (front rest : List ℕ) (count : ℕ) → count ≤ length front → common_prefix_len nat_eq front (take count front ++ rest) ≡ count + common_prefix_len nat_eq (drop count front) rest
+common_from front rest zero le = zero_more (common_prefix_len nat_eq front rest)
+common_from [] rest (suc n) le = absurd (omega arith)
+common_from (x ∷ xs) rest (suc n) le = let more = common_from xs rest n (omega arith) in rw (eq-eqb x x refl) (omega (arith, more))
+
+-- so many of the text before, and as many more as both have in common from there on
+joined_from : (before rest : List ℕ) (count : ℕ) → count ≤ length before → count ≤ 127 → shared before (take count before ++ rest) ≡ count + common_prefix_len nat_eq (drop count (take 127 before)) rest
+joined_from before rest count le few =
+    let front : List ℕ = take 127 before in
+    let within : count ≤ length front = omega (arith, length-take 127 before, le, few) in
+    let cut : take count before ≡ take count front = sym (ap (take count) (take-append-drop 127 before)) ∙ take-append-le count front (drop 127 before) within in
+    ap (λ (xs : List ℕ). common_prefix_len nat_eq front (xs ++ rest)) cut ∙ common_from front rest count within
+
+pub joined_many : (before rest : List ℕ) (count : ℕ) → 127 < count → eqb (shared before (take count before ++ rest)) count ≡ false
+joined_many before rest count lt = ne_eqb (shared before (take count before ++ rest)) count (λ q. omega (arith, q, shared_few before (take count before ++ rest), lt))
+
+-- nothing more can be shared
+joined_last : (before rest : List ℕ) (count : ℕ) → count ≤ length before → count ≤ 127 → length (take 127 before) ≤ count → eqb (shared before (take count before ++ rest)) count ≡ true
+joined_last before rest count le few last =
+    let none : drop count (take 127 before) ≡ [] = drop_of_length-le (take 127 before) last in
+    let e = joined_from before rest count le few ∙ ap (λ (xs : List ℕ). count + common_prefix_len nat_eq xs rest) none in
+    eq-eqb (shared before (take count before ++ rest)) count (e ∙ omega arith)
+
+pub joined_top : (before rest : List ℕ) (count : ℕ) → count ≤ length before → count ≡ 127 → eqb (shared before (take count before ++ rest)) count ≡ true
+joined_top before rest count le top = joined_last before rest count le (omega arith) (omega (arith, length-take 127 before, top))
+
+pub joined_whole : (before rest : List ℕ) (count : ℕ) → count ≤ 127 → count ≡ length before → eqb (shared before (take count before ++ rest)) count ≡ true
+joined_whole before rest count few all = joined_last before rest count (omega arith) few (omega (arith, length-take 127 before, all))
+
+no_rest : (xs : List ℕ) → common_prefix_len nat_eq xs [] ≡ 0
+no_rest [] = refl
+no_rest (x ∷ xs) = refl
+
+pub joined_alone : (before rest : List ℕ) (count : ℕ) → count ≤ length before → count ≤ 127 → length rest ≡ 0 → eqb (shared before (take count before ++ rest)) count ≡ true
+joined_alone before [] count le few none =
+    let more = no_rest (drop count (take 127 before)) in
+    eq-eqb (shared before (take count before ++ [])) count (omega (arith, joined_from before [] count le few, more))
+joined_alone before (r ∷ rs) count le few none = absurd (omega arith)
+
+by_next : (b : Bool) (count k n : ℕ) → n ≡ count + cond b (1 + k) 0 → eqb n count ≡ not b
+by_next true count k n e = ne_eqb n count (λ q. omega (arith, e, q))
+by_next false count k n e = eq-eqb n count (omega (arith, e))
+
+pub joined_next : (before rest : List ℕ) (count : ℕ) → count < length before → count < 127 → 0 < length rest → eqb (shared before (take count before ++ rest)) count ≡ not (eqb (get_or before count 0) (get_or rest 0 0))
+joined_next before [] count lt few some = absurd (omega arith)
+joined_next before (r ∷ rs) count lt few some =
+    let front : List ℕ = take 127 before in
+    let within : count < length front = omega (arith, length-take 127 before, lt, few) in
+    let here : drop count front ≡ get_or before count 0 ∷ drop (count + 1) front = drop_more front count 0 within ∙ ap (λ (b : ℕ). b ∷ drop (count + 1) front) (get_or-take 127 before count 0 few) in
+    let e = joined_from before (r ∷ rs) count (omega arith) (omega arith) ∙ ap (λ (xs : List ℕ). count + common_prefix_len nat_eq xs (r ∷ rs)) here in
+    by_next (eqb (get_or before count 0) r) count (common_prefix_len nat_eq (drop (count + 1) front) rs) (shared before (take count before ++ r ∷ rs)) e
+
+pub joined_fewer : (before : List ℕ) (count : ℕ) (rest : List ℕ) → eqb (shared before (take count before ++ rest)) count ≡ false → joined before count rest ≡ Err faults.Record
+joined_fewer before count rest e = rw e refl
+
+pub joined_some : (before : List ℕ) (count : ℕ) (rest text : List ℕ) → eqb (shared before (take count before ++ rest)) count ≡ true → text ≡ take count before ++ rest → length text < 2 ^ 63 → joined before count rest ≡ Ok text
+joined_some before count rest text e is lt =
+    let short : length (take count before ++ rest) < 2 ^ 63 = subst (λ (xs : List ℕ). length xs < 2 ^ 63) is lt in
+    rw (e, lt-ltb (length (take count before ++ rest)) (2 ^ 63) short) (ap (λ (xs : List ℕ). Ok xs) (sym is))

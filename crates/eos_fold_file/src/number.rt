@@ -10,7 +10,7 @@
 //! The source of VARLONG is Kafka's protocol guide. A number in a longer spelling than its shortest is refused, so a value has one
 //! text only.
 
-ghost use Rattle.std.specs.Prelude.{◌≡◌, ◌++◌, ◌≤ℤ◌, ◌≤◌, length, OnOk, IfOk};
+ghost use Rattle.std.specs.Prelude.{◌≡◌, ◌++◌, ◌∷◌, ◌≤ℤ◌, ◌≤◌, [], length, drop, Ok, OnOk, IfOk, IfSome};
 ghost use Rattle.eos_wire.specs.Writing.{varlong_of};
 ghost use Rattle.eos_fold_file.specs.Numbers.{u64_text, bytes_text, is_shortest, kind_from, number_from, within_from, i32_from, i16_from, u64_from, u32_from, bytes_from};
 ghost use Rattle.eos_fold_file.specs.Legal.{IsText};
@@ -39,12 +39,34 @@ fn is_shortest(bytes: &[u8], len: usize) -> bool
     len == 1 || bytes[len - 1] != 0
 }
 
+/// The number at the front, where it takes one byte. Most do, and need no loop.
+#[inline(always)]
+#[tactic(auto, using(crate::proofs::SmallNumbers::small_read))]
+fn small(bytes: &[u8]) -> Option<i64>
+    ensures read { IfSome result (λ number. number_from bytes.now ≡ Ok (number, drop 1 bytes.now)) }
+    ensures within { IfSome result (λ number. 1 ≤ length bytes.now) }
+{
+    if bytes.is_empty() {
+        return None;
+    }
+    let first = bytes[0];
+    if first >= 128 {
+        return None;
+    }
+    let half = i64::from(first / 2);
+    Some(if first % 2 == 0 { half } else { -half - 1 })
+}
+
 /// A number of 64 bits.
 #[tactic(auto, unfolding(crate::specs::Numbers::number_from))]
 pub(crate) fn read_number(rest: &mut Cursor<'_>) -> Result<i64, FoldFault>
     ensures { Gives result rest.new (number_from rest.old) }
 {
     let bytes = rest.rest();
+    if let Some(number) = small(bytes) {
+        rest.take(1);
+        return Ok(number);
+    }
     let Some((number, len)) = read_varlong(bytes) else {
         if bytes.len() < MOST {
             return Err(FoldFault::Short);
@@ -128,18 +150,37 @@ pub(crate) fn read_bytes(rest: &mut Cursor<'_>) -> Result<Bytes, FoldFault>
     Ok(text.share()?)
 }
 
+/// The byte of a number that takes one. Most do, and need no loop.
+#[inline(always)]
+#[tactic(auto, using(crate::proofs::SmallNumbers::small_written))]
+fn small_group(number: i64) -> Option<u8>
+    ensures { IfSome result (λ group. varlong_of number ≡ group ∷ []) }
+{
+    if 0 <= number && number < 64 {
+        return Some(number as u8 * 2);
+    }
+    if -64 <= number && number < 0 {
+        return Some(-(number + 1) as u8 * 2 + 1);
+    }
+    None
+}
+
 /// Appends a number.
 pub(crate) fn write_number(out: &mut Vec<u8>, number: i64) -> Result<(), AllocError>
     ensures { OnOk result (out.new.items ≡ out.old.items ++ varlong_of number) }
 {
-    write_varlong(out, number)
+    let Some(group) = small_group(number) else {
+        return write_varlong(out, number);
+    };
+    out.push(group)?;
+    Ok(())
 }
 
 /// Appends an unsigned number.
 pub(crate) fn write_u64(out: &mut Vec<u8>, number: u64) -> Result<(), AllocError>
     ensures { OnOk result (out.new.items ≡ out.old.items ++ u64_text number) }
 {
-    write_varlong(out, number.cast_signed())
+    write_number(out, number.cast_signed())
 }
 
 /// Appends a text.
@@ -147,6 +188,6 @@ pub(crate) fn write_slice(out: &mut Vec<u8>, text: &[u8]) -> Result<(), AllocErr
     ensures text { OnOk result (out.new.items ≡ out.old.items ++ bytes_text text.now) }
     ensures fit { OnOk result (IsText text.now) }
 {
-    write_varlong(out, text.len() as i64)?;
+    write_number(out, text.len() as i64)?;
     out.extend_from_slice(text)
 }

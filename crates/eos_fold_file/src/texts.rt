@@ -9,7 +9,7 @@
 //! shares fewer bytes than it can is refused, so it has one spelling only; one that shares as many as it can is at most 127 bytes
 //! longer than what stands of it.
 
-ghost use Rattle.std.specs.Prelude.{◌≡◌, ◌++◌, ◌≤◌, [], length, nat_eq, Some, IfOk, OnOk};
+ghost use Rattle.std.specs.Prelude.{◌≡◌, ◌++◌, ◌≤◌, ◌<◌, ◌^◌, ◌==◌, [], length, take, nat_eq, Some, IfOk, OnOk};
 ghost use Rattle.std.specs.List.{common_prefix_len};
 ghost use Rattle.eos_fold_file.specs.Faults.{Answers};
 ghost use Rattle.eos_fold_file.specs.Legal.{Each, IsText, IsOptionalText, IsLegalText};
@@ -19,13 +19,16 @@ ghost use Rattle.eos_fold_file.specs.steps.Faults.{Gives};
 use crate::claim::{FoldText, read_optional_claim, write_optional_claim};
 use crate::fault::FoldFault;
 use crate::number::{read_kind, read_run, write_slice};
-use bytes::Bytes;
+use bytes::{Bytes, BytesMut};
 use eos_base::Listed;
 use eos_wire::{Cursor, write_i8};
 use std::alloc::{AllocError, Global};
 
 /// The most bytes that are shared.
 const MOST: usize = 127;
+
+/// How large the blocks are in which texts lie, or as one text where that is larger.
+const BLOCK: usize = 0x4000;
 
 /// How many first bytes both have in common.
 fn common(front: &[u8], text: &[u8]) -> usize
@@ -52,54 +55,83 @@ fn shared(before: &[u8], text: &[u8]) -> usize
 
 // ---- reading
 
-/// Bytes, and those behind them.
-fn copied(alloc: Global, front: &[u8], rest: &[u8]) -> Result<Bytes, AllocError>
-    ensures { IfOk result (λ text. text ≡ front.now ++ rest.now) }
+/// Whether a text with so many first bytes of the one before, and these behind them, shares no more bytes with it.
+#[tactic(auto, using(crate::proofs::Shared::joined_many, crate::proofs::Shared::joined_top, crate::proofs::Shared::joined_whole, crate::proofs::Shared::joined_alone))]
+fn is_most(before: &[u8], count: usize, rest: &[u8]) -> bool
+    requires { count ≤ length before.now }
+    ensures { result ≡ (shared before.now (take count before.now ++ rest.now) == count) }
+{
+    if count > MOST {
+        return false;
+    }
+    if count == MOST || count == before.len() {
+        return true;
+    }
+    if rest.is_empty() {
+        return true;
+    }
+    before[count] != rest[0]
+}
+
+/// Bytes, and those behind them. Many texts lie in one block.
+fn copied(room: &mut BytesMut, front: &[u8], rest: &[u8]) -> Result<Bytes, AllocError>
+    requires { room.old.items ≡ [] }
+    ensures text { IfOk result (λ text. text ≡ front.now ++ rest.now) }
+    ensures short { IfOk result (λ text. length text < 2 ^ 63) }
+    ensures room { OnOk result (room.new.items ≡ []) }
 {
     let Some(size) = front.len().checked_add(rest.len()) else {
         return Err(AllocError);
     };
-    let mut text = Vec::with_capacity(alloc, size)?;
-    text.extend_from_slice(front)?;
-    text.extend_from_slice(rest)?;
-    Ok(Bytes::from_vec(text)?)
+    if room.capacity() < size {
+        room.reserve(size.max(BLOCK))?;
+    }
+    room.extend_from_slice(front)?;
+    room.extend_from_slice(rest)?;
+    room.freeze_to(room.len())
 }
 
 /// A text that shares so many bytes with the one before, and no more.
-fn joined(alloc: Global, before: &[u8], count: usize, rest: &[u8]) -> Result<Bytes, FoldFault>
-    ensures { Answers result (joined before.now count rest.now) }
+#[tactic(auto, using(crate::proofs::Shared::joined_far, crate::proofs::Shared::joined_fewer, crate::proofs::Shared::joined_some))]
+fn joined(room: &mut BytesMut, before: &[u8], count: usize, rest: &[u8]) -> Result<Bytes, FoldFault>
+    requires { room.old.items ≡ [] }
+    ensures text { Answers result (joined before.now count rest.now) }
+    ensures room { OnOk result (room.new.items ≡ []) }
 {
     if before.len() < count {
         return Err(FoldFault::Record);
     }
-    let text = copied(alloc, &before[..count], rest)?;
-    if shared(before, text.as_slice()) != count {
+    if !is_most(before, count, rest) {
         return Err(FoldFault::Record);
     }
-    Ok(text)
+    Ok(copied(room, &before[..count], rest)?)
 }
 
 #[tactic(auto, unfolding(crate::specs::Texts::rest_from))]
 fn read_rest(
-    alloc: Global,
+    room: &mut BytesMut,
     rest: &mut Cursor<'_>,
     before: &[u8],
     count: usize,
 ) -> Result<Option<Bytes>, FoldFault>
-    ensures { Gives result rest.new (rest_from before.now count rest.old) }
+    requires { room.old.items ≡ [] }
+    ensures text { Gives result rest.new (rest_from before.now count rest.old) }
+    ensures room { OnOk result (room.new.items ≡ []) }
 {
     let behind = read_run(rest)?;
-    let text = joined(alloc, before, count, behind.rest())?;
+    let text = joined(room, before, count, behind.rest())?;
     Ok(Some(text))
 }
 
 #[tactic(auto, unfolding(crate::specs::Texts::shared_from))]
 fn read_shared(
-    alloc: Global,
+    room: &mut BytesMut,
     rest: &mut Cursor<'_>,
     before: &[u8],
 ) -> Result<Option<Bytes>, FoldFault>
-    ensures { Gives result rest.new (shared_from before.now rest.old) }
+    requires { room.old.items ≡ [] }
+    ensures text { Gives result rest.new (shared_from before.now rest.old) }
+    ensures room { OnOk result (room.new.items ≡ []) }
 {
     let shared = read_kind(rest)?;
     if shared == -1 {
@@ -108,20 +140,22 @@ fn read_shared(
     if shared < 0 {
         return Err(FoldFault::Record);
     }
-    read_rest(alloc, rest, before, shared as usize)
+    read_rest(room, rest, before, shared as usize)
 }
 
 #[tactic(auto, unfolding(crate::specs::Texts::key_value_from))]
 fn read_text(
-    alloc: Global,
+    room: &mut BytesMut,
     rest: &mut Cursor<'_>,
     key_before: &[u8],
     value_before: &[u8],
 ) -> Result<FoldText, FoldFault>
-    ensures { Gives result rest.new (key_value_from key_before.now value_before.now rest.old) }
+    requires { room.old.items ≡ [] }
+    ensures text { Gives result rest.new (key_value_from key_before.now value_before.now rest.old) }
+    ensures room { OnOk result (room.new.items ≡ []) }
 {
-    let key = read_shared(alloc, rest, key_before)?;
-    let value = read_shared(alloc, rest, value_before)?;
+    let key = read_shared(room, rest, key_before)?;
+    let value = read_shared(room, rest, value_before)?;
     let claim = read_optional_claim(rest)?;
     Ok(FoldText { key, value, claim })
 }
@@ -145,10 +179,11 @@ pub(crate) fn read_texts(
     ensures { Gives result rest.new (key_values_from [] [] count rest.old) }
 {
     let mut texts = Listed::new(Vec::new(alloc));
+    let mut room = BytesMut::new(alloc);
     let mut key = Bytes::new();
     let mut value = Bytes::new();
     for _ in 0..count {
-        let text = read_text(alloc, rest, key.as_slice(), value.as_slice())?;
+        let text = read_text(&mut room, rest, key.as_slice(), value.as_slice())?;
         key = last(key, &text.key)?;
         value = last(value, &text.value)?;
         texts.push(text)?;

@@ -25,7 +25,7 @@ pub(crate) fn copies_of(alloc: Global, texts: &[FoldText]) -> Result<Vec<KeptTex
     requires { All (λ text. ReadsBack text.claim) texts.now }
     ensures { IfOk result (λ copies. copies.items ≡ map text_record texts.now) }
 {
-    let mut copies = Vec::new(alloc);
+    let mut copies = Vec::with_capacity(alloc, texts.len())?;
     for text in texts {
         let key = bytes_of(&text.key);
         let value = bytes_of(&text.value);

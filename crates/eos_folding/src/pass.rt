@@ -45,7 +45,7 @@ pub(crate) fn pass_heads(
     requires fit { AllFit heads.now }
     ensures { IfOk result (Passes begin heads.now) }
 {
-    let mut passed = Vec::new(alloc);
+    let mut passed = Vec::with_capacity(alloc, heads.len())?;
     let mut records = 0;
     let mut next = begin;
     for head in heads {

@@ -23,6 +23,29 @@ fn copy_of_text(alloc: Global, text: Option<&[u8]>) -> Result<Option<Bytes>, All
     Ok(Some(Bytes::copy_from_slice(alloc, text)?))
 }
 
+/// Copies of a key and of a value: in one block, where neither is null.
+fn copies_of_texts(
+    alloc: Global,
+    key: Option<&[u8]>,
+    value: Option<&[u8]>,
+) -> Result<(Option<Bytes>, Option<Bytes>), AllocError>
+    ensures key { IfOk result (λ both. both.0 ≡ option_map (λ s. s.now) key.entry) }
+    ensures value { IfOk result (λ both. both.1 ≡ option_map (λ s. s.now) value.entry) }
+{
+    let (Some(front), Some(behind)) = (key, value) else {
+        return Ok((copy_of_text(alloc, key)?, copy_of_text(alloc, value)?));
+    };
+    let Some(size) = front.len().checked_add(behind.len()) else {
+        return Err(AllocError);
+    };
+    let mut both = Vec::with_capacity(alloc, size)?;
+    both.extend_from_slice(front)?;
+    both.extend_from_slice(behind)?;
+    let mut both = Bytes::from_vec(both)?;
+    let front = both.split_to(front.len())?;
+    Ok((Some(front), Some(both)))
+}
+
 /// A copy of a claim, where there is one.
 fn copy_of_claim(alloc: Global, claim: Option<ClaimRef<'_>>) -> Result<Option<Claim>, AllocError>
     ensures { IfOk result (λ copy. copy ≡ option_map plain_claim claim.entry) }
@@ -53,8 +76,7 @@ impl Reading for FoldTexts {
         placed: Placed<'_>,
     ) -> Result<FoldText, AllocError> {
         let record = placed.view();
-        let key = copy_of_text(alloc, record.key())?;
-        let value = copy_of_text(alloc, record.value())?;
+        let (key, value) = copies_of_texts(alloc, record.key(), record.value())?;
         let claim = copy_of_claim(alloc, view_claim(record.into_headers()))?;
         Ok(FoldText { key, value, claim })
     }

@@ -4,7 +4,7 @@ use Rattle.eos_folding.proofs.PassedHeads.{records_bound, next_bound, passed_non
 use Rattle.eos_folding.proofs.pass.pass_heads.Goals as goal
 
 pub loop-head-init : goal.loop-head-init
-loop-head-init c = passed_none c.args.begin c.args.heads.now c.new-passed.result.items c.requires.begin c.new-passed.ensures.items
+loop-head-init c = passed_none c.args.begin c.args.heads.now c.in_ok-passed.passed.items c.requires.begin c.in_ok-passed.ensures.items
 
 pub returns-then-head-next : goal.returns-then-head-next
 returns-then-head-next c =
