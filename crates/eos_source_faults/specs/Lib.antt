@@ -1,3 +1,4 @@
 pub mod Again
 pub mod Listed
+pub mod Refusals
 pub mod steps

@@ -1,8 +1,9 @@
 //! A partition that is read again, whole.
 
-ghost use Rattle.std.specs.Prelude.{◌+◌, ◌≤◌, length, option_map, IfOk};
+ghost use Rattle.std.specs.Prelude.{◌+◌, ◌≤◌, length, option_map, IfOk, IfErr};
 ghost use Rattle.eos_source.specs.Said.{known_by};
 ghost use Rattle.eos_source_faults.specs.Again.{IsAgain};
+ghost use Rattle.eos_source_faults.specs.Refusals.{IsNoLog};
 ghost use Rattle.eos_source_faults.specs.steps.FaultsAgain.{IsLogOf, HasFaultsAgain, HasFaultsIfFound};
 
 use crate::fault::Unlisted;
@@ -16,7 +17,8 @@ use std::alloc::Global;
 
 /// The bytes of the piece of this number, if it is a log.
 fn bytes_of<S: Source>(alloc: Global, source: &S, piece: u64) -> Result<Bytes, Unlisted<S::Fault>>
-    ensures { IfOk result (IsLogOf (known_by (S.said source.now) (S.is_log source.now) piece)) }
+    ensures ok { IfOk result (IsLogOf (known_by (S.said source.now) (S.is_log source.now) piece)) }
+    ensures fold { IfErr result (λ why. IsNoLog (S.is_log source.now) why) }
 {
     match source.open(alloc, piece) {
         Ok(Piece::Log(mut reader)) => match read_segment(alloc, &mut reader) {
@@ -39,7 +41,8 @@ fn read_again<S: Source>(
     first: u64,
 ) -> Result<Partition, Unlisted<S::Fault>>
     requires { first + length shape.now.segments ≤ 65536 }
-    ensures { IfOk result (IsAgain (known_by (S.said source.now) (S.is_log source.now)) first shape.now) }
+    ensures ok { IfOk result (IsAgain (known_by (S.said source.now) (S.is_log source.now)) first shape.now) }
+    ensures fold { IfErr result (λ why. IsNoLog (S.is_log source.now) why) }
 {
     let names = shape.segments.as_slice();
     let mut segments = Vec::new(alloc);
@@ -76,7 +79,8 @@ fn faults_again<S: Source>(
     fault: &PartitionFault,
 ) -> Result<Vec<PartitionFault>, Unlisted<S::Fault>>
     requires { first + length shape.now.segments ≤ 65536 }
-    ensures { IfOk result (λ faults. HasFaultsAgain (known_by (S.said source.now) (S.is_log source.now)) first shape.now faults.items) }
+    ensures ok { IfOk result (λ faults. HasFaultsAgain (known_by (S.said source.now) (S.is_log source.now)) first shape.now faults.items) }
+    ensures fold { IfErr result (λ why. IsNoLog (S.is_log source.now) why) }
 {
     let partition = read_again(alloc, source, shape, first)?;
     let faults = faults_of_partition(alloc, &partition)?;
@@ -96,7 +100,8 @@ pub(crate) fn faults_if_found<S: Source>(
     found: Option<&Option<PartitionFault>>,
 ) -> Result<Vec<PartitionFault>, Unlisted<S::Fault>>
     requires { first + length shape.now.segments ≤ 65536 }
-    ensures { IfOk result (λ faults. HasFaultsIfFound (known_by (S.said source.now) (S.is_log source.now)) first shape.now (option_map (λ f. f.now) found.entry) faults.items) }
+    ensures ok { IfOk result (λ faults. HasFaultsIfFound (known_by (S.said source.now) (S.is_log source.now)) first shape.now (option_map (λ f. f.now) found.entry) faults.items) }
+    ensures fold { IfErr result (λ why. IsNoLog (S.is_log source.now) why) }
 {
     match found {
         Some(Some(fault)) => faults_again(alloc, source, shape, first, fault),

@@ -1,8 +1,9 @@
 //! All faults, of the first phase that has one.
 
-ghost use Rattle.std.specs.Prelude.{IfOk};
+ghost use Rattle.std.specs.Prelude.{IfOk, IfErr};
 ghost use Rattle.eos_source.specs.Said.{known_by};
 ghost use Rattle.eos_source_faults.specs.Listed.{IsListOf};
+ghost use Rattle.eos_source_faults.specs.Refusals.{IsNoLog};
 ghost use Rattle.eos_source_faults.specs.steps.FaultsAgain.{AreListedAgain};
 
 use crate::again::faults_if_found;
@@ -22,7 +23,8 @@ fn partition_faults<S: Source>(
     shape: &Evidence,
     found: &[Option<PartitionFault>],
 ) -> Result<Vec<PartitionFault>, Unlisted<S::Fault>>
-    ensures { IfOk result (λ list. AreListedAgain (known_by (S.said source.now) (S.is_log source.now)) shape.now.partitions found.now list.items) }
+    ensures ok { IfOk result (λ list. AreListedAgain (known_by (S.said source.now) (S.is_log source.now)) shape.now.partitions found.now list.items) }
+    ensures fold { IfErr result (λ why. IsNoLog (S.is_log source.now) why) }
 {
     let partitions = shape.partitions();
     let mut list = Vec::new(alloc);
@@ -52,7 +54,8 @@ pub fn all_source_faults<S: Source>(
     shape: &Evidence,
     logs: &Logs,
 ) -> Result<Vec<Fault>, Unlisted<S::Fault>>
-    ensures { IfOk result (λ faults. IsListOf (known_by (S.said source.now) (S.is_log source.now)) shape.now logs.now faults.items) }
+    ensures ok { IfOk result (λ faults. IsListOf (known_by (S.said source.now) (S.is_log source.now)) shape.now logs.now faults.items) }
+    ensures fold { IfErr result (λ why. IsNoLog (S.is_log source.now) why) }
 {
     let spec = shape.spec();
     if let Some(_fault) = logs.first_fault() {

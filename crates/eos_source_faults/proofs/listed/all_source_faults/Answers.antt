@@ -8,18 +8,18 @@ use Rattle.eos_source_faults.specs.steps.FaultsAgain.{AreListedAgain}
 use Rattle.eos_source_faults.proofs.ListedAgain.{partitions_listed, later_listed}
 use Rattle.eos_source_faults.proofs.listed.all_source_faults.Goals as goal
 
-pub returns-in-Some : goal.returns-in-Some
-returns-in-Some g c =
+pub returns-in-Some-clause-ok : goal.returns-in-Some-clause-ok
+returns-in-Some-clause-ok g c =
     let known = known_by (g.S.Source.said c.args.source.now) (g.S.Source.is_log c.args.source.now) in
     let shape = c.args.shape.now in
     let logs = c.args.logs.now in
     let list = c.in_ok-faults.faults.items in
     let found : first_of logs.faults.items ≡ Some c.in-Some._fault.now = search rules in
-    let listed = subst (λ (fs : List (Option PartitionFault)). AreListedAgain known shape.partitions fs list) c.as_slice.ensures.value c.in_ok-faults.ensures in
+    let listed = subst (λ (fs : List (Option PartitionFault)). AreListedAgain known shape.partitions fs list) c.as_slice.ensures.value c.in_ok-faults.ensures.ok in
     partitions_listed known shape logs c.in-Some._fault.now list _ c.spec-spec.ensures.evidence found listed c.in_ok-list.ensures
 
-pub returns : goal.returns
-returns g c =
+pub returns-clause-ok : goal.returns-clause-ok
+returns-clause-ok g c =
     let known = known_by (g.S.Source.said c.args.source.now) (g.S.Source.is_log c.args.source.now) in
     let shape = c.args.shape.now in
     let logs = c.args.logs.now in

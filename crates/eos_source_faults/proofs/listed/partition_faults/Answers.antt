@@ -31,13 +31,13 @@ loop-i-preserved g c =
     let len = c.len.ensures in
     let next = first_next shapes i p c.loop-i-test.true c.index-partitions-i.is in
     let looked : slice_get c.args.found.now i ≡ option_map (λ f. f.now) c.get.result = looked_up (λ f. f.now) c.args.found.now i _ c.get.result c.get.ensures.lookup.1 c.get.ensures.lookup.3 in
-    let has = subst (λ n. HasFaultsIfFound known n p (option_map (λ f. f.now) c.get.result) c.in_ok-more.more.items) at c.in_ok-more.ensures in (
+    let has = subst (λ n. HasFaultsIfFound known n p (option_map (λ f. f.now) c.get.result) c.in_ok-more.more.items) at c.in_ok-more.ensures.ok in (
       omega (arith, at, len, next),
       passed known shapes c.args.found.now i p c.loop-i-test.true c.index-partitions-i.is _ c.loop-i.list.items c.in_ok-more.more.items _ looked has c.in_ok-append.ensures.items c.loop-i.invariant.1,
     )
 
-pub returns : goal.returns
-returns g c =
+pub returns-clause-ok : goal.returns-clause-ok
+returns-clause-ok g c =
     let known = known_by (g.S.Source.said c.args.source.now) (g.S.Source.is_log c.args.source.now) in
     let shapes = c.partitions-partitions.result.now in
     subst (λ (ps : List Partition). AreListedAgain known ps c.args.found.now c.loop-i.list.items) c.partitions-partitions.ensures.value
