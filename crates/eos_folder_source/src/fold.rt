@@ -138,7 +138,7 @@ fn unread(fault: FoldFault) -> FoldRefusal {
         words: match fault {
             FoldFault::Short => "it ends early",
             FoldFault::Magic => "it doesn't begin with EOSFOLD, as a fold does",
-            FoldFault::Version => "it is of another version than 1",
+            FoldFault::Version => "it is of another version than this program reads",
             FoldFault::Roles => "what was wanted of its records is none of the three roles",
             FoldFault::Number =>
                 "a number is spelled longer than it need be, or doesn't fit its field",
