@@ -7,8 +7,8 @@ An application runs against a mock cluster (tests/mock_cluster.py), with orders 
 them, become a folder of evidence: with the end markers, the offsets that it committed and a transaction log by another encoder.
 tests/reference.py has to say yes to it with the right counts, each shipment has to be the item that its headers say, and
 PROGRAM, where it is given, has to agree. Where a client has no transactions, or no broker can be had, the headers alone are
-looked at. What needs a compiler or a client that isn't here is skipped, and says so. Prints what is wrong, and as its last
-line 'N passed, N failed, N skipped'.
+looked at, and the application is compiled beside tests/declarations. What needs a compiler or a client that isn't here is
+skipped, and says so. Prints what is wrong and what is skipped, and as its last line 'N passed, N failed'.
 """
 import collections
 import concurrent.futures
@@ -23,6 +23,7 @@ import sys
 import tempfile
 import threading
 
+import example_polls
 import made_evidence
 import mock_cluster
 import mutants
@@ -32,15 +33,18 @@ from random_evidence import Piece
 
 TOP = os.path.dirname(os.path.dirname(os.path.abspath(__file__)))
 EXAMPLES = os.path.join(TOP, "examples")
-ORDERS = {0: [b"apple,pear,plum", b"fig"], 1: [b"", b"nut,,seed", b"rice"]}
+# The last has a null value, which is an input too.
+ORDERS = {0: [b"apple,pear,plum", b"fig"], 1: [b"", b"nut,,seed", b"rice", None]}
 SHIPMENTS = {
     ("orders", 0, 0): [b"apple", b"pear", b"plum"],
     ("orders", 0, 1): [b"fig"],
     ("orders", 1, 0): [],
     ("orders", 1, 1): [b"nut", b"seed"],
     ("orders", 1, 2): [b"rice"],
+    ("orders", 1, 3): [],
 }
-YES = "yes transactions=1 inputs=5 outputs=7"
+YES = "yes transactions=%d inputs=6 outputs=7"
+DECLARATIONS = os.path.join(TOP, "tests", "declarations")
 # The worked record of docs/APPLICATION.md: output 2 of the 3 of offset 4711 of orders-2.
 WORKED = ("orders", 2, 4711, 2, 3)
 WORKED_HEADERS = {
@@ -95,21 +99,59 @@ def marker_text(base, producer, epoch):
 
 
 def evidence_of(cluster, folder):
-    """Writes the folder of one transaction: the logs of `orders` and `shipments`, and what a coordinator would add."""
-    logs = {f"{topic}-{p}": cluster.log(topic, p) for topic, n in (("orders", 2), ("shipments", 3)) for p in range(n)}
-    outputs = {name: log for name, log in logs.items() if name.startswith("shipments") and log}
-    writers = {(b.producer, b.epoch) for log in outputs.values() for b in batches_of(log)}
-    (producer, epoch), (said,) = *writers, cluster.relay.committed
-    expect((said.group, said.producer, said.epoch) == (b"shipping", producer, epoch), "the commit is of the same transaction")
-    rng = random.Random(1)
-    commits = [made_evidence.commit_record(rng, said.group, f"{t}-{p}", o) for (t, p), o in sorted(said.offsets.items())]
-    logs["__consumer_offsets-0"] = text_of(commits, 0, 16, producer, epoch)
-    listed = sorted(outputs) + ["__consumer_offsets-0"]
-    for name in listed:
-        logs[name] += marker_text(length_of(logs[name]), producer, epoch)
-    states = [(0, epoch, []), (1, epoch, listed), (2, epoch + 1, listed), (4, epoch + 1, [])]
+    """Writes the folder of the transactions that were committed, and tells how many: the logs of `orders` and `shipments`, and
+    what a coordinator would add. The mock raises no epoch, so each transaction but the first gets the next one here."""
+    logs = {f"orders-{p}": cluster.log("orders", p) for p in range(2)}
+    outputs = {f"shipments-{p}": pieces_of(cluster.log("shipments", p)) for p in range(3)}
+    committed = [said for at, said in enumerate(cluster.relay.committed) if said not in cluster.relay.committed[:at]]
+    ((producer, epoch),) = {(it.batch.producer, it.batch.epoch) for pieces in outputs.values() for it in pieces}
+    named = {(said.group, said.producer, said.epoch) for said in committed}
+    expect(named == {(b"shipping", producer, epoch)}, f"the commits are of the same producer: {named}")
+    rng, states, passed = random.Random(1), [(0, epoch, [])], {}
+    logs.update({name: b"" for name in [*outputs, "__consumer_offsets-0"]})
+    for at, said in enumerate(committed, epoch):
+        passed.update(said.offsets)
+        offsets = [made_evidence.commit_record(rng, said.group, f"{t}-{p}", o) for (t, p), o in sorted(said.offsets.items())]
+        listed = {"__consumer_offsets-0": [Piece(text_of(offsets, 0, 16, producer, at))]}
+        for name, pieces in outputs.items():
+            listed[name] = [it for it in pieces if all(is_passed(record, passed) for record in it.batch.records)]
+            outputs[name] = pieces[len(listed[name]) :]
+        listed = {name: pieces for name, pieces in sorted(listed.items()) if pieces}
+        for name, pieces in listed.items():
+            logs[name] += transaction_text(pieces, length_of(logs[name]), producer, at)
+        states += [(1, at, list(listed)), (2, at + 1, list(listed)), (4, at + 1, [])]
+    expect(not any(outputs.values()), "each output is of a transaction that was committed")
     records = [(b"\0\0\0\3app", made_evidence.state_text(rng, status, producer, e, names), []) for status, e, names in states]
     logs["__transaction_state-0"] = text_of(records)
+    write_folder(folder, logs)
+    return len(committed)
+
+
+def pieces_of(log):
+    pieces, at = [], 0
+    while at < len(log):
+        size = plain_logs.read_batch(log, at)[1]
+        pieces.append(Piece(log[at : at + size]))
+        at += size
+    return pieces
+
+
+def is_passed(record, passed):
+    (topic, partition, offset), _, _ = plain_logs.claim_of(record.headers)
+    return offset < passed.get((topic.decode(), partition), 0)
+
+
+def transaction_text(pieces, base, producer, epoch):
+    """The batches of a transaction in one partition, with its sequences from 0 on, and its end marker."""
+    text, sequence = b"", 0
+    for it in pieces:
+        is_data = it.batch.sequence >= 0
+        text += it.changed(base=base, producer=producer, epoch=epoch, sequence=sequence if is_data else -1).text
+        base, sequence = base + it.batch.count, sequence + it.batch.count
+    return text + marker_text(base, producer, epoch)
+
+
+def write_folder(folder, logs):
     for name, log in logs.items():
         os.makedirs(os.path.join(folder, name))
         with open(os.path.join(folder, name, f"{0:020}.log"), "wb") as file:
@@ -142,14 +184,14 @@ def shipped(folder):
 
 
 def judge(name, cluster, folder, program):
-    evidence_of(cluster, folder)
+    yes = YES % evidence_of(cluster, folder)
     said = reference.verdict(folder)
-    expect(said == YES, f"{name}: the second program says '{said}'")
+    expect(said == yes, f"{name}: the second program says '{said}'")
     wanted = {s: [(n, len(v), x) for n, x in enumerate(v, 1)] or [(0, 0, b"")] for s, v in SHIPMENTS.items()}
     expect(shipped(folder) == wanted, f"{name}: other shipments than the orders ask for")
     if program:
         status, line = run([program, "check", folder])
-        expect((status, line) == (0, YES + "\n"), f"{name}: check says '{line}'")
+        expect((status, line) == (0, yes + "\n"), f"{name}: check says '{line}'")
         for n in range(3):
             path = os.path.join(folder, f"shipments-{n}", f"{0:020}.log")
             with open(path, "rb") as file:
@@ -169,7 +211,7 @@ def new_cluster(lib):
 def try_application(name, words, lib, scratch, program, **more):
     """Runs an application, which is started with the words and three more, on a cluster of its own."""
     cluster = new_cluster(lib)
-    status, said = run([*words, cluster.address, "app-0", "1"], **more)
+    status, said = run([*words, cluster.address, "app-0", str(len(SHIPMENTS))], 180, **more)
     expect(status == 0, f"{name} ends in {status}: {said[-2000:]}")
     if status == 0:
         judge(name, cluster, os.path.join(scratch, name), program)
@@ -200,6 +242,7 @@ def try_python(lib, scratch, program):
 
     made = {key: value.hex() for key, value in claim(*WORKED)}
     expect(made == WORKED_HEADERS, f"python: the worked headers are {made}")
+    example_polls.try_polls(os.path.join(EXAMPLES, "python", "application.py"), expect)
     python = lib and python_with("confluent_kafka")
     if python:
         path = os.path.join(EXAMPLES, "python", "application.py")
@@ -262,15 +305,29 @@ def try_java(lib, scratch, program):
     said = run(["java", "-cp", classes, "Print"])[1]
     made = dict(line.split("=") for line in said.split())
     expect(made == WORKED_HEADERS, f"java: the worked headers are {said}")
-    clients = os.environ.get("EOSCHECK_KAFKA_CLIENTS")
-    if not lib or not clients:
-        skip("java, the application", "no librdkafka, or EOSCHECK_KAFKA_CLIENTS names no kafka-clients (Debian has none)")
-        return
+    clients = os.environ.get("EOSCHECK_KAFKA_CLIENTS") or declared_java(scratch)
     path = f"{classes}:{clients}"
-    status, said = run(["javac", "-d", classes, "-cp", path, f"{folder}/Claim.java", f"{folder}/Application.java"])
+    words = ["javac", "-Xlint:all,-path", "-Werror", "-d", classes, "-cp", path]
+    status, said = run([*words, f"{folder}/Claim.java", f"{folder}/Application.java"])
     expect(status == 0, f"java: the application is not compiled: {said}")
-    if status == 0:
+    if not lib or "EOSCHECK_KAFKA_CLIENTS" not in os.environ:
+        skip("java, a run of the application", "no librdkafka, or EOSCHECK_KAFKA_CLIENTS names no kafka-clients (Debian has none)")
+    elif status == 0:
         try_application("java", ["java", "-cp", path, "Application"], lib, scratch, program)
+
+
+def declared_java(scratch):
+    """A class path of the declarations."""
+    sources, classes = os.path.join(scratch, "declared"), os.path.join(scratch, "declared-classes")
+    _, *files = read(os.path.join(DECLARATIONS, "kafka-clients.txt")).decode().split("\n== ")
+    for file in files:
+        name, text = file.split("\n", 1)
+        os.makedirs(os.path.join(sources, os.path.dirname(name)), exist_ok=True)
+        with open(os.path.join(sources, name), "w", encoding="utf-8") as opened:
+            opened.write(text)
+    status, said = run(["javac", "-d", classes, *(os.path.join(sources, file.split("\n", 1)[0]) for file in files)])
+    expect(status == 0, f"java: the declarations are not compiled: {said}")
+    return classes
 
 
 SEND_GO = """package main
@@ -300,6 +357,8 @@ func main() {
 
 def try_go(lib, scratch, program):
     """The headers by Debian's client, which has no transactions, and the application where the client has them."""
+    if shutil.which("go"):
+        vet_go(scratch, "go", "github.com/confluentinc/confluent-kafka-go/kafka", "kafka.go")
     env = {**os.environ, "GO111MODULE": "off", "GOPATH": os.environ.get("GOPATH", scratch) + ":/usr/share/gocode"}
     client = shutil.which("go") and run(["go", "list", "-f", "{{.Dir}}", "github.com/confluentinc/confluent-kafka-go/kafka"], env=env)
     if not lib or not client or client[0] != 0:
@@ -315,12 +374,55 @@ def try_go(lib, scratch, program):
     if status == 0:
         try_headers("go", [os.path.join(folder, "send")], lib)
     if b") BeginTransaction(" not in read(os.path.join(client[1].strip(), "producer.go")):
-        skip("go, the application", "the client that is here has no transactions (1.4 or later has)")
+        skip("go, a run of the application", "the client that is here has no transactions (1.4 or later has)")
         return
     status, said = run(["go", "build", "-o", f"{scratch}/go-application", "."], 300, cwd=source, env=env)
     expect(status == 0, f"go: the application is not compiled: {said}")
     if status == 0:
         try_application("go", [f"{scratch}/go-application"], lib, scratch, program)
+
+
+PRINT_GO = """package main
+
+import "fmt"
+
+func main() {
+	for _, header := range claim("%s", %d, %d, %d, %d) {
+		fmt.Printf("%%s=%%x\\n", header.Key, header.Value)
+	}
+}
+"""
+
+
+def try_franz_go(lib, scratch, program):
+    """The example beside declarations, and its headers."""
+    if not shutil.which("go"):
+        skip("franz-go", "no Go (golang-go)")
+        return
+    env = vet_go(scratch, "franz-go", "github.com/twmb/franz-go/pkg/kgo", "kgo.go")
+    folder = os.path.join(scratch, "franz-go-headers")
+    os.mkdir(folder)
+    shutil.copy(os.path.join(EXAMPLES, "franz-go", "claim.go"), folder)
+    with open(os.path.join(folder, "main.go"), "w", encoding="utf-8") as file:
+        file.write(PRINT_GO % WORKED)
+    status, said = run(["go", "run", "."], 300, cwd=folder, env=env)
+    made = dict(line.split("=") for line in said.split() if "=" in line)
+    expect(status == 0 and made == WORKED_HEADERS, f"franz-go: the worked headers are {said}")
+    skip("franz-go, a run of the application", "its module isn't fetched by a test")
+
+
+def vet_go(scratch, name, package, declared):
+    """Compiles and vets an example beside the declarations of its client, and tells the environment in which that is done."""
+    folder = os.path.join(scratch, f"{name}-declared")
+    os.makedirs(os.path.join(folder, "src", package))
+    shutil.copy(os.path.join(DECLARATIONS, declared), os.path.join(folder, "src", package))
+    env = {**os.environ, "GO111MODULE": "off", "GOPATH": folder, "GOFLAGS": ""}
+    for words in (["go", "build", "-o", os.path.join(folder, "built"), "."], ["go", "vet", "."]):
+        status, said = run(words, 300, cwd=os.path.join(EXAMPLES, name), env=env)
+        expect(status == 0, f"{name}: {words[1]} beside declarations: {said}")
+    status, said = run(["gofmt", "-l", ".", DECLARATIONS], cwd=os.path.join(EXAMPLES, name), env=env)
+    expect((status, said) == (0, ""), f"{name}: gofmt would change {said}")
+    return env
 
 
 def read(path):
@@ -333,12 +435,12 @@ def main():
     lib = mock_cluster.load()
     with tempfile.TemporaryDirectory() as scratch:
         with concurrent.futures.ThreadPoolExecutor() as pool:
-            tried = [pool.submit(try_it, lib, scratch, program) for try_it in (try_c, try_python, try_kafka_python, try_java, try_go)]
+            tried = [pool.submit(try_it, lib, scratch, program) for try_it in (try_c, try_python, try_kafka_python, try_java, try_go, try_franz_go)]
         for one in tried:
             one.result()
     text = read(os.path.join(TOP, "docs", "APPLICATION.md")).decode()
     expect(all(value in text for value in WORKED_HEADERS.values()), "docs/APPLICATION.md has other worked headers")
-    print(", ".join(f"{number} {what}" for what, number in counts.items()), flush=True)
+    print(f"{counts['passed']} passed, {counts['failed']} failed", flush=True)
     os._exit(1 if counts["failed"] else 0)  # the mock clusters' threads go on
 
 

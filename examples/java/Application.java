@@ -3,6 +3,7 @@ import java.util.ArrayList;
 import java.util.HashMap;
 import java.util.List;
 import java.util.Map;
+import org.apache.kafka.clients.consumer.ConsumerGroupMetadata;
 import org.apache.kafka.clients.consumer.ConsumerRecord;
 import org.apache.kafka.clients.consumer.ConsumerRecords;
 import org.apache.kafka.clients.consumer.KafkaConsumer;
@@ -12,16 +13,18 @@ import org.apache.kafka.clients.producer.ProducerRecord;
 import org.apache.kafka.common.KafkaException;
 import org.apache.kafka.common.TopicPartition;
 import org.apache.kafka.common.errors.ProducerFencedException;
+import org.apache.kafka.common.errors.TimeoutException;
 import org.apache.kafka.common.serialization.StringDeserializer;
 import org.apache.kafka.common.serialization.StringSerializer;
 
 /**
- * Reads orders and writes a shipment for each of their items, exactly once. Client: kafka-clients.
+ * Reads orders and writes a shipment for each of their items, exactly once. Client: kafka-clients, 4.0 or later: an older one
+ * doesn't raise the producer's epoch at the end of a transaction, so that its logs can't pass.
  *
- * <p>java Application BOOTSTRAP TRANSACTIONAL-ID TRANSACTIONS
+ * <p>java Application BOOTSTRAP TRANSACTIONAL-ID ORDERS
  *
- * <p>The value of an order is its items, divided by commas. An empty order has no shipments, so it gets a note. It stops after so
- * many transactions; a real application goes on.
+ * <p>The value of an order is its items, divided by commas. An order without items, or without a value, has no shipments, so it
+ * gets a note. It stops after so many orders; a real application goes on.
  */
 public final class Application {
   private Application() {}
@@ -32,34 +35,24 @@ public final class Application {
       producer.initTransactions();
       consumer.subscribe(List.of("orders"));
       for (int left = Integer.parseInt(words[2]); left > 0; ) {
-        List<ConsumerRecord<String, String>> orders = readOrders(consumer);
+        // One poll a transaction, and the group's generation right after it: a later poll may cross a rebalance, and then offsets
+        // would be committed for orders which another member reads too.
+        ConsumerRecords<String, String> orders = consumer.poll(Duration.ofSeconds(1));
         if (!orders.isEmpty()) {
-          process(consumer, producer, orders);
-          left--;
+          process(producer, orders, consumer.groupMetadata());
+          left -= orders.count();
         }
       }
     }
   }
 
-  /** The orders that come until none came for a second. */
-  private static List<ConsumerRecord<String, String>> readOrders(KafkaConsumer<String, String> consumer) {
-    List<ConsumerRecord<String, String>> orders = new ArrayList<>();
-    ConsumerRecords<String, String> polled;
-    do {
-      polled = consumer.poll(Duration.ofSeconds(1));
-      polled.forEach(orders::add);
-    } while (!polled.isEmpty());
-    return orders;
-  }
-
   /** One transaction: the outputs of these orders, and the offsets past them. */
-  private static void process(
-      KafkaConsumer<String, String> consumer, KafkaProducer<String, String> producer, List<ConsumerRecord<String, String>> orders) {
+  private static void process(KafkaProducer<String, String> producer, ConsumerRecords<String, String> orders, ConsumerGroupMetadata group) {
     producer.beginTransaction();
     try {
       orders.forEach(order -> sendOutputs(producer, order));
-      producer.sendOffsetsToTransaction(passed(orders), consumer.groupMetadata());
-      producer.commitTransaction();
+      producer.sendOffsetsToTransaction(passed(orders), group);
+      commit(producer);
     } catch (ProducerFencedException fenced) {
       throw fenced;
     } catch (KafkaException failed) {
@@ -68,10 +61,24 @@ public final class Application {
     }
   }
 
+  /** After a time-out nobody knows whether it was committed: so it is asked again, and not aborted. */
+  private static void commit(KafkaProducer<String, String> producer) {
+    while (true) {
+      try {
+        producer.commitTransaction();
+        return;
+      } catch (TimeoutException late) {
+        System.err.println("the commit isn't answered yet: " + late.getMessage());
+      }
+    }
+  }
+
   /** The number of outputs is known before the first is sent. */
   private static void sendOutputs(KafkaProducer<String, String> producer, ConsumerRecord<String, String> order) {
     List<String> items = new ArrayList<>();
-    for (String item : order.value().split(",")) {
+    // A null value is an input too.
+    String value = order.value() == null ? "" : order.value();
+    for (String item : value.split(",")) {
       if (!item.isEmpty()) {
         items.add(item);
       }
@@ -91,11 +98,12 @@ public final class Application {
     producer.send(shipment);
   }
 
-  /** For each partition the offset after the last order that was read of it. */
-  private static Map<TopicPartition, OffsetAndMetadata> passed(List<ConsumerRecord<String, String>> orders) {
+  /** For each partition the offset after the last order that was read of it, and that order's leader epoch. */
+  private static Map<TopicPartition, OffsetAndMetadata> passed(ConsumerRecords<String, String> orders) {
     Map<TopicPartition, OffsetAndMetadata> after = new HashMap<>();
     for (ConsumerRecord<String, String> order : orders) {
-      after.put(new TopicPartition(order.topic(), order.partition()), new OffsetAndMetadata(order.offset() + 1));
+      OffsetAndMetadata next = new OffsetAndMetadata(order.offset() + 1, order.leaderEpoch(), "");
+      after.put(new TopicPartition(order.topic(), order.partition()), next);
     }
     return after;
   }
