@@ -4,7 +4,7 @@ use Rattle.std.proofs.lemmas.List.{places, length-append, length-take-le}
 use Rattle.std.proofs.lemmas.Result.{err_from_is_err_and}
 use Rattle.std.proofs.KnownBytes.{Consumes-trans}
 use Rattle.eos_chunks.proofs.MoreBytes.{take_more}
-use Rattle.eos_chunks.proofs.reader.read_folded.Goals as goal
+use Rattle.eos_chunks.proofs.reader.read_by.Goals as goal
 
 pub returns-in_err-feed-clause-refused : goal.returns-in_err-feed-clause-refused
 returns-in_err-feed-clause-refused g c =

@@ -3,7 +3,7 @@ use Rattle.std.proofs.Common.{◌≡◌, ◌≤◌, ◌+◌, ◌-◌, ℕ, List,
 use Rattle.std.specs.Io.KnownBytes.{Consumes}
 use Rattle.eos_evidence.specs.declared.segment_reader.TheConstants.{MAX_SEGMENT_BYTES}
 use Rattle.eos_chunks.specs.declared.reader.TheConstants.{CHUNK}
-use Rattle.eos_chunks.proofs.reader.read_folded.Given as goal
+use Rattle.eos_chunks.proofs.reader.read_by.Given as goal
 
 abbrev pub invariant-loop-fed : goal.invariant-loop-fed
 invariant-loop-fed g l = record {
