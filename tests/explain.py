@@ -158,6 +158,8 @@ def wanted_rows(apps, parts, line):
                     continue
                 if key and key[1:] == source[:2] and value > source[2]:
                     rows["own" if key[0] == group else "others"].append(place)
+                elif key == (group, *source[:2]):
+                    rows["up to"].append(place)
     for visible, most in (True, 3), (False, 2):
         for place, part, batch in claims[visible][:most]:
             rows["claim" if visible else "unseen"].append(place)
@@ -165,9 +167,9 @@ def wanted_rows(apps, parts, line):
             if marker:
                 rows["marker"].append((*part.name, marker.base))
                 rows["decided"] += decided[marker.producer, marker.epoch][:1]
-    rows["commit"] = (rows.pop("own", []) or rows.pop("others", []))[:3]
+    rows["commit"] = (rows.pop("own", []) or rows.pop("others", []))[:3] + rows.pop("up to", [])[-1:]
     rows.pop("others", None)
-    return {role: sorted(places) for role, places in rows.items() if places}
+    return {role: sorted(set(places)) for role, places in rows.items() if places}
 
 
 def told_rows(lines, at):
@@ -176,7 +178,7 @@ def told_rows(lines, at):
         role = "claim" if row[1] == "fault" else row[1]
         if role in ("claim", "unseen", "marker", "decided", "commit"):
             rows[role].append((bytes_of(row[2]), int(row[3]), int(row[4])))
-    return {role: sorted(places) for role, places in rows.items()}
+    return {role: sorted(set(places)) for role, places in rows.items()}
 
 
 # ---- folders

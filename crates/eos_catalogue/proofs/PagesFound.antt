@@ -42,3 +42,7 @@ is_page pages code page same briefs e =
     by_page : (code : List ℕ) (page : Option Page) → Fits code (is_one_of page_codes code) page → IsPageOf code page
     by_page code None h = h
     by_page code (Some p) h = h
+
+-- lists that are one behind the other, by those that each of them is
+pub alike : {a b c d e f g h i j : List Page} → a ≡ f → b ≡ g → c ≡ h → d ≡ i → e ≡ j → ((((a ++ b) ++ c) ++ d) ++ e) ≡ ((((f ++ g) ++ h) ++ i) ++ j)
+alike one two three four five = rw (one, two, three, four, five) refl

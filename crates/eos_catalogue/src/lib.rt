@@ -3,6 +3,8 @@
 //! It is one table, from which `explain --code`, `docs/FAULTS.md` and the list of kinds in the help of `check` come.
 #![tactic(auto)]
 
+mod case;
+mod cases;
 mod kinds;
 mod outputs;
 mod page;
@@ -10,5 +12,6 @@ mod partitions;
 mod records;
 mod transactions;
 
+pub use case::{Case, Sign};
 pub use kinds::push_kinds;
 pub use page::{Page, page_of, page_text};

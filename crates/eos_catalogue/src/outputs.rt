@@ -1,11 +1,13 @@
 //! Phase 5: the outputs of the applications against their inputs.
 
+use crate::cases;
 use crate::page::Page;
 
 pub(crate) static OUTPUTS: [Page; 8] = [
     Page {
         code: "5.5",
         name: "ForeignSource",
+        cases: &[],
         brief: &["an output names a topic that isn't a source"],
         says: "A visible output names as its input a record of a topic that is no source of
 the application.",
@@ -18,6 +20,7 @@ the application.",
     Page {
         code: "5.6",
         name: "NoSuchInput",
+        cases: &[],
         brief: &["an output names an input that isn't there or was aborted"],
         says: "A visible output names an input that isn't there, or was aborted.",
         means: "It was made from a record that readers of committed records never got.",
@@ -30,6 +33,7 @@ the application.",
     Page {
         code: "5.7",
         name: "Early",
+        cases: cases::EARLY,
         brief: &["an output of an input that isn't committed yet"],
         says: "A visible output names an input at or above the group's committed offset.",
         means: "The output is visible and its input would be processed again.",
@@ -43,6 +47,7 @@ the application.",
     Page {
         code: "5.8",
         name: "CountDisagrees",
+        cases: &[],
         brief: &["two outputs of an input name different counts"],
         says: "Two outputs of one input name different numbers of outputs.",
         means: "How many outputs the input has isn't known, so none can be called missing.",
@@ -54,6 +59,7 @@ the application.",
     Page {
         code: "5.9",
         name: "NumberRange",
+        cases: &[],
         brief: &["an output's number isn't in 1 to its count"],
         says: "An output's number isn't one of 1 to its count, or is 0 and no note.",
         means: "The numbering is wrong; number 0 is only the note of an input without outputs.",
@@ -63,6 +69,7 @@ the application.",
     Page {
         code: "5.10",
         name: "Repeated",
+        cases: cases::REPEATED,
         brief: &["an output stands twice: the input was processed twice"],
         says: "One output of an input stands twice, and both are visible.",
         means: "The input was processed twice, each time in a committed transaction. No rule
@@ -78,6 +85,7 @@ between them. To repair: the second output is the surplus one.",
     Page {
         code: "5.11",
         name: "Missing",
+        cases: cases::MISSING,
         brief: &["a committed input lacks an output"],
         says: "An input below the group's committed offset lacks an output, or has none and
 no note.",
@@ -95,6 +103,7 @@ something else committed past it. Who committed that offset?",
     Page {
         code: "5.12",
         name: "OtherTransaction",
+        cases: cases::OTHER,
         brief: &[
             "an output from another transaction than one that",
             "committed past its input",

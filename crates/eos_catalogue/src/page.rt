@@ -4,9 +4,10 @@ ghost use Rattle.std.specs.Prelude.{◌≡◌, IfOk, OnOk, codes, string_bytes};
 ghost use Rattle.std.specs.Option.{option_copied};
 ghost use Rattle.eos_text.specs.Adding.{Adds};
 ghost use Rattle.eos_catalogue.specs.Catalogue.{IsPageOf};
-ghost use Rattle.eos_catalogue.specs.Pages.{title_text, section_text, sections_text, page_text};
+ghost use Rattle.eos_catalogue.specs.Pages.{title_text, section_text, sections_text, case_lines, cases_lines, cases_heading, cases_text, page_text};
 ghost use Rattle.eos_catalogue.specs.steps.Found.{page_in};
 
+use crate::case::Case;
 use crate::outputs::OUTPUTS;
 use crate::partitions::PARTITIONS;
 use crate::records::RECORDS;
@@ -21,6 +22,8 @@ pub struct Page {
     pub code: &'static str,
     /// Its name, as a verdict's line has it.
     pub name: &'static str,
+    /// What its rows may show that the kind alone doesn't say: the first case that holds counts.
+    pub cases: &'static [Case],
     /// The same in few words, as a list of all kinds has it: one line or two of at most 56 columns.
     pub brief: &'static [&'static str],
     /// What stands in the logs.
@@ -66,6 +69,7 @@ pub fn page_text(alloc: Global, page: &Page) -> Result<String, AllocError>
     let mut out = String::new(alloc);
     push_title(&mut out, page)?;
     push_sections(&mut out, page)?;
+    push_cases(&mut out, page.cases)?;
     Ok(out)
 }
 
@@ -100,6 +104,44 @@ fn push_section(out: &mut String, heading: &str, lines: &str) -> Result<(), Allo
     push_text(out, heading)?;
     push_text(out, "\n")?;
     push_text(out, lines)?;
+    push_text(out, "\n")?;
+    Ok(())
+}
+
+/// The heading of what the rows of a story may show, if there is such.
+fn cases_heading(cases: &[Case]) -> &'static str
+    ensures { result.now ≡ cases_heading cases.now }
+{
+    if cases.is_empty() {
+        return "";
+    }
+    "\nWhat the rows of its story may show, the first that holds\n"
+}
+
+fn push_cases(out: &mut String, cases: &[Case]) -> Result<(), AllocError>
+    ensures { OnOk result (Adds (string_bytes out.old) (string_bytes out.new) (cases_text cases.now)) }
+{
+    push_text(out, cases_heading(cases))?;
+    push_case_lines(out, cases)?;
+    Ok(())
+}
+
+fn push_case_lines(out: &mut String, cases: &[Case]) -> Result<(), AllocError>
+    ensures { OnOk result (Adds (string_bytes out.old) (string_bytes out.new) (cases_lines cases.now)) }
+{
+    for case in cases {
+        push_case(out, case)?;
+    }
+    Ok(())
+}
+
+fn push_case(out: &mut String, case: &Case) -> Result<(), AllocError>
+    ensures { OnOk result (Adds (string_bytes out.old) (string_bytes out.new) (case_lines case.now)) }
+{
+    push_text(out, "- ")?;
+    push_text(out, case.when)?;
+    push_text(out, ":\n")?;
+    push_text(out, case.means)?;
     push_text(out, "\n")?;
     Ok(())
 }

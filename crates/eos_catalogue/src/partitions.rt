@@ -1,11 +1,13 @@
 //! Phase 1: a partition's log by itself.
 
+use crate::cases;
 use crate::page::Page;
 
 pub(crate) static PARTITIONS: [Page; 11] = [
     Page {
         code: "1.1",
         name: "BadBatch",
+        cases: &[],
         brief: &["no batch begins there: see `eoscheck dump --help`"],
         says: "At `byte` of the segment no record batch begins: `batch` names the first test
 that failed. All batches before it were read, up to `offset`.",
@@ -24,6 +26,7 @@ before the run. `eoscheck dump SEGMENT` lists what stands before the place.",
     Page {
         code: "1.2",
         name: "Gap",
+        cases: cases::GAP,
         brief: &[
             "another offset or segment than the next: a lost or",
             "misnamed file, or a compacted log",
@@ -44,6 +47,7 @@ topics.",
     Page {
         code: "1.3",
         name: "FirstSequence",
+        cases: &[],
         brief: &["a producer's epoch doesn't begin at sequence 0"],
         says: "The first batch of a producer's epoch doesn't begin at sequence 0.",
         means: "Records of that epoch before it are missing, or the broker took a batch that
@@ -57,6 +61,7 @@ replicas; look in the broker's log for the loading of producer snapshots.",
     Page {
         code: "1.4",
         name: "Sequence",
+        cases: &[],
         brief: &["a sequence is missing or repeated"],
         says: "A batch's base sequence isn't the one after the last sequence of its producer
 epoch.",
@@ -73,6 +78,7 @@ and look for an unclean leader election at that time.",
     Page {
         code: "1.5",
         name: "ZombieEpoch",
+        cases: cases::PAIR,
         brief: &["a producer wrote with an older epoch than before"],
         says: "A producer id wrote with a lower epoch than it had in this log before.",
         means: "Fencing failed: an older instance wrote after a newer one had begun.",
@@ -84,6 +90,7 @@ outputs.",
     Page {
         code: "1.6",
         name: "EpochWhileOpen",
+        cases: cases::WHILE_OPEN,
         brief: &["a new epoch began while a transaction was open"],
         says: "Transactional data of a greater epoch stands where the lower epoch's
 transaction has no end marker yet.",
@@ -99,6 +106,7 @@ leader?",
     Page {
         code: "1.7",
         name: "NoBump",
+        cases: cases::NO_BUMP,
         brief: &[
             "an end marker has the epoch of its data: transaction",
             "version 2 was off",
@@ -115,6 +123,7 @@ next transaction's, so a fenced log can't be promised.",
     Page {
         code: "1.8",
         name: "MixedProducer",
+        cases: &[],
         brief: &["a producer wrote both inside and outside transactions"],
         says: "One producer id wrote inside and outside of transactions.",
         means: "A producer is one or the other for life: here two clients share an id, or
@@ -127,6 +136,7 @@ at the two batches with `eoscheck dump`.",
     Page {
         code: "1.9",
         name: "MarkerKind",
+        cases: &[],
         brief: &["one transaction has both a commit and an abort"],
         says: "Two end markers of one producer epoch, one a commit and one an abort.",
         means: "The same transaction ended in both ways: readers of committed records saw it
@@ -138,6 +148,7 @@ or not, depending on when they read.",
     Page {
         code: "1.10",
         name: "End",
+        cases: cases::END,
         brief: &["the log has another number of records than `ends` says"],
         says: "All bytes were read, and the log has `offset` records, not `end` as the
 manifest says.",
@@ -153,6 +164,7 @@ then copy. Compare the log's size with the broker's.",
     Page {
         code: "1.11",
         name: "OpenAtEnd",
+        cases: cases::OPEN,
         brief: &["a transaction is open at the end: collect later"],
         says: "The producer id's last batch is of a transaction, and no end marker follows
 it.",

@@ -1,11 +1,13 @@
 //! Phase 4: single visible records.
 
+use crate::cases;
 use crate::page::Page;
 
 pub(crate) static RECORDS: [Page; 4] = [
     Page {
         code: "4.1",
         name: "BadLineage",
+        cases: cases::LINEAGE,
         brief: &["an output record lacks a lineage header, or it is wrong"],
         says: "A visible record of an output topic doesn't say of which input it is: one of
 the five headers is absent, null, repeated, of another length, or below 0.",
@@ -22,6 +24,7 @@ the five headers is absent, null, repeated, of another length, or below 0.",
     Page {
         code: "4.2",
         name: "BadOffset",
+        cases: &[],
         brief: &["a record of __consumer_offsets doesn't read"],
         says: "A visible record of __consumer_offsets doesn't read: `record` names the first
 test that failed.",
@@ -33,6 +36,7 @@ test that failed.",
     Page {
         code: "4.3",
         name: "SplitGroup",
+        cases: &[],
         brief: &["a group's offsets stand in two partitions"],
         says: "One group has commits in two partitions of __consumer_offsets.",
         means: "A group lies in one partition, by its hash. Which commit is the last can't be
@@ -44,6 +48,7 @@ said.",
     Page {
         code: "4.4",
         name: "OffsetDeleted",
+        cases: &[],
         brief: &["a committed offset was deleted"],
         says: "A tombstone stands under a committed offset of a group that is judged.",
         means: "From there on the group would begin anew, so its committed offsets say

@@ -1,5 +1,6 @@
 //! Phases 2 and 3: the transaction log, and its decisions against the partitions' logs.
 
+use crate::cases;
 use crate::page::Page;
 
 /// Phase 2: the transaction log.
@@ -7,6 +8,7 @@ pub(crate) static TRANSACTION_LOG: [Page; 5] = [
     Page {
         code: "2.1",
         name: "BadRecord",
+        cases: &[],
         brief: &["a record of __transaction_state doesn't read"],
         says: "A record of __transaction_state doesn't read: `record` names the first test
 that failed.",
@@ -19,6 +21,7 @@ neighbours.",
     Page {
         code: "2.2",
         name: "Step",
+        cases: &[],
         brief: &["a transaction's state may not follow the one before"],
         says: "A state of a transactional id may not follow the one before it: `why` names
 the rule.",
@@ -33,6 +36,7 @@ coordinators wrote.",
     Page {
         code: "2.3",
         name: "SplitId",
+        cases: &[],
         brief: &["a transactional id stands in two partitions"],
         says: "One transactional id has records in two partitions of __transaction_state.",
         means: "An id lies in one partition, by its hash. Two coordinators worked for it.",
@@ -43,6 +47,7 @@ coordinators wrote.",
     Page {
         code: "2.4",
         name: "SharedProducer",
+        cases: &[],
         brief: &["two transactional ids have one producer id"],
         says: "Two transactional ids have one producer id.",
         means: "What the producer wrote can't be told apart: neither id's transactions can be
@@ -54,6 +59,7 @@ judged.",
     Page {
         code: "2.5",
         name: "Unfinished",
+        cases: cases::UNFINISHED,
         brief: &["a transaction goes on at the end: collect later"],
         says: "At the partition's end a transactional id is ongoing, or prepared and not
 complete.",
@@ -70,6 +76,7 @@ pub(crate) static DECISIONS: [Page; 7] = [
     Page {
         code: "3.1",
         name: "TwiceDecided",
+        cases: &[],
         brief: &["a transaction was decided twice"],
         says: "Two decisions of one producer id and epoch.",
         means: "A transaction was decided twice, so its end depends on who is asked.",
@@ -81,6 +88,7 @@ __transaction_state).",
     Page {
         code: "3.2",
         name: "Undecided",
+        cases: &[],
         brief: &["data of a transaction that nobody decided"],
         says: "Records of a transaction have an end marker, and no decision of their producer
 epoch stands in the transaction log.",
@@ -95,6 +103,7 @@ is a hash.",
     Page {
         code: "3.3",
         name: "WrongKind",
+        cases: &[],
         brief: &["data ended in another way than was decided"],
         says: "Records ended by a commit where an abort was decided, or the other way round.",
         means: "A part of the transaction is visible and another isn't: not atomic.",
@@ -106,6 +115,7 @@ show them.",
     Page {
         code: "3.4",
         name: "NotListed",
+        cases: &[],
         brief: &["data in a partition that its transaction doesn't list"],
         says: "Records of a transaction stand in a partition that its decision doesn't list.",
         means: "The partition was never added to the transaction, or the list was lost: its
@@ -117,6 +127,7 @@ marker came by another way.",
     Page {
         code: "3.5",
         name: "StrayMarker",
+        cases: &[],
         brief: &["an end marker that nobody decided"],
         says: "An end marker of no decision that lists its partition.",
         means: "Something was ended that nobody decided, as far as these logs say.",
@@ -129,6 +140,7 @@ marker.",
     Page {
         code: "3.6",
         name: "AbsentPartition",
+        cases: &[],
         brief: &["a transaction lists a partition that isn't in `ends`"],
         says: "A decision lists a partition that isn't in `ends`.",
         means: "What the transaction wrote there isn't known, so it can't be called whole.",
@@ -140,6 +152,7 @@ marker.",
     Page {
         code: "3.7",
         name: "MissingMarker",
+        cases: cases::MISSING_MARKER,
         brief: &["a listed partition lacks the end marker"],
         says: "A decision lists a partition, and its end marker doesn't stand there.",
         means: "The transaction was decided and not ended everywhere: readers of that

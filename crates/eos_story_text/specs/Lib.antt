@@ -3,4 +3,7 @@ pub mod Records
 pub mod Batches
 pub mod RowLines
 pub mod Counts
+pub mod Signs
+pub mod Sentences
+pub mod Commands
 pub mod Stories

@@ -14,7 +14,7 @@ use Rattle.eos_items.specs.declared.item.Item.{Item}
 use Rattle.eos_places.specs.declared.partition.Placed.{Placed}
 use Rattle.eos_sought.specs.declared.finding.Find.{Find}
 use Rattle.eos_sought.specs.declared.sought.Sought.{Sought}
-use Rattle.eos_sought.specs.declared.sought.Sought.TheVariants.{At, Claiming, Hidden, OfId, Before, OfProducer, Within, Deciding, OfGroup, Passing, Passed}
+use Rattle.eos_sought.specs.declared.sought.Sought.TheVariants.{At, Claiming, Hidden, OfId, Before, OfProducer, Within, Deciding, OfGroup, Passing, UpTo, Passed}
 use Rattle.eos_text.specs.Escaping.{escaped}
 use Rattle.eos_story_text.specs.Places.{at_text, spot_text, is_there, mark_of}
 
@@ -29,6 +29,7 @@ role_of (Within epochs) = codes " state    "
 role_of (Deciding producer epoch) = codes " decided  "
 role_of (OfGroup group) = codes " commit   "
 role_of (Passing group place) = codes " commit   "
+role_of (UpTo group place) = codes " commit   "
 role_of (Passed place) = codes " commit   "
 
 -- as what a record is read
@@ -46,6 +47,7 @@ reading_of (Within epochs) topic = Some Transactions
 reading_of (Deciding producer epoch) topic = Some Transactions
 reading_of (OfGroup group) topic = Some Offsets
 reading_of (Passing group place) topic = Some Offsets
+reading_of (UpTo group place) topic = Some Offsets
 reading_of (Passed place) topic = Some Offsets
 
 -- who wrote it, in a transaction, and what became of that
@@ -85,6 +87,7 @@ absent_text (Within epochs) = (codes "none of producer " ++ signed_decimal epoch
 absent_text (Deciding producer epoch) = (codes "nothing of producer " ++ signed_decimal producer) ++ (codes " with marker epoch " ++ signed_decimal epoch)
 absent_text (OfGroup group) = codes "none of group " ++ escaped group
 absent_text (Passing group place) = (codes "none of group " ++ escaped group) ++ (codes " goes past " ++ at_text place.partition place.offset)
+absent_text (UpTo group place) = (codes "none of group " ++ escaped group) ++ (codes " is at or below " ++ at_text place.partition place.offset)
 absent_text (Passed place) = codes "none goes past " ++ at_text place.partition place.offset
 
 unfoldable pub no_record_line : Sought → List ℕ

@@ -11,8 +11,8 @@ use Rattle.eos_story.specs.declared.headers.HeaderName.TheVariants.{Topic, Parti
 use Rattle.eos_story.specs.declared.row.Row.{Row}
 use Rattle.eos_story.specs.declared.row.Row.TheVariants as rows
 use Rattle.eos_story.specs.HeaderNames.{key_of}
-use Rattle.eos_story_text.specs.Records.{record_line, no_record_line}
-use Rattle.eos_story_text.specs.Batches.{batch_line, no_batch_line}
+use Rattle.eos_story_text.specs.Records.{role_of, record_line, no_record_line}
+use Rattle.eos_story_text.specs.Batches.{kind_role, batch_line, no_batch_line}
 
 unfoldable pub more_line : ℕ → ℕ → List ℕ
 more_line shown all = (codes ".. and " ++ decimal (all - shown)) ++ codes " more\n"
@@ -63,12 +63,12 @@ first_line fault name wanted (Some placed) = batch_line fault name wanted placed
 abbrev pub row_line : Option Place → Row → List ℕ
 row_line fault (rows.Record sought find spot) = record_line fault sought find spot
 row_line fault (rows.NoRecord sought) = no_record_line sought
-row_line fault (rows.MoreRecords shown all sought) = more_line shown all
+row_line fault (rows.MoreRecords shown all sought) = role_of sought ++ more_line shown all
 row_line fault (rows.Batch name wanted placed) = batch_line fault name wanted placed
 row_line fault (rows.First name wanted placed) = first_line fault name wanted placed
-row_line fault (rows.MoreBatches name wanted shown all) = more_line shown all
-row_line fault (rows.MorePartitions shown all sought) = more_line shown all
+row_line fault (rows.MoreBatches name wanted shown all) = kind_role wanted ++ more_line shown all
+row_line fault (rows.MorePartitions shown all sought) = codes " listed   " ++ more_line shown all
 row_line fault (rows.Segment name base size) = segment_line name base size
-row_line fault (rows.MoreSegments name shown all) = more_line shown all
+row_line fault (rows.MoreSegments name shown all) = codes " segment  " ++ more_line shown all
 row_line fault (rows.End name end) = end_line name end
 row_line fault (rows.Header place name values) = header_line name values

@@ -10,22 +10,30 @@ use Rattle.eos_story.specs.declared.row.Row.{Row}
 use Rattle.eos_story_text.specs.declared.story.Story.{Story}
 use Rattle.eos_story_text.specs.Counts.{counts_line}
 use Rattle.eos_story_text.specs.RowLines.{more_line, row_line}
+use Rattle.eos_story_text.specs.Sentences.{sentences_text, shown_of}
+use Rattle.eos_story_text.specs.Commands.{command_line}
 
 -- that there are more than are shown, if so
 abbrev pub rest_text : ℕ → ℕ → List ℕ
 rest_text shown all = if nat_le all shown then [] else more_line shown all
 
 unfoldable pub rows_text : Option Place → List Row → List ℕ
-rows_text place rows = flat_map (row_line place) (take 25 rows) ++ rest_text 25 (length rows)
+rows_text place rows = flat_map (row_line place) (take 22 rows) ++ rest_text 22 (length rows)
 
-abbrev pub page_text : Option Page → List ℕ
-page_text None = []
-page_text (Some p) = codes "Means: " ++ (p.means.now ++ (codes "\nNext: " ++ (p.next.now ++ codes "\n")))
+-- what it means and what to do next, by the rows that are shown
+abbrev pub page_text : Option Place → List Row → Option Page → List ℕ
+page_text place rows None = []
+page_text place rows (Some p) = sentences_text place (take 22 rows) p p.cases.now
 
 unfoldable pub notes_text : List Note → List ℕ
 notes_text notes = note_lines (take 6 notes) ++ rest_text 6 (length notes)
 
+-- the command to run next, by the rows that are shown
+abbrev pub next_text : Story → List ℕ
+next_text s = command_line s.folder.now (option_copied s.place) (take 22 s.rows.now) (shown_of (option_copied s.place) (take 22 s.rows.now) (option_copied s.page))
+
 unfoldable pub story_text : Story → List ℕ
 story_text s =
     verdict_line s.verdict.now
-    ++ (rows_text (option_copied s.place) s.rows.now ++ (page_text (option_copied s.page) ++ (counts_line s.told.now ++ notes_text s.notes.now)))
+    ++ (rows_text (option_copied s.place) s.rows.now ++ (page_text (option_copied s.place) s.rows.now (option_copied s.page)
+    ++ (counts_line s.told.now ++ (notes_text s.notes.now ++ next_text s))))

@@ -14,7 +14,8 @@ use eos_places::{Placed, Wanted};
 use eos_text::{push_text, push_value};
 use std::alloc::{AllocError, Global};
 
-fn kind_role(wanted: Wanted) -> &'static str
+/// The word before a batch.
+pub(crate) fn kind_role(wanted: Wanted) -> &'static str
     ensures { result.now ≡ kind_role wanted }
 {
     match wanted {

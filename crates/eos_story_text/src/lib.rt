@@ -3,10 +3,15 @@
 #![tactic(auto)]
 
 mod batches;
+mod command;
 mod counts;
+mod moves;
 mod names;
 mod records;
 mod rows;
+mod sentences;
+mod signs;
 mod story;
+mod twins;
 
 pub use story::{Story, story_text};

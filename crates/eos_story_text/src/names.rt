@@ -56,7 +56,8 @@ pub(crate) fn push_spot(out: &mut String, spot: Option<Placed>) -> Result<(), Al
     }
 }
 
-fn is_same(a: &[u8], b: &[u8]) -> bool
+/// Whether two names are the same.
+pub(crate) fn is_same(a: &[u8], b: &[u8]) -> bool
     ensures { result ≡ is_same_text a.now b.now }
 {
     a.cmp(b).is_eq()

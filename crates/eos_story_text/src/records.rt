@@ -3,7 +3,7 @@
 ghost use Rattle.std.specs.Prelude.{◌≡◌, ◌++◌, OnOk, IfOk, string_bytes};
 ghost use Rattle.std.specs.Option.{option_copied};
 ghost use Rattle.eos_decoded.specs.Decoding.{decoded_line};
-ghost use Rattle.eos_sought.specs.declared.sought.Sought.TheVariants.{Before, Within, Passing, Deciding};
+ghost use Rattle.eos_sought.specs.declared.sought.Sought.TheVariants.{Before, Within, Passing, UpTo, Deciding};
 ghost use Rattle.eos_text.specs.Adding.{Adds};
 ghost use Rattle.eos_story_text.specs.Records.{role_of, reading_at, reading_of, writer_text, fate_text, said_text, record_of, record_line, absent_text, no_record_line};
 
@@ -17,7 +17,8 @@ use eos_sought::{Epochs, Find, Sought};
 use eos_text::{push_escaped, push_text, push_value};
 use std::alloc::{AllocError, Global};
 
-fn role_of(sought: &Sought) -> &'static str
+/// The word before a record.
+pub(crate) fn role_of(sought: &Sought) -> &'static str
     ensures { result.now ≡ role_of sought.now }
 {
     match sought {
@@ -27,7 +28,8 @@ fn role_of(sought: &Sought) -> &'static str
         Sought::OfId(_) | Sought::Before { .. } | Sought::OfProducer(_) | Sought::Within(_) =>
             " state    ",
         Sought::Deciding { .. } => " decided  ",
-        Sought::OfGroup(_) | Sought::Passing { .. } | Sought::Passed(_) => " commit   ",
+        Sought::OfGroup(_) | Sought::Passing { .. } | Sought::UpTo { .. } | Sought::Passed(_) =>
+            " commit   ",
     }
 }
 
@@ -55,7 +57,8 @@ fn reading_of(sought: &Sought, topic: &[u8]) -> Option<Reading>
         | Sought::OfProducer(_)
         | Sought::Within(_)
         | Sought::Deciding { .. } => Some(Reading::Transactions),
-        Sought::OfGroup(_) | Sought::Passing { .. } | Sought::Passed(_) => Some(Reading::Offsets),
+        Sought::OfGroup(_) | Sought::Passing { .. } | Sought::UpTo { .. } | Sought::Passed(_) =>
+            Some(Reading::Offsets),
     }
 }
 
@@ -149,6 +152,25 @@ fn push_group_past(
     Ok(())
 }
 
+fn push_group_up_to(
+    alloc: Global,
+    out: &mut String,
+    group: &[u8],
+    place: &Place,
+) -> Result<(), AllocError>
+    ensures { OnOk result (Adds (string_bytes out.old) (string_bytes out.new) (absent_text (UpTo group.now place.now))) }
+{
+    push_escaped(alloc, out, "none of group ", group)?;
+    push_at(
+        alloc,
+        out,
+        " is at or below ",
+        &place.partition,
+        &place.offset,
+    )?;
+    Ok(())
+}
+
 fn push_none_before(
     alloc: Global,
     out: &mut String,
@@ -199,6 +221,7 @@ fn push_absent(alloc: Global, out: &mut String, sought: &Sought) -> Result<(), A
         Sought::Deciding { producer, epoch } => push_undecided(out, producer, epoch),
         Sought::OfGroup(group) => push_escaped(alloc, out, "none of group ", group.as_slice()),
         Sought::Passing { group, place } => push_group_past(alloc, out, group.as_slice(), place),
+        Sought::UpTo { group, place } => push_group_up_to(alloc, out, group.as_slice(), place),
         Sought::Passed(place) => push_at(
             alloc,
             out,

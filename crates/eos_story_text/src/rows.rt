@@ -6,9 +6,9 @@ ghost use Rattle.std.specs.Option.{option_copied};
 ghost use Rattle.eos_text.specs.Adding.{Adds};
 ghost use Rattle.eos_story_text.specs.RowLines.{width_of, bytes_text, more_line, segment_line, end_line, is_below_zero, value_text, values_text, header_line, first_line, row_line};
 
-use crate::batches::{push_batch, push_no_batch};
+use crate::batches::{kind_role, push_batch, push_no_batch};
 use crate::names::push_name;
-use crate::records::{push_no_record, push_record};
+use crate::records::{push_no_record, push_record, role_of};
 use bytes::Bytes;
 use eos_base::PartitionName;
 use eos_claims::Place;
@@ -22,6 +22,15 @@ pub(crate) fn push_more(out: &mut String, shown: u64, all: u64) -> Result<(), Al
 {
     push_value(out, ".. and ", &all.saturating_sub(shown))?;
     push_text(out, " more\n")?;
+    Ok(())
+}
+
+/// Adds how many more there are than are shown, behind what they are.
+fn push_more_of(out: &mut String, role: &str, shown: u64, all: u64) -> Result<(), AllocError>
+    ensures { OnOk result (Adds (string_bytes out.old) (string_bytes out.new) (role.now ++ more_line shown all)) }
+{
+    push_text(out, role)?;
+    push_more(out, shown, all)?;
     Ok(())
 }
 
@@ -155,10 +164,17 @@ pub(crate) fn push_row(
     match row {
         Row::Record { sought, find, spot } => push_record(alloc, out, fault, sought, (find, *spot)),
         Row::NoRecord { sought } => push_no_record(alloc, out, sought),
-        Row::MoreRecords { shown, all, .. }
-        | Row::MoreBatches { shown, all, .. }
-        | Row::MorePartitions { shown, all, .. }
-        | Row::MoreSegments { shown, all, .. } => push_more(out, *shown, *all),
+        Row::MoreRecords { shown, all, sought } => {
+            push_more_of(out, role_of(sought), *shown, *all)
+        }
+        Row::MoreBatches {
+            wanted,
+            shown,
+            all,
+            ..
+        } => push_more_of(out, kind_role(*wanted), *shown, *all),
+        Row::MorePartitions { shown, all, .. } => push_more_of(out, " listed   ", *shown, *all),
+        Row::MoreSegments { shown, all, .. } => push_more_of(out, " segment  ", *shown, *all),
         Row::Batch {
             partition,
             wanted,

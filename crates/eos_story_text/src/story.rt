@@ -6,10 +6,13 @@ ghost use Rattle.eos_text.specs.Adding.{Adds};
 ghost use Rattle.eos_notes.specs.Texts.{note_lines as lines_of};
 ghost use Rattle.eos_report.specs.VerdictTexts.{verdict_line};
 ghost use Rattle.eos_story_text.specs.RowLines.{row_line};
-ghost use Rattle.eos_story_text.specs.Stories.{rows_text, rest_text, page_text, notes_text, story_text};
+ghost use Rattle.eos_story_text.specs.Stories.{rows_text, rest_text, page_text, notes_text, next_text, story_text};
 
+use crate::command::push_command;
 use crate::counts::push_counts;
 use crate::rows::{push_more, push_row};
+use crate::sentences::{push_sentences, shown_of};
+use crate::signs::Told;
 use eos_catalogue::Page;
 use eos_check::Verdict;
 use eos_claims::Place;
@@ -20,13 +23,15 @@ use eos_text::push_text;
 use std::alloc::{AllocError, Global};
 
 /// How many lines of rows there are at most, and of notes.
-const MOST_ROWS: usize = 25;
+const MOST_ROWS: usize = 22;
 
 const MOST_NOTES: usize = 6;
 
 /// A fault, and what is told of it.
 #[derive(Clone, Copy)]
 pub struct Story<'a> {
+    /// The folder of the evidence, as it was named.
+    pub folder: &'a str,
     /// The verdict that names it.
     pub verdict: &'a Verdict,
     /// Its place, if it has one.
@@ -65,6 +70,13 @@ fn push_rest(out: &mut String, shown: usize, all: usize) -> Result<(), AllocErro
     push_more(out, shown as u64, all as u64)
 }
 
+/// The rows that are shown.
+fn shown_rows(rows: &[Row]) -> &[Row]
+    ensures { result.now ≡ take 22 rows.now }
+{
+    &rows[..MOST_ROWS.min(rows.len())]
+}
+
 fn push_rows(
     alloc: Global,
     out: &mut String,
@@ -73,24 +85,28 @@ fn push_rows(
 ) -> Result<(), AllocError>
     ensures { OnOk result (Adds (string_bytes out.old) (string_bytes out.new) (rows_text (option_copied place.entry) rows.now)) }
 {
-    push_lines(alloc, out, place, &rows[..MOST_ROWS.min(rows.len())])?;
+    push_lines(alloc, out, place, shown_rows(rows))?;
     push_rest(out, MOST_ROWS, rows.len())?;
     Ok(())
 }
 
-fn push_page(out: &mut String, page: Option<&Page>) -> Result<(), AllocError>
-    ensures { OnOk result (Adds (string_bytes out.old) (string_bytes out.new) (page_text (option_copied page.entry))) }
+/// What the fault means and what to do next, by the rows that are shown.
+fn push_page(
+    alloc: Global,
+    out: &mut String,
+    place: Option<&Place>,
+    rows: &[Row],
+    page: Option<&Page>,
+) -> Result<(), AllocError>
+    ensures { OnOk result (Adds (string_bytes out.old) (string_bytes out.new) (page_text (option_copied place.entry) rows.now (option_copied page.entry))) }
 {
+    let told = Told {
+        place,
+        rows: shown_rows(rows),
+    };
     match page {
         None => push_text(out, ""),
-        Some(page) => {
-            push_text(out, "Means: ")?;
-            push_text(out, page.means)?;
-            push_text(out, "\nNext: ")?;
-            push_text(out, page.next)?;
-            push_text(out, "\n")?;
-            Ok(())
-        }
+        Some(page) => push_sentences(alloc, out, &told, page),
     }
 }
 
@@ -103,8 +119,20 @@ fn push_notes(alloc: Global, out: &mut String, notes: &[Note]) -> Result<(), All
     Ok(())
 }
 
-/// The text of a story: the line of its fault, a line for each of the first rows, what the fault means and what to do next, how
-/// many faults of each kind there are, and the first notes. These are 40 lines at most.
+/// The command to run next.
+fn push_next(alloc: Global, out: &mut String, story: &Story<'_>) -> Result<(), AllocError>
+    ensures { OnOk result (Adds (string_bytes out.old) (string_bytes out.new) (next_text story.now)) }
+{
+    let told = Told {
+        place: story.place,
+        rows: shown_rows(story.rows),
+    };
+    let shown = shown_of(alloc, &told, story.page)?;
+    push_command(alloc, out, story.folder, &told, shown)
+}
+
+/// The text of a story: the line of its fault, a line for each of the first rows, what the fault means and what to do next by what
+/// these show, how many faults of each kind there are, the first notes, and the command to run next. These are 40 lines at most.
 ///
 /// # Errors
 /// Only want of memory.
@@ -113,8 +141,9 @@ pub fn story_text(alloc: Global, story: &Story<'_>) -> Result<String, AllocError
 {
     let mut text = verdict_line(alloc, story.verdict)?;
     push_rows(alloc, &mut text, story.place, story.rows)?;
-    push_page(&mut text, story.page)?;
+    push_page(alloc, &mut text, story.place, story.rows, story.page)?;
     push_counts(&mut text, story.told)?;
     push_notes(alloc, &mut text, story.notes)?;
+    push_next(alloc, &mut text, story)?;
     Ok(text)
 }

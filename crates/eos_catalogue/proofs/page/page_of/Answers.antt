@@ -4,7 +4,7 @@ use Rattle.eos_catalogue.specs.Catalogue.{page_codes}
 use Rattle.eos_catalogue.specs.Kinds.{codes_of, have_briefs}
 use Rattle.eos_catalogue.specs.steps.Found.{page_in}
 use Rattle.eos_catalogue.specs.declared.page.Page.{Page}
-use Rattle.eos_catalogue.proofs.PagesFound.{found_in_both, is_page}
+use Rattle.eos_catalogue.proofs.PagesFound.{alike, found_in_both, is_page}
 use Rattle.eos_catalogue.proofs.page.page_of.Goals as goal
 
 copied : (a b : Option (Bor Page)) → option_copied (option_or a b) ≡ option_or (option_copied a) (option_copied b)
@@ -24,6 +24,7 @@ returns c =
     let four = or_found code _ c.as_slice-4.result.now c.or-2.result c.page_in-4.result c.or-3.result three c.page_in-4.ensures c.or-3.ensures in
     let five = or_found code _ c.as_slice-5.result.now c.or-3.result c.page_in-5.result c.or-4.result four c.page_in-5.ensures c.or-4.ensures in
     let pages : List Page = (((c.as_slice.result.now ++ c.as_slice-2.result.now) ++ c.as_slice-3.result.now) ++ c.as_slice-4.result.now) ++ c.as_slice-5.result.now in
-    let same : codes_of pages ≡ page_codes = rw (c.as_slice.ensures, c.as_slice-2.ensures, c.as_slice-3.ensures, c.as_slice-4.ensures, c.as_slice-5.ensures) refl in
-    let briefs : have_briefs pages ≡ true = rw (c.as_slice.ensures, c.as_slice-2.ensures, c.as_slice-3.ensures, c.as_slice-4.ensures, c.as_slice-5.ensures) refl in
+    let are = alike c.as_slice.ensures c.as_slice-2.ensures c.as_slice-3.ensures c.as_slice-4.ensures c.as_slice-5.ensures in
+    let same : codes_of pages ≡ page_codes = ap codes_of are in
+    let briefs : have_briefs pages ≡ true = ap have_briefs are in
     is_page pages code (option_copied c.or-4.result) same briefs five
