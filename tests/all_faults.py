@@ -28,7 +28,7 @@ def run(program, *words):
 
 def folders(program, scratch):
     """Folders that can be read: those that are kept, and simulated ones."""
-    for part in "evidence", "real-evidence", "stories":
+    for part in "evidence", "real-evidence", "as-brokers-write", "stories":
         with open(os.path.join(HERE, part, "expected.tsv"), encoding="utf-8") as file:
             for name, status, _ in (line.split("\t", 2) for line in file):
                 if status != "2":

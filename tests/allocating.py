@@ -34,14 +34,10 @@ def sources(crate):
 
 
 def faults_of(crates):
-    """The types with a variant for want of memory."""
-    found = set()
-    for crate in crates:
-        for _, text in sources(crate):
-            for name, variants in re.findall(r"pub enum (\w+)[^{]*\{(.*?)\n\}", text, re.S):
-                if re.search(r"^    OutOfMemory\b", variants, re.M):
-                    found.add(name)
-    return found
+    """The types with a variant for want of memory, or for a fault of another such type."""
+    enums = [it for crate in crates for _, text in sources(crate) for it in re.findall(r"pub enum (\w+)[^{]*\{(.*?)\n\}", text, re.S)]
+    found = {name for name, variants in enums if re.search(r"^    OutOfMemory\b", variants, re.M)}
+    return found | {name for name, variants in enums if found & set(re.findall(r"^    Refused\((\w+)\)", variants, re.M))}
 
 
 def exported(crate):

@@ -1,9 +1,11 @@
-"""The first answer on a fresh machine: where no proved program stands, ./eoscheck answers by a build without proofs, and says so.
+"""The first answers on a fresh machine: where no proved program stands, ./eoscheck answers by a build without proofs, which it makes
+once and keeps, and says so.
 
     python3 -B tests/first_answer.py
 
-It builds from a copy of the sources, in a minute or two. The last line is 'N passed, N failed'.
+It builds from a copy of the sources, in two or three minutes. The last line is 'N passed, N failed'.
 """
+import json
 import os
 import shutil
 import subprocess
@@ -11,36 +13,67 @@ import sys
 import tempfile
 
 TOP = os.path.dirname(os.path.dirname(os.path.abspath(__file__)))
-FOLDER = f"{TOP}/tests/evidence/row-yes-2"
+FOLDER = "row-yes-2"
 ANSWER = "yes transactions=1 inputs=2 outputs=3\n"
-BEFORE = "eoscheck: the answer that follows comes from a build that is not proved on this machine yet; a minute or two"
-AFTER = "eoscheck: that was a build that is not proved on this machine; ./eoscheck --prove proves it, once, in about "
+BUILDING = "eoscheck: building the program without its proofs, once; two or three minutes"
+UNPROVED = "eoscheck: this answer is of a build that is not proved on this machine; ./eoscheck --prove proves it, once, in about "
 
 
-def first_run(scratch):
-    """What the first run of a fresh clone says. Without tools/prove it can't go on to prove what gave no answer."""
+def copy_sources(clone):
+    """A fresh clone, as far as ./eoscheck reads it."""
     for name in ["crates", "tools", ".ci"]:
-        shutil.copytree(f"{TOP}/{name}", f"{scratch}/{name}", ignore=shutil.ignore_patterns("out", "prove"))
+        shutil.copytree(f"{TOP}/{name}", f"{clone}/{name}", ignore=shutil.ignore_patterns("out"))
     for name in ["crates.txt", "eoscheck"]:
-        shutil.copy(f"{TOP}/{name}", scratch)
-    return subprocess.run([f"{scratch}/eoscheck", "check", FOLDER], capture_output=True, text=True, check=False)
+        shutil.copy(f"{TOP}/{name}", clone)
+
+
+def call(clone, folder, *words, **more):
+    """What ./eoscheck says to these words in this folder."""
+    return subprocess.run([f"{clone}/eoscheck", *words], cwd=folder, capture_output=True, text=True, check=False, **more)
+
+
+def report_of(folder):
+    """The folder that a report is of, or nothing where there is none."""
+    try:
+        with open(f"{folder}/a report.json", encoding="utf-8") as file:
+            return json.load(file)["folder"]
+    except (OSError, ValueError):
+        return None
+
+
+def answers(clone, folder):
+    """What is wanted of the first call and of those after it: names, and whether each holds."""
+    first = call(clone, folder, "check", FOLDER)
+    lines = first.stderr.splitlines()
+    yield "the status", first.returncode == 0
+    yield "the answer", first.stdout == ANSWER
+    yield "that it is built first, and isn't proved", lines[:1] == [BUILDING] and lines[1].startswith(UNPROVED) and len(lines) == 2
+    second = call(clone, folder, "check", "--report=a report.json", "--", FOLDER)
+    lines = second.stderr.splitlines()
+    yield "the second answer", (second.returncode, second.stdout) == (0, ANSWER)
+    yield "that nothing is built again", len(lines) == 1 and lines[0].startswith(UNPROVED)
+    yield "paths behind = and --, from the caller's folder", report_of(folder) == FOLDER
+    listed = call(clone, folder, "chain", "-", stdin=subprocess.DEVNULL)
+    yield "standard input, which is the caller's", listed.returncode == 0 and listed.stdout.startswith("ok ")
+    refused = call(clone, folder, "check", "absent")
+    yield "a refusal's status", refused.returncode == 2 and "eoscheck: cannot read absent/evidence.json" in refused.stderr
+    os.utime(f"{clone}/crates/eoscheck/src/main.rt")
+    nowhere = dict(os.environ, PATH="/usr/bin:/bin")
+    if shutil.which("rt", path=nowhere["PATH"]) is None:
+        lacking = call(clone, folder, "check", FOLDER, env=nowhere)
+        yield "that a newer source wants a new build, and that the kit", lacking.returncode == 2 and "is not on the path" in lacking.stderr
 
 
 def main():
     with tempfile.TemporaryDirectory() as scratch:
-        run = first_run(scratch)
-    lines = run.stderr.splitlines()
-    wanted = {
-        "the status": run.returncode == 0,
-        "the answer": run.stdout == ANSWER,
-        "that it is not proved, before": lines[:1] == [BEFORE],
-        "that it is not proved, after, and no more": len(lines) == 2 and lines[-1].startswith(AFTER),
-    }
-    failed = [name for name, holds in wanted.items() if not holds]
+        clone, folder = f"{scratch}/a clone", f"{scratch}/elsewhere"
+        os.mkdir(clone)
+        copy_sources(clone)
+        shutil.copytree(f"{TOP}/tests/evidence/{FOLDER}", f"{folder}/{FOLDER}")
+        wanted = list(answers(clone, folder))
+    failed = [name for name, holds in wanted if not holds]
     for name in failed:
         print(f"FAILED: the first answer: {name}")
-    if failed:
-        print(run.stdout + run.stderr)
     print(f"{len(wanted) - len(failed)} passed, {len(failed)} failed")
     return 1 if failed else 0
 

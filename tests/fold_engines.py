@@ -48,6 +48,8 @@ class Home:
         with open(f"{room}/bin/ssh", "w", encoding="utf-8") as file:
             file.write(SSH)
         os.chmod(f"{room}/bin/ssh", 0o755)
+        # on the path, and where a worker or a job looks for it
+        shutil.copy(tests.program, f"{room}/bin/eoscheck")
         shutil.copy(tests.program, f"{room}/eoscheck")
         for at, partition in enumerate(partitions_of(folder)):
             broker = self.brokers[at % AT_ONCE]

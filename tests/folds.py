@@ -30,7 +30,7 @@ from fold_folders import (
     Tests, files_in, fold_path, fold_words, folds_of, manifest_of, name_of, partitions_of, read, segments_of, with_folds, write,
 )
 
-TOPS = ["tests/evidence", "tests/real-evidence", "tests/simulated"]
+TOPS = ["tests/evidence", "tests/real-evidence", "tests/as-brokers-write", "tests/simulated"]
 GOOD = "tests/evidence/row-yes-2"
 WORKERS = "14"
 RANDOM = 300

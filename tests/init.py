@@ -4,9 +4,9 @@
     tests/init.py PROGRAM [REFUSE.SO]
 
 Simulated folders, and each of tests/evidence and tests/real-evidence that has a manifest, with ends in the form of
-kafka-get-offsets.sh. Those without an application, or with one that has no topics, no word gives. Which partitions the transaction log lists is read by tests/plain_logs.py. With REFUSE.SO
-(tests/refuse.c, built) the allocations of some runs are refused, each in turn. Prints what is wrong, and as its last line
-'N passed, N failed'.
+kafka-get-offsets.sh. An application that has no topics no word gives. Which partitions the transaction log lists is read by
+tests/plain_logs.py. With REFUSE.SO (tests/refuse.c, built) the allocations of some runs are refused, each in turn. Prints what is
+wrong, and as its last line 'N passed, N failed'.
 """
 import json
 import os
@@ -14,11 +14,13 @@ import re
 import resource
 import shutil
 import signal
+import struct
 import subprocess
 import sys
 import tempfile
 
 import plain_logs
+import reference
 
 INTERNAL = {b"__consumer_offsets", b"__transaction_state"}
 CUT = "eoscheck: note: the ends are those of the copied logs, so a copy that was cut short can't be found\n"
@@ -59,6 +61,37 @@ def words_of(apps):
     for app in apps:
         found += ["--app", ":".join([app["group"], ",".join(app["sources"]), ",".join(app["outputs"])])]
     return found
+
+
+def noted_of(notes):
+    return "".join(f"eoscheck: note: {note}\n" for note in notes)
+
+
+def hash_of(name):
+    """Kafka's absolute value of Java's hash."""
+    units = struct.unpack(f">{len(name.encode('utf-16-be')) // 2}H", name.encode("utf-16-be"))
+    total = 0
+    for unit in units:
+        total = (total * 31 + unit) % 2**32
+    return 0 if total == 2**31 else min(total, 2**32 - total)
+
+
+def groups_of(apps, ends, folder):
+    """The notes on the partition of each group, where the ends have all partitions of the offsets log."""
+    numbers = sorted(place(name)[1] for name in ends if place(name)[0] == b"__consumer_offsets")
+    notes = []
+    for app in apps if numbers and numbers == list(range(len(numbers))) else []:
+        name = f"__consumer_offsets-{hash_of(app['group']) % len(numbers)}"
+        there = "whose folder is there" if os.path.isdir(os.path.join(folder, name)) else "which has no folder"
+        notes.append(f"group {reference.escaped(app['group'].encode())} commits to {name} (of {len(numbers)}), {there}")
+    return notes
+
+
+def lines_noted(apps, ends, file="-"):
+    """The notes on topics without a line."""
+    topics = INTERNAL | {topic.encode() for app in apps for topic in app["sources"] + app["outputs"]}
+    lacking = sorted(topics - {place(name)[0] for name in ends})
+    return [f"{file} has no line of topic {reference.escaped(topic)}" for topic in lacking]
 
 
 def said(manifest):
@@ -122,8 +155,8 @@ def wanted(folder, manifest):
     """The ends that the manifest gets, and the first partition without one."""
     topics = INTERNAL | {topic.encode() for app in apps_of(manifest) for topic in app["sources"] + app["outputs"]}
     listed = listed_in(folder)
-    required = listed | {it for it in folders_in(folder) if it[0] in topics}
-    ends = {name: end for name, end in manifest["ends"].items() if place(name)[0] in topics or place(name) in listed}
+    required = listed | {it for it in folders_in(folder) if it[0] in topics or not apps_of(manifest)}
+    ends = {name: end for name, end in manifest["ends"].items() if place(name)[0] in topics or place(name) in required}
     lacking = sorted(required - {place(name) for name in manifest["ends"]})
     return ends, lacking[0] if lacking else None
 
@@ -137,9 +170,8 @@ def again(source, name):
     with open(file, "w", encoding="utf-8") as opened:
         opened.write(lines_of(manifest["ends"]))
     done = init(folder, *words_of(apps), "--ends", file)
-    if not apps or not all(app["sources"] and app["outputs"] for app in apps):
-        why = "not GROUP:SOURCE,..:OUTPUT,.." if apps else "required arguments"
-        expect(done[:2] == (2, "") and why in done[2], f"{name} has no application, or one without topics: {done}")
+    if not all(app["sources"] and app["outputs"] for app in apps):
+        expect(done[:2] == (2, "") and "not GROUP:SOURCE,..:OUTPUT,.." in done[2], f"{name} has an application without topics: {done}")
         return folder, None
     if lacking:
         text = f"eoscheck: {lacking[0].decode()}-{lacking[1]} has no end\n"
@@ -148,6 +180,11 @@ def again(source, name):
     made = said(load(folder)) if done[0] == 0 else None
     version = 1 if len(apps) == 1 else 2
     expect(done[:2] == (0, f"wrote partitions={len(ends)}\n"), f"init of {name}: {done}")
+    notes = done[2].splitlines(keepends=True)
+    first = noted_of(lines_noted(apps, manifest["ends"], file) if manifest["ends"] else [f"{file} has no lines"])
+    last = noted_of(groups_of(apps, manifest["ends"], folder))
+    expect(done[2].startswith(first) and done[2].endswith(last) and not any(" commits to " in it or " line" in it for it in
+           notes[first.count("\n"):len(notes) - last.count("\n")]), f"the notes on {name}: {done[2]}, not {first} .. {last}")
     expect(made == (version, said(manifest)[1], ends), f"the manifest of {name}: {made}")
     expect(sorted(os.listdir(folder)) == sorted(os.listdir(source)), f"files beside the manifest of {name}")
     return folder, manifest
@@ -158,9 +195,13 @@ def simulated(seed, events):
     expect(run("simulate", "--seed", seed, "--events", events, source)[0] == 0, f"simulate of seed {seed}")
     folder, manifest = taken_away(source, f"copy-{seed}")
     made = []
+    group = noted_of(["group g commits to __consumer_offsets-0 (of 1), whose folder is there"])
+    returns = noted_of(["lines of - end in carriage returns, which were not read"])
     for words, given, noted in (
-        (["--ends", "-"], lines_of(manifest["ends"]), ""),
-        (["--ends", "-", "--version1"], lines_of(manifest["ends"]) + "other:0:7\nother:1:9\n", ""),
+        (["--ends", "-"], lines_of(manifest["ends"]), group),
+        (["--ends", "-"], lines_of(manifest["ends"]).replace("\n", "\r\n"), returns + group),
+        (["--ends", "-"], lines_of(manifest["ends"])[:-1] + "\r", returns + group),
+        (["--ends", "-", "--version1"], lines_of(manifest["ends"]) + "other:0:7\nother:1:9\n", group),
         (["--ends-from-logs"], "", CUT),
     ):
         done = init(folder, "--app", APP, *words, input=given.encode())
@@ -168,11 +209,11 @@ def simulated(seed, events):
         made.append(load(folder) if done[0] == 0 else None)
         if done[0] == 0:
             os.remove(os.path.join(folder, "evidence.json"))
-    expect(made == [manifest] * 3, f"the manifests of seed {seed}: {made}")
+    expect(made == [manifest] * 5, f"the manifests of seed {seed}: {made}")
 
 
 def sample_folders():
-    for collection in ("evidence", "real-evidence"):
+    for collection in ("evidence", "real-evidence", "as-brokers-write"):
         with open(os.path.join(HERE, collection, "expected.tsv"), encoding="utf-8") as file:
             rows = [line.rstrip("\n").split("\t") for line in file]
         for name, status, line in rows:
@@ -214,7 +255,7 @@ def bad_input(source):
     good = lines_of(manifest["ends"])
     ends, app = ["--ends", "-"], ["--app", APP]
     for bad in ("in", "in:0", "in:0:", "in:0:x", "in:0:-1", "in:0:007", "in:x:1", "in::1", "in:00:1", ":0:1", "a b:0:1", "in:0:1:2x",
-                "in:2147483648:1", "in:0:9223372036854775808", "in:0:1\r", "", " in:0:1", "in:0: 1", "..:0:1", "t" * 250 + ":0:1"):
+                "in:2147483648:1", "in:0:9223372036854775808", "in:0:1\r\r", "in:0:\r1", "\r", "", " in:0:1", "in:0: 1", "..:0:1", "t" * 250 + ":0:1"):
         for at, text in ((1, f"{bad}\n{good}"), (7, f"{good}{bad}\n"), (3, "other:0:1\nother:1:1\n" + bad + "\n" + good)):
             refused(folder, [*app, *ends], f"line {at} of -: not TOPIC:PARTITION:OFFSET", input=text.encode())
     refused(folder, [*app, *ends], "line 7 of -: not TOPIC:PARTITION:OFFSET", input=good.encode() + b"\xff:0:1")
@@ -236,6 +277,8 @@ def bad_input(source):
     refused(folder, app, one)
     refused(folder, [*app, *ends, "--ends-from-logs"], one)
     refused(folder, ["--version1", *app, "--app", "h:out:fin", *ends], "init --version1 takes one --app")
+    refused(folder, ["--version1", *ends], "init --version1 takes one --app")
+    refused(folder, [], one)
     refused(folder, [*app, "--ends", f"{scratch}/absent"], f"cannot read {scratch}/absent\n  no such file")
     refused(folder, [*app, "--ends", scratch], f"cannot read {scratch}\n  a folder")
     refused(f"{scratch}/absent", [*app, *ends], f"cannot read {scratch}/absent\n  no such file", input=good.encode())
@@ -250,7 +293,7 @@ def bad_input(source):
     os.symlink("nowhere", f"{folder}/evidence.json")
     refused(folder, [*app, *ends], f"cannot write {folder}/evidence.json: it is there already", input=good.encode())
     os.remove(f"{folder}/evidence.json")
-    for words in (["init"], ["init", folder], ["init", *app, *ends], ["init", "--app", "--ends", "-", folder]):
+    for words in (["init"], ["init", *app, *ends], ["init", "--app", "--ends", "-", folder], ["init", "--app", "", *ends, folder]):
         status, out, text = run(*words)
         expect((status, out) == (2, "") and text != "", f"bad words {words}")
     with open("/dev/full", "w", encoding="utf-8") as full:
@@ -276,8 +319,9 @@ def noted(source):
         "__consumer_offsets-0 begins with segment 00000000000000000016.log: its first segments are missing",
         "in-0 begins with a compressed batch",
         "out-1 has no folder",
+        "group g commits to __consumer_offsets-0 (of 1), whose folder is there",
     ]
-    want = (0, "wrote partitions=7\n", "".join(f"eoscheck: note: {note}\n" for note in notes))
+    want = (0, "wrote partitions=7\n", noted_of(notes))
     expect(done == want, f"the notes: {done}")
     expect(load(folder)["ends"] == {**manifest["ends"], "in-7": 0}, "the manifest beside the notes")
     expect(run("check", folder)[0] == 1, "check of a folder with notes")
@@ -296,7 +340,50 @@ def groups(source):
         ],
         "ends": {**manifest["ends"], "fin-0": 0},
     }
-    expect(done == (0, "wrote partitions=7\n", "") and load(folder) == want, f"two applications: {done}")
+    notes = [f"group {group} commits to __consumer_offsets-0 (of 1), whose folder is there" for group in ("a%3ab%2cc%3a", "h%20%c3%a9")]
+    expect(done == (0, "wrote partitions=7\n", noted_of(notes)) and load(folder) == want, f"two applications: {done}")
+
+
+def partitions_of_groups(source):
+    """Where a group commits is told where all partitions of the offsets log have a line, whether its folder is there or not."""
+    for lines, notes in (
+        ("".join(f"__consumer_offsets:{n}:0\n" for n in range(1, 50)), ["billing commits to __consumer_offsets-9 (of 50), which has no folder",
+                                                                       "g commits to __consumer_offsets-3 (of 50), which has no folder"]),
+        ("".join(f"__consumer_offsets:{n}:0\n" for n in range(2, 50)), []),
+    ):
+        folder, manifest = taken_away(source, f"groups-{len(notes)}")
+        text = lines_of({**manifest["ends"], "fin-0": 0}) + lines
+        done = init(folder, "--app", "billing:in:out", "--app", "g:out:fin", "--ends", "-", input=text.encode())
+        expect(done[0] == 0 and done[2] == noted_of(f"group {note}" for note in notes), f"partitions of groups: {done}")
+
+
+def lines_lack(source):
+    """A topic without a line is told, and so is a file without lines."""
+    folder, manifest = taken_away(source, "lacks")
+    text = lines_of(manifest["ends"]).encode()
+    done = init(folder, "--app", "g:in,none:out,nor", "--ends", "-", input=text)
+    notes = [*(f"- has no line of topic {topic}" for topic in ("none", "nor")), "group g commits to __consumer_offsets-0 (of 1), whose folder is there"]
+    expect(done[0] == 0 and done[2] == noted_of(notes), f"topics without a line: {done}")
+    bare = os.path.join(scratch, "bare")
+    os.mkdir(bare)
+    done = init(bare, "--app", APP, "--ends", "-", input=b"")
+    expect(done == (0, "wrote partitions=0\n", noted_of(["- has no lines"])), f"no lines: {done}")
+
+
+def without_applications(source):
+    """The manifest names no application, and has the end of each partition that has a folder."""
+    folder, manifest = taken_away(source, "bare-logs")
+    text = lines_of({**manifest["ends"], "other-0": 7}).encode()
+    want = {"version": 2, "apps": [], "ends": manifest["ends"]}
+    for words, notes in ((["--ends", "-"], ""), (["--ends-from-logs"], CUT)):
+        done = init(folder, *words, input=text)
+        expect(done == (0, "wrote partitions=6\n", notes) and load(folder) == want, f"init without an application: {done}, {load(folder)}")
+        checked = run("check", folder)
+        found = re.fullmatch(r"yes transactions=[1-9]\d* inputs=0 outputs=0\n", checked[1])
+        expect(checked[0] == 0 and found and not checked[2], f"check without an application: {checked}")
+        os.remove(f"{folder}/evidence.json")
+    lacking = "".join(line + "\n" for line in text.decode().splitlines() if not line.startswith("in:1:"))
+    refused(folder, ["--ends", "-"], "in-1 has no end", input=lacking.encode())
 
 
 def refused_memory(folder, manifest, words, notes, library):
@@ -334,7 +421,8 @@ def refused_runs(source, library):
     """The allocations of three runs: of a simulated folder with its ends and with those of its logs, and of a small folder in which
     each kind of note on a partition is due."""
     folder, manifest = taken_away(source, "memory")
-    refused_memory(folder, manifest, ["--ends", "-"], "", library)
+    group = noted_of(["group g commits to __consumer_offsets-0 (of 1), whose folder is there"])
+    refused_memory(folder, manifest, ["--ends", "-"], group, library)
     refused_memory(folder, manifest, ["--ends-from-logs"], CUT, library)
     folder = os.path.join(scratch, "short")
     for name, base, data in (("in-0", 0, bytes(16) + b"\2" + bytes(5) + b"\2" + bytes(60)), ("out-0", 7, b"")):
@@ -343,11 +431,13 @@ def refused_runs(source, library):
             file.write(data)
     manifest = {"version": 1, "group": "g", "sources": ["in"], "outputs": ["out"], "ends": {"in-0": 1, "out-0": 8, "out-1": 2}}
     told = [
+        "- has no line of topic __consumer_offsets",
+        "- has no line of topic __transaction_state",
         "in-0 begins with a compressed batch",
         "out-0 begins with segment 00000000000000000007.log: its first segments are missing",
         "out-1 has no folder",
     ]
-    notes = "".join(f"eoscheck: note: {note}\n" for note in told)
+    notes = noted_of(told)
     after = refused_memory(folder, manifest, ["--ends", "-"], notes, library)
     # a text of each note, and of its partition's name
     expect(after >= 6, f"only {after} refused allocations are told after the manifest was written")
@@ -361,6 +451,9 @@ def main():
     bad_input(source)
     noted(source)
     groups(source)
+    partitions_of_groups(source)
+    lines_lack(source)
+    without_applications(source)
     if len(sys.argv) > 2:
         refused_runs(source, os.path.abspath(sys.argv[2]))
     print(f"{passed} passed, {failed} failed")

@@ -64,7 +64,7 @@ class Cluster:
 
     def feed(self, topic, partition, key, value):
         made = self.lib.rd_kafka_topic_new(self.handle, topic.encode(), None)
-        if self.lib.rd_kafka_produce(made, partition, COPY, value, len(value), key, len(key), None):
+        if self.lib.rd_kafka_produce(made, partition, COPY, value, len(value or b""), key, len(key), None):
             raise OSError("not fed")
 
     def flush(self):

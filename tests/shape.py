@@ -5,7 +5,8 @@
 
 Each crate of crates.txt stands below those that name it, and names none that its sources don't; it has one entry in
 docs/ARCHITECTURE.md, stands in the picture there, and CONTRIBUTING.md says which tests are its own. No function has more than
-five parameters or 45 lines, its contract and its body together, and no file more than 400 lines. The last line is
+five parameters or 45 lines, its contract and its body together, and no file more than 400 lines. The code that names the kit's
+files, of which no contract can say what they hold, is in one crate and has at most 120 lines. The last line is
 'N passed, N failed'.
 """
 import glob
@@ -16,6 +17,17 @@ import sys
 MOST_PARAMETERS = 5
 MOST_LINES = 45
 MOST_LINES_OF_A_FILE = 400
+# The crate that names the kit's files, how it does, and how many lines of code those files of it may have.
+DISK = "eos_disk"
+KIT_FILES = re.compile(r"\bstd::fs\b|\bstd::\{[^}]*\bfs\b|\bfs::|\bFile::")
+MOST_LINES_OF_THE_DISK = 120
+# What still writes files by itself.
+WRITERS = {
+    "crates/eos_ending/src/new_file.rt",
+    "crates/eos_folder/src/placing.rt",
+    "crates/eos_folding_files/src/writing.rt",
+    "crates/eos_init_files/src/writing.rt",
+}
 # The crate that is nothing but callers.
 TESTS = {"eos_tests"}
 COMMENTS = {"rt": re.compile(r"//.*"), "antt": re.compile(r"--.*")}
@@ -147,6 +159,23 @@ def of_sizes(found, say):
             say(count <= MOST_PARAMETERS, f"{path}: {name} has {count} parameters")
 
 
+def of_kit_files(found, say):
+    """The code that names the kit's files."""
+    lines, writers = 0, set()
+    for name in found:
+        for path, text in sources(name, "rt"):
+            if not KIT_FILES.search(text):
+                continue
+            if name == DISK:
+                lines += sum(bool(line.strip()) for line in text.splitlines())
+            else:
+                writers.add(path)
+                say(path in WRITERS, f"{path} names the kit's files, which {DISK} is for")
+    for path in sorted(WRITERS - writers):
+        say(False, f"{path} doesn't name the kit's files any more, and stands in tests/shape.py")
+    say(0 < lines <= MOST_LINES_OF_THE_DISK, f"{DISK} has {lines} lines of code that name the kit's files")
+
+
 def main():
     passed, failures = 0, []
 
@@ -161,6 +190,7 @@ def main():
     of_list(found, say)
     of_documents(found, say)
     of_sizes(found, say)
+    of_kit_files(found, say)
     print(*failures, sep="\n", end="\n" * bool(failures))
     print(f"{passed} passed, {len(failures)} failed")
     return bool(failures)

@@ -22,7 +22,7 @@ DEFINED = re.compile(r"^(?:abbrev |unfoldable |pub )*(?:(?:record|data) )?([A-Za
 # The head of an impl or a trait; a function's signature, to the line that opens its body; the end of an item.
 ITEM = re.compile(
     r"^(impl\b[^{]*|(?:pub )?trait [^{]*)\{"
-    r"|^( *)(pub |pub\(crate\) )?fn (\w+)((?:.|\n)*?)(?:^\2\{|;$| \{\}$|^\2\{\})"
+    r"|^( *)(pub |pub\(crate\) )?fn (\w+)((?:.|\n)*?)(?:^\2\{|;$| \{\}?$|^\2\{\})"
     r"|^\}$",
     re.M,
 )

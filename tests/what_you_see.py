@@ -246,6 +246,23 @@ def add_states(folder, producer, epoch):
     add_plain(folder, STATES, [(key, state_text(random.Random(1), s, producer, e, names), []) for s, e, names in steps])
 
 
+def made_again(folder):
+    """Its first batch isn't the first that its producer wrote in this epoch."""
+    log = folder.logs["out-0"]
+    log[0] = log[0].changed(sequence=7)
+
+
+def of_another(listed, raised, ends=None, states=(0, 1, 2, 4)):
+    """Another transactional id ended a transaction before, whose data isn't evidence: its epoch was raised or not."""
+    def made(folder):
+        key = struct.pack(">hh", 0, 5) + b"other"
+        steps = [(s, raised if s > 1 else 0, listed if s in (1, 2, 3) else []) for s in states]
+        add_plain(folder, STATES, [(key, state_text(random.Random(1), s, 2000, e, names), []) for s, e, names in steps])
+        for name in ends or []:
+            folder.logs[name], folder.manifest["ends"][name] = [], 0
+    return made
+
+
 CASES = {
     "EVIDENCE.md": {
         "another group than ran": (manifest(group="payment"), "no 5.7 Early source=in-0:0 output=1 at=out-2:0"),
@@ -276,6 +293,14 @@ CASES = {
             lambda f: f.logs["in-0"].__setitem__(0, f.logs["in-0"][0].changed(attributes=2)),
             "no 1.1 BadBatch in-0 offset=0 segment=0 batch=Compressed"),
         "transaction version 1": (OLD, "no 1.7 NoBump __consumer_offsets-13 offset=2 producer=1002"),
+        "an older client shares the partition": (
+            of_another(["out-0"], 0), "no 2.2 Step __transaction_state-5 offset=50 id=other why=Epoch"),
+        "a coordinator's decision that wasn't acknowledged": (
+            of_another(["out-0"], 1, states=(0, 1, 2, 3, 5)), "no 2.2 Step __transaction_state-5 offset=51 id=other why=Order"),
+        "made again while its producer": (made_again, "no 1.3 FirstSequence out-0 offset=0 producer=1001"),
+        "its topic was deleted": (of_another(["gone-0"], 1), "no 3.6 AbsentPartition producer=2000 epoch=0 partition=gone-0"),
+        "deleted and made again": (
+            of_another(["gone-0"], 1, ["gone-0"]), "no 3.7 MissingMarker producer=2000 epoch=0 partition=gone-0"),
         "while a transaction was open": (open_at_end, "no 2.5 Unfinished __transaction_state-5 offset=47 id=pay-2"),
         "collected while": (open_output, "no 1.11 OpenAtEnd out-0 offset=57 producer=1001"),
         "others write to the topic too": (

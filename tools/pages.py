@@ -66,7 +66,7 @@ def read_help(text):
         about,
         usage.removeprefix("Usage: "),
         [(word, said) for word, said in parts["Commands:"] if word != "help"],
-        [(word.strip("<>."), said) for word, said in parts["Arguments:"]],
+        [(word.strip("<>[]."), said) for word, said in parts["Arguments:"]],
         [option_of(word, said) for word, said in parts["Options:"]],
         rest.rstrip("\n"),
     )
@@ -130,7 +130,8 @@ def bash(helps):
                 given = flag or f"-W '{' '.join(option.choices)}'"
                 lines += [f"    {'|'.join(option.names)})", f"      mapfile -t COMPREPLY < <(compgen {given} -- \"$word\")", "      return ;;"]
         lines += ["    esac", "    case $word in", f"    -*) mapfile -t COMPREPLY < <(compgen -W '{names_of(it)}' -- \"$word\") ;;"]
-        flag = "-d" if any(kind_of(word) == "folder" for word, _ in it.arguments) else "-f"
+        words = [word for word, _ in it.arguments]
+        flag = "-d" if "folder" in map(kind_of, words) else "-W ''" if words == ["NAME"] else "-f"
         lines += [f"    *) mapfile -t COMPREPLY < <(compgen {flag} -- \"$word\") ;;", "    esac ;;"]
     return "\n".join([*lines, "  esac", "}", f"complete -o filenames -F _{NAME} {NAME}", ""])
 

@@ -31,17 +31,19 @@ while IFS=$'\t' read -r name want line; do
   done
 done < tests/evidence/expected.tsv
 
-# folders whose data batches real client libraries wrote: each verdict, also by the second program
-while IFS=$'\t' read -r name want line; do
-  echo "$line" > "$scratch/line"
-  python3 -B tests/notes_reference.py "tests/real-evidence/$name" > "$scratch/message"
-  for workers in 1 4; do
-    run check --workers $workers "tests/real-evidence/$name"
-    same "check of $name, $workers workers" "$want" "$scratch/line" "$scratch/message"
-  done
-  if python3 -B tests/reference.py "tests/real-evidence/$name" | cmp -s - "$scratch/line"; then ok
-  else bad "the second program on $name"; fi
-done < tests/real-evidence/expected.tsv
-if [ "$(ls -d tests/real-evidence/*/ | wc -l)" = "$(wc -l < tests/real-evidence/expected.tsv)" ]; then ok
-else bad 'a folder of tests/real-evidence has no verdict'; fi
+# folders whose data batches real client libraries wrote, and some as brokers leave them: each verdict, also by the second program
+for top in tests/real-evidence tests/as-brokers-write; do
+  while IFS=$'\t' read -r name want line; do
+    echo "$line" > "$scratch/line"
+    python3 -B tests/notes_reference.py "$top/$name" > "$scratch/message"
+    for workers in 1 4; do
+      run check --workers $workers "$top/$name"
+      same "check of $name, $workers workers" "$want" "$scratch/line" "$scratch/message"
+    done
+    if python3 -B tests/reference.py "$top/$name" | cmp -s - "$scratch/line"; then ok
+    else bad "the second program on $name"; fi
+  done < $top/expected.tsv
+  if [ "$(ls -d $top/*/ | wc -l)" = "$(wc -l < $top/expected.tsv)" ]; then ok
+  else bad "a folder of $top has no verdict"; fi
+done
 end

@@ -7,6 +7,7 @@ refused 1 dump "$segments/kpy-gzip.log"
 refused 1 dump --decode --headers tests/evidence/row-yes-2/__transaction_state-0/00000000000000000000.log
 refused 1 dump --as outputs --headers tests/evidence/row-yes-2/out-0/00000000000000000000.log
 refused 1 explain --code 5.10
+refused 1 coordinator billing $'\x1b\n'
 refused 1 check --help
 refused 1 explain tests/stories/34-dup-across-transactions
 refused 1 explain tests/stories/04-missing-marker

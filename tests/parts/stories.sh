@@ -19,8 +19,14 @@ passes 'notes' python3 -B tests/notes.py "$program"
 # the tables of what an answer often is, in docs/EVIDENCE.md and docs/APPLICATION.md: each mistake in a good folder
 counted 'the tables of answers' python3 -B tests/what_you_see.py "$program"
 
+# the causes that pages name of real clusters: each in a folder, with its line and at its place on the page
+counted 'what clusters do' python3 -B tests/cluster_causes.py "$program"
+
 # the stories of faults: each place of theirs is looked up in the logs
 counted 'stories of faults' python3 -B tests/explain.py "$program"
+
+# the cause that a story names, by what its rows show: a folder for each case, and for the near misses
+counted 'the causes of stories' python3 -B tests/causes.py "$program"
 
 # the catalogue of faults: a page for each kind, docs/FAULTS.md and the help
 counted 'the catalogue of faults' python3 -B tests/fault_pages.py "$program"

@@ -5,6 +5,8 @@
 passes 'edits that cannot be applied' tools/edits --read
 # the page on what yes says names definitions and faults that there are
 passes 'docs/YES.md' python3 -B tests/yes_page.py
+# the contracts that carry its promises are there, and the program comes to them
+passes 'what carries each promise' python3 -B tests/promises.py
 passes 'what Good reaches' python3 -B tests/good_reaches.py
 # what no public contract reaches stands in specs/steps
 passes 'definitions that no public contract reaches' python3 -B tests/specs_steps.py

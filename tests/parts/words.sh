@@ -67,7 +67,7 @@ run $'\xff'
 same 'a word that is no text' 2 "$scratch/nothing" "$scratch/message"
 run dump $'caf\xe9.log'
 same 'a file whose name is no text' 2 "$scratch/nothing" "$scratch/message"
-for words in '--help' 'check --help' 'dump --help' 'chain --help' 'explain --help' 'draw --help' 'init --help' 'fold --help' 'simulate --help' '--version'; do
+for words in '--help' 'check --help' 'dump --help' 'chain --help' 'explain --help' 'draw --help' 'init --help' 'coordinator --help' 'fold --help' 'simulate --help' '--version'; do
   # shellcheck disable=SC2086
   run $words
   if [ "$status" = 0 ] && [ -s "$scratch/out" ] && [ ! -s "$scratch/err" ]; then ok; else bad "help: $words"; fi
@@ -82,7 +82,7 @@ same 'dump to a full device' 2 "$scratch/nothing" "$scratch/message"
 "$program" chain "$segments/rdkafka-txn-1.log" > /dev/full 2> "$scratch/err"
 status=$?
 same 'chain to a full device' 2 "$scratch/nothing" "$scratch/message"
-for words in '--help' 'check --help' 'dump --help' 'chain --help' 'explain --help' 'draw --help' 'init --help' 'fold --help' 'simulate --help' '--version'; do
+for words in '--help' 'check --help' 'dump --help' 'chain --help' 'explain --help' 'draw --help' 'init --help' 'coordinator --help' 'fold --help' 'simulate --help' '--version'; do
   # shellcheck disable=SC2086
   "$program" $words > /dev/full 2> "$scratch/err"
   status=$?

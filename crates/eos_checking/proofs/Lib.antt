@@ -1,4 +1,4 @@
 pub mod VerdictLines
-pub mod ToldFaults
 pub mod Reports
 pub mod SourceAnswers
+pub mod FolderAnswers

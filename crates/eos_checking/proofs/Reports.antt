@@ -1,23 +1,18 @@
 -- A report by logs, whole or kept ones, is one on the evidence whose logs they are.
 use Rattle.std.proofs.Common.{◌≡◌, ℕ, Bool, List, Option, Some, None, is_some, sym, subst, ◌∙◌}
-use Rattle.eos_check.specs.WholeLogs.{AreWholeLogs}
 use Rattle.eos_check.specs.declared.verdict.Fault.{Fault}
 use Rattle.eos_check.specs.declared.verdict.Verdict.{Verdict}
 use Rattle.eos_check.specs.Verdicts.{IsVerdict}
-use Rattle.eos_commits.specs.Faults.{AreInOrder}
-use Rattle.eos_evidence.specs.Evidence.{EvidenceParts, IsEvidence}
+use Rattle.eos_evidence.specs.Evidence.{EvidenceParts}
 use Rattle.eos_evidence.specs.Parts.{Parts}
 use Rattle.eos_fold.specs.Parts.{PartLog}
 use Rattle.eos_json_report.specs.declared.about.About.{About}
-use Rattle.eos_lineage.proofs.LogsInOrder.{in_order}
 use Rattle.eos_notes.specs.Notes.{AreNotesBy}
-use Rattle.eos_notes.proofs.Whole.{notes_are}
 use Rattle.eos_partitions.specs.Faults.{first_of}
 use Rattle.eos_partitions.specs.declared.logs.Logs.{Logs}
 use Rattle.eos_tallies.specs.Counts.{AreCounted}
 use Rattle.eos_tallies.specs.Tallies.{AreTallies}
 use Rattle.eos_tallies.specs.TalliesByLogs.{tallies_by}
-use Rattle.eos_tallies.proofs.Whole.{tallies_are}
 use Rattle.eos_wanted.specs.Wanted.{wanted_logs}
 use Rattle.eos_wanted_notes.proofs.KeptNotes.{whole_notes}
 use Rattle.eos_wanted_notes.proofs.KeptTallies.{whole_tables}
@@ -26,31 +21,6 @@ use Rattle.eos_source_check.specs.declared.judged.Judged.{Judged}
 use Rattle.eos_checking.specs.Checking.{AreTold, IsReport, IsReportAsked}
 use Rattle.eos_checking.specs.declared.report.Told.{Told}
 use Rattle.eos_checking.specs.steps.Tellings.{IsReportBy, ReportsOf}
-
--- by whole logs
-pub whole_report : (e : EvidenceParts) (told : Told) (all : Bool) (about : About) (text : List ℕ) → IsEvidence e → told.spec.now ≡ e.spec
-    → AreWholeLogs e.partitions told.logs.now → AreCounted e.partitions told.counted.now → IsVerdict e told.verdict.now → AreTold e all told.verdict.now told.faults.now
-    → (AreInOrder told.logs.now.parts.items → IsReportBy told about text) → IsReport e all about text
-whole_report e told all about text is spec logs counted verdict faults by =
-    let parts = told.logs.now.parts.items in
-    let named = told.logs.now.faults.items in
-    let r = by (in_order e parts is logs.parts) in
-    let notes : AreNotesBy e.spec parts (is_some (first_of named)) r.notes = subst (λ (s : Parts). AreNotesBy s parts (is_some (first_of named)) r.notes) spec r.by in
-    let tables : AreTallies e (tallies_by told.spec.now.apps parts named told.counted.now) =
-    subst (λ (s : Parts). AreTallies e (tallies_by s.apps parts named told.counted.now)) (sym spec) (tallies_are e parts named told.counted.now logs.parts logs.faults counted) in
-    record {
-      verdict = told.verdict.now;
-      faults = told.faults.now;
-      told = faults;
-      notes = r.notes;
-      is = verdict;
-      are = notes_are e parts named r.notes logs.parts logs.faults notes;
-      tallies = tallies_by told.spec.now.apps parts named told.counted.now;
-      tabled = tables;
-      says = r.says;
-    }
-
--- ---- by kept logs
 
 by_kept : (e : EvidenceParts) (logs : Logs) (told : Told) (all : Bool) (about : About) (text : List ℕ) → AreKeptOf e logs → told.spec.now ≡ e.spec → told.logs.now ≡ logs
     → AreCounted e.partitions told.counted.now → IsVerdict e told.verdict.now → AreTold e all told.verdict.now told.faults.now → IsReportBy told about text → IsReport e all about text

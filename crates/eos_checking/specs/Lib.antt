@@ -1,3 +1,4 @@
 pub mod Checking
+pub mod Folders
 pub mod Sources
 pub mod steps

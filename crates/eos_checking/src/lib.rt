@@ -3,11 +3,13 @@
 #![tactic(auto)]
 
 mod check;
+mod folder;
 mod folders;
 mod report;
 mod source;
 
-pub use check::{Asked, Said, check_to};
+pub use check::{Asked, Said};
+pub use folder::{Folder, Unchecked, check_folder_to};
 pub use folders::check_words;
 pub use report::Timed;
 pub use source::{Pieces, SourceAnswer, answer_all, answer_source};

@@ -71,7 +71,7 @@ fn report_on<T: Timed>(
                 verdict: &judged.verdict,
                 faults,
             };
-            let text = text_of(alloc, told, about, asked.gate)?;
+            let text = text_of(alloc, told, about, asked.watch)?;
             Ok(Some(text))
         }
     }

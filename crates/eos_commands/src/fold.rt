@@ -1,9 +1,8 @@
 //! `fold`: the folds of segments where they lie.
 
-use eos_ending::{Ending, STANDARD, Subject, end, end_unwritten};
+use eos_ending::{Ending, STANDARD, Subject, end, end_unread, end_unwritten};
 use eos_folder::FolderFault;
 use eos_folding_files::{Folded, FoldingFault, Given, fold_folders};
-use eos_progress::end_unread;
 use eos_words::Fold;
 
 /// Folds the segments of the folders that the words name, says on standard output how many, and gives the exit status.

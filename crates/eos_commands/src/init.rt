@@ -1,5 +1,6 @@
 //! `init`: the manifest of a folder of copied logs.
 
+use eos_disk::HostDisk;
 use eos_ending::{Ending, STANDARD, end};
 use eos_evidence::SpecFault;
 use eos_folder::Cause;
@@ -40,7 +41,8 @@ pub fn init_folder(rt: &HostRuntime, words: &Init<'_>) -> u8 {
     }
 }
 
-fn refuse(rt: &HostRuntime, why: &str) -> u8 {
+/// Says on standard error why the words are refused, and gives the exit status.
+pub(crate) fn refuse(rt: &HostRuntime, why: &str) -> u8 {
     let _ = eprint!(rt; "eoscheck: {why}\n");
     2
 }
@@ -82,7 +84,7 @@ fn explain(rt: &HostRuntime, words: &Init<'_>, fault: InitFault) -> Result<u8, A
             format!(in alloc; "{name} has no end")?
         }
         InitFault::CannotRead(path) => {
-            let cause = Cause::of_file(rt, path.as_str());
+            let cause = Cause::of_file(alloc, &HostDisk { rt }, path.as_str());
             return Ok(end(rt, Ending::CannotRead(path.as_str(), &cause)));
         }
         InitFault::Fold(path, name, cause) => {

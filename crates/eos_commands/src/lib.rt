@@ -1,13 +1,15 @@
 //! The commands that need no verdict: the listing of a segment and the check of its producers, the page of a kind of fault, the
-//! manifest of a folder of copied logs, and the folds of segments.
+//! manifest of a folder of copied logs, which partition of Kafka's own two topics names have, and the folds of segments.
 #![tactic(auto)]
 
+mod coordinator;
 mod decoding;
 mod explain;
 mod fold;
 mod init;
 mod segment;
 
+pub use coordinator::{coordinators_to, print_coordinators};
 pub use decoding::options_of;
 pub use explain::{explain_code, page_to};
 pub use fold::fold_partitions;

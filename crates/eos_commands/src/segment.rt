@@ -1,13 +1,13 @@
 //! The listing of a segment, and the check of its producers.
 
 use crate::decoding::options_of;
+use eos_disk::{Disk, DiskFault, HostDisk};
 use eos_ending::{Ending, STANDARD, end};
 use eos_folder::Cause;
 use eos_segment::{RunFault, chain_to, dump_to};
 use eos_words::Answer;
-use std::fs::File;
 use std::io;
-use std::io::{ErrorKind, Read};
+use std::io::Read;
 
 /// Answers about the segment in this file, or on standard input where the name is `-`: on standard output, or on standard error
 /// why it can't. Gives the exit status.
@@ -21,7 +21,7 @@ pub fn answer_segment(rt: &HostRuntime, answer: Answer<'_>, file: &str) -> u8 {
 fn cause_of_none(rt: &HostRuntime, answered: Result<u8, RunFault>, file: &str) -> Cause {
     match answered {
         Err(RunFault::Read) if file == STANDARD => Cause::of_reader(rt.alloc(), &mut rt.reader()),
-        Err(RunFault::Read) => Cause::of_file(rt, file),
+        Err(RunFault::Read) => Cause::of_file(rt.alloc(), &HostDisk { rt }, file),
         Err(RunFault::Limit) => Cause::long_file(rt.alloc(), file),
         _ => Cause::Unknown,
     }
@@ -32,9 +32,9 @@ fn read_and_answer(rt: &HostRuntime, answer: Answer<'_>, path: &str) -> Result<u
     if path == STANDARD {
         return write_answer(rt, answer, path, &mut rt.reader());
     }
-    match File::open(rt, path) {
+    match (HostDisk { rt }).open(rt.alloc(), path) {
         Ok(mut file) => write_answer(rt, answer, path, &mut file),
-        Err(e) if e.kind() == ErrorKind::OutOfMemory => Err(RunFault::OutOfMemory),
+        Err(DiskFault::OutOfMemory) => Err(RunFault::OutOfMemory),
         Err(_) => Err(RunFault::Read),
     }
 }

@@ -2,13 +2,15 @@
 
 use crate::picture::judged_picture;
 use eos_check::{Fault, Verdict};
-use eos_ending::{Ending, STANDARD, Subject, end, fill_file, make_file};
+use eos_disk::HostDisk;
+use eos_ending::{
+    Ending, Meter, Progress, STANDARD, Subject, end, end_unread, fill_file, make_file,
+};
 use eos_evidence::Spec;
 use eos_folder::{FolderFault, read_shape};
 use eos_folder_source::FolderSource;
 use eos_layout::drawing_of;
 use eos_picture::Picture;
-use eos_progress::{Meter, Progress, end_unread};
 use eos_report::verdict_line;
 use eos_source_check::{Judged, judge_source};
 use eos_source_faults::{Unlisted, all_source_faults};
@@ -108,9 +110,10 @@ fn answer_of(
     words: &Draw<'_>,
     progress: &Progress<'_>,
 ) -> Result<Answer, FolderFault> {
-    let shape = read_shape(rt, words.folder, progress)?;
+    let disk = HostDisk { rt };
+    let shape = read_shape(rt.alloc(), &disk, words.folder, progress)?;
     let source = FolderSource {
-        rt,
+        disk: &disk,
         folder: words.folder,
         shape: &shape,
         watch: progress,
@@ -125,7 +128,7 @@ fn answer_source(
     rt: &HostRuntime,
     threads: &(impl Threads + Wait + Sync),
     words: &Draw<'_>,
-    source: &FolderSource<'_, Progress<'_>>,
+    source: &FolderSource<'_, HostDisk<'_>, Progress<'_>>,
 ) -> Result<Answer, FolderFault> {
     let evidence = &source.shape.evidence;
     let workers = Workers::standard();
@@ -137,7 +140,7 @@ fn answer_source(
 fn answer_judged(
     alloc: Global,
     words: &Draw<'_>,
-    source: &FolderSource<'_, Progress<'_>>,
+    source: &FolderSource<'_, HostDisk<'_>, Progress<'_>>,
     judged: &Judged,
 ) -> Result<Answer, FolderFault> {
     let checked = Checked {
@@ -157,7 +160,7 @@ fn answer_judged(
 /// All faults. Partitions that have some by themselves are read once more, whole, one after the other.
 fn listed(
     alloc: Global,
-    source: &FolderSource<'_, Progress<'_>>,
+    source: &FolderSource<'_, HostDisk<'_>, Progress<'_>>,
     judged: &Judged,
 ) -> Result<Vec<Fault>, FolderFault> {
     match all_source_faults(alloc, source, &source.shape.evidence, &judged.logs) {

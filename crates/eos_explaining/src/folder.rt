@@ -1,10 +1,10 @@
 //! `explain` of a folder.
 
 use crate::answer::{Answer, Asked, explain};
-use eos_ending::{Ending, STANDARD, Subject, end};
+use eos_disk::HostDisk;
+use eos_ending::{Ending, Meter, Progress, STANDARD, Subject, end, end_unread, say_notes};
 use eos_evidence::Evidence;
-use eos_folder::{Cause, read_folder};
-use eos_progress::{Meter, Progress, end_unread, say_notes};
+use eos_folder::{Cause, Reading, read_folder};
 use eos_segment::RunFault;
 use eos_text::finish;
 use eos_words::Explain;
@@ -20,7 +20,11 @@ pub fn explain_folder(
 ) -> u8 {
     let meter = Meter::start(rt, false, false);
     let progress = Progress::begin(&meter, Subject::Only);
-    match read_folder(rt, threads, words.folder, words.workers, &progress) {
+    let asked = Reading {
+        workers: words.workers,
+        watch: &progress,
+    };
+    match read_folder(rt.alloc(), threads, &HostDisk { rt }, words.folder, asked) {
         Ok(evidence) => tell(rt, threads, words, &evidence, &progress),
         Err(fault) => end_unread(rt, Subject::Only, &fault),
     }

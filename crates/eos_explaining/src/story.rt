@@ -44,6 +44,7 @@ fn told_of(
     let place = place_of(scene.alloc, fault)?;
     let page = page_for(scene.alloc, fault)?;
     let story = Story {
+        folder: "FOLDER",
         verdict,
         place: place.as_ref(),
         rows: rows.as_slice(),

@@ -5,7 +5,7 @@ use Rattle.std.proofs.lemmas.Bool.Decides.{nat_tests}
 use Rattle.std.specs.Char.{is_ascii_digit}
 use Rattle.std.specs.List.{list_all}
 use Rattle.std.specs.Str.Parse.{digits_value}
-use Rattle.eos_folder.specs.steps.Names.{base_in}
+use Rattle.eos_folder.specs.Names.{base_in}
 
 pub base_of_others : (text : List ℕ) → (length text == 20 && list_all is_ascii_digit text) ≡ false → base_in text ≡ None
 unfolding base_in

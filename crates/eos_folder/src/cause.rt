@@ -3,10 +3,10 @@
 ghost use Rattle.std.specs.Prelude.{◌≡◌, Some};
 ghost use Rattle.eos_folder.specs.Causes.{cause_text, is_unknown};
 
-use std::alloc::{AllocError, Global};
+use eos_disk::{Disk, DiskFault};
+use std::alloc::Global;
 use std::fmt::{Display, Formatter, Write};
-use std::fs::File;
-use std::io::{Error, ErrorKind, Read};
+use std::io::Read;
 
 /// Why a file or a folder isn't read. Printed, it is a part of a sentence, and nothing where nothing is known.
 #[derive(Drop)]
@@ -75,11 +75,11 @@ impl Cause {
         }
     }
 
-    /// Why this file can't be read, by asking the system again.
-    pub fn of_file(rt: &HostRuntime, path: &str) -> Cause {
-        match File::open(rt, path) {
-            Ok(mut file) => Cause::of_reader(rt.alloc(), &mut file),
-            Err(e) => Cause::of_error(rt.alloc(), &e),
+    /// Why this file can't be read, by asking the disk again.
+    pub fn of_file<D: Disk>(alloc: Global, disk: &D, path: &str) -> Cause {
+        match disk.open(alloc, path) {
+            Ok(mut file) => Cause::of_reader(alloc, &mut file),
+            Err(fault) => Cause::of_fault(fault),
         }
     }
 
@@ -87,30 +87,21 @@ impl Cause {
     pub fn of_reader<R: Read>(alloc: Global, reader: &mut R) -> Cause {
         match reader.read(&mut [0u8; 1]) {
             Ok(_) => Cause::Unknown,
-            Err(e) => Cause::of_error(alloc, &e),
+            Err(e) => Cause::of_fault(DiskFault::of_error(alloc, &e)),
         }
     }
 
-    /// What an error of the system says.
-    pub(crate) fn of_error(alloc: Global, e: &Error) -> Cause {
-        match e.kind() {
-            ErrorKind::NotFound => Cause::NoSuchFile,
-            ErrorKind::PermissionDenied => Cause::PermissionDenied,
-            ErrorKind::IsADirectory => Cause::Folder,
-            ErrorKind::NotADirectory => Cause::NotFolder,
-            kind => match words_of(alloc, e, kind) {
-                Ok(words) => Cause::Told(words),
-                Err(_) => Cause::Unknown,
-            },
+    /// What the disk says.
+    pub(crate) fn of_fault(fault: DiskFault) -> Cause {
+        match fault {
+            DiskFault::NotThere | DiskFault::Dangling => Cause::NoSuchFile,
+            DiskFault::PermissionDenied => Cause::PermissionDenied,
+            DiskFault::IsFolder => Cause::Folder,
+            DiskFault::NotFolder => Cause::NotFolder,
+            DiskFault::IsPipe => Cause::Words("a pipe"),
+            DiskFault::Told(words) => Cause::Told(words),
+            DiskFault::Untold => Cause::Unknown,
+            DiskFault::OutOfMemory => Cause::Words("out of memory"),
         }
-    }
-}
-
-/// What the kind of an error says, or the error itself where its kind says nothing.
-fn words_of(alloc: Global, e: &Error, kind: ErrorKind) -> Result<String, AllocError> {
-    if kind == ErrorKind::Uncategorized {
-        format!(in alloc; "{e}")
-    } else {
-        format!(in alloc; "{kind}")
     }
 }

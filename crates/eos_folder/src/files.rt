@@ -1,92 +1,170 @@
 //! Files that are read: how they are opened, and why they can't be read.
 
+ghost use Rattle.std.specs.Prelude.{◌≡◌, ◌≤◌, length, Ok, IfOk, IfErr, IfSome, string_bytes};
+ghost use Rattle.eos_disk.specs.Entries.{Leaves, HasBytes};
+ghost use Rattle.eos_folder.specs.Paths.{file_path, path_of_end, segment_path};
+ghost use Rattle.eos_folder.specs.Refusals.{RefusesFile};
+ghost use Rattle.eos_folder.specs.declared.names.Form.TheVariants.{Log};
+
 use crate::cause::Cause;
 use crate::folder::FolderFault;
 use crate::names::Form;
 use crate::paths::{file_path, partition_path, segment_path};
 use bytes::Bytes;
-use eos_evidence::{End, ReadFault, Segment, read_segment};
+use eos_disk::{Disk, DiskFault};
+use eos_evidence::{End, MAX_SEGMENT_BYTES, ReadFault, Segment, read_segment};
 use std::alloc::Global;
-use std::fs::File;
 use std::io;
-use std::io::{Error, ErrorKind, Read};
+use std::io::Read;
 
 /// A file that is read, with the path that a refusal of it names.
 #[derive(Drop)]
-pub struct NamedFile {
-    path: String,
-    file: File,
+pub struct NamedFile<F> {
+    pub path: String,
+    pub file: F,
 }
 
-impl Read for NamedFile {
+impl<F: Read> Read for NamedFile<F> {
+    ghost remaining = { λ named. F.remaining named.file };
+
     fn read(&mut self, buf: &mut [u8]) -> io::Result<usize> {
         self.file.read(buf)
     }
 }
 
-impl NamedFile {
-    /// Opens the file of this path.
-    pub fn open(rt: &HostRuntime, path: String) -> Result<NamedFile, FolderFault> {
-        match File::open(rt, path.as_str()) {
+impl<F: Read + Drop> NamedFile<F> {
+    /// The file of this path, as a disk answers its opening.
+    pub fn of_opened(
+        path: String,
+        opened: Result<F, DiskFault>,
+    ) -> Result<NamedFile<F>, FolderFault>
+        ensures ok { IfOk result (λ named. (opened ≡ Ok named.file) × (named.path ≡ path)) }
+        ensures err { IfErr result (RefusesFile (string_bytes path)) }
+    {
+        match opened {
             Ok(file) => Ok(NamedFile { path, file }),
-            Err(e) => Err(unread(rt.alloc(), path, &e)),
+            Err(fault) => Err(unread(path, fault)),
         }
     }
 
     /// Its bytes, at most as many as a segment may have.
-    pub fn read_whole(mut self, alloc: Global) -> Result<Bytes, FolderFault> {
-        match read_segment(alloc, &mut self) {
+    #[tactic(auto, using(crate::proofs::WholeFiles::all_left))]
+    pub fn read_whole(self, alloc: Global) -> Result<Bytes, FolderFault>
+        ensures ok { IfOk result (λ bytes. IfSome (F.remaining self.file) (λ xs. bytes ≡ xs)) }
+        ensures within { IfOk result (λ bytes. length bytes ≤ MAX_SEGMENT_BYTES) }
+        ensures err { IfErr result (RefusesFile (string_bytes self.path)) }
+    {
+        let NamedFile { path, mut file } = self;
+        match read_segment(alloc, &mut file) {
             Ok(bytes) => Ok(bytes),
-            Err(why) => Err(self.refusal(alloc, why)),
+            Err(why) => Err(refusal_of(alloc, path, &mut file, why)),
         }
     }
 
     /// Why reading it ended so.
-    pub fn refusal(&mut self, alloc: Global, why: ReadFault) -> FolderFault {
-        let Ok(path) = self.path.clone() else {
-            return FolderFault::OutOfMemory;
-        };
-        match why {
-            ReadFault::Read => {
-                FolderFault::CannotRead(path, Cause::of_reader(alloc, &mut self.file))
-            }
-            ReadFault::Limit => FolderFault::Limit(Cause::LongFile(path)),
-            ReadFault::OutOfMemory => FolderFault::OutOfMemory,
+    pub fn refusal(&mut self, alloc: Global, why: ReadFault) -> FolderFault
+        ensures { RefusesFile (string_bytes self.old.path) result }
+    {
+        match self.path.clone() {
+            Ok(path) => refusal_of(alloc, path, &mut self.file, why),
+            Err(_) => FolderFault::OutOfMemory,
         }
     }
 }
 
-/// Why the file or folder of this path isn't read.
-pub(crate) fn unread(alloc: Global, path: String, e: &Error) -> FolderFault {
-    if e.kind() == ErrorKind::OutOfMemory {
-        return FolderFault::OutOfMemory;
+/// Why reading the file of this path ended so.
+pub fn refusal_of<F: Read>(alloc: Global, path: String, file: &mut F, why: ReadFault) -> FolderFault
+    ensures { RefusesFile (string_bytes path) result }
+{
+    match why {
+        ReadFault::Read => FolderFault::CannotRead(path, Cause::of_reader(alloc, file)),
+        ReadFault::Limit => FolderFault::Limit(Cause::LongFile(path)),
+        ReadFault::OutOfMemory => FolderFault::OutOfMemory,
     }
-    FolderFault::CannotRead(path, Cause::of_error(alloc, e))
+}
+
+/// Opens the file of this path.
+pub fn open_file<D: Disk>(
+    alloc: Global,
+    disk: &D,
+    path: String,
+) -> Result<NamedFile<D::File>, FolderFault>
+    ensures ok { IfOk result (λ named. Leaves (D.holds disk.now (string_bytes path)) (D.File.remaining named.file)) }
+    ensures path { IfOk result (λ named. named.path ≡ path) }
+    ensures err { IfErr result (RefusesFile (string_bytes path)) }
+{
+    let opened = disk.open(alloc, path.as_str());
+    NamedFile::of_opened(path, opened)
+}
+
+/// The bytes of the file of this path, at most as many as a segment may have.
+#[tactic(auto, using(crate::proofs::WholeFiles::left_stands))]
+pub(crate) fn read_file<D: Disk>(
+    alloc: Global,
+    disk: &D,
+    path: String,
+) -> Result<Bytes, FolderFault>
+    ensures ok { IfOk result (λ bytes. HasBytes (D.holds disk.now (string_bytes path)) bytes) }
+    ensures within { IfOk result (λ bytes. length bytes ≤ MAX_SEGMENT_BYTES) }
+    ensures err { IfErr result (RefusesFile (string_bytes path)) }
+{
+    let named = open_file(alloc, disk, path)?;
+    named.read_whole(alloc)
+}
+
+/// Why the file or folder of this path isn't read.
+pub(crate) fn unread(path: String, fault: DiskFault) -> FolderFault
+    ensures { RefusesFile (string_bytes path) result }
+{
+    match fault {
+        DiskFault::OutOfMemory => FolderFault::OutOfMemory,
+        fault => FolderFault::CannotRead(path, Cause::of_fault(fault)),
+    }
 }
 
 /// Opens the file of a segment, which stands in this form in a folder of evidence. Of the segment itself only the name counts: its
 /// topic, partition and base.
-pub fn open_segment(
-    rt: &HostRuntime,
+pub fn open_segment<D: Disk>(
+    alloc: Global,
+    disk: &D,
     folder: &str,
     name: &Segment,
     form: Form,
-) -> Result<NamedFile, FolderFault> {
-    NamedFile::open(rt, segment_path(rt.alloc(), folder, name, form)?)
+) -> Result<NamedFile<D::File>, FolderFault>
+    ensures ok { IfOk result (λ named. Leaves (D.holds disk.now (segment_path folder.now name.now form)) (D.File.remaining named.file)) }
+    ensures err { IfErr result (RefusesFile (segment_path folder.now name.now form)) }
+{
+    let path = segment_path(alloc, folder, name, form)?;
+    open_file(alloc, disk, path)
 }
 
 /// Opens the log, in the folder of a partition, of the segment whose first offset is this.
-pub fn open_log(rt: &HostRuntime, partition: &str, base: i64) -> Result<NamedFile, FolderFault> {
-    NamedFile::open(rt, file_path(rt.alloc(), partition, base, Form::Log)?)
+pub fn open_log<D: Disk>(
+    alloc: Global,
+    disk: &D,
+    partition: &str,
+    base: i64,
+) -> Result<NamedFile<D::File>, FolderFault>
+    ensures ok { IfOk result (λ named. Leaves (D.holds disk.now (file_path partition.now base Log)) (D.File.remaining named.file)) }
+    ensures err { IfErr result (RefusesFile (file_path partition.now base Log)) }
+{
+    let path = file_path(alloc, partition, base, Form::Log)?;
+    open_file(alloc, disk, path)
 }
 
 /// The bytes of a partition's segment, at most as many as a segment may have.
-pub fn read_segment_file(
-    rt: &HostRuntime,
+pub fn read_segment_file<D: Disk>(
+    alloc: Global,
+    disk: &D,
     folder: &str,
     end: &End,
     base: i64,
-) -> Result<Bytes, FolderFault> {
-    let partition = partition_path(rt.alloc(), folder, end.topic.as_slice(), end.partition)?;
-    open_log(rt, &partition, base)?.read_whole(rt.alloc())
+) -> Result<Bytes, FolderFault>
+    ensures ok { IfOk result (λ bytes. HasBytes (D.holds disk.now (file_path (path_of_end folder.now end.now) base Log)) bytes) }
+    ensures within { IfOk result (λ bytes. length bytes ≤ MAX_SEGMENT_BYTES) }
+    ensures err { IfErr result (RefusesFile (file_path (path_of_end folder.now end.now) base Log)) }
+{
+    let partition = partition_path(alloc, folder, end.topic.as_slice(), end.partition)?;
+    let path = file_path(alloc, &partition, base, Form::Log)?;
+    read_file(alloc, disk, path)
 }

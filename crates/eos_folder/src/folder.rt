@@ -1,16 +1,24 @@
 //! Reading a folder of evidence: its manifest, and the segments of the partitions that the manifest names.
 
-ghost use Rattle.std.specs.Prelude.{◌≡◌};
+ghost use Rattle.std.specs.Prelude.{◌≡◌, ℕ, List, map, Ok, IfOk, IfErr, OnOk, string_bytes};
+ghost use Rattle.eos_disk.specs.Entries.{HasBytes};
+ghost use Rattle.eos_evidence.specs.Evidence.{IsEvidence, with_segment};
+ghost use Rattle.eos_evidence.specs.Manifest.{spec_said_by};
+ghost use Rattle.eos_folder.specs.Paths.{manifest_path};
+ghost use Rattle.eos_folder.specs.Refusals.{RefusesManifest};
+ghost use Rattle.eos_folder.specs.Shapes.{IsShapeAt};
+ghost use Rattle.eos_folder.specs.steps.Listing.{AreNamed, partitions_with};
 ghost use Rattle.eos_folder.specs.declared.folder.FolderFault.TheVariants.{OutOfMemory};
 
 use crate::cause::Cause;
-use crate::files::{NamedFile, open_segment};
+use crate::files::{open_segment, read_file};
 use crate::listing::Segments;
 use crate::names::Form;
 use crate::paths::manifest_path;
 use crate::refusal::{NO_RECORDS, refused_fold};
 use crate::watch::Watch;
 use bytes::Bytes;
+use eos_disk::Disk;
 use eos_evidence::{AddFault, Evidence, EvidenceBuilder, Segment, Spec, SpecFault, parse_spec};
 use eos_manifest_cause::explain_spec;
 use eos_workers::Workers;
@@ -79,13 +87,16 @@ struct SegmentFile {
 
 /// Reads which evidence a folder has: its manifest, and for each partition of it the names of the segments in the folder
 /// `TOPIC-N`, each with the form in which it stands there. A partition without a folder has no segments. No segment is read.
-pub fn read_shape<W: Watch>(
-    rt: &HostRuntime,
+pub fn read_shape<D: Disk, W: Watch>(
+    alloc: Global,
+    disk: &D,
     folder: &str,
     watch: &W,
-) -> Result<Shape, FolderFault> {
+) -> Result<Shape, FolderFault>
+    ensures { IfOk result (λ shape. shape.listed ≡ Ok tt → IsShapeAt (D.holds disk.now) folder.now shape.evidence shape.forms.items) }
+{
     let mut listed = Ok(());
-    match shape_of(rt, folder, watch, &mut listed) {
+    match shape_of(alloc, disk, folder, watch, &mut listed) {
         Ok((evidence, forms)) => Ok(Shape {
             evidence,
             forms,
@@ -95,37 +106,49 @@ pub fn read_shape<W: Watch>(
     }
 }
 
-fn shape_of<W: Watch>(
-    rt: &HostRuntime,
+fn shape_of<D: Disk, W: Watch>(
+    alloc: Global,
+    disk: &D,
     folder: &str,
     watch: &W,
     listed: &mut Result<(), FolderFault>,
-) -> Result<(Evidence, Vec<Form>), FolderFault> {
-    let Listing { spec, segments } = list_folder(rt, folder, watch, listed)?;
+) -> Result<(Evidence, Vec<Form>), FolderFault>
+    ensures { IfOk result (λ shape. listed.new ≡ Ok tt → IsShapeAt (D.holds disk.now) folder.now shape.0 shape.1.items) }
+{
+    let Listing { spec, segments } = list_folder(alloc, disk, folder, watch, listed)?;
     let Segments { names, forms } = segments;
-    let evidence = evidence_of(rt, spec, names)?;
+    let evidence = evidence_of(alloc, spec, names)?;
     Ok((evidence, forms))
+}
+
+/// How a folder is read.
+#[derive(Clone, Copy)]
+pub struct Reading<'a, W> {
+    /// By how many threads at most.
+    pub workers: Workers,
+    pub watch: &'a W,
 }
 
 /// Reads the evidence of a folder: its shape, and the bytes of each segment, by at most as many threads as there are workers. A
 /// folder that has a fold is refused before any segment is read.
-pub fn read_folder<W: Watch>(
-    rt: &HostRuntime,
+pub fn read_folder<D: Disk, W: Watch>(
+    alloc: Global,
     threads: &(impl Threads + Sync),
+    disk: &D,
     folder: &str,
-    workers: Workers,
-    watch: &W,
+    asked: Reading<'_, W>,
 ) -> Result<Evidence, FolderFault> {
+    let Reading { workers, watch } = asked;
     let mut listed = Ok(());
-    let evidence = match list_logs(rt, folder, watch, &mut listed) {
+    let evidence = match list_logs(alloc, disk, folder, watch, &mut listed) {
         Ok((spec, mut files)) => {
             thread::for_each_mut(
                 threads,
                 files.as_mut_slice(),
                 workers.get() as usize,
-                &|_, file: &mut SegmentFile| { file.read(rt, folder, watch) },
+                &|_, file: &mut SegmentFile| { file.read(alloc, disk, folder, watch) },
             );
-            evidence_of_files(rt, spec, files)
+            evidence_of_files(alloc, spec, files)
         }
         Err(fault) => Err(fault),
     };
@@ -143,42 +166,50 @@ fn first_refusal(
 }
 
 /// What a folder lists that has no fold: its manifest, and the files of its segments, of which none is read yet.
-fn list_logs<W: Watch>(
-    rt: &HostRuntime,
+fn list_logs<D: Disk, W: Watch>(
+    alloc: Global,
+    disk: &D,
     folder: &str,
     watch: &W,
     listed: &mut Result<(), FolderFault>,
 ) -> Result<(Spec, Vec<SegmentFile>), FolderFault> {
-    let Listing { spec, segments } = list_folder(rt, folder, watch, listed)?;
+    let Listing { spec, segments } = list_folder(alloc, disk, folder, watch, listed)?;
     if let Some(name) = segments.first_fold() {
-        return Err(refused_fold(rt.alloc(), folder, name, NO_RECORDS));
+        return Err(refused_fold(alloc, folder, name, NO_RECORDS));
     }
-    let files = unread_files(rt.alloc(), segments.names)?;
+    let files = unread_files(alloc, segments.names)?;
     Ok((spec, files))
 }
 
 /// Lists a folder, and why these aren't all of its segments, if that was refused.
-fn list_folder<W: Watch>(
-    rt: &HostRuntime,
+fn list_folder<D: Disk, W: Watch>(
+    alloc: Global,
+    disk: &D,
     folder: &str,
     watch: &W,
     listed: &mut Result<(), FolderFault>,
-) -> Result<Listing, FolderFault> {
-    let spec = read_manifest(rt, manifest_path(rt.alloc(), folder)?)?;
-    let mut segments = Segments::new(rt.alloc());
-    *listed = segments.add_all(rt, folder, spec.ends().as_slice());
+) -> Result<Listing, FolderFault>
+    ensures says { IfOk result (λ listing. (text : List ℕ) × HasBytes (D.holds disk.now (manifest_path folder.now)) text × (spec_said_by text ≡ Ok listing.spec)) }
+    ensures named { IfOk result (λ listing. listed.new ≡ Ok tt → AreNamed (D.holds disk.now) folder.now listing.spec.ends listing.segments.names.items listing.segments.forms.items) }
+{
+    let spec = read_manifest(alloc, disk, manifest_path(alloc, folder)?)?;
+    let mut segments = Segments::new(alloc);
+    *listed = segments.add_all(alloc, disk, folder, spec.ends().as_slice());
     watch.found(segments.names.len() as u64);
     Ok(Listing { spec, segments })
 }
 
 /// Reads the manifest in the file of this path.
-pub fn read_manifest(rt: &HostRuntime, path: String) -> Result<Spec, FolderFault> {
-    let manifest = NamedFile::open(rt, path)?.read_whole(rt.alloc())?;
-    match parse_spec(rt.alloc(), manifest.as_slice()) {
+pub fn read_manifest<D: Disk>(alloc: Global, disk: &D, path: String) -> Result<Spec, FolderFault>
+    ensures says { IfOk result (λ spec. (text : List ℕ) × HasBytes (D.holds disk.now (string_bytes path)) text × (spec_said_by text ≡ Ok spec)) }
+    ensures err { IfErr result (RefusesManifest (D.holds disk.now) (string_bytes path)) }
+{
+    let manifest = read_file(alloc, disk, path)?;
+    match parse_spec(alloc, manifest.as_slice()) {
         Ok(spec) => Ok(spec),
         Err(SpecFault::OutOfMemory) => Err(FolderFault::OutOfMemory),
         Err(fault) => {
-            let cause = cause_of_refusal(rt.alloc(), manifest.as_slice(), fault);
+            let cause = cause_of_refusal(alloc, manifest.as_slice(), fault);
             Err(FolderFault::Manifest(fault, cause))
         }
     }
@@ -192,19 +223,22 @@ fn cause_of_refusal(alloc: Global, manifest: &[u8], fault: SpecFault) -> Cause {
 }
 
 /// The evidence of the segments in order.
-fn evidence_of(
-    rt: &HostRuntime,
-    spec: Spec,
-    segments: Vec<Segment>,
-) -> Result<Evidence, FolderFault> {
-    let mut builder = EvidenceBuilder::new(rt.alloc(), spec)?;
+fn evidence_of(alloc: Global, spec: Spec, segments: Vec<Segment>) -> Result<Evidence, FolderFault>
+    ensures spec { IfOk result (λ evidence. evidence.spec ≡ spec) }
+    ensures partitions { IfOk result (λ evidence. evidence.partitions ≡ partitions_with segments.items spec.ends) }
+    ensures evidence { IfOk result IsEvidence }
+{
+    let mut builder = EvidenceBuilder::new(alloc, spec)?;
     for segment in segments {
         add(&mut builder, segment)?;
     }
     Ok(builder.finish())
 }
 
-fn add(builder: &mut EvidenceBuilder, segment: Segment) -> Result<(), FolderFault> {
+fn add(builder: &mut EvidenceBuilder, segment: Segment) -> Result<(), FolderFault>
+    ensures spec { OnOk result (builder.new.spec ≡ builder.old.spec) }
+    ensures partitions { OnOk result (builder.new.partitions ≡ map (with_segment segment) builder.old.partitions) }
+{
     match builder.add(segment) {
         Ok(()) => Ok(()),
         Err(AddFault::OutOfMemory) => Err(FolderFault::OutOfMemory),
@@ -230,8 +264,8 @@ fn unread_files(alloc: Global, names: Vec<Segment>) -> Result<Vec<SegmentFile>, 
 
 impl SegmentFile {
     /// Reads the file, and says so.
-    fn read<W: Watch>(&mut self, rt: &HostRuntime, folder: &str, watch: &W) {
-        self.bytes = bytes_of(rt, folder, &self.name);
+    fn read<D: Disk, W: Watch>(&mut self, alloc: Global, disk: &D, folder: &str, watch: &W) {
+        self.bytes = bytes_of(alloc, disk, folder, &self.name);
         if let Ok(bytes) = &self.bytes {
             watch.read(bytes.len() as u64);
         }
@@ -252,17 +286,22 @@ impl SegmentFile {
     }
 }
 
-fn bytes_of(rt: &HostRuntime, folder: &str, name: &Segment) -> Result<Bytes, FolderFault> {
-    open_segment(rt, folder, name, Form::Log)?.read_whole(rt.alloc())
+fn bytes_of<D: Disk>(
+    alloc: Global,
+    disk: &D,
+    folder: &str,
+    name: &Segment,
+) -> Result<Bytes, FolderFault> {
+    open_segment(alloc, disk, folder, name, Form::Log)?.read_whole(alloc)
 }
 
 /// The evidence of the files in order, or the first refusal among them.
 fn evidence_of_files(
-    rt: &HostRuntime,
+    alloc: Global,
     spec: Spec,
     files: Vec<SegmentFile>,
 ) -> Result<Evidence, FolderFault> {
-    let mut builder = EvidenceBuilder::new(rt.alloc(), spec)?;
+    let mut builder = EvidenceBuilder::new(alloc, spec)?;
     for file in files {
         add(&mut builder, file.into_segment()?)?;
     }

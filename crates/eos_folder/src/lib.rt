@@ -4,6 +4,7 @@
 mod cause;
 mod files;
 mod folder;
+pub mod laws;
 mod listing;
 mod names;
 mod paths;
@@ -13,12 +14,12 @@ mod watch;
 mod writing;
 
 pub use cause::Cause;
-pub use files::{NamedFile, open_log, open_segment, read_segment_file};
-pub use folder::{FolderFault, Shape, read_folder, read_manifest, read_shape};
+pub use files::{NamedFile, open_file, open_log, open_segment, read_segment_file, refusal_of};
+pub use folder::{FolderFault, Reading, Shape, read_folder, read_manifest, read_shape};
 pub use listing::{bases_in, bases_of};
 pub use names::Form;
 pub use paths::{manifest_path, partition_path, segment_path};
 pub use placing::{is_there, put_in_place, write_new};
 pub use refusal::{FoldRefusal, refused_fold};
 pub use watch::Watch;
-pub use writing::{WritingFault, make_folder, remove_folder, write_evidence};
+pub use writing::{WritingFault, Written, make_folder, write_evidence};

@@ -1,5 +1,11 @@
 //! Which segments a folder has, by the names of the files in it.
 
+ghost use Rattle.std.specs.Prelude.{◌≡◌, ◌++◌, [], map, take, IfOk, IfErr, OnOk, IsPermutation, IsSorted, string_bytes};
+ghost use Rattle.eos_folder.specs.Paths.{file_path, path_of_end};
+ghost use Rattle.eos_folder.specs.Refusals.{RefusesFile};
+ghost use Rattle.eos_folder.specs.Shapes.{segment_of, by_base, files_said, log_bases, AreByBase, IsFound, AreLogsAt};
+ghost use Rattle.eos_folder.specs.steps.Listing.{IsApart, AreApart, AreNamed};
+
 use crate::cause::Cause;
 use crate::files::unread;
 use crate::folder::FolderFault;
@@ -7,14 +13,9 @@ use crate::names::{FileName, Form, read_file_name};
 use crate::paths::{file_path, partition_path};
 use crate::refusal::{NO_RECORDS, TWICE, refused_at};
 use bytes::Bytes;
+use eos_disk::{Disk, DiskFault};
 use eos_evidence::{End, MAX_SEGMENTS, Segment};
 use std::alloc::{AllocError, Global};
-use std::fs;
-use std::fs::DirEntry;
-use std::io::{Error, ErrorKind};
-
-/// From how many bytes on a path is too long for the system, whatever its parts are.
-const LONG_PATH: usize = 4096;
 
 /// The segments of a folder in order, each with the form in which it stands there.
 #[derive(Drop)]
@@ -26,7 +27,9 @@ pub(crate) struct Segments {
 }
 
 impl Segments {
-    pub(crate) fn new(alloc: Global) -> Segments {
+    pub(crate) fn new(alloc: Global) -> Segments
+        ensures { (result.names.items ≡ []) × (result.forms.items ≡ []) }
+    {
         Segments {
             names: Vec::new(alloc),
             forms: Vec::new(alloc),
@@ -35,17 +38,37 @@ impl Segments {
 
     /// Adds the segments of the partitions in order, each partition's by base. Where it is refused, those before that place were
     /// added.
-    pub(crate) fn add_all(
+    pub(crate) fn add_all<D: Disk>(
         &mut self,
-        rt: &HostRuntime,
+        alloc: Global,
+        disk: &D,
         folder: &str,
         ends: &[End],
-    ) -> Result<(), FolderFault> {
+    ) -> Result<(), FolderFault>
+        requires { (self.old.names.items ≡ []) × (self.old.forms.items ≡ []) }
+        ensures { OnOk result (AreNamed (D.holds disk.now) folder.now ends.now self.new.names.items self.new.forms.items) }
+    {
         for end in ends {
-            let files = files_of(rt, folder, end)?;
-            for i in 0..files.len() {
-                self.add(rt.alloc(), folder, end, &files.as_slice()[i..])?;
-            }
+            let files = files_of(alloc, disk, folder, end)?;
+            self.add_files(alloc, folder, end, files.as_slice())?;
+        }
+        Ok(())
+    }
+
+    /// Adds the segments of these files of a partition, which are in order.
+    fn add_files(
+        &mut self,
+        alloc: Global,
+        folder: &str,
+        end: &End,
+        files: &[FileName],
+    ) -> Result<(), FolderFault>
+        ensures names { OnOk result (self.new.names.items ≡ self.old.names.items ++ map (segment_of end.now) files.now) }
+        ensures forms { OnOk result (self.new.forms.items ≡ self.old.forms.items ++ map (λ f. f.form) files.now) }
+        ensures apart { OnOk result (AreApart files.now) }
+    {
+        for i in 0..files.len() {
+            self.add(alloc, folder, end, &files[i..])?;
         }
         Ok(())
     }
@@ -57,7 +80,11 @@ impl Segments {
         folder: &str,
         end: &End,
         files: &[FileName],
-    ) -> Result<(), FolderFault> {
+    ) -> Result<(), FolderFault>
+        ensures names { OnOk result (self.new.names.items ≡ self.old.names.items ++ map (segment_of end.now) (take 1 files.now)) }
+        ensures forms { OnOk result (self.new.forms.items ≡ self.old.forms.items ++ map (λ f. f.form) (take 1 files.now)) }
+        ensures apart { OnOk result (IsApart files.now) }
+    {
         let Some(file) = files.first() else {
             return Ok(());
         };
@@ -90,24 +117,35 @@ impl Segments {
 
 /// The base offsets of a partition's segments, in order, each of which is a log: a fold is refused. A partition without a folder has
 /// none; any other folder must be read.
-pub fn bases_of(rt: &HostRuntime, folder: &str, end: &End) -> Result<Vec<i64>, FolderFault> {
-    let files = files_of(rt, folder, end)?;
+pub fn bases_of<D: Disk>(
+    alloc: Global,
+    disk: &D,
+    folder: &str,
+    end: &End,
+) -> Result<Vec<i64>, FolderFault>
+    ensures { IfOk result (λ bases. AreLogsAt (D.holds disk.now) (path_of_end folder.now end.now) bases.items) }
+{
+    let files = files_of(alloc, disk, folder, end)?;
     for file in files.as_slice() {
         if let Form::Fold = file.form {
-            return Err(refused_at(path_of(rt.alloc(), folder, end, *file), NO_RECORDS));
+            return Err(refused_at(path_of(alloc, folder, end, *file), NO_RECORDS));
         }
     }
-    Ok(bases_of_logs(rt.alloc(), files.as_slice())?)
+    Ok(bases_of_logs(alloc, files.as_slice())?)
 }
 
 /// The path of a file of a partition.
-fn path_of(alloc: Global, folder: &str, end: &End, file: FileName) -> Result<String, AllocError> {
+fn path_of(alloc: Global, folder: &str, end: &End, file: FileName) -> Result<String, AllocError>
+    ensures { IfOk result (λ path. string_bytes path ≡ file_path (path_of_end folder.now end.now) file.base file.form) }
+{
     let partition = partition_path(alloc, folder, end.topic.as_slice(), end.partition)?;
     file_path(alloc, &partition, file.base, file.form)
 }
 
 /// The segment of a partition with this first offset, without its bytes.
-fn named(end: &End, base: i64) -> Result<Segment, AllocError> {
+fn named(end: &End, base: i64) -> Result<Segment, AllocError>
+    ensures { IfOk result (λ segment. segment ≡ record { topic = end.now.topic; partition = end.now.partition; base = base; bytes = [] }) }
+{
     Ok(Segment {
         topic: end.topic.clone()?,
         partition: end.partition,
@@ -117,14 +155,24 @@ fn named(end: &End, base: i64) -> Result<Segment, AllocError> {
 }
 
 /// The base offsets of the logs in the folder of a partition at this path, in order; its folds don't count.
-pub fn bases_in(rt: &HostRuntime, path: &str) -> Result<Vec<i64>, FolderFault> {
-    match list_files(rt, path) {
-        Ok(files) => Ok(bases_of_logs(rt.alloc(), files.as_slice())?),
-        Err(e) => Err(unread(rt.alloc(), String::from_str(rt.alloc(), path)?, &e)),
+#[tactic(auto, using(crate::proofs::Listings::names_found))]
+pub fn bases_in<D: Disk>(alloc: Global, disk: &D, path: &str) -> Result<Vec<i64>, FolderFault>
+    ensures ok { IfOk result (λ bases. AreLogsAt (D.holds disk.now) path.now bases.items) }
+    ensures err { IfErr result (RefusesFile path.now) }
+{
+    match disk.list(alloc, path) {
+        Ok(names) => {
+            let files = files_in(alloc, names.as_slice())?;
+            Ok(bases_of_logs(alloc, files.as_slice())?)
+        }
+        Err(fault) => Err(unread(String::from_str(alloc, path)?, fault)),
     }
 }
 
-fn bases_of_logs(alloc: Global, files: &[FileName]) -> Result<Vec<i64>, AllocError> {
+/// The base offsets of those that are logs.
+fn bases_of_logs(alloc: Global, files: &[FileName]) -> Result<Vec<i64>, AllocError>
+    ensures { IfOk result (λ bases. bases.items ≡ log_bases files.now) }
+{
     let mut bases = Vec::new(alloc);
     for file in files {
         if let Form::Log = file.form {
@@ -135,48 +183,50 @@ fn bases_of_logs(alloc: Global, files: &[FileName]) -> Result<Vec<i64>, AllocErr
 }
 
 /// The files of a partition's segments, by base. A partition without a folder has none; any other folder must be read.
-fn files_of(rt: &HostRuntime, folder: &str, end: &End) -> Result<Vec<FileName>, FolderFault> {
-    let path = partition_path(rt.alloc(), folder, end.topic.as_slice(), end.partition)?;
-    match list_files(rt, &path) {
-        Ok(files) => Ok(files),
-        Err(e) if is_absent(rt, &path, e.kind()) => Ok(Vec::new(rt.alloc())),
-        Err(e) => Err(unread(rt.alloc(), path, &e)),
+#[tactic(auto, using(crate::proofs::Listings::end_found, crate::proofs::Listings::none_found))]
+fn files_of<D: Disk>(
+    alloc: Global,
+    disk: &D,
+    folder: &str,
+    end: &End,
+) -> Result<Vec<FileName>, FolderFault>
+    ensures { IfOk result (λ files. IsFound (D.holds disk.now) (path_of_end folder.now end.now) files.items) }
+{
+    let path = partition_path(alloc, folder, end.topic.as_slice(), end.partition)?;
+    match disk.list(alloc, &path) {
+        Ok(names) => Ok(files_in(alloc, names.as_slice())?),
+        Err(DiskFault::NotThere) => Ok(Vec::new(alloc)),
+        Err(fault) => Err(unread(path, fault)),
     }
 }
 
-/// Whether an error at this path says that nothing is there: no folder, and no link that leads nowhere; or a folder whose name
-/// is too long for the file system.
-fn is_absent(rt: &HostRuntime, path: &str, kind: ErrorKind) -> bool {
-    match kind {
-        ErrorKind::NotFound => match fs::symlink_metadata(rt, path) {
-            Ok(_) => false,
-            Err(e) => e.kind() == ErrorKind::NotFound,
-        },
-        ErrorKind::InvalidFilename => path.len() < LONG_PATH,
-        _ => false,
-    }
+/// The files of these names that are named as segments, by base. Other names are left out.
+#[tactic(auto, using(crate::proofs::Listings::ordered))]
+fn files_in(alloc: Global, names: &[Bytes]) -> Result<Vec<FileName>, AllocError>
+    ensures { IfOk result (λ files. AreByBase names.now files.items) }
+{
+    let files = files_said(alloc, names)?;
+    Ok(by_base(files))
 }
 
-/// The files in a folder that are named as segments, by base. Other names are left out.
-fn list_files(rt: &HostRuntime, folder: &str) -> Result<Vec<FileName>, Error> {
-    let mut files = Vec::new(rt.alloc());
-    for entry in fs::read_dir(rt, folder)? {
-        push_entry(&mut files, entry)?;
-    }
-    files.as_mut_slice().sort_unstable_by_key(|file| file.base);
-    Ok(files)
+/// The same files by base.
+fn by_base(mut files: Vec<FileName>) -> Vec<FileName>
+    ensures sorted { IsSorted by_base result.items }
+    ensures same { IsPermutation files.items result.items }
+{
+    files.sort_unstable_by(|a, b| a.base.cmp(&b.base));
+    files
 }
 
-/// Adds an entry that is named as a segment. A name that isn't UTF-8 is none of these.
-fn push_entry(files: &mut Vec<FileName>, entry: Result<DirEntry, Error>) -> Result<(), Error> {
-    match entry {
-        Ok(entry) => {
-            if let Some(file) = read_file_name(entry.file_name().as_bytes()) {
-                files.push(file)?;
-            }
-            Ok(())
+/// The same in the order of the names.
+fn files_said(alloc: Global, names: &[Bytes]) -> Result<Vec<FileName>, AllocError>
+    ensures { IfOk result (λ files. files.items ≡ files_said names.now) }
+{
+    let mut files = Vec::new(alloc);
+    for name in names {
+        if let Some(file) = read_file_name(name.as_slice()) {
+            files.push(file)?;
         }
-        Err(e) if e.kind() == ErrorKind::InvalidFilename => Ok(()),
-        Err(e) => Err(e),
     }
+    Ok(files)
 }

@@ -4,7 +4,8 @@ ghost use Rattle.std.specs.Prelude.{◌≡◌, ◌≤◌, ◌==◌, ◌&&◌, tr
 ghost use Rattle.std.specs.Char.{is_ascii_digit};
 ghost use Rattle.std.specs.List.{list_all};
 ghost use Rattle.std.specs.Str.Parse.{digits_value};
-ghost use Rattle.eos_folder.specs.steps.Names.{base_in, form_in, file_in_name};
+ghost use Rattle.eos_folder.specs.Names.{base_in, form_in, file_in_name};
+ghost use Rattle.eos_folder.specs.Paths.{ending_of};
 
 /// How many digits the name of a segment has before its ending.
 const DIGITS: usize = 20;
@@ -27,7 +28,9 @@ pub(crate) struct FileName {
 
 impl Form {
     /// How the name of a file of this form ends.
-    pub(crate) fn ending(self) -> &'static str {
+    pub(crate) fn ending(self) -> &'static str
+        ensures { result.now ≡ ending_of self }
+    {
         match self {
             Form::Log => ".log",
             Form::Fold => ".fold",

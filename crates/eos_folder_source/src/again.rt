@@ -1,6 +1,7 @@
 //! Why a piece of a folder that is read again won't do.
 
 use crate::source::{FolderSource, piece_of};
+use eos_disk::Disk;
 use eos_folder::{Cause, FoldRefusal, FolderFault, Watch, refused_fold, segment_path};
 use std::alloc::Global;
 
@@ -10,7 +11,7 @@ const NEEDS_LOG: FoldRefusal = FoldRefusal {
     words: "its partition has a fault by itself, and to list all of these the log is read again, which a fold doesn't hold",
 };
 
-impl<'a, W: Watch> FolderSource<'a, W> {
+impl<'a, D: Disk, W: Watch> FolderSource<'a, D, W> {
     /// The piece of this number is a fold, where its log is to be read again.
     pub fn needs_log(&self, alloc: Global, piece: u64) -> FolderFault {
         match piece_of(&self.shape.evidence, self.shape.forms.as_slice(), piece) {

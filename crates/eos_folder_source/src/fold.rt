@@ -1,15 +1,16 @@
 //! The folds of a folder: how one is read, and why one is refused.
 
-ghost use Rattle.std.specs.Prelude.{◌≡◌, ◌≢◌, ◌≤◌, ◌<◌, ◌-◌, ◌^◌, min, None, Some, IfOk};
+ghost use Rattle.std.specs.Prelude.{◌≡◌, ◌≢◌, ◌≤◌, ◌<◌, ◌-◌, ◌^◌, min, None, Some, Ok, IfOk};
 ghost use Rattle.eos_fold_file.specs.Files.{record_count};
 ghost use Rattle.eos_fold_file.specs.Legal.{IsLegal};
+ghost use Rattle.eos_fold_file.specs.Reading.{read_fold};
 ghost use Rattle.eos_folder_source.specs.steps.Folds.{IsForName};
 
 use bytes::Bytes;
 use eos_evidence::{MAX_SEGMENT_BYTES, Segment};
 use eos_fold_file::{FoldFault, FoldFile, FoldHead, decode_fold};
 use eos_fold_run::Unfit;
-use eos_folder::{Cause, FoldRefusal, FolderFault, Form, open_segment, refused_fold, segment_path};
+use eos_folder::{Cause, FoldRefusal, FolderFault, Form, refused_fold, segment_path};
 use std::alloc::Global;
 
 /// Why a fold isn't one of the segment by whose name its file lies there. Each record takes bytes of its segment, so a small file can't
@@ -56,15 +57,6 @@ fn mismatch_of(name: &Segment, fold: &FoldFile) -> Option<Mismatch>
     None
 }
 
-/// The bytes of the fold of the segment of this name in a folder.
-pub(crate) fn read_bytes(
-    rt: &HostRuntime,
-    folder: &str,
-    name: &Segment,
-) -> Result<Bytes, FolderFault> {
-    open_segment(rt, folder, name, Form::Fold)?.read_whole(rt.alloc())
-}
-
 /// The fold of the segment of this name in a folder, of these bytes.
 pub(crate) fn read_fold(
     alloc: Global,
@@ -72,6 +64,7 @@ pub(crate) fn read_fold(
     name: &Segment,
     bytes: &Bytes,
 ) -> Result<FoldFile, FolderFault>
+    ensures read { IfOk result (λ fold. read_fold bytes.now ≡ Ok fold) }
     ensures legal { IfOk result IsLegal }
     ensures named { IfOk result (IsForName name.now) }
 {

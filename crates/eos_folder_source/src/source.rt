@@ -1,21 +1,21 @@
-//! A folder as a source.
+//! A folder of a disk as a source.
 
-ghost use Rattle.std.specs.Prelude.{◌≡◌, true, IfSome};
-ghost use Rattle.eos_folder.specs.declared.names.Form.TheVariants.{Log};
-ghost use Rattle.eos_folder_source.specs.Logs.{is_log_at};
+ghost use Rattle.std.specs.Prelude.{◌≡◌, Some, IfSome, slice_get};
+ghost use Rattle.eos_evidence.specs.Evidence.{segments_of};
 
-use crate::fold::{read_bytes, read_fold, refused_unfit};
+use crate::fold::{read_fold, refused_unfit};
 use crate::reader::SegmentReader;
+use eos_disk::Disk;
 use eos_evidence::{Evidence, ReadFault, Segment};
 use eos_fold_run::Unfit;
-use eos_folder::{Cause, FolderFault, Form, Shape, Watch, open_segment};
+use eos_folder::{Cause, FolderFault, Form, NamedFile, Shape, Watch, segment_path};
 use eos_source::{Piece, Source};
 use std::alloc::Global;
 
 /// A folder of this shape, as `read_shape` gives it.
 #[derive(Drop)]
-pub struct FolderSource<'a, W: Watch> {
-    pub rt: &'a HostRuntime,
+pub struct FolderSource<'a, D: Disk, W: Watch> {
+    pub disk: &'a D,
     pub folder: &'a str,
     pub shape: &'a Shape,
     /// Who is told of each segment that was read to its end.
@@ -28,7 +28,8 @@ pub(crate) fn piece_of<'a>(
     forms: &[Form],
     piece: u64,
 ) -> Option<(&'a Segment, Form)>
-    ensures { IfSome result (λ found. is_log_at forms.now piece ≡ true → found.1 ≡ Log) }
+    ensures name { IfSome result (λ found. slice_get (segments_of shape.now.partitions) piece ≡ Some found.0.now) }
+    ensures form { IfSome result (λ found. slice_get forms.now piece ≡ Some found.1) }
 {
     if piece >= shape.pieces() || piece >= forms.len() as u64 {
         return None;
@@ -36,33 +37,42 @@ pub(crate) fn piece_of<'a>(
     Some((shape.piece(piece), forms[piece as usize]))
 }
 
-impl<'a, W: Watch> Source for FolderSource<'a, W> {
-    type Reader = SegmentReader<'a, W>;
+impl<'a, D: Disk, W: Watch> Source for FolderSource<'a, D, W> {
+    type Reader = SegmentReader<'a, D::File, W>;
 
     type Fault = FolderFault;
 
-    ghost use Rattle.std.specs.Prelude.{None};
+    ghost use Rattle.eos_evidence.specs.Evidence.{segments_of};
     ghost use Rattle.eos_folder_source.specs.Logs.{is_log_at};
+    ghost use Rattle.eos_folder_source.specs.Saying.{said_at};
 
-    ghost said = { λ s piece. None };
+    ghost said = { λ s piece. said_at (D.holds s.disk.now) s.folder.now (segments_of s.shape.now.evidence.partitions) s.shape.now.forms.items piece };
 
     ghost is_log = { λ s piece. is_log_at s.shape.now.forms.items piece };
 
     /// Opens the file of a segment. There is no file of a number that the shape doesn't have, which is answered as a segment too
     /// many.
-    fn open(&self, alloc: Global, piece: u64) -> Result<Piece<SegmentReader<'a, W>>, FolderFault> {
-        match piece_of(&self.shape.evidence, self.shape.forms.as_slice(), piece) {
-            Some((name, Form::Log)) => {
-                let file = open_segment(self.rt, self.folder, name, Form::Log)?;
-                Ok(Piece::Log(SegmentReader::new(file, self.watch)))
-            }
-            Some((name, Form::Fold)) => {
-                let bytes = read_bytes(self.rt, self.folder, name)?;
+    #[tactic(auto, using(crate::proofs::Saying::log_at, crate::proofs::Saying::fold_at))]
+    fn open(
+        &self,
+        alloc: Global,
+        piece: u64,
+    ) -> Result<Piece<SegmentReader<'a, D::File, W>>, FolderFault> {
+        let Some((name, form)) = piece_of(&self.shape.evidence, self.shape.forms.as_slice(), piece)
+        else {
+            return Err(FolderFault::Limit(Cause::Unknown));
+        };
+        let path = segment_path(alloc, self.folder, name, form)?;
+        let opened = self.disk.open(alloc, path.as_str());
+        let file = NamedFile::of_opened(path, opened)?;
+        match form {
+            Form::Log => Ok(Piece::Log(SegmentReader::new(file, self.watch))),
+            Form::Fold => {
+                let bytes = file.read_whole(alloc)?;
                 self.watch.read(bytes.len() as u64);
                 let fold = read_fold(alloc, self.folder, name, &bytes)?;
                 Ok(Piece::Fold(fold))
             }
-            None => Err(FolderFault::Limit(Cause::Unknown)),
         }
     }
 
@@ -70,7 +80,7 @@ impl<'a, W: Watch> Source for FolderSource<'a, W> {
         &self,
         alloc: Global,
         _piece: u64,
-        reader: &mut SegmentReader<'a, W>,
+        reader: &mut SegmentReader<'a, D::File, W>,
         why: ReadFault,
     ) -> FolderFault {
         reader.refusal(alloc, why)

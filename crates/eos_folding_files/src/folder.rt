@@ -6,6 +6,7 @@ ghost use Rattle.eos_folding_files.specs.steps.Paths.{partition_at};
 use crate::fault::FoldingFault;
 use bytes::Bytes;
 use eos_base::PartitionName;
+use eos_disk::HostDisk;
 use eos_evidence::{End, Segment};
 use eos_folder::{Form, bases_in, is_there, segment_path};
 use eos_init::read_folder_name;
@@ -84,7 +85,7 @@ fn find_folder<'a>(
     Ok(PartitionFolder {
         path,
         name,
-        bases: bases_in(rt, path)?,
+        bases: bases_in(rt.alloc(), &HostDisk { rt }, path)?,
     })
 }
 

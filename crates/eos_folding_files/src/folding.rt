@@ -4,6 +4,7 @@ use crate::fault::FoldingFault;
 use crate::folder::{PartitionFolder, find_folders};
 use crate::writing::write_fold;
 use bytes::Bytes;
+use eos_disk::HostDisk;
 use eos_evidence::Segment;
 use eos_fold_file::encode_fold;
 use eos_folder::{open_log, read_manifest};
@@ -56,7 +57,11 @@ impl Folded {
 /// segment is read nothing was written; after that the folds of those before the one that is refused.
 pub fn fold_folders<'a>(rt: &HostRuntime, given: Given<'a>) -> Result<Folded, FoldingFault<'a>> {
     let alloc = rt.alloc();
-    let spec = read_manifest(rt, String::from_str(alloc, given.manifest)?)?;
+    let spec = read_manifest(
+        alloc,
+        &HostDisk { rt },
+        String::from_str(alloc, given.manifest)?,
+    )?;
     let apps = spec.apps().as_slice();
     let wants = Wants::of(alloc, apps)?;
     let topics = source_topics(alloc, apps)?;
@@ -97,7 +102,7 @@ fn fold_segment<'a>(
     asked: Asked<'_>,
 ) -> Result<u64, FoldingFault<'a>> {
     let alloc = rt.alloc();
-    let mut file = open_log(rt, folder, name.base)?;
+    let mut file = open_log(alloc, &HostDisk { rt }, folder, name.base)?;
     let fold = match fold_of(alloc, asked.wanted, asked.topics, name, &mut file) {
         Ok(fold) => fold,
         Err(why) => return Err(FoldingFault::Unread(file.refusal(alloc, why))),

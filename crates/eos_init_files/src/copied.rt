@@ -3,57 +3,41 @@
 use crate::fault::{InitFault, unread};
 use bytes::Bytes;
 use eos_base::PartitionName;
+use eos_disk::{Disk, DiskFault, HostDisk};
 use eos_evidence::{App, End};
 use eos_folder::{bases_of, read_segment_file};
 use eos_init::{front_end, is_judged, listed_in, read_folder_name};
-use std::alloc::AllocError;
+use std::alloc::{AllocError, Global};
 use std::collections::BTreeSet;
-use std::fs;
-use std::fs::DirEntry;
-use std::io::{Error, ErrorKind};
 
 /// Names of partitions, each once, in order.
 pub(crate) type Names = BTreeSet<PartitionName>;
 
 /// The partitions that have a folder TOPIC-N in this one.
 pub(crate) fn list_folders(rt: &HostRuntime, folder: &str) -> Result<Names, InitFault> {
-    match names_in(rt, folder) {
-        Ok(names) => Ok(names),
-        Err(e) if e.kind() == ErrorKind::OutOfMemory => Err(InitFault::OutOfMemory),
+    match (HostDisk { rt }).list(rt.alloc(), folder) {
+        Ok(listed) => Ok(names_in(rt.alloc(), listed.as_slice())?),
+        Err(DiskFault::OutOfMemory) => Err(InitFault::OutOfMemory),
         Err(_) => Err(InitFault::CannotRead(String::from_str(rt.alloc(), folder)?)),
     }
 }
 
-fn names_in(rt: &HostRuntime, folder: &str) -> Result<Names, Error> {
-    let mut names = BTreeSet::new(rt.alloc());
-    for entry in fs::read_dir(rt, folder)? {
-        if let Some(name) = name_of_entry(rt, entry)? {
-            names.insert(name)?;
+/// The partitions that these name.
+fn names_in(alloc: Global, listed: &[Bytes]) -> Result<Names, AllocError> {
+    let mut names = BTreeSet::new(alloc);
+    for name in listed {
+        if let Some((topic, partition)) = read_folder_name(name.as_slice()) {
+            names.insert(PartitionName {
+                topic: Bytes::copy_from_slice(alloc, topic)?,
+                partition,
+            })?;
         }
     }
     Ok(names)
 }
 
-/// The partition that an entry of the folder names. A name that isn't UTF-8 is none of these.
-fn name_of_entry(
-    rt: &HostRuntime,
-    entry: Result<DirEntry, Error>,
-) -> Result<Option<PartitionName>, Error> {
-    match entry {
-        Ok(entry) => match read_folder_name(entry.file_name().as_bytes()) {
-            Some((topic, partition)) => Ok(Some(PartitionName {
-                topic: Bytes::copy_from_slice(rt.alloc(), topic)?,
-                partition,
-            })),
-            None => Ok(None),
-        },
-        Err(e) if e.kind() == ErrorKind::InvalidFilename => Ok(None),
-        Err(e) => Err(e),
-    }
-}
-
-/// The partitions that have to have an end: those with a folder whose topic an application names or is one of Kafka's own two, and
-/// those that a record of the transaction log lists.
+/// The partitions that have to have an end: those with a folder whose topic an application names or is one of Kafka's own two, or
+/// all with a folder where there is no application, and those that a record of the transaction log lists.
 pub(crate) fn required_names(
     rt: &HostRuntime,
     folder: &str,
@@ -62,7 +46,7 @@ pub(crate) fn required_names(
 ) -> Result<Vec<PartitionName>, InitFault> {
     let mut names = BTreeSet::new(rt.alloc());
     for name in folders {
-        if is_judged(apps, name.topic.as_slice()) {
+        if apps.is_empty() || is_judged(apps, name.topic.as_slice()) {
             names.insert(name.clone()?)?;
         }
         if name.topic.as_slice() == b"__transaction_state".as_slice() {
@@ -141,7 +125,7 @@ pub(crate) fn segments_of(
     folder: &str,
     end: &End,
 ) -> Result<Vec<i64>, InitFault> {
-    match bases_of(rt, folder, end) {
+    match bases_of(rt.alloc(), &HostDisk { rt }, folder, end) {
         Ok(bases) => Ok(bases),
         Err(fault) => Err(unread(fault)),
     }
@@ -153,7 +137,7 @@ pub(crate) fn segment_bytes(
     end: &End,
     base: i64,
 ) -> Result<Bytes, InitFault> {
-    match read_segment_file(rt, folder, end, base) {
+    match read_segment_file(rt.alloc(), &HostDisk { rt }, folder, end, base) {
         Ok(bytes) => Ok(bytes),
         Err(fault) => Err(unread(fault)),
     }

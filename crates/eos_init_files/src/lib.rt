@@ -4,10 +4,11 @@
 
 mod copied;
 mod fault;
+mod lines;
 mod making;
 mod note;
 mod writing;
 
 pub use fault::InitFault;
 pub use making::{Given, Made, init};
-pub use note::{Note, name_text};
+pub use note::{Note, OfLines, name_text};

@@ -7,22 +7,22 @@ use crate::copied::{
     Names, ends_of_copies, list_folders, required_names, segment_bytes, segments_of,
 };
 use crate::fault::InitFault;
+use crate::lines::{Said, has_returns, push_of_groups, push_of_lines};
 use crate::note::Note;
 use crate::writing::write_manifest;
 use bytes::Bytes;
 use eos_base::{Listed, PartitionName, in_order};
+use eos_disk::{Disk, DiskFault, HostDisk};
 use eos_evidence::{Apps, End, ReadFault, Spec, read_segment};
 use eos_folder::{is_there, manifest_path};
 use eos_init::{
     EndsFault, ManifestFault, is_compressed_at_head, manifest_for, read_app_word, read_ends,
 };
-use std::fs::File;
-use std::io::ErrorKind;
 
 /// What is given.
 #[derive(Clone, Copy)]
 pub struct Given<'a> {
-    /// The words of the applications.
+    /// The words of the applications, which may be none.
     pub apps: &'a [&'a str],
     /// The file of the lines TOPIC:PARTITION:OFFSET, `-` for standard input; without one the ends are those of the copied logs.
     pub ends: Option<&'a str>,
@@ -50,9 +50,9 @@ pub fn init(rt: &HostRuntime, given: Given<'_>) -> Result<Made, InitFault> {
     let apps = read_apps(rt, given.apps)?;
     let folders = list_folders(rt, given.folder)?;
     let required = in_order(required_names(rt, given.folder, apps.as_slice(), &folders)?);
-    let ends = ends_for(rt, given, required.as_slice(), &folders)?;
-    let spec = spec_of(rt, apps, required.as_slice(), ends.as_slice())?;
-    let notes = notes_on(rt, given, &spec, &folders)?;
+    let said = ends_for(rt, given, required.as_slice(), &folders)?;
+    let spec = spec_of(rt, apps, required.as_slice(), said.ends.as_slice())?;
+    let notes = notes_on(rt, given, &spec, &folders, &said)?;
     write_manifest(rt, path, &spec)?;
     Ok(Made {
         partitions: spec.ends().len(),
@@ -82,13 +82,17 @@ fn ends_for(
     given: Given<'_>,
     required: &[PartitionName],
     folders: &Names,
-) -> Result<Vec<End>, InitFault> {
+) -> Result<Said, InitFault> {
     let Some(file) = given.ends else {
-        return ends_of_copies(rt, given.folder, required, folders);
+        return Ok(Said {
+            ends: ends_of_copies(rt, given.folder, required, folders)?,
+            has_returns: false,
+        });
     };
     let text = read_lines(rt, file)?;
+    let has_returns = has_returns(text.as_slice());
     match read_ends(rt.alloc(), text.as_slice()) {
-        Ok(ends) => Ok(ends),
+        Ok(ends) => Ok(Said { ends, has_returns }),
         Err(EndsFault::Line(number)) => Err(InitFault::Line(number)),
         Err(EndsFault::OutOfMemory) => Err(InitFault::OutOfMemory),
     }
@@ -99,9 +103,9 @@ fn read_lines(rt: &HostRuntime, path: &str) -> Result<Bytes, InitFault> {
     let read = if path == "-" {
         read_segment(rt.alloc(), &mut rt.reader())
     } else {
-        match File::open(rt, path) {
+        match (HostDisk { rt }).open(rt.alloc(), path) {
             Ok(mut file) => read_segment(rt.alloc(), &mut file),
-            Err(e) if e.kind() == ErrorKind::OutOfMemory => Err(ReadFault::OutOfMemory),
+            Err(DiskFault::OutOfMemory) => Err(ReadFault::OutOfMemory),
             Err(_) => Err(ReadFault::Read),
         }
     };
@@ -136,15 +140,21 @@ fn notes_on(
     given: Given<'_>,
     spec: &Spec,
     folders: &Names,
+    said: &Said,
 ) -> Result<Vec<Note>, InitFault> {
     let mut notes = Vec::new(rt.alloc());
-    if given.ends.is_none() {
-        notes.push(Note::EndsOfCopies)?;
+    let apps = spec.apps();
+    match given.ends {
+        Some(file) => push_of_lines(rt, &mut notes, file, apps.as_slice(), said)?,
+        None => notes.push(Note::EndsOfCopies)?,
     }
     for end in spec.ends().as_slice() {
         if let Some(note) = note_on(rt, given.folder, end, folders)? {
             notes.push(note)?;
         }
+    }
+    if given.ends.is_some() {
+        push_of_groups(rt, &mut notes, apps.as_slice(), said, folders)?;
     }
     Ok(notes)
 }

@@ -1,6 +1,8 @@
 //! What is told of copied logs beside the manifest.
 
+use bytes::Bytes;
 use eos_base::PartitionName;
+use eos_evidence::GroupId;
 use eos_text::{push_escaped, push_value};
 use std::alloc::{AllocError, Global};
 
@@ -9,12 +11,47 @@ use std::alloc::{AllocError, Global};
 pub enum Note {
     /// The ends are those of the copied logs.
     EndsOfCopies,
+    /// This holds of the lines of the file of this path.
+    Lines(String, OfLines),
     /// The partition has an end, and no folder.
     NoFolder(PartitionName),
     /// The partition's first segment isn't named 0, but so.
     FirstSegment(PartitionName, i64),
     /// The partition's first batch is compressed.
     Compressed(PartitionName),
+    /// The group commits to this partition of so many, and whether that has a folder.
+    Group {
+        group: GroupId,
+        partition: PartitionName,
+        partitions: u64,
+        has_folder: bool,
+    },
+}
+
+/// What may be wrong with the lines of ends.
+#[derive(Drop)]
+pub enum OfLines {
+    /// There are none.
+    None,
+    /// Lines end in carriage returns, which weren't read.
+    Returns,
+    /// This topic has none.
+    Lacks(Bytes),
+}
+
+impl OfLines {
+    fn text(&self, alloc: Global, file: &str) -> Result<String, AllocError> {
+        match self {
+            OfLines::None => format!(in alloc; "{file} has no lines"),
+            OfLines::Returns => {
+                format!(in alloc; "lines of {file} end in carriage returns, which were not read")
+            }
+            OfLines::Lacks(topic) => {
+                let topic = escaped_text(alloc, topic.as_slice())?;
+                format!(in alloc; "{file} has no line of topic {topic}")
+            }
+        }
+    }
 }
 
 impl Note {
@@ -28,6 +65,7 @@ impl Note {
                 alloc,
                 "the ends are those of the copied logs, so a copy that was cut short can't be found",
             ),
+            Note::Lines(file, what) => what.text(alloc, file.as_str()),
             Note::NoFolder(name) => {
                 let name = name_text(alloc, name)?;
                 format!(in alloc; "{name} has no folder")
@@ -43,8 +81,31 @@ impl Note {
                 let name = name_text(alloc, name)?;
                 format!(in alloc; "{name} begins with a compressed batch")
             }
+            Note::Group {
+                group,
+                partition,
+                partitions,
+                has_folder,
+            } => {
+                let folder = if *has_folder {
+                    "whose folder is there"
+                } else {
+                    "which has no folder"
+                };
+                let group = escaped_text(alloc, group.as_bytes())?;
+                let name = name_text(alloc, partition)?;
+                let count = *partitions;
+                format!(in alloc; "group {group} commits to {name} (of {count}), {folder}")
+            }
         }
     }
+}
+
+/// A topic or a group, escaped as in a partition's name.
+fn escaped_text(alloc: Global, bytes: &[u8]) -> Result<String, AllocError> {
+    let mut text = String::new(alloc);
+    push_escaped(alloc, &mut text, "", bytes)?;
+    Ok(text)
 }
 
 /// A partition's name, TOPIC-N. Each byte of the topic that no topic may have is `%` and two hexadecimal digits.

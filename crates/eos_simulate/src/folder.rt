@@ -6,9 +6,10 @@ use crate::kept::simulate_kept;
 use crate::making::{SimulationFault, simulate, told_to};
 use crate::replaying::{ReplayFault, replay};
 use crate::schedule_file::{end_unreplayed, read_schedule};
+use eos_disk::HostDisk;
 use eos_ending::{Ending, STANDARD, end, fill_file, make_file};
 use eos_evidence::Evidence;
-use eos_folder::{Cause, WritingFault, make_folder, remove_folder, write_evidence};
+use eos_folder::{Cause, WritingFault, Written, make_folder, write_evidence};
 use eos_history_lines::Schedule;
 use eos_scripts::History;
 use eos_words::Simulation;
@@ -67,13 +68,14 @@ fn leave_scripted(rt: &HostRuntime, words: &Simulation<'_>) -> Left {
         Ok(course) => course,
         Err(fault) => return Left::nothing(end_unmade(rt, fault)),
     };
-    if let Err(fault) = make_folder(rt, words.folder) {
+    let mut written = Written::new(rt.alloc());
+    if let Err(fault) = make_folder(rt.alloc(), &mut HostDisk { rt }, &mut written, words.folder) {
         return Left::nothing(end_unwritten(rt, fault));
     }
     match made_by_script(rt, &course, words.history.is_some()) {
-        Ok(made) => write_made(rt, words.folder, made),
+        Ok(made) => write_made(rt, words.folder, written, made),
         Err(fault) => {
-            remove_folder(rt, words.folder);
+            written.remove(rt.alloc(), &mut HostDisk { rt });
             Left::nothing(end_unmade(rt, fault))
         }
     }
@@ -101,13 +103,14 @@ fn leave_scheduled(rt: &HostRuntime, words: &Simulation<'_>, path: &str) -> Left
         Ok(schedule) => schedule,
         Err(status) => return Left::nothing(status),
     };
-    if let Err(fault) = make_folder(rt, words.folder) {
+    let mut written = Written::new(rt.alloc());
+    if let Err(fault) = make_folder(rt.alloc(), &mut HostDisk { rt }, &mut written, words.folder) {
         return Left::nothing(end_unwritten(rt, fault));
     }
     match made_by_schedule(rt, &schedule, words.history.is_some()) {
-        Ok(made) => write_made(rt, words.folder, made),
+        Ok(made) => write_made(rt, words.folder, written, made),
         Err(fault) => {
-            remove_folder(rt, words.folder);
+            written.remove(rt.alloc(), &mut HostDisk { rt });
             Left::nothing(end_unreplayed(rt, path, fault))
         }
     }
@@ -134,9 +137,16 @@ fn made_by_schedule(
 }
 
 /// Writes the evidence, and says so on standard output.
-fn write_made(rt: &HostRuntime, folder: &str, made: Made) -> Left {
-    if let Err(fault) = write_evidence(rt, folder, &made.evidence) {
-        remove_folder(rt, folder);
+fn write_made(rt: &HostRuntime, folder: &str, mut written: Written, made: Made) -> Left {
+    let mut disk = HostDisk { rt };
+    if let Err(fault) = write_evidence(
+        rt.alloc(),
+        &mut disk,
+        &mut written,
+        folder,
+        &made.evidence,
+    ) {
+        written.remove(rt.alloc(), &mut disk);
         return Left::nothing(end_unwritten(rt, fault));
     }
     let told = told_to(rt.alloc(), &made.evidence, &mut io::writer(rt));

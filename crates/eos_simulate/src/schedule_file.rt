@@ -2,13 +2,12 @@
 
 use crate::replaying::ReplayFault;
 use bytes::Bytes;
+use eos_disk::{Disk, DiskFault, HostDisk};
 use eos_ending::{Ending, STANDARD, end};
 use eos_evidence::{ReadFault, read_segment};
 use eos_folder::Cause;
 use eos_history_lines::{Line, LineFault, Schedule, ScheduleFault, line_text, schedule_of};
 use std::alloc::AllocError;
-use std::fs::File;
-use std::io::ErrorKind;
 
 /// The schedule in this file, or on standard input where the name is `-`. Otherwise says why there is none, and gives the exit
 /// status.
@@ -28,9 +27,9 @@ fn read_text(rt: &HostRuntime, path: &str) -> Result<Bytes, ReadFault> {
     if path == STANDARD {
         return read_segment(rt.alloc(), &mut rt.reader());
     }
-    match File::open(rt, path) {
+    match (HostDisk { rt }).open(rt.alloc(), path) {
         Ok(mut file) => read_segment(rt.alloc(), &mut file),
-        Err(e) if e.kind() == ErrorKind::OutOfMemory => Err(ReadFault::OutOfMemory),
+        Err(DiskFault::OutOfMemory) => Err(ReadFault::OutOfMemory),
         Err(_) => Err(ReadFault::Read),
     }
 }
@@ -42,7 +41,7 @@ fn end_unread(rt: &HostRuntime, path: &str, fault: ReadFault) -> u8 {
             let cause = if path == STANDARD {
                 Cause::of_reader(rt.alloc(), &mut rt.reader())
             } else {
-                Cause::of_file(rt, path)
+                Cause::of_file(rt.alloc(), &HostDisk { rt }, path)
             };
             end(rt, Ending::CannotRead(path, &cause))
         }

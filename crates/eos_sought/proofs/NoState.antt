@@ -2,7 +2,7 @@
 use Rattle.std.proofs.Common.{◌≡◌, Option, None, Bool, true, false, ◌&&◌, refl, sym, ap, ◌∙◌}
 use Rattle.eos_txnlog.specs.declared.value.TxnValue.{TxnValue}
 use Rattle.eos_sought.specs.declared.sought.Sought.{Sought}
-use Rattle.eos_sought.specs.declared.sought.Sought.TheVariants.{At, Claiming, Hidden, OfId, Before, OfProducer, Within, Deciding, OfGroup, Passing, Passed}
+use Rattle.eos_sought.specs.declared.sought.Sought.TheVariants.{At, Claiming, Hidden, OfId, Before, OfProducer, Within, Deciding, OfGroup, Passing, UpTo, Passed}
 use Rattle.eos_sought.specs.steps.Such.{is_such}
 
 none_such : (sought : Sought) → is_such sought None ≡ false
@@ -16,6 +16,7 @@ none_such (Within epochs) = refl
 none_such (Deciding producer epoch) = refl
 none_such (OfGroup group) = refl
 none_such (Passing group place) = refl
+none_such (UpTo group place) = refl
 none_such (Passed place) = refl
 
 and_false : (b : Bool) → (b && false) ≡ false

@@ -1,6 +1,6 @@
 -- The commits of groups, and those that go past an input.
 -- Source: KIP-98, "AddOffsetCommitsToTxn"; the layout of the keys and values of `__consumer_offsets`.
-use Rattle.std.specs.Prelude.{ℕ, ℤ, pos, List, Option, Some, None, Result, Ok, Err, Bool, false, ◌&&◌, int_lt, codes}
+use Rattle.std.specs.Prelude.{ℕ, ℤ, pos, List, Option, Some, None, Result, Ok, Err, Bool, false, ◌&&◌, not, int_lt, codes}
 use Rattle.std.specs.Ordering.{int_eq}
 use Rattle.eos_base.specs.declared.record_fault.RecordFault.{RecordFault}
 use Rattle.eos_claims.specs.declared.place.Place.{Place}
@@ -67,3 +67,7 @@ is_passed place p x = is_commit p && is_key_past place x.key && goes_past place 
 
 abbrev pub passes : List ℕ → Place → PartLog → Item → Bool
 passes group place p x = is_of_group group p x && is_passed place p x
+
+-- of the input's partition, and not past the input
+abbrev pub is_up_to : List ℕ → Place → PartLog → Item → Bool
+is_up_to group place p x = is_of_group group p x && is_key_past place x.key && not (goes_past place x.value)

@@ -13,8 +13,8 @@ use Rattle.eos_txnlog.specs.declared.value.TxnValue.{TxnValue}
 use Rattle.eos_txnlog.specs.Status.{is_prepare}
 use Rattle.eos_sought.specs.declared.sought.Epochs.{Epochs}
 use Rattle.eos_sought.specs.declared.sought.Sought.{Sought}
-use Rattle.eos_sought.specs.declared.sought.Sought.TheVariants.{At, Claiming, Hidden, OfId, Before, OfProducer, Within, Deciding, OfGroup, Passing, Passed}
-use Rattle.eos_sought.specs.Passing.{is_of_group, is_passed, passes}
+use Rattle.eos_sought.specs.declared.sought.Sought.TheVariants.{At, Claiming, Hidden, OfId, Before, OfProducer, Within, Deciding, OfGroup, Passing, UpTo, Passed}
+use Rattle.eos_sought.specs.Passing.{is_of_group, is_passed, passes, is_up_to}
 use Rattle.eos_sought.specs.States.{id_in, state_in}
 
 abbrev pub is_named : PartitionName → PartLog → Bool
@@ -74,4 +74,5 @@ meets (Within epochs) p x = is_state p && is_within epochs (state_in x.value)
 meets (Deciding producer epoch) p x = is_state p && decides producer epoch (state_in x.value)
 meets (OfGroup group) p x = is_of_group group p x
 meets (Passing group place) p x = passes group place p x
+meets (UpTo group place) p x = is_up_to group place p x
 meets (Passed place) p x = is_passed place p x

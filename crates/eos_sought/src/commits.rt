@@ -3,7 +3,7 @@
 ghost use Rattle.std.specs.Prelude.{◌≡◌, IfOk};
 ghost use Rattle.std.specs.Option.{option_map};
 ghost use Rattle.eos_offsets.specs.Views.{plain_key};
-ghost use Rattle.eos_sought.specs.Passing.{is_commit, group_in, is_key_of, names_place, is_key_past, goes_past, is_of_group, is_passed, passes};
+ghost use Rattle.eos_sought.specs.Passing.{is_commit, group_in, is_key_of, names_place, is_key_past, goes_past, is_of_group, is_passed, is_up_to, passes};
 
 use crate::reading::{is_of, is_same};
 use bytes::Bytes;
@@ -99,4 +99,13 @@ pub(crate) fn passes(group: &[u8], place: &Place, part: &Part, item: &ItemRef<'_
     ensures { result ≡ passes group.now place.now part.now item.now }
 {
     is_of_group(group, part, item) && is_passed(place, part, item)
+}
+
+/// Whether a record is a commit of this group, of the input's partition, that doesn't go past the input.
+pub(crate) fn is_up_to(group: &[u8], place: &Place, part: &Part, item: &ItemRef<'_>) -> bool
+    ensures { result ≡ is_up_to group.now place.now part.now item.now }
+{
+    is_of_group(group, part, item)
+        && is_key_past(place, item.key())
+        && !goes_past(place, item.value())
 }

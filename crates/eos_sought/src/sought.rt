@@ -10,7 +10,7 @@ ghost use Rattle.eos_sought.specs.Sought.{is_at, is_before, is_state, is_id, is_
 ghost use Rattle.eos_sought.specs.steps.Such.{is_such};
 ghost use Rattle.eos_sought.specs.Passing.{is_of_group, passes, is_passed};
 
-use crate::commits::{is_of_group, is_passed, passes};
+use crate::commits::{is_of_group, is_passed, is_up_to, passes};
 use crate::reading::{id_of, is_named, is_of, is_same, state_of};
 use bytes::Bytes;
 use eos_claims::{ClaimRef, Place};
@@ -50,6 +50,8 @@ pub enum Sought {
     OfGroup(Bytes),
     /// The commits of this group that go past this input.
     Passing { group: Bytes, place: Place },
+    /// The commits of this group, of the input's partition, that don't go past the input.
+    UpTo { group: Bytes, place: Place },
     /// The commits of any group that go past this input.
     Passed(Place),
 }
@@ -191,6 +193,7 @@ pub(crate) fn meets(
         Sought::Deciding { .. } => is_of_state(alloc, sought, part, &item),
         Sought::OfGroup(group) => Ok(is_of_group(group.as_slice(), part, &item)),
         Sought::Passing { group, place } => Ok(passes(group.as_slice(), place, part, &item)),
+        Sought::UpTo { group, place } => Ok(is_up_to(group.as_slice(), place, part, &item)),
         Sought::Passed(place) => Ok(is_passed(place, part, &item)),
     }
 }

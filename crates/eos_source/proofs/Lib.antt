@@ -1,6 +1,9 @@
 mod PartitionsTold
+mod PiecesDrawn
 mod PiecesJoined
 mod PiecesRead
 mod ShapesFilled
+mod SlotsFilled
 mod SlotsRead
+mod SlotsRefused
 mod TopicsOnce

@@ -1,4 +1,5 @@
 pub mod Logs
+pub mod Refusals
 pub mod Said
 pub mod Shapes
 pub mod Topics

@@ -2,3 +2,4 @@
 pub mod Partitions
 pub mod Runs
 pub mod Seats
+pub mod Slots

@@ -1,11 +1,11 @@
 //! The runs of a partition's pieces, joined in order.
 
-ghost use Rattle.std.specs.Prelude.{◌≡◌, ◌+◌, ◌++◌, ℕ, List, Option, length, All, IfOk};
+ghost use Rattle.std.specs.Prelude.{◌≡◌, ◌⊎◌, ◌+◌, ◌++◌, ℕ, List, Option, length, All, IfOk, IfErr, alloc_error};
 ghost use Rattle.std.specs.Vec.Iter.{into_iter_items};
 ghost use Rattle.eos_evidence.specs.declared.application.App.{App};
 ghost use Rattle.eos_evidence.specs.declared.segment.Segment.{Segment};
 ghost use Rattle.eos_source.specs.Said.{Said, Known};
-ghost use Rattle.eos_source.specs.steps.Runs.{Asking, asking, IsRead, AreRead, AreSlotsOf};
+ghost use Rattle.eos_source.specs.steps.Runs.{Asking, asking, IsRead, AreRead, AreSlotsOf, IsFirstRefused, ArePassed};
 
 use eos_evidence::Segment;
 use eos_part::KeptRun;
@@ -36,9 +36,11 @@ pub(crate) fn next_run<F: From<AllocError> + Drop>(
 ) -> Result<Option<KeptRun>, F>
     requires { (known : ℕ → Known) × (said : ℕ → Said) × (topics : List (List ℕ)) × (apps : List App) × (topic : List ℕ) × (piece : ℕ) × (later : List Segment)
         × All (λ s. s.topic ≡ topic) names.now × AreSlotsOf known said topics apps piece (names.now ++ later) (into_iter_items slots.old) }
-    ensures { (known : ℕ → Known) (said : ℕ → Said) (topics : List (List ℕ)) (apps : List App) (topic : List ℕ) (piece : ℕ) (later : List Segment)
+    ensures run { (known : ℕ → Known) (said : ℕ → Said) (topics : List (List ℕ)) (apps : List App) (topic : List ℕ) (piece : ℕ) (later : List Segment)
         → All (λ s. s.topic ≡ topic) names.now → AreSlotsOf known said topics apps piece (names.now ++ later) (into_iter_items slots.old)
         → IfOk result (λ run. AreRead known said (asking topics apps topic) piece names.now run × AreSlotsOf known said topics apps (piece + length names.now) later (into_iter_items slots.new)) }
+    ensures passed { IfOk result (λ run. ArePassed (into_iter_items slots.old) (into_iter_items slots.new)) }
+    ensures refused { IfErr result (λ why. IsFirstRefused (into_iter_items slots.old) why ⊎ F.from_gives alloc_error why) }
 {
     let mut run = None;
     for _ in 0..names.len() {

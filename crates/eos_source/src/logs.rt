@@ -1,14 +1,16 @@
 //! The kept logs of all partitions.
 
-ghost use Rattle.std.specs.Prelude.{◌≡◌, ◌+◌, ◌++◌, ◌∷◌, [], ℕ, List, length, IfOk, OnOk, IsPermutation};
+ghost use Rattle.std.specs.Prelude.{◌≡◌, ◌⊎◌, ◌+◌, ◌++◌, ◌∷◌, [], ℕ, List, length, IfOk, IfErr, OnOk, IsPermutation, alloc_error};
 ghost use Rattle.std.specs.Vec.Iter.{into_iter_items};
 ghost use Rattle.eos_evidence.specs.Evidence.{IsPartition, segments_of};
 ghost use Rattle.eos_evidence.specs.Parts.{outputs_of};
 ghost use Rattle.eos_evidence.specs.declared.segment.Segment.{Segment};
 ghost use Rattle.eos_source.specs.Logs.{AreKeptLogs, tally_of};
+ghost use Rattle.eos_source.specs.Refusals.{IsRefusal};
 ghost use Rattle.eos_source.specs.Said.{Said, known_by};
 ghost use Rattle.eos_source.specs.steps.Partitions.{IsToldOf, AreToldOf};
-ghost use Rattle.eos_source.specs.steps.Runs.{AreSlots, AreSlotsOf};
+ghost use Rattle.eos_source.specs.steps.Runs.{AreSlots, AreSlotsOf, IsFirstRefused, ArePassed};
+ghost use Rattle.eos_tickets.specs.Places.{AreBelow};
 
 use crate::joined::next_run;
 use crate::plan::Plan;
@@ -19,6 +21,7 @@ use crate::topics::source_topics;
 use eos_evidence::{Evidence, Partition};
 use eos_kept::Sizes;
 use eos_part::{KeptRun, Part, Told};
+use eos_tickets::Drawn;
 use eos_touch::PartitionFault;
 use eos_wanted::Wants;
 use eos_workers::Workers;
@@ -41,18 +44,22 @@ pub struct KeptLogs {
     /// The least fault of each one's bytes.
     pub faults: Vec<Option<PartitionFault>>,
     pub tallies: Vec<Tally>,
+    /// The numbers of the pieces that were drawn and read for them, thread after thread.
+    pub drawn: Drawn,
 }
 
 impl KeptLogs {
-    fn new(alloc: Global) -> KeptLogs
+    fn new(alloc: Global, drawn: Drawn) -> KeptLogs
         ensures parts { result.parts.items ≡ [] }
         ensures faults { result.faults.items ≡ [] }
         ensures tallies { result.tallies.items ≡ [] }
+        ensures drawn { result.drawn ≡ drawn }
     {
         KeptLogs {
             parts: Vec::new(alloc),
             faults: Vec::new(alloc),
             tallies: Vec::new(alloc),
+            drawn,
         }
     }
 
@@ -61,6 +68,7 @@ impl KeptLogs {
         ensures parts { OnOk result (self.new.parts.items ≡ self.old.parts.items ++ told.part ∷ []) }
         ensures faults { OnOk result (self.new.faults.items ≡ self.old.faults.items ++ told.fault ∷ []) }
         ensures tallies { OnOk result (self.new.tallies.items ≡ self.old.tallies.items ++ tally_of told ∷ []) }
+        ensures drawn { self.new.drawn ≡ self.old.drawn }
     {
         let tally = Tally {
             batches: told.batches,
@@ -84,10 +92,12 @@ fn next_told<S: Source>(
     requires partition { IsPartition shape.now }
     requires slots { (said : ℕ → Said) × (piece : ℕ) × (later : List Segment)
         × AreSlotsOf (known_by (S.said plan.now.source.now) (S.is_log plan.now.source.now)) said plan.now.topics.now plan.now.shape.now.spec.apps piece (shape.now.segments ++ later) (into_iter_items slots.old) }
-    ensures { (said : ℕ → Said) (piece : ℕ) (later : List Segment)
+    ensures told { (said : ℕ → Said) (piece : ℕ) (later : List Segment)
         → AreSlotsOf (known_by (S.said plan.now.source.now) (S.is_log plan.now.source.now)) said plan.now.topics.now plan.now.shape.now.spec.apps piece (shape.now.segments ++ later) (into_iter_items slots.old)
         → IfOk result (λ told. IsToldOf (known_by (S.said plan.now.source.now) (S.is_log plan.now.source.now)) said plan.now.shape.now.spec.apps piece shape.now told
         × AreSlotsOf (known_by (S.said plan.now.source.now) (S.is_log plan.now.source.now)) said plan.now.topics.now plan.now.shape.now.spec.apps (piece + length shape.now.segments) later (into_iter_items slots.new)) }
+    ensures passed { IfOk result (λ told. ArePassed (into_iter_items slots.old) (into_iter_items slots.new)) }
+    ensures refused { IfErr result (λ why. IsFirstRefused (into_iter_items slots.old) why ⊎ S.Fault.from_gives alloc_error why) }
 {
     let end = shape.end.clone()?;
     let run = next_run(alloc, shape.segments.as_slice(), slots)?;
@@ -100,12 +110,15 @@ fn logs_of<S: Source>(
     alloc: Global,
     plan: &Plan<'_, S>,
     slots: Vec<Result<KeptRun, S::Fault>>,
+    drawn: Drawn,
 ) -> Result<KeptLogs, S::Fault>
     requires wants { IsPermutation (outputs_of plan.now.shape.now.spec.apps) plan.now.wants }
-    requires slots { AreSlots (known_by (S.said plan.now.source.now) (S.is_log plan.now.source.now)) plan.now.topics.now plan.now.shape.now.spec.apps 0 (segments_of plan.now.shape.now.partitions) slots.items }
-    ensures { IfOk result (λ logs. (said : ℕ → Said) × AreToldOf (known_by (S.said plan.now.source.now) (S.is_log plan.now.source.now)) said plan.now.shape.now.spec.apps plan.now.shape.now.partitions logs) }
+    requires slots { AreSlots (known_by (S.said plan.now.source.now) (S.is_log plan.now.source.now)) (S.outcomes plan.now.source.now) plan.now.topics.now plan.now.shape.now.spec.apps 0 (segments_of plan.now.shape.now.partitions) slots.items }
+    ensures told { IfOk result (λ logs. (said : ℕ → Said) × AreToldOf (known_by (S.said plan.now.source.now) (S.is_log plan.now.source.now)) said plan.now.shape.now.spec.apps plan.now.shape.now.partitions logs) }
+    ensures drawn { IfOk result (λ logs. logs.drawn ≡ drawn) }
+    ensures refused { IfErr result (λ why. IsFirstRefused slots.items why ⊎ S.Fault.from_gives alloc_error why) }
 {
-    let mut logs = KeptLogs::new(alloc);
+    let mut logs = KeptLogs::new(alloc, drawn);
     let mut slots = slots.into_iter();
     let partitions = plan.shape.partitions();
     for i in 0..partitions.len() {
@@ -115,7 +128,7 @@ fn logs_of<S: Source>(
 }
 
 /// Reads each piece of an evidence of this shape from the source, by at most as many threads as there are workers, and makes of
-/// each partition its kept log. What a piece is not wanted for is forgotten while it is read.
+/// each partition its kept log. Each piece was drawn by one of them, once. What a piece is not wanted for is forgotten while it is read.
 ///
 /// # Errors
 /// The fault of the first piece, in order, that isn't there, or is a fold that doesn't fit; or want of memory.
@@ -126,7 +139,9 @@ pub fn kept_logs<S: Source, R: Threads + Sync>(
     shape: &Evidence,
     workers: Workers,
 ) -> Result<KeptLogs, S::Fault>
-    ensures { IfOk result (AreKeptLogs (known_by (S.said source.now) (S.is_log source.now)) shape.now) }
+    ensures logs { IfOk result (AreKeptLogs (known_by (S.said source.now) (S.is_log source.now)) shape.now) }
+    ensures once { IfOk result (λ logs. AreBelow (length (segments_of shape.now.partitions)) logs.drawn) }
+    ensures refused { IfErr result (IsRefusal (S.outcomes source.now) (S.Fault.from_gives alloc_error) (length (segments_of shape.now.partitions))) }
 {
     let apps = shape.spec().apps().as_slice();
     let topics = source_topics(alloc, apps)?;
@@ -136,6 +151,6 @@ pub fn kept_logs<S: Source, R: Threads + Sync>(
         wants: Wants::of(alloc, apps)?,
         topics: topics.as_slice(),
     };
-    let slots = read_all(alloc, rt, &plan, workers)?;
-    logs_of(alloc, &plan, slots)
+    let (slots, drawn) = read_all(alloc, rt, &plan, workers)?;
+    logs_of(alloc, &plan, slots, drawn)
 }

@@ -40,13 +40,16 @@ impl<'a> Source for MemorySource<'a> {
 
     type Fault = MemoryFault;
 
-    ghost use Rattle.std.specs.Prelude.{true, slice_get, option_map};
+    ghost use Rattle.std.specs.Prelude.{true, length, slice_get, option_map};
     ghost use Rattle.eos_evidence.specs.Evidence.{segments_of};
+    ghost use Rattle.eos_source.specs.Refusals.{OutcomesInMemory};
     ghost use Rattle.eos_source.specs.Said.{Log};
 
     ghost said = { λ s piece. option_map (λ segment. Log segment.bytes) (slice_get (segments_of s.evidence.now.partitions) piece) };
 
     ghost is_log = { λ s piece. true };
+
+    ghost outcomes = { λ s piece end. OutcomesInMemory (length (segments_of s.evidence.now.partitions)) piece end };
 
     fn open(&self, _alloc: Global, piece: u64) -> Result<Piece<&'a [u8]>, MemoryFault> {
         if piece >= self.evidence.pieces() {

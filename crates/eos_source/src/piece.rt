@@ -1,6 +1,6 @@
 //! One piece, read from its source.
 
-ghost use Rattle.std.specs.Prelude.{◌∷◌, [], IfOk};
+ghost use Rattle.std.specs.Prelude.{◌∷◌, [], None, Some, IfOk, IfErr};
 ghost use Rattle.eos_evidence.specs.declared.segment.Segment.{Segment};
 ghost use Rattle.eos_fold_file.specs.Folds.{IsFoldOf};
 ghost use Rattle.eos_fold_file.specs.Legal.{IsLegal};
@@ -35,7 +35,9 @@ pub(crate) fn read_piece<S: Source>(
     piece: u64,
     name: &Segment,
 ) -> Result<KeptRun, S::Fault>
-    ensures { IfOk result (λ run. (said : Said) × IsTaken (known_by (S.said source.now) (S.is_log source.now) piece) said (record { topics = asked.entry.topics.now; wanted = asked.entry.wanted; topic = name.now.topic }) name.now run) }
+    ensures taken { IfOk result (λ run. (said : Said) × IsTaken (known_by (S.said source.now) (S.is_log source.now) piece) said (record { topics = asked.entry.topics.now; wanted = asked.entry.wanted; topic = name.now.topic }) name.now run) }
+    ensures opened { IfOk result (λ run. S.outcomes source.now piece None) }
+    ensures refused { IfErr result (λ why. S.outcomes source.now piece (Some why)) }
 {
     match source.open(alloc, piece)? {
         Piece::Log(mut reader) => {

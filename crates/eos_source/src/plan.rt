@@ -44,7 +44,7 @@ impl<'a, S: Source> Plan<'a, S> {
         requires piece { piece < length (segments_of self.now.shape.now.partitions) }
         requires wants { IsPermutation (outputs_of self.now.shape.now.spec.apps) self.now.wants }
         ensures { (name : Segment) → slice_get (segments_of self.now.shape.now.partitions) piece ≡ Some name
-            → IsSlot (known_by (S.said self.now.source.now) (S.is_log self.now.source.now)) self.now.topics.now self.now.shape.now.spec.apps piece name result }
+            → IsSlot (known_by (S.said self.now.source.now) (S.is_log self.now.source.now)) (S.outcomes self.now.source.now) self.now.topics.now self.now.shape.now.spec.apps piece name result }
     {
         let name = self.shape.piece(piece);
         let asked = self.asked_of(name.topic.as_slice());

@@ -1,2 +1,3 @@
 pub mod KeptTold
+mod SameShape
 pub mod VerdictKept

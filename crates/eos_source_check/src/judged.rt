@@ -1,6 +1,8 @@
 //! The verdict of an evidence of which a source has the pieces.
 
-ghost use Rattle.std.specs.Prelude.{IfOk};
+ghost use Rattle.std.specs.Prelude.{IfOk, IfErr, length, alloc_error};
+ghost use Rattle.eos_evidence.specs.Evidence.{segments_of};
+ghost use Rattle.eos_source.specs.Refusals.{IsRefusal};
 ghost use Rattle.eos_source.specs.Said.{known_by};
 ghost use Rattle.eos_source_check.specs.Judged.{IsJudgedOf};
 
@@ -35,7 +37,8 @@ pub fn judge_source<S: Source, R: Threads + Sync>(
     shape: &Evidence,
     workers: Workers,
 ) -> Result<Judged, S::Fault>
-    ensures { IfOk result (IsJudgedOf (known_by (S.said source.now) (S.is_log source.now)) shape.now) }
+    ensures judged { IfOk result (IsJudgedOf (known_by (S.said source.now) (S.is_log source.now)) shape.now) }
+    ensures refused { IfErr result (IsRefusal (S.outcomes source.now) (S.Fault.from_gives alloc_error) (length (segments_of shape.now.partitions))) }
 {
     let kept = kept_logs(alloc, rt, source, shape, workers)?;
     let (logs, counted) = apart(alloc, kept)?;

@@ -43,6 +43,7 @@ pub(crate) fn apart(alloc: Global, kept: KeptLogs) -> Result<(Logs, Vec<Counted>
         parts,
         faults,
         tallies,
+        ..
     } = kept;
     let counted = counted_in(alloc, tallies.as_slice())?;
     let parts = wrapped(alloc, parts)?;

@@ -7,5 +7,6 @@
 
 mod judged;
 mod kept;
+pub mod laws;
 
 pub use judged::{Judged, judge_source};

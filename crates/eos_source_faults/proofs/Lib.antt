@@ -1,3 +1,6 @@
+pub mod EarnedAgain
+pub mod FaultsSame
+pub mod FirstFound
 pub mod LogsAgain
 pub mod PassedAgain
 pub mod ListedAgain

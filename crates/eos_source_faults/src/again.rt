@@ -1,10 +1,11 @@
 //! A partition that is read again, whole.
 
-ghost use Rattle.std.specs.Prelude.{◌+◌, ◌≤◌, length, option_map, IfOk, IfErr};
+ghost use Rattle.std.specs.Prelude.{◌≡◌, ◌↔◌, ◌+◌, ◌≤◌, true, Some, length, option_map, slice_get, IfOk, IfErr};
 ghost use Rattle.eos_source.specs.Said.{known_by};
 ghost use Rattle.eos_source_faults.specs.Again.{IsAgain};
 ghost use Rattle.eos_source_faults.specs.Refusals.{IsNoLog};
-ghost use Rattle.eos_source_faults.specs.steps.FaultsAgain.{IsLogOf, HasFaultsAgain, HasFaultsIfFound};
+ghost use Rattle.eos_source_faults.specs.steps.Earned.{IsOfPiece, IsOfPieces, IsOfPartition};
+ghost use Rattle.eos_source_faults.specs.steps.FaultsAgain.{IsLogOf, HasFaultsAgain, HasFaultsIfFound, BeginsIfFound};
 
 use crate::fault::Unlisted;
 use bytes::Bytes;
@@ -19,6 +20,7 @@ use std::alloc::Global;
 fn bytes_of<S: Source>(alloc: Global, source: &S, piece: u64) -> Result<Bytes, Unlisted<S::Fault>>
     ensures ok { IfOk result (IsLogOf (known_by (S.said source.now) (S.is_log source.now) piece)) }
     ensures fold { IfErr result (λ why. IsNoLog (S.is_log source.now) why) }
+    ensures earned { IfErr result (IsOfPiece (S.outcomes source.now) piece) }
 {
     match source.open(alloc, piece) {
         Ok(Piece::Log(mut reader)) => match read_segment(alloc, &mut reader) {
@@ -43,6 +45,7 @@ fn read_again<S: Source>(
     requires { first + length shape.now.segments ≤ 65536 }
     ensures ok { IfOk result (IsAgain (known_by (S.said source.now) (S.is_log source.now)) first shape.now) }
     ensures fold { IfErr result (λ why. IsNoLog (S.is_log source.now) why) }
+    ensures earned { IfErr result (IsOfPieces (S.outcomes source.now) first (length shape.now.segments)) }
 {
     let names = shape.segments.as_slice();
     let mut segments = Vec::new(alloc);
@@ -63,7 +66,9 @@ fn read_again<S: Source>(
 }
 
 /// Whether the first of these faults is this one.
-fn begins_with(faults: &[PartitionFault], fault: &PartitionFault) -> bool {
+fn begins_with(faults: &[PartitionFault], fault: &PartitionFault) -> bool
+    ensures { result ≡ true ↔ (slice_get faults.now 0 ≡ Some fault.now) }
+{
     match faults.first() {
         Some(first) => first == fault,
         None => false,
@@ -80,7 +85,9 @@ fn faults_again<S: Source>(
 ) -> Result<Vec<PartitionFault>, Unlisted<S::Fault>>
     requires { first + length shape.now.segments ≤ 65536 }
     ensures ok { IfOk result (λ faults. HasFaultsAgain (known_by (S.said source.now) (S.is_log source.now)) first shape.now faults.items) }
+    ensures first { IfOk result (λ faults. slice_get faults.items 0 ≡ Some fault.now) }
     ensures fold { IfErr result (λ why. IsNoLog (S.is_log source.now) why) }
+    ensures earned { IfErr result (IsOfPartition (known_by (S.said source.now) (S.is_log source.now)) (S.outcomes source.now) first shape.now (Some (Some fault.now))) }
 {
     let partition = read_again(alloc, source, shape, first)?;
     let faults = faults_of_partition(alloc, &partition)?;
@@ -101,7 +108,9 @@ pub(crate) fn faults_if_found<S: Source>(
 ) -> Result<Vec<PartitionFault>, Unlisted<S::Fault>>
     requires { first + length shape.now.segments ≤ 65536 }
     ensures ok { IfOk result (λ faults. HasFaultsIfFound (known_by (S.said source.now) (S.is_log source.now)) first shape.now (option_map (λ f. f.now) found.entry) faults.items) }
+    ensures first { IfOk result (λ faults. BeginsIfFound (option_map (λ f. f.now) found.entry) faults.items) }
     ensures fold { IfErr result (λ why. IsNoLog (S.is_log source.now) why) }
+    ensures earned { IfErr result (IsOfPartition (known_by (S.said source.now) (S.is_log source.now)) (S.outcomes source.now) first shape.now (option_map (λ f. f.now) found.entry)) }
 {
     match found {
         Some(Some(fault)) => faults_again(alloc, source, shape, first, fault),

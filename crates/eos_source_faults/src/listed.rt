@@ -1,9 +1,10 @@
 //! All faults, of the first phase that has one.
 
-ghost use Rattle.std.specs.Prelude.{IfOk, IfErr};
+ghost use Rattle.std.specs.Prelude.{◌≡◌, length, take, slice_get, IfOk, IfErr};
+ghost use Rattle.eos_partitions.specs.Faults.{first_of};
 ghost use Rattle.eos_source.specs.Said.{known_by};
-ghost use Rattle.eos_source_faults.specs.Listed.{IsListOf};
-ghost use Rattle.eos_source_faults.specs.Refusals.{IsNoLog};
+ghost use Rattle.eos_source_faults.specs.Listed.{IsListOf, BeginsAsFound};
+ghost use Rattle.eos_source_faults.specs.Refusals.{IsNoLog, IsEarned};
 ghost use Rattle.eos_source_faults.specs.steps.FaultsAgain.{AreListedAgain};
 
 use crate::again::faults_if_found;
@@ -24,7 +25,9 @@ fn partition_faults<S: Source>(
     found: &[Option<PartitionFault>],
 ) -> Result<Vec<PartitionFault>, Unlisted<S::Fault>>
     ensures ok { IfOk result (λ list. AreListedAgain (known_by (S.said source.now) (S.is_log source.now)) shape.now.partitions found.now list.items) }
+    ensures first { IfOk result (λ list. slice_get list.items 0 ≡ first_of (take (length shape.now.partitions) found.now)) }
     ensures fold { IfErr result (λ why. IsNoLog (S.is_log source.now) why) }
+    ensures earned { IfErr result (IsEarned (known_by (S.said source.now) (S.is_log source.now)) (S.outcomes source.now) shape.now.partitions found.now) }
 {
     let partitions = shape.partitions();
     let mut list = Vec::new(alloc);
@@ -55,7 +58,9 @@ pub fn all_source_faults<S: Source>(
     logs: &Logs,
 ) -> Result<Vec<Fault>, Unlisted<S::Fault>>
     ensures ok { IfOk result (λ faults. IsListOf (known_by (S.said source.now) (S.is_log source.now)) shape.now logs.now faults.items) }
+    ensures first { IfOk result (λ faults. BeginsAsFound shape.now logs.now faults.items) }
     ensures fold { IfErr result (λ why. IsNoLog (S.is_log source.now) why) }
+    ensures earned { IfErr result (IsEarned (known_by (S.said source.now) (S.is_log source.now)) (S.outcomes source.now) shape.now.partitions logs.now.faults.items) }
 {
     let spec = shape.spec();
     if let Some(_fault) = logs.first_fault() {

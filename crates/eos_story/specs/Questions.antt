@@ -17,7 +17,7 @@ use Rattle.eos_places.specs.declared.wanted.Wanted.TheVariants.{Between, Of, Mar
 use Rattle.eos_sought.specs.declared.finding.Find.{Find}
 use Rattle.eos_sought.specs.declared.sought.Epochs.{Epochs}
 use Rattle.eos_sought.specs.declared.sought.Sought.{Sought}
-use Rattle.eos_sought.specs.declared.sought.Sought.TheVariants.{At, Claiming, Hidden, OfId, Before, OfProducer, Within, Deciding, OfGroup, Passing, Passed}
+use Rattle.eos_sought.specs.declared.sought.Sought.TheVariants.{At, Claiming, Hidden, OfId, Before, OfProducer, Within, Deciding, OfGroup, Passing, UpTo, Passed}
 use Rattle.eos_sought.specs.Finds.{all_of}
 use Rattle.eos_sought.specs.Passing.{group_in}
 use Rattle.eos_sought.specs.States.{state_in}
@@ -240,13 +240,14 @@ abbrev pub group_meant : List App → Option Group → Option (List ℕ)
 group_meant apps None = first_group apps
 group_meant apps (Some group) = Some group
 
--- the commits that go past an input: those of the group, or where it has none those of others
+-- the commits that go past an input: those of the group, or where it has none those of others; and the last of the group, of the
+-- input's partition, that doesn't go past it
 abbrev pub others_past : List PartLog → List ℕ → Place → List Question
 others_past logs group place = if is_none_of (Passing group place) logs then Records (Passed place) 3 ∷ [] else []
 
 abbrev pub commits_past : List PartLog → Option (List ℕ) → Place → List Question
 commits_past logs None place = []
-commits_past logs (Some group) place = Records (Passing group place) 3 ∷ others_past logs group place
+commits_past logs (Some group) place = Records (Passing group place) 3 ∷ (others_past logs group place ++ Latest (UpTo group place) 1 ∷ [])
 
 -- the claims that no reader of committed records is given, if there are any
 abbrev pub unseen : List PartLog → Place → List Question

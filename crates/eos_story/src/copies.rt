@@ -78,6 +78,10 @@ pub(crate) fn copy_sought(sought: &Sought) -> Result<Sought, AllocError>
             group: group.clone()?,
             place: copy_place(place)?,
         }),
+        Sought::UpTo { group, place } => Ok(Sought::UpTo {
+            group: group.clone()?,
+            place: copy_place(place)?,
+        }),
         Sought::Passed(place) => Ok(Sought::Passed(copy_place(place)?)),
     }
 }

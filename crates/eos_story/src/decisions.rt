@@ -27,7 +27,7 @@ use std::alloc::{AllocError, Global};
 const MOST: usize = 6;
 
 /// The epoch of the end markers behind data of this epoch; the greatest has none after it.
-pub(crate) fn epoch_after(epoch: i16) -> i16
+pub fn epoch_after(epoch: i16) -> i16
     ensures { result ≡ epoch_after epoch }
 {
     if epoch < 32767 { epoch + 1 } else { epoch }

@@ -19,6 +19,7 @@ mod scene;
 mod slices;
 mod states;
 
+pub use decisions::epoch_after;
 pub use headers::HeaderName;
 pub use kinds::rows_of;
 pub use place::place_of;

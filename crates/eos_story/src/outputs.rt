@@ -11,7 +11,7 @@ use crate::claims::{push_claims, push_unseen};
 use crate::copies::{copy_bytes, copy_name, copy_place};
 use crate::decisions::bytes_of;
 use crate::headers::push_headers;
-use crate::records::{count_sought, first_found, push_records};
+use crate::records::{count_sought, first_found, push_last_of, push_records};
 use crate::row::Row;
 use crate::scene::Scene;
 use bytes::Bytes;
@@ -144,7 +144,7 @@ fn push_others(
     Ok(())
 }
 
-/// The commits that go past an input: those of the group, or else those of others.
+/// The commits that go past an input, those of the group or else those of others; and the last of the group that doesn't.
 fn push_commits(
     scene: &Scene<'_>,
     rows: &mut Vec<Row>,
@@ -179,6 +179,17 @@ fn push_passing(
         3,
     )?;
     push_others(scene, rows, group, place)?;
+    let named = copy_bytes(group)?;
+    let end = copy_place(place)?;
+    push_last_of(
+        scene,
+        rows,
+        Sought::UpTo {
+            group: named,
+            place: end,
+        },
+        1,
+    )?;
     Ok(())
 }
 

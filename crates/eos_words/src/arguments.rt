@@ -204,7 +204,7 @@ static INIT_ARGUMENTS: [Argument; 5] = [
     Argument {
         name: "app",
         help: "An application, its sources and its outputs; may be repeated",
-        presence: Presence::Required,
+        presence: Presence::Optional,
         form: Form::Repeated("GROUP:SOURCE,..:OUTPUT,..", ValueParser::NonEmptyString),
     },
     Argument {

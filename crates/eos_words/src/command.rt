@@ -3,8 +3,8 @@
 use crate::argument::{Argument, Form, Presence};
 use crate::help::{ABOUT, CHECK_ANSWERS, STATUSES};
 use crate::request::{
-    Answer, Check, Draw, Explain, Fold, Init, Listing, NoRequest, Request, Simulation, Sizes,
-    Thousandths,
+    Answer, Check, Coordinator, Draw, Explain, Fold, Init, Listing, NoRequest, Request, Simulation,
+    Sizes, Thousandths,
 };
 use crate::subcommands::Subcommand;
 use clap::builder::ValueParser;
@@ -16,6 +16,9 @@ use std::alloc::{AllocError, Global};
 
 /// The version of the program.
 pub const VERSION: &str = "0.1.0";
+
+/// How many partitions each of Kafka's own two topics has where its settings are as they come.
+const PARTITIONS: u64 = 50;
 
 /// The folder that gets folds where the words don't say.
 const FOLDS: &str = "folds";
@@ -106,6 +109,7 @@ fn make_subcommands<'a>(alloc: Global, details: &'a str) -> Result<Vec<Command<'
         Subcommand::Explain,
         Subcommand::Draw,
         Subcommand::Init,
+        Subcommand::Coordinator,
         Subcommand::Fold,
         Subcommand::Simulate,
     ] {
@@ -178,6 +182,7 @@ fn read_request<'a>(
         "explain" => Ok(read_explain(inner)),
         "draw" => Ok(read_draw(inner)),
         "init" => read_init(alloc, inner),
+        "coordinator" => read_coordinator(alloc, inner),
         "fold" => read_fold(alloc, inner),
         "simulate" => read_simulate(alloc, inner),
         _ => Ok(None),
@@ -253,19 +258,25 @@ fn read_draw<'a>(inner: &ArgMatches<'a>) -> Option<Request<'a>> {
 }
 
 fn read_init<'a>(alloc: Global, inner: &ArgMatches<'a>) -> Result<Option<Request<'a>>, AllocError> {
-    let Some(words) = inner.get_strs("app") else {
-        return Ok(None);
-    };
     let Some(folder) = inner.get_str("folder") else {
         return Ok(None);
     };
-    let apps = words.to_vec(alloc)?;
     Ok(Some(Request::Init(Init {
         version1: inner.get_flag("version1"),
-        apps,
+        apps: read_all(alloc, inner, "app")?,
         ends: inner.get_str("ends"),
         ends_from_logs: inner.get_flag("ends-from-logs"),
         folder,
+    })))
+}
+
+fn read_coordinator<'a>(
+    alloc: Global,
+    inner: &ArgMatches<'a>,
+) -> Result<Option<Request<'a>>, AllocError> {
+    Ok(Some(Request::Coordinator(Coordinator {
+        partitions: inner.get_one::<u64>("partitions").unwrap_or(PARTITIONS),
+        names: read_all(alloc, inner, "name")?,
     })))
 }
 

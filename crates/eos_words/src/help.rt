@@ -201,19 +201,38 @@ pub(crate) const INIT_WRITES: &str =
     "FOLDER holds folders TOPIC-N that were copied from a broker's log directory. The
 manifest is written to FOLDER/evidence.json, which must not be there, and is
 read back; `wrote partitions=N` (status 0) says so. With one --app it is of
-version 1, else of version 2.
+version 1, else of version 2. Without --app it names no application: `check`
+then judges the logs and the transactions, and not the outputs.
 
 --ends FILE takes the ends from lines TOPIC:PARTITION:OFFSET, as
 `kafka-get-offsets.sh --time -1` prints them. The manifest gets those of the
 topics that an --app names, of __consumer_offsets and __transaction_state, and
-of every partition that a record of the transaction log in FOLDER lists. Such a
-partition without a line is refused by name, and so is one of these topics that
-has a folder and no line. With --ends-from-logs each ends where its copied log
-ends, so that a copy that was cut short can't be found.
+of every partition that a record of the transaction log in FOLDER lists; without
+--app also those of every partition that has a folder. Such a partition without
+a line is refused by name, and so is one of these topics that has a folder and
+no line. With --ends-from-logs each ends where its copied log ends, so that a
+copy that was cut short can't be found.
 
 What `check` will refuse is said at once, on standard error: a partition that
 doesn't begin at offset 0, one that begins with a compressed batch, and one
-that has an end but no folder.";
+that has an end but no folder. So is what may be wrong with FILE: that it has no
+line of a topic, or none at all, or that its lines end in carriage returns,
+which aren't read. And of each group which partition of __consumer_offsets it
+commits to, where FILE has the lines of all of them.";
+
+pub(crate) const COORDINATOR: &str =
+    "Prints which partition of Kafka's own two topics a group or an id has";
+
+pub(crate) const COORDINATOR_PRINTS: &str =
+    "For each NAME a line `NAME partition=K`. A group of this name commits to
+partition K of __consumer_offsets, and what a transactional id of this name does
+stands in partition K of __transaction_state, where that topic has N partitions.
+Kafka has 50 of each, unless offsets.topic.num.partitions or
+transaction.state.log.num.partitions says otherwise.
+
+K is Kafka's Utils.abs(NAME.hashCode()) % N: Java's hash of the text, its
+absolute value, or 0 for the least integer. Of NAME, bytes other than letters,
+digits, . _ and - are printed as % and two digits.";
 
 pub(crate) const FOLD: &str =
     "Folds segments where they lie, so that `check` needs no copies of them";

@@ -5,11 +5,12 @@ mod argument;
 mod arguments;
 mod command;
 mod help;
+mod naming;
 mod request;
 mod subcommands;
 
 pub use command::{VERSION, read_words};
 pub use request::{
-    Answer, Check, Draw, Explain, Fold, Init, Listing, NoRequest, Request, Simulation, Sizes,
-    Thousandths,
+    Answer, Check, Coordinator, Draw, Explain, Fold, Init, Listing, NoRequest, Request, Simulation,
+    Sizes, Thousandths,
 };

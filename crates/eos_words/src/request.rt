@@ -21,6 +21,8 @@ pub enum Request<'a> {
     Init(Init<'a>),
     /// Write the folds of segments.
     Fold(Fold<'a>),
+    /// Print which partition of Kafka's own two topics names have.
+    Coordinator(Coordinator<'a>),
 }
 
 /// What is asked about a segment.
@@ -148,7 +150,7 @@ pub struct Thousandths {
 pub struct Init<'a> {
     /// Whether the manifest has to be of version 1, which takes one application.
     pub version1: bool,
-    /// The words of the applications.
+    /// The words of the applications, which may be none.
     pub apps: Vec<&'a str>,
     /// The file of the partitions' ends.
     pub ends: Option<&'a str>,
@@ -166,6 +168,15 @@ pub struct Fold<'a> {
     pub out: &'a str,
     /// The folders of the partitions in the order given, at least one, none of them the empty text.
     pub folders: Vec<&'a str>,
+}
+
+/// Of which groups or transactional ids the partition is asked, and of how many partitions the topic is.
+#[derive(Drop)]
+pub struct Coordinator<'a> {
+    /// How many partitions `__consumer_offsets` or `__transaction_state` has; any number.
+    pub partitions: u64,
+    /// The names in the order given, none of them the empty text; there may be none.
+    pub names: Vec<&'a str>,
 }
 
 /// Why there is nothing to do. What is to be said of it was said.

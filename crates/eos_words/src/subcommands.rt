@@ -6,9 +6,11 @@ use crate::arguments::{
     fold_arguments, init_arguments, simulate_arguments,
 };
 use crate::help::{
-    CHAIN, CHAIN_ANSWERS, CHECK, DRAW, DRAW_SHOWS, DUMP, DUMP_COLUMNS, EXPLAIN, EXPLAIN_SAYS, FOLD,
-    FOLD_WRITES, INIT, INIT_WRITES, SIMULATE, SIMULATE_WRITES,
+    CHAIN, CHAIN_ANSWERS, CHECK, COORDINATOR, COORDINATOR_PRINTS, DRAW, DRAW_SHOWS, DUMP,
+    DUMP_COLUMNS, EXPLAIN, EXPLAIN_SAYS, FOLD, FOLD_WRITES, INIT, INIT_WRITES, SIMULATE,
+    SIMULATE_WRITES,
 };
+use crate::naming::coordinator_arguments;
 
 /// A subcommand.
 #[derive(Clone, Copy)]
@@ -19,6 +21,7 @@ pub(crate) enum Subcommand {
     Explain,
     Draw,
     Init,
+    Coordinator,
     Fold,
     Simulate,
 }
@@ -32,6 +35,7 @@ impl Subcommand {
             Subcommand::Explain => "explain",
             Subcommand::Draw => "draw",
             Subcommand::Init => "init",
+            Subcommand::Coordinator => "coordinator",
             Subcommand::Fold => "fold",
             Subcommand::Simulate => "simulate",
         }
@@ -46,6 +50,7 @@ impl Subcommand {
             Subcommand::Explain => EXPLAIN,
             Subcommand::Draw => DRAW,
             Subcommand::Init => INIT,
+            Subcommand::Coordinator => COORDINATOR,
             Subcommand::Fold => FOLD,
             Subcommand::Simulate => SIMULATE,
         }
@@ -60,6 +65,7 @@ impl Subcommand {
             Subcommand::Explain => Some(EXPLAIN_SAYS),
             Subcommand::Draw => Some(DRAW_SHOWS),
             Subcommand::Init => Some(INIT_WRITES),
+            Subcommand::Coordinator => Some(COORDINATOR_PRINTS),
             Subcommand::Fold => Some(FOLD_WRITES),
             Subcommand::Simulate => Some(SIMULATE_WRITES),
         }
@@ -74,6 +80,7 @@ impl Subcommand {
             Subcommand::Explain => explain_arguments(),
             Subcommand::Draw => draw_arguments(),
             Subcommand::Init => init_arguments(),
+            Subcommand::Coordinator => coordinator_arguments(),
             Subcommand::Fold => fold_arguments(),
             Subcommand::Simulate => simulate_arguments(),
         }

@@ -1,7 +1,9 @@
 //! A run: the words, the files and streams that they name, and what the outside is told.
 
 use eos_checking::check_words;
-use eos_commands::{answer_segment, explain_code, fold_partitions, init_folder};
+use eos_commands::{
+    answer_segment, explain_code, fold_partitions, init_folder, print_coordinators,
+};
 use eos_drawing::draw_folder;
 use eos_ending::{Ending, STANDARD, end};
 use eos_explaining::explain_folder;
@@ -58,5 +60,6 @@ fn act(rt: &HostRuntime, threads: &(impl Threads + Wait + Sync), request: Reques
         Request::Simulate(words) => simulate_folder(rt, &words),
         Request::Fold(words) => fold_partitions(rt, &words),
         Request::Init(words) => init_folder(rt, &words),
+        Request::Coordinator(words) => print_coordinators(rt, &words),
     }
 }

@@ -2,7 +2,7 @@
 use Rattle.std.specs.Prelude.{Option, Bool, false}
 use Rattle.eos_txnlog.specs.declared.value.TxnValue.{TxnValue}
 use Rattle.eos_sought.specs.declared.sought.Sought.{Sought}
-use Rattle.eos_sought.specs.declared.sought.Sought.TheVariants.{At, Claiming, Hidden, OfId, Before, OfProducer, Within, Deciding, OfGroup, Passing, Passed}
+use Rattle.eos_sought.specs.declared.sought.Sought.TheVariants.{At, Claiming, Hidden, OfId, Before, OfProducer, Within, Deciding, OfGroup, Passing, UpTo, Passed}
 use Rattle.eos_sought.specs.Sought.{is_by, is_within, decides}
 
 abbrev pub is_such : Sought → Option TxnValue → Bool
@@ -16,4 +16,5 @@ is_such (Within epochs) state = is_within epochs state
 is_such (Deciding producer epoch) state = decides producer epoch state
 is_such (OfGroup group) state = false
 is_such (Passing group place) state = false
+is_such (UpTo group place) state = false
 is_such (Passed place) state = false

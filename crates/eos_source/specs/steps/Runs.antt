@@ -1,5 +1,5 @@
 -- What is kept of pieces, by their numbers, of which so much is known and which said this.
-use Rattle.std.specs.Prelude.{◌≡◌, ℕ, suc, ◌+◌, ◌≤◌, ◌<◌, not, List, [], ◌∷◌, length, Option, Some, None, Result, IfOk, ⊤}
+use Rattle.std.specs.Prelude.{◌≡◌, ℕ, suc, ◌+◌, ◌≤◌, ◌<◌, not, List, [], ◌∷◌, length, Option, Some, None, Result, Ok, Err, IfOk, IfErr, ⊤}
 use Rattle.eos_evidence.specs.declared.application.App.{App}
 use Rattle.eos_evidence.specs.declared.segment.Segment.{Segment}
 use Rattle.eos_evidence.specs.Topics.{is_internal}
@@ -67,19 +67,31 @@ pub record IsTaken (known : Known) (said : Said) (a : Asking) (name : Segment) (
 abbrev pub IsSlotOf : {F : Type 0} → Known → Said → List (List ℕ) → List App → Segment → Result KeptRun F → Type 0
 IsSlotOf known said topics apps name slot = IfOk slot (IsTaken known said (asking topics apps name.topic) name)
 
--- what became of the piece of this number and name
-abbrev pub IsSlot : {F : Type 0} → (ℕ → Known) → List (List ℕ) → List App → ℕ → Segment → Result KeptRun F → Type 0
-IsSlot known topics apps piece name slot = IfOk slot (λ run. (said : Said) × IsTaken (known piece) said (asking topics apps name.topic) name run)
+-- what became of the piece of this number and name: what was asked of it, or why it is refused
+abbrev pub IsSlot : {F : Type 0} → (ℕ → Known) → (ℕ → Option F → Type 0) → List (List ℕ) → List App → ℕ → Segment → Result KeptRun F → Type 0
+IsSlot known outcomes topics apps piece name slot =
+    IfOk slot (λ run. (said : Said) × IsTaken (known piece) said (asking topics apps name.topic) name run) × IfOk slot (λ run. outcomes piece None) × IfErr slot (λ why. outcomes piece (Some why))
 
--- what became of the pieces of these names, the first of which has this number; others follow
-abbrev pub AreSlots : {F : Type 0} → (ℕ → Known) → List (List ℕ) → List App → ℕ → List Segment → List (Result KeptRun F) → Type 0
-AreSlots known topics apps piece [] slots = ⊤
-AreSlots known topics apps piece (name ∷ names) [] = ⊥
-AreSlots known topics apps piece (name ∷ names) (slot ∷ slots) = IsSlot known topics apps piece name slot × AreSlots known topics apps (suc piece) names slots
+-- what became of the pieces of these names, the first of which has this number
+abbrev pub AreSlots : {F : Type 0} → (ℕ → Known) → (ℕ → Option F → Type 0) → List (List ℕ) → List App → ℕ → List Segment → List (Result KeptRun F) → Type 0
+AreSlots known outcomes topics apps piece [] [] = ⊤
+AreSlots known outcomes topics apps piece [] (slot ∷ slots) = ⊥
+AreSlots known outcomes topics apps piece (name ∷ names) [] = ⊥
+AreSlots known outcomes topics apps piece (name ∷ names) (slot ∷ slots) = IsSlot known outcomes topics apps piece name slot × AreSlots known outcomes topics apps (suc piece) names slots
 
--- the same, if the pieces said this
+-- the same, if the pieces said this; others follow
 abbrev pub AreSlotsOf : {F : Type 0} → (ℕ → Known) → (ℕ → Said) → List (List ℕ) → List App → ℕ → List Segment → List (Result KeptRun F) → Type 0
 AreSlotsOf known said topics apps piece [] slots = ⊤
 AreSlotsOf known said topics apps piece (name ∷ names) [] = ⊥
 AreSlotsOf known said topics apps piece (name ∷ names) (slot ∷ slots) =
     IsSlotOf (known piece) (said piece) topics apps name slot × AreSlotsOf known said topics apps (suc piece) names slots
+
+-- the first refusal among these slots
+abbrev pub IsFirstRefused : {F : Type 0} → List (Result KeptRun F) → F → Type 0
+IsFirstRefused [] why = ⊥
+IsFirstRefused (Ok run ∷ slots) why = IsFirstRefused slots why
+IsFirstRefused (Err fault ∷ slots) why = why ≡ fault
+
+-- of the slots that were passed none is a refusal
+abbrev pub ArePassed : {F : Type 0} → List (Result KeptRun F) → List (Result KeptRun F) → Type 0
+ArePassed {F} before after = (why : F) → IsFirstRefused after why → IsFirstRefused before why

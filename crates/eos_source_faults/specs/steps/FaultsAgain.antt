@@ -1,5 +1,5 @@
 -- The faults of partitions that are read again, of one after the other.
-use Rattle.std.specs.Prelude.{◌≡◌, ◌≤◌, ◌^◌, ℕ, ◌+◌, List, [], ◌∷◌, ◌++◌, length, Option, None, Some}
+use Rattle.std.specs.Prelude.{◌≡◌, ◌≤◌, ◌^◌, ℕ, ◌+◌, List, [], ◌∷◌, ◌++◌, length, Option, None, Some, slice_get, ⊤}
 use Rattle.eos_evidence.specs.declared.partition.Partition.{Partition}
 use Rattle.eos_touch.specs.declared.fault.PartitionFault.{PartitionFault}
 use Rattle.eos_partition_faults.specs.PartitionLists.{AreFaultsOf}
@@ -22,6 +22,12 @@ abbrev pub HasFaultsIfFound : (ℕ → Known) → ℕ → Partition → Option (
 HasFaultsIfFound known piece shape None list = list ≡ []
 HasFaultsIfFound known piece shape (Some None) list = list ≡ []
 HasFaultsIfFound known piece shape (Some (Some f)) list = HasFaultsAgain known piece shape list
+
+-- what was found comes first
+abbrev pub BeginsIfFound : Option (Option PartitionFault) → List PartitionFault → Type 0
+BeginsIfFound None list = ⊤
+BeginsIfFound (Some None) list = ⊤
+BeginsIfFound (Some (Some f)) list = slice_get list 0 ≡ Some f
 
 -- Of partitions of these shapes those in which a fault was found were read again, and these are all of their faults. One of which
 -- nothing was found has none.

@@ -1,26 +1,32 @@
-use Rattle.std.proofs.Common.{◌≡◌, ◌+◌, ℕ, List, length, take, drop, sym, subst, rules}
+use Rattle.std.proofs.Common.{◌≡◌, ◌+◌, ℕ, List, length, take, drop, sym, subst, ◌∙◌, rules}
 use Rattle.std.specs.Vec.Iter.{into_iter_items}
 use Rattle.eos_evidence.specs.declared.partition.Partition.{Partition}
 use Rattle.eos_evidence.specs.declared.segment.Segment.{Segment}
 use Rattle.eos_evidence.specs.Evidence.{segments_of}
 use Rattle.eos_source.specs.Said.{known_by}
-use Rattle.eos_source.specs.steps.Runs.{AreSlots, AreSlotsOf}
+use Rattle.eos_source.specs.steps.Runs.{AreSlots, AreSlotsOf, ArePassed}
 use Rattle.eos_source.proofs.SlotsRead.{were_said}
+use Rattle.eos_source.proofs.SlotsRefused.{none_passed}
 use Rattle.eos_source.proofs.PartitionsTold.{none_told, here, segments_left, pieces_taken, told_next}
 use Rattle.eos_source.proofs.logs.logs_of.Goals as goal
 
 pub loop-i-init : goal.loop-i-init
 loop-i-init g c =
     let known = known_by (g.S.Source.said c.args.plan.now.source.now) (g.S.Source.is_log c.args.plan.now.source.now) in
+    let outcomes = g.S.Source.outcomes c.args.plan.now.source.now in
     let topics = c.args.plan.now.topics.now in
     let apps = c.args.plan.now.shape.now.spec.apps in
     let slots = into_iter_items c.into_iter-slots.result in
     let rest : slots ≡ c.args.slots.items = search rules in
-    let given = subst (λ xs. AreSlots known topics apps 0 (segments_of c.args.plan.now.shape.now.partitions) xs) (sym rest) c.requires.slots in
-    let w = were_said known topics apps (segments_of c.args.plan.now.shape.now.partitions) slots given in (
-      w.0,
-      none_told known w.0 apps c.new-logs.result c.new-logs.ensures.parts c.new-logs.ensures.faults c.new-logs.ensures.tallies,
-      subst (λ (ps : List Partition). AreSlotsOf known w.0 topics apps 0 (segments_of ps) slots) (sym c.partitions-partitions.ensures.value) w.1,
+    let given = subst (λ xs. AreSlots known outcomes topics apps 0 (segments_of c.args.plan.now.shape.now.partitions) xs) (sym rest) c.requires.slots in
+    let w = were_said known outcomes topics apps (segments_of c.args.plan.now.shape.now.partitions) slots given in (
+      (
+        w.0,
+        none_told known w.0 apps c.new-logs.result c.new-logs.ensures.parts c.new-logs.ensures.faults c.new-logs.ensures.tallies,
+        subst (λ (ps : List Partition). AreSlotsOf known w.0 topics apps 0 (segments_of ps) slots) (sym c.partitions-partitions.ensures.value) w.1,
+      ),
+      c.new-logs.ensures.drawn,
+      subst (λ xs. ArePassed c.args.slots.items xs) (sym rest) (none_passed c.args.slots.items),
     )
 
 pub loop-i-preserved : goal.loop-i-preserved
@@ -33,12 +39,16 @@ loop-i-preserved g c =
     let shape = c.index-partitions-i.result in
     let at = here shapes i shape c.loop-i-test.true c.index-partitions-i.is in
     let piece = length (segments_of (take i shapes)) in
-    let said = c.loop-i.invariant.0 in
+    let said = c.loop-i.invariant.0.0 in
     let later = segments_of (drop (i + 1) shapes) in
-    let slots = subst (λ (xs : List Segment). AreSlotsOf known said topics apps piece xs (into_iter_items c.loop-i.slots)) (segments_left shapes i shape at) c.loop-i.invariant.2 in
-    let next = c.in_ok-next_told.ensures said piece later slots in (
-      said,
-      told_next known said apps shapes i shape c.loop-i.logs c.push.new.self c.in_ok-next_told.field-0 at c.loop-i.invariant.1 next.0
-          c.in_ok-push.ensures.parts c.in_ok-push.ensures.faults c.in_ok-push.ensures.tallies,
-      subst (λ (n : ℕ). AreSlotsOf known said topics apps n later (into_iter_items c.next_told.new.slots)) (sym (pieces_taken shapes i shape at)) next.1,
+    let slots = subst (λ (xs : List Segment). AreSlotsOf known said topics apps piece xs (into_iter_items c.loop-i.slots)) (segments_left shapes i shape at) c.loop-i.invariant.0.2 in
+    let next = c.in_ok-next_told.ensures.told said piece later slots in (
+      (
+        said,
+        told_next known said apps shapes i shape c.loop-i.logs c.push.new.self c.in_ok-next_told.field-0 at c.loop-i.invariant.0.1 next.0
+            c.in_ok-push.ensures.parts c.in_ok-push.ensures.faults c.in_ok-push.ensures.tallies,
+        subst (λ (n : ℕ). AreSlotsOf known said topics apps n later (into_iter_items c.next_told.new.slots)) (sym (pieces_taken shapes i shape at)) next.1,
+      ),
+      c.push.ensures.drawn ∙ c.loop-i.invariant.1,
+      λ why r. c.loop-i.invariant.2 why (c.in_ok-next_told.ensures.passed why r),
     )

@@ -35,7 +35,7 @@ told_of-requires-clause-wanted g c =
     let same = sym c.as_slice.ensures in
     let all = subst (λ (xs : List Segment). All (λ s. s.topic ≡ topic) xs) same (of_topic c.args.shape.now c.requires.partition) in
     let at = subst (λ (xs : List Segment). AreSlotsOf known r.0 topics apps r.1 (xs ++ r.2) (into_iter_items c.args.slots.now)) same r.3 in
-    let run = c.in_ok-run.ensures known r.0 topics apps topic r.1 r.2 all at in
+    let run = c.in_ok-run.ensures.run known r.0 topics apps topic r.1 r.2 all at in
     let wanted : c.asked_of-asked.result.wanted ≡ wanted_of apps topic = c.asked_of-asked.ensures.wanted ∙ ap (wanted_of apps) c.as_slice-2.ensures in
     subst (λ (w : Wanted). IsWantedBy w c.in_ok-run.run') (sym wanted) (as_wanted known r.0 topics apps topic r.1 c.as_slice.result.now c.in_ok-run.run' run.0)
 
@@ -49,12 +49,12 @@ told_of-requires-clause-claims g c =
     let same = sym c.as_slice.ensures in
     let all = subst (λ (xs : List Segment). All (λ s. s.topic ≡ topic) xs) same (of_topic c.args.shape.now c.requires.partition) in
     let at = subst (λ (xs : List Segment). AreSlotsOf known r.0 topics apps r.1 (xs ++ r.2) (into_iter_items c.args.slots.now)) same r.3 in
-    let run = c.in_ok-run.ensures known r.0 topics apps topic r.1 r.2 all at in
+    let run = c.in_ok-run.ensures.run known r.0 topics apps topic r.1 r.2 all at in
     let claims = have_claims known r.0 topics apps topic r.1 c.as_slice.result.now c.in_ok-run.run' run.0 in
     subst (λ (names : List (List ℕ)). HaveClaims names c.in_ok-run.run') (sym c.asked_of-asked.ensures.topics) claims
 
-pub returns : goal.returns
-returns g c = λ said piece later given.
+pub returns-clause-told : goal.returns-clause-told
+returns-clause-told g c = λ said piece later given.
     let known = known_by (g.S.Source.said c.args.plan.now.source.now) (g.S.Source.is_log c.args.plan.now.source.now) in
     let topics = c.args.plan.now.topics.now in
     let shape = c.args.shape.now in
@@ -65,7 +65,7 @@ returns g c = λ said piece later given.
     let same = sym c.as_slice.ensures in
     let all = subst (λ (xs : List Segment). All (λ s. s.topic ≡ topic) xs) same (of_topic shape c.requires.partition) in
     let at = subst (λ (xs : List Segment). AreSlotsOf known said topics apps piece (xs ++ later) (into_iter_items c.args.slots.now)) same given in
-    let both = c.in_ok-run.ensures known said topics apps topic piece later all at in
+    let both = c.in_ok-run.ensures.run known said topics apps topic piece later all at in
     let read = subst (λ (xs : List Segment). AreRead known said (asking topics apps topic) piece xs run) c.as_slice.ensures both.0 in
     let next = subst (λ (xs : List Segment). AreSlotsOf known said topics apps (piece + length xs) later (into_iter_items c.next_run.new.slots)) c.as_slice.ensures both.1 in
     let wanted : c.asked_of-asked.result.wanted ≡ wanted_of apps topic = c.asked_of-asked.ensures.wanted ∙ ap (wanted_of apps) c.as_slice-2.ensures in

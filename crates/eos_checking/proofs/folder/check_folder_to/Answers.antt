@@ -1,0 +1,27 @@
+-- What was told of what the folder was read as is true of the evidence that stands there.
+use Rattle.eos_ending.specs.Subjects.{subject_text}
+use Rattle.eos_text.specs.Writing.{WritesFrontOf}
+use Rattle.eos_checking.specs.Checking.{IsCheckAnswer}
+use Rattle.eos_checking.specs.Folders.{IsToldOf}
+use Rattle.eos_checking.proofs.FolderAnswers.{told_of, front_of, known_of}
+use Rattle.eos_checking.proofs.folder.check_folder_to.Goals as goal
+
+pub returns-in-Ok-told-clause-known : goal.returns-in-Ok-told-clause-known
+returns-in-Ok-told-clause-known g c e known at =
+    let asked = c.args.asked.now in
+    let folder = c.args.folder.path.now in
+    let old = g.W.Write.contents c.args.writer.now in
+    let new = g.W.Write.contents c.told.new.writer in
+    let t = c.in-Ok-told.ensures in
+    let of = told_of (g.D.Disk.holds c.args.folder.disk.now) folder asked.subject asked.json asked.all asked.quiet asked.report c.in-Ok.answer old new c.in-Ok-told.said t.status t.notes t.report t.lines
+    c.in-Ok.ensures in
+    known_of (g.D.Disk.holds c.args.folder.disk.now) folder asked.all (IsToldOf asked.subject asked.json asked.all asked.quiet asked.report old new c.in-Ok-told.said) e known at of
+
+pub returns-in-Err-told-clause-known_front : goal.returns-in-Err-told-clause-known_front
+returns-in-Err-told-clause-known_front g c e known at failed =
+    let asked = c.args.asked.now in
+    let folder = c.args.folder.path.now in
+    let old = g.W.Write.contents c.args.writer.now in
+    let new = g.W.Write.contents c.told.new.writer in
+    let of = front_of (g.D.Disk.holds c.args.folder.disk.now) folder asked.subject asked.json asked.all asked.quiet asked.report c.in-Ok.answer old new c.in-Err-told.ensures.front c.in-Ok.ensures in
+    known_of (g.D.Disk.holds c.args.folder.disk.now) folder asked.all (λ x. WritesFrontOf (IsCheckAnswer (subject_text asked.subject) x asked.json asked.all) old new) e known at of

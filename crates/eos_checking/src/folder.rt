@@ -1,0 +1,163 @@
+//! `check` of a folder: from the bytes of its files to the lines that are written.
+
+ghost use Rattle.std.specs.Prelude.{◌≡◌, ◌≢◌, Err, IfOk, IfErr, OnErr, option_map, string_bytes};
+ghost use Rattle.std.specs.Io.KnownBytes.{Appends, Keeps};
+ghost use Rattle.eos_ending.specs.Subjects.{subject_text};
+ghost use Rattle.eos_evidence.specs.Evidence.{EvidenceParts, segments_of};
+ghost use Rattle.eos_folder.specs.Shapes.{AreKnown};
+ghost use Rattle.eos_folder_source.specs.Saying.{known_at, StandsAt};
+ghost use Rattle.eos_source.specs.Said.{known_by};
+ghost use Rattle.eos_text.specs.Writing.{WritesFront, WritesFrontOf};
+ghost use Rattle.eos_checking.specs.Checking.{IsCheckAnswer};
+ghost use Rattle.eos_checking.specs.Folders.{IsToldOf, HoldsAsRead, HoldsOf};
+ghost use Rattle.eos_checking.specs.Sources.{IsAnswerFor};
+ghost use Rattle.eos_checking.specs.declared.folder.Unchecked.TheVariants.{CannotWrite};
+
+use crate::check::{Asked, Said};
+use crate::report::Timed;
+use crate::source::{Pieces, SourceAnswer, answer_all, answer_source};
+use eos_disk::Disk;
+use eos_folder::{FolderFault, Shape, Watch, read_shape};
+use eos_folder_source::FolderSource;
+use eos_source::Source;
+use eos_source_faults::Unlisted;
+use eos_text::{WriteFault, finish};
+use std::alloc::Global;
+use std::io::Write;
+use std::thread::Threads;
+
+/// A folder of a disk.
+#[derive(Clone, Copy)]
+pub struct Folder<'a, D> {
+    pub disk: &'a D,
+    pub path: &'a str,
+}
+
+/// Why a folder isn't checked.
+#[derive(Drop)]
+pub enum Unchecked {
+    /// It is no evidence, or can't be read; or memory was refused. Nothing was written.
+    Refused(FolderFault),
+    /// The writer failed. A front of the answer was written.
+    CannotWrite,
+}
+
+/// The answer by the pieces of a source, of the first fault or of all.
+#[tactic(auto, using(crate::proofs::FolderAnswers::of_first, crate::proofs::FolderAnswers::of_list))]
+fn answer_pieces<S: Source, T: Timed, R: Threads + Sync>(
+    alloc: Global,
+    threads: &R,
+    pieces: Pieces<'_, S>,
+    asked: &Asked<'_, T>,
+) -> Result<SourceAnswer, Unlisted<S::Fault>>
+    ensures { IfOk result (λ answer. HoldsAsRead (known_by (S.said pieces.entry.source.now) (S.is_log pieces.entry.source.now)) pieces.entry.shape.now asked.now.all
+        (IsAnswerFor asked.now.subject asked.now.json asked.now.all asked.now.quiet asked.now.report answer)) }
+{
+    if asked.all {
+        let answer = answer_all(alloc, threads, pieces, asked)?;
+        return Ok(answer);
+    }
+    match answer_source(alloc, threads, pieces, asked) {
+        Ok(answer) => Ok(answer),
+        Err(fault) => Err(Unlisted::Refused(fault)),
+    }
+}
+
+/// Reads the segments of a folder of this shape, and answers.
+fn answer_shape<D: Disk, T: Timed + Watch, R: Threads + Sync>(
+    alloc: Global,
+    threads: &R,
+    folder: Folder<'_, D>,
+    shape: &Shape,
+    asked: &Asked<'_, T>,
+) -> Result<SourceAnswer, FolderFault>
+    ensures { IfOk result (λ answer. HoldsAsRead (known_at (D.holds folder.entry.disk.now) folder.entry.path.now (segments_of shape.now.evidence.partitions) shape.now.forms.items) shape.now.evidence asked.now.all
+        (IsAnswerFor asked.now.subject asked.now.json asked.now.all asked.now.quiet asked.now.report answer)) }
+{
+    let source = FolderSource {
+        disk: folder.disk,
+        folder: folder.path,
+        shape,
+        watch: asked.watch,
+    };
+    let pieces = Pieces {
+        source: &source,
+        shape: &shape.evidence,
+    };
+    match answer_pieces(alloc, threads, pieces, asked) {
+        Ok(answer) => Ok(answer),
+        Err(Unlisted::Refused(fault)) => Err(fault),
+        Err(Unlisted::Fold(piece)) => Err(source.needs_log(alloc, piece)),
+        Err(Unlisted::Changed(piece)) => Err(source.changed(alloc, piece)),
+        Err(Unlisted::OutOfMemory) => Err(FolderFault::OutOfMemory),
+    }
+}
+
+/// Reads a folder, and answers. No more of it is held than its answer wants.
+#[tactic(auto, using(crate::proofs::FolderAnswers::folder_of))]
+fn answer_folder<D: Disk, T: Timed + Watch, R: Threads + Sync>(
+    alloc: Global,
+    threads: &R,
+    folder: Folder<'_, D>,
+    asked: &Asked<'_, T>,
+) -> Result<SourceAnswer, FolderFault>
+    ensures { IfOk result (λ answer. HoldsOf (D.holds folder.entry.disk.now) folder.entry.path.now asked.now.all
+        (IsAnswerFor asked.now.subject asked.now.json asked.now.all asked.now.quiet asked.now.report answer)) }
+{
+    let shape = read_shape(alloc, folder.disk, folder.path, asked.watch)?;
+    let answer = answer_shape(alloc, threads, folder, &shape, asked)?;
+    shape.listed?;
+    Ok(answer)
+}
+
+/// Writes the lines of an answer, and hands on what else is told.
+fn told<W: Write>(writer: &mut W, answer: SourceAnswer) -> Result<Said, WriteFault>
+    ensures status { IfOk result (λ said. said.status ≡ answer.status) }
+    ensures notes { IfOk result (λ said. string_bytes said.notes ≡ string_bytes answer.notes) }
+    ensures report { IfOk result (λ said. option_map string_bytes said.report ≡ option_map string_bytes answer.report) }
+    ensures lines { IfOk result (λ said. Appends (W.contents writer.old) (W.contents writer.new) (string_bytes answer.lines)) }
+    ensures front { OnErr result (WritesFront (W.contents writer.old) (W.contents writer.new) (string_bytes answer.lines)) }
+{
+    finish(writer, answer.lines.as_bytes())?;
+    Ok(Said {
+        status: answer.status,
+        notes: answer.notes,
+        report: answer.report,
+    })
+}
+
+/// Writes the answer to the evidence in a folder of a disk, by at most so many threads: the line of its verdict, or where all faults are
+/// asked for and one stands, theirs; as text or as JSON, of one of several folders after the words that say which.
+///
+/// # Errors
+/// At `CannotWrite` a front of the lines was written. Before all is read and judged nothing is: `Refused` says which file or folder is no
+/// evidence or can't be read, or that memory ran out.
+#[tactic(auto, using(crate::proofs::FolderAnswers::told_of, crate::proofs::FolderAnswers::front_of, crate::proofs::FolderAnswers::known_of))]
+pub fn check_folder_to<D: Disk, T: Timed + Watch, R: Threads + Sync, W: Write>(
+    alloc: Global,
+    threads: &R,
+    folder: Folder<'_, D>,
+    asked: &Asked<'_, T>,
+    writer: &mut W,
+) -> Result<Said, Unchecked>
+    ensures some { IfOk result (λ said. HoldsOf (D.holds folder.entry.disk.now) folder.entry.path.now asked.now.all
+        (IsToldOf asked.now.subject asked.now.json asked.now.all asked.now.quiet asked.now.report (W.contents writer.old) (W.contents writer.new) said)) }
+    ensures known { (e : EvidenceParts) → AreKnown (D.holds folder.entry.disk.now) folder.entry.path.now → StandsAt (D.holds folder.entry.disk.now) folder.entry.path.now e
+        → IfOk result (λ said. IsToldOf asked.now.subject asked.now.json asked.now.all asked.now.quiet asked.now.report (W.contents writer.old) (W.contents writer.new) said e) }
+    ensures unread { IfErr result (λ why. why ≢ CannotWrite → Keeps (W.contents writer.old) (W.contents writer.new)) }
+    ensures front { result ≡ Err CannotWrite → HoldsOf (D.holds folder.entry.disk.now) folder.entry.path.now asked.now.all
+        (λ e. WritesFrontOf (IsCheckAnswer (subject_text asked.now.subject) e asked.now.json asked.now.all) (W.contents writer.old) (W.contents writer.new)) }
+    ensures known_front { (e : EvidenceParts) → AreKnown (D.holds folder.entry.disk.now) folder.entry.path.now → StandsAt (D.holds folder.entry.disk.now) folder.entry.path.now e
+        → result ≡ Err CannotWrite → WritesFrontOf (IsCheckAnswer (subject_text asked.now.subject) e asked.now.json asked.now.all) (W.contents writer.old) (W.contents writer.new) }
+{
+    match answer_folder(alloc, threads, folder, asked) {
+        Ok(answer) => {
+            asked.watch.done();
+            match told(writer, answer) {
+                Ok(said) => Ok(said),
+                Err(_) => Err(Unchecked::CannotWrite),
+            }
+        }
+        Err(fault) => Err(Unchecked::Refused(fault)),
+    }
+}

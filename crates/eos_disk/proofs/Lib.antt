@@ -1,0 +1,4 @@
+mod Changed
+pub mod Kept
+mod OnePlace
+mod Unknown

@@ -1,0 +1,5 @@
+pub mod Changes
+pub mod Entries
+pub mod Memory
+pub mod Putting
+pub mod steps

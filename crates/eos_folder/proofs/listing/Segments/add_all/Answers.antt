@@ -1,0 +1,18 @@
+use Rattle.std.proofs.Common.{List, subst, sym}
+use Rattle.eos_folder.specs.declared.names.FileName.{FileName}
+use Rattle.eos_folder.specs.Paths.{path_of_end}
+use Rattle.eos_folder.specs.Shapes.{IsFound}
+use Rattle.eos_folder.proofs.FilesInOrder.{found_listed}
+use Rattle.eos_folder.proofs.NamedMore.{named_next}
+use Rattle.eos_folder.proofs.listing.Segments.add_all.Goals as goal
+
+pub loop-end-preserved : goal.loop-end-preserved
+loop-end-preserved g c =
+    let holds = g.D.Disk.holds c.args.disk.now in
+    let folder = c.args.folder.now in
+    let e = c.end-item.result in
+    let files = c.as_slice.result.now in
+    let found = subst (λ (fs : List FileName). IsFound holds (path_of_end folder e) fs) (sym c.as_slice.ensures.value) c.in_ok-files.ensures in
+    let added = c.in_ok-add_files.ensures in
+    named_next holds folder c.args.ends.now c.loop-end.end-index e c.loop-end.self.names.items c.add_files.new.self.names.items c.loop-end.self.forms.items c.add_files.new.self.forms.items files
+    c.loop-end-test.true c.end-item.is c.loop-end.invariant (found_listed holds folder e files found added.apart) added.names added.forms

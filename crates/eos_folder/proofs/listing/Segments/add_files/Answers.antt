@@ -1,0 +1,18 @@
+use Rattle.std.proofs.Common.{arith}
+use Rattle.eos_folder.specs.Shapes.{segment_of}
+use Rattle.eos_folder.proofs.FilesInOrder.{apart_all, apart_next}
+use Rattle.eos_folder.proofs.FilesMore.{one_more}
+use Rattle.eos_folder.proofs.listing.Segments.add_files.Goals as goal
+
+pub loop-i-preserved : goal.loop-i-preserved
+loop-i-preserved c =
+    let so_far = c.loop-i.invariant in
+    let added = c.in_ok-add.ensures in
+    record {
+      names = one_more (segment_of c.args.end.now) c.args.files.now c.loop-i.i c.args.self.now.names.items c.loop-i.self.names.items c.add.new.self.names.items so_far.names added.names;
+      forms = one_more (λ f. f.form) c.args.files.now c.loop-i.i c.args.self.now.forms.items c.loop-i.self.forms.items c.add.new.self.forms.items so_far.forms added.forms;
+      apart = apart_next c.args.files.now c.loop-i.i so_far.apart added.apart;
+    }
+
+pub returns-clause-apart : goal.returns-clause-apart
+returns-clause-apart c = apart_all c.args.files.now (λ k lt. c.loop-i.invariant.apart k (omega (arith, lt, c.loop-i-test.false)))

@@ -1,0 +1,37 @@
+-- The listing of a folder step by step: the names of a partition's folder, the files that they say, the segments of all partitions.
+use Rattle.std.specs.Prelude.{◌≡◌, ◌≢◌, ℕ, List, [], ◌∷◌, ◌++◌, map, ⊤}
+use Rattle.eos_disk.specs.Entries.{Entry}
+use Rattle.eos_evidence.specs.declared.ends.End.{End}
+use Rattle.eos_evidence.specs.declared.partition.Partition.{Partition}
+use Rattle.eos_evidence.specs.declared.segment.Segment.{Segment}
+use Rattle.eos_evidence.specs.Evidence.{with_segment, empty_partition}
+use Rattle.eos_folder.specs.declared.names.FileName.{FileName}
+use Rattle.eos_folder.specs.declared.names.Form.{Form}
+use Rattle.eos_folder.specs.Shapes.{IsListed, segment_of}
+
+-- the next file, if there is one, is of another base
+abbrev pub IsApart : List FileName → Type 0
+IsApart [] = ⊤
+IsApart (f ∷ []) = ⊤
+IsApart (f ∷ g ∷ fs) = f.base ≢ g.base
+
+-- each file is of another base than the next
+abbrev pub AreApart : List FileName → Type 0
+AreApart [] = ⊤
+AreApart (f ∷ fs) = IsApart (f ∷ fs) × AreApart fs
+
+-- the segments of these ends, one partition after the other, and their forms
+abbrev pub AreNamed : (List ℕ → Entry) → List ℕ → List End → List Segment → List Form → Type 0
+AreNamed holds folder [] names forms = (names ≡ []) × (forms ≡ [])
+AreNamed holds folder (e ∷ es) names forms =
+    (files : List FileName) × (later : List Segment) × (rest : List Form) × IsListed holds folder e files × (names ≡ map (segment_of e) files ++ later)
+    × (forms ≡ map (λ f. f.form) files ++ rest) × AreNamed holds folder es later rest
+
+-- a partition with these segments more, one after the other
+abbrev pub grown : Partition → List Segment → Partition
+grown p [] = p
+grown p (s ∷ ss) = grown (with_segment s p) ss
+
+-- for each end its partition with those of these segments that are its own
+abbrev pub partitions_with : List Segment → List End → List Partition
+partitions_with segments = map (λ e. grown (empty_partition e) segments)

@@ -1,0 +1,3 @@
+pub mod Saying
+pub mod SameShape
+pub mod OneEvidence

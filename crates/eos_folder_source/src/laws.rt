@@ -1,0 +1,23 @@
+//! What stands in a folder whose files are known. These functions do nothing; their contracts are theorems.
+
+ghost use Rattle.std.specs.Prelude.{◌≡◌, ◌<◌, ℕ, List, length, true};
+ghost use Rattle.eos_disk.specs.Entries.{Entry};
+ghost use Rattle.eos_evidence.specs.Evidence.{EvidenceParts, segments_of};
+ghost use Rattle.eos_folder.specs.Shapes.{AreKnown};
+ghost use Rattle.eos_folder.specs.declared.names.Form.{Form};
+ghost use Rattle.eos_folder_source.specs.Logs.{is_log_at};
+ghost use Rattle.eos_folder_source.specs.Saying.{known_at, StandsAs, StandsAt};
+ghost use Rattle.eos_source.specs.Logs.{AreKeptLogs, AreLogsKept};
+ghost use Rattle.eos_source.specs.declared.logs.KeptLogs.{KeptLogs};
+
+/// What is kept of the logs of a folder is what is kept of those of the evidence whose segments are what their files say.
+pub fn kept()
+    ensures { (holds : List ℕ → Entry) (folder : List ℕ) (shape evidence : EvidenceParts) (forms : List Form) (logs : KeptLogs)
+        → StandsAs holds folder forms shape evidence → AreKeptLogs (known_at holds folder (segments_of shape.partitions) forms) shape logs → AreLogsKept logs evidence }
+{}
+
+/// Where it is known what stands below a folder and all of its segments stand there as logs, one evidence does.
+pub fn one_evidence()
+    ensures { (holds : List ℕ → Entry) (folder : List ℕ) (evidence other : EvidenceParts) → AreKnown holds folder → (at : StandsAt holds folder evidence)
+        → ((piece : ℕ) → piece < length (segments_of at.shape.partitions) → is_log_at at.forms piece ≡ true) → StandsAt holds folder other → evidence ≡ other }
+{}

@@ -1,0 +1,47 @@
+use Rattle.std.proofs.Common.{◌≡◌, ◌<◌, sym, subst, ap, ◌∙◌, arith, rules}
+use Rattle.std.proofs.lemmas.Bool.{false≢true}
+use Rattle.std.proofs.lemmas.Grind.{common_steps}
+use Rattle.std.specs.Prelude.{All}
+use Rattle.eos_evidence.specs.Evidence.{segments_of}
+use Rattle.eos_source.specs.Said.{known_by}
+use Rattle.eos_source.specs.steps.Seats.{IsReading, numbers_in}
+use Rattle.eos_source.proofs.PiecesDrawn.{all_last}
+use Rattle.eos_source.proofs.seats.read_drawn.Goals as goal
+
+pub loop-preserved : goal.loop-preserved
+loop-preserved g c =
+    let Is = IsReading (known_by (g.S.Source.said c.args.plan.now.source.now) (g.S.Source.is_log c.args.plan.now.source.now)) (g.S.Source.outcomes c.args.plan.now.source.now) c.args.plan.now.topics.now c.args.plan.now.shape.now.spec.apps (segments_of c.args.plan.now.shape.now.partitions) in
+    let before = subst (λ xs. All Is xs) (sym c.reserve.ensures.items) c.loop.invariant.3 in
+    let each = subst (λ xs. All Is xs) (sym c.push_reserved.ensures.items) (all_last Is c.reserve.new.self.items _ before (λ name at. c.read-run.ensures name at)) in
+    let some = c.in-Some.ensures.some in
+    let there = subst (λ ds. All (λ n. n < c.args.tickets.now.count) ds) (sym some.1) (all_last (λ n. n < c.args.tickets.now.count) c.loop.seat.drawn _ c.loop.invariant.4 some.0) in
+    (search rules, search rules, grind (arith, common_steps), each, there, search rules, omega (arith, c.reserve.ensures.capacity, c.push_reserved.ensures.capacity, c.loop.invariant.6))
+
+-- no place for a further reading, behind at least one
+pub returns-in-Err : goal.returns-in-Err
+returns-in-Err g c =
+    let Is = IsReading (known_by (g.S.Source.said c.args.plan.now.source.now) (g.S.Source.is_log c.args.plan.now.source.now)) (g.S.Source.outcomes c.args.plan.now.source.now) c.args.plan.now.topics.now c.args.plan.now.shape.now.spec.apps (segments_of c.args.plan.now.shape.now.partitions) in
+    let same = c.reserve.ensures.items in
+    record {
+      made = c.loop.invariant.0;
+      numbers = ap numbers_in same ∙ c.loop.invariant.2;
+      each = subst (λ xs. All Is xs) (sym same) c.loop.invariant.3;
+      there = c.loop.invariant.4;
+      ended = tt;
+      refused = (omega (arith, c.in-Err.ensures.full, c.reserve.ensures.len, c.loop.invariant.6), omega (arith, c.in-Err.ensures.full, c.in-Err.ensures.err, c.reserve.ensures.len));
+    }
+
+-- none is left
+pub returns-in_default-draw : goal.returns-in_default-draw
+returns-in_default-draw g c =
+    let Is = IsReading (known_by (g.S.Source.said c.args.plan.now.source.now) (g.S.Source.is_log c.args.plan.now.source.now)) (g.S.Source.outcomes c.args.plan.now.source.now) c.args.plan.now.topics.now c.args.plan.now.shape.now.spec.apps (segments_of c.args.plan.now.shape.now.partitions) in
+    let same = c.reserve.ensures.items in
+    let none = c.in_default-draw.ensures.none in
+    record {
+      made = c.draw.ensures.of;
+      numbers = ap numbers_in same ∙ (c.loop.invariant.2 ∙ sym none.0);
+      each = subst (λ xs. All Is xs) (sym same) c.loop.invariant.3;
+      there = subst (λ ds. All (λ n. n < c.args.tickets.now.count) ds) (sym none.0) c.loop.invariant.4;
+      ended = λ left. absurd (false≢true (sym left ∙ none.1));
+      refused = tt;
+    }

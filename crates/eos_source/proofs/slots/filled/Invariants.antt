@@ -1,0 +1,11 @@
+use Rattle.std.proofs.Common.{◌≡◌, map, Some}
+use Rattle.std.specs.Prelude.{All, IsSome}
+use Rattle.std.specs.Vec.Iter.{into_iter_items}
+use Rattle.eos_source.proofs.slots.filled.Given as goal
+
+abbrev pub invariant-loop-slot : goal.invariant-loop-slot
+invariant-loop-slot g l =
+    (goal.iterator-loop-slot g).can_next l.slot-iterator
+    × (goal.iterator-loop-slot g).is_finite l.slot-iterator
+    × All IsSome (into_iter_items l.slot-iterator)
+    × (map Some l.runs.items ≡ l.yielded)
