@@ -3,7 +3,7 @@ _eoscheck() {
   local word=${COMP_WORDS[COMP_CWORD]} before=${COMP_WORDS[COMP_CWORD - 1]}
   COMPREPLY=()
   if [ "$COMP_CWORD" -eq 1 ]; then
-    mapfile -t COMPREPLY < <(compgen -W 'check dump chain explain draw init fold simulate help -h --help -V --version' -- "$word")
+    mapfile -t COMPREPLY < <(compgen -W 'check dump chain explain draw init coordinator fold simulate help -h --help -V --version' -- "$word")
     return
   fi
   case ${COMP_WORDS[1]} in
@@ -84,6 +84,16 @@ _eoscheck() {
     case $word in
     -*) mapfile -t COMPREPLY < <(compgen -W '--version1 --app --ends --ends-from-logs -h --help' -- "$word") ;;
     *) mapfile -t COMPREPLY < <(compgen -d -- "$word") ;;
+    esac ;;
+  coordinator)
+    case $before in
+    --partitions)
+      mapfile -t COMPREPLY < <(compgen -W '' -- "$word")
+      return ;;
+    esac
+    case $word in
+    -*) mapfile -t COMPREPLY < <(compgen -W '--partitions -h --help' -- "$word") ;;
+    *) mapfile -t COMPREPLY < <(compgen -W '' -- "$word") ;;
     esac ;;
   fold)
     case $before in

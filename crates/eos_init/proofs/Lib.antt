@@ -1,4 +1,6 @@
 pub mod ItemsOfWords
+pub mod JavaHashes
 pub mod PlainNumbers
 pub mod SegmentFronts
 pub mod TextPieces
+pub mod TopicCounts

@@ -1,4 +1,5 @@
 pub mod AppWords
+pub mod Coordinators
 pub mod Divided
 pub mod Front
 pub mod Head

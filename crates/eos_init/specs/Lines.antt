@@ -1,6 +1,6 @@
 -- What names a partition, and where it ends: the lines TOPIC:PARTITION:OFFSET that `kafka-get-offsets.sh` prints, and the
 -- names TOPIC-N of the folders of Kafka's logs.
-use Rattle.std.specs.Prelude.{ℕ, ◌+◌, ◌^◌, ℤ, pos, List, [], ◌∷◌, Option, None, Some, option_map, option_and_then, Result, Ok, Err, if◌then◌else◌}
+use Rattle.std.specs.Prelude.{ℕ, ◌+◌, ◌-◌, ◌^◌, ◌&&◌, ◌==◌, nat_lt, ℤ, pos, Bool, List, [], ◌∷◌, length, take, slice_index, Option, None, Some, option_map, option_and_then, Result, Ok, Err, if◌then◌else◌}
 use Rattle.eos_evidence.specs.declared.ends.End.{End}
 use Rattle.eos_evidence.specs.Topics.{is_topic}
 use Rattle.eos_init.specs.Divided.{last_split, lines_of}
@@ -16,9 +16,19 @@ end_at offset place =
     option_and_then (λ p. option_map (λ n. record { topic = p.0; partition = p.1; end = pos n }) (number_below (2 ^ 63) offset)) place
 
 -- a topic, a number and an offset between colons
+abbrev pub end_between : List ℕ → Option End
+end_between text =
+    option_and_then (λ outer. option_and_then (λ inner. end_at outer.1 (place_in inner.0 inner.1)) (last_split 58 outer.0)) (last_split 58 text)
+
+-- a line that Windows wrote ends in a carriage return before its line feed
+abbrev pub ends_in_return : List ℕ → Bool
+ends_in_return line = nat_lt 0 (length line) && slice_index line (length line - 1) == 13
+
+abbrev pub without_return : List ℕ → List ℕ
+without_return line = if ends_in_return line then take (length line - 1) line else line
+
 abbrev pub end_in_line : List ℕ → Option End
-end_in_line line =
-    option_and_then (λ outer. option_and_then (λ inner. end_at outer.1 (place_in inner.0 inner.1)) (last_split 58 outer.0)) (last_split 58 line)
+end_in_line line = end_between (without_return line)
 
 -- one more end at the front
 abbrev pub with_end : End → Result (List End) ℕ → Result (List End) ℕ

@@ -3,6 +3,7 @@
 #![tactic(auto)]
 
 mod app_word;
+mod coordinator;
 mod divided;
 mod folder_name;
 mod front;
@@ -14,6 +15,7 @@ mod offset_line;
 mod topic_name;
 
 pub use app_word::read_app_word;
+pub use coordinator::{coordinator_lines, coordinator_of, partitions_of};
 pub use folder_name::read_folder_name;
 pub use front::front_end;
 pub use head::is_compressed_at_head;

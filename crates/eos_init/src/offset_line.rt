@@ -1,7 +1,7 @@
 //! The lines that `kafka-get-offsets.sh` prints, TOPIC:PARTITION:OFFSET.
 
 ghost use Rattle.std.specs.Prelude.{◌≡◌, ℕ, Ok, Err, IfOk, option_map};
-ghost use Rattle.eos_init.specs.Lines.{end_in_line, ends_said_by};
+ghost use Rattle.eos_init.specs.Lines.{end_between, end_in_line, without_return, ends_said_by};
 ghost use Rattle.eos_init.specs.steps.Pieces.{end_of};
 ghost use Rattle.eos_init.specs.declared.offset_line.EndsFault.TheVariants.{OutOfMemory};
 
@@ -64,7 +64,7 @@ pub fn read_ends(alloc: Global, text: &[u8]) -> Result<Vec<End>, EndsFault>
 fn read_line(alloc: Global, line: &[u8]) -> Result<Option<End>, AllocError>
     ensures { IfOk result (λ end. end ≡ end_in_line line.now) }
 {
-    let Some((topic, partition, end)) = parts_of_line(line) else {
+    let Some((topic, partition, end)) = parts_of_line(without_return(line)) else {
         return Ok(None);
     };
     let topic = Bytes::copy_from_slice(alloc, topic)?;
@@ -75,8 +75,18 @@ fn read_line(alloc: Global, line: &[u8]) -> Result<Option<End>, AllocError>
     }))
 }
 
+/// A line without the carriage return that it ends in, if it does.
+fn without_return(line: &[u8]) -> &[u8]
+    ensures { result.now ≡ without_return line.now }
+{
+    if line.is_empty() || line[line.len() - 1] != b'\r' {
+        return line;
+    }
+    &line[..line.len() - 1]
+}
+
 fn parts_of_line(line: &[u8]) -> Option<(&[u8], i32, i64)>
-    ensures { option_map (λ r. end_of r.0.now r.1 r.2) result ≡ end_in_line line.now }
+    ensures { option_map (λ r. end_of r.0.now r.1 r.2) result ≡ end_between line.now }
 {
     let (place, offset) = split_at_last(line, b':')?;
     let (topic, partition) = split_at_last(place, b':')?;
