@@ -1,11 +1,12 @@
-"""What stands behind *good*: the definitions that `Good` reaches, followed by their names from file to file.
+"""What stands behind *good*, and behind a folder's yes: the definitions that `Good` reaches, and those that the clauses of
+`check_folder_to` reach, followed by their names from file to file.
 
     python3 -B tests/good_reaches.py [REVISION | --files]
 
 Prints how many definitions, files and lines they are; a line counts that is neither blank nor a comment. With a revision the
 same is counted there and said beside it, with --files the count of each file. It fails where *good* is said by what the checker
 does: the list of a partition's faults, the front of a log and why it ends, the decoder, a summary. docs/YES.md says how
-many they are at most. The last line is 'N passed, N failed'.
+many they are at most, of both. The last line is 'N passed, N failed'.
 """
 import collections
 import io
@@ -18,9 +19,18 @@ import tempfile
 
 from specs_steps import Definitions
 
-ROOT = ("eos_check.specs.Good", "Good")
+GOOD = [("eos_check.specs.Good", "Good")]
+# What the clauses of check_folder_to name.
+FOLDER = [
+    ("eos_checking.specs.Folders", "HoldsOf"),
+    ("eos_checking.specs.Folders", "IsToldOf"),
+    ("eos_checking.specs.Checking", "IsCheckAnswer"),
+    ("eos_folder.specs.Shapes", "AreKnown"),
+    ("eos_folder_source.specs.Saying", "StandsAt"),
+    ("eos_text.specs.Writing", "WritesFrontOf"),
+]
 PAGE = "docs/YES.md"
-SAID = re.compile(r"at most (\d+) definitions in (\d+) files, (\d+) lines")
+SAID = re.compile(r"at most ([\d,]+) definitions in ([\d,]+) files, ([\d,]+) lines")
 
 # By the module and the name; of a module without a name each definition counts.
 OF_THE_CHECKER = (
@@ -43,9 +53,9 @@ OF_THE_CHECKER = (
 )
 
 
-def reached(words):
-    """All that is named on the way from the root: definitions, and types of the code."""
-    found, waiting = set(), [ROOT]
+def reached(words, roots):
+    """All that is named on the way from the roots: definitions, and types of the code."""
+    found, waiting = set(), list(roots)
     while waiting:
         key = waiting.pop()
         if key not in found:
@@ -57,9 +67,12 @@ def reached(words):
 class Counts:
     """The definitions of the tree that is the working directory."""
 
-    def __init__(self):
+    def __init__(self, roots):
         definitions = Definitions()
-        self.names = reached(definitions.words)
+        lacking = [root for root in roots if root not in definitions.words]
+        if lacking:
+            sys.exit(f"no definition has the name {'.'.join(lacking[0])}")
+        self.names = reached(definitions.words, roots)
         own = [key for key in self.names if key in definitions.words]
         self.files = collections.Counter()
         for key in own:
@@ -78,13 +91,13 @@ def counts_at(revision):
         tree.extractall(folder, filter="data")
         os.chdir(folder)
         try:
-            return Counts()
+            return Counts(GOOD)
         finally:
             os.chdir(here)
 
 
 def main(arguments):
-    now = Counts()
+    now, folder = Counts(GOOD), Counts(FOLDER)
     if arguments == ["--files"]:
         for path, lines in now.files.most_common():
             print(f"{lines:5} {path}")
@@ -93,19 +106,20 @@ def main(arguments):
         print(f"{arguments[0]}: {before}")
         less = before.sums[3] - now.sums[3]
         print(f"{less} lines fewer, {100 * less / before.sums[3]:.1f} of a hundred")
-    print(now)
+    print(f"good: {now}\na folder's yes: {folder}")
     failed = 0
     for module, name in OF_THE_CHECKER:
         for key in sorted(key for key in now.names if key[0] == module and name in (None, key[1])):
             print(f"{'.'.join(key)}: good is said by what the checker does")
             failed += 1
     with open(PAGE, encoding="utf-8") as file:
-        said = SAID.search(file.read().replace("\n", " "))
-    definitions, files, _, lines = now.sums
-    if not said or any(most < it for most, it in zip(map(int, said.groups()), (definitions, files, lines))):
-        print(f"{PAGE} says {said[0] if said else 'no counts'}")
-        failed += 1
-    checks = len(OF_THE_CHECKER) + 1
+        said = [[int(it.replace(",", "")) for it in found] for found in SAID.findall(file.read().replace("\n", " "))]
+    for counts, most in zip((now, folder), [*said, None, None]):
+        definitions, files, _, lines = counts.sums
+        if not most or any(bound < it for bound, it in zip(most, (definitions, files, lines))):
+            print(f"{PAGE} says {most or 'no counts'}, and there are {counts}")
+            failed += 1
+    checks = len(OF_THE_CHECKER) + 2
     print(f"{max(checks - failed, 0)} passed, {failed} failed")
     return 1 if failed or now.sums[0] < 100 else 0
 
