@@ -3,8 +3,12 @@
 ghost use Rattle.std.specs.Prelude.{◌≡◌};
 ghost use Rattle.eos_disk.specs.declared.fault.DiskFault.TheVariants.{OutOfMemory};
 
+use bytes::Bytes;
 use std::alloc::{AllocError, AllocFailed, Global};
 use std::io::{Error, ErrorKind};
+
+/// From how many bytes on a path is too long for the system, whatever its parts are.
+const LONG_PATH: usize = 4096;
 
 /// Why a file or a folder isn't read.
 #[derive(Drop)]
@@ -59,6 +63,30 @@ impl DiskFault {
             },
         }
     }
+
+    /// What an error at the listing of this path says: that nothing is there only where no link is there either, or where the name is
+    /// too long for the file system.
+    pub(crate) fn of_listing(alloc: Global, path: &str, e: &Error, is_absent: bool) -> DiskFault {
+        match e.kind() {
+            ErrorKind::NotFound if !is_absent => DiskFault::Dangling,
+            ErrorKind::InvalidFilename if path.len() < LONG_PATH => DiskFault::NotThere,
+            _ => DiskFault::of_error(alloc, e),
+        }
+    }
+}
+
+/// Adds a name that the system lists. One that isn't UTF-8 is an error of its own, and left out.
+pub(crate) fn push_listed(
+    alloc: Global,
+    names: &mut Vec<Bytes>,
+    name: Result<&str, &Error>,
+) -> Result<(), DiskFault> {
+    match name {
+        Ok(name) => names.push(Bytes::copy_from_slice(alloc, name.as_bytes())?)?,
+        Err(e) if e.kind() == ErrorKind::InvalidFilename => {}
+        Err(e) => return Err(DiskFault::of_error(alloc, e)),
+    }
+    Ok(())
 }
 
 /// What the kind of an error says, or the error itself where its kind says nothing.

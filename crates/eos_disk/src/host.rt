@@ -1,17 +1,15 @@
-//! The disk of the system: with the code that writes, all that names the kit's files. No contract says what stands on it, so each call
-//! is trusted for what its words here say.
+//! The disk of the system: all that names the kit's files. No contract says what stands on it, so each call is trusted for what its words
+//! here say, and its clauses say nothing of a disk of which nothing is known.
 
+use crate::change::{ChangeFault, DiskMut};
 use crate::disk::Disk;
-use crate::fault::DiskFault;
+use crate::fault::{DiskFault, push_listed};
 use bytes::Bytes;
 use std::alloc::Global;
 use std::fs;
-use std::fs::File;
-use std::io::{Error, ErrorKind};
-use std::os::unix::fs::FileTypeExt;
-
-/// From how many bytes on a path is too long for the system, whatever its parts are.
-const LONG_PATH: usize = 4096;
+use std::fs::{File, TryLockError};
+use std::io::{ErrorKind, Write};
+use std::os::unix::fs::{FileTypeExt, MetadataExt};
 
 /// The system's files, of which nothing is known. Trusted: that they stand still while they are read.
 #[derive(Drop)]
@@ -20,24 +18,18 @@ pub struct HostDisk<'a> {
 }
 
 impl<'a> HostDisk<'a> {
-    /// Whether to open this path would wait for somebody who writes. What lies in `/dev` was opened by who named it.
-    fn is_pipe(&self, path: &str) -> bool {
-        match fs::metadata(self.rt, path) {
-            Ok(about) => about.file_type().is_fifo() && !path.starts_with("/dev/"),
-            Err(_) => false,
-        }
+    /// Trusted: nothing stands at this path, no link either. Where the system doesn't tell, something may.
+    fn is_absent(&self, path: &str) -> bool {
+        fs::symlink_metadata(self.rt, path).is_err_and(|e| e.kind() == ErrorKind::NotFound)
     }
 
-    /// What an error at the listing of this path says: that nothing is there only where no link is there either, or where the name is
-    /// too long for the file system.
-    fn unlisted(&self, alloc: Global, path: &str, e: &Error) -> DiskFault {
-        match e.kind() {
-            ErrorKind::NotFound => match fs::symlink_metadata(self.rt, path) {
-                Err(e) if e.kind() == ErrorKind::NotFound => DiskFault::NotThere,
-                _ => DiskFault::Dangling,
-            },
-            ErrorKind::InvalidFilename if path.len() < LONG_PATH => DiskFault::NotThere,
-            _ => DiskFault::of_error(alloc, e),
+    /// Locks an open file, and says whether it is the one that stands at this path, and no other run has locked it. Trusted: a run that
+    /// ends, however it ends, has locked nothing any more.
+    fn holds_at(&self, path: &str, file: &File) -> bool {
+        let is_free = !matches!(file.try_lock(), Err(TryLockError::WouldBlock));
+        match (fs::symlink_metadata(self.rt, path), file.metadata()) {
+            (Ok(there), Ok(own)) => is_free && there.ino() == own.ino(),
+            _ => false,
         }
     }
 }
@@ -49,9 +41,11 @@ impl<'a> Disk for HostDisk<'a> {
 
     ghost holds = { λ disk path. Unknown };
 
-    /// Trusted: what the reader gives are the bytes of the file of this path, and after the last the end.
+    /// Trusted: what the reader gives are the bytes of the file of this path, and after the last the end. A pipe, whose opening would wait
+    /// for somebody who writes, is refused; what lies in `/dev` was opened by who named it.
     fn open(&self, alloc: Global, path: &str) -> Result<File, DiskFault> {
-        if self.is_pipe(path) {
+        let is_pipe = fs::metadata(self.rt, path).is_ok_and(|about| about.file_type().is_fifo());
+        if is_pipe && !path.starts_with("/dev/") {
             return Err(DiskFault::IsPipe);
         }
         File::open(self.rt, path).map_err(|e| DiskFault::of_error(alloc, &e))
@@ -60,16 +54,74 @@ impl<'a> Disk for HostDisk<'a> {
     /// Trusted: these are all names in the folder of this path, each once.
     fn list(&self, alloc: Global, path: &str) -> Result<Vec<Bytes>, DiskFault> {
         let mut names = Vec::new(alloc);
-        for entry in fs::read_dir(self.rt, path).map_err(|e| self.unlisted(alloc, path, &e))? {
-            match entry {
-                Ok(entry) => names.push(Bytes::copy_from_slice(
-                    alloc,
-                    entry.file_name().as_bytes(),
-                )?)?,
-                Err(e) if e.kind() == ErrorKind::InvalidFilename => {}
-                Err(e) => return Err(DiskFault::of_error(alloc, &e)),
-            }
+        let folder = fs::read_dir(self.rt, path);
+        let told = |e| DiskFault::of_listing(alloc, path, &e, self.is_absent(path));
+        for entry in folder.map_err(told)? {
+            push_listed(alloc, &mut names, entry.as_ref().map(|it| it.file_name()))?;
         }
         Ok(names)
+    }
+}
+
+#[tactic(auto, using(crate::proofs::Unknown::made, crate::proofs::Unknown::made_to, crate::proofs::Unknown::all_made, crate::proofs::Unknown::put, crate::proofs::Unknown::part, crate::proofs::Unknown::moved, crate::proofs::Unknown::removed, crate::proofs::Unknown::same))]
+impl<'a> DiskMut for HostDisk<'a> {
+    type Held = File;
+
+    /// Trusted: something stands at this path, if only a link.
+    fn stands(&self, path: &str) -> bool {
+        fs::symlink_metadata(self.rt, path).is_ok()
+    }
+
+    /// Trusted: a folder is there, and nothing was.
+    fn make_folder(&mut self, _: Global, path: &str) -> Result<(), ChangeFault> {
+        Ok(fs::create_dir(self.rt, path)?)
+    }
+
+    /// Trusted: a folder is there, and those that lead to it.
+    fn make_folders(&mut self, _: Global, path: &str) -> Result<(), ChangeFault> {
+        Ok(fs::create_dir_all(self.rt, path)?)
+    }
+
+    /// Trusted: all bytes are handed to the system, and what it refuses is told; but at the closing nothing is. What can't be written is taken away.
+    fn write_new(&mut self, _: Global, path: &str, bytes: &[u8]) -> Result<File, ChangeFault> {
+        let mut file = File::create_new(self.rt, path)?;
+        if !self.holds_at(path, &file) {
+            return Err(ChangeFault::ThereAlready);
+        }
+        let written = file.write_all(bytes);
+        if written.is_err() {
+            let _ = fs::remove_file(self.rt, path);
+        }
+        Ok(written.map(|()| file)?)
+    }
+
+    /// Trusted: nothing is written over where the files' system knows second names. Where it doesn't the file is renamed.
+    fn publish(&mut self, _: Global, from: &str, to: &str) -> Result<(), ChangeFault> {
+        match fs::hard_link(self.rt, from, to) {
+            Ok(()) => {
+                let _ = fs::remove_file(self.rt, from);
+                Ok(())
+            }
+            Err(_) if self.stands(to) => Err(ChangeFault::ThereAlready),
+            Err(_) => Ok(fs::rename(self.rt, from, to)?),
+        }
+    }
+
+    /// Trusted: the file, or the link, of this path is gone.
+    fn remove(&mut self, _: Global, path: &str) -> Result<(), ChangeFault> {
+        Ok(fs::remove_file(self.rt, path)?)
+    }
+
+    /// Trusted: a file that another run has locked stays.
+    fn remove_stale(&mut self, alloc: Global, path: &str) -> Result<(), ChangeFault> {
+        match self.open(alloc, path) {
+            Ok(file) if self.holds_at(path, &file) => Ok(fs::remove_file(self.rt, path)?),
+            _ => Err(ChangeFault::ThereAlready),
+        }
+    }
+
+    /// Trusted: the folder of this path is gone, and held nothing.
+    fn remove_folder(&mut self, _: Global, path: &str) -> Result<(), ChangeFault> {
+        Ok(fs::remove_dir(self.rt, path)?)
     }
 }

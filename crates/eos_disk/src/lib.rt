@@ -6,7 +6,6 @@ mod change;
 mod disk;
 mod fault;
 mod host;
-mod host_changes;
 mod memory;
 mod memory_changes;
 mod putting;

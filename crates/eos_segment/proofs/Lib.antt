@@ -1,4 +1,5 @@
 pub mod AskedRecords
+pub mod Files
 pub mod Listings
 pub mod PlainListings
 pub mod Runs

@@ -2,6 +2,7 @@ pub mod Answer
 pub mod Choosing
 pub mod Details
 pub mod Faults
+pub mod Files
 pub mod HeaderLines
 pub mod Lines
 pub mod Listing
