@@ -7,6 +7,7 @@ mod ManifestRead
 mod NamedMore
 pub mod OneShape
 mod PartitionsGrown
+pub mod ReadWhole
 mod ShapeRead
 pub mod WholeFiles
 mod WrittenMore

@@ -4,11 +4,14 @@ ghost use Rattle.std.specs.Prelude.{◌≡◌, ℕ, List, map, Ok, IfOk, IfErr, 
 ghost use Rattle.eos_disk.specs.Entries.{HasBytes};
 ghost use Rattle.eos_evidence.specs.Evidence.{IsEvidence, with_segment};
 ghost use Rattle.eos_evidence.specs.Manifest.{spec_said_by};
-ghost use Rattle.eos_folder.specs.Paths.{manifest_path};
+ghost use Rattle.eos_folder.specs.Paths.{manifest_path, segment_path};
+ghost use Rattle.eos_folder.specs.Reading.{IsReadWhole, name_of};
 ghost use Rattle.eos_folder.specs.Refusals.{RefusesManifest};
 ghost use Rattle.eos_folder.specs.Shapes.{IsShapeAt};
-ghost use Rattle.eos_folder.specs.steps.Listing.{AreNamed, partitions_with};
+ghost use Rattle.eos_folder.specs.steps.Filling.{IsFileRead, AreFilled, IsFilledBy};
+ghost use Rattle.eos_folder.specs.steps.Listing.{AreNamed, AreLogsNamed, partitions_with};
 ghost use Rattle.eos_folder.specs.declared.folder.FolderFault.TheVariants.{OutOfMemory};
+ghost use Rattle.eos_folder.specs.declared.names.Form.TheVariants.{Log};
 
 use crate::cause::Cause;
 use crate::files::{open_segment, read_file};
@@ -137,29 +140,30 @@ pub fn read_folder<D: Disk, W: Watch>(
     disk: &D,
     folder: &str,
     asked: Reading<'_, W>,
-) -> Result<Evidence, FolderFault> {
+) -> Result<Evidence, FolderFault>
+    ensures { IfOk result (IsReadWhole (D.holds disk.now) folder.now) }
+{
     let Reading { workers, watch } = asked;
     let mut listed = Ok(());
-    let evidence = match list_logs(alloc, disk, folder, watch, &mut listed) {
-        Ok((spec, mut files)) => {
-            thread::for_each_mut(
-                threads,
-                files.as_mut_slice(),
-                workers.get() as usize,
-                &|_, file: &mut SegmentFile| { file.read(alloc, disk, folder, watch) },
-            );
-            evidence_of_files(alloc, spec, files)
-        }
-        Err(fault) => Err(fault),
-    };
-    first_refusal(evidence, listed)
+    let (spec, mut files) = list_logs(alloc, disk, folder, watch, &mut listed)?;
+    thread::for_each_mut(
+        threads,
+        files.as_mut_slice(),
+        workers.get() as usize,
+        &|_, file: &mut SegmentFile|
+            ensures { IsFileRead (D.holds disk.entry.now) folder.entry.now file.old file.new }
+        { file.read(alloc, disk, folder, watch) },
+    );
+    first_refusal(evidence_of_files(alloc, spec, files), listed)
 }
 
 /// What refuses a segment comes before what refused to list more of them.
 fn first_refusal(
     evidence: Result<Evidence, FolderFault>,
     listed: Result<(), FolderFault>,
-) -> Result<Evidence, FolderFault> {
+) -> Result<Evidence, FolderFault>
+    ensures { IfOk result (λ e. (evidence ≡ Ok e) × (listed ≡ Ok tt)) }
+{
     let evidence = evidence?;
     listed?;
     Ok(evidence)
@@ -172,10 +176,14 @@ fn list_logs<D: Disk, W: Watch>(
     folder: &str,
     watch: &W,
     listed: &mut Result<(), FolderFault>,
-) -> Result<(Spec, Vec<SegmentFile>), FolderFault> {
+) -> Result<(Spec, Vec<SegmentFile>), FolderFault>
+    ensures says { IfOk result (λ logs. (text : List ℕ) × HasBytes (D.holds disk.now (manifest_path folder.now)) text × (spec_said_by text ≡ Ok logs.0)) }
+    ensures named { IfOk result (λ logs. listed.new ≡ Ok tt → AreLogsNamed (D.holds disk.now) folder.now logs.0.ends (map (λ f. f.name) logs.1.items)) }
+{
     let Listing { spec, segments } = list_folder(alloc, disk, folder, watch, listed)?;
-    if let Some(name) = segments.first_fold() {
-        return Err(refused_fold(alloc, folder, name, NO_RECORDS));
+    match segments.first_fold() {
+        Some(name) => return Err(refused_fold(alloc, folder, name, NO_RECORDS)),
+        None => {}
     }
     let files = unread_files(alloc, segments.names)?;
     Ok((spec, files))
@@ -251,7 +259,9 @@ fn add(builder: &mut EvidenceBuilder, segment: Segment) -> Result<(), FolderFaul
 // ---- what is in them
 
 /// The files of these names, of which none is read yet.
-fn unread_files(alloc: Global, names: Vec<Segment>) -> Result<Vec<SegmentFile>, AllocError> {
+fn unread_files(alloc: Global, names: Vec<Segment>) -> Result<Vec<SegmentFile>, AllocError>
+    ensures { IfOk result (λ files. map (λ f. f.name) files.items ≡ names.items) }
+{
     let mut files = Vec::new(alloc);
     for name in names {
         files.push(SegmentFile {
@@ -264,7 +274,9 @@ fn unread_files(alloc: Global, names: Vec<Segment>) -> Result<Vec<SegmentFile>, 
 
 impl SegmentFile {
     /// Reads the file, and says so.
-    fn read<D: Disk, W: Watch>(&mut self, alloc: Global, disk: &D, folder: &str, watch: &W) {
+    fn read<D: Disk, W: Watch>(&mut self, alloc: Global, disk: &D, folder: &str, watch: &W)
+        ensures { IsFileRead (D.holds disk.now) folder.now self.old self.new }
+    {
         self.bytes = bytes_of(alloc, disk, folder, &self.name);
         if let Ok(bytes) = &self.bytes {
             watch.read(bytes.len() as u64);
@@ -272,7 +284,9 @@ impl SegmentFile {
     }
 
     /// The segment with what was read of it.
-    fn into_segment(self) -> Result<Segment, FolderFault> {
+    fn into_segment(self) -> Result<Segment, FolderFault>
+        ensures { IfOk result (λ segment. (name_of segment ≡ name_of self.name) × (Ok segment.bytes ≡ self.bytes)) }
+    {
         let SegmentFile { name, bytes } = self;
         match bytes {
             Ok(bytes) => Ok(Segment {
@@ -291,7 +305,9 @@ fn bytes_of<D: Disk>(
     disk: &D,
     folder: &str,
     name: &Segment,
-) -> Result<Bytes, FolderFault> {
+) -> Result<Bytes, FolderFault>
+    ensures { IfOk result (HasBytes (D.holds disk.now (segment_path folder.now name.now Log))) }
+{
     open_segment(alloc, disk, folder, name, Form::Log)?.read_whole(alloc)
 }
 
@@ -300,10 +316,20 @@ fn evidence_of_files(
     alloc: Global,
     spec: Spec,
     files: Vec<SegmentFile>,
-) -> Result<Evidence, FolderFault> {
-    let mut builder = EvidenceBuilder::new(alloc, spec)?;
+) -> Result<Evidence, FolderFault>
+    ensures filled { IfOk result (IsFilledBy spec files.items) }
+    ensures evidence { IfOk result IsEvidence }
+{
+    let segments = segments_of_files(alloc, files)?;
+    evidence_of(alloc, spec, segments)
+}
+
+fn segments_of_files(alloc: Global, files: Vec<SegmentFile>) -> Result<Vec<Segment>, FolderFault>
+    ensures { IfOk result (λ segments. AreFilled files.items segments.items) }
+{
+    let mut segments = Vec::new(alloc);
     for file in files {
-        add(&mut builder, file.into_segment()?)?;
+        segments.push(file.into_segment()?)?;
     }
-    Ok(builder.finish())
+    Ok(segments)
 }

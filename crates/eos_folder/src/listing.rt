@@ -1,7 +1,8 @@
 //! Which segments a folder has, by the names of the files in it.
 
-ghost use Rattle.std.specs.Prelude.{◌≡◌, ◌++◌, [], map, take, IfOk, IfErr, OnOk, IsPermutation, IsSorted, string_bytes};
+ghost use Rattle.std.specs.Prelude.{◌≡◌, ◌++◌, [], length, map, take, None, IfOk, IfErr, OnOk, IsPermutation, IsSorted, string_bytes};
 ghost use Rattle.eos_folder.specs.Paths.{file_path, path_of_end};
+ghost use Rattle.eos_folder.specs.Reading.{AreAllLogs};
 ghost use Rattle.eos_folder.specs.Refusals.{RefusesFile};
 ghost use Rattle.eos_folder.specs.Shapes.{segment_of, by_base, files_said, log_bases, AreByBase, IsFound, AreLogsAt};
 ghost use Rattle.eos_folder.specs.steps.Listing.{IsApart, AreApart, AreNamed};
@@ -105,7 +106,10 @@ impl Segments {
     }
 
     /// The first segment that stands there as a fold.
-    pub(crate) fn first_fold(&self) -> Option<&Segment> {
+    #[tactic(auto, using(crate::proofs::ReadWhole::logs_next, crate::proofs::ReadWhole::logs_all))]
+    pub(crate) fn first_fold(&self) -> Option<&Segment>
+        ensures { result ≡ None → length self.now.names.items ≡ length self.now.forms.items → AreAllLogs self.now.forms.items }
+    {
         for i in 0..self.names.len().min(self.forms.len()) {
             if let Form::Fold = self.forms[i] {
                 return Some(&self.names[i]);

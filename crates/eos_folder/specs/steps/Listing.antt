@@ -7,6 +7,7 @@ use Rattle.eos_evidence.specs.declared.segment.Segment.{Segment}
 use Rattle.eos_evidence.specs.Evidence.{with_segment, empty_partition}
 use Rattle.eos_folder.specs.declared.names.FileName.{FileName}
 use Rattle.eos_folder.specs.declared.names.Form.{Form}
+use Rattle.eos_folder.specs.Reading.{AreAllLogs}
 use Rattle.eos_folder.specs.Shapes.{IsListed, segment_of}
 
 -- the next file, if there is one, is of another base
@@ -26,6 +27,10 @@ AreNamed holds folder [] names forms = (names ≡ []) × (forms ≡ [])
 AreNamed holds folder (e ∷ es) names forms =
     (files : List FileName) × (later : List Segment) × (rest : List Form) × IsListed holds folder e files × (names ≡ map (segment_of e) files ++ later)
     × (forms ≡ map (λ f. f.form) files ++ rest) × AreNamed holds folder es later rest
+
+-- these are all that the folder lists, and each stands there as its log
+abbrev pub AreLogsNamed : (List ℕ → Entry) → List ℕ → List End → List Segment → Type 0
+AreLogsNamed holds folder ends names = (forms : List Form) × AreNamed holds folder ends names forms × AreAllLogs forms
 
 -- a partition with these segments more, one after the other
 abbrev pub grown : Partition → List Segment → Partition
