@@ -158,8 +158,8 @@ manifest says.",
         means: "The log and the manifest don't speak of the same moment, so records may be
 missing at the end.",
         causes: "- More records than the end: the end is of an earlier time. The application
-  still ran, or a group wasn't empty when the ends were read: it commits once
-  more when its session expires (from memory of Kafka's sources).
+  still ran, or a group wasn't empty when the ends were read: when a session
+  expires, its coordinator writes once more (from memory of Kafka's sources).
 - Fewer records than the end: the copy is cut. The last segment wasn't copied,
   or it was copied before its end.
 - offset=0: the partition has no folder, or one with another name.",
