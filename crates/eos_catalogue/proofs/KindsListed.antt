@@ -1,5 +1,5 @@
 -- Lists of kinds.
-use Rattle.std.proofs.Common.{◌≡◌, ◌++◌, ◌∷◌, [], ℕ, suc, ◌+◌, ◌-◌, ◌<◌, ◌≤◌, List, append_assoc, refl, sym, ap, ◌∙◌, codes, arith}
+use Rattle.std.proofs.Common.{◌≡◌, ◌++◌, ◌∷◌, [], ℕ, suc, ◌+◌, ◌-◌, ◌<◌, ◌≤◌, List, append_assoc, sym, ap, ◌∙◌, codes, arith}
 use Rattle.std.proofs.lemmas.List.{append-nil}
 use Rattle.eos_text.specs.Adding.{Adds}
 use Rattle.eos_catalogue.specs.Kinds.{all_of, phase_text, phases_text, spaces}
@@ -20,6 +20,6 @@ none_left out all count i le e =
 pub five : (a b c d e : List Page) {old new : List ℕ} → Adds old new (phase_text a ++ (phase_text b ++ (phase_text c ++ (phase_text d ++ phase_text e)))) → Adds old new (phases_text (a ∷ b ∷ c ∷ d ∷ e ∷ []))
 five a b c d e {old} {new} adds = record { whole = adds.whole ∙ ap (λ (l : List ℕ). old ++ (phase_text a ++ (phase_text b ++ (phase_text c ++ (phase_text d ++ l))))) (sym (append-nil (phase_text e))) }
 
--- all of these lists, by those that each of them is
-pub listed : {a b c d e f g h i j : List Page} → a ≡ f → b ≡ g → c ≡ h → d ≡ i → e ≡ j → all_of (a ∷ b ∷ c ∷ d ∷ e ∷ []) ≡ all_of (f ∷ g ∷ h ∷ i ∷ j ∷ [])
-listed one two three four five = rw (one, two, three, four, five) refl
+-- all of five lists
+pub all_five : (a b c d e : List Page) → all_of (a ∷ b ∷ c ∷ d ∷ e ∷ []) ≡ a ++ (b ++ (c ++ (d ++ e)))
+all_five a b c d e = ap (λ (l : List Page). a ++ (b ++ (c ++ (d ++ l)))) (append-nil e)

@@ -4,11 +4,8 @@ ghost use Rattle.std.specs.Prelude.{◌≡◌, OnOk, string_bytes};
 ghost use Rattle.eos_text.specs.Adding.{Adds};
 ghost use Rattle.eos_catalogue.specs.Kinds.{AddsKinds, kind_text, kinds_text, line_text, lines_text, phase_text, spaces, spaces_before};
 
-use crate::outputs::OUTPUTS;
 use crate::page::Page;
-use crate::partitions::PARTITIONS;
-use crate::records::RECORDS;
-use crate::transactions::{DECISIONS, TRANSACTION_LOG};
+use crate::phases::{of_decisions, of_outputs, of_partitions, of_records, of_transaction_log};
 use eos_text::push_text;
 use std::alloc::AllocError;
 
@@ -23,11 +20,11 @@ const COLUMN: usize = 24;
 pub fn push_kinds(out: &mut String) -> Result<(), AllocError>
     ensures { OnOk result (AddsKinds (string_bytes out.old) (string_bytes out.new)) }
 {
-    push_phase(out, PARTITIONS.as_slice())?;
-    push_phase(out, TRANSACTION_LOG.as_slice())?;
-    push_phase(out, DECISIONS.as_slice())?;
-    push_phase(out, RECORDS.as_slice())?;
-    push_phase(out, OUTPUTS.as_slice())?;
+    push_phase(out, of_partitions())?;
+    push_phase(out, of_transaction_log())?;
+    push_phase(out, of_decisions())?;
+    push_phase(out, of_records())?;
+    push_phase(out, of_outputs())?;
     Ok(())
 }
 

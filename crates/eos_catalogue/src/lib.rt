@@ -9,6 +9,7 @@ mod kinds;
 mod outputs;
 mod page;
 mod partitions;
+mod phases;
 mod records;
 mod transactions;
 

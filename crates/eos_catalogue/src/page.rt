@@ -8,10 +8,7 @@ ghost use Rattle.eos_catalogue.specs.Pages.{title_text, section_text, sections_t
 ghost use Rattle.eos_catalogue.specs.steps.Found.{page_in};
 
 use crate::case::Case;
-use crate::outputs::OUTPUTS;
-use crate::partitions::PARTITIONS;
-use crate::records::RECORDS;
-use crate::transactions::{DECISIONS, TRANSACTION_LOG};
+use crate::phases::{of_decisions, of_outputs, of_partitions, of_records, of_transaction_log};
 use eos_text::push_text;
 use std::alloc::{AllocError, Global};
 
@@ -52,11 +49,11 @@ fn page_in(pages: &'static [Page], code: &str) -> Option<&'static Page>
 pub fn page_of(code: &str) -> Option<&'static Page>
     ensures { IsPageOf code.now (option_copied result) }
 {
-    page_in(PARTITIONS.as_slice(), code)
-        .or(page_in(TRANSACTION_LOG.as_slice(), code))
-        .or(page_in(DECISIONS.as_slice(), code))
-        .or(page_in(RECORDS.as_slice(), code))
-        .or(page_in(OUTPUTS.as_slice(), code))
+    page_in(of_partitions(), code)
+        .or(page_in(of_transaction_log(), code))
+        .or(page_in(of_decisions(), code))
+        .or(page_in(of_records(), code))
+        .or(page_in(of_outputs(), code))
 }
 
 /// A page as it is printed.

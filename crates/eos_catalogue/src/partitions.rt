@@ -52,11 +52,14 @@ topics.",
         says: "The first batch of a producer's epoch doesn't begin at sequence 0.",
         means: "Records of that epoch before it are missing, or the broker took a batch that
 it had to refuse.",
-        causes: "- A segment of a longer log is taken for a whole partition (`chain` does so).
-- The broker forgot the producer's state, and let it go on.
-- The epoch's first records were lost with a leader.",
-        next: "Look with `eoscheck dump` what the producer wrote before; compare the
-replicas; look in the broker's log for the loading of producer snapshots.",
+        causes: "- The topic was deleted and made again while the producer lived: it counts on,
+  and the new log knows nothing of it (from memory of Kafka's sources).
+- The epoch's first records were lost with a leader, and the next one had no
+  state of the producer.
+- A segment of a longer log is taken for a whole partition (`chain` does so).",
+        next: "Is the topic younger than the producer? Look with `eoscheck dump` what the
+producer wrote before; compare the replicas; look in the broker's log for the
+loading of producer snapshots.",
     },
     Page {
         code: "1.4",
@@ -154,12 +157,15 @@ or not, depending on when they read.",
 manifest says.",
         means: "The log and the manifest don't speak of the same moment, so records may be
 missing at the end.",
-        causes: "- offset=0: the partition has no folder, or one with another name.
-- Fewer records: the last segment wasn't copied, or copied before its end.
-- More records: the end was asked before the last write. End markers and
-  aborted records count too.",
-        next: "Ask for the ends after the application stands still (`kafka-get-offsets.sh`),
-then copy. Compare the log's size with the broker's.",
+        causes: "- More records than the end: the end is of an earlier time. The application
+  still ran, or a group wasn't empty when the ends were read: when a session
+  expires, its coordinator writes once more (from memory of Kafka's sources).
+- Fewer records than the end: the copy is cut. The last segment wasn't copied,
+  or it was copied before its end.
+- offset=0: the partition has no folder, or one with another name.",
+        next: "Wait until each group is Empty, ask for the ends (`kafka-get-offsets.sh`),
+copy, and ask again: equal ends mean that nothing moved. End markers and
+aborted records count too.",
     },
     Page {
         code: "1.11",

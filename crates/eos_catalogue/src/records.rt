@@ -29,9 +29,10 @@ the five headers is absent, null, repeated, of another length, or below 0.",
         says: "A visible record of __consumer_offsets doesn't read: `record` names the first
 test that failed.",
         means: "What was committed there isn't known.",
-        causes: "- A newer version of the value than 3 (record=Version).
+        causes: "- record=Version: a newer broker wrote a newer version of the value than 3.
 - Bytes that were changed or written by another tool.",
-        next: "`eoscheck dump --decode` of the segment, at the offset.",
+        next: "Of which version are the brokers? `eoscheck dump --decode` of the segment, at
+the offset.",
     },
     Page {
         code: "4.3",
@@ -53,10 +54,13 @@ said.",
         says: "A tombstone stands under a committed offset of a group that is judged.",
         means: "From there on the group would begin anew, so its committed offsets say
 nothing.",
-        causes: "- The group's offsets expired (`offsets.retention.minutes`, the group was
+        causes: "- The group or its topic was deleted in a trial before the run, or in it: the
+  coordinator then deletes the offsets (from memory of Kafka's sources).
+- The group's offsets expired (`offsets.retention.minutes`, the group was
   empty).
-- A tool deleted them (`kafka-consumer-groups.sh --delete-offsets`).
-- The topic was deleted.",
-        next: "Was the group empty for days? Raise the retention before a run.",
+- A tool deleted them (`kafka-consumer-groups.sh --delete-offsets`).",
+        next: "At the log's begin it is of a trial: run on a fresh cluster, or with a group
+of another name. Was the group empty for days? Raise the retention before a
+run.",
     },
 ];

@@ -25,13 +25,19 @@ neighbours.",
         brief: &["a transaction's state may not follow the one before"],
         says: "A state of a transactional id may not follow the one before it: `why` names
 the rule.",
-        means: "The coordinator's log contradicts itself: a step is missing, or two
-coordinators wrote.",
-        causes: "- The log was compacted, so that states between are gone.
-- Two coordinators wrote for one transactional id after a split.
-- A record was lost with a leader.",
-        next: "`eoscheck dump --decode` of the segment, all states of this id in order; was
-`cleanup.policy` compact?",
+        means: "The id's transactions weren't run by version 2, or the coordinator's log
+contradicts itself. It counts for every id in the partition, whoever's it is.",
+        causes: "- why=Epoch: an older client used an id of this partition, perhaps another
+  team's, in the run or in a trial before it: at the ends of its transactions
+  the epoch doesn't rise. What it wrote needn't be in evidence.
+- why=Order: a PrepareCommit was written and not acknowledged, and the
+  transaction was aborted then (from memory of Kafka's sources): the producer
+  may have heard of either end.
+- A record was lost with a leader, so that a state between is missing.
+- Two coordinators wrote for one transactional id after a split.",
+        next: "Whose is the id, and which client has it? (`docs/EVIDENCE.md` says which ones
+raise the epoch.) `eoscheck dump --decode` of the segment shows all states of
+this id in order.",
     },
     Page {
         code: "2.3",
@@ -144,10 +150,14 @@ marker.",
         brief: &["a transaction lists a partition that isn't in `ends`"],
         says: "A decision lists a partition that isn't in `ends`.",
         means: "What the transaction wrote there isn't known, so it can't be called whole.",
-        causes: "- A partition was forgotten, often the group's of __consumer_offsets.
+        causes: "- Its topic was deleted, in the run or in a trial before it: what was decided
+  before stays in the transaction log.
+- A partition was forgotten, often the group's of __consumer_offsets.
 - Another application writes under the same transaction log; its partitions
   belong in too.",
-        next: "Add the partition to `ends`, and copy it. `eoscheck init` finds all of them.",
+        next: "Is the topic still there (`kafka-topics.sh --list`)? If so, add the partition
+to `ends` and copy it: `eoscheck init` finds all that have a folder. If not,
+these logs can't be judged: run on a fresh cluster.",
     },
     Page {
         code: "3.7",
@@ -157,9 +167,11 @@ marker.",
         says: "A decision lists a partition, and its end marker doesn't stand there.",
         means: "The transaction was decided and not ended everywhere: readers of that
 partition wait, or never see it.",
-        causes: "- It was collected between the decision and the last marker.
+        causes: "- Its topic was deleted and made again, in the run or in a trial before: the
+  new log has nothing of earlier transactions.
+- It was collected between the decision and the last marker.
 - The partition's log lost the marker, or never got it.",
-        next: "Compare the partition on the other replicas; collect again after the cluster
-rests.",
+        next: "Is the topic younger than the decision? Compare the partition on the other
+replicas; collect again after the cluster rests.",
     },
 ];
