@@ -336,6 +336,8 @@ def refused():
         (2, [HEAD, event(1, "end", session=0, kind="perhaps")]),
         (2, [HEAD, event(1, "produce", session=0, partition=0)]),
         (2, [HEAD, event(1, "commit", session=0, source=0)]),
+        (1, [json.dumps(HEAD)[:-1] + ', "seed": 1}']),
+        (2, [HEAD, '{"number": 1, "event": "feed", "source": 0, "source": 0}']),
         (3, [HEAD, feed, feed | {"event": "Feed"}]),
         (3, [HEAD, feed, "", feed]),
         (3, [HEAD, {"events": 0, "transactions": 0, "lost": 0, "repeated": 0}, feed]),

@@ -1,13 +1,12 @@
 -- The lines of a text, one after the other.
 use Rattle.std.proofs.Common.{◌≡◌, ◌<◌, ◌+◌, ◌-◌, ◌^◌, min, ℕ, List, [], ◌∷◌, ◌++◌, Bool, true, false, ◌||◌, ◌==◌, Option, None, Some, length, length-append, append_assoc, append-nil, subst, refl, ap, sym, ◌∙◌, arith, inl, inr}
 use Rattle.std.specs.List.{AllZip}
-use Rattle.serde_json.specs.Read.{read}
 use Rattle.eos_history_lines.specs.declared.line.Line.{Line}
 use Rattle.eos_history_lines.specs.declared.line.Tail.{Tail}
 use Rattle.eos_history_lines.specs.Divided.{lines_of}
-use Rattle.eos_history_lines.specs.Lines.{head_value, line_value, tail_value}
 use Rattle.eos_history_lines.specs.declared.schedule.ScheduleFault.{ScheduleFault}
-use Rattle.eos_history_lines.specs.Files.{SaysLine, SayRows}
+use Rattle.eos_history_lines.specs.Files.{SaysHead, SaysRow, SaysLine, SayRows}
+use Rattle.eos_history_lines.specs.declared.line.Row.TheVariants as rows
 use Rattle.eos_history_lines.specs.Refusals.{IsNoHead, IsRefusedAfter, IsRefusedAmong, IsRefusedFirst, IsRefusal}
 use Rattle.eos_history_lines.specs.declared.fault.LineFault.TheVariants.{NotJson}
 use Rattle.eos_history_lines.specs.declared.line.Head.{Head}
@@ -57,7 +56,7 @@ no_rows = record { done = []; last = []; parts = refl; each = tt; ends = refl }
 one_more : (texts : List (List ℕ)) (lines : List Line) (text : List ℕ) (h : SayRows texts lines None) → texts ++ text ∷ [] ≡ h.done ++ text ∷ []
 one_more texts lines text h = ap (λ ts. ts ++ text ∷ []) (h.parts ∙ ap (λ ts. h.done ++ ts) h.ends ∙ append-nil h.done)
 
-pub one_line : (texts : List (List ℕ)) (lines : List Line) (text : List ℕ) (l : Line) → SayRows texts lines None → read text ≡ Some (line_value l) → SayRows (texts ++ text ∷ []) (lines ++ l ∷ []) None
+pub one_line : (texts : List (List ℕ)) (lines : List Line) (text : List ℕ) (l : Line) → SayRows texts lines None → SaysRow text (rows.Line l) → SayRows (texts ++ text ∷ []) (lines ++ l ∷ []) None
 one_line texts lines text l h said = record {
   done = h.done ++ text ∷ [];
   last = [];
@@ -66,13 +65,13 @@ one_line texts lines text l h said = record {
   ends = refl;
 }
 
-pub one_tail : (texts : List (List ℕ)) (lines : List Line) (text : List ℕ) (t : Tail) → SayRows texts lines None → read text ≡ Some (tail_value t) → SayRows (texts ++ text ∷ []) lines (Some t)
+pub one_tail : (texts : List (List ℕ)) (lines : List Line) (text : List ℕ) (t : Tail) → SayRows texts lines None → SaysRow text (rows.Tail t) → SayRows (texts ++ text ∷ []) lines (Some t)
 one_tail texts lines text t h said = record {
   done = h.done;
   last = text ∷ [];
   parts = one_more texts lines text h;
   each = h.each;
-  ends = (text, refl, said);
+  ends = (text, refl, said.0, said.1);
 }
 
 -- what was read of a text, and what is left of it, whose first line has this number
@@ -120,5 +119,5 @@ no_line (b ∷ bs) f e n k = absurd (omega (arith, e))
 pub no_head : (text line : List ℕ) (others : List (List ℕ)) (f : ScheduleFault) → lines_of text ≡ line ∷ others → f.line ≡ 1 → IsNoHead line f.fault → IsRefusal (lines_of text) f
 no_head text line others f parts n h = inl (n, subst (λ ts. IsRefusedFirst ts f) (sym parts) h)
 
-pub no_row : (text line : List ℕ) (others : List (List ℕ)) (head : Head) (f : ScheduleFault) → lines_of text ≡ line ∷ others → read line ≡ Some (head_value head) → IsRefusedAmong others f → IsRefusal (lines_of text) f
+pub no_row : (text line : List ℕ) (others : List (List ℕ)) (head : Head) (f : ScheduleFault) → lines_of text ≡ line ∷ others → SaysHead line head → IsRefusedAmong others f → IsRefusal (lines_of text) f
 no_row text line others head f parts begins among = inr (record { first = line; others = others; head = head; parts = parts; begins = begins; among = among })

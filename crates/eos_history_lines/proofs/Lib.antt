@@ -1,3 +1,4 @@
+pub mod OnceNamed
 pub mod PlainLines
 pub mod FileLines
 pub mod ReadBack

@@ -1,4 +1,5 @@
--- The value of a line has no float, and nests no deeper than a JSON text may: so it is its text, and reads back from it.
+-- The value of a line has no float, nests no deeper than a JSON text may, and names each member once: so it is its text, and reads
+-- back from it.
 use Rattle.std.proofs.Common.{◌≡◌, ◌≤◌, ℕ, ℤ, pos, negsuc, ◌+◌, List, [], ◌∷◌, ◌++◌, Bool, true, false, ◌||◌, Option, None, Some, Ordering, Less, Equal, Greater, cond, nat_cmp, codes, refl, arith}
 use Rattle.std.specs.Cmp.Lexicographic.{slice_cmp}
 use Rattle.std.specs.Ordering.{match_ordering}
@@ -7,7 +8,9 @@ use Rattle.hex.specs.Hex.{encode_lower}
 use Rattle.serde_json.specs.Data.{Data, Members as JsonMembers, no_members, member, put, depth, items_depth, members_depth, boolean, string, object}
 use Rattle.serde_json.specs.Read.{max_depth}
 use Rattle.serde_json.specs.View.{items_of}
-use Rattle.serde_json.specs.Written.{has_float, items_have_float, members_have_float}
+use Rattle.serde_json.specs.Written.{has_float, items_have_float, members_have_float, outline, items_outline, members_outline}
+use Rattle.json.specs.Strict.{HasUniqueKeys, ItemsHaveUniqueKeys, MembersHaveUniqueKeys}
+use Rattle.eos_history_lines.proofs.OnceNamed.{InOrder, put_in_order, distinct_in_order}
 use Rattle.eos_machine.specs.declared.config.Config.{Config}
 use Rattle.eos_machine.specs.declared.item.Claim.{Claim}
 use Rattle.eos_machine.specs.declared.event.Event.{Event}
@@ -24,14 +27,16 @@ use Rattle.eos_history_lines.specs.declared.line.Row.{Row}
 use Rattle.eos_history_lines.specs.declared.line.Row.TheVariants as rows
 use Rattle.eos_history_lines.specs.Lines.{count, integer, topic_value, named_if, switch_names, switches_value, with_sizes, with_asked, head_value, with_claim, claim_value, claimed, offset_or_null, with_arguments, with_event, with_value, with_reply, with_deed, line_value, with_tail, tail_value, row_value}
 
--- no float, and at most so deep
+-- no float, at most so deep, and each member of an object once
 pub record Flat (n : ℕ) (d : Data) : Type 0 where
   pub plain : has_float d ≡ false
   pub shallow : depth d ≤ n
+  pub once : HasUniqueKeys (outline d)
 
-pub record FlatMembers (n : ℕ) (ms : JsonMembers) : Type 0 where
+pub record Parts (n : ℕ) (ms : JsonMembers) : Type 0 where
   pub plain : members_have_float ms ≡ false
   pub shallow : members_depth ms ≤ n
+  pub once : MembersHaveUniqueKeys (members_outline ms)
 
 first_false : (a b : Bool) → (a || b) ≡ false → a ≡ false
 first_false true b h = h
@@ -44,51 +49,60 @@ second_false false b h = h
 both_false : (a b : Bool) → a ≡ false → b ≡ false → (a || b) ≡ false
 both_false a b p q = rw p q
 
-member_flat : (n : ℕ) (k : List ℕ) (d : Data) (ms : JsonMembers) → Flat n d → FlatMembers n ms → FlatMembers n (member k d ms)
-member_flat n k d ms p q = record {
+member_parts : (n : ℕ) (k : List ℕ) (d : Data) (ms : JsonMembers) → Flat n d → Parts n ms → Parts n (member k d ms)
+member_parts n k d ms p q = record {
   plain = both_false (has_float d) (members_have_float ms) p.plain q.plain;
   shallow = omega (arith, p.shallow, q.shallow);
+  once = (p.once, q.once);
 }
 
-head_of : (n : ℕ) (k : List ℕ) (d : Data) (ms : JsonMembers) → FlatMembers n (member k d ms) → Flat n d
-head_of n k d ms h = record { plain = first_false (has_float d) (members_have_float ms) h.plain; shallow = omega (arith, h.shallow) }
+head_of : (n : ℕ) (k : List ℕ) (d : Data) (ms : JsonMembers) → Parts n (member k d ms) → Flat n d
+head_of n k d ms h = record { plain = first_false (has_float d) (members_have_float ms) h.plain; shallow = omega (arith, h.shallow); once = h.once.0 }
 
-rest_of : (n : ℕ) (k : List ℕ) (d : Data) (ms : JsonMembers) → FlatMembers n (member k d ms) → FlatMembers n ms
-rest_of n k d ms h = record { plain = second_false (has_float d) (members_have_float ms) h.plain; shallow = omega (arith, h.shallow) }
+rest_of : (n : ℕ) (k : List ℕ) (d : Data) (ms : JsonMembers) → Parts n (member k d ms) → Parts n ms
+rest_of n k d ms h = record { plain = second_false (has_float d) (members_have_float ms) h.plain; shallow = omega (arith, h.shallow); once = h.once.1 }
 
-chosen : (n : ℕ) (o : Ordering) (a b c : JsonMembers) → FlatMembers n a → FlatMembers n b → FlatMembers n c → FlatMembers n (match_ordering o a b c)
+chosen : (n : ℕ) (o : Ordering) (a b c : JsonMembers) → Parts n a → Parts n b → Parts n c → Parts n (match_ordering o a b c)
 chosen n Less a b c p q r = p
 chosen n Equal a b c p q r = q
 chosen n Greater a b c p q r = r
 
-put_flat : (n : ℕ) (k : List ℕ) (d : Data) (ms : JsonMembers) → Flat n d → FlatMembers n ms → FlatMembers n (put k d ms)
-put_flat n k d no_members p q = member_flat n k d no_members p q
-put_flat n k d (member l e ms) p q =
+put_parts : (n : ℕ) (k : List ℕ) (d : Data) (ms : JsonMembers) → Flat n d → Parts n ms → Parts n (put k d ms)
+put_parts n k d no_members p q = member_parts n k d no_members p q
+put_parts n k d (member l e ms) p q =
     let first : Flat n e = head_of n l e ms q in
-    let rest : FlatMembers n ms = rest_of n l e ms q in
-    chosen n (slice_cmp nat_cmp k l) (member k d (member l e ms)) (member l d ms) (member l e (put k d ms)) (member_flat n k d (member l e ms) p q) (member_flat n l d ms p rest)
-    (member_flat n l e (put k d ms) first (put_flat n k d ms p rest))
+    let rest : Parts n ms = rest_of n l e ms q in
+    chosen n (slice_cmp nat_cmp k l) (member k d (member l e ms)) (member l d ms) (member l e (put k d ms)) (member_parts n k d (member l e ms) p q) (member_parts n l d ms p rest)
+    (member_parts n l e (put k d ms) first (put_parts n k d ms p rest))
+
+-- and in the order of their names
+pub record FlatMembers (n : ℕ) (ms : JsonMembers) : Type 0 where
+  pub parts : Parts n ms
+  pub order : InOrder ms
+
+put_flat : (n : ℕ) (k : List ℕ) (d : Data) (ms : JsonMembers) → Flat n d → FlatMembers n ms → FlatMembers n (put k d ms)
+put_flat n k d ms p q = record { parts = put_parts n k d ms p q.parts; order = put_in_order k d ms q.order }
 
 none_flat : (n : ℕ) → FlatMembers n no_members
-none_flat n = record { plain = refl; shallow = omega arith }
+none_flat n = record { parts = record { plain = refl; shallow = omega arith; once = tt }; order = tt }
 
 object_flat : (n : ℕ) (ms : JsonMembers) → FlatMembers n ms → Flat (n + 1) (object ms)
-object_flat n ms h = record { plain = h.plain; shallow = omega (arith, h.shallow) }
+object_flat n ms h = record { plain = h.parts.plain; shallow = omega (arith, h.parts.shallow); once = (distinct_in_order ms h.order, h.parts.once) }
 
 -- ---- single values
 
 count_flat : (n m : ℕ) → Flat n (count m)
-count_flat n m = record { plain = refl; shallow = omega arith }
+count_flat n m = record { plain = refl; shallow = omega arith; once = tt }
 
 boolean_flat : (n : ℕ) (b : Bool) → Flat n (boolean b)
-boolean_flat n b = record { plain = refl; shallow = omega arith }
+boolean_flat n b = record { plain = refl; shallow = omega arith; once = tt }
 
 integer_flat : (n : ℕ) (z : ℤ) → Flat n (integer z)
-integer_flat n (pos m) = record { plain = refl; shallow = omega arith }
-integer_flat n (negsuc m) = record { plain = refl; shallow = omega arith }
+integer_flat n (pos m) = record { plain = refl; shallow = omega arith; once = tt }
+integer_flat n (negsuc m) = record { plain = refl; shallow = omega arith; once = tt }
 
 string_flat : (n : ℕ) (text : List ℕ) → Flat n (string text)
-string_flat n text = record { plain = refl; shallow = omega arith }
+string_flat n text = record { plain = refl; shallow = omega arith; once = tt }
 
 topic_flat : (n : ℕ) (topic : List ℕ) → Flat (n + 1) (topic_value topic)
 topic_flat n topic = by (is_utf8 topic)
@@ -102,22 +116,24 @@ topic_flat n topic = by (is_utf8 topic)
 pub record FlatItems (ds : List Data) : Type 0 where
   pub plain : items_have_float (items_of ds) ≡ false
   pub shallow : items_depth (items_of ds) ≤ 0
+  pub once : ItemsHaveUniqueKeys (items_outline (items_of ds))
 
 more_items : (d : Data) (ds : List Data) → Flat 0 d → FlatItems ds → FlatItems (d ∷ ds)
 more_items d ds p q = record {
   plain = both_false (has_float d) (items_have_float (items_of ds)) p.plain q.plain;
   shallow = omega (arith, p.shallow, q.shallow);
+  once = (p.once, q.once);
 }
 
 no_more : FlatItems []
-no_more = record { plain = refl; shallow = omega arith }
+no_more = record { plain = refl; shallow = omega arith; once = tt }
 
 named_after : (ds : List Data) (on : Bool) (name : List ℕ) → FlatItems ds → FlatItems (ds ++ named_if on name)
 named_after [] true name h = more_items (string name) [] (string_flat 0 name) no_more
 named_after [] false name h = no_more
 named_after (d ∷ ds) on name h =
-    more_items d (ds ++ named_if on name) (record { plain = first_false (has_float d) (items_have_float (items_of ds)) h.plain; shallow = omega (arith, h.shallow) })
-    (named_after ds on name (record { plain = second_false (has_float d) (items_have_float (items_of ds)) h.plain; shallow = omega (arith, h.shallow) }))
+    more_items d (ds ++ named_if on name) (record { plain = first_false (has_float d) (items_have_float (items_of ds)) h.plain; shallow = omega (arith, h.shallow); once = h.once.0 })
+    (named_after ds on name (record { plain = second_false (has_float d) (items_have_float (items_of ds)) h.plain; shallow = omega (arith, h.shallow); once = h.once.1 }))
 
 names_flat : (s : Switches) → FlatItems (switch_names s)
 names_flat s =
@@ -126,7 +142,7 @@ names_flat s =
 
 switches_flat : (n : ℕ) (s : Switches) → Flat (n + 1) (switches_value s)
 unfolding switches_value
-switches_flat n s = let h = names_flat s in record { plain = h.plain; shallow = omega (arith, h.shallow) }
+switches_flat n s = let h = names_flat s in record { plain = h.plain; shallow = omega (arith, h.shallow); once = h.once }
 
 -- ---- the first line and the last
 
@@ -168,11 +184,11 @@ unfolding claim_value
 claim_flat c = object_flat 1 _ (claim_members c no_members (none_flat 1))
 
 claimed_flat : (c : Option Claim) → Flat 2 (claimed c)
-claimed_flat None = record { plain = refl; shallow = omega arith }
+claimed_flat None = record { plain = refl; shallow = omega arith; once = tt }
 claimed_flat (Some c) = claim_flat c
 
 offset_flat : (n : ℕ) (z : Option ℤ) → Flat n (offset_or_null z)
-offset_flat n None = record { plain = refl; shallow = omega arith }
+offset_flat n None = record { plain = refl; shallow = omega arith; once = tt }
 offset_flat n (Some z) = integer_flat n z
 
 one : (k : List ℕ) (m : ℕ) (ms : JsonMembers) → FlatMembers 2 ms → FlatMembers 2 (put k (count m) ms)
@@ -225,7 +241,7 @@ unfolding line_value
 line_flat l = object_flat 2 _ (deed_flat l.deed _ (one _ l.number no_members (none_flat 2)))
 
 wider : (m n : ℕ) (d : Data) → m ≤ n → Flat m d → Flat n d
-wider m n d le h = record { plain = h.plain; shallow = omega (arith, h.shallow, le) }
+wider m n d le h = record { plain = h.plain; shallow = omega (arith, h.shallow, le); once = h.once }
 
 pub row_flat : (r : Row) → Flat 3 (row_value r)
 row_flat (rows.Line l) = line_flat l

@@ -28,7 +28,7 @@ use Rattle.eos_history_lines.specs.declared.line.Row.{Row}
 use Rattle.eos_history_lines.specs.declared.line.Row.TheVariants as rows
 use Rattle.eos_history_lines.specs.Fits.{FitsClaim, FitsEvent, FitsDeed, FitsRow}
 use Rattle.eos_history_lines.specs.Words.{event_word}
-use Rattle.eos_history_lines.specs.Lines.{count, integer, topic_value, named_if, switch_names, switches_value, with_sizes, with_asked, head_value, with_claim, claim_value, claimed, offset_or_null, with_arguments, with_event, with_value, with_reply, with_deed, line_value, with_tail, tail_value, row_value}
+use Rattle.eos_history_lines.specs.Lines.{count, topic_value, named_if, switch_names, switches_value, with_sizes, with_asked, head_value, with_claim, claim_value, claimed, offset_or_null, with_arguments, with_event, with_value, with_reply, with_deed, line_value, with_tail, tail_value, row_value}
 use Rattle.eos_history_lines.specs.steps.Reading.{as_small, claim_in, claim_or_none, offset_or_none, event_called, event_in, reply_in, reply_from, is_text, is_named, switches_in, head_in, deed_from, deed_in, line_in, tail_in, row_from, row_in}
 
 -- ---- looking up what was put

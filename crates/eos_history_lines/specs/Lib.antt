@@ -1,4 +1,5 @@
 pub mod Words
+pub mod Names
 pub mod Lines
 pub mod Refusals
 pub mod Divided

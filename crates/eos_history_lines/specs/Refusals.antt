@@ -9,19 +9,18 @@ use Rattle.eos_history_lines.specs.declared.line.Line.{Line}
 use Rattle.eos_history_lines.specs.declared.line.Tail.{Tail}
 use Rattle.eos_history_lines.specs.declared.line.Row.{Row}
 use Rattle.eos_history_lines.specs.declared.schedule.ScheduleFault.{ScheduleFault}
-use Rattle.eos_history_lines.specs.Lines.{head_value, row_value}
 use Rattle.eos_history_lines.specs.Fits.{FitsRow}
-use Rattle.eos_history_lines.specs.Files.{SayRows}
+use Rattle.eos_history_lines.specs.Files.{SayRows, SaysHead, SaysRow}
 
 -- a text that is no JSON, where that is said, and is no first line
 pub record IsNoHead (text : List ℕ) (f : LineFault) : Type 0 where
   pub json : f ≡ NotJson → IsUtf8 text → read text ≡ None
-  pub none : f ≢ OutOfMemory → IsUtf8 text → (head : Head) → read text ≢ Some (head_value head)
+  pub none : f ≢ OutOfMemory → IsUtf8 text → (head : Head) → ¬ SaysHead text head
 
 -- and one that is no line after it
 pub record IsNoRow (text : List ℕ) (f : LineFault) : Type 0 where
   pub json : f ≡ NotJson → IsUtf8 text → read text ≡ None
-  pub none : f ≢ OutOfMemory → IsUtf8 text → (row : Row) → FitsRow row → read text ≢ Some (row_value row)
+  pub none : f ≢ OutOfMemory → IsUtf8 text → (row : Row) → FitsRow row → ¬ SaysRow text row
 
 -- after the last line there is none
 abbrev pub IsRefusedAfter : Option Tail → List ℕ → LineFault → Type 0
@@ -52,7 +51,7 @@ pub record IsRefusedLater (texts : List (List ℕ)) (f : ScheduleFault) : Type 0
   pub others : List (List ℕ)
   pub head : Head
   pub parts : texts ≡ first ∷ others
-  pub begins : read first ≡ Some (head_value head)
+  pub begins : SaysHead first head
   pub among : IsRefusedAmong others f
 
 abbrev pub IsRefusal : List (List ℕ) → ScheduleFault → Type 0

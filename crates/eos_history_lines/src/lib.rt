@@ -8,7 +8,7 @@
 //! | a change of the rules | `number`, `set` (the names of the switches that are on from there) |
 //! | the last, which may be absent | `events`, `transactions`, `lost`, `repeated` |
 //!
-//! Members stand in the order of their names where they are written; they are read in any order.
+//! Members stand in the order of their names where they are written; they are read in any order, each once.
 #![tactic(auto)]
 
 mod divided;
@@ -18,6 +18,7 @@ pub mod laws;
 mod line;
 mod members;
 mod mistake;
+mod names;
 mod object;
 mod reader;
 mod replies;

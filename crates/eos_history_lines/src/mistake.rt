@@ -24,6 +24,8 @@ pub enum Mistake {
     SwitchOrder,
     /// It has a member that such a line hasn't.
     Surplus,
+    /// Two members of one object have one name.
+    Doubled,
     /// It stands after the last line.
     AfterTail,
 }
@@ -41,6 +43,7 @@ impl Display for Mistake {
             Mistake::UnknownSwitch => f.write_str("there is no switch of this name"),
             Mistake::SwitchOrder => f.write_str("the switches aren't in their order, each once"),
             Mistake::Surplus => f.write_str("it has a member that such a line hasn't"),
+            Mistake::Doubled => f.write_str("a member stands twice in it"),
             Mistake::AfterTail => f.write_str("it stands after the line of the totals"),
         }
     }

@@ -6,6 +6,7 @@ ghost use Rattle.serde_json.specs.Read.{read as read_text, max_depth};
 ghost use Rattle.serde_json.specs.View.{view};
 ghost use Rattle.serde_json.specs.Written.{compact_text};
 ghost use Rattle.eos_history_lines.specs.Lines.{head_value, row_value};
+ghost use Rattle.eos_history_lines.specs.Files.{SaysHead, SaysRow};
 ghost use Rattle.eos_history_lines.specs.Fits.{FitsRow};
 ghost use Rattle.eos_history_lines.specs.steps.Reading.{row_in};
 ghost use Rattle.eos_history_lines.specs.declared.fault.LineFault.TheVariants.{NotJson, OutOfMemory};
@@ -15,6 +16,7 @@ ghost use Rattle.eos_history_lines.specs.declared.line.Row.{Row};
 use crate::fault::LineFault;
 use crate::line::{Head, Row};
 use crate::mistake::Mistake;
+use crate::names::look_for_doubles;
 use crate::reader::{read_head, read_line, read_tail};
 use crate::same::is_same;
 use crate::search::{look_at_head, look_at_row};
@@ -25,18 +27,21 @@ use std::alloc::{AllocError, Global};
 /// The first line of a history, whatever the order of its members.
 ///
 /// # Errors
-/// `NotJson` where it is no JSON text; `Mistaken` where it has another value than a first line has; `OutOfMemory`.
+/// `NotJson` where it is no JSON text; `Mistaken` where it has another value than a first line has, or a member twice; `OutOfMemory`.
 pub fn head_of(alloc: Global, text: &[u8]) -> Result<Head, LineFault>
-    ensures ok { IfOk result (λ head. read_text text.now ≡ Some (head_value head)) }
+    ensures ok { IfOk result (SaysHead text.now) }
     ensures json { result ≡ Err NotJson → IsUtf8 text.now → read_text text.now ≡ None }
-    ensures err { IfErr result (λ e. e ≢ OutOfMemory → IsUtf8 text.now → (head : Head) → read_text text.now ≢ Some (head_value head)) }
+    ensures err { IfErr result (λ e. e ≢ OutOfMemory → IsUtf8 text.now → (head : Head) → ¬ SaysHead text.now head) }
 {
     let value = match parse(alloc, text) {
         Ok(value) => value,
         Err(fault) => return Err(fault),
     };
     match exact_head(alloc, &value) {
-        Ok(Some(head)) => Ok(head),
+        Ok(Some(head)) => match look_for_doubles(alloc, text) {
+            Ok(()) => Ok(head),
+            Err(fault) => Err(fault),
+        },
         Ok(None) => Err(LineFault::Mistaken(found(look_at_head(&value)))),
         Err(_) => Err(LineFault::OutOfMemory),
     }
@@ -45,18 +50,21 @@ pub fn head_of(alloc: Global, text: &[u8]) -> Result<Head, LineFault>
 /// A line of a history after its first, whatever the order of its members. One whose topics aren't UTF-8 may be refused.
 ///
 /// # Errors
-/// `NotJson` where it is no JSON text; `Mistaken` where it has another value than such a line has; `OutOfMemory`.
+/// `NotJson` where it is no JSON text; `Mistaken` where it has another value than such a line has, or a member twice; `OutOfMemory`.
 pub fn row_of(alloc: Global, text: &[u8]) -> Result<Row, LineFault>
-    ensures ok { IfOk result (λ row. read_text text.now ≡ Some (row_value row)) }
+    ensures ok { IfOk result (SaysRow text.now) }
     ensures json { result ≡ Err NotJson → IsUtf8 text.now → read_text text.now ≡ None }
-    ensures err { IfErr result (λ e. e ≢ OutOfMemory → IsUtf8 text.now → (row : Row) → FitsRow row → read_text text.now ≢ Some (row_value row)) }
+    ensures err { IfErr result (λ e. e ≢ OutOfMemory → IsUtf8 text.now → (row : Row) → FitsRow row → ¬ SaysRow text.now row) }
 {
     let value = match parse(alloc, text) {
         Ok(value) => value,
         Err(fault) => return Err(fault),
     };
     match exact_row(alloc, &value) {
-        Ok(Some(row)) => Ok(row),
+        Ok(Some(row)) => match look_for_doubles(alloc, text) {
+            Ok(()) => Ok(row),
+            Err(fault) => Err(fault),
+        },
         Ok(None) => Err(LineFault::Mistaken(found(look_at_row(&value)))),
         Err(_) => Err(LineFault::OutOfMemory),
     }

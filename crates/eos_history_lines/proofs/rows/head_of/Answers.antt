@@ -4,7 +4,7 @@ use Rattle.eos_history_lines.proofs.ReadBack.{unread, unlike}
 use Rattle.eos_history_lines.proofs.rows.head_of.Goals as goal
 
 pub returns-in-Err-clause-err : goal.returns-in-Err-clause-err
-returns-in-Err-clause-err c = λ other utf8 x is. unread _ (head_value x) (c.in-Err.ensures.err other utf8) is
+returns-in-Err-clause-err c = λ other utf8 x said. unread _ (head_value x) (c.in-Err.ensures.err other utf8) said.0
 
 pub returns-in-Ok-None-clause-err : goal.returns-in-Ok-None-clause-err
-returns-in-Ok-None-clause-err c = λ other utf8 x is. unlike _ _ (head_value x) c.in-Ok.ensures.ok (c.in-Ok-None.ensures.none (search rules) x) is
+returns-in-Ok-None-clause-err c = λ other utf8 x said. unlike _ _ (head_value x) c.in-Ok.ensures.ok (c.in-Ok-None.ensures.none (search rules) x) said.0

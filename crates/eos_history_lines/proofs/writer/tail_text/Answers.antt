@@ -1,7 +1,10 @@
-use Rattle.std.proofs.Common.{◌≡◌, ◌≤◌, ◌++◌, ◌∙◌, false, Some, IfOk, codes, string_bytes, sym, ap, subst, arith}
-use Rattle.serde_json.specs.Data.{Data, Members, no_members, object, depth}
+use Rattle.std.proofs.Common.{◌≡◌, ◌≤◌, ◌++◌, ◌∙◌, false, Some, Ok, Err, Result, String, Global, IfOk, codes, string_bytes, sym, ap, subst, arith}
+use Rattle.std.specs.declared.alloc.AllocError.{AllocError}
+use Rattle.serde_json.specs.Data.{Members, no_members, object, depth}
 use Rattle.serde_json.specs.Read.{read, max_depth}
-use Rattle.serde_json.specs.Written.{has_float, compact_text}
+use Rattle.serde_json.specs.Written.{has_float, compact_text, outline}
+use Rattle.json.specs.Strict.{HasUniqueKeys}
+use Rattle.eos_history_lines.specs.Names.{NamesOnce}
 use Rattle.eos_history_lines.specs.declared.line.Tail.{Tail}
 use Rattle.eos_history_lines.specs.Lines.{tail_value, with_tail}
 use Rattle.eos_history_lines.proofs.PlainLines.{tail_flat, allowed}
@@ -22,3 +25,12 @@ returns-clause-says c = subst (λ d. IfOk c.text_of.result (λ text. string_byte
 
 pub returns-clause-reads : goal.returns-clause-reads
 returns-clause-reads c = subst (λ d. IfOk c.text_of.result (λ text. read (compact_text d) ≡ Some d)) (made_is _ _ _ c.in_ok-put_tail.ensures c.new-made.ensures) c.text_of.ensures.reads
+
+given : (r : Result (String Global) AllocError) (P Q : Type 0) → Q → IfOk r (λ _. Q → P) → IfOk r (λ _. P)
+given (Ok text) P Q q h = h q
+given (Err e) P Q q h = tt
+
+pub returns-clause-once : goal.returns-clause-once
+returns-clause-once c =
+    given c.text_of.result _ _ (tail_flat c.args.tail.now).once
+    (subst (λ d. IfOk c.text_of.result (λ text. HasUniqueKeys (outline d) → NamesOnce (compact_text d))) (made_is _ _ _ c.in_ok-put_tail.ensures c.new-made.ensures) c.text_of.ensures.once)
