@@ -23,7 +23,6 @@ KIT_FILES = re.compile(r"\bstd::fs\b|\bstd::\{[^}]*\bfs\b|\bfs::|\bFile::")
 MOST_LINES_OF_THE_DISK = 100
 # What still writes files by itself.
 WRITERS = {
-    "crates/eos_ending/src/new_file.rt",
     "crates/eos_folder/src/placing.rt",
     "crates/eos_folding_files/src/writing.rt",
     "crates/eos_init_files/src/writing.rt",
