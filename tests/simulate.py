@@ -317,6 +317,12 @@ def grouped(singles, most, name):
     ]
 
 
+def bites(name, words):
+    """Whether a switch shows anything in a cluster of these words' sizes."""
+    sizes = {option: words[words.index(option) + 1] if option in words else 2 for option in ("--outputs", "--applications")}
+    return sizes["--outputs"] > 1 if name in ("swap-marker", "hide-listing") else sizes["--applications"] > 1 or name != "ignore-generation"
+
+
 def batched(seed):
     """What is wrong with a run whose batches have several records, beside the same run with one each, or None. And how many
     records the largest batch has."""
@@ -324,7 +330,7 @@ def batched(seed):
     most = [2, 3, 1000, choice.randint(2, 30)][seed % 4]
     words = settings(choice, ["batch-records"])[0]
     if seed % 3 == 0:
-        words += ["--switch", choice.choice(list(SWITCHES))]
+        words += ["--switch", choice.choice([it for it in SWITCHES if bites(it, words)])]
     one, other = (os.path.join(scratch, f"batches-{seed}-{name}") for name in ("one", "more"))
     events = 100 + seed * 37 % 700
     made = [simulate(seed, events, one, *words), simulate(seed, events, other, *words, "--batch-records", most)]
@@ -640,7 +646,11 @@ def bad_words():
         (["--mishap", "wrong-count@in-0:1"], "wrong-count: no input suits this mishap"),
         (["--mishap", "other-transaction@in-2:1"], "other-transaction: no input suits this mishap"),
         (["--mishap", "early-output@in-0:5000"], "early-output: no input suits this mishap"),
-        (["--mishap", "aborted-input"], "aborted-input: no input suits this mishap"),
+        (["--mishap", "aborted-input"], "aborted-input: it needs --chain"),
+        (["--mishap", "lost-output", "--mishap", "aborted-input@out-0:1"], "aborted-input: it needs --chain"),
+        (["--outputs", 1, "--switch", "swap-marker"], "swap-marker: it needs two partitions of `out`"),
+        (["--outputs", 1, "--chain", "--switch", "no-fence", "--switch", "hide-listing"], "hide-listing: it needs two partitions of `out`"),
+        (["--applications", 1, "--chain", "--switch", "ignore-generation"], "ignore-generation: it needs two applications of the first group"),
         (["--chain", "--mishap", "aborted-input@out-0:1"], "aborted-input: no input suits this mishap"),
         (["--chain", "--mishap", "aborted-input@in-0:1"], "--mishap: no mishap, or not NAME@TOPIC-N:O"),
         (["--chain", "--mishap", "lost-output@out-0:1"], "--mishap: no mishap, or not NAME@TOPIC-N:O"),

@@ -7,7 +7,7 @@ use crate::making::SimulationFault;
 use eos_cluster::{Switch, Switches};
 use eos_history_lines::Head;
 use eos_machine::Config;
-use eos_scripts::{ChosenMishap, Rates, Settings, Turning};
+use eos_scripts::{ChosenMishap, Mishap, Rates, Settings, Turning};
 use eos_words::{Simulation, Sizes, Thousandths};
 use std::alloc::Global;
 
@@ -64,14 +64,19 @@ impl Course {
         let Some(switches) = switches_named(words.switches.as_slice()) else {
             return Err(SimulationFault::Unfit("--switch", "no such rule"));
         };
+        let config = config_of(&words.sizes);
+        let mishaps = mishaps_of(alloc, words.mishaps.as_slice())?;
+        if let Some((what, why)) = unfit(config, switches, mishaps.as_slice()) {
+            return Err(SimulationFault::Unfit(what, why));
+        }
         Ok(Course {
-            config: config_of(&words.sizes),
+            config,
             seed: words.seed,
             words: words.events,
             rates,
             switches,
             switch_at: words.switch_at,
-            mishaps: mishaps_of(alloc, words.mishaps.as_slice())?,
+            mishaps,
         })
     }
 
@@ -101,6 +106,32 @@ impl Course {
             mishaps: self.mishaps.as_slice(),
         }
     }
+}
+
+/// A switch that can't bite in a cluster of these sizes, or a mishap of a group that isn't there, and what it needs.
+fn unfit(
+    config: Config,
+    switches: Switches,
+    mishaps: &[ChosenMishap],
+) -> Option<(&'static str, &'static str)> {
+    if switches.swap_marker && config.outputs < 2 {
+        return Some(("swap-marker", "it needs two partitions of `out`"));
+    }
+    if switches.hide_listing && config.outputs < 2 {
+        return Some(("hide-listing", "it needs two partitions of `out`"));
+    }
+    if switches.ignore_generation && config.applications < 2 {
+        return Some((
+            "ignore-generation",
+            "it needs two applications of the first group",
+        ));
+    }
+    for chosen in mishaps {
+        if chosen.mishap == Mishap::AbortedInput && !config.chain {
+            return Some(("aborted-input", "it needs --chain"));
+        }
+    }
+    None
 }
 
 fn config_of(sizes: &Sizes) -> Config {
