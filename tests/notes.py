@@ -25,6 +25,7 @@ NOTHING, BEHIND = "group {} committed no offset of its sources", "group {} is be
 ABSENT, GAP = "topic {} of group {} has no partition in ends", "topic {} has no partition {} in ends, but one of a greater number"
 UNLISTED, PAST = "{} isn't in ends, but group {} committed an offset of it", "group {} committed offset {} of {}, past its end {}"
 INTERNAL = "no partition of {} is in ends"
+NO_APPLICATION = "no application is named: outputs and committed offsets aren't judged"
 
 
 def commit(group, name, offset):
@@ -68,8 +69,17 @@ def both(*changes):
 
 
 PAYMENTS = "payments", ["in"], ["out"]
+NO_APPS = two_apps()
 CASES = [
     ("a good folder", both(), []),
+    # 0: no application
+    ("no application", NO_APPS, [NO_APPLICATION]),
+    ("no application, and what would be noted of one", both(
+        commit("payments", "in-2", 5), commit("payments", "in-1", 21), empty("in-6"), inputs("in-0", 1), NO_APPS), [NO_APPLICATION]),
+    ("no application and no internal topic", both(not_in_ends(COMMITS, STATES), NO_APPS), [
+        NO_APPLICATION, INTERNAL.format("__consumer_offsets"), INTERNAL.format("__transaction_state")]),
+    ("no application, and another end than the log's", both(end("in-0", 21), NO_APPS), [NO_APPLICATION]),
+    ("an application of no topic", two_apps(("idle", [], [])), [NOTHING.format("idle")]),
     # 1: a committed partition that isn't in `ends`
     ("a commit of in-2", commit("payments", "in-2", 5), [UNLISTED.format("in-2", "payments")]),
     ("a commit of in-2 at 0", commit("payments", "in-2", 0), [UNLISTED.format("in-2", "payments")]),

@@ -66,9 +66,11 @@ def notes_of(folder):
     """For each kind of the list its lines."""
     apps, ends = manifest_of(folder)
     _, parts = read_folder(folder)
-    kinds = {n: [] for n in range(1, 8)}
+    kinds = {n: [] for n in range(8)}
     present = {topic for topic, _ in ends}
     used = {topic for _, sources, outputs in apps for topic in sources + outputs}
+    if len(apps) == 0:
+        kinds[0].append("no application is named: outputs and committed offsets aren't judged")
     for group, sources, outputs in apps:
         for topic in sources + outputs:
             if topic not in present:

@@ -100,6 +100,7 @@ def verdict_line(report):
 
 
 NOTES = {
+    "NoApplication": lambda n: "no application is named: outputs and committed offsets aren't judged",
     "Unlisted": lambda n: f"{partition(n)} isn't in ends, but group {shown(n['group'])} committed an offset of it",
     "PastEnd": lambda n: f"group {shown(n['group'])} committed offset {n['offset']} of {partition(n)}, past its end {n['end']}",
     "NoPartition": lambda n: f"topic {shown(n['topic'])} of group {shown(n['group'])} has no partition in ends",

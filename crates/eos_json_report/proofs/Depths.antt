@@ -153,6 +153,7 @@ fault_depth f = object_depth 2 (with_where f (head f no_members)) (where_depth f
 
 with_note_depth : (n : Note) (ms : Members) → members_depth ms ≤ 2 → members_depth (with_note n ms) ≤ 2
 unfolding with_note
+with_note_depth notes.NoApplication ms q = flat _ _ ms (omega arith) q
 with_note_depth (notes.Unlisted p group) ms q = partition_depth 2 p.topic p.partition _ (omega arith) (texts _ group _ (flat _ _ ms (omega arith) q))
 with_note_depth (notes.PastEnd group offset p end) ms q =
     flat _ _ _ (omega arith) (flat _ _ _ (omega arith) (partition_depth 2 p.topic p.partition _ (omega arith) (texts _ group _ (flat _ _ ms (omega arith) q))))

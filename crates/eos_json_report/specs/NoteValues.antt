@@ -3,10 +3,11 @@ use Rattle.std.specs.Prelude.{codes}
 use Rattle.serde_json.specs.Data.{Data, Members, no_members, object, string, put}
 use Rattle.eos_notes.specs.ManifestNotes.{internal_name}
 use Rattle.eos_notes.specs.declared.note.Note.{Note}
-use Rattle.eos_notes.specs.declared.note.Note.TheVariants.{Unlisted, PastEnd, NoPartition, Gap, NothingCommitted, NoInternal, Behind}
+use Rattle.eos_notes.specs.declared.note.Note.TheVariants.{NoApplication, Unlisted, PastEnd, NoPartition, Gap, NothingCommitted, NoInternal, Behind}
 use Rattle.eos_json_report.specs.Values.{text_value, count, integer, with_partition}
 
 unfoldable pub with_note : Note → Members → Members
+with_note NoApplication ms = put (codes "kind") (string (codes "NoApplication")) ms
 with_note (Unlisted p group) ms = with_partition p.topic p.partition (put (codes "group") (text_value group) (put (codes "kind") (string (codes "Unlisted")) ms))
 with_note (PastEnd group offset p end) ms =
     put (codes "end") (integer end) (put (codes "offset") (integer offset)

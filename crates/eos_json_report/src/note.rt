@@ -40,6 +40,7 @@ fn put_note(out: &mut Object, note: &Note) -> Result<(), AllocError>
     ensures { OnOk result (held out.new ≡ with_note note.now (held out.old)) }
 {
     match note {
+        Note::NoApplication => out.put_str("kind", "NoApplication"),
         Note::Unlisted { partition, group } => put_of_partition(out, "Unlisted", group, partition),
         Note::PastEnd {
             group,

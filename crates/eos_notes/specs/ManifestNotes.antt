@@ -1,6 +1,6 @@
 -- Signs in the manifest alone that the evidence isn't the one that was meant: topics that an application reads or writes (KIP-447)
--- and Kafka's internal topics (KIP-98), of which partitions are missing among those whose ends are declared. A partition that
--- isn't there isn't judged.
+-- and Kafka's internal topics (KIP-98), of which partitions are missing among those whose ends are declared, or that there is no
+-- application. What isn't there isn't judged.
 use Rattle.std.specs.Prelude.{ℕ, zero, suc, ℤ, pos, Bool, not, ◌&&◌, List, [], ◌∷◌, ◌++◌, length, map, filter, flat_map, bytes_eq, codes, int_lt, Option, Some, None, if◌then◌else◌}
 use Rattle.std.specs.List.{list_any}
 use Rattle.std.specs.Ordering.{nat_cmp, int_eq}
@@ -12,7 +12,13 @@ use Rattle.eos_commits.specs.Commits.{Group, Topic}
 use Rattle.eos_notes.specs.declared.note.InternalTopic.{InternalTopic}
 use Rattle.eos_notes.specs.declared.note.InternalTopic.TheVariants.{ConsumerOffsets, TransactionState}
 use Rattle.eos_notes.specs.declared.note.Note.{Note}
-use Rattle.eos_notes.specs.declared.note.Note.TheVariants.{NoPartition, Gap, NoInternal}
+use Rattle.eos_notes.specs.declared.note.Note.TheVariants.{NoApplication, NoPartition, Gap, NoInternal}
+
+-- ---- no application is named
+
+abbrev pub no_application : List App → List Note
+no_application [] = NoApplication ∷ []
+no_application (app ∷ apps) = []
 
 -- a partition of this topic has a declared end
 abbrev pub has_partition : List End → Topic → Bool

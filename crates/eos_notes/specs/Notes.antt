@@ -8,18 +8,18 @@ use Rattle.eos_fold.specs.LeastFaults.{IsFirstFault}
 use Rattle.eos_fold.specs.Parts.{PartLog}
 use Rattle.eos_lineage.specs.EvidenceLogs.{AreLogsOf}
 use Rattle.eos_notes.specs.declared.note.Note.{Note}
-use Rattle.eos_notes.specs.ManifestNotes.{absent_topics, gaps, absent_internals}
+use Rattle.eos_notes.specs.ManifestNotes.{no_application, absent_topics, gaps, absent_internals}
 use Rattle.eos_notes.specs.CommitNotes.{AreUnlistedNotes, past_ends, nothing_committed, behind}
 
 -- what the manifest alone shows
 abbrev pub of_manifest : Parts → List Note
-of_manifest spec = absent_topics spec.ends spec.apps ++ (gaps spec.apps spec.ends ++ absent_internals spec.ends)
+of_manifest spec = no_application spec.apps ++ (absent_topics spec.ends spec.apps ++ (gaps spec.apps spec.ends ++ absent_internals spec.ends))
 
--- all, behind those of partitions that aren't in `ends`
+-- all, with those of partitions that aren't in `ends`
 abbrev pub of_all : Parts → List PartLog → List Note → List Note
 of_all spec logs unlisted =
-    unlisted ++ (past_ends logs spec.apps ++ (absent_topics spec.ends spec.apps ++ (gaps spec.apps spec.ends
-    ++ (nothing_committed logs spec.apps ++ (absent_internals spec.ends ++ behind logs spec.apps)))))
+    no_application spec.apps ++ (unlisted ++ (past_ends logs spec.apps ++ (absent_topics spec.ends spec.apps ++ (gaps spec.apps spec.ends
+    ++ (nothing_committed logs spec.apps ++ (absent_internals spec.ends ++ behind logs spec.apps))))))
 
 -- by whether a partition's log has a fault
 abbrev pub AreNotesBy : Parts → List PartLog → Bool → List Note → Type 0

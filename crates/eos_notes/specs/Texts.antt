@@ -4,9 +4,10 @@ use Rattle.std.specs.Fmt.{decimal, signed_decimal}
 use Rattle.eos_text.specs.Escaping.{escaped}
 use Rattle.eos_notes.specs.ManifestNotes.{internal_name}
 use Rattle.eos_notes.specs.declared.note.Note.{Note}
-use Rattle.eos_notes.specs.declared.note.Note.TheVariants.{Unlisted, PastEnd, NoPartition, Gap, NothingCommitted, NoInternal, Behind}
+use Rattle.eos_notes.specs.declared.note.Note.TheVariants.{NoApplication, Unlisted, PastEnd, NoPartition, Gap, NothingCommitted, NoInternal, Behind}
 
 unfoldable pub note_text : Note → List ℕ
+note_text NoApplication = codes "no application is named: outputs and committed offsets aren't judged"
 note_text (Unlisted p group) = escaped p.topic ++ ((codes "-" ++ signed_decimal p.partition) ++ ((codes " isn't in ends, but group " ++ escaped group) ++ codes " committed an offset of it"))
 note_text (PastEnd group offset p end) =
     (codes "group " ++ escaped group) ++ ((codes " committed offset " ++ signed_decimal offset)

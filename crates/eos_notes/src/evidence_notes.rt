@@ -9,12 +9,12 @@ ghost use Rattle.eos_commits.specs.Tables.{IsTableOf};
 ghost use Rattle.eos_evidence.specs.declared.application.App.{App as AppOf};
 ghost use Rattle.eos_partitions.specs.Faults.{first_of};
 ghost use Rattle.eos_notes.specs.CommitNotes.{past_ends_in, nothing_in, behind_in, past_ends, nothing_committed, behind};
-ghost use Rattle.eos_notes.specs.ManifestNotes.{absent_topics, gaps, absent_internals};
+ghost use Rattle.eos_notes.specs.ManifestNotes.{no_application, absent_topics, gaps, absent_internals};
 ghost use Rattle.eos_notes.specs.Notes.{of_manifest, AreNotesBy};
 ghost use Rattle.eos_notes.specs.steps.Counted.{AreOffsetsFor};
 
 use crate::groups::{count_inputs, push_behind, push_nothing, push_past_ends};
-use crate::manifest::{push_absent_topics, push_gaps, push_internals};
+use crate::manifest::{push_absent_topics, push_gaps, push_internals, push_no_application};
 use crate::note::Note;
 use crate::unlisted::unlisted_notes;
 use eos_commits::{CommitRef, CommitTable, TopicSet};
@@ -149,8 +149,9 @@ fn push_of_manifest(
     apps: &[App],
     ends: &[End],
 ) -> Result<(), AllocError>
-    ensures { OnOk result (all.new.items ≡ all.old.items ++ (absent_topics ends.now apps.now ++ (gaps apps.now ends.now ++ absent_internals ends.now))) }
+    ensures { OnOk result (all.new.items ≡ all.old.items ++ (no_application apps.now ++ (absent_topics ends.now apps.now ++ (gaps apps.now ends.now ++ absent_internals ends.now)))) }
 {
+    push_no_application(all, apps)?;
     push_absent_topics(alloc, all, apps, ends)?;
     push_gaps(alloc, all, apps, ends)?;
     push_internals(alloc, all, ends)?;
@@ -175,7 +176,10 @@ fn all_notes(alloc: Global, spec: &Spec, parts: &[Part]) -> Result<Vec<Note>, Al
 {
     let apps = spec.apps().as_slice();
     let ends = spec.ends().as_slice();
-    let mut all = unlisted_notes(alloc, apps, ends, parts)?;
+    let mut all = Vec::new(alloc);
+    push_no_application(&mut all, apps)?;
+    let mut unlisted = unlisted_notes(alloc, apps, ends, parts)?;
+    append(&mut all, &mut unlisted)?;
     let mut found = found_of(alloc, apps, parts)?;
     push_all(alloc, &mut all, &mut found, apps, ends)?;
     Ok(all)

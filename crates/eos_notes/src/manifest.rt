@@ -5,13 +5,28 @@ ghost use Rattle.std.specs.List.{list_any};
 ghost use Rattle.std.specs.Ordering.{nat_cmp, int_eq};
 ghost use Rattle.std.specs.Cmp.Lexicographic.{slice_cmp};
 ghost use Rattle.eos_base.specs.Members.{is_found};
-ghost use Rattle.eos_notes.specs.ManifestNotes.{topics_of, absent_topic, absent_in, absent_topics, is_lesser as is_lesser_of, is_least as is_least_of, numbers_of, is_gap as is_gap_of, least_gap as least_gap_of, gap_note, gap_at, gaps, absent_internal, absent_internals};
+ghost use Rattle.eos_notes.specs.ManifestNotes.{no_application, topics_of, absent_topic, absent_in, absent_topics, is_lesser as is_lesser_of, is_least as is_least_of, numbers_of, is_gap as is_gap_of, least_gap as least_gap_of, gap_note, gap_at, gaps, absent_internal, absent_internals};
 
 use crate::note::{InternalTopic, Note};
 use bytes::Bytes;
 use eos_commits::TopicSet;
 use eos_evidence::{App, End, GroupId};
 use std::alloc::{AllocError, Global};
+
+// ---- no application
+
+/// Puts a note at the end where there is no application.
+///
+/// # Errors
+/// Only want of memory.
+pub(crate) fn push_no_application(all: &mut Vec<Note>, apps: &[App]) -> Result<(), AllocError>
+    ensures { OnOk result (all.new.items ≡ all.old.items ++ no_application apps.now) }
+{
+    if apps.is_empty() {
+        all.push(Note::NoApplication)?;
+    }
+    Ok(())
+}
 
 // ---- topics
 

@@ -10,6 +10,8 @@ use eos_evidence::GroupId;
 /// A sign that an evidence isn't the one that was meant. The variants stand in the order in which notes are listed.
 #[derive(Debug, Drop)]
 pub enum Note {
+    /// The manifest names no application: of the evidence only the logs, the transaction log and the matching are judged.
+    NoApplication,
     /// The group committed an offset of a partition of one of its source topics, which has no declared end.
     Unlisted {
         partition: PartitionName,

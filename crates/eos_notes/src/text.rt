@@ -38,6 +38,7 @@ fn push_note(alloc: Global, out: &mut String, note: &Note) -> Result<(), AllocEr
     ensures { OnOk result (Adds (string_bytes out.old) (string_bytes out.new) (note_text note.now)) }
 {
     match note {
+        Note::NoApplication => push_no_application(out),
         Note::Unlisted { partition, group } => push_unlisted(alloc, out, partition, group),
         Note::PastEnd {
             group,
@@ -63,6 +64,16 @@ fn push_note(alloc: Global, out: &mut String, note: &Note) -> Result<(), AllocEr
             inputs,
         } => push_behind(alloc, out, group, below, inputs),
     }
+}
+
+fn push_no_application(out: &mut String) -> Result<(), AllocError>
+    ensures { OnOk result (Adds (string_bytes out.old) (string_bytes out.new) (note_text Note.NoApplication)) }
+{
+    push_text(
+        out,
+        "no application is named: outputs and committed offsets aren't judged",
+    )?;
+    Ok(())
 }
 
 fn push_unlisted(

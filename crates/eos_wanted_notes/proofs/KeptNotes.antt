@@ -13,7 +13,7 @@ use Rattle.eos_lineage.specs.Lineage.{is_part_of, parts_of}
 use Rattle.eos_lineage.proofs.LogsInOrder.{in_order}
 use Rattle.eos_notes.specs.declared.note.Note.{Note}
 use Rattle.eos_notes.specs.CommitNotes.{AreUnlisted, AreUnlistedNotes, past_end_at, past_end_of, past_ends_in, past_ends, nothing_by, nothing_in, nothing_committed, behind_of, behind_in, behind}
-use Rattle.eos_notes.specs.ManifestNotes.{absent_topics, gaps, absent_internals}
+use Rattle.eos_notes.specs.ManifestNotes.{no_application, absent_topics, gaps, absent_internals}
 use Rattle.eos_notes.specs.Notes.{of_all, AreNotesBy, AreNotes}
 use Rattle.eos_notes.specs.Lines.{IsNotesTextBy, IsNotesText}
 use Rattle.eos_notes.proofs.Whole.{notes_are}
@@ -60,7 +60,7 @@ all_same spec ps unlisted =
     let past = flat_same (past_ends_in kept) (past_ends_in ps) spec.apps (past_kept spec.apps ps) in
     let nothing = flat_same (nothing_in kept) (nothing_in ps) spec.apps (nothing_kept spec.apps ps) in
     let late = flat_same (behind_in kept) (behind_in ps) spec.apps (behind_kept spec.apps ps) in
-    λ i. unlisted ++ (past i ++ (absent_topics spec.ends spec.apps ++ (gaps spec.apps spec.ends ++ (nothing i ++ (absent_internals spec.ends ++ late i)))))
+    λ i. no_application spec.apps ++ (unlisted ++ (past i ++ (absent_topics spec.ends spec.apps ++ (gaps spec.apps spec.ends ++ (nothing i ++ (absent_internals spec.ends ++ late i))))))
 
 pub notes_kept : (spec : Parts) (ps : List PartLog) (faulty : Bool) (notes : List Note) → AreNotesBy spec (wanted_logs spec.apps ps) faulty notes → AreNotesBy spec ps faulty notes
 notes_kept spec ps true notes h = h

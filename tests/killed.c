@@ -1,0 +1,85 @@
+/* Kills a program before one of its system calls that change files: the one whose number KILL_AT gives, counted from 1.
+ *
+ *     cc -shared -fPIC -o killed.so tests/killed.c -ldl
+ *     KILL_COUNT=count LD_PRELOAD=./killed.so crates/eoscheck/out/eoscheck draw FOLDER FILE
+ *     KILL_AT=7 LD_PRELOAD=./killed.so crates/eoscheck/out/eoscheck draw FOLDER FILE
+ */
+#define _GNU_SOURCE
+#include <dlfcn.h>
+#include <fcntl.h>
+#include <signal.h>
+#include <stdarg.h>
+#include <stdatomic.h>
+#include <stdio.h>
+#include <stdlib.h>
+#include <sys/file.h>
+#include <sys/stat.h>
+#include <unistd.h>
+
+static atomic_long count;
+static long at = -1;
+
+__attribute__((constructor)) static void start(void) {
+    const char *text = getenv("KILL_AT");
+    if (text) at = atol(text);
+    atomic_store(&count, 0);
+}
+
+static void next(void) {
+    if (atomic_fetch_add(&count, 1) + 1 == at) kill(getpid(), SIGKILL);
+}
+
+/* Says how many calls there were. */
+__attribute__((destructor)) static void end(void) {
+    int (*real)(const char *, int, ...) = dlsym(RTLD_NEXT, "open");
+    const char *path = getenv("KILL_COUNT");
+    int file = path ? real(path, O_WRONLY | O_CREAT | O_TRUNC, 0600) : -1;
+    if (file >= 0) dprintf(file, "%ld\n", atomic_load(&count));
+}
+
+/* A program that may start threads ends by _exit, which runs no destructor. */
+void _exit(int status) {
+    void (*real)(int) = dlsym(RTLD_NEXT, "_exit");
+    end();
+    real(status);
+    __builtin_unreachable();
+}
+
+#define CALLS(result, name, parameters, ...)                              \
+    result name parameters {                                              \
+        static result (*real) parameters;                                 \
+        if (!real) real = dlsym(RTLD_NEXT, #name);                        \
+        next();                                                           \
+        return real(__VA_ARGS__);                                         \
+    }
+
+CALLS(ssize_t, write, (int file, const void *bytes, size_t size), file, bytes, size)
+CALLS(int, close, (int file), file)
+CALLS(int, flock, (int file, int operation), file, operation)
+CALLS(int, link, (const char *from, const char *to), from, to)
+CALLS(int, linkat, (int a, const char *from, int b, const char *to, int flags), a, from, b, to, flags)
+CALLS(int, unlink, (const char *path), path)
+CALLS(int, unlinkat, (int folder, const char *path, int flags), folder, path, flags)
+CALLS(int, rename, (const char *from, const char *to), from, to)
+CALLS(int, mkdir, (const char *path, mode_t mode), path, mode)
+CALLS(int, rmdir, (const char *path), path)
+
+#define OPENS(name, parameters, ...)                                      \
+    int name parameters {                                                 \
+        static int (*real) parameters;                                    \
+        mode_t mode = 0;                                                  \
+        if (flags & O_CREAT) {                                            \
+            va_list rest;                                                 \
+            va_start(rest, flags);                                        \
+            mode = va_arg(rest, mode_t);                                  \
+            va_end(rest);                                                 \
+        }                                                                 \
+        if (!real) real = dlsym(RTLD_NEXT, #name);                        \
+        next();                                                           \
+        return real(__VA_ARGS__, flags, mode);                            \
+    }
+
+OPENS(open, (const char *path, int flags, ...), path)
+OPENS(open64, (const char *path, int flags, ...), path)
+OPENS(openat, (int folder, const char *path, int flags, ...), folder, path)
+OPENS(openat64, (int folder, const char *path, int flags, ...), folder, path)
