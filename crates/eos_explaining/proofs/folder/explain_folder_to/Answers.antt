@@ -1,0 +1,13 @@
+-- What was told of the evidence that was read is true of the one that stands there.
+use Rattle.eos_explaining.proofs.FolderAnswers.{known_told, known_front}
+use Rattle.eos_explaining.proofs.folder.explain_folder_to.Goals as goal
+
+pub returns-in-Ok-told-clause-known : goal.returns-in-Ok-told-clause-known
+returns-in-Ok-told-clause-known g c e known at =
+    known_told (g.D.Disk.holds c.args.folder.disk.now) c.args.folder.path.now c.args.which.now.fault c.in-Ok.answer (g.W.Write.contents c.args.writer.now) (g.W.Write.contents c.told.new.writer)
+    c.in-Ok-told.told e c.in-Ok.ensures c.in-Ok-told.ensures.ok known at
+
+pub returns-in-Err-told-clause-known_front : goal.returns-in-Err-told-clause-known_front
+returns-in-Err-told-clause-known_front g c e known at failed =
+    known_front (g.D.Disk.holds c.args.folder.disk.now) c.args.folder.path.now c.args.which.now.fault c.in-Ok.answer (g.W.Write.contents c.args.writer.now) (g.W.Write.contents c.told.new.writer)
+    e c.in-Ok.ensures c.in-Err-told.ensures.front known at
