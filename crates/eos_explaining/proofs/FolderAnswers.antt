@@ -1,5 +1,5 @@
 -- What was told of the evidence that was read is true of the one that stands there.
-use Rattle.std.proofs.Common.{◌≡◌, ℕ, List, Option, subst}
+use Rattle.std.proofs.Common.{ℕ, List, Option, subst}
 use Rattle.eos_disk.specs.Entries.{Entry}
 use Rattle.eos_evidence.specs.Evidence.{EvidenceParts}
 use Rattle.eos_folder.specs.Reading.{IsReadWhole}

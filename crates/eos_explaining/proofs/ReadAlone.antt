@@ -1,9 +1,8 @@
 -- What was read whole of a folder of logs stands there, and alone.
-use Rattle.std.proofs.Common.{◌≡◌, ◌≤◌, ◌<◌, ◌+◌, ◌^◌, ℕ, zero, suc, Bool, true, List, [], ◌∷◌, ◌++◌, length, map, Option, None, Some, codes, refl, sym, ap, ◌∙◌, subst, arith, append_assoc, length-append}
+use Rattle.std.proofs.Common.{◌≡◌, ◌<◌, ◌+◌, ℕ, zero, suc, true, List, [], ◌∷◌, ◌++◌, length, map, Some, codes, refl, sym, ap, ◌∙◌, subst, arith, append_assoc, length-append}
 use Rattle.std.proofs.lemmas.List.{length-map}
 use Rattle.std.specs.Fmt.{signed_decimal}
 use Rattle.std.specs.List.{AllByRecursion}
-use Rattle.std.specs.Option.{option_and_then}
 use Rattle.std.specs.Prelude.{slice_get}
 use Rattle.std.specs.Str.Lossy.{utf8_lossy}
 use Rattle.eos_disk.specs.Entries.{Entry, Unknown, Absent, File, Folder, HasBytes, IsKnown}
@@ -11,14 +10,13 @@ use Rattle.eos_evidence.specs.declared.ends.End.{End}
 use Rattle.eos_evidence.specs.declared.partition.Partition.{Partition}
 use Rattle.eos_evidence.specs.declared.segment.Segment.{Segment}
 use Rattle.eos_evidence.specs.Evidence.{EvidenceParts, IsPartition, IsOwn, segments_of}
-use Rattle.eos_folder.specs.declared.names.FileName.{FileName}
 use Rattle.eos_folder.specs.declared.names.Form.{Form}
 use Rattle.eos_folder.specs.declared.names.Form.TheVariants as in_form
 use Rattle.eos_folder.specs.Paths.{padded_base, ending_of, segment_path}
 use Rattle.eos_folder.specs.Reading.{name_of, names_only, shape_of, AreAllLogs, HasItsBytes, IsReadWhole}
 use Rattle.eos_folder.specs.Shapes.{AreListed, AreKnown, segment_of}
 use Rattle.eos_folder.proofs.ReadWhole.{named_segments}
-use Rattle.eos_folder_source.specs.Logs.{is_log, is_log_at}
+use Rattle.eos_folder_source.specs.Logs.{is_log}
 use Rattle.eos_folder_source.specs.Saying.{said_by, said_at, StandsAs, StandsAt}
 use Rattle.eos_folder_source.proofs.OneEvidence.{one_evidence}
 use Rattle.eos_source.specs.Said.{Said, HasSaid, Log}
@@ -109,7 +107,7 @@ logs_each (f ∷ fs) (suc k) logs lt = logs_each fs k logs.1 (omega (arith, lt))
 as_many : (holds : List ℕ → Entry) (folder : List ℕ) (ps : List Partition) (forms : List Form) → AreListed holds folder ps forms → length (segments_of ps) ≡ length forms
 as_many holds folder [] forms are = sym (ap length are)
 as_many holds folder (p ∷ ps) forms are =
-    let files : List FileName = are.0 in
+    let files = are.0 in
     let later = as_many holds folder ps are.1 are.5 in
     let own = ap length are.3 ∙ length-map files (segment_of p.end) in
     let left = length-append p.segments (segments_of ps) in

@@ -18,7 +18,7 @@ is_yes : (folder : List ℕ) (e : EvidenceParts) (number : ℕ) (answer : Answer
 is_yes folder e number answer line notes is a = subst (IsAnswer folder e number) is a
 
 none_of_yes : (e : EvidenceParts) (fault : Option ℕ) (number : ℕ) (line notes : List ℕ) → fault ≡ Some number → IsYes e line notes → AreTooFew e fault 0
-none_of_yes e fault number line notes asked yes = rw asked (inr (refl, yes.counts, yes.is))
+none_of_yes e fault number line notes asked found = rw asked (inr (refl, found.counts, found.is))
 
 pub yes_fewer : (fault : Option ℕ) (number : ℕ) (answer : Answer) (line notes : String Global) (old : Option (List ℕ)) → answer ≡ answers.Yes line notes → fault ≡ Some number
     → Tells fault answer old old (say.Fewer 0)

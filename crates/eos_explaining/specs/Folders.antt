@@ -6,8 +6,6 @@ use Rattle.eos_check.specs.declared.verdict.Verdict.TheVariants.{Yes}
 use Rattle.eos_check.specs.Verdicts.{IsVerdict}
 use Rattle.eos_evidence.specs.Evidence.{EvidenceParts}
 use Rattle.eos_text.specs.Writing.{WritesFront}
-use Rattle.eos_explaining.specs.declared.answer.Answer.{Answer}
-use Rattle.eos_explaining.specs.declared.answer.Answer.TheVariants as answers
 use Rattle.eos_explaining.specs.declared.folder.Explained.{Explained}
 use Rattle.eos_explaining.specs.declared.folder.Explained.TheVariants as told
 use Rattle.eos_explaining.specs.Explaining.{IsYes, IsTheStory, AreFewer}

@@ -116,7 +116,6 @@ fn told<W: Write>(
 /// # Errors
 /// At `CannotWrite` a front of the text was written. Before all is read and judged nothing is: `Refused` says which file or folder is no
 /// evidence or can't be read, or that memory ran out.
-#[tactic(auto, using(crate::proofs::FolderAnswers::told_of, crate::proofs::FolderAnswers::front_of))]
 pub fn explain_folder_to<D: Disk, T: Gate + Watch, R: Threads + Wait + Sync, W: Write>(
     alloc: Global,
     threads: &R,
