@@ -137,11 +137,11 @@ def written(scratch, change):
 
 
 def commanded(program, lines, folder):
-    """What the command of a story's last line prints, run by a shell in the place of FOLDER; None where the last line is none."""
-    found = re.fullmatch(r"Run: eoscheck (dump --decode --from (\d+) --to (\d+)) FOLDER(/\S+)", lines[-1]) if lines else None
-    if not found or int(found[3]) != int(found[2]) + 1:
+    """What the command of a story's last line prints, run by a shell as it stands; None where the last line is none, or not of this folder."""
+    found = re.fullmatch(r"Run: eoscheck (dump --decode --from (\d+) --to (\d+) (.*))", lines[-1]) if lines else None
+    if not found or int(found[3]) != int(found[2]) + 1 or not shlex.split(found[4])[-1].startswith(folder + "/"):
         return None
-    done = subprocess.run(["sh", "-c", f'"$0" {found[1]} {shlex.quote(folder + found[4])}', program], capture_output=True, text=True, timeout=100, check=False)
+    done = subprocess.run(["sh", "-c", f'"$0" {found[1]}', program], capture_output=True, text=True, timeout=100, check=False)
     return done.returncode, f"record offset={found[2]} " in done.stdout, done.stderr
 
 

@@ -1,1 +1,4 @@
+mod FolderAnswers
 pub mod NamedFaults
+mod ReadAlone
+mod Tellings

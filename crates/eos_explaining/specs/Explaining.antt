@@ -40,9 +40,10 @@ AreWhole e logs (Yes counts) rows = ⊤
 AreWhole e logs (No fault) rows = IsWhole e logs fault rows
 
 -- the text is the story of the fault that this verdict names: of true rows that answer all questions, with its page and the notes
--- of the evidence
-pub record IsStoryOf (e : EvidenceParts) (logs : List PartLog) (told : List Verdict) (verdict : Verdict) (text : List ℕ) : Type 0 where
+-- of the evidence, in this folder
+pub record IsStoryOf (folder : List ℕ) (e : EvidenceParts) (logs : List PartLog) (told : List Verdict) (verdict : Verdict) (text : List ℕ) : Type 0 where
   pub story : Story
+  pub in_folder : story.folder.now ≡ folder
   pub of_verdict : story.verdict.now ≡ verdict
   pub at : option_copied story.place ≡ place_in verdict
   pub rows : All (IsTrue e.partitions logs) story.rows.now
@@ -60,7 +61,7 @@ pub record AreTold (e : EvidenceParts) (logs : List PartLog) (told : List Verdic
   pub named : told ≡ map No faults
 
 -- the story of the fault of this number, counted from 1
-pub record IsTheStory (e : EvidenceParts) (number : ℕ) (text : List ℕ) : Type 0 where
+pub record IsTheStory (folder : List ℕ) (e : EvidenceParts) (number : ℕ) (text : List ℕ) : Type 0 where
   pub logs : List PartLog
   pub told : List Verdict
   pub are : AreTold e logs told
@@ -68,7 +69,7 @@ pub record IsTheStory (e : EvidenceParts) (number : ℕ) (text : List ℕ) : Typ
   pub numbered : number ≡ suc before
   pub verdict : Verdict
   pub at : slice_get told before ≡ Some verdict
-  pub story : IsStoryOf e logs told verdict text
+  pub story : IsStoryOf folder e logs told verdict text
 
 -- there are so many, and this number is none of theirs
 pub record AreFewer (e : EvidenceParts) (number count : ℕ) : Type 0 where
@@ -85,7 +86,7 @@ pub record IsYes (e : EvidenceParts) (line notes : List ℕ) : Type 0 where
   pub says : line ≡ verdict_line (Yes counts)
   pub noted : IsNotesText e false notes
 
-abbrev pub IsAnswer : EvidenceParts → ℕ → Answer → Type 0
-IsAnswer e number (answers.Yes line notes) = IsYes e (string_bytes line) (string_bytes notes)
-IsAnswer e number (answers.Story text) = IsTheStory e number (string_bytes text)
-IsAnswer e number (answers.Fewer count) = AreFewer e number count
+abbrev pub IsAnswer : List ℕ → EvidenceParts → ℕ → Answer → Type 0
+IsAnswer folder e number (answers.Yes line notes) = IsYes e (string_bytes line) (string_bytes notes)
+IsAnswer folder e number (answers.Story text) = IsTheStory folder e number (string_bytes text)
+IsAnswer folder e number (answers.Fewer count) = AreFewer e number count

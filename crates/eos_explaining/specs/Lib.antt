@@ -1,1 +1,3 @@
 pub mod Explaining
+pub mod Folders
+pub mod steps

@@ -8,7 +8,7 @@ ghost use Rattle.eos_notes.specs.Lines.{IsNotesText};
 ghost use Rattle.eos_notes.specs.Notes.{AreNotes};
 ghost use Rattle.eos_explaining.specs.Explaining.{IsAnswer};
 
-use crate::story::story_at;
+use crate::story::{About, story_at};
 use eos_all_faults::all_faults;
 use eos_board_core::Gate;
 use eos_check::{Fault, Verdict, logs_of, verdict_of};
@@ -24,7 +24,9 @@ use std::thread::Threads;
 
 /// What is asked of `explain`.
 #[derive(Clone, Copy)]
-pub struct Asked {
+pub struct Asked<'a> {
+    /// The folder of the evidence, as it was named.
+    pub folder: &'a str,
     pub workers: Workers,
     /// Which fault of the list of all it is, from 1 on.
     pub number: u64,
@@ -74,11 +76,12 @@ fn of_faults(
     alloc: Global,
     evidence: &Evidence,
     logs: &Logs,
-    number: u64,
+    asked: &Asked<'_>,
 ) -> Result<Answer, AllocError>
     requires { AreWholeLogs evidence.now.partitions logs.now }
-    ensures { IfOk result (IsAnswer evidence.now number) }
+    ensures { IfOk result (IsAnswer asked.now.folder.now evidence.now asked.now.number) }
 {
+    let number = asked.number;
     let faults = all_faults(alloc, evidence, logs)?;
     let told = verdicts_of(alloc, faults)?;
     let count = told.len() as u64;
@@ -92,7 +95,12 @@ fn of_faults(
     };
     let found = noted(alloc, evidence, logs)?;
     let place = (number - 1) as usize;
-    let story = story_at(&scene, told.as_slice(), place, found.as_slice())?;
+    let about = About {
+        folder: asked.folder,
+        told: told.as_slice(),
+        notes: found.as_slice(),
+    };
+    let story = story_at(&scene, about, place)?;
     Ok(Answer::Story(story))
 }
 
@@ -101,11 +109,11 @@ fn of_verdict(
     evidence: &Evidence,
     logs: &Logs,
     verdict: &Verdict,
-    number: u64,
+    asked: &Asked<'_>,
 ) -> Result<Answer, AllocError>
     requires logs { AreWholeLogs evidence.now.partitions logs.now }
     requires verdict { IsVerdict evidence.now verdict.now }
-    ensures { IfOk result (IsAnswer evidence.now number) }
+    ensures { IfOk result (IsAnswer asked.now.folder.now evidence.now asked.now.number) }
 {
     match verdict {
         Verdict::Yes(_) => {
@@ -113,7 +121,7 @@ fn of_verdict(
             let notes = noted_lines(alloc, evidence, logs)?;
             Ok(Answer::Yes { line, notes })
         }
-        Verdict::No(_) => of_faults(alloc, evidence, logs, number),
+        Verdict::No(_) => of_faults(alloc, evidence, logs, asked),
     }
 }
 
@@ -126,12 +134,12 @@ pub fn explain<G: Gate>(
     alloc: Global,
     rt: &(impl Threads + Wait + Sync),
     evidence: &Evidence,
-    asked: Asked,
+    asked: &Asked<'_>,
     gate: &G,
 ) -> Result<Answer, AllocError>
-    ensures { IfOk result (IsAnswer evidence.now asked.number) }
+    ensures { IfOk result (IsAnswer asked.now.folder.now evidence.now asked.now.number) }
 {
     let logs = logs_of(alloc, rt, evidence, asked.workers, gate)?;
     let verdict = verdict_of(alloc, rt, evidence, &logs, asked.workers)?;
-    of_verdict(alloc, evidence, &logs, &verdict, asked.number)
+    of_verdict(alloc, evidence, &logs, &verdict, asked)
 }

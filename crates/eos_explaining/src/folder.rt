@@ -1,16 +1,146 @@
-//! `explain` of a folder.
+//! `explain` of a folder: from the bytes of its files to the story that is written.
+
+ghost use Rattle.std.specs.Prelude.{◌≡◌, ◌≢◌, IfOk, IfErr, Err};
+ghost use Rattle.std.specs.Io.KnownBytes.{Keeps};
+ghost use Rattle.eos_evidence.specs.Evidence.{EvidenceParts};
+ghost use Rattle.eos_folder.specs.Reading.{IsReadWhole};
+ghost use Rattle.eos_folder.specs.Shapes.{AreKnown};
+ghost use Rattle.eos_folder_source.specs.Saying.{StandsAt};
+ghost use Rattle.eos_explaining.specs.Explaining.{IsAnswer};
+ghost use Rattle.eos_explaining.specs.Folders.{number_of, IsExplained, IsFrontOfExplained};
+ghost use Rattle.eos_explaining.specs.steps.Tellings.{Tells, TellsFront};
+ghost use Rattle.eos_explaining.specs.declared.folder.Unexplained.TheVariants.{CannotWrite};
 
 use crate::answer::{Answer, Asked, explain};
-use eos_disk::HostDisk;
+use eos_board_core::Gate;
+use eos_disk::{Disk, HostDisk};
 use eos_ending::{Ending, Meter, Progress, STANDARD, Subject, end, end_unread, say_notes};
-use eos_evidence::Evidence;
-use eos_folder::{Cause, Reading, read_folder};
-use eos_segment::RunFault;
-use eos_text::finish;
+use eos_folder::{FolderFault, Reading, Watch, read_folder};
+use eos_text::{WriteFault, finish};
 use eos_words::Explain;
+use eos_workers::Workers;
+use std::alloc::Global;
 use std::io;
+use std::io::Write;
 use std::sync::Wait;
 use std::thread::Threads;
+
+/// A folder of a disk, and who is told how far its reading is; the workers pass it as a gate.
+#[derive(Clone, Copy)]
+pub struct Folder<'a, D, T> {
+    pub disk: &'a D,
+    pub path: &'a str,
+    pub watch: &'a T,
+}
+
+/// Which fault of a folder is explained.
+#[derive(Clone, Copy)]
+pub struct Which {
+    pub workers: Workers,
+    /// Its number in the list of all, from 1 on; where none is said the first, or the line of a yes.
+    pub fault: Option<u64>,
+}
+
+/// What became of a folder that was read.
+#[derive(Drop)]
+pub enum Explained {
+    /// The line of a yes was written: status 0. These are the lines of the notes.
+    Yes(String),
+    /// The story was written: status 1.
+    Story,
+    /// There are only so many faults, and nothing was written.
+    Fewer(u64),
+}
+
+/// Why a folder isn't explained.
+#[derive(Drop)]
+pub enum Unexplained {
+    /// It is no evidence, or can't be read; or memory was refused. Nothing was written.
+    Refused(FolderFault),
+    /// The writer failed. A front of the answer was written.
+    CannotWrite,
+}
+
+/// Reads a folder whole, and answers.
+fn answer_folder<D: Disk, T: Gate + Watch, R: Threads + Wait + Sync>(
+    alloc: Global,
+    threads: &R,
+    folder: Folder<'_, D, T>,
+    which: &Which,
+) -> Result<Answer, FolderFault>
+    ensures { IfOk result (λ answer. (e : EvidenceParts) × IsReadWhole (D.holds folder.entry.disk.now) folder.entry.path.now e × IsAnswer folder.entry.path.now e (number_of which.now.fault) answer) }
+{
+    let reading = Reading {
+        workers: which.workers,
+        watch: folder.watch,
+    };
+    let evidence = read_folder(alloc, threads, folder.disk, folder.path, reading)?;
+    let asked = Asked {
+        folder: folder.path,
+        workers: which.workers,
+        number: which.fault.unwrap_or(1),
+    };
+    let answer = explain(alloc, threads, &evidence, &asked, folder.watch)?;
+    Ok(answer)
+}
+
+/// Writes the text of an answer, if it has one.
+#[tactic(auto, using(crate::proofs::Tellings::yes_told, crate::proofs::Tellings::yes_front, crate::proofs::Tellings::yes_fewer, crate::proofs::Tellings::story_told, crate::proofs::Tellings::story_front, crate::proofs::Tellings::fewer_told))]
+fn told<W: Write>(
+    writer: &mut W,
+    fault: Option<u64>,
+    answer: Answer,
+) -> Result<Explained, WriteFault>
+    ensures ok { IfOk result (Tells fault answer (W.contents writer.old) (W.contents writer.new)) }
+    ensures front { IfErr result (λ _. TellsFront fault answer (W.contents writer.old) (W.contents writer.new)) }
+{
+    match answer {
+        Answer::Yes { line, notes } => match fault {
+            Some(_) => Ok(Explained::Fewer(0)),
+            None => {
+                finish(writer, line.as_bytes())?;
+                Ok(Explained::Yes(notes))
+            }
+        },
+        Answer::Story(text) => {
+            finish(writer, text.as_bytes())?;
+            Ok(Explained::Story)
+        }
+        Answer::Fewer(count) => Ok(Explained::Fewer(count)),
+    }
+}
+
+/// Writes the story of a fault of the evidence in a folder of a disk, of this number in the list of all; or where it has none and no
+/// number is said, the line of a yes. The evidence is read whole, by at most so many threads.
+///
+/// # Errors
+/// At `CannotWrite` a front of the text was written. Before all is read and judged nothing is: `Refused` says which file or folder is no
+/// evidence or can't be read, or that memory ran out.
+pub fn explain_folder_to<D: Disk, T: Gate + Watch, R: Threads + Wait + Sync, W: Write>(
+    alloc: Global,
+    threads: &R,
+    folder: Folder<'_, D, T>,
+    which: &Which,
+    writer: &mut W,
+) -> Result<Explained, Unexplained>
+    ensures some { IfOk result (λ told. (e : EvidenceParts) × IsReadWhole (D.holds folder.entry.disk.now) folder.entry.path.now e
+        × IsExplained folder.entry.path.now e which.now.fault (W.contents writer.old) (W.contents writer.new) told) }
+    ensures known { (e : EvidenceParts) → AreKnown (D.holds folder.entry.disk.now) folder.entry.path.now → StandsAt (D.holds folder.entry.disk.now) folder.entry.path.now e
+        → IfOk result (IsExplained folder.entry.path.now e which.now.fault (W.contents writer.old) (W.contents writer.new)) }
+    ensures unread { IfErr result (λ why. why ≢ CannotWrite → Keeps (W.contents writer.old) (W.contents writer.new)) }
+    ensures front { result ≡ Err CannotWrite → (e : EvidenceParts) × IsReadWhole (D.holds folder.entry.disk.now) folder.entry.path.now e
+        × IsFrontOfExplained folder.entry.path.now e which.now.fault (W.contents writer.old) (W.contents writer.new) }
+    ensures known_front { (e : EvidenceParts) → AreKnown (D.holds folder.entry.disk.now) folder.entry.path.now → StandsAt (D.holds folder.entry.disk.now) folder.entry.path.now e
+        → result ≡ Err CannotWrite → IsFrontOfExplained folder.entry.path.now e which.now.fault (W.contents writer.old) (W.contents writer.new) }
+{
+    match answer_folder(alloc, threads, folder, which) {
+        Ok(answer) => match told(writer, which.fault, answer) {
+            Ok(told) => Ok(told),
+            Err(_) => Err(Unexplained::CannotWrite),
+        },
+        Err(fault) => Err(Unexplained::Refused(fault)),
+    }
+}
 
 /// Prints the story of a fault of the evidence in a folder, and gives the exit status, that of `check`.
 pub fn explain_folder(
@@ -20,55 +150,26 @@ pub fn explain_folder(
 ) -> u8 {
     let meter = Meter::start(rt, false, false);
     let progress = Progress::begin(&meter, Subject::Only);
-    let asked = Reading {
-        workers: words.workers,
+    let disk = HostDisk { rt };
+    let folder = Folder {
+        disk: &disk,
+        path: words.folder,
         watch: &progress,
     };
-    match read_folder(rt.alloc(), threads, &HostDisk { rt }, words.folder, asked) {
-        Ok(evidence) => tell(rt, threads, words, &evidence, &progress),
-        Err(fault) => end_unread(rt, Subject::Only, &fault),
-    }
-}
-
-fn tell(
-    rt: &HostRuntime,
-    threads: &(impl Threads + Wait + Sync),
-    words: &Explain<'_>,
-    evidence: &Evidence,
-    progress: &Progress<'_>,
-) -> u8 {
-    let asked = Asked {
+    let which = Which {
         workers: words.workers,
-        number: words.fault.unwrap_or(1),
+        fault: words.fault,
     };
-    match explain(rt.alloc(), threads, evidence, asked, progress) {
-        Ok(Answer::Yes { line, notes }) => match words.fault {
-            None => write_yes(rt, line.as_str(), notes.as_str()),
-            Some(_) => say_fewer(rt, 0),
-        },
-        Ok(Answer::Story(text)) => write_answer(rt, text.as_str(), 1),
-        Ok(Answer::Fewer(count)) => say_fewer(rt, count),
-        Err(_) => end(rt, Ending::OutOfMemory),
+    match explain_folder_to(rt.alloc(), threads, folder, &which, &mut io::writer(rt)) {
+        Ok(Explained::Yes(notes)) => {
+            say_notes(rt, Subject::Only, notes.as_str());
+            0
+        }
+        Ok(Explained::Story) => 1,
+        Ok(Explained::Fewer(count)) => say_fewer(rt, count),
+        Err(Unexplained::CannotWrite) => end(rt, Ending::CannotWrite(STANDARD)),
+        Err(Unexplained::Refused(fault)) => end_unread(rt, Subject::Only, &fault),
     }
-}
-
-fn write_yes(rt: &HostRuntime, line: &str, notes: &str) -> u8 {
-    let status = write_answer(rt, line, 0);
-    if status == 0 {
-        say_notes(rt, Subject::Only, notes);
-    }
-    status
-}
-
-fn write_answer(rt: &HostRuntime, text: &str, status: u8) -> u8 {
-    let answered = match finish(&mut io::writer(rt), text.as_bytes()) {
-        Ok(()) => Ok(status),
-        Err(_) => Err(RunFault::Write),
-    };
-    end(
-        rt,
-        Ending::of_answer(answered, STANDARD, STANDARD, &Cause::Unknown),
-    )
 }
 
 /// There are fewer faults than the number that was named.

@@ -6,4 +6,4 @@ mod folder;
 mod story;
 
 pub use answer::{Answer, Asked, explain};
-pub use folder::explain_folder;
+pub use folder::{Explained, Folder, Unexplained, Which, explain_folder, explain_folder_to};

@@ -27,30 +27,37 @@ fn page_for(alloc: Global, fault: &Fault) -> Result<Option<&'static Page>, Alloc
     Ok(page_of(code.as_str()))
 }
 
+/// What a story tells beside its fault: the folder's path, all faults as verdicts name them, and the notes.
+#[derive(Clone, Copy)]
+pub(crate) struct About<'a> {
+    pub folder: &'a str,
+    pub told: &'a [Verdict],
+    pub notes: &'a [Note],
+}
+
 /// The story of the fault that this verdict names, which is one of these.
 fn told_of(
     scene: &Scene<'_>,
-    told: &[Verdict],
+    about: About<'_>,
     verdict: &Verdict,
     fault: &Fault,
-    notes: &[Note],
 ) -> Result<String, AllocError>
     requires logs { AreLogsOf scene.now.evidence.now.partitions scene.now.logs.now }
-    requires notes { AreNotes scene.now.evidence.now notes.now }
+    requires notes { AreNotes scene.now.evidence.now about.notes.now }
     requires names { verdict.now ≡ No fault.now }
-    ensures { IfOk result (λ text. IsStoryOf scene.now.evidence.now scene.now.logs.now told.now verdict.now (string_bytes text)) }
+    ensures { IfOk result (λ text. IsStoryOf about.entry.folder.now scene.now.evidence.now scene.now.logs.now about.entry.told.now verdict.now (string_bytes text)) }
 {
     let rows = rows_of(scene, fault)?;
     let place = place_of(scene.alloc, fault)?;
     let page = page_for(scene.alloc, fault)?;
     let story = Story {
-        folder: "FOLDER",
+        folder: about.folder,
         verdict,
         place: place.as_ref(),
         rows: rows.as_slice(),
         page,
-        told,
-        notes,
+        told: about.told,
+        notes: about.notes,
     };
     story_text(scene.alloc, &story)
 }
@@ -59,21 +66,17 @@ fn told_of(
 ///
 /// # Errors
 /// Only want of memory.
-pub(crate) fn story_at(
-    scene: &Scene<'_>,
-    told: &[Verdict],
-    i: usize,
-    notes: &[Note],
-) -> Result<String, AllocError>
+pub(crate) fn story_at(scene: &Scene<'_>, about: About<'_>, i: usize) -> Result<String, AllocError>
     requires logs { AreLogsOf scene.now.evidence.now.partitions scene.now.logs.now }
-    requires notes { AreNotes scene.now.evidence.now notes.now }
-    requires inside { i < length told.now }
-    requires faults { (faults : List AFault) × (told.now ≡ map No faults) }
-    ensures { IfOk result (λ text. (verdict : Named) × (slice_get told.now i ≡ Some verdict) × IsStoryOf scene.now.evidence.now scene.now.logs.now told.now verdict (string_bytes text)) }
+    requires notes { AreNotes scene.now.evidence.now about.notes.now }
+    requires inside { i < length about.told.now }
+    requires faults { (faults : List AFault) × (about.told.now ≡ map No faults) }
+    ensures { IfOk result (λ text. (verdict : Named) × (slice_get about.entry.told.now i ≡ Some verdict) × IsStoryOf about.entry.folder.now scene.now.evidence.now scene.now.logs.now about.entry.told.now verdict (string_bytes text)) }
 {
+    let told = about.told;
     let verdict = &told[i];
     match verdict {
         Verdict::Yes(_) => unreachable!(),
-        Verdict::No(fault) => told_of(scene, told, verdict, fault, notes),
+        Verdict::No(fault) => told_of(scene, about, verdict, fault),
     }
 }

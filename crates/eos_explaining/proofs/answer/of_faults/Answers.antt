@@ -24,7 +24,7 @@ returns c =
       logs = c.args.logs.now.parts.items;
       told = c.as_slice-2.result.now;
       are = record { faults = c.in_ok-faults.faults.items; of = c.requires.parts; are = c.in_ok-faults.ensures c.requires.parts c.requires.faults; named = c.as_slice-2.ensures.value ∙ c.in_ok-told.ensures };
-      before = c.args.number - 1;
+      before = c.args.asked.now.number - 1;
       numbered = omega (arith, c.if-number-eq0.false);
       verdict = story.0;
       at = story.1;
