@@ -378,7 +378,7 @@ def bad_copies():
             os.remove(file)
 
     refused("a partition without segments", "out-1 can't be copied from .*", lambda c: c.words(far=False), build=empty)
-    refused("the same by rsync", "out-1 has no segment in .*|out-1 can't be copied from .*", lambda c: c.words("--with", "rsync"), build=empty)
+    refused("the same by rsync", "(?:out-1 has no segment in|out-1 can't be copied from) .*", lambda c: c.words("--with", "rsync"), build=empty)
 
     def deleted(cluster):
         del cluster.state["topics"]["out"]
