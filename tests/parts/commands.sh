@@ -5,6 +5,8 @@
 preloaded refuse
 counted coordinators python3 -B tests/coordinator.py "$program"
 counted manifests python3 -B tests/init.py "$program" "$scratch/refuse.so"
+preloaded killed
+counted 'killed runs' python3 -B tests/killed.py "$program" "$scratch/killed.so"
 counted reports python3 -B tests/report.py "$program" "$scratch/refuse.so"
 counted pictures python3 -B tests/draw.py "$program" "$scratch/refuse.so"
 preloaded killed

@@ -1,9 +1,11 @@
 //! `fold`: the folds of segments where they lie.
 
+use eos_disk::{ChangeFault, HostDisk};
 use eos_ending::{Ending, STANDARD, Subject, end, end_unread, end_unwritten};
 use eos_folder::FolderFault;
 use eos_folding_files::{Folded, FoldingFault, Given, fold_folders};
 use eos_words::Fold;
+use std::io::ErrorKind;
 
 /// Folds the segments of the folders that the words name, says on standard output how many, and gives the exit status.
 pub fn fold_partitions(rt: &HostRuntime, words: &Fold<'_>) -> u8 {
@@ -12,7 +14,7 @@ pub fn fold_partitions(rt: &HostRuntime, words: &Fold<'_>) -> u8 {
         out: words.out,
         folders: words.folders.as_slice(),
     };
-    match fold_folders(rt, given) {
+    match fold_folders(rt.alloc(), &mut HostDisk { rt }, given) {
         Ok(folded) => say(rt, folded),
         Err(fault) => refuse(rt, words, fault),
     }
@@ -45,7 +47,19 @@ fn refuse(rt: &HostRuntime, words: &Fold<'_>, fault: FoldingFault<'_>) -> u8 {
             rt,
             Ending::Unfit(path, "another folder of this partition is given"),
         ),
-        FoldingFault::CannotWrite(path, kind) => end_unwritten(rt, &path, kind),
+        FoldingFault::CannotWrite(path, why) => end_unwritten(rt, &path, kind_of(why)),
         FoldingFault::OutOfMemory => end(rt, Ending::OutOfMemory),
+    }
+}
+
+/// Of which kind an error of the system was.
+fn kind_of(fault: ChangeFault) -> ErrorKind {
+    match fault {
+        ChangeFault::ThereAlready => ErrorKind::AlreadyExists,
+        ChangeFault::NoFolder => ErrorKind::NotFound,
+        ChangeFault::NotFolder => ErrorKind::NotADirectory,
+        ChangeFault::PermissionDenied => ErrorKind::PermissionDenied,
+        ChangeFault::Refused => ErrorKind::Other,
+        ChangeFault::OutOfMemory => ErrorKind::OutOfMemory,
     }
 }

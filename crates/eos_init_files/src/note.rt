@@ -54,6 +54,18 @@ impl OfLines {
     }
 }
 
+/// The notes as texts of one line, each without its newline.
+///
+/// # Errors
+/// A growth of memory was refused.
+pub(crate) fn note_texts(alloc: Global, notes: &[Note]) -> Result<Vec<String>, AllocError> {
+    let mut texts = Vec::new(alloc);
+    for note in notes {
+        texts.push(note.text(alloc)?)?;
+    }
+    Ok(texts)
+}
+
 impl Note {
     /// The note as a text of one line, without its newline.
     ///

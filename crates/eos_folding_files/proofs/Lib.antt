@@ -1,0 +1,3 @@
+mod FoldsMore
+mod FoldersFound
+mod Unmade
