@@ -2,7 +2,7 @@
 
 ghost use Rattle.std.specs.Prelude.{◌≡◌, None};
 ghost use Rattle.eos_scripts.specs.Driven.{IsDriven, IsKept};
-ghost use Rattle.eos_scripts.specs.steps.Drives.{HasDone};
+ghost use Rattle.eos_scripts.specs.steps.Drives.{HasDone, HasSameRules};
 
 use crate::driver::Driver;
 use crate::history::History;
@@ -33,6 +33,7 @@ pub fn run_script(alloc: Global, cluster: &mut Cluster, script: &Script) -> Resu
     ensures driven { IsDriven cluster.old cluster.new }
     ensures config { cluster.new.config ≡ cluster.old.config }
     ensures honest { cluster.new.honest ≡ cluster.old.honest }
+    ensures switches { cluster.new.switches ≡ cluster.old.switches }
 {
     run_with(alloc, cluster, script, &Settings::today())?;
     Ok(())
@@ -52,6 +53,7 @@ pub fn run_with(
     ensures driven { IsDriven cluster.old cluster.new }
     ensures config { cluster.new.config ≡ cluster.old.config }
     ensures honest { settings.now.turning ≡ None → cluster.new.honest ≡ cluster.old.honest }
+    ensures switches { settings.now.turning ≡ None → cluster.new.switches ≡ cluster.old.switches }
 {
     let mut driver = Driver::new(cluster, None);
     let answer = run_driven(alloc, cluster, &mut driver, script, settings);
@@ -74,6 +76,7 @@ pub fn run_kept(
     ensures kept { IsKept cluster.old history.old cluster.new history.new }
     ensures config { cluster.new.config ≡ cluster.old.config }
     ensures honest { settings.now.turning ≡ None → cluster.new.honest ≡ cluster.old.honest }
+    ensures switches { settings.now.turning ≡ None → cluster.new.switches ≡ cluster.old.switches }
 {
     let before = mem::replace(history, History::new(alloc));
     let mut driver = Driver::new(cluster, Some(before));
@@ -91,7 +94,7 @@ fn run_driven(
 ) -> Result<Option<Mishap>, AllocError>
     requires { driver.old.course ≡ cluster.old }
     ensures done { HasDone cluster.old driver.old cluster.new driver.new }
-    ensures honest { settings.now.turning ≡ None → cluster.new.honest ≡ cluster.old.honest }
+    ensures rules { settings.now.turning ≡ None → HasSameRules cluster.old cluster.new }
 {
     let mut run = Run::new(alloc, cluster, settings)?;
     let mut number = 0u64;
@@ -114,7 +117,7 @@ fn turn_on(
 ) -> Result<(), AllocError>
     requires { driver.old.course ≡ cluster.old }
     ensures done { HasDone cluster.old driver.old cluster.new driver.new }
-    ensures honest { settings.now.turning ≡ None → cluster.new.honest ≡ cluster.old.honest }
+    ensures rules { settings.now.turning ≡ None → HasSameRules cluster.old cluster.new }
 {
     if let Some(turning) = settings.turning
         && turning.after == number

@@ -27,6 +27,7 @@ pub fn run_tail(cluster: &mut Cluster, switch: Switch) -> Result<(), AllocError>
     ensures driven { IsDriven cluster.old cluster.new }
     ensures config { cluster.new.config ≡ cluster.old.config }
     ensures honest { cluster.new.honest ≡ cluster.old.honest }
+    ensures switches { cluster.new.switches ≡ cluster.old.switches }
 {
     let mut driver = Driver::new(cluster, None);
     let answer = show(cluster, &mut driver, switch);
@@ -47,6 +48,7 @@ pub fn run_tail_kept(
     ensures kept { IsKept cluster.old history.old cluster.new history.new }
     ensures config { cluster.new.config ≡ cluster.old.config }
     ensures honest { cluster.new.honest ≡ cluster.old.honest }
+    ensures switches { cluster.new.switches ≡ cluster.old.switches }
 {
     let before = mem::replace(history, History::new(alloc));
     let mut driver = Driver::new(cluster, Some(before));

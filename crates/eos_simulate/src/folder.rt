@@ -1,37 +1,20 @@
-//! The folder of a simulated cluster's evidence, which is there whole or not at all, and the file of its history.
+//! The folder of a simulated cluster's evidence and the file of its history: both are there whole, or neither.
 
 use crate::course::Course;
 use crate::history_file::history_text;
-use crate::kept::simulate_kept;
-use crate::making::{SimulationFault, simulate, told_to};
+use crate::kept::simulate;
+use crate::making::{SimulationFault, told_to};
 use crate::replaying::{ReplayFault, replay};
 use crate::schedule_file::{end_unreplayed, read_schedule};
-use eos_disk::HostDisk;
-use eos_ending::{Ending, STANDARD, end, fill_file, make_file};
+use eos_disk::{ChangeFault, DiskMut, HostDisk, HostFile, begin_file, drop_file, end_file};
+use eos_ending::{Ending, STANDARD, end, end_unwritten};
 use eos_evidence::Evidence;
 use eos_folder::{Cause, WritingFault, Written, make_folder, write_evidence};
 use eos_history_lines::Schedule;
 use eos_scripts::History;
 use eos_words::Simulation;
 use std::io;
-
-/// What a run leaves.
-#[derive(Drop)]
-struct Left {
-    /// The exit status.
-    status: u8,
-    /// The text of its history, where there is a folder and one was asked for.
-    history: Option<String>,
-}
-
-impl Left {
-    fn nothing(status: u8) -> Left {
-        Left {
-            status,
-            history: None,
-        }
-    }
-}
+use std::io::ErrorKind;
 
 /// What a cluster left: the evidence, and the text of its history, if that was asked for.
 #[derive(Drop)]
@@ -40,82 +23,84 @@ struct Made {
     history: Option<String>,
 }
 
-/// Writes what a simulated cluster leaves as a new folder, and on standard output that it did; and its history to a new file, if
-/// that is asked for. Gives the exit status.
+/// Writes what a simulated cluster leaves as a new folder, and its history to a new file, if that is asked for; and then on standard
+/// output that it did. Gives the exit status.
 pub fn simulate_folder(rt: &HostRuntime, words: &Simulation<'_>) -> u8 {
     let Some(path) = words.history else {
-        return leave_folder(rt, words).status;
+        return leave_folder(rt, words, None);
     };
-    match make_file(rt, path) {
-        Err(status) => status,
-        Ok(file) => {
-            let left = leave_folder(rt, words);
-            fill_file(rt, path, file, left.history, left.status)
+    match begin_file(rt.alloc(), &mut HostDisk { rt }, path) {
+        Ok(file) => leave_folder(rt, words, Some(file)),
+        Err(fault) => end_unput(rt, path, fault),
+    }
+}
+
+/// Leaves the folder, and the history that was begun.
+fn leave_folder(rt: &HostRuntime, words: &Simulation<'_>, file: Option<HostFile<'_>>) -> u8 {
+    let mut written = Written::new(rt.alloc());
+    match made(rt, words, &mut written) {
+        Ok(made) => write_made(rt, words.folder, &mut written, &made, file),
+        Err(status) => {
+            written.remove(rt.alloc(), &mut HostDisk { rt });
+            if let Some(file) = file {
+                drop_file(rt.alloc(), &mut HostDisk { rt }, file);
+            }
+            status
         }
     }
 }
 
-fn leave_folder(rt: &HostRuntime, words: &Simulation<'_>) -> Left {
+/// Makes the folder, and what is to stand in it. Otherwise says why not, and gives the exit status.
+fn made(rt: &HostRuntime, words: &Simulation<'_>, written: &mut Written) -> Result<Made, u8> {
     match words.schedule {
-        None => leave_scripted(rt, words),
-        Some(path) => leave_scheduled(rt, words, path),
+        None => made_by_words(rt, words, written),
+        Some(path) => {
+            let schedule = read_schedule(rt, path)?;
+            begin_folder(rt, words.folder, written)?;
+            match made_by_schedule(rt, &schedule, words.history.is_some()) {
+                Ok(made) => Ok(made),
+                Err(fault) => Err(end_unreplayed(rt, path, &schedule, fault)),
+            }
+        }
+    }
+}
+
+fn made_by_words(
+    rt: &HostRuntime,
+    words: &Simulation<'_>,
+    written: &mut Written,
+) -> Result<Made, u8> {
+    let course = match Course::of_words(rt.alloc(), words) {
+        Ok(course) => course,
+        Err(fault) => return Err(end_unmade(rt, fault)),
+    };
+    begin_folder(rt, words.folder, written)?;
+    match made_by_script(rt, &course, words.history.is_some()) {
+        Ok(made) => Ok(made),
+        Err(fault) => Err(end_unmade(rt, fault)),
+    }
+}
+
+fn begin_folder(rt: &HostRuntime, folder: &str, written: &mut Written) -> Result<(), u8> {
+    match make_folder(rt.alloc(), &mut HostDisk { rt }, written, folder) {
+        Ok(()) => Ok(()),
+        Err(fault) => Err(end_unleft(rt, fault)),
     }
 }
 
 /// What a script leaves.
-fn leave_scripted(rt: &HostRuntime, words: &Simulation<'_>) -> Left {
-    let course = match Course::of_words(rt.alloc(), words) {
-        Ok(course) => course,
-        Err(fault) => return Left::nothing(end_unmade(rt, fault)),
-    };
-    let mut written = Written::new(rt.alloc());
-    if let Err(fault) = make_folder(rt.alloc(), &mut HostDisk { rt }, &mut written, words.folder) {
-        return Left::nothing(end_unwritten(rt, fault));
-    }
-    match made_by_script(rt, &course, words.history.is_some()) {
-        Ok(made) => write_made(rt, words.folder, written, made),
-        Err(fault) => {
-            written.remove(rt.alloc(), &mut HostDisk { rt });
-            Left::nothing(end_unmade(rt, fault))
-        }
-    }
-}
-
 fn made_by_script(rt: &HostRuntime, course: &Course, keeps: bool) -> Result<Made, SimulationFault> {
-    if !keeps {
-        return Ok(Made {
-            evidence: simulate(rt.alloc(), course)?,
-            history: None,
-        });
-    }
     let mut history = History::new(rt.alloc());
-    let evidence = simulate_kept(rt.alloc(), course, &mut history)?;
-    let text = history_text(rt.alloc(), &course.head(), &history)?;
-    Ok(Made {
-        evidence,
-        history: Some(text),
-    })
+    let evidence = simulate(rt.alloc(), course, &mut history)?;
+    let history = if keeps {
+        Some(history_text(rt.alloc(), &course.head(), &history)?)
+    } else {
+        None
+    };
+    Ok(Made { evidence, history })
 }
 
 /// What a schedule leaves.
-fn leave_scheduled(rt: &HostRuntime, words: &Simulation<'_>, path: &str) -> Left {
-    let schedule = match read_schedule(rt, path) {
-        Ok(schedule) => schedule,
-        Err(status) => return Left::nothing(status),
-    };
-    let mut written = Written::new(rt.alloc());
-    if let Err(fault) = make_folder(rt.alloc(), &mut HostDisk { rt }, &mut written, words.folder) {
-        return Left::nothing(end_unwritten(rt, fault));
-    }
-    match made_by_schedule(rt, &schedule, words.history.is_some()) {
-        Ok(made) => write_made(rt, words.folder, written, made),
-        Err(fault) => {
-            written.remove(rt.alloc(), &mut HostDisk { rt });
-            Left::nothing(end_unreplayed(rt, path, fault))
-        }
-    }
-}
-
 fn made_by_schedule(
     rt: &HostRuntime,
     schedule: &Schedule,
@@ -123,40 +108,60 @@ fn made_by_schedule(
 ) -> Result<Made, ReplayFault> {
     let mut history = History::new(rt.alloc());
     let evidence = replay(rt.alloc(), schedule, &mut history)?;
-    if !keeps {
-        return Ok(Made {
-            evidence,
-            history: None,
-        });
-    }
-    let text = history_text(rt.alloc(), &schedule.head, &history)?;
-    Ok(Made {
-        evidence,
-        history: Some(text),
-    })
+    let history = if keeps {
+        Some(history_text(rt.alloc(), &schedule.head, &history)?)
+    } else {
+        None
+    };
+    Ok(Made { evidence, history })
 }
 
-/// Writes the evidence, and says so on standard output.
-fn write_made(rt: &HostRuntime, folder: &str, mut written: Written, made: Made) -> Left {
+/// Writes the history and the evidence, and then says so on standard output. Where one can't be written, neither is left.
+fn write_made(
+    rt: &HostRuntime,
+    folder: &str,
+    written: &mut Written,
+    made: &Made,
+    file: Option<HostFile<'_>>,
+) -> u8 {
     let mut disk = HostDisk { rt };
-    if let Err(fault) = write_evidence(
-        rt.alloc(),
-        &mut disk,
-        &mut written,
-        folder,
-        &made.evidence,
-    ) {
+    let kept = match write_history(rt, made, file) {
+        Ok(kept) => kept,
+        Err(status) => {
+            written.remove(rt.alloc(), &mut disk);
+            return status;
+        }
+    };
+    if let Err(fault) = write_evidence(rt.alloc(), &mut disk, written, folder, &made.evidence) {
         written.remove(rt.alloc(), &mut disk);
-        return Left::nothing(end_unwritten(rt, fault));
+        if let Some(path) = kept {
+            let _ = disk.remove(rt.alloc(), path.as_str());
+        }
+        return end_unleft(rt, fault);
     }
     let told = told_to(rt.alloc(), &made.evidence, &mut io::writer(rt));
-    let status = end(
+    end(
         rt,
         Ending::of_answer(told, folder, STANDARD, &Cause::Unknown),
-    );
-    Left {
-        status,
-        history: made.history,
+    )
+}
+
+/// Ends the history that was begun, if one was: the path at which it stands then.
+fn write_history(
+    rt: &HostRuntime,
+    made: &Made,
+    file: Option<HostFile<'_>>,
+) -> Result<Option<String>, u8> {
+    let (Some(file), Some(text)) = (file, &made.history) else {
+        return Ok(None);
+    };
+    let Ok(path) = String::from_str(rt.alloc(), file.path.as_str()) else {
+        drop_file(rt.alloc(), &mut HostDisk { rt }, file);
+        return Err(end(rt, Ending::OutOfMemory));
+    };
+    match end_file(rt.alloc(), &mut HostDisk { rt }, file, text.as_bytes()) {
+        Ok(()) => Ok(Some(path)),
+        Err(fault) => Err(end_unput(rt, path.as_str(), fault)),
     }
 }
 
@@ -171,9 +176,22 @@ fn end_unmade(rt: &HostRuntime, fault: SimulationFault) -> u8 {
 }
 
 /// Says why a folder wasn't written.
-fn end_unwritten(rt: &HostRuntime, fault: WritingFault) -> u8 {
+fn end_unleft(rt: &HostRuntime, fault: WritingFault) -> u8 {
     match fault {
         WritingFault::CannotWrite(path) => end(rt, Ending::CannotWrite(path.as_str())),
         WritingFault::OutOfMemory => end(rt, Ending::OutOfMemory),
     }
+}
+
+/// Says why the file of this path wasn't written.
+fn end_unput(rt: &HostRuntime, path: &str, fault: ChangeFault) -> u8 {
+    let kind = match fault {
+        ChangeFault::ThereAlready => ErrorKind::AlreadyExists,
+        ChangeFault::NoFolder => ErrorKind::NotFound,
+        ChangeFault::NotFolder => ErrorKind::NotADirectory,
+        ChangeFault::PermissionDenied => ErrorKind::PermissionDenied,
+        ChangeFault::Refused => ErrorKind::Other,
+        ChangeFault::OutOfMemory => ErrorKind::OutOfMemory,
+    };
+    end_unwritten(rt, path, kind)
 }

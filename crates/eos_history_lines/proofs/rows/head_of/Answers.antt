@@ -8,3 +8,6 @@ returns-in-Err-clause-err c = λ other utf8 x said. unread _ (head_value x) (c.i
 
 pub returns-in-Ok-None-clause-err : goal.returns-in-Ok-None-clause-err
 returns-in-Ok-None-clause-err c = λ other utf8 x said. unlike _ _ (head_value x) c.in-Ok.ensures.ok (c.in-Ok-None.ensures.none (search rules) x) said.0
+
+pub returns-in-Err-look_for_doubles-clause-err : goal.returns-in-Err-look_for_doubles-clause-err
+returns-in-Err-look_for_doubles-clause-err c = λ other utf8 x said. c.in-Err-look_for_doubles.ensures.err other utf8 said.1

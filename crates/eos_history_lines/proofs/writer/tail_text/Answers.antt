@@ -1,6 +1,6 @@
 use Rattle.std.proofs.Common.{◌≡◌, ◌≤◌, ◌++◌, ◌∙◌, false, Some, Ok, Err, Result, String, Global, IfOk, codes, string_bytes, sym, ap, subst, arith}
 use Rattle.std.specs.declared.alloc.AllocError.{AllocError}
-use Rattle.serde_json.specs.Data.{Members, no_members, object, depth}
+use Rattle.serde_json.specs.Data.{Data, Members, no_members, object, depth}
 use Rattle.serde_json.specs.Read.{read, max_depth}
 use Rattle.serde_json.specs.Written.{has_float, compact_text, outline}
 use Rattle.json.specs.Strict.{HasUniqueKeys}

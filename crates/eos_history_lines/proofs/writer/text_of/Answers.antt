@@ -1,7 +1,7 @@
 use Rattle.std.proofs.Common.{◌≡◌, ◌≤◌, ◌++◌, ◌∙◌, false, Some, sym, ap, subst, codes, string_bytes}
 use Rattle.serde_json.specs.Data.{Data, object, depth}
 use Rattle.serde_json.specs.Read.{read, max_depth}
-use Rattle.serde_json.specs.Written.{has_float, compact_text, IsInOrder}
+use Rattle.serde_json.specs.Written.{has_float, compact_text, outline, IsInOrder}
 use Rattle.eos_history_lines.specs.Names.{NamesOnce}
 use Rattle.eos_history_lines.proofs.OnceNamed.{named_once}
 use Rattle.eos_history_lines.specs.steps.Held.{held}
