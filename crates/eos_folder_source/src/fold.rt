@@ -136,6 +136,7 @@ fn unread(fault: FoldFault) -> FoldRefusal {
             FoldFault::Number =>
                 "a number is spelled longer than it need be, or doesn't fit its field",
             FoldFault::Head => "no batch has a head that stands in it, or the offsets pass 2^63",
+            FoldFault::Epoch => "no batches have the leader epochs that stand in it",
             FoldFault::Record =>
                 "what is kept of a record is of no known kind, or of no topic that was asked for",
             FoldFault::Stop => "the segment's front ends for no known reason",
