@@ -1,6 +1,9 @@
 # bash completion of eoscheck; made by tools/pages.py.
 _eoscheck() {
   local word=${COMP_WORDS[COMP_CWORD]} before=${COMP_WORDS[COMP_CWORD - 1]}
+  # bash takes --name=value for three words
+  [ "$word" = = ] && word=
+  [ "$before" = = ] && before=${COMP_WORDS[COMP_CWORD - 2]}
   COMPREPLY=()
   if [ "$COMP_CWORD" -eq 1 ]; then
     mapfile -t COMPREPLY < <(compgen -W 'check dump chain explain draw init coordinator fold simulate help -h --help -V --version' -- "$word")
@@ -15,9 +18,12 @@ _eoscheck() {
     --report)
       mapfile -t COMPREPLY < <(compgen -f -- "$word")
       return ;;
+    --expect)
+      mapfile -t COMPREPLY < <(compgen -W 'transactions= inputs= outputs=' -- "$word")
+      return ;;
     esac
     case $word in
-    -*) mapfile -t COMPREPLY < <(compgen -W '--workers --json --all --quiet --progress --report -h --help' -- "$word") ;;
+    -*) mapfile -t COMPREPLY < <(compgen -W '--workers --json --all --quiet --progress --report --force --strict --expect -h --help' -- "$word") ;;
     *) mapfile -t COMPREPLY < <(compgen -d -- "$word") ;;
     esac ;;
   dump)
@@ -101,12 +107,12 @@ _eoscheck() {
       mapfile -t COMPREPLY < <(compgen -f -- "$word")
       return ;;
     --out)
-      mapfile -t COMPREPLY < <(compgen -W '' -- "$word")
+      mapfile -t COMPREPLY < <(compgen -d -- "$word")
       return ;;
     esac
     case $word in
     -*) mapfile -t COMPREPLY < <(compgen -W '--manifest --out -h --help' -- "$word") ;;
-    *) mapfile -t COMPREPLY < <(compgen -f -- "$word") ;;
+    *) mapfile -t COMPREPLY < <(compgen -d -- "$word") ;;
     esac ;;
   simulate)
     case $before in

@@ -87,6 +87,8 @@ def main():
         expect(ran.stdout.startswith(f"{code} {name}\n"), f"{code}: its page isn't that of {name}")
         headings = [it.partition("\n")[0] for it in ran.stdout.split("\n\n")[1:]]
         expect(headings in (HEADINGS, [*HEADINGS, CASES]), f"{code}: other sections")
+        named = run(program, "explain", "--code", name)
+        expect((named.returncode, named.stdout, named.stderr) == (0, ran.stdout, ""), f"{name}: another page by its name")
         expect(max(map(len, ran.stdout.splitlines())) <= 78, f"{code}: a line is too long")
         if code[0] != phase:
             phase = code[0]
@@ -108,7 +110,7 @@ def main():
         expect(len(lines) <= 2 and max(map(len, lines)) <= 80 - COLUMN, f"{code}: the help says more than two lines: {lines}")
     expect(len({" ".join(lines) for _, _, lines in rows}) == len(rows), "the help says the same of two kinds")
     expect(rows and helped.endswith(f"{rows[-1][2][-1]}\n"), "the help goes on behind its list")
-    for code in ("", "0.1", "1.12", "5.1", "6.1", "5.100", "510", "Repeated", "5.10 "):
+    for code in ("", "0.1", "1.12", "5.1", "6.1", "5.100", "510", "repeated", "Repeate", "5.10 Repeated", "5.10 "):
         ran = run(program, "explain", "--code", code)
         want = (2, "", f"eoscheck: no fault has the code {code}\n")
         expect((ran.returncode, ran.stdout, ran.stderr) == want, f"code {code!r}: {ran}")

@@ -312,14 +312,13 @@ def at_terminal(*words):
 
 
 def waits():
-    """Without words, a terminal is told what is waited for; here its end comes at once."""
+    """Without words, a terminal is told how to begin, and isn't read."""
     ours, theirs = pty.openpty()
-    os.write(ours, b"\x04")
     done = subprocess.run([program], stdin=theirs, capture_output=True, timeout=60)
     os.close(theirs)
     os.close(ours)
-    hint = "eoscheck: waits for a segment on standard input; 'eoscheck --help' says what else there is\n"
-    same("no words at a terminal", (done.returncode, done.stdout.decode(), done.stderr.decode()), (0, "end bytes=0\n", hint))
+    hint = "eoscheck: no words; 'eoscheck check FOLDER' checks a folder of logs, 'eoscheck --help' says what else there is\n"
+    same("no words at a terminal", (done.returncode, done.stdout.decode(), done.stderr.decode()), (2, "", hint))
     ours, theirs = pty.openpty()
     os.write(ours, b"\x04")
     done = subprocess.run([program, "dump", "-"], stdin=theirs, capture_output=True, timeout=60)

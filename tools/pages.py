@@ -12,6 +12,7 @@ import os
 import re
 import subprocess
 import sys
+import textwrap
 
 NAME = "eoscheck"
 TOP = os.path.dirname(os.path.dirname(os.path.abspath(__file__)))
@@ -80,9 +81,26 @@ def roff(text):
     return re.sub(r"^\.", "\\\\&.", text, flags=re.M)
 
 
-def man_page(name, it, others):
+def parted(details):
+    """The text below the options, the statuses in it and the examples."""
+    found = dict.fromkeys(("Exit status:", "Examples:"), "")
+    left = []
+    for block in details.split("\n\n"):
+        head, _, lines = block.partition("\n")
+        if head in found:
+            found[head] = lines
+        else:
+            left.append(block)
+    return "\n\n".join(left), found["Exit status:"], found["Examples:"]
+
+
+def man_page(name, it, others, general):
+    """The page of a command; the general statuses are those of the program's own help."""
     lines = [f'.TH "{name.upper()}" "1" "" "{NAME}" "User Commands"', ".SH NAME", f"{roff(name)} \\- {roff(it.about)}"]
-    lines += [".SH SYNOPSIS", f".B {roff(it.usage)}"]
+    lines.append(".SH SYNOPSIS")
+    for usage in it.usage.split("\n"):
+        lines += [f".B {roff(usage.strip())}", ".br"]
+    lines.pop()
     for head, rows in ("COMMANDS", it.commands), ("ARGUMENTS", it.arguments):
         if rows:
             lines.append(f".SH {head}")
@@ -93,7 +111,10 @@ def man_page(name, it, others):
         value = f" <{option.value}>" if option.value else ""
         said = option.help + (f" [{', '.join(option.choices)}]" if option.choices else "")
         lines += [".TP", f".B {roff(', '.join(option.names) + value)}", roff(said)]
-    lines += [".SH DESCRIPTION", ".nf", roff(it.details), ".fi"]
+    description, statuses, examples = parted(it.details)
+    lines += [".SH DESCRIPTION", ".nf", roff(description), ".fi"]
+    lines += [".SH EXIT STATUS", ".nf", roff(textwrap.dedent(statuses or general)), ".fi"]
+    lines += [".SH EXAMPLES", ".nf", roff(textwrap.dedent(examples)), ".fi"]
     if others:
         lines += [".SH SEE ALSO", *(f".BR {roff(other)} (1)," for other in others[:-1]), f".BR {roff(others[-1])} (1)"]
     return "\n".join(lines) + "\n"
@@ -104,7 +125,12 @@ def man_page(name, it, others):
 
 def kind_of(value):
     """What a value is completed by: files, folders or nothing."""
-    return {"FILE": "file", "FOLDER": "folder"}.get(value.split(".", 1)[0], "")
+    return {"FILE": "file", "FOLDER": "folder", "OUT": "folder", "TOPIC-N": "folder"}.get(value.split(".", 1)[0], "")
+
+
+def begun(option):
+    """How a value may begin that isn't one of a list, nor a file."""
+    return [f"{count}=" for count in ("transactions", "inputs", "outputs")] if option.value == "COUNT=N" else option.choices
 
 
 def bash(helps):
@@ -113,6 +139,9 @@ def bash(helps):
         f"# bash completion of {NAME}; made by tools/pages.py.",
         f"_{NAME}() {{",
         "  local word=${COMP_WORDS[COMP_CWORD]} before=${COMP_WORDS[COMP_CWORD - 1]}",
+        "  # bash takes --name=value for three words",
+        "  [ \"$word\" = = ] && word=",
+        "  [ \"$before\" = = ] && before=${COMP_WORDS[COMP_CWORD - 2]}",
         "  COMPREPLY=()",
         "  if [ \"$COMP_CWORD\" -eq 1 ]; then",
         f"    mapfile -t COMPREPLY < <(compgen -W '{commands} help {names_of(helps[''])}' -- \"$word\")",
@@ -127,7 +156,7 @@ def bash(helps):
         for option in it.options:
             if option.value:
                 flag = {"file": "-f", "folder": "-d"}.get(kind_of(option.value))
-                given = flag or f"-W '{' '.join(option.choices)}'"
+                given = flag or f"-W '{' '.join(begun(option))}'"
                 lines += [f"    {'|'.join(option.names)})", f"      mapfile -t COMPREPLY < <(compgen {given} -- \"$word\")", "      return ;;"]
         lines += ["    esac", "    case $word in", f"    -*) mapfile -t COMPREPLY < <(compgen -W '{names_of(it)}' -- \"$word\") ;;"]
         words = [word for word, _ in it.arguments]
@@ -159,7 +188,7 @@ def zsh_arguments(it, space):
     plain = str.maketrans({"[": "(", "]": ")", ":": " "})
     for option in it.options:
         said = quoted(option.help.translate(plain))
-        action = f"({' '.join(option.choices)})" if option.choices else {"file": "_files", "folder": "_files -/"}.get(kind_of(option.value), " ")
+        action = f"({' '.join(begun(option))})" if begun(option) else {"file": "_files", "folder": "_files -/"}.get(kind_of(option.value), " ")
         value = f":{option.value.translate(plain)}:{action}" if option.value else ""
         specs += [f"'*{name}[{said}]{value}'" for name in option.names]
     for word, said in it.arguments:
@@ -176,13 +205,15 @@ def fish(helps):
         when = f"'__fish_seen_subcommand_from {name}'" if name else "__fish_use_subcommand"
         for option in it.options:
             words = "".join(f" -l {one[2:]}" if one.startswith("--") else f" -s {one[1:]}" for one in option.names)
-            if option.choices:
-                words += f" -x -a '{' '.join(option.choices)}'"
+            if begun(option):
+                words += f" -x -a '{' '.join(begun(option))}'"
             elif kind_of(option.value) == "folder":
                 words += " -x -a '(__fish_complete_directories)'"
             elif option.value:
                 words += " -r" if kind_of(option.value) else " -x"
             lines.append(f"complete -c {NAME} -n {when}{words} -d '{fish_text(option.help)}'")
+        if name and it.arguments and all(kind_of(word) == "folder" for word, _ in it.arguments):
+            lines.append(f"complete -c {NAME} -n {when} -f -a '(__fish_complete_directories)'")
     return "\n".join([*lines, ""])
 
 
@@ -198,7 +229,7 @@ def pages(program):
     for word, _ in helps[""].commands:
         helps[word] = read_help(text_of(program, word))
     full = lambda name: f"{NAME}-{name}" if name else NAME
-    made = {f"docs/man/{full(name)}.1": man_page(full(name), it, [full(other) for other in helps if other != name]) for name, it in helps.items()}
+    made = {f"docs/man/{full(name)}.1": man_page(full(name), it, [full(other) for other in helps if other != name], parted(helps[""].details)[1]) for name, it in helps.items()}
     made[f"completions/{NAME}.bash"] = bash(helps)
     made[f"completions/_{NAME}"] = zsh(helps)
     made[f"completions/{NAME}.fish"] = fish(helps)
@@ -210,6 +241,27 @@ def completed(words):
     script = f"source completions/{NAME}.bash; COMP_WORDS=(\"$@\"); COMP_CWORD=$(($# - 1)); _{NAME}; printf '%s\\n' \"${{COMPREPLY[@]}}\""
     done = subprocess.run(["bash", "-c", script, "_", *words], cwd=TOP, capture_output=True, text=True, timeout=60)
     return done.stderr or sorted(done.stdout.split())
+
+
+def offered():
+    """Folders and files, where words name them: also behind =."""
+    for words, want in (
+        (["check", "tests/evid"], ["tests/evidence"]),
+        (["check", "--json", "tests/evid"], ["tests/evidence"]),
+        (["explain", "tests/stor"], ["tests/stories"]),
+        (["fold", "tests/evid"], ["tests/evidence"]),
+        (["fold", "--out", "tests/evid"], ["tests/evidence"]),
+        (["fold", "--manifest", "tests/tables.p"], ["tests/tables.py"]),
+        (["check", "--report", "tests/tables.p"], ["tests/tables.py"]),
+        (["check", "--report", "=", "tests/tables.p"], ["tests/tables.py"]),
+        (["dump", "tests/tables.p"], ["tests/tables.py"]),
+        (["simulate", "--schedule", "tests/tables.p"], ["tests/tables.py"]),
+        (["check", "--expect", "in"], ["inputs="]),
+        (["check", "--expect", "=", ""], ["inputs=", "outputs=", "transactions="]),
+        (["check", "--workers", ""], []),
+    ):
+        found = completed([NAME, *words])
+        yield None if found == want else f"bash offers {found} for {words}"
 
 
 def wrong_with(helps, made):
@@ -225,6 +277,9 @@ def wrong_with(helps, made):
     commands = [word for word, _ in helps[""].commands]
     yield None if set(completed([NAME, "c"])) == {it for it in commands if it.startswith("c")} else f"bash offers {completed([NAME, 'c'])}"
     for name in commands:
+        for heading in "EXIT STATUS", "EXAMPLES":
+            page = made[f"docs/man/{NAME}-{name}.1"]
+            yield None if re.search(rf"^\.SH {heading}\n\.nf\n(?!\.fi)", page, flags=re.M) else f"the page of {name} has no {heading}"
         names = sorted(it for option in helps[name].options for it in option.names if it.startswith("--"))
         found = completed([NAME, name, "--"])
         yield None if found == names else f"bash offers {found} for {name}"
@@ -232,6 +287,7 @@ def wrong_with(helps, made):
             if option.choices:
                 found = completed([NAME, name, option.names[-1], ""])
                 yield None if found == sorted(option.choices) else f"bash offers {found} for {option.names[-1]}"
+    yield from offered()
 
 
 def main():

@@ -19,6 +19,8 @@ use Rattle.eos_source_faults.specs.Again.{AreThere}
 use Rattle.eos_source_faults.proofs.KnownAgain.{there}
 use Rattle.eos_text.specs.Writing.{WritesFront, WritesFrontOf}
 use Rattle.eos_checking.specs.Checking.{IsCheckAnswer, IsReportAsked}
+use Rattle.eos_checking.specs.Demands.{IsUnmetText}
+use Rattle.eos_checking.specs.declared.terms.Terms.{Terms}
 use Rattle.eos_checking.specs.Folders.{IsToldOf, HoldsAsRead, HoldsOf}
 use Rattle.eos_checking.specs.Sources.{IsAnswerFor, IsSourceAnswer, IsListAnswer}
 use Rattle.eos_checking.specs.declared.check.Said as told
@@ -29,9 +31,9 @@ Told = told.Said
 
 -- ---- of the first fault alone, and of all
 
-pub of_first : (known : ℕ → Known) (shape : EvidenceParts) (subject : Subject) (json all quiet : Bool) (about : Option About) (answer : SourceAnswer) → all ≡ false
-    → IsSourceAnswer known shape subject json quiet about answer → HoldsAsRead known shape all (IsAnswerFor subject json all quiet about answer)
-of_first known shape subject json all quiet about answer first h =
+pub of_first : (known : ℕ → Known) (shape : EvidenceParts) (subject : Subject) (json all quiet : Bool) (terms : Terms) (about : Option About) (answer : SourceAnswer) → all ≡ false
+    → IsSourceAnswer known shape subject json quiet terms about answer → HoldsAsRead known shape all (IsAnswerFor subject json all quiet terms about answer)
+of_first known shape subject json all quiet terms about answer first h =
     record {
       again = [];
       once = λ _. refl;
@@ -39,13 +41,13 @@ of_first known shape subject json all quiet about answer first h =
       are = record {
         said = h.said;
         as_known = h.as_known;
-        holds = λ e of there. subst (λ (a : Bool). IsAnswerFor subject json a quiet about answer e) (sym first) (h.holds e of);
+        holds = λ e of there. subst (λ (a : Bool). IsAnswerFor subject json a quiet terms about answer e) (sym first) (h.holds e of);
       };
     }
 
-pub of_list : (known : ℕ → Known) (shape : EvidenceParts) (subject : Subject) (json all quiet : Bool) (about : Option About) (answer : SourceAnswer) → all ≡ true
-    → IsListAnswer known shape subject json quiet about answer → HoldsAsRead known shape all (IsAnswerFor subject json all quiet about answer)
-of_list known shape subject json all quiet about answer every h =
+pub of_list : (known : ℕ → Known) (shape : EvidenceParts) (subject : Subject) (json all quiet : Bool) (terms : Terms) (about : Option About) (answer : SourceAnswer) → all ≡ true
+    → IsListAnswer known shape subject json quiet terms about answer → HoldsAsRead known shape all (IsAnswerFor subject json all quiet terms about answer)
+of_list known shape subject json all quiet terms about answer every h =
     record {
       again = h.again;
       once = λ first. absurd (let bad : true ≡ false = sym every ∙ first in cc);
@@ -53,7 +55,7 @@ of_list known shape subject json all quiet about answer every h =
       are = record {
         said = h.are.said;
         as_known = h.are.as_known;
-        holds = λ e of there. subst (λ (a : Bool). IsAnswerFor subject json a quiet about answer e) (sym every) (h.are.holds e of there);
+        holds = λ e of there. subst (λ (a : Bool). IsAnswerFor subject json a quiet terms about answer e) (sym every) (h.are.holds e of there);
       };
     }
 
@@ -91,37 +93,38 @@ folder_of holds folder shape forms all Holds is each = record { shape = shape; f
 
 -- ---- what is written
 
-told_for : (subject : Subject) (json all quiet : Bool) (about : Option About) (answer : SourceAnswer) (old new : Option (List ℕ)) (said : Told) (e : EvidenceParts) → said.status ≡ answer.status
-    → string_bytes said.notes ≡ string_bytes answer.notes → option_map string_bytes said.report ≡ option_map string_bytes answer.report → Appends old new (string_bytes answer.lines)
-    → IsAnswerFor subject json all quiet about answer e → IsToldOf subject json all quiet about old new said e
-told_for subject json all quiet about answer old new said e status notes report written is =
+told_for : (subject : Subject) (json all quiet : Bool) (terms : Terms) (about : Option About) (answer : SourceAnswer) (old new : Option (List ℕ)) (said : Told) (e : EvidenceParts) → said.status ≡ answer.status
+    → string_bytes said.notes ≡ string_bytes answer.notes → string_bytes said.unmet ≡ string_bytes answer.unmet → option_map string_bytes said.report ≡ option_map string_bytes answer.report
+    → Appends old new (string_bytes answer.lines) → IsAnswerFor subject json all quiet terms about answer e → IsToldOf subject json all quiet terms about old new said e
+told_for subject json all quiet terms about answer old new said e status notes unmet report written is =
     record {
       is_evidence = is.is_evidence;
-      lines = (string_bytes answer.lines, subst (IsCheckAnswer (subject_text subject) e json all (string_bytes answer.lines)) (sym status) is.lines, written);
+      lines = (string_bytes answer.lines, subst (IsCheckAnswer (subject_text subject) e json all terms.demands (string_bytes answer.lines)) (sym status) is.lines, written);
       notes = subst (IsNotesText e quiet) (sym notes) is.notes;
+      unmet = subst (IsUnmetText e terms) (sym unmet) is.unmet;
       report = subst (IsReportAsked e all about) (sym report) is.report;
     }
 
-pub told_of : (holds : List ℕ → Entry) (folder : List ℕ) (subject : Subject) (json all quiet : Bool) (about : Option About) (answer : SourceAnswer) (old new : Option (List ℕ)) (said : Told)
-    → said.status ≡ answer.status → string_bytes said.notes ≡ string_bytes answer.notes → option_map string_bytes said.report ≡ option_map string_bytes answer.report
-    → Appends old new (string_bytes answer.lines) → HoldsOf holds folder all (IsAnswerFor subject json all quiet about answer) → HoldsOf holds folder all (IsToldOf subject json all quiet about old new said)
-told_of holds folder subject json all quiet about answer old new said status notes report written h =
+pub told_of : (holds : List ℕ → Entry) (folder : List ℕ) (subject : Subject) (json all quiet : Bool) (terms : Terms) (about : Option About) (answer : SourceAnswer) (old new : Option (List ℕ)) (said : Told)
+    → said.status ≡ answer.status → string_bytes said.notes ≡ string_bytes answer.notes → string_bytes said.unmet ≡ string_bytes answer.unmet → option_map string_bytes said.report ≡ option_map string_bytes answer.report
+    → Appends old new (string_bytes answer.lines) → HoldsOf holds folder all (IsAnswerFor subject json all quiet terms about answer) → HoldsOf holds folder all (IsToldOf subject json all quiet terms about old new said)
+told_of holds folder subject json all quiet terms about answer old new said status notes unmet report written h =
     record {
       shape = h.shape;
       forms = h.forms;
       is = h.is;
-      each = so_too (known_at holds folder (segments_of h.shape.partitions) h.forms) h.shape all (IsAnswerFor subject json all quiet about answer)
-          (IsToldOf subject json all quiet about old new said) (λ e is. told_for subject json all quiet about answer old new said e status notes report written is) h.each;
+      each = so_too (known_at holds folder (segments_of h.shape.partitions) h.forms) h.shape all (IsAnswerFor subject json all quiet terms about answer)
+          (IsToldOf subject json all quiet terms about old new said) (λ e is. told_for subject json all quiet terms about answer old new said e status notes unmet report written is) h.each;
     }
 
-pub front_of : (holds : List ℕ → Entry) (folder : List ℕ) (subject : Subject) (json all quiet : Bool) (about : Option About) (answer : SourceAnswer) (old new : Option (List ℕ))
-    → WritesFront old new (string_bytes answer.lines) → HoldsOf holds folder all (IsAnswerFor subject json all quiet about answer)
-    → HoldsOf holds folder all (λ e. WritesFrontOf (IsCheckAnswer (subject_text subject) e json all) old new)
-front_of holds folder subject json all quiet about answer old new front h =
+pub front_of : (holds : List ℕ → Entry) (folder : List ℕ) (subject : Subject) (json all quiet : Bool) (terms : Terms) (about : Option About) (answer : SourceAnswer) (old new : Option (List ℕ))
+    → WritesFront old new (string_bytes answer.lines) → HoldsOf holds folder all (IsAnswerFor subject json all quiet terms about answer)
+    → HoldsOf holds folder all (λ e. WritesFrontOf (IsCheckAnswer (subject_text subject) e json all terms.demands) old new)
+front_of holds folder subject json all quiet terms about answer old new front h =
     record {
       shape = h.shape;
       forms = h.forms;
       is = h.is;
-      each = so_too (known_at holds folder (segments_of h.shape.partitions) h.forms) h.shape all (IsAnswerFor subject json all quiet about answer)
-          (λ e. WritesFrontOf (IsCheckAnswer (subject_text subject) e json all) old new) (λ e is. (string_bytes answer.lines, answer.status, is.lines, front)) h.each;
+      each = so_too (known_at holds folder (segments_of h.shape.partitions) h.forms) h.shape all (IsAnswerFor subject json all quiet terms about answer)
+          (λ e. WritesFrontOf (IsCheckAnswer (subject_text subject) e json all terms.demands) old new) (λ e is. (string_bytes answer.lines, answer.status, is.lines, front)) h.each;
     }

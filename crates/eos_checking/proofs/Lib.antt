@@ -1,4 +1,5 @@
 pub mod VerdictLines
+pub mod Exits
 pub mod Reports
 pub mod SourceAnswers
 pub mod FolderAnswers

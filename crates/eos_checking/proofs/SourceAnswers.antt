@@ -11,47 +11,58 @@ use Rattle.eos_evidence.specs.Parts.{Parts}
 use Rattle.eos_fold.specs.Parts.{PartLog}
 use Rattle.eos_json_report.specs.declared.about.About.{About}
 use Rattle.eos_notes.specs.Lines.{IsNotesTextBy}
+use Rattle.eos_notes.specs.Notes.{AreNotesBy}
 use Rattle.eos_partitions.specs.Faults.{first_of}
 use Rattle.eos_wanted.specs.Wanted.{wanted_logs}
-use Rattle.eos_wanted_notes.proofs.KeptNotes.{whole_text, kept_in_order}
+use Rattle.eos_wanted_notes.proofs.KeptNotes.{whole_text, whole_notes, kept_in_order}
 use Rattle.eos_source.specs.Said.{Known}
 use Rattle.eos_source_faults.specs.Again.{AreAgain, AreThere}
 use Rattle.eos_source_check.specs.declared.judged.Judged.{Judged}
 use Rattle.eos_source_check.specs.Judged.{IsJudgedFor, IsJudgedOf}
 use Rattle.eos_checking.specs.Checking.{AreTold}
+use Rattle.eos_checking.specs.Demands.{IsNoted}
+use Rattle.eos_checking.specs.declared.terms.Terms.{Terms}
 use Rattle.eos_checking.specs.Sources.{IsAnswerFor, IsSourceAnswer, IsListAnswer}
 use Rattle.eos_checking.specs.declared.source.SourceAnswer.{SourceAnswer}
-use Rattle.eos_checking.specs.steps.Tellings.{AreListed, TellsOf, first_alone}
+use Rattle.eos_checking.specs.steps.Tellings.{AreListed, TellsOf, IsNotedBy, first_alone}
 use Rattle.eos_checking.proofs.Reports.{kept_report}
 
 told_alone : (e : EvidenceParts) (v : Verdict) → AreTold e false v (first_alone v)
 told_alone e (Yes counts) = refl
 told_alone e (No first) = refl
 
-answer_for : (shape e : EvidenceParts) (subject : Subject) (json all quiet : Bool) (about : Option About) (judged : Judged) (faults : List Fault) (answer : SourceAnswer) → e.spec ≡ shape.spec
-    → IsJudgedFor judged e → AreTold e all judged.verdict faults → TellsOf shape.spec judged faults subject json all quiet about answer → IsAnswerFor subject json all quiet about answer e
-answer_for shape e subject json all quiet about judged faults answer spec j told t =
+answer_for : (shape e : EvidenceParts) (subject : Subject) (json all quiet : Bool) (terms : Terms) (about : Option About) (judged : Judged) (faults : List Fault) (answer : SourceAnswer) → e.spec ≡ shape.spec
+    → IsJudgedFor judged e → AreTold e all judged.verdict faults → TellsOf shape.spec judged faults subject json all quiet terms about answer → IsAnswerFor subject json all quiet terms about answer e
+answer_for shape e subject json all quiet terms about judged faults answer spec j told t =
     let k = j.logs in
     let faulty = is_some (first_of judged.logs.faults.items) in
     let order : AreInOrder judged.logs.parts.items = subst AreInOrder (sym k.parts) (kept_in_order e k.whole j.is_evidence k.of) in
     let over_kept : IsNotesTextBy shape.spec (wanted_logs e.spec.apps k.whole) faulty quiet (string_bytes answer.notes) =
     subst (λ (ls : List PartLog). IsNotesTextBy shape.spec ls faulty quiet (string_bytes answer.notes)) k.parts (t.notes order) in
+    let status = t.status order in
+    let noted : (n : Bool) → IsNotedBy shape.spec judged.logs.parts.items faulty n → IsNoted e n =
+    λ n by.
+    let over : AreNotesBy shape.spec (wanted_logs e.spec.apps k.whole) faulty by.notes = subst (λ (ls : List PartLog). AreNotesBy shape.spec ls faulty by.notes) k.parts by.by in
+    let whole : AreNotesBy e.spec (wanted_logs e.spec.apps k.whole) faulty by.notes =
+    subst (λ (s : Parts). AreNotesBy s (wanted_logs e.spec.apps k.whole) faulty by.notes) (sym spec) over in
+    record { notes = by.notes; are = whole_notes e k.whole judged.logs.faults.items by.notes k.of k.faults whole; is = by.is } in
     let by : IsNotesTextBy e.spec (wanted_logs e.spec.apps k.whole) faulty quiet (string_bytes answer.notes) =
     subst (λ (s : Parts). IsNotesTextBy s (wanted_logs e.spec.apps k.whole) faulty quiet (string_bytes answer.notes)) (sym spec) over_kept in
     record {
       is_evidence = j.is_evidence;
-      lines = record { verdict = judged.verdict; faults = faults; is = j.verdict; told = told; lines = t.lines; exit = t.status };
+      lines = record { verdict = judged.verdict; faults = faults; is = j.verdict; told = told; lines = t.lines; noted = status.noted; notes = λ strict. noted status.noted (status.notes strict); exit = status.is };
       notes = whole_text e k.whole judged.logs.faults.items quiet (string_bytes answer.notes) k.of k.faults by;
+      unmet = (judged.verdict, j.verdict, t.unmet);
       report = kept_report e shape.spec judged all faults about (option_map string_bytes answer.report) spec k j.counted j.verdict told (t.report order);
     }
 
-pub answer_is : (known : ℕ → Known) (shape : EvidenceParts) (subject : Subject) (json quiet : Bool) (about : Option About) (judged : Judged) (answer : SourceAnswer)
-    → IsJudgedOf known shape judged → TellsOf shape.spec judged (first_alone judged.verdict) subject json false quiet about answer → IsSourceAnswer known shape subject json quiet about answer
-answer_is known shape subject json quiet about judged answer j t =
+pub answer_is : (known : ℕ → Known) (shape : EvidenceParts) (subject : Subject) (json quiet : Bool) (terms : Terms) (about : Option About) (judged : Judged) (answer : SourceAnswer)
+    → IsJudgedOf known shape judged → TellsOf shape.spec judged (first_alone judged.verdict) subject json false quiet terms about answer → IsSourceAnswer known shape subject json quiet terms about answer
+answer_is known shape subject json quiet terms about judged answer j t =
     record {
       said = j.said;
       as_known = j.as_known;
-      holds = λ e of. answer_for shape e subject json false quiet about judged (first_alone judged.verdict) answer of.spec (j.holds e of) (told_alone e judged.verdict) t;
+      holds = λ e of. answer_for shape e subject json false quiet terms about judged (first_alone judged.verdict) answer of.spec (j.holds e of) (told_alone e judged.verdict) t;
     }
 
 -- ---- where all faults are told
@@ -74,10 +85,10 @@ listed known shape judged (No first) faults is list =
           (record { logs = j.logs.whole; of = j.logs.of; are = list.are e j.is_evidence spec j.logs there });
     }
 
-pub list_is : (known : ℕ → Known) (shape : EvidenceParts) (subject : Subject) (json quiet : Bool) (about : Option About) (judged : Judged) (faults : List Fault) (answer : SourceAnswer)
-    → IsJudgedOf known shape judged → AreListed known shape judged judged.verdict faults → TellsOf shape.spec judged faults subject json true quiet about answer
-    → IsListAnswer known shape subject json quiet about answer
-list_is known shape subject json quiet about judged faults answer j are t =
+pub list_is : (known : ℕ → Known) (shape : EvidenceParts) (subject : Subject) (json quiet : Bool) (terms : Terms) (about : Option About) (judged : Judged) (faults : List Fault) (answer : SourceAnswer)
+    → IsJudgedOf known shape judged → AreListed known shape judged judged.verdict faults → TellsOf shape.spec judged faults subject json true quiet terms about answer
+    → IsListAnswer known shape subject json quiet terms about answer
+list_is known shape subject json quiet terms about judged faults answer j are t =
     let all = listed known shape judged judged.verdict faults refl are in
     record {
       again = all.again;
@@ -85,6 +96,6 @@ list_is known shape subject json quiet about judged faults answer j are t =
       are = record {
         said = j.said;
         as_known = j.as_known;
-        holds = λ e of there. answer_for shape e subject json true quiet about judged faults answer of.spec (j.holds e of) (all.told e of.spec (j.holds e of) there) t;
+        holds = λ e of there. answer_for shape e subject json true quiet terms about judged faults answer of.spec (j.holds e of) (all.told e of.spec (j.holds e of) there) t;
       };
     }

@@ -13,10 +13,12 @@ use Rattle.eos_json_report.specs.declared.about.About.{About}
 use Rattle.eos_json_report.specs.Reports.{IsReportText}
 use Rattle.eos_notes.specs.declared.note.Note.{Note}
 use Rattle.eos_notes.specs.Notes.{AreNotes}
-use Rattle.eos_report.specs.VerdictTexts.{verdict_line, verdict_value, status_of}
+use Rattle.eos_report.specs.VerdictTexts.{verdict_line, verdict_value}
 use Rattle.eos_report.specs.FaultLists.{list_text, list_json}
 use Rattle.eos_tallies.specs.declared.tally.Tallies.{Tallies}
 use Rattle.eos_tallies.specs.Tallies.{AreTallies}
+use Rattle.eos_words.specs.declared.demands.Demands.{Demands}
+use Rattle.eos_checking.specs.Demands.{IsNoted, exit_status}
 
 -- ---- the faults that are told
 
@@ -47,14 +49,16 @@ answer_text about json all (Yes counts) faults = about ++ verdict_answer json (Y
 answer_text about json false (No first) faults = about ++ verdict_answer json (No first)
 answer_text about json true (No first) faults = list_answer about json faults
 
--- the text and the exit status of `check` for this evidence
-pub record IsCheckAnswer (about : List ℕ) (e : EvidenceParts) (json all : Bool) (text : List ℕ) (status : ℕ) : Type 0 where
+-- the text and the exit status of `check` for this evidence, of whose yes this is demanded
+pub record IsCheckAnswer (about : List ℕ) (e : EvidenceParts) (json all : Bool) (demands : Demands) (text : List ℕ) (status : ℕ) : Type 0 where
   pub verdict : Verdict
   pub faults : List Fault
   pub is : IsVerdict e verdict
   pub told : AreTold e all verdict faults
   pub lines : text ≡ answer_text about json all verdict faults
-  pub exit : status ≡ status_of verdict
+  pub noted : Bool
+  pub notes : demands.strict ≡ true → IsNoted e noted
+  pub exit : status ≡ exit_status demands verdict noted
 
 -- a report on this evidence: its JSON value is that of the verdict, of the faults that are told, of the notes and of the tables
 pub record IsReport (e : EvidenceParts) (all : Bool) (about : About) (text : List ℕ) : Type 0 where

@@ -16,13 +16,16 @@ use Rattle.eos_source.specs.Shapes.{HoldsAsSaid}
 use Rattle.eos_source_faults.specs.Again.{AreAgain, AreThere}
 use Rattle.eos_text.specs.Writing.{Writes}
 use Rattle.eos_checking.specs.Checking.{IsCheckAnswer, IsReportAsked}
+use Rattle.eos_checking.specs.Demands.{IsUnmetText}
+use Rattle.eos_checking.specs.declared.terms.Terms.{Terms}
 use Rattle.eos_checking.specs.declared.check.Said.{Said}
 
 -- the answer to this evidence was written, and what else is told is true of it
-pub record IsToldOf (subject : Subject) (json all quiet : Bool) (about : Option About) (old new : Option (List ℕ)) (said : Said) (evidence : EvidenceParts) : Type 0 where
+pub record IsToldOf (subject : Subject) (json all quiet : Bool) (terms : Terms) (about : Option About) (old new : Option (List ℕ)) (said : Said) (evidence : EvidenceParts) : Type 0 where
   pub is_evidence : IsEvidence evidence
-  pub lines : Writes (IsCheckAnswer (subject_text subject) evidence json all) old new said.status
+  pub lines : Writes (IsCheckAnswer (subject_text subject) evidence json all terms.demands) old new said.status
   pub notes : IsNotesText evidence quiet (string_bytes said.notes)
+  pub unmet : IsUnmetText evidence terms (string_bytes said.unmet)
   pub report : IsReportAsked evidence all about (option_map string_bytes said.report)
 
 -- so it is with each evidence of this shape whose segments are such as the pieces said, and, where all faults are told, which has the

@@ -2,9 +2,9 @@
 
 ghost use Rattle.std.specs.Prelude.{◌≡◌, ◌++◌, true, IfOk, string_bytes};
 ghost use Rattle.eos_ending.specs.Subjects.{subject_text};
-ghost use Rattle.eos_report.specs.VerdictTexts.{status_of};
 ghost use Rattle.eos_checking.specs.Checking.{verdict_answer, list_answer, answer_text};
 
+use crate::terms::Terms;
 use eos_check::{Fault, Verdict};
 use eos_ending::Subject;
 use eos_json_report::About;
@@ -25,6 +25,8 @@ pub struct Asked<'a, T> {
     pub all: bool,
     /// Whether the notes are left out.
     pub quiet: bool,
+    /// What a yes has to meet.
+    pub terms: Terms<'a>,
     /// Which of several folders it is about.
     pub subject: Subject<'a>,
     /// What a report says of the run, if one is wanted.
@@ -34,10 +36,12 @@ pub struct Asked<'a, T> {
 /// What is left to be told after the answer was written.
 #[derive(Drop)]
 pub struct Said {
-    /// The exit status: 0 for yes, 1 for no.
+    /// The exit status: 0 for yes, 1 for no, 4 for a yes that isn't as it is demanded.
     pub status: u8,
     /// The lines of the notes, which are empty where these are left out.
     pub notes: String,
+    /// The lines of the counts that aren't the expected ones.
+    pub unmet: String,
     /// The report, if one was wanted.
     pub report: Option<String>,
 }
@@ -124,14 +128,4 @@ fn json_line(alloc: Global, verdict: &Verdict) -> Result<String, AllocError>
     let mut line = value.to_string(alloc)?;
     line.push_str("\n")?;
     Ok(line)
-}
-
-/// The exit status of a verdict.
-pub(crate) fn status_of(verdict: &Verdict) -> u8
-    ensures { result ≡ status_of verdict.now }
-{
-    match verdict {
-        Verdict::Yes(_) => 0,
-        Verdict::No(_) => 1,
-    }
 }

@@ -51,7 +51,7 @@ fn answer_pieces<S: Source, T: Timed, R: Threads + Sync>(
     asked: &Asked<'_, T>,
 ) -> Result<SourceAnswer, Unlisted<S::Fault>>
     ensures { IfOk result (λ answer. HoldsAsRead (known_by (S.said pieces.entry.source.now) (S.is_log pieces.entry.source.now)) pieces.entry.shape.now asked.now.all
-        (IsAnswerFor asked.now.subject asked.now.json asked.now.all asked.now.quiet asked.now.report answer)) }
+        (IsAnswerFor asked.now.subject asked.now.json asked.now.all asked.now.quiet asked.now.terms asked.now.report answer)) }
 {
     if asked.all {
         let answer = answer_all(alloc, threads, pieces, asked)?;
@@ -72,7 +72,7 @@ fn answer_shape<D: Disk, T: Timed + Watch, R: Threads + Sync>(
     asked: &Asked<'_, T>,
 ) -> Result<SourceAnswer, FolderFault>
     ensures { IfOk result (λ answer. HoldsAsRead (known_at (D.holds folder.entry.disk.now) folder.entry.path.now (segments_of shape.now.evidence.partitions) shape.now.forms.items) shape.now.evidence asked.now.all
-        (IsAnswerFor asked.now.subject asked.now.json asked.now.all asked.now.quiet asked.now.report answer)) }
+        (IsAnswerFor asked.now.subject asked.now.json asked.now.all asked.now.quiet asked.now.terms asked.now.report answer)) }
 {
     let source = FolderSource {
         disk: folder.disk,
@@ -102,7 +102,7 @@ fn answer_folder<D: Disk, T: Timed + Watch, R: Threads + Sync>(
     asked: &Asked<'_, T>,
 ) -> Result<SourceAnswer, FolderFault>
     ensures { IfOk result (λ answer. HoldsOf (D.holds folder.entry.disk.now) folder.entry.path.now asked.now.all
-        (IsAnswerFor asked.now.subject asked.now.json asked.now.all asked.now.quiet asked.now.report answer)) }
+        (IsAnswerFor asked.now.subject asked.now.json asked.now.all asked.now.quiet asked.now.terms asked.now.report answer)) }
 {
     let shape = read_shape(alloc, folder.disk, folder.path, asked.watch)?;
     let answer = answer_shape(alloc, threads, folder, &shape, asked)?;
@@ -114,6 +114,7 @@ fn answer_folder<D: Disk, T: Timed + Watch, R: Threads + Sync>(
 fn told<W: Write>(writer: &mut W, answer: SourceAnswer) -> Result<Said, WriteFault>
     ensures status { IfOk result (λ said. said.status ≡ answer.status) }
     ensures notes { IfOk result (λ said. string_bytes said.notes ≡ string_bytes answer.notes) }
+    ensures unmet { IfOk result (λ said. string_bytes said.unmet ≡ string_bytes answer.unmet) }
     ensures report { IfOk result (λ said. option_map string_bytes said.report ≡ option_map string_bytes answer.report) }
     ensures lines { IfOk result (λ said. Appends (W.contents writer.old) (W.contents writer.new) (string_bytes answer.lines)) }
     ensures front { OnErr result (WritesFront (W.contents writer.old) (W.contents writer.new) (string_bytes answer.lines)) }
@@ -122,6 +123,7 @@ fn told<W: Write>(writer: &mut W, answer: SourceAnswer) -> Result<Said, WriteFau
     Ok(Said {
         status: answer.status,
         notes: answer.notes,
+        unmet: answer.unmet,
         report: answer.report,
     })
 }
@@ -141,14 +143,14 @@ pub fn check_folder_to<D: Disk, T: Timed + Watch, R: Threads + Sync, W: Write>(
     writer: &mut W,
 ) -> Result<Said, Unchecked>
     ensures some { IfOk result (λ said. HoldsOf (D.holds folder.entry.disk.now) folder.entry.path.now asked.now.all
-        (IsToldOf asked.now.subject asked.now.json asked.now.all asked.now.quiet asked.now.report (W.contents writer.old) (W.contents writer.new) said)) }
+        (IsToldOf asked.now.subject asked.now.json asked.now.all asked.now.quiet asked.now.terms asked.now.report (W.contents writer.old) (W.contents writer.new) said)) }
     ensures known { (e : EvidenceParts) → AreKnown (D.holds folder.entry.disk.now) folder.entry.path.now → StandsAt (D.holds folder.entry.disk.now) folder.entry.path.now e
-        → IfOk result (λ said. IsToldOf asked.now.subject asked.now.json asked.now.all asked.now.quiet asked.now.report (W.contents writer.old) (W.contents writer.new) said e) }
+        → IfOk result (λ said. IsToldOf asked.now.subject asked.now.json asked.now.all asked.now.quiet asked.now.terms asked.now.report (W.contents writer.old) (W.contents writer.new) said e) }
     ensures unread { IfErr result (λ why. why ≢ CannotWrite → Keeps (W.contents writer.old) (W.contents writer.new)) }
     ensures front { result ≡ Err CannotWrite → HoldsOf (D.holds folder.entry.disk.now) folder.entry.path.now asked.now.all
-        (λ e. WritesFrontOf (IsCheckAnswer (subject_text asked.now.subject) e asked.now.json asked.now.all) (W.contents writer.old) (W.contents writer.new)) }
+        (λ e. WritesFrontOf (IsCheckAnswer (subject_text asked.now.subject) e asked.now.json asked.now.all asked.now.terms.demands) (W.contents writer.old) (W.contents writer.new)) }
     ensures known_front { (e : EvidenceParts) → AreKnown (D.holds folder.entry.disk.now) folder.entry.path.now → StandsAt (D.holds folder.entry.disk.now) folder.entry.path.now e
-        → result ≡ Err CannotWrite → WritesFrontOf (IsCheckAnswer (subject_text asked.now.subject) e asked.now.json asked.now.all) (W.contents writer.old) (W.contents writer.new) }
+        → result ≡ Err CannotWrite → WritesFrontOf (IsCheckAnswer (subject_text asked.now.subject) e asked.now.json asked.now.all asked.now.terms.demands) (W.contents writer.old) (W.contents writer.new) }
 {
     match answer_folder(alloc, threads, folder, asked) {
         Ok(answer) => {

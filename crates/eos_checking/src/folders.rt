@@ -1,39 +1,70 @@
 //! `check` of folders: reads them one after the other, and tells of each its verdict and what else is wanted.
 
-use crate::check::Asked;
+use crate::check::{Asked, Said};
 use crate::folder::{Folder, Unchecked, check_folder_to};
+use crate::report_file::{begin_report, end_report, print_report};
+use crate::terms::Terms;
 use eos_disk::HostDisk;
 use eos_ending::{
-    Ending, Meter, Progress, STANDARD, Subject, end_about, end_unread, fill_file, make_file,
-    say_notes,
+    Ending, Meter, Progress, STANDARD, Subject, end, end_about, end_unread, say_notes,
 };
 use eos_json_report::About;
-use eos_words::{Check, VERSION};
+use eos_words::{Check, Demands, VERSION};
 use std::io;
 use std::io::IsTerminal;
 use std::thread::Threads;
 
+/// What is said of a word of `--expect` that is none.
+const EXPECTATIONS: &str = "--expect takes transactions=N, inputs=N and outputs=N, each once";
+
+/// What is to be done.
+#[derive(Clone, Copy)]
+struct Work<'w, 'a> {
+    words: &'w Check<'a>,
+    demands: Demands,
+}
+
 /// Checks the folders of evidence that the words name, writes the report of one, if that is asked for, and gives the exit status.
 pub fn check_words(rt: &HostRuntime, threads: &(impl Threads + Sync), words: &Check<'_>) -> u8 {
-    let Some(path) = words.report else {
-        return check_folders(rt, threads, words).status;
-    };
-    if words.folders.len() > 1 {
+    if words.report.is_some() && words.folders.len() > 1 {
         let _ = eprint!(rt; "eoscheck: check --report takes one FOLDER\n");
         return 2;
     }
-    match make_file(rt, path) {
+    let demands = match words.demands {
+        Ok(demands) => demands,
+        Err(word) => return end(rt, Ending::Unfit(word, EXPECTATIONS)),
+    };
+    let work = Work { words, demands };
+    match words.report {
+        None => check_folders(rt, threads, work).status,
+        Some(STANDARD) => {
+            let done = check_folders(rt, threads, work);
+            print_report(rt, done.report, done.status)
+        }
+        Some(path) => check_and_report(rt, threads, work, path),
+    }
+}
+
+/// The same, with the report written to this path.
+fn check_and_report(
+    rt: &HostRuntime,
+    threads: &(impl Threads + Sync),
+    work: Work<'_, '_>,
+    path: &str,
+) -> u8 {
+    match begin_report(rt, path, work.words.force) {
         Err(status) => status,
-        Ok(file) => {
-            let done = check_folders(rt, threads, words);
-            fill_file(rt, path, file, done.report, done.status)
+        Ok(begun) => {
+            let done = check_folders(rt, threads, work);
+            end_report(rt, begun, done.report, done.status)
         }
     }
 }
 
 /// Reads folders of evidence, one after the other, and writes the verdict of each on standard output. The status is the greatest.
 /// After output that can't be written it stops.
-fn check_folders(rt: &HostRuntime, threads: &(impl Threads + Sync), words: &Check<'_>) -> Done {
+fn check_folders(rt: &HostRuntime, threads: &(impl Threads + Sync), work: Work<'_, '_>) -> Done {
+    let words = work.words;
     let meter = Meter::start(
         rt,
         words.progress || !words.quiet && rt.stderr().is_terminal(),
@@ -48,7 +79,7 @@ fn check_folders(rt: &HostRuntime, threads: &(impl Threads + Sync), words: &Chec
             Subject::Only
         };
         let progress = Progress::begin(&meter, subject);
-        let done = check_folder(rt, threads, words, folder, &progress);
+        let done = check_folder(rt, threads, work, folder, &progress);
         all.status = done.status.max(all.status);
         all.report = done.report;
         if done.is_last {
@@ -82,16 +113,15 @@ impl Done {
 fn check_folder(
     rt: &HostRuntime,
     threads: &(impl Threads + Sync),
-    words: &Check<'_>,
+    work: Work<'_, '_>,
     path: &str,
     progress: &Progress<'_>,
 ) -> Done {
-    let asked = asked_by(words, path, progress);
-    let disk = HostDisk { rt };
-    let folder = Folder { disk: &disk, path };
-    match check_folder_to(rt.alloc(), threads, folder, &asked, &mut io::writer(rt)) {
+    let asked = asked_by(work, path, progress);
+    match check_to(rt, threads, path, &asked, work.words.report) {
         Ok(said) => {
             say_notes(rt, progress.subject, said.notes.as_str());
+            say_notes(rt, progress.subject, said.unmet.as_str());
             Done {
                 status: end_about(rt, progress.subject, Ending::Answered(said.status)),
                 is_last: false,
@@ -109,12 +139,30 @@ fn check_folder(
     }
 }
 
+/// Checks a folder of the system's disk. The lines are written on standard output, or on standard error where the report is written
+/// there.
+fn check_to(
+    rt: &HostRuntime,
+    threads: &(impl Threads + Sync),
+    path: &str,
+    asked: &Asked<'_, Progress<'_>>,
+    report: Option<&str>,
+) -> Result<Said, Unchecked> {
+    let disk = HostDisk { rt };
+    let folder = Folder { disk: &disk, path };
+    match report {
+        Some(STANDARD) => check_folder_to(rt.alloc(), threads, folder, asked, &mut rt.stderr()),
+        _ => check_folder_to(rt.alloc(), threads, folder, asked, &mut io::writer(rt)),
+    }
+}
+
 /// What is asked of the check of a folder.
 fn asked_by<'a, 'p>(
-    words: &Check<'a>,
+    work: Work<'_, 'a>,
     folder: &'a str,
     progress: &'a Progress<'p>,
 ) -> Asked<'a, Progress<'p>> {
+    let words = work.words;
     let about = About {
         version: VERSION,
         folder,
@@ -126,6 +174,10 @@ fn asked_by<'a, 'p>(
         json: words.json,
         all: words.all,
         quiet: words.quiet,
+        terms: Terms {
+            folder,
+            demands: work.demands,
+        },
         subject: progress.subject,
         report: words.report.map(|_| about),
     }

@@ -6,10 +6,13 @@ mod check;
 mod folder;
 mod folders;
 mod report;
+mod report_file;
 mod source;
+mod terms;
 
 pub use check::{Asked, Said};
 pub use folder::{Folder, Unchecked, check_folder_to};
 pub use folders::check_words;
 pub use report::Timed;
 pub use source::{Pieces, SourceAnswer, answer_all, answer_source};
+pub use terms::Terms;

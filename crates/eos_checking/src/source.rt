@@ -1,21 +1,25 @@
 //! The answer of `check` for an evidence that is read from a source, chunk by chunk, of which no more is held than what it is worked
 //! out of.
 
-ghost use Rattle.std.specs.Prelude.{◌≡◌, true, List, IfOk, option_map, string_bytes};
+ghost use Rattle.std.specs.Prelude.{◌≡◌, ◌==◌, true, not, List, length, IfOk, is_some, option_map, string_bytes};
 ghost use Rattle.eos_check.specs.declared.verdict.Fault.{Fault};
 ghost use Rattle.eos_commits.specs.Faults.{AreInOrder};
+ghost use Rattle.eos_partitions.specs.Faults.{first_of};
 ghost use Rattle.eos_source.specs.Said.{known_by};
 ghost use Rattle.eos_checking.specs.Sources.{IsSourceAnswer, IsListAnswer};
-ghost use Rattle.eos_checking.specs.steps.Tellings.{AreListed, TellsOf, ReportsOf, first_alone};
+ghost use Rattle.eos_checking.specs.steps.Tellings.{AreListed, TellsOf, ReportsOf, IsNotedBy, ExitsBy, first_alone};
 
-use crate::check::{Asked, Faults, lines_told, status_of};
+use crate::check::{Asked, Faults, lines_told};
 use crate::report::{Timed, Told, text_of};
+use crate::terms::{exit_status, unmet_text};
 use eos_check::{Fault, Verdict};
 use eos_evidence::{Evidence, Spec};
-use eos_notes::lines_of;
+use eos_notes::{Note, lines_of, notes};
+use eos_partitions::Logs;
 use eos_source::Source;
 use eos_source_check::{Judged, judge_source};
 use eos_source_faults::{Unlisted, all_source_faults};
+use eos_words::Demands;
 use std::alloc::{AllocError, Global};
 use std::slice;
 use std::thread::Threads;
@@ -33,10 +37,12 @@ pub struct Pieces<'a, S> {
 pub struct SourceAnswer {
     /// The line of the verdict, or those of all faults.
     pub lines: String,
-    /// 0 for yes, 1 for no.
+    /// 0 for yes, 1 for no, 4 for a yes that isn't as it is demanded.
     pub status: u8,
     /// The lines of the notes, which are empty where these are left out.
     pub notes: String,
+    /// The lines of the counts that aren't the expected ones.
+    pub unmet: String,
     /// The report, if one was wanted.
     pub report: Option<String>,
 }
@@ -77,6 +83,39 @@ fn report_on<T: Timed>(
     }
 }
 
+/// Whether one of these stands.
+fn any_stands(notes: &[Note]) -> bool
+    ensures { result ≡ not (length notes.now == 0) }
+{
+    !notes.is_empty()
+}
+
+/// Whether a note stands, where that counts.
+#[tactic(auto, using(crate::proofs::Exits::noted_is))]
+fn is_noted(alloc: Global, spec: &Spec, logs: &Logs, strict: bool) -> Result<bool, AllocError>
+    ensures { AreInOrder logs.now.parts.items → IfOk result (λ noted. strict ≡ true → IsNotedBy spec.now logs.now.parts.items (is_some (first_of logs.now.faults.items)) noted) }
+{
+    if !strict {
+        return Ok(false);
+    }
+    let found = notes(alloc, spec, logs)?;
+    Ok(any_stands(found.as_slice()))
+}
+
+/// The exit status of what was judged.
+#[tactic(auto, using(crate::proofs::Exits::exits_is))]
+fn status_of(
+    alloc: Global,
+    spec: &Spec,
+    judged: &Judged,
+    demands: Demands,
+) -> Result<u8, AllocError>
+    ensures { AreInOrder judged.now.logs.parts.items → IfOk result (ExitsBy spec.now judged.now demands) }
+{
+    let noted = is_noted(alloc, spec, &judged.logs, demands.strict)?;
+    Ok(exit_status(demands, &judged.verdict, noted))
+}
+
 /// What is told of what was judged of an evidence with this manifest.
 fn told<T: Timed>(
     alloc: Global,
@@ -85,15 +124,18 @@ fn told<T: Timed>(
     faults: Faults<'_>,
     asked: &Asked<'_, T>,
 ) -> Result<SourceAnswer, AllocError>
-    ensures { IfOk result (TellsOf spec.now judged.now faults.entry.told.now asked.now.subject asked.now.json faults.entry.all asked.now.quiet asked.now.report) }
+    ensures { IfOk result (TellsOf spec.now judged.now faults.entry.told.now asked.now.subject asked.now.json faults.entry.all asked.now.quiet asked.now.terms asked.now.report) }
 {
     let lines = lines_told(alloc, &judged.verdict, faults, asked)?;
     let notes = lines_of(alloc, spec, &judged.logs, asked.quiet)?;
+    let status = status_of(alloc, spec, judged, asked.terms.demands)?;
+    let unmet = unmet_text(alloc, asked.terms, &judged.verdict)?;
     let report = report_on(alloc, spec, judged, faults.told, asked)?;
     Ok(SourceAnswer {
         lines,
-        status: status_of(&judged.verdict),
+        status,
         notes,
+        unmet,
         report,
     })
 }
@@ -111,7 +153,7 @@ pub fn answer_source<S: Source, T: Timed, R: Threads + Sync>(
     pieces: Pieces<'_, S>,
     asked: &Asked<'_, T>,
 ) -> Result<SourceAnswer, S::Fault>
-    ensures { IfOk result (IsSourceAnswer (known_by (S.said pieces.entry.source.now) (S.is_log pieces.entry.source.now)) pieces.entry.shape.now asked.now.subject asked.now.json asked.now.quiet asked.now.report) }
+    ensures { IfOk result (IsSourceAnswer (known_by (S.said pieces.entry.source.now) (S.is_log pieces.entry.source.now)) pieces.entry.shape.now asked.now.subject asked.now.json asked.now.quiet asked.now.terms asked.now.report) }
 {
     let judged = judge_source(alloc, rt, pieces.source, pieces.shape, asked.workers)?;
     let faults = Faults {
@@ -144,7 +186,7 @@ fn all_told<S: Source, T: Timed>(
     asked: &Asked<'_, T>,
 ) -> Result<SourceAnswer, Unlisted<S::Fault>>
     ensures { IfOk result (λ answer. (faults : List Fault) × AreListed (known_by (S.said pieces.now.source.now) (S.is_log pieces.now.source.now)) pieces.now.shape.now judged.now judged.now.verdict faults
-        × TellsOf pieces.now.shape.now.spec judged.now faults asked.now.subject asked.now.json true asked.now.quiet asked.now.report answer) }
+        × TellsOf pieces.now.shape.now.spec judged.now faults asked.now.subject asked.now.json true asked.now.quiet asked.now.terms asked.now.report answer) }
 {
     let list = listed_of(alloc, pieces, judged)?;
     let faults = Faults {
@@ -167,7 +209,7 @@ pub fn answer_all<S: Source, T: Timed, R: Threads + Sync>(
     pieces: Pieces<'_, S>,
     asked: &Asked<'_, T>,
 ) -> Result<SourceAnswer, Unlisted<S::Fault>>
-    ensures { IfOk result (IsListAnswer (known_by (S.said pieces.entry.source.now) (S.is_log pieces.entry.source.now)) pieces.entry.shape.now asked.now.subject asked.now.json asked.now.quiet asked.now.report) }
+    ensures { IfOk result (IsListAnswer (known_by (S.said pieces.entry.source.now) (S.is_log pieces.entry.source.now)) pieces.entry.shape.now asked.now.subject asked.now.json asked.now.quiet asked.now.terms asked.now.report) }
 {
     match judge_source(alloc, rt, pieces.source, pieces.shape, asked.workers) {
         Ok(judged) => {

@@ -3,40 +3,7 @@
 use crate::argument::{Argument, Form, Presence};
 use clap::builder::ValueParser;
 
-const SWITCHES: &[&str] = &[
-    "keep-duplicates",
-    "no-fence",
-    "no-bump",
-    "lose-marker",
-    "swap-marker",
-    "hide-listing",
-    "ignore-generation",
-];
-
 const READINGS: &[&str] = &["outputs", "transactions", "offsets"];
-
-/// What a schedule says already.
-const SCHEDULED: &[&str] = &[
-    "seed",
-    "events",
-    "applications",
-    "inputs",
-    "outputs",
-    "transaction-logs",
-    "segment-records",
-    "batch-records",
-    "chain",
-    "lose",
-    "repeat",
-    "abandon",
-    "members",
-    "restart-broker",
-    "restart-coordinator",
-    "abort",
-    "switch",
-    "switch-at",
-    "mishap",
-];
 
 /// What goes with a folder, and not with a code.
 const EXPLAINED: &[&str] = &["fault", "workers", "folder"];
@@ -69,7 +36,7 @@ const ONE_FOLDER: Argument = Argument {
     form: Form::Alone("FOLDER"),
 };
 
-static CHECK_ARGUMENTS: [Argument; 7] = [
+static CHECK_ARGUMENTS: [Argument; 10] = [
     WORKERS,
     Argument {
         name: "json",
@@ -100,6 +67,24 @@ static CHECK_ARGUMENTS: [Argument; 7] = [
         help: "Writes what was found to this new file, as JSON; one FOLDER",
         presence: Presence::Optional,
         form: Form::Valued("FILE", ValueParser::NonEmptyString),
+    },
+    Argument {
+        name: "force",
+        help: "Writes the report over a file that is there",
+        presence: Presence::With("report"),
+        form: Form::Flag,
+    },
+    Argument {
+        name: "strict",
+        help: "Gives a yes beside which a note stands the exit status 4",
+        presence: Presence::Optional,
+        form: Form::Flag,
+    },
+    Argument {
+        name: "expect",
+        help: "Gives a yes that counts otherwise the status 4; of each count",
+        presence: Presence::Optional,
+        form: Form::Repeated("COUNT=N", ValueParser::String),
     },
     Argument {
         name: "folder",
@@ -160,7 +145,7 @@ pub(crate) fn chain_arguments() -> &'static [Argument] {
 static EXPLAIN_ARGUMENTS: [Argument; 4] = [
     Argument {
         name: "code",
-        help: "The code of a kind of fault, such as 5.10; no FOLDER",
+        help: "The code of a kind of fault, such as 5.10, or its name",
         presence: Presence::Without(EXPLAINED),
         form: Form::Valued("CODE", ValueParser::String),
     },
@@ -254,143 +239,4 @@ static FOLD_ARGUMENTS: [Argument; 3] = [
 
 pub(crate) fn fold_arguments() -> &'static [Argument] {
     FOLD_ARGUMENTS.as_slice()
-}
-
-static SIMULATE_ARGUMENTS: [Argument; 22] = [
-    Argument {
-        name: "seed",
-        help: "What the script is drawn from, 0 to 2^64 - 1",
-        presence: Presence::Required,
-        form: Form::Valued("S", ValueParser::Unsigned(0, u64::MAX)),
-    },
-    Argument {
-        name: "events",
-        help: "How many words the script has, 0 to 10000",
-        presence: Presence::Required,
-        form: Form::Valued("N", ValueParser::Unsigned(0, 10_000)),
-    },
-    Argument {
-        name: "applications",
-        help: "How many applications the first group has, 1 to 8, or 2",
-        presence: Presence::Optional,
-        form: Form::Valued("N", ValueParser::Unsigned(1, 8)),
-    },
-    Argument {
-        name: "inputs",
-        help: "The partitions of `in`, 1 to 16, or 2",
-        presence: Presence::Optional,
-        form: Form::Valued("N", ValueParser::Unsigned(1, 16)),
-    },
-    Argument {
-        name: "outputs",
-        help: "The partitions of `out`, 1 to 16, or 2",
-        presence: Presence::Optional,
-        form: Form::Valued("N", ValueParser::Unsigned(1, 16)),
-    },
-    Argument {
-        name: "transaction-logs",
-        help: "The partitions of `__transaction_state`, 1 to 4, or 1",
-        presence: Presence::Optional,
-        form: Form::Valued("N", ValueParser::Unsigned(1, 4)),
-    },
-    Argument {
-        name: "segment-records",
-        help: "The records of a segment, 1 to 1000, or 16",
-        presence: Presence::Optional,
-        form: Form::Valued("N", ValueParser::Unsigned(1, 1000)),
-    },
-    Argument {
-        name: "batch-records",
-        help: "The records of a batch at the most, 1 to 1000, or 1",
-        presence: Presence::Optional,
-        form: Form::Valued("N", ValueParser::Unsigned(1, 1000)),
-    },
-    Argument {
-        name: "chain",
-        help: "A second group reads `out` and writes `fin`",
-        presence: Presence::Optional,
-        form: Form::Flag,
-    },
-    Argument {
-        name: "lose",
-        help: "Words, of 1000, by which a message is lost",
-        presence: Presence::Optional,
-        form: Form::Valued("RATE", ValueParser::Unsigned(0, 1000)),
-    },
-    Argument {
-        name: "repeat",
-        help: "Words, of 1000, by which a message comes again",
-        presence: Presence::Optional,
-        form: Form::Valued("RATE", ValueParser::Unsigned(0, 1000)),
-    },
-    Argument {
-        name: "abandon",
-        help: "Words, of 1000, by which a session is abandoned",
-        presence: Presence::Optional,
-        form: Form::Valued("RATE", ValueParser::Unsigned(0, 1000)),
-    },
-    Argument {
-        name: "members",
-        help: "Words, of 1000, by which the members change",
-        presence: Presence::Optional,
-        form: Form::Valued("RATE", ValueParser::Unsigned(0, 1000)),
-    },
-    Argument {
-        name: "restart-broker",
-        help: "Words, of 1000, by which a broker restarts",
-        presence: Presence::Optional,
-        form: Form::Valued("RATE", ValueParser::Unsigned(0, 1000)),
-    },
-    Argument {
-        name: "restart-coordinator",
-        help: "Words, of 1000, by which the coordinator does",
-        presence: Presence::Optional,
-        form: Form::Valued("RATE", ValueParser::Unsigned(0, 1000)),
-    },
-    Argument {
-        name: "abort",
-        help: "Words, of 1000, by which a transaction is given up",
-        presence: Presence::Optional,
-        form: Form::Valued("RATE", ValueParser::Unsigned(0, 1000)),
-    },
-    Argument {
-        name: "switch",
-        help: "A rule that the cluster breaks; may be repeated",
-        presence: Presence::Optional,
-        form: Form::Repeated("X", ValueParser::Names(SWITCHES)),
-    },
-    Argument {
-        name: "switch-at",
-        help: "Breaks them after so many words, not after the script",
-        presence: Presence::Optional,
-        form: Form::Valued("WORD", ValueParser::Unsigned(0, 10_000)),
-    },
-    Argument {
-        name: "mishap",
-        help: "A mistake of an application, once; may be repeated",
-        presence: Presence::Optional,
-        form: Form::Repeated("NAME[@TOPIC-N:O]", ValueParser::NonEmptyString),
-    },
-    Argument {
-        name: "history",
-        help: "Writes all that happens to this new file, as JSON lines",
-        presence: Presence::Optional,
-        form: Form::Valued("FILE", ValueParser::NonEmptyString),
-    },
-    Argument {
-        name: "schedule",
-        help: "Runs the lines of such a file, in place of a script",
-        presence: Presence::Without(SCHEDULED),
-        form: Form::Valued("FILE", ValueParser::NonEmptyString),
-    },
-    Argument {
-        name: "folder",
-        help: "The folder that is made",
-        presence: Presence::Required,
-        form: Form::Alone("FOLDER"),
-    },
-];
-
-pub(crate) fn simulate_arguments() -> &'static [Argument] {
-    SIMULATE_ARGUMENTS.as_slice()
 }

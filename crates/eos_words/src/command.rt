@@ -1,6 +1,8 @@
 //! The command line, and how its words are read.
 
 use crate::argument::{Argument, Form, Presence};
+use crate::codes::code_meant;
+use crate::demands::read_demands;
 use crate::help::{ABOUT, CHECK_ANSWERS, STATUSES};
 use crate::request::{
     Answer, Check, Coordinator, Draw, Explain, Fold, Init, Listing, NoRequest, Request, Simulation,
@@ -13,6 +15,7 @@ use clap::{Arg, ArgAction, ArgMatches, Command};
 use eos_catalogue::push_kinds;
 use eos_workers::Workers;
 use std::alloc::{AllocError, Global};
+use std::io;
 
 /// The version of the program.
 pub const VERSION: &str = "0.1.0";
@@ -86,6 +89,7 @@ fn explain<R: Print + Eprint>(rt: &R, e: &Error) -> NoRequest {
     }
     match printed {
         Ok(()) => NoRequest::Helped,
+        Err(e) if e.kind() == io::ErrorKind::BrokenPipe => NoRequest::NobodyReads,
         Err(_) => NoRequest::CannotPrint,
     }
 }
@@ -127,10 +131,13 @@ fn make_subcommand<'a>(
     for argument in it.arguments() {
         arguments.push(make_argument(alloc, argument)?)?;
     }
-    Command::new(alloc, it.name())
+    let command = Command::new(alloc, it.name())
         .about(it.about())
-        .after_help(it.details().unwrap_or(details))
-        .args(arguments)
+        .after_help(it.details().unwrap_or(details));
+    match it.usage() {
+        Some(usage) => command.override_usage(usage).args(arguments),
+        None => command.args(arguments),
+    }
 }
 
 fn make_argument<'a>(alloc: Global, it: &Argument) -> Result<Arg<'a>, AllocError> {
@@ -138,6 +145,7 @@ fn make_argument<'a>(alloc: Global, it: &Argument) -> Result<Arg<'a>, AllocError
     match it.presence {
         Presence::Required => Ok(argument.required(true)),
         Presence::Optional => Ok(argument),
+        Presence::With(other) => argument.requires_arg(other),
         Presence::Without(others) => argument.conflicts_with_all(others),
     }
 }
@@ -179,7 +187,7 @@ fn read_request<'a>(
         "check" => read_check(alloc, inner),
         "dump" => Ok(read_dump(inner)),
         "chain" => Ok(read_segment_words(inner, Answer::Chain)),
-        "explain" => Ok(read_explain(inner)),
+        "explain" => read_explain(alloc, inner),
         "draw" => Ok(read_draw(inner)),
         "init" => read_init(alloc, inner),
         "coordinator" => read_coordinator(alloc, inner),
@@ -215,6 +223,7 @@ fn read_check<'a>(
     let Some(workers) = read_workers(inner) else {
         return Ok(None);
     };
+    let expected = read_all(alloc, inner, "expect")?;
     Ok(Some(Request::Check(Check {
         workers,
         json: inner.get_flag("json"),
@@ -222,6 +231,8 @@ fn read_check<'a>(
         quiet: inner.get_flag("quiet"),
         progress: inner.get_flag("progress"),
         report: inner.get_str("report"),
+        force: inner.get_flag("force"),
+        demands: read_demands(inner.get_flag("strict"), expected.as_slice()),
         folders: folders.to_vec(alloc)?,
     })))
 }
@@ -234,10 +245,20 @@ fn read_workers(inner: &ArgMatches<'_>) -> Option<Workers> {
     }
 }
 
-fn read_explain<'a>(inner: &ArgMatches<'a>) -> Option<Request<'a>> {
-    if let Some(code) = inner.get_str("code") {
-        return Some(Request::Explain { code });
+fn read_explain<'a>(
+    alloc: Global,
+    inner: &ArgMatches<'a>,
+) -> Result<Option<Request<'a>>, AllocError> {
+    match inner.get_str("code") {
+        Some(word) => {
+            let code = code_meant(alloc, word)?;
+            Ok(Some(Request::Explain { code }))
+        }
+        None => Ok(read_story(inner)),
     }
+}
+
+fn read_story<'a>(inner: &ArgMatches<'a>) -> Option<Request<'a>> {
     let folder = inner.get_str("folder")?;
     Some(Request::Story(Explain {
         workers: read_workers(inner)?,

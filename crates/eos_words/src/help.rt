@@ -44,12 +44,35 @@ listed. A yes is one line, as it is without --all.
 
 After the verdict stands on standard error a line `eoscheck: note: ..` for each
 sign that the evidence isn't the one that was meant, as a group that committed
-nothing (docs/EVIDENCE.md lists them). A note changes no verdict and no status.
+nothing (docs/EVIDENCE.md lists them). A note changes no verdict. With --strict
+a yes beside which a note stands has status 4, also where --quiet leaves the
+note out; else a note changes no status.
+
+With --expect inputs=N a yes that counts otherwise has status 4, and a line
+`eoscheck: FOLDER: inputs=I, but N were expected` on standard error says so;
+likewise transactions=N and outputs=N. --expect may be given once for each
+count, and holds of each FOLDER. What stands on standard output stays, and so do
+the statuses 1, 2 and 3.
 
 With --report FILE the verdict, the notes and how long the check took are also
 written to FILE, as one JSON object (docs/report.schema.json). FILE may not be
-there before; it is made before the check begins, and taken away where there is
-no verdict. --report goes with one FOLDER.
+there before, unless --force is given; it is written whole or not at all, and
+not where there is no verdict. With --report - the report is all that stands on
+standard output, and the lines of the verdict are on standard error. --report
+goes with one FOLDER.
+
+With --force the report is written as FILE.whole, then what stands at FILE is
+taken away and the report gets its name. A run that is killed between these two
+leaves FILE.whole, which the next one doesn't touch. A folder, a pipe, a device
+and what lies in /dev are not written over.
+
+Examples:
+  eoscheck check FOLDER
+  eoscheck check --json FOLDER
+  eoscheck check --all --workers 8 FOLDER
+  eoscheck check --quiet --strict --expect inputs=100000 FOLDER || exit
+  eoscheck check --progress --report report.json --force FOLDER
+  eoscheck check --report - FOLDER 2> lines | jq .counts
 ";
 
 pub(crate) const STATUSES: &str = "Exit status:
@@ -59,12 +82,18 @@ pub(crate) const STATUSES: &str = "Exit status:
   2  the words are wrong, a file cannot be read or written, or it is larger than
      a segment may be (2^30 bytes)
   3  memory ran out
+  4  the verdict is yes, but not as --strict or --expect wants it
 
 A segment is one file of a partition's log as a Kafka broker keeps it, such as
 00000000000000000000.log: record batches (magic 2, not compressed), one after
 the other. The folders that `check` reads may hold folds of segments in their
 place, as 00000000000000000000.fold. Without words, eoscheck reads a segment
-from its standard input, as `eoscheck dump -` does.";
+from its standard input, as `eoscheck dump -` does, unless that is a terminal.
+
+Examples:
+  eoscheck init --app billing:orders:payments --ends ends.txt FOLDER
+  eoscheck check FOLDER
+  eoscheck explain FOLDER";
 
 pub(crate) const DUMP: &str =
     "Prints the batches and records of a segment, or the first fault and its byte";
@@ -124,7 +153,12 @@ where no batch begins at byte B:
   Delta       a record's offset isn't its place in the batch
   Trailing    bytes are left after the last record
   Control     a control batch that isn't one control record
-  Producer    a producer id or epoch is below 0 where it may not be";
+  Producer    a producer id or epoch is below 0 where it may not be
+
+Examples:
+  eoscheck dump FOLDER/in-0/00000000000000000000.log
+  eoscheck dump --headers --from 100 --to 200 FILE
+  eoscheck dump --as offsets - < FILE";
 
 pub(crate) const CHAIN: &str =
     "Checks that no sequence is missing or repeated in a segment, and that zombies are fenced";
@@ -152,10 +186,17 @@ the offset at which it stands, and there follow
   1.6 EpochWhileOpen  a new epoch began while a transaction was open
   1.7 NoBump          an end marker has the epoch of its data
   1.8 MixedProducer   a producer wrote both inside and outside transactions
-  1.9 MarkerKind      one transaction has both a commit and an abort";
+  1.9 MarkerKind      one transaction has both a commit and an abort
+
+Examples:
+  eoscheck chain FOLDER/in-0/00000000000000000000.log
+  cat FOLDER/in-0/*.log | eoscheck chain -";
 
 pub(crate) const EXPLAIN: &str =
     "Tells the story of a fault in a folder, or what a kind of fault is";
+
+pub(crate) const EXPLAIN_USAGE: &str = "eoscheck explain [OPTIONS] <FOLDER>
+       eoscheck explain --code <CODE>";
 
 pub(crate) const EXPLAIN_SAYS: &str =
     "With FOLDER, as of `check`, the first fault is told, or with --fault K the
@@ -179,8 +220,14 @@ at which its batch begins in which segment, named by its first offset:
   segment   a segment of the partition
   end       where the partition is declared to end
 
-CODE is what stands before the name in a `no` line: of `no 5.10 Repeated ..` it
-is 5.10. `eoscheck check --help` lists all kinds, docs/FAULTS.md has all pages.";
+CODE is what stands before the name in a `no` line, or the name: of `no 5.10
+Repeated ..` it is 5.10 or Repeated. `eoscheck check --help` lists all kinds,
+docs/FAULTS.md has all pages.
+
+Examples:
+  eoscheck explain FOLDER
+  eoscheck explain --fault 3 FOLDER
+  eoscheck explain --code Repeated";
 
 pub(crate) const DRAW: &str =
     "Draws the transactions around a fault of an evidence, as an SVG file";
@@ -191,8 +238,13 @@ partition; a cell has the transaction's records by offset and its end marker,
 and in the rows of its inputs the offsets that its commit passed. The places of
 the fault are in red. Without a fault the first transactions are drawn.
 
-FILE.svg must not be there; it is written whole or not at all. The program prints
-`drew columns=N rows=M`; the exit status is that of `check`: 0 yes, 1 a fault.";
+FILE.svg must not be there; it is written whole or not at all. The program
+prints `drew columns=N rows=M`; the exit status is that of `check`: 0 yes, 1 a
+fault.
+
+Examples:
+  eoscheck draw FOLDER fault.svg
+  eoscheck draw --fault 3 --around 2 FOLDER third.svg";
 
 pub(crate) const INIT: &str =
     "Writes the manifest of a folder of copied logs, evidence.json, for `check`";
@@ -218,7 +270,13 @@ doesn't begin at offset 0, one that begins with a compressed batch, and one
 that has an end but no folder. So is what may be wrong with FILE: that it has no
 line of a topic, or none at all, or that its lines end in carriage returns,
 which aren't read. And of each group which partition of __consumer_offsets it
-commits to, where FILE has the lines of all of them.";
+commits to, where FILE has the lines of all of them.
+
+Examples:
+  eoscheck init --app billing:orders:payments --ends ends.txt FOLDER
+  eoscheck init --app billing:orders,refunds:payments --ends-from-logs FOLDER
+  kafka-get-offsets.sh --bootstrap-server HOST:PORT --time -1 |
+    eoscheck init --app billing:orders:payments --ends - FOLDER";
 
 pub(crate) const COORDINATOR: &str =
     "Prints which partition of Kafka's own two topics a group or an id has";
@@ -232,7 +290,11 @@ transaction.state.log.num.partitions says otherwise.
 
 K is Kafka's Utils.abs(NAME.hashCode()) % N: Java's hash of the text, its
 absolute value, or 0 for the least integer. Of NAME, bytes other than letters,
-digits, . _ and - are printed as % and two digits.";
+digits, . _ and - are printed as % and two digits.
+
+Examples:
+  eoscheck coordinator billing
+  eoscheck coordinator --partitions 12 billing shipping";
 
 pub(crate) const FOLD: &str =
     "Folds segments where they lie, so that `check` needs no copies of them";
@@ -254,87 +316,15 @@ docs/FOLD.md has its bytes.
 Folding judges nothing: a segment in which a fault stands is folded up to it,
 with the fault. `check` answers by folds as it does by the logs that they were
 made of. So run it where the logs lie, on each broker with the same FILE, gather
-what was written in one folder, put FILE there as evidence.json, and check that:
-
-  eoscheck fold --manifest evidence.json --out folds logs/in-0 logs/out-0
-  cp evidence.json folds
-  eoscheck check folds
+what was written in one folder, put FILE there as evidence.json, and check that.
 
 That a fold was made of the log of its name, and that this log is whole, is
 yours to know. `check` refuses a fold that was made for other roles or other
 source topics than those of its manifest. `explain` and `init` read records,
 which a fold doesn't have: they need the logs; and to list all faults of a
-partition by itself, so does `check --all`.";
+partition by itself, so does `check --all`.
 
-pub(crate) const SIMULATE: &str =
-    "Writes a folder of logs as a simulated cluster leaves it, for `check`";
-
-pub(crate) const SIMULATE_WRITES: &str =
-    "The cluster is a simulation in this process, without a network and a clock: two
-applications of one group read the topic `in` and write `out`, of two partitions
-each, in transactions. A script of N words, drawn from the seed, says what
-happens: inputs come in, requests are lost and come twice, sessions are
-abandoned and go on as zombies, transactions are aborted, the members of the
-group change, brokers and the coordinator restart. Then what is left is
-processed, and the cluster comes to rest. The same words of the command line
-give the same bytes on every machine.
-
-FOLDER must not be there. It gets `evidence.json` and a folder for each
-partition, with segments of 16 records. `wrote partitions=6` (status 0) says
-that all of it was written; `eoscheck check FOLDER` then says yes, and
-`eoscheck dump` lists what stands in a segment.
-
-A RATE is how many of 1000 words say it. One that is not given is as ever: lose
-15.625, repeat 62.5, abandon 7.8125, members 3.90625, restart-broker 7.8125,
-restart-coordinator 11.71875, abort 31.25. All seven come to 1000 at most.
-
-With --chain there is a second group, of one application: it reads what stands
-committed in `out`, and writes `fin`, which has as many partitions. The manifest
-is then one of version 2, of two groups.
-
-With --switch the cluster breaks a rule, as a bad broker or coordinator would:
-in a few events after the script, or from a word on that --switch-at gives.
-`check` then says no, by this fault. Below it stands what may be behind it, in
-all phases, and what may come before it inside a script:
-
-  keep-duplicates    1.4 Sequence     a record that came twice stands twice
-                     behind it 5.6, 5.8, 5.10, 5.12
-  no-fence           1.5 ZombieEpoch  a zombie writes after a newer epoch
-                     behind it 1.11; before it 1.6, 1.11
-  no-bump            1.7 NoBump       end markers have the epoch of the data
-                     behind it 3.3, 3.5, 3.7, 5.6, 5.8, 5.12; before it 1.5
-  lose-marker        1.11 OpenAtEnd   end markers are missing in the logs
-                     before it 1.6
-  swap-marker        3.3 WrongKind    out-1 has an abort where out-0 has a commit
-                     behind it 3.5, 3.7, 5.6, 5.8, 5.12; before it 1.9
-  hide-listing       3.4 NotListed    transactions don't list out-1, but write it
-                     behind it 3.5, 5.6, 5.8, 5.10, 5.12; before it 1.6
-  ignore-generation  5.10 Repeated    two members process the same input
-
-With --mishap an application errs, once: at the input O of in-N, or at the first
-that suits. An input at offset O has O modulo 3 outputs, or a note where that is
-0; a mishap needs one with outputs, wrong-count one with two, and offset-deleted
-any. aborted-input is one of the second group, at the record O of out-N. Behind
-the fault of a mishap stands at most the same, of its input's other output:
-
-  lost-output        5.11 Missing           its last output is not written
-  repeated-output    5.10 Repeated          its first output is written twice
-  early-output       5.7 Early              its outputs, but nobody commits it
-  wrong-count        5.8 CountDisagrees     its second output says 2 of 3
-  wrong-number       5.9 NumberRange        one more output than it counts
-  foreign-source     5.5 ForeignSource      an output of a topic nobody reads
-  other-transaction  5.12 OtherTransaction  its outputs one transaction early
-  no-headers         4.1 BadLineage         one output more, without headers
-  offset-deleted     4.4 OffsetDeleted      its group's offset is deleted
-  aborted-input      5.6 NoSuchInput        it was aborted, and is processed
-
-With --history all that happens is written to FILE, which must not be there, as
-JSON lines (docs/SIMULATOR.md): what the cluster is, each event with its reply,
-and the totals. --schedule runs the lines of such a file, so that they can be
-cut, edited and run again. It says what --seed, --events, the sizes, the rates,
---switch, --switch-at and --mishap would say, so none of them goes with it; a
-reply may be left out, and one that comes out differently is told with its
-number (status 1).
-
-It shows what a fault looks like and that the checker finds it, and says nothing
-of real brokers.";
+Examples:
+  eoscheck fold --manifest evidence.json --out folds logs/in-0 logs/out-0
+  cp evidence.json folds
+  eoscheck check folds";

@@ -3,13 +3,17 @@
 
 mod argument;
 mod arguments;
+mod codes;
 mod command;
+mod demands;
 mod help;
 mod naming;
 mod request;
+mod simulating;
 mod subcommands;
 
 pub use command::{VERSION, read_words};
+pub use demands::Demands;
 pub use request::{
     Answer, Check, Coordinator, Draw, Explain, Fold, Init, Listing, NoRequest, Request, Simulation,
     Sizes, Thousandths,

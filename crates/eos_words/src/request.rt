@@ -1,5 +1,6 @@
 //! What a run is asked to do.
 
+use crate::demands::Demands;
 use eos_workers::Workers;
 
 /// What a run is asked to do.
@@ -72,6 +73,10 @@ pub struct Check<'a> {
     pub progress: bool,
     /// The file that is made of the report, if one is wanted.
     pub report: Option<&'a str>,
+    /// Whether that file may be there, and is then written over.
+    pub force: bool,
+    /// What has to hold of a yes; or the word that says no such thing.
+    pub demands: Result<Demands, &'a str>,
     /// The folders in the order given, at least one, none of them the empty text.
     pub folders: Vec<&'a str>,
 }
@@ -186,6 +191,8 @@ pub enum NoRequest {
     Helped,
     /// It was asked for, and can't be printed.
     CannotPrint,
+    /// It was asked for, and who read it has gone.
+    NobodyReads,
     /// The words are wrong.
     BadWords,
     /// A growth of memory was refused.

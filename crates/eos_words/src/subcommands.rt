@@ -3,14 +3,14 @@
 use crate::argument::Argument;
 use crate::arguments::{
     chain_arguments, check_arguments, draw_arguments, dump_arguments, explain_arguments,
-    fold_arguments, init_arguments, simulate_arguments,
+    fold_arguments, init_arguments,
 };
 use crate::help::{
     CHAIN, CHAIN_ANSWERS, CHECK, COORDINATOR, COORDINATOR_PRINTS, DRAW, DRAW_SHOWS, DUMP,
-    DUMP_COLUMNS, EXPLAIN, EXPLAIN_SAYS, FOLD, FOLD_WRITES, INIT, INIT_WRITES, SIMULATE,
-    SIMULATE_WRITES,
+    DUMP_COLUMNS, EXPLAIN, EXPLAIN_SAYS, EXPLAIN_USAGE, FOLD, FOLD_WRITES, INIT, INIT_WRITES,
 };
 use crate::naming::coordinator_arguments;
+use crate::simulating::{SIMULATE, SIMULATE_WRITES, simulate_arguments};
 
 /// A subcommand.
 #[derive(Clone, Copy)]
@@ -53,6 +53,14 @@ impl Subcommand {
             Subcommand::Coordinator => COORDINATOR,
             Subcommand::Fold => FOLD,
             Subcommand::Simulate => SIMULATE,
+        }
+    }
+
+    /// How it is called, where that isn't made of its arguments.
+    pub(crate) fn usage<'a>(self) -> Option<&'a str> {
+        match self {
+            Subcommand::Explain => Some(EXPLAIN_USAGE),
+            _ => None,
         }
     }
 

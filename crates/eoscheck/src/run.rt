@@ -15,6 +15,10 @@ use std::sync::Wait;
 use std::thread::Threads;
 use std::{env, io};
 
+/// The exit status of a run whose standard output is a pipe that nobody reads any more, as a shell tells it of programs that end by
+/// the signal of that: 128 and the number of SIGPIPE.
+const CLOSED_PIPE: u8 = 141;
+
 /// Does what the words of the command line say, and gives the exit status.
 pub(crate) fn run(rt: &HostRuntime, threads: &(impl Threads + Wait + Sync)) -> u8 {
     let alloc = rt.alloc();
@@ -32,22 +36,24 @@ fn take_words(rt: &HostRuntime, alloc: Global) -> io::Result<Vec<String>> {
 
 fn obey(rt: &HostRuntime, threads: &(impl Threads + Wait + Sync), words: &[String]) -> u8 {
     if words.len() <= 1 && rt.stdin().is_terminal() {
-        tell_of_waiting(rt);
+        return tell_how_to_begin(rt);
     }
     match read_words(rt, rt.alloc(), words) {
         Ok(request) => act(rt, threads, request),
         Err(NoRequest::Helped) => end(rt, Ending::Helped),
+        Err(NoRequest::NobodyReads) => end(rt, Ending::Answered(CLOSED_PIPE)),
         Err(NoRequest::CannotPrint) => end(rt, Ending::CannotWrite(STANDARD)),
         Err(NoRequest::BadWords) => end(rt, Ending::BadWords),
         Err(NoRequest::OutOfMemory) => end(rt, Ending::OutOfMemory),
     }
 }
 
-/// Somebody sits there and has given no words: says what is waited for.
-fn tell_of_waiting(rt: &HostRuntime) {
+/// Somebody sits there and has given no words: says with which to begin.
+fn tell_how_to_begin(rt: &HostRuntime) -> u8 {
     let _ = eprint!(rt;
-        "eoscheck: waits for a segment on standard input; 'eoscheck --help' says what else there is\n"
+        "eoscheck: no words; 'eoscheck check FOLDER' checks a folder of logs, 'eoscheck --help' says what else there is\n"
     );
+    end(rt, Ending::BadWords)
 }
 
 fn act(rt: &HostRuntime, threads: &(impl Threads + Wait + Sync), request: Request<'_>) -> u8 {

@@ -1,5 +1,5 @@
 -- What is told of a verdict and of logs, whole or kept ones, whatever evidence they are of.
-use Rattle.std.specs.Prelude.{◌≡◌, ℕ, List, [], ◌∷◌, Bool, Option, None, Some, is_some, string_bytes, option_map}
+use Rattle.std.specs.Prelude.{◌≡◌, ℕ, List, [], ◌∷◌, length, ◌==◌, Bool, true, not, Option, None, Some, is_some, string_bytes, option_map}
 use Rattle.eos_ending.specs.declared.subject.Subject.{Subject}
 use Rattle.eos_ending.specs.Subjects.{subject_text}
 use Rattle.eos_check.specs.declared.verdict.Fault.{Fault}
@@ -14,12 +14,15 @@ use Rattle.eos_notes.specs.declared.note.Note.{Note}
 use Rattle.eos_notes.specs.Lines.{IsNotesTextBy}
 use Rattle.eos_notes.specs.Notes.{AreNotesBy}
 use Rattle.eos_partitions.specs.Faults.{first_of}
-use Rattle.eos_report.specs.VerdictTexts.{status_of}
 use Rattle.eos_source_check.specs.declared.judged.Judged.{Judged}
 use Rattle.eos_tallies.specs.TalliesByLogs.{tallies_by}
 use Rattle.eos_source.specs.Said.{Known}
 use Rattle.eos_source_faults.specs.Listed.{IsListOf}
+use Rattle.eos_fold.specs.Parts.{PartLog}
+use Rattle.eos_words.specs.declared.demands.Demands.{Demands}
 use Rattle.eos_checking.specs.Checking.{answer_text}
+use Rattle.eos_checking.specs.Demands.{exit_status, unmet_text}
+use Rattle.eos_checking.specs.declared.terms.Terms.{Terms}
 use Rattle.eos_checking.specs.declared.report.Told.{Told}
 use Rattle.eos_checking.specs.declared.source.SourceAnswer.{SourceAnswer}
 
@@ -39,6 +42,18 @@ abbrev pub AreListed : (ℕ → Known) → EvidenceParts → Judged → Verdict 
 AreListed known shape judged (Yes counts) faults = faults ≡ []
 AreListed known shape judged (No first) faults = IsListOf known shape judged.logs faults
 
+-- whether a note stands, by the manifest, the logs, and whether one of these has a fault
+pub record IsNotedBy (spec : Parts) (logs : List PartLog) (faulty : Bool) (noted : Bool) : Type 0 where
+  pub notes : List Note
+  pub by : AreNotesBy spec logs faulty notes
+  pub is : noted ≡ not (length notes == 0)
+
+-- the exit status of what was judged, of whose yes this is demanded
+pub record ExitsBy (spec : Parts) (judged : Judged) (demands : Demands) (status : ℕ) : Type 0 where
+  pub noted : Bool
+  pub notes : demands.strict ≡ true → IsNotedBy spec judged.logs.parts.items (is_some (first_of judged.logs.faults.items)) noted
+  pub is : status ≡ exit_status demands judged.verdict noted
+
 -- the report of what was judged, with these faults, or none where none is wanted
 abbrev pub ReportsOf : Parts → Judged → List Fault → Option About → Option (List ℕ) → Type 0
 ReportsOf spec judged faults None text = text ≡ None
@@ -48,8 +63,9 @@ ReportsOf spec judged faults (Some about) (Some text) =
     × (told.verdict.now ≡ judged.verdict) × (told.faults.now ≡ faults) × IsReportBy told about text
 
 -- what is told of what was judged, with these faults, which are all or the first alone
-pub record TellsOf (spec : Parts) (judged : Judged) (faults : List Fault) (subject : Subject) (json all quiet : Bool) (about : Option About) (answer : SourceAnswer) : Type 0 where
+pub record TellsOf (spec : Parts) (judged : Judged) (faults : List Fault) (subject : Subject) (json all quiet : Bool) (terms : Terms) (about : Option About) (answer : SourceAnswer) : Type 0 where
   pub lines : string_bytes answer.lines ≡ answer_text (subject_text subject) json all judged.verdict faults
-  pub status : answer.status ≡ status_of judged.verdict
+  pub status : AreInOrder judged.logs.parts.items → ExitsBy spec judged terms.demands answer.status
+  pub unmet : string_bytes answer.unmet ≡ unmet_text terms judged.verdict
   pub notes : AreInOrder judged.logs.parts.items → IsNotesTextBy spec judged.logs.parts.items (is_some (first_of judged.logs.faults.items)) quiet (string_bytes answer.notes)
   pub report : AreInOrder judged.logs.parts.items → ReportsOf spec judged faults about (option_map string_bytes answer.report)

@@ -5,4 +5,4 @@ pub returns-in_ok-answer-in-Ok : goal.returns-in_ok-answer-in-Ok
 returns-in_ok-answer-in-Ok g c =
     let asked = c.args.asked.now in
     let told = c.in_ok-answer-in-Ok.ensures in
-    list_is _ c.args.pieces.shape.now asked.subject asked.json asked.quiet asked.report _ told.0 _ c.in-Ok.ensures.judged told.1 told.2
+    list_is _ c.args.pieces.shape.now asked.subject asked.json asked.quiet asked.terms asked.report _ told.0 _ c.in-Ok.ensures.judged told.1 told.2
