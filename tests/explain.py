@@ -4,7 +4,7 @@
     tests/explain.py PROGRAM
 
 Of each folder of tests/evidence and of the stories: the first line of the K-th story is the K-th fault by tests/reference.py; a
-story has 40 lines at most; each place is one at which the plain reader finds that batch, of that producer and epoch, with that
+story has 40 lines at most, and no row twice; each place is one at which the plain reader finds that batch, of that producer and epoch, with that
 record in it, and what a row says of it is what the plain reader reads there; that nothing is there is so; the claims, markers,
 decisions and commits of a fault of an output are those that the second program finds, and so is the first batch of what was left
 open. With 1 and 4 workers alike; a yes, a refused folder, a number past the list, any number where it is a yes, and output that
@@ -20,6 +20,7 @@ import reference
 from mutants import Refused
 from plain_logs import (ABORT, COMMIT, OFFSETS, STATES, claim_of, next_marker, offset_key, offset_value, read_batch, read_folder,
                         records_of, state_key, state_value)
+from story_lines import is_right_time, without_time
 
 HERE = os.path.dirname(os.path.abspath(__file__))
 PLACE = re.compile(r"^ (\w+) +([\w.%-]+)-(\d+):(\d+) byte (\d+) of segment (\d+)(.*)$")
@@ -192,6 +193,11 @@ def look_at(program, folder, faults, number):
     expect(len(lines) <= 40, f"{where}: {len(lines)} lines")
     expect(run(program, "explain", "--fault", str(number), "--workers", "4", folder)[1] == text, f"{where}: other by 4 workers")
     apps, parts = read_folder(folder)
+    rows = [line for line in lines[1:] if line.startswith(" ")]
+    expect(len(set(rows)) == len(rows), f"{where}: a row stands twice: {rows}")
+    for line in rows:
+        expect(is_right_time(folder, line), f"{where}: another time: {line}")
+    lines = [lines[0], *map(without_time, lines[1:])] if lines else lines
     for line in lines[1:]:
         place, nothing = PLACE.match(line), NOTHING.match(line)
         if place:

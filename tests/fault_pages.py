@@ -17,6 +17,10 @@ What `check` answers after *no*, kind by kind: what it says, what it means, what
 `eoscheck explain --code 5.10` prints a page of it. A phase counts only where those before it have no fault; which definition
 stands behind a kind is in `YES.md`, and what an answer about a whole folder often is in `EVIDENCE.md`.
 
+A row of a story ends in the time of its record, and of a batch in that of its first record, as ` at 2026-11-22T10:15:03.120Z`; before
+1970 and past the year 9999 it is a number of milliseconds. It is the time that the batch has: of the producer's clock, or of the
+broker's where the topic has `message.timestamp.type=LogAppendTime`. Clocks lie: no verdict rests on a time, and none on the order of two.
+
 This page is made from the program's own table, by `tests/fault_pages.py`.
 """
 PHASES = {

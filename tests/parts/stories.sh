@@ -25,6 +25,9 @@ counted 'what clusters do' python3 -B tests/cluster_causes.py "$program"
 # the stories of faults: each place of theirs is looked up in the logs
 counted 'stories of faults' python3 -B tests/explain.py "$program"
 
+# the lines of stories: times, each once, their parts, and the path in the last one
+counted 'the lines of stories' python3 -B tests/story_lines.py "$program"
+
 # the cause that a story names, by what its rows show: a folder for each case, and for the near misses
 counted 'the causes of stories' python3 -B tests/causes.py "$program"
 

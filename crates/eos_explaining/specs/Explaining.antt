@@ -47,6 +47,7 @@ pub record IsStoryOf (folder : List ℕ) (e : EvidenceParts) (logs : List PartLo
   pub of_verdict : story.verdict.now ≡ verdict
   pub at : option_copied story.place ≡ place_in verdict
   pub rows : All (IsTrue e.partitions logs) story.rows.now
+  pub of_these : story.partitions.now ≡ e.partitions
   pub whole : AreWhole e logs verdict story.rows.now
   pub page : HasItsPage verdict (option_copied story.page)
   pub list : story.told.now ≡ told

@@ -55,6 +55,7 @@ fn told_of(
         verdict,
         place: place.as_ref(),
         rows: rows.as_slice(),
+        partitions: scene.evidence.partitions(),
         page,
         told: about.told,
         notes: about.notes,

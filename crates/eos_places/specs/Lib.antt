@@ -1,4 +1,5 @@
 pub mod Wanted
 pub mod Places
 pub mod Partitions
+pub mod Times
 pub mod steps

@@ -4,9 +4,11 @@
 #![tactic(auto)]
 
 mod partition;
+mod times;
 mod walk;
 mod wanted;
 
 pub use partition::{Placed, batches_of, partition_named};
+pub use times::time_of;
 pub use walk::batches_in;
 pub use wanted::{Standing, Wanted};

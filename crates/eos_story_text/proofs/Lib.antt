@@ -1,0 +1,2 @@
+mod LinesOnce
+mod PartsTold

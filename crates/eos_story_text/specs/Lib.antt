@@ -3,6 +3,9 @@ pub mod Records
 pub mod Batches
 pub mod RowLines
 pub mod Counts
+pub mod Times
+pub mod Lines
+pub mod Told
 pub mod Signs
 pub mod Sentences
 pub mod Commands

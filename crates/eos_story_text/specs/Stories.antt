@@ -1,5 +1,5 @@
 -- The text of a story.
-use Rattle.std.specs.Prelude.{ℕ, List, [], ◌++◌, Option, Some, None, codes, length, take, flat_map, nat_le, if◌then◌else◌}
+use Rattle.std.specs.Prelude.{ℕ, List, [], ◌++◌, Option, Some, None, length, take, nat_le, if◌then◌else◌}
 use Rattle.std.specs.Option.{option_copied}
 use Rattle.eos_catalogue.specs.declared.page.Page.{Page}
 use Rattle.eos_claims.specs.declared.place.Place.{Place}
@@ -9,18 +9,24 @@ use Rattle.eos_report.specs.VerdictTexts.{verdict_line}
 use Rattle.eos_story.specs.declared.row.Row.{Row}
 use Rattle.eos_story_text.specs.declared.story.Story.{Story}
 use Rattle.eos_story_text.specs.Counts.{counts_line}
-use Rattle.eos_story_text.specs.RowLines.{more_line, row_line}
+use Rattle.eos_story_text.specs.Lines.{joined}
+use Rattle.eos_story_text.specs.RowLines.{more_line}
 use Rattle.eos_story_text.specs.Sentences.{sentences_text, shown_of}
 use Rattle.eos_story_text.specs.Commands.{command_line}
+use Rattle.eos_story_text.specs.Told.{told_lines}
 
 -- that there are more than are shown, if so
 abbrev pub rest_text : ℕ → ℕ → List ℕ
 rest_text shown all = if nat_le all shown then [] else more_line shown all
 
-unfoldable pub rows_text : Option Place → List Row → List ℕ
-rows_text place rows = flat_map (row_line place) (take 22 rows) ++ rest_text 22 (length rows)
+-- the lines of its rows, each once
+abbrev pub lines_of_story : Story → List (List ℕ)
+lines_of_story s = told_lines (option_copied s.place) s.partitions.now s.rows.now
 
--- what it means and what to do next, by the rows that are shown
+unfoldable pub rows_text : List (List ℕ) → List ℕ
+rows_text lines = joined (take 22 lines) ++ rest_text 22 (length lines)
+
+-- what it means and what to do next, by the first rows, whose lines are all shown
 abbrev pub page_text : Option Place → List Row → Option Page → List ℕ
 page_text place rows None = []
 page_text place rows (Some p) = sentences_text place (take 22 rows) p p.cases.now
@@ -28,12 +34,12 @@ page_text place rows (Some p) = sentences_text place (take 22 rows) p p.cases.no
 unfoldable pub notes_text : List Note → List ℕ
 notes_text notes = note_lines (take 6 notes) ++ rest_text 6 (length notes)
 
--- the command to run next, by the rows that are shown
+-- the command to run next, by these rows
 abbrev pub next_text : Story → List ℕ
 next_text s = command_line s.folder.now (option_copied s.place) (take 22 s.rows.now) (shown_of (option_copied s.place) (take 22 s.rows.now) (option_copied s.page))
 
 unfoldable pub story_text : Story → List ℕ
 story_text s =
     verdict_line s.verdict.now
-    ++ (rows_text (option_copied s.place) s.rows.now ++ (page_text (option_copied s.place) s.rows.now (option_copied s.page)
+    ++ (rows_text (lines_of_story s) ++ (page_text (option_copied s.place) s.rows.now (option_copied s.page)
     ++ (counts_line s.told.now ++ (notes_text s.notes.now ++ next_text s))))

@@ -5,6 +5,7 @@
 mod batches;
 mod command;
 mod counts;
+mod lines;
 mod moves;
 mod names;
 mod records;
@@ -12,6 +13,8 @@ mod rows;
 mod sentences;
 mod signs;
 mod story;
+mod times;
+mod told;
 mod twins;
 
 pub use story::{Story, story_text};

@@ -1,21 +1,24 @@
 //! A story and its text.
 
-ghost use Rattle.std.specs.Prelude.{◌≡◌, ◌++◌, OnOk, IfOk, length, take, flat_map, string_bytes};
+ghost use Rattle.std.specs.Prelude.{◌≡◌, OnOk, IfOk, take, string_bytes};
 ghost use Rattle.std.specs.Option.{option_copied};
 ghost use Rattle.eos_text.specs.Adding.{Adds};
 ghost use Rattle.eos_notes.specs.Texts.{note_lines as lines_of};
 ghost use Rattle.eos_report.specs.VerdictTexts.{verdict_line};
-ghost use Rattle.eos_story_text.specs.RowLines.{row_line};
-ghost use Rattle.eos_story_text.specs.Stories.{rows_text, rest_text, page_text, notes_text, next_text, story_text};
+ghost use Rattle.eos_story_text.specs.Lines.{AreDistinct};
+ghost use Rattle.eos_story_text.specs.Stories.{lines_of_story, rows_text, rest_text, page_text, notes_text, next_text, story_text};
 
 use crate::command::push_command;
 use crate::counts::push_counts;
-use crate::rows::{push_more, push_row};
+use crate::lines::push_joined;
+use crate::rows::push_more;
 use crate::sentences::{push_sentences, shown_of};
 use crate::signs::Told;
+use crate::told::told_lines;
 use eos_catalogue::Page;
 use eos_check::Verdict;
 use eos_claims::Place;
+use eos_evidence::Partition;
 use eos_notes::{Note, note_lines};
 use eos_report::verdict_line;
 use eos_story::Row;
@@ -38,26 +41,14 @@ pub struct Story<'a> {
     pub place: Option<&'a Place>,
     /// The places that it is about.
     pub rows: &'a [Row],
+    /// The partitions whose logs these places are in.
+    pub partitions: &'a [Partition],
     /// The catalogue's page of its kind.
     pub page: Option<&'a Page>,
     /// All faults, each as a verdict names it.
     pub told: &'a [Verdict],
     /// The notes on the evidence.
     pub notes: &'a [Note],
-}
-
-fn push_lines(
-    alloc: Global,
-    out: &mut String,
-    place: Option<&Place>,
-    rows: &[Row],
-) -> Result<(), AllocError>
-    ensures { OnOk result (Adds (string_bytes out.old) (string_bytes out.new) (flat_map (row_line (option_copied place.entry)) rows.now)) }
-{
-    for row in rows {
-        push_row(alloc, out, place, row)?;
-    }
-    Ok(())
 }
 
 /// That there are more than are shown, if so.
@@ -70,23 +61,26 @@ fn push_rest(out: &mut String, shown: usize, all: usize) -> Result<(), AllocErro
     push_more(out, shown as u64, all as u64)
 }
 
-/// The rows that are shown.
+/// The lines that are shown.
+fn shown_lines(lines: &[String]) -> &[String]
+    ensures { result.now ≡ take 22 lines.now }
+{
+    &lines[..MOST_ROWS.min(lines.len())]
+}
+
+/// The rows that what is meant follows from: the lines of all of them are shown.
 fn shown_rows(rows: &[Row]) -> &[Row]
     ensures { result.now ≡ take 22 rows.now }
 {
     &rows[..MOST_ROWS.min(rows.len())]
 }
 
-fn push_rows(
-    alloc: Global,
-    out: &mut String,
-    place: Option<&Place>,
-    rows: &[Row],
-) -> Result<(), AllocError>
-    ensures { OnOk result (Adds (string_bytes out.old) (string_bytes out.new) (rows_text (option_copied place.entry) rows.now)) }
+fn push_rows(alloc: Global, out: &mut String, story: &Story<'_>) -> Result<(), AllocError>
+    ensures { OnOk result (Adds (string_bytes out.old) (string_bytes out.new) (rows_text (lines_of_story story.now))) }
 {
-    push_lines(alloc, out, place, shown_rows(rows))?;
-    push_rest(out, MOST_ROWS, rows.len())?;
+    let lines = told_lines(alloc, story.place, story.partitions, story.rows)?;
+    push_joined(out, shown_lines(lines.as_slice()))?;
+    push_rest(out, MOST_ROWS, lines.len())?;
     Ok(())
 }
 
@@ -131,16 +125,18 @@ fn push_next(alloc: Global, out: &mut String, story: &Story<'_>) -> Result<(), A
     push_command(alloc, out, story.folder, &told, shown)
 }
 
-/// The text of a story: the line of its fault, a line for each of the first rows, what the fault means and what to do next by what
-/// these show, how many faults of each kind there are, the first notes, and the command to run next. These are 40 lines at most.
+/// The text of a story: the line of its fault, the first lines of its rows, each once and with its record's time, what the fault means
+/// and what to do next by what these show, how many faults of each kind there are, the first notes, and the command to run next. These
+/// are 40 lines at most.
 ///
 /// # Errors
 /// Only want of memory.
 pub fn story_text(alloc: Global, story: &Story<'_>) -> Result<String, AllocError>
-    ensures { IfOk result (λ text. string_bytes text ≡ story_text story.now) }
+    ensures text { IfOk result (λ text. string_bytes text ≡ story_text story.now) }
+    ensures once { IfOk result (λ text. AreDistinct (lines_of_story story.now)) }
 {
     let mut text = verdict_line(alloc, story.verdict)?;
-    push_rows(alloc, &mut text, story.place, story.rows)?;
+    push_rows(alloc, &mut text, story)?;
     push_page(alloc, &mut text, story.place, story.rows, story.page)?;
     push_counts(&mut text, story.told)?;
     push_notes(alloc, &mut text, story.notes)?;

@@ -1,13 +1,18 @@
-use Rattle.std.proofs.Common.{◌∙◌, ap, ◌++◌, ℕ, List}
+use Rattle.std.proofs.Common.{◌∙◌, ap, ◌++◌, ℕ, List, map}
 use Rattle.std.specs.Option.{option_copied}
 use Rattle.eos_text.proofs.Appended.{then}
 use Rattle.eos_story_text.specs.Counts.{counts_line}
-use Rattle.eos_story_text.specs.Stories.{rows_text, page_text, notes_text, next_text, story_text}
+use Rattle.eos_story_text.specs.Stories.{lines_of_story, rows_text, page_text, notes_text, next_text, story_text}
+use Rattle.eos_story_text.specs.Told.{told_line}
+use Rattle.eos_story_text.proofs.LinesOnce.{each_once}
 use Rattle.eos_story_text.proofs.story.story_text.Goals as goal
 
-pub returns : goal.returns
+pub returns-clause-text : goal.returns-clause-text
 unfolding story_text
-returns c =
+returns-clause-text c =
     let s = c.args.story.now in
     let rest = then c.in_ok-push_rows.ensures (then c.in_ok-push_page.ensures (then c.in_ok-push_counts.ensures (then c.in_ok-push_notes.ensures c.in_ok-push_next.ensures))) in
-    rest.whole ∙ ap (λ (l : List ℕ). l ++ (rows_text (option_copied s.place) s.rows.now ++ (page_text (option_copied s.place) s.rows.now (option_copied s.page) ++ (counts_line s.told.now ++ (notes_text s.notes.now ++ next_text s))))) c.in_ok-text.ensures
+    rest.whole ∙ ap (λ (l : List ℕ). l ++ (rows_text (lines_of_story s) ++ (page_text (option_copied s.place) s.rows.now (option_copied s.page) ++ (counts_line s.told.now ++ (notes_text s.notes.now ++ next_text s))))) c.in_ok-text.ensures
+
+pub returns-clause-once : goal.returns-clause-once
+returns-clause-once c = each_once (map (told_line (option_copied c.args.story.now.place) c.args.story.now.partitions.now) c.args.story.now.rows.now)
