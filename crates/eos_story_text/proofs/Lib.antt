@@ -1,2 +1,3 @@
 mod LinesOnce
+mod LinesShown
 mod PartsTold

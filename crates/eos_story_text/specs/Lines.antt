@@ -1,5 +1,5 @@
 -- The lines of a story: each ends behind its twentieth part, and stands once.
-use Rattle.std.specs.Prelude.{◌≡◌, ⊤, ℕ, zero, suc, ◌-◌, List, [], ◌∷◌, ◌++◌, Bool, false, ◌==◌, nat_lt, length, filter, bytes_eq, codes, if◌then◌else◌}
+use Rattle.std.specs.Prelude.{◌≡◌, ⊤, ℕ, zero, suc, ◌-◌, List, [], ◌∷◌, ◌++◌, Bool, true, false, ◌==◌, nat_lt, length, filter, bytes_eq, codes, if◌then◌else◌}
 use Rattle.std.specs.Fmt.{decimal}
 use Rattle.std.specs.List.{list_any, before_first, after_first, position_or_len}
 
@@ -57,6 +57,11 @@ distinct lines = with_lines [] lines
 abbrev pub AreDistinct : List (List ℕ) → Type 0
 AreDistinct [] = ⊤
 AreDistinct (line ∷ lines) = (is_said lines line ≡ false) × AreDistinct lines
+
+-- each of them is one of these
+abbrev pub AreAmong : List (List ℕ) → List (List ℕ) → Type 0
+AreAmong said [] = ⊤
+AreAmong said (line ∷ lines) = (is_said said line ≡ true) × AreAmong said lines
 
 -- one behind the other
 abbrev pub joined : List (List ℕ) → List ℕ

@@ -1,5 +1,5 @@
 -- The text of a story.
-use Rattle.std.specs.Prelude.{ℕ, List, [], ◌++◌, Option, Some, None, length, take, nat_le, if◌then◌else◌}
+use Rattle.std.specs.Prelude.{ℕ, List, [], ◌++◌, Option, Some, None, length, map, take, nat_le, if◌then◌else◌}
 use Rattle.std.specs.Option.{option_copied}
 use Rattle.eos_catalogue.specs.declared.page.Page.{Page}
 use Rattle.eos_claims.specs.declared.place.Place.{Place}
@@ -13,7 +13,7 @@ use Rattle.eos_story_text.specs.Lines.{joined}
 use Rattle.eos_story_text.specs.RowLines.{more_line}
 use Rattle.eos_story_text.specs.Sentences.{sentences_text, shown_of}
 use Rattle.eos_story_text.specs.Commands.{command_line}
-use Rattle.eos_story_text.specs.Told.{told_lines}
+use Rattle.eos_story_text.specs.Told.{told_line, told_lines}
 
 -- that there are more than are shown, if so
 abbrev pub rest_text : ℕ → ℕ → List ℕ
@@ -22,6 +22,10 @@ rest_text shown all = if nat_le all shown then [] else more_line shown all
 -- the lines of its rows, each once
 abbrev pub lines_of_story : Story → List (List ℕ)
 lines_of_story s = told_lines (option_copied s.place) s.partitions.now s.rows.now
+
+-- those of the first rows, which what it means follows from
+abbrev pub lines_of_first : Story → List (List ℕ)
+lines_of_first s = map (told_line (option_copied s.place) s.partitions.now) (take 22 s.rows.now)
 
 unfoldable pub rows_text : List (List ℕ) → List ℕ
 rows_text lines = joined (take 22 lines) ++ rest_text 22 (length lines)

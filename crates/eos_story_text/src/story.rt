@@ -5,8 +5,8 @@ ghost use Rattle.std.specs.Option.{option_copied};
 ghost use Rattle.eos_text.specs.Adding.{Adds};
 ghost use Rattle.eos_notes.specs.Texts.{note_lines as lines_of};
 ghost use Rattle.eos_report.specs.VerdictTexts.{verdict_line};
-ghost use Rattle.eos_story_text.specs.Lines.{AreDistinct};
-ghost use Rattle.eos_story_text.specs.Stories.{lines_of_story, rows_text, rest_text, page_text, notes_text, next_text, story_text};
+ghost use Rattle.eos_story_text.specs.Lines.{AreAmong, AreDistinct};
+ghost use Rattle.eos_story_text.specs.Stories.{lines_of_first, lines_of_story, rows_text, rest_text, page_text, notes_text, next_text, story_text};
 
 use crate::command::push_command;
 use crate::counts::push_counts;
@@ -134,6 +134,7 @@ fn push_next(alloc: Global, out: &mut String, story: &Story<'_>) -> Result<(), A
 pub fn story_text(alloc: Global, story: &Story<'_>) -> Result<String, AllocError>
     ensures text { IfOk result (λ text. string_bytes text ≡ story_text story.now) }
     ensures once { IfOk result (λ text. AreDistinct (lines_of_story story.now)) }
+    ensures shown { IfOk result (λ text. AreAmong (take 22 (lines_of_story story.now)) (lines_of_first story.now)) }
 {
     let mut text = verdict_line(alloc, story.verdict)?;
     push_rows(alloc, &mut text, story)?;

@@ -1,10 +1,12 @@
-use Rattle.std.proofs.Common.{◌∙◌, ap, ◌++◌, ℕ, List, map}
+use Rattle.std.proofs.Common.{◌∙◌, ap, sym, subst, ◌++◌, ℕ, List, map, take}
 use Rattle.std.specs.Option.{option_copied}
 use Rattle.eos_text.proofs.Appended.{then}
 use Rattle.eos_story_text.specs.Counts.{counts_line}
+use Rattle.eos_story_text.specs.Lines.{AreAmong}
 use Rattle.eos_story_text.specs.Stories.{lines_of_story, rows_text, page_text, notes_text, next_text, story_text}
 use Rattle.eos_story_text.specs.Told.{told_line}
-use Rattle.eos_story_text.proofs.LinesOnce.{each_once}
+use Rattle.eos_story_text.proofs.LinesOnce.{each_once, front_of_all}
+use Rattle.eos_story_text.proofs.LinesShown.{first_among}
 use Rattle.eos_story_text.proofs.story.story_text.Goals as goal
 
 pub returns-clause-text : goal.returns-clause-text
@@ -16,3 +18,9 @@ returns-clause-text c =
 
 pub returns-clause-once : goal.returns-clause-once
 returns-clause-once c = each_once (map (told_line (option_copied c.args.story.now.place) c.args.story.now.partitions.now) c.args.story.now.rows.now)
+
+pub returns-clause-shown : goal.returns-clause-shown
+returns-clause-shown c =
+    let s = c.args.story.now in
+    let told = told_line (option_copied s.place) s.partitions.now in
+    subst (λ (l : List (List ℕ)). AreAmong (take 22 (lines_of_story s)) l) (sym (front_of_all told 22 s.rows.now)) (first_among 22 (map told s.rows.now))
