@@ -227,8 +227,7 @@ fn last_listed(scene: &Scene<'_>, producer: i64) -> Result<Vec<PartitionName>, A
     ensures { IfOk result (λ names. names.items ≡ listed_open scene.now.logs.now producer Rattle.std.specs.Prelude.None) }
 {
     let states = Sought::OfProducer(producer);
-    let names = listed_last(scene, &states)?;
-    Ok(names)
+    listed_last(scene, &states)
 }
 
 /// The partitions that the decision lists, or else those that the last state of the producer id lists.

@@ -98,6 +98,7 @@ fn push_header(
     Ok(())
 }
 
+/// Adds what stands under each of the five names in the headers of a record.
 fn push_names(
     scene: &Scene<'_>,
     rows: &mut Vec<Row>,
@@ -115,6 +116,24 @@ fn push_names(
     Ok(())
 }
 
+/// The same, of the first record that is sought so, which is that of this place.
+fn push_found(
+    scene: &Scene<'_>,
+    rows: &mut Vec<Row>,
+    place: &Place,
+    sought: &Sought,
+) -> Result<(), AllocError>
+    requires { sought.now ≡ At place.now }
+    ensures { OnOk result (TellsEach scene.now rows.old.items rows.new.items (Headers place.now ∷ [])) }
+{
+    let finds = find_records(scene.alloc, scene.logs, sought, 1)?;
+    if finds.first.is_empty() {
+        return Ok(());
+    }
+    push_names(scene, rows, place, &finds.first[0])?;
+    Ok(())
+}
+
 /// Adds what stands under each of the five names in the headers of a record.
 pub(crate) fn push_headers(
     scene: &Scene<'_>,
@@ -124,10 +143,5 @@ pub(crate) fn push_headers(
     ensures { OnOk result (TellsEach scene.now rows.old.items rows.new.items (Headers place.now ∷ [])) }
 {
     let sought = Sought::At(copy_place(place)?);
-    let finds = find_records(scene.alloc, scene.logs, &sought, 1)?;
-    if finds.first.is_empty() {
-        return Ok(());
-    }
-    push_names(scene, rows, place, &finds.first[0])?;
-    Ok(())
+    push_found(scene, rows, place, &sought)
 }

@@ -1,5 +1,5 @@
 -- The lines of the first rows stand among as many lines that are told.
-use Rattle.std.proofs.Common.{◌≡◌, ◌++◌, ◌∷◌, ◌+◌, ◌≤◌, [], ℕ, zero, suc, List, Bool, true, false, ◌||◌, if◌then◌else◌, take, length, bytes_eq, refl, sym, ap, subst, arith}
+use Rattle.std.proofs.Common.{◌≡◌, ◌++◌, ◌∷◌, ◌+◌, ◌≤◌, [], ℕ, zero, suc, List, true, false, ◌||◌, if◌then◌else◌, take, length, bytes_eq, refl, sym, ap, subst, arith}
 use Rattle.std.proofs.lemmas.Bool.{false≢true}
 use Rattle.std.proofs.lemmas.List.{length-append}
 use Rattle.std.proofs.lemmas.Slice.Eq.{bytes_eq-Decides}
