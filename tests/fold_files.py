@@ -9,15 +9,18 @@ import struct
 import plain_logs
 from mutants import LAST_OFFSET, REFUSALS, Refused, varint
 
-MAGIC, VERSION = b"EOSFOLD", 2
-# The most bytes that a text shares with the one before.
-MOST_SHARED = 127
+MAGIC, VERSION = b"EOSFOLD", 3
+# The most bytes that a text shares with the one before; of its last sixteenth it shares none, so it is at most 16 times its spelling.
+MOST_SHARED, SHARE = 127, 16
+# The least bytes of a batch, and of a record.
+LEAST_BATCH, LEAST_RECORD = 61, 7
 PRESENCE, CLAIMS, TEXTS = 0, 1, 2
 KINDS = {"plain": 0, "txn": 1, "control": 2, plain_logs.COMMIT: 4, plain_logs.ABORT: 6}
 
 # topics: with CLAIMS those that were asked for. kept: nothing with PRESENCE; with CLAIMS a Claim or None for each data record; with
-# TEXTS (key, value, Claim or None). stop: (), (segment, byte, reason) or (found,).
-Fold = collections.namedtuple("Fold", "roles topic partition base size heads topics kept stop")
+# TEXTS (key, value, Claim or None). stop: (), (segment, byte, reason) or (found,). epochs: (epoch, start offset) where the leader epoch
+# changes. batches: a checksum of those of the batches.
+Fold = collections.namedtuple("Fold", "roles topic partition base size batches heads epochs topics kept stop")
 Head = collections.namedtuple("Head", "kind coordinator count size producer epoch sequence")
 Claim = collections.namedtuple("Claim", "topic partition offset output of")
 
@@ -58,7 +61,7 @@ def kept_of(roles, record):
 
 def fold_of(roles, sources, name, base, data):
     """The fold of a segment of this partition, (topic, number), with this base offset and these bytes."""
-    heads, kept, stop, at, offset = [], [], (), 0, base
+    heads, epochs, kept, stop, at, offset, fields = [], [], [], (), 0, base, b""
     while at < len(data) and not stop:
         try:
             batch, size = plain_logs.read_batch(data, at)
@@ -69,10 +72,15 @@ def fold_of(roles, sources, name, base, data):
             stop = (batch.base,)
             continue
         heads.append(head_of(batch, size, data[at : at + size]))
+        epoch = struct.unpack(">i", data[at + 12 : at + 16])[0]
+        if not epochs or epochs[-1][0] != epoch:
+            epochs.append((epoch, offset))
+        fields += data[at + 17 : at + 21]
         if roles != PRESENCE and heads[-1].kind < 2:
             kept += [kept_of(roles, record) for record in batch.records]
         at, offset = at + size, offset + batch.count
-    return Fold(roles, *name, base, len(data), heads, sources if roles == CLAIMS else [], kept, stop)
+    sources = sources if roles == CLAIMS else []
+    return Fold(roles, *name, base, len(data), plain_logs.crc32c(fields), heads, epochs, sources, kept, stop)
 
 
 # ---- writing
@@ -105,8 +113,8 @@ def claim_bytes(claim, topics):
 
 
 def shared(before, data):
-    """How many first bytes both have."""
-    least = min(len(before), len(data), MOST_SHARED)
+    """How many first bytes both have, as far as a text may share them."""
+    least = min(len(before), len(data), MOST_SHARED, len(data) + 1 - len(data) // SHARE)
     return next((at for at in range(least) if before[at] != data[at]), least)
 
 
@@ -143,7 +151,8 @@ def sealed(front):
 def front_bytes(fold):
     """The file of a fold without its checksum."""
     front = MAGIC + bytes([VERSION, fold.roles]) + text(fold.topic) + varint(fold.partition) + varint(fold.base)
-    front += unsigned(fold.size) + unsigned(len(fold.heads)) + b"".join(map(head_bytes, fold.heads))
+    front += unsigned(fold.size) + struct.pack(">I", fold.batches) + unsigned(len(fold.heads)) + b"".join(map(head_bytes, fold.heads))
+    front += unsigned(len(fold.epochs)) + b"".join(varint(epoch) + unsigned(start) for epoch, start in fold.epochs)
     if fold.roles == CLAIMS:
         front += unsigned(len(fold.topics)) + b"".join(map(text, fold.topics))
         front += b"".join(claim_bytes(claim, fold.topics) for claim in fold.kept)
@@ -220,6 +229,7 @@ class Reader:
         head = Head(kind, coordinator, count, size, self.number(), self.number(16), self.number(32))
         without = (kind == 1 or kind >= 4) and head.producer < 0
         possible = 1 <= count < 2**31 if kind < 2 else count == 1
+        possible = possible and LEAST_BATCH + LEAST_RECORD * count <= size
         if not possible or without or (head.producer >= 0 and head.epoch < 0):
             raise Refused("Head")
         return head
@@ -247,6 +257,27 @@ class Reader:
         return (self.unsigned(),) if kind else ()
 
 
+def are_entries(base, heads, epochs):
+    """Whether batches with these heads can have these leader epochs: the first has an entry, and each entry is of a batch."""
+    starts, offset = [], abs(base)
+    for head in heads:
+        starts.append(offset)
+        offset += head.count
+    told = [start for _, start in epochs]
+    rises = told == sorted(set(told)) and set(told) <= set(starts) and told[:1] == starts[:1]
+    return rises and all(one[0] != other[0] for one, other in zip(epochs, epochs[1:]))
+
+
+def is_inside(fold):
+    """Whether a front ends behind its batches."""
+    size, begin = sum(head.size for head in fold.heads), abs(fold.base)
+    if not fold.stop:
+        return size == fold.size
+    if len(fold.stop) == 3:
+        return fold.stop[:2] == (begin, size) and size < fold.size
+    return fold.stop[0] != begin + sum(head.count for head in fold.heads) and size < fold.size
+
+
 def placed(claim, topics):
     if claim is None or isinstance(claim.topic, bytes):
         return claim
@@ -271,11 +302,16 @@ def read_fold(data):
         raise Refused("Version")
     roles = fields.kind("Roles", 2)
     topic, partition, base, size = fields.text(), fields.number(32), fields.number(), fields.unsigned()
-    heads, topics, kept = [], [], []
+    batches = struct.unpack(">I", fields.take(4))[0]
+    heads, epochs, topics, kept = [], [], [], []
     for _ in range(fields.unsigned()):
         heads.append(fields.head())
-    if abs(base) + sum(head.count for head in heads) > LAST_OFFSET + 1:
+    if abs(base) + sum(head.count for head in heads) > LAST_OFFSET + 1 or sum(head.size for head in heads) > min(size, 2**63):
         raise Refused("Head")
+    for _ in range(fields.unsigned()):
+        epochs.append((fields.number(32), fields.unsigned()))
+    if not are_entries(base, heads, epochs):
+        raise Refused("Epoch")
     if roles == CLAIMS:
         topics = [fields.text() for _ in range(fields.unsigned())]
     if roles != PRESENCE:
@@ -284,13 +320,16 @@ def read_fold(data):
     if roles == CLAIMS:
         kept = [placed(claim, topics) for claim in kept]
     stop, checked = fields.stop(), fields.at
+    fold = Fold(roles, topic, partition, base, size, batches, heads, epochs, topics, kept, stop)
+    if not is_inside(fold):
+        raise Refused("Stop")
     if struct.unpack(">I", fields.take(4))[0] != plain_logs.crc32c(data[:checked]):
         raise Refused("Crc")
     if fields.at < len(data):
         raise Refused("Trailing")
     if not all(is_said(it if roles == CLAIMS else it[2]) for it in kept):
         raise Refused("Record")
-    return Fold(roles, topic, partition, base, size, heads, topics, kept, stop)
+    return fold
 
 
 def name_of(data):

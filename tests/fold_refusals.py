@@ -82,13 +82,15 @@ def every_kind():
     heads = [Head(0, None, 2, 300, -1, -1, -1), Head(1, None, 1, 90, 2**50, 2**15 - 1, 2**31 - 1)]
     heads += [Head(kind, 7 if kind > 3 else None, 1, 78, 5, 6, -1) for kind in range(2, 8)]
     size = sum(head.size for head in heads)
+    epochs = [(7, 0), (-1, 2), (2**31 - 1, 3), (-(2**31), 8)]
     kept = [None, some, some._replace(topic=b"other")]
-    yield "out-0", fold_files.Fold(CLAIMS, b"out", 0, 0, size, heads, [b"in"], kept, (9,))
+    yield "out-0", fold_files.Fold(CLAIMS, b"out", 0, 0, size + 1, 2**32 - 1, heads, epochs, [b"in"], kept, (10,))
+    texts = fold_files.Fold(TEXTS, b"__consumer_offsets", 0, 0, size + 1, 1, heads, epochs[:1], [], [], (0, size, 0))
     kept = [(b"key", None, None), (None, b"value", some), (b"ken", b"", None)]
-    yield "__consumer_offsets-0", fold_files.Fold(TEXTS, b"__consumer_offsets", 0, 0, size + 1, heads, [], kept, (0, size, 0))
+    yield "__consumer_offsets-0", texts._replace(kept=kept)
     # more bytes in common than are shared
-    kept = [(b"k" * 130, b"v", None), (b"k" * 127 + b"x", b"", None), (b"k" * 131, b"", None)]
-    yield "__consumer_offsets-0", fold_files.Fold(TEXTS, b"__consumer_offsets", 0, 0, size + 1, heads, [], kept, (0, size, 0))
+    kept = [(b"k" * 140, b"v" * 32, None), (b"k" * 127 + b"x", b"v" * 31, None), (b"k" * 139, b"v" * 47, None)]
+    yield "__consumer_offsets-0", texts._replace(kept=kept)
 
 
 def each_byte(place):
@@ -113,24 +115,39 @@ ENDLESS = b"\x80" * 10
 TOO_GREAT = b"\x80" * 9 + b"\x02"
 
 
-def front(roles=PRESENCE, topic=text(b"in"), partition=b"\0", base=b"\0", size=unsigned(77)):
-    return b"EOSFOLD\2" + bytes([roles]) + topic + partition + base + size
+SIZE = 500
+# One leader epoch, from offset 0 on.
+EPOCHS = unsigned(1) + b"\0\0"
+
+
+def front(roles=PRESENCE, topic=text(b"in"), partition=b"\0", base=b"\0", size=unsigned(SIZE)):
+    return b"EOSFOLD\3" + bytes([roles]) + topic + partition + base + size + b"\1\2\3\4"
 
 
 def with_heads(*heads, roles=PRESENCE, **more):
+    more = {"size": unsigned(SIZE * len(heads)), **more}
     return front(roles, **more) + unsigned(len(heads)) + b"".join(heads)
 
 
-def head(kind=0, coordinator=b"", count=unsigned(2), producer=b"\1", epoch=b"\1", sequence=b"\1"):
-    return bytes([kind]) + coordinator + count + unsigned(77) + producer + epoch + sequence
+def head(kind=0, coordinator=b"", count=unsigned(2), producer=b"\1", epoch=b"\1", sequence=b"\1", size=unsigned(SIZE)):
+    return bytes([kind]) + coordinator + count + size + producer + epoch + sequence
+
+
+def with_epochs(*entries):
+    """Of three batches of two records each."""
+    return with_heads(head(), head(), head()) + unsigned(len(entries)) + b"".join(varint(epoch) + unsigned(at) for epoch, at in entries)
+
+
+def with_stop(stop, **more):
+    return with_heads(head(), **more) + EPOCHS + stop
 
 
 def with_claim(claim, topics=unsigned(1) + text(b"in")):
-    return with_heads(head(count=unsigned(1)), roles=CLAIMS, topic=text(b"out")) + topics + claim
+    return with_heads(head(count=unsigned(1)), roles=CLAIMS, topic=text(b"out")) + EPOCHS + topics + claim
 
 
 def with_text(*kept):
-    return with_heads(head(count=unsigned(len(kept))), roles=TEXTS, topic=text(b"__consumer_offsets")) + b"".join(kept)
+    return with_heads(head(count=unsigned(len(kept))), roles=TEXTS, topic=text(b"__consumer_offsets")) + EPOCHS + b"".join(kept)
 
 
 def key(shared, rest):
@@ -143,11 +160,15 @@ def value(shared, rest):
 
 
 GREATEST = varint(LAST_OFFSET)
+# As many records as a segment can have, in one batch.
+MOST, MOST_RECORDS = unsigned(MOST_BYTES), (MOST_BYTES - 61) // 7
+FULL = head(count=unsigned(MOST_RECORDS), size=MOST)
 # Of each kind of fold fronts, what follows is left out where the fault comes before it.
 HOSTILE = [
     ("Version", "version 0", b"EOSFOLD\0"),
-    ("Version", "version 1, the one before", b"EOSFOLD\1\0" + front()[9:] + b"\0\0"),
-    ("Version", "version 3, a newer one", b"EOSFOLD\3\0" + front()[9:] + b"\0\0"),
+    ("Version", "version 1", b"EOSFOLD\1\0" + front()[9:] + b"\0\0"),
+    ("Version", "version 2, the one before", b"EOSFOLD\2\0" + front()[9:] + b"\0\0"),
+    ("Version", "version 4, a newer one", b"EOSFOLD\4\0" + front()[9:] + b"\0\0"),
     ("Version", "version -1", b"EOSFOLD\xff"),
     ("Magic", "another magic", b"EOSFOLK" + front()[7:] + b"\0\0"),
     ("Magic", "a log", read(os.path.join(GOOD, log_path("out-0", 0)))),
@@ -158,6 +179,7 @@ HOSTILE = [
     ("Number", "a longer spelling in ten bytes", front(base=b"\x80" * 9 + b"\0") + b"\0\0"),
     ("Number", "a number without an end", front(base=ENDLESS) + b"\0\0"),
     ("Number", "a number of 65 bits", front(size=TOO_GREAT) + b"\0\0"),
+    ("Number", "a leader epoch past i32", with_epochs((2**31, 0))),
     ("Number", "a partition past i32", front(partition=varint(2**31)) + b"\0\0"),
     ("Number", "a partition below i32", front(partition=varint(-(2**31) - 1)) + b"\0\0"),
     ("Number", "an epoch past i16", with_heads(head(epoch=varint(2**15))) + b"\0"),
@@ -178,6 +200,21 @@ HOSTILE = [
     ("Head", "a batch without records", with_heads(head(count=b"\0")) + b"\0"),
     ("Head", "a batch of 2^31 records", with_heads(head(count=unsigned(2**31))) + b"\0"),
     ("Head", "a batch of 2^32 - 1 records", with_heads(head(count=unsigned(2**32 - 1))) + b"\0"),
+    ("Head", "a record more than fits", with_heads(head(count=unsigned(3), size=unsigned(81))) + b"\0"),
+    ("Head", "a batch of 67 bytes", with_heads(head(count=unsigned(1), size=unsigned(67))) + b"\0"),
+    ("Head", "a batch without bytes", with_heads(head(size=b"\0")) + b"\0"),
+    ("Head", "a batch past its segment", with_heads(head(), size=unsigned(SIZE - 1)) + b"\0"),
+    ("Head", "batches past their segment", with_heads(head(), head(), size=unsigned(2 * SIZE - 1)) + b"\0"),
+    ("Head", "sizes past 2^63", with_heads(*[head(size=unsigned(2**62))] * 3, size=unsigned(3 * 2**62)) + b"\0"),
+    ("Head", "sizes past 2^64", with_heads(*[head(size=unsigned(2**63))] * 3, size=unsigned(2**64 - 1)) + b"\0"),
+    ("Epoch", "no leader epoch", with_epochs()),
+    ("Epoch", "a first batch without one", with_epochs((0, 2))),
+    ("Epoch", "a leader epoch in a batch", with_epochs((0, 0), (1, 3))),
+    ("Epoch", "a leader epoch behind the batches", with_epochs((0, 0), (1, 6))),
+    ("Epoch", "a leader epoch twice", with_epochs((0, 0), (0, 2))),
+    ("Epoch", "two leader epochs at one offset", with_epochs((0, 0), (1, 0))),
+    ("Epoch", "leader epochs that fall back", with_epochs((0, 0), (1, 4), (2, 2))),
+    ("Epoch", "a leader epoch of no batch", front() + b"\0" + EPOCHS),
     ("Head", "a control batch of two", with_heads(head(2)) + b"\0"),
     ("Head", "a marker of two", with_heads(head(4, b"\0", producer=b"\2", epoch=b"\2")) + b"\0"),
     ("Head", "transactional data without a producer", with_heads(head(1)) + b"\0"),
@@ -208,19 +245,32 @@ HOSTILE = [
     ("Record", "a key that shares four bytes of three", with_text(key(0, b"key"), key(4, b"")) + b"\0"),
     ("Record", "a value that shares one byte less than it can", with_text(value(0, b"abc"), value(1, b"bd")) + b"\0"),
     ("Record", "a value that shares bytes of the key", with_text(key(0, b"key"), value(3, b"")) + b"\0"),
-    ("Record", "a key that shares 126 bytes of 127", with_text(key(0, b"k" * 127), key(126, b"k")) + b"\0"),
-    ("Record", "a key that shares 126 bytes of 300", with_text(key(0, b"k" * 300), key(126, b"k" * 2)) + b"\0"),
+    ("Record", "a key of 31 bytes that shares 30", with_text(key(0, b"k" * 31), key(30, b"k")) + b"\0"),
+    ("Record", "a key of 32 bytes that shares all", with_text(key(0, b"k" * 32), key(32, b"")) + b"\0"),
+    ("Record", "a key of 127 bytes that shares 122", with_text(key(0, b"k" * 127), key(122, b"k" * 5)) + b"\0"),
+    ("Record", "a key of 127 bytes that shares all", with_text(key(0, b"k" * 127), key(127, b"")) + b"\0"),
+    ("Record", "a key of 300 bytes that shares 126", with_text(key(0, b"k" * 300), key(126, b"k" * 174)) + b"\0"),
     ("Record", "a null key between two", with_text(key(0, b"key"), b"\xff\xff\0", key(0, b"kex")) + b"\0"),
-    ("Stop", "a stop of kind 3", front() + b"\0\3"),
-    ("Stop", "a stop of kind -1", front() + b"\0\xff"),
-    ("Stop", "a twelfth reason", front() + b"\0\1\0\0\x0c"),
+    ("Stop", "a stop of kind 3", front() + b"\0\0\3"),
+    ("Stop", "a stop of kind -1", front() + b"\0\0\xff"),
+    ("Stop", "a twelfth reason", front() + b"\0\0\1\0\0\x0c"),
+    ("Stop", "a front of all bytes, and bytes behind it", with_stop(b"\0", size=unsigned(SIZE + 1))),
+    ("Stop", "a place before the batches' end", with_stop(b"\1\0" + unsigned(SIZE - 1) + b"\3", size=unsigned(SIZE + 1))),
+    ("Stop", "a place behind the batches' end", with_stop(b"\1\0" + unsigned(SIZE + 1) + b"\3", size=unsigned(SIZE + 2))),
+    ("Stop", "a place where no bytes are left", with_stop(b"\1\0" + unsigned(SIZE) + b"\3")),
+    ("Stop", "a place in another segment", with_stop(b"\1\2" + unsigned(SIZE) + b"\3", size=unsigned(SIZE + 1))),
+    ("Stop", "a batch where it is to be", with_stop(b"\2" + unsigned(2), size=unsigned(SIZE + 1))),
+    ("Stop", "a batch where no bytes are left", with_stop(b"\2" + unsigned(3))),
     ("Short", "heads that are too few, whose offsets are past 2^63", front(base=GREATEST) + unsigned(2) + head()),
     ("Short", "nothing", None),
     ("Short", "heads without an end", front() + unsigned(2**63)),
     ("Short", "as many heads as a number has", front() + unsigned(2**64 - 1)),
     ("Short", "topics without an end", with_claim(b"", unsigned(2**40))),
-    ("Short", "claims of 2^31 - 1 records", with_heads(head(count=unsigned(2**31 - 1)), roles=CLAIMS) + unsigned(1) + text(b"in")),
-    ("Short", "texts of 2^31 - 1 records", with_heads(head(count=unsigned(2**31 - 1)), roles=TEXTS)),
+    ("Short", "claims of as many records as a segment can have", with_heads(FULL, roles=CLAIMS, size=MOST) + EPOCHS + unsigned(1) + text(b"in")),
+    ("Short", "texts of as many records as a segment can have", with_heads(FULL, roles=TEXTS, size=MOST) + EPOCHS),
+    ("Short", "leader epochs without an end", with_heads(head()) + unsigned(2**64 - 1) + b"\0\0"),
+    ("Short", "no checksum of the batches", front()[:-4]),
+    ("Short", "a checksum of the batches that is cut", front()[:-1]),
     ("Short", "a topic of 2^63 - 1 bytes", front(topic=GREATEST)),
     ("Short", "a value of 2^63 - 1 bytes", with_text(b"\xff\0" + GREATEST)),
     ("Short", "a key without its rest, which shares bytes that aren't there", with_text(b"\x7f")),
@@ -276,8 +326,8 @@ def mismatches(place):
     for base in 3, LAST_OFFSET:
         place.refused(f"base 0 at {base}", fold_path("out-0", base), place.folds[fold_path("out-0", 0)], "Base")
     for base in 1, -1, -(2**63) + 2:
-        place.refused(f"base {base} at 0", fold_path("in-0", 0), changed(place, fold_path("in-0", 0), base=base), "Base")
-    # more records than the segment has bytes, so that a small file can't keep a check busy for hours
+        other = changed(place, fold_path("in-0", 0), base=base, epochs=[(0, abs(base))])
+        place.refused(f"base {base} at 0", fold_path("in-0", 0), other, "Base")
     place.refused("a segment of one byte", fold_path("in-0", 0), changed(place, fold_path("in-0", 0), size=1), "Head")
     heads = [fold_files.Head(0, None, 2**31 - 1, 61, -1, -1, -1)] * 1000
     place.refused("records without bytes", fold_path("in-0", 0), changed(place, fold_path("in-0", 0), size=MOST_BYTES, heads=heads), "Head")
@@ -286,12 +336,17 @@ def mismatches(place):
 def limits(place):
     """A fold of a segment of as many bytes as one may have, and of one more."""
     path = fold_path("in-0", 0)
-    place.accepted("a fold of 2^30 bytes", path, changed(place, path, size=MOST_BYTES), YES)
-    for size in MOST_BYTES + 1, 2**63, 2**64 - 1:
-        write(os.path.join(place.folder, path), changed(place, path, size=size))
+    heads = fold_files.read_fold(place.folds[path]).heads
+    for size in 61 + 7 * heads[0].count, MOST_BYTES:
+        place.accepted(f"a fold of {size} bytes", path, changed(place, path, size=size, heads=[heads[0]._replace(size=size)]), YES)
+    for size in MOST_BYTES + 1, 2**63:
+        write(os.path.join(place.folder, path), changed(place, path, size=size, heads=[heads[0]._replace(size=size)]))
         status, out, err = place.tests.check(place.folder)
         place.tests.same(f"a fold of {size} bytes", (status, out, err.split("\n")[0]), (2, "", "eoscheck: limit"))
         place.back(path)
+    for size in 2**63 + 1, 2**64 - 1:
+        whole = changed(place, path, size=size, heads=[heads[0]._replace(size=size)])
+        place.refused(f"a fold of {size} bytes", path, whole, "Head")
 
 
 def made_up(place):
@@ -302,10 +357,10 @@ def made_up(place):
     place.accepted("a fault behind the front", path, changed(place, path, size=78, stop=(0, 77, 3)), said)
     said = 1, "no 1.2 Gap in-0 offset=2 found=5\n", ""
     place.accepted("a gap behind the front", path, changed(place, path, size=155, stop=(5,)), said)
-    said = 1, "no 1.10 End in-0 offset=1073741824 end=2\n", ""
-    many = [heads[0]._replace(count=2**29 - 1)] * 2 + heads
-    place.accepted("a record for each byte", path, changed(place, path, size=MOST_BYTES, heads=many), said)
-    last = fold_files.Fold(CLAIMS, b"out", 0, LAST_OFFSET, 77, [Head(0, None, 1, 77, -1, -1, -1)], [b"in"], [None], ())
+    said = 1, f"no 1.10 End in-0 offset={MOST_RECORDS} end=2\n", ""
+    many = [heads[0]._replace(count=MOST_RECORDS, size=MOST_BYTES)]
+    place.accepted("as many records as fit", path, changed(place, path, size=MOST_BYTES, heads=many), said)
+    last = fold_files.Fold(CLAIMS, b"out", 0, LAST_OFFSET, 77, 0, [Head(0, None, 1, 77, -1, -1, -1)], [(0, LAST_OFFSET)], [b"in"], [None], ())
     said = 1, f"no 1.2 Gap out-0 offset=3 found={LAST_OFFSET}\n", ""
     place.accepted("the greatest offset", fold_path("out-0", LAST_OFFSET), fold_files.file_of(last), said)
     # a claim that no header of the log says, of a topic that isn't asked for

@@ -7,8 +7,8 @@ Each fold file of tests/evidence, tests/real-evidence and tests/simulated, of 30
 compared with that of a second encoder (tests/fold_files.py), byte for byte. Then `check` of the folds, of folds beside logs, and of
 some segments of each in one partition says the same as of the logs: line, status and notes, with 1 and with 4 workers, and in a
 report all but the seconds and the folder. The folds read by a second decoder deserve the verdict too, by tests/reference.py. Fold
-files that are none, and what can't be read or written, are in tests/fold_refusals.py; the commands of docs/SCALE.md in
-tests/fold_engines.py. REFUSE.SO and STREAMS.SO are tests/refuse.c and tests/streams.c, built. With the names of parts (see
+files that are none, and what can't be read or written, are in tests/fold_refusals.py; what hostile ones cost in
+tests/fold_costs.py; the commands of docs/SCALE.md in tests/fold_engines.py. REFUSE.SO and STREAMS.SO are tests/refuse.c and tests/streams.c, built. With the names of parts (see
 PARTS) these alone. Run it in the repository's top folder. The last line is 'N passed, N failed'.
 """
 import glob
@@ -21,6 +21,7 @@ import subprocess
 import sys
 import tempfile
 
+import fold_costs
 import fold_engines
 import fold_files
 import fold_refusals
@@ -319,6 +320,7 @@ PARTS = {
     "refused_reads": fold_refusals.refused_reads,
     "refused_writes": fold_refusals.refused_writes,
     "refused_memory": fold_refusals.refused_memory,
+    "costs": fold_costs.costs,
     "words": fold_refusals.words,
     "engines": engines,
 }

@@ -1,203 +1,125 @@
 -- A fold file is read exactly as it is written.
-use Rattle.std.proofs.Common.{◌≡◌, ℕ, zero, suc, ◌-◌, ◌+◌, ◌<◌, ◌^◌, true, eqb, ℤ, pos, negsuc, List, [], ◌++◌, length, Ok, refl, sym, ap, ◌∙◌, subst, append_assoc, arith, FitsSigned, flat_map}
-use Rattle.std.specs.Prelude.{⊤, IsTrue, nat_eq}
+use Rattle.std.proofs.Common.{◌≡◌, ℕ, ◌-◌, ◌+◌, ◌<◌, ◌^◌, true, ◌&&◌, eqb, ℤ, pos, List, [], ◌++◌, length, None, Ok, refl, sym, ap, ◌∙◌, subst, append_assoc, arith, flat_map}
+use Rattle.std.specs.Prelude.{IsTrue, unsigned_abs}
 use Rattle.std.specs.List.{list_all}
-use Rattle.std.specs.Cmp.Lexicographic.{pointwise, bytes_decides}
-use Rattle.std.specs.Ordering.{int_eq}
-use Rattle.std.specs.Int.{w8, w32, w64}
 use Rattle.std.proofs.lemmas.Bool.{eqb-true, eq-eqb}
-use Rattle.std.proofs.lemmas.Bool.Decides.{Decides-int_eq}
 use Rattle.std.proofs.lemmas.List.{append-nil, nil_from_length, take_at, length-append}
 use Rattle.eos_base.specs.Fallible.{must}
+use Rattle.eos_fold.specs.declared.stop.Stop.{Stop}
 use Rattle.eos_wanted.specs.declared.wanted.Wanted.{Wanted}
 use Rattle.eos_wanted.specs.declared.wanted.Wanted.TheVariants as wants
 use Rattle.eos_wire.specs.Crc.{crc32c_of}
-use Rattle.eos_wire.specs.Numbers.{IsBytes, bytes_at, i8_text, u32_at, u32_text}
-use Rattle.eos_wire.specs.Writing.{varlong_of}
-use Rattle.eos_wire.proofs.NumberTexts.{IsBytes-append_right, length-u32_text, u32_sound, u32_whole}
+use Rattle.eos_wire.specs.Numbers.{IsBytes, i8_text, u32_at, u32_text}
+use Rattle.eos_wire.proofs.NumberTexts.{length-u32_text, u32_sound, u32_whole}
+use Rattle.eos_fold_file.specs.declared.epoch.EpochEntry.{EpochEntry}
 use Rattle.eos_fold_file.specs.declared.fault.FoldFault.TheVariants as faults
 use Rattle.eos_fold_file.specs.declared.file.FoldFile.{FoldFile}
 use Rattle.eos_fold_file.specs.declared.file.FoldKept.{FoldKept}
 use Rattle.eos_fold_file.specs.declared.file.FoldKept.TheVariants.{Presence, Claims, Texts}
 use Rattle.eos_fold_file.specs.declared.head.FoldHead.{FoldHead}
 use Rattle.eos_fold_file.specs.declared.read.Front.{Front}
-use Rattle.eos_fold_file.specs.Numbers.{present, u64_text, bytes_text, kind_from, number_from, i32_from, u64_from, bytes_from, many_from}
+use Rattle.eos_fold_file.specs.Numbers.{present, u64_text, bytes_text, u64_from, bytes_from, many_from}
 use Rattle.eos_fold_file.specs.Records.{is_placed, output_text, output_from}
 use Rattle.eos_fold_file.specs.Texts.{key_values_from}
 use Rattle.eos_fold_file.specs.Heads.{head_text, head_from}
-use Rattle.eos_fold_file.specs.Stops.{stop_text, stop_from}
-use Rattle.eos_fold_file.specs.Files.{data_count, fits_offsets, wanted_in, wanted_number, magic, front_text, heads_text, kept_text, body_text, fold_text}
-use Rattle.eos_fold_file.specs.Reading.{magic_from, version_from, wanted_of, wanted_from, front_from, heads_from, placed_claims, claims_from, texts_from, kept_from, file_with, body_from, before, read_fold}
-use Rattle.eos_fold_file.specs.Legal.{Each, IsU64, IsText, IsLegalOutput, IsLegalHead, IsLegalKept, IsLegal}
-use Rattle.eos_fold_file.proofs.Takes.{as_passed, as_read, bind_ok, ok_is, present_ok, must_ok, glue, Taken, IsCodec, cut_sound, cut_whole, many_sound, many_whole}
-use Rattle.eos_fold_file.proofs.NumberCodecs.{kind_codec, number_codec, i32_codec, u64_codec, bytes_codec}
+use Rattle.eos_fold_file.specs.Epochs.{are_entries, entry_text, entry_from}
+use Rattle.eos_fold_file.specs.Stops.{is_inside, stop_text, stop_from}
+use Rattle.eos_fold_file.specs.Files.{record_count, data_count, size_sum, fits_offsets, fits_bytes, wanted_in, magic, front_text, heads_text, epochs_text, kept_text, body_text, fold_text}
+use Rattle.eos_fold_file.specs.Reading.{front_from, heads_from, epochs_from, inside_from, placed_claims, claims_from, texts_from, kept_from, file_with, body_from, before, read_fold}
+use Rattle.eos_fold_file.specs.Legal.{Each, IsU64, IsText, IsLegalOutput, IsLegalHead, IsLegalEntry, IsLegalStop, IsLegalKept, IsLegal}
+use Rattle.eos_fold_file.proofs.Takes.{as_passed, as_read, bind_ok, ok_is, present_ok, must_ok, and_true, glue, Taken, IsCodec, many_sound, many_whole}
+use Rattle.eos_fold_file.proofs.NumberCodecs.{u64_codec, bytes_codec}
 use Rattle.eos_fold_file.proofs.RecordCodecs.{output_codec}
 use Rattle.eos_fold_file.proofs.TextCodecs.{texts_sound, texts_whole}
-use Rattle.eos_fold_file.proofs.HeadCodecs.{head_codec, stop_codec}
-
--- ---- what stands before the batches
-
-abbrev itself : List ℕ → List ℕ
-itself bytes = bytes
-
-magic_codec : IsCodec itself (λ m. m ≡ magic) magic_from
-unfolding magic_from
-magic_codec = record {
-  sound = λ bytes x fits e.
-      let f = bind_ok (present (bytes_at 7 bytes)) _ x e in
-      let m = must_ok (pointwise nat_eq f.0.0 magic) faults.Magic f.0 x f.2 in
-      let c = cut_sound 7 bytes f.0 f.1 in
-      as_passed itself (λ m. m ≡ magic) bytes f.0 x m.1 (record {
-        parts = c.parts;
-        legal = (bytes_decides f.0.0 magic).0 m.0;
-        rest_fits = IsBytes-append_right f.0.0 f.0.1 (subst IsBytes c.parts fits);
-      });
-  whole = λ m rest h.
-      let at : present (bytes_at 7 (magic ++ rest)) ≡ Ok (magic, rest) = cut_whole magic rest in
-      rw (h, at) refl;
-}
-
-version_codec : IsCodec i8_text (λ z. z ≡ pos 2) version_from
-unfolding version_from
-version_codec = record {
-  sound = λ bytes x fits e.
-      let k = bind_ok (kind_from bytes) _ x e in
-      let m = must_ok (int_eq k.0.0 (pos 2)) faults.Version k.0 x k.2 in
-      let t = kind_codec.sound bytes k.0 fits k.1 in
-      as_passed i8_text (λ z. z ≡ pos 2) bytes k.0 x m.1 (record { parts = t.parts; legal = (Decides-int_eq k.0.0 (pos 2)).0 m.0; rest_fits = t.rest_fits });
-  whole = λ z rest h. rw (h, kind_codec.whole (pos 2) rest (record { sfits = omega arith })) refl;
-}
-
-abbrev wanted_text : Wanted → List ℕ
-wanted_text w = i8_text (wanted_number w)
-
-abbrev IsWanted : Wanted → Type 0
-IsWanted w = ⊤
-
-wanted_codec : IsCodec wanted_text IsWanted wanted_from
-unfolding wanted_from
-wanted_codec = record {
-  sound = λ bytes x fits e.
-      let k = bind_ok (kind_from bytes) wanted_of x e in
-      told bytes k.0 x (kind_codec.sound bytes k.0 fits k.1) k.2;
-  whole = held;
-}
-  where
-    told : (bytes : List ℕ) (k : ℤ × List ℕ) (x : Wanted × List ℕ) → Taken i8_text (FitsSigned w8) bytes k → wanted_of k ≡ Ok x → Taken wanted_text IsWanted bytes x
-    told bytes (pos zero, rest) x t e = subst (Taken wanted_text IsWanted bytes) (ok_is (wants.Presence, rest) x e) (record { parts = t.parts; legal = tt; rest_fits = t.rest_fits })
-    told bytes (pos (suc zero), rest) x t e = subst (Taken wanted_text IsWanted bytes) (ok_is (wants.Claims, rest) x e) (record { parts = t.parts; legal = tt; rest_fits = t.rest_fits })
-    told bytes (pos (suc (suc zero)), rest) x t e = subst (Taken wanted_text IsWanted bytes) (ok_is (wants.Texts, rest) x e) (record { parts = t.parts; legal = tt; rest_fits = t.rest_fits })
-    told bytes (pos (suc (suc (suc n))), rest) x t e = absurd cc
-    told bytes (negsuc n, rest) x t e = absurd cc
-
-    held : (w : Wanted) (rest : List ℕ) → IsWanted w → wanted_from (wanted_text w ++ rest) ≡ Ok (w, rest)
-    held wants.Presence rest h = rw (kind_codec.whole (pos 0) rest (record { sfits = omega arith })) refl
-    held wants.Claims rest h = rw (kind_codec.whole (pos 1) rest (record { sfits = omega arith })) refl
-    held wants.Texts rest h = rw (kind_codec.whole (pos 2) rest (record { sfits = omega arith })) refl
-
--- what stands behind the roles
-abbrev behind_text : Front → List ℕ
-behind_text f = bytes_text f.topic ++ (varlong_of f.partition ++ (varlong_of f.base ++ u64_text f.bytes))
-
-abbrev begin_text : Front → List ℕ
-begin_text f = magic ++ (i8_text (pos 2) ++ (wanted_text f.wanted ++ behind_text f))
-
-record IsLegalFront (f : Front) : Type 0 where
-  topic : IsText f.topic
-  partition : FitsSigned w32 f.partition
-  base : FitsSigned w64 f.base
-  bytes : IsU64 f.bytes
-
-front_codec : IsCodec begin_text IsLegalFront front_from
-unfolding front_from
-front_codec = record {
-  sound = λ bytes x fits e.
-      let m = bind_ok (magic_from bytes) _ x e in
-      let v = bind_ok (version_from m.0.1) _ x m.2 in
-      let w = bind_ok (wanted_from v.0.1) _ x v.2 in
-      let t = bind_ok (bytes_from w.0.1) _ x w.2 in
-      let p = bind_ok (i32_from t.0.1) _ x t.2 in
-      let b = bind_ok (number_from p.0.1) _ x p.2 in
-      let s = bind_ok (u64_from b.0.1) _ x b.2 in
-      let begin = magic_codec.sound bytes m.0 fits m.1 in
-      let version = version_codec.sound m.0.1 v.0 begin.rest_fits v.1 in
-      let wanted = wanted_codec.sound v.0.1 w.0 version.rest_fits w.1 in
-      let topic = bytes_codec.sound w.0.1 t.0 wanted.rest_fits t.1 in
-      let partition = i32_codec.sound t.0.1 p.0 topic.rest_fits p.1 in
-      let base = number_codec.sound p.0.1 b.0 partition.rest_fits b.1 in
-      let size = u64_codec.sound b.0.1 s.0 base.rest_fits s.1 in
-      let front : Front = record { wanted = w.0.0; topic = t.0.0; partition = p.0.0; base = b.0.0; bytes = s.0.0 } in
-      let made : Front × List ℕ = (front, s.0.1) in
-      let q1 = glue p.0.1 (varlong_of b.0.0) b.0.1 (u64_text s.0.0) s.0.1 base.parts size.parts in
-      let q2 = glue t.0.1 (varlong_of p.0.0) p.0.1 (varlong_of b.0.0 ++ u64_text s.0.0) s.0.1 partition.parts q1 in
-      let q3 = glue w.0.1 (bytes_text t.0.0) t.0.1 (varlong_of p.0.0 ++ (varlong_of b.0.0 ++ u64_text s.0.0)) s.0.1 topic.parts q2 in
-      let q4 = glue v.0.1 (wanted_text w.0.0) w.0.1 (behind_text front) s.0.1 wanted.parts q3 in
-      let one : m.0.1 ≡ i8_text (pos 2) ++ v.0.1 = version.parts ∙ ap (λ (z : ℤ). i8_text z ++ v.0.1) version.legal in
-      let q5 = glue m.0.1 (i8_text (pos 2)) v.0.1 (wanted_text w.0.0 ++ behind_text front) s.0.1 one q4 in
-      let named : bytes ≡ magic ++ m.0.1 = begin.parts ∙ ap (λ (ts : List ℕ). ts ++ m.0.1) begin.legal in
-      as_read begin_text IsLegalFront bytes made x s.2 (record {
-        parts = glue bytes magic m.0.1 (i8_text (pos 2) ++ (wanted_text w.0.0 ++ behind_text front)) s.0.1 named q5;
-        legal = record { topic = topic.legal; partition = partition.legal; base = base.legal; bytes = size.legal };
-        rest_fits = size.rest_fits;
-      });
-  whole = λ f rest h.
-      let b1 = varlong_of f.base ++ (u64_text f.bytes ++ rest) in
-      let b2 = varlong_of f.partition ++ b1 in
-      let b3 = bytes_text f.topic ++ b2 in
-      let b4 = wanted_text f.wanted ++ b3 in
-      let r3 : behind_text f ++ rest ≡ b3 =
-      append_assoc (bytes_text f.topic) (varlong_of f.partition ++ (varlong_of f.base ++ u64_text f.bytes)) rest
-      ∙ ap (λ (ts : List ℕ). bytes_text f.topic ++ ts) (append_assoc (varlong_of f.partition) (varlong_of f.base ++ u64_text f.bytes) rest
-      ∙ ap (λ (ts : List ℕ). varlong_of f.partition ++ ts) (append_assoc (varlong_of f.base) (u64_text f.bytes) rest)) in
-      let e : begin_text f ++ rest ≡ magic ++ (i8_text (pos 2) ++ b4) =
-      append_assoc magic (i8_text (pos 2) ++ (wanted_text f.wanted ++ behind_text f)) rest
-      ∙ ap (λ (ts : List ℕ). magic ++ ts) (append_assoc (i8_text (pos 2)) (wanted_text f.wanted ++ behind_text f) rest
-      ∙ ap (λ (ts : List ℕ). i8_text (pos 2) ++ ts) (append_assoc (wanted_text f.wanted) (behind_text f) rest
-      ∙ ap (λ (ts : List ℕ). wanted_text f.wanted ++ ts) r3)) in
-      rw (
-        e,
-        magic_codec.whole magic (i8_text (pos 2) ++ b4) refl,
-        version_codec.whole (pos 2) b4 refl,
-        wanted_codec.whole f.wanted b3 tt,
-        bytes_codec.whole f.topic b2 h.topic,
-        i32_codec.whole f.partition b1 h.partition,
-        number_codec.whole f.base (u64_text f.bytes ++ rest) h.base,
-        u64_codec.whole f.bytes rest h.bytes,
-      )
-      refl;
-}
+use Rattle.eos_fold_file.proofs.HeadCodecs.{head_codec, entry_codec, stop_codec}
+use Rattle.eos_fold_file.proofs.FrontCodecs.{wanted_text, behind_text, begin_text, front_codec}
 
 -- ---- the heads
 
-record AreLegalHeads (base : ℤ) (heads : List FoldHead) : Type 0 where
+record AreLegalHeads (base : ℤ) (size : ℕ) (heads : List FoldHead) : Type 0 where
   few : IsU64 (length heads)
   each : Each IsLegalHead heads
   offsets : IsTrue (fits_offsets base heads)
+  sizes : IsTrue (fits_bytes size heads)
 
-heads_codec : (base : ℤ) → IsCodec heads_text (AreLegalHeads base) (heads_from base)
+heads_codec : (base : ℤ) (size : ℕ) → IsCodec heads_text (AreLegalHeads base size) (heads_from base size)
 unfolding heads_from
-heads_codec base = record {
+heads_codec base size = record {
   sound = λ bytes x fits e.
       let n = bind_ok (u64_from bytes) _ x e in
       let h = bind_ok (many_from head_from n.0.0 n.0.1) _ x n.2 in
-      let m = must_ok (fits_offsets base h.0.0) faults.Head h.0 x h.2 in
+      let m = must_ok (fits_offsets base h.0.0 && fits_bytes size h.0.0) faults.Head h.0 x h.2 in
+      let both = and_true (fits_offsets base h.0.0) (fits_bytes size h.0.0) m.0 in
       let count = u64_codec.sound bytes n.0 fits n.1 in
       let heads = many_sound head_text IsLegalHead head_from head_codec n.0.0 n.0.1 h.0 count.rest_fits h.1 in
       let number : bytes ≡ u64_text (length h.0.0) ++ n.0.1 = count.parts ∙ ap (λ (k : ℕ). u64_text k ++ n.0.1) (sym heads.counted) in
-      as_passed heads_text (AreLegalHeads base) bytes h.0 x m.1 (record {
+      as_passed heads_text (AreLegalHeads base size) bytes h.0 x m.1 (record {
         parts = glue bytes (u64_text (length h.0.0)) n.0.1 (flat_map head_text h.0.0) h.0.1 number heads.parts;
-        legal = record { few = subst IsU64 (sym heads.counted) count.legal; each = heads.legal; offsets = m.0 };
+        legal = record { few = subst IsU64 (sym heads.counted) count.legal; each = heads.legal; offsets = both.0; sizes = both.1 };
         rest_fits = heads.rest_fits;
       });
   whole = λ hs rest h.
       let offsets : fits_offsets base hs ≡ true = h.offsets in
+      let sizes : fits_bytes size hs ≡ true = h.sizes in
       rw (
         append_assoc (u64_text (length hs)) (flat_map head_text hs) rest,
         u64_codec.whole (length hs) (flat_map head_text hs ++ rest) h.few,
         many_whole head_text IsLegalHead head_from head_codec hs rest h.each,
         offsets,
+        sizes,
       )
       refl;
+}
+
+-- ---- the leader epochs
+
+record AreLegalEpochs (begin : ℕ) (heads : List FoldHead) (epochs : List EpochEntry) : Type 0 where
+  few : IsU64 (length epochs)
+  each : Each IsLegalEntry epochs
+  changes : IsTrue (are_entries begin None heads epochs)
+
+epochs_codec : (begin : ℕ) (heads : List FoldHead) → IsCodec epochs_text (AreLegalEpochs begin heads) (epochs_from begin heads)
+unfolding epochs_from
+epochs_codec begin heads = record {
+  sound = λ bytes x fits e.
+      let n = bind_ok (u64_from bytes) _ x e in
+      let p = bind_ok (many_from entry_from n.0.0 n.0.1) _ x n.2 in
+      let m = must_ok (are_entries begin None heads p.0.0) faults.Epoch p.0 x p.2 in
+      let count = u64_codec.sound bytes n.0 fits n.1 in
+      let epochs = many_sound entry_text IsLegalEntry entry_from entry_codec n.0.0 n.0.1 p.0 count.rest_fits p.1 in
+      let number : bytes ≡ u64_text (length p.0.0) ++ n.0.1 = count.parts ∙ ap (λ (k : ℕ). u64_text k ++ n.0.1) (sym epochs.counted) in
+      as_passed epochs_text (AreLegalEpochs begin heads) bytes p.0 x m.1 (record {
+        parts = glue bytes (u64_text (length p.0.0)) n.0.1 (flat_map entry_text p.0.0) p.0.1 number epochs.parts;
+        legal = record { few = subst IsU64 (sym epochs.counted) count.legal; each = epochs.legal; changes = m.0 };
+        rest_fits = epochs.rest_fits;
+      });
+  whole = λ es rest h.
+      let changes : are_entries begin None heads es ≡ true = h.changes in
+      rw (
+        append_assoc (u64_text (length es)) (flat_map entry_text es) rest,
+        u64_codec.whole (length es) (flat_map entry_text es ++ rest) h.few,
+        many_whole entry_text IsLegalEntry entry_from entry_codec es rest h.each,
+        changes,
+      )
+      refl;
+}
+
+-- ---- the stop, behind its batches
+
+abbrev IsStopInside : ℕ → ℕ → ℕ → ℕ → Stop → Type 0
+IsStopInside begin next size bytes stop = IsLegalStop stop × IsTrue (is_inside begin next size bytes stop)
+
+inside_codec : (begin next size bytes : ℕ) → IsCodec stop_text (IsStopInside begin next size bytes) (inside_from begin next size bytes)
+unfolding inside_from
+inside_codec begin next size bytes = record {
+  sound = λ text x fits e.
+      let s = bind_ok (stop_from text) _ x e in
+      let m = must_ok (is_inside begin next size bytes s.0.0) faults.Stop s.0 x s.2 in
+      let t = stop_codec.sound text s.0 fits s.1 in
+      as_passed stop_text (IsStopInside begin next size bytes) text s.0 x m.1 (record { parts = t.parts; legal = (t.legal, m.0); rest_fits = t.rest_fits });
+  whole = λ stop rest h.
+      let inside : is_inside begin next size bytes stop ≡ true = h.1 in
+      rw (stop_codec.whole stop rest h.0, inside) refl;
 }
 
 -- ---- what is kept
@@ -259,40 +181,50 @@ kept_whole n (Texts texts) rest h = rw (← h.0, texts_whole texts [] [] rest h.
 -- ---- the body
 
 front_of : FoldFile → Front
-front_of f = record { wanted = wanted_in f.kept; topic = f.topic; partition = f.partition; base = f.base; bytes = f.bytes }
+front_of f = record { wanted = wanted_in f.kept; topic = f.topic; partition = f.partition; base = f.base; bytes = f.bytes; batches = f.batches }
 
-begun_with : (f : Front) (w : Wanted) → f.wanted ≡ w → begin_text f ≡ magic ++ (i8_text (pos 2) ++ (wanted_text w ++ behind_text f))
-begun_with f w e = ap (λ (v : Wanted). magic ++ (i8_text (pos 2) ++ (wanted_text v ++ behind_text f))) e
+begun_with : (f : Front) (w : Wanted) → f.wanted ≡ w → begin_text f ≡ magic ++ (i8_text (pos 3) ++ (wanted_text w ++ behind_text f))
+begun_with f w e = ap (λ (v : Wanted). magic ++ (i8_text (pos 3) ++ (wanted_text v ++ behind_text f))) e
 
 body_sound : (bytes : List ℕ) (x : FoldFile × List ℕ) → IsBytes bytes → body_from bytes ≡ Ok x → Taken body_text IsLegal bytes x
 unfolding body_from body_text
 body_sound bytes x fits e =
     let f = bind_ok (front_from bytes) _ x e in
-    let h = bind_ok (heads_from f.0.0.base f.0.1) _ x f.2 in
-    let k = bind_ok (kept_from f.0.0.wanted (data_count h.0.0) h.0.1) _ x h.2 in
-    let s = bind_ok (stop_from k.0.1) _ x k.2 in
+    let begin = unsigned_abs f.0.0.base in
+    let h = bind_ok (heads_from f.0.0.base f.0.0.bytes f.0.1) _ x f.2 in
+    let p = bind_ok (epochs_from begin h.0.0 h.0.1) _ x h.2 in
+    let k = bind_ok (kept_from f.0.0.wanted (data_count h.0.0) p.0.1) _ x p.2 in
+    let s = bind_ok (inside_from begin (begin + record_count h.0.0) (size_sum h.0.0) f.0.0.bytes k.0.1) _ x k.2 in
     let front = front_codec.sound bytes f.0 fits f.1 in
-    let heads = (heads_codec f.0.0.base).sound f.0.1 h.0 front.rest_fits h.1 in
-    let kept = kept_sound f.0.0.wanted (data_count h.0.0) h.0.1 k.0 heads.rest_fits k.1 in
-    let stop = stop_codec.sound k.0.1 s.0 kept.rest_fits s.1 in
-    let file = file_with f.0.0 h.0.0 k.0.0 s.0.0 in
+    let heads = (heads_codec f.0.0.base f.0.0.bytes).sound f.0.1 h.0 front.rest_fits h.1 in
+    let epochs = (epochs_codec begin h.0.0).sound h.0.1 p.0 heads.rest_fits p.1 in
+    let kept = kept_sound f.0.0.wanted (data_count h.0.0) p.0.1 k.0 epochs.rest_fits k.1 in
+    let stop = (inside_codec begin (begin + record_count h.0.0) (size_sum h.0.0) f.0.0.bytes).sound k.0.1 s.0 kept.rest_fits s.1 in
+    let file = file_with f.0.0 h.0.0 p.0.0 k.0.0 s.0.0 in
     let made : FoldFile × List ℕ = (file, s.0.1) in
-    let q1 = glue h.0.1 (kept_text k.0.0) k.0.1 (stop_text s.0.0) s.0.1 kept.parts stop.parts in
-    let q2 = glue f.0.1 (heads_text h.0.0) h.0.1 (kept_text k.0.0 ++ stop_text s.0.0) s.0.1 heads.parts q1 in
+    let q1 = glue p.0.1 (kept_text k.0.0) k.0.1 (stop_text s.0.0) s.0.1 kept.parts stop.parts in
+    let q2 = glue h.0.1 (epochs_text p.0.0) p.0.1 (kept_text k.0.0 ++ stop_text s.0.0) s.0.1 epochs.parts q1 in
+    let q3 = glue f.0.1 (heads_text h.0.0) h.0.1 (epochs_text p.0.0 ++ (kept_text k.0.0 ++ stop_text s.0.0)) s.0.1 heads.parts q2 in
     let same : begin_text f.0.0 ≡ front_text file = begun_with f.0.0 (wanted_in k.0.0) (sym kept.legal.0) in
     let begun : bytes ≡ front_text file ++ f.0.1 = front.parts ∙ ap (λ (ts : List ℕ). ts ++ f.0.1) same in
     as_read body_text IsLegal bytes made x s.2 (record {
-      parts = glue bytes (front_text file) f.0.1 (heads_text h.0.0 ++ (kept_text k.0.0 ++ stop_text s.0.0)) s.0.1 begun q2;
+      parts = glue bytes (front_text file) f.0.1 (heads_text h.0.0 ++ (epochs_text p.0.0 ++ (kept_text k.0.0 ++ stop_text s.0.0))) s.0.1 begun q3;
       legal = record {
         topic = front.legal.topic;
         partition = front.legal.partition;
         base = front.legal.base;
         bytes = front.legal.bytes;
+        batches = front.legal.batches;
         few = heads.legal.few;
         heads = heads.legal.each;
         offsets = heads.legal.offsets;
+        sizes = heads.legal.sizes;
+        few_epochs = epochs.legal.few;
+        epochs = epochs.legal.each;
+        changes = epochs.legal.changes;
         kept = kept.legal.1;
-        stop = stop.legal;
+        stop = stop.legal.0;
+        inside = stop.legal.1;
       };
       rest_fits = stop.rest_fits;
     })
@@ -300,18 +232,22 @@ body_sound bytes x fits e =
 body_whole : (f : FoldFile) (rest : List ℕ) → IsLegal f → body_from (body_text f ++ rest) ≡ Ok (f, rest)
 unfolding body_from body_text front_of
 body_whole f rest h =
-    let b1 = kept_text f.kept ++ (stop_text f.stop ++ rest) in
+    let begin = unsigned_abs f.base in
+    let b0 = kept_text f.kept ++ (stop_text f.stop ++ rest) in
+    let b1 = epochs_text f.epochs ++ b0 in
     let b2 = heads_text f.heads ++ b1 in
-    let e : (front_text f ++ (heads_text f.heads ++ (kept_text f.kept ++ stop_text f.stop))) ++ rest ≡ begin_text (front_of f) ++ b2 =
-    append_assoc (front_text f) (heads_text f.heads ++ (kept_text f.kept ++ stop_text f.stop)) rest
-    ∙ ap (λ (ts : List ℕ). front_text f ++ ts) (append_assoc (heads_text f.heads) (kept_text f.kept ++ stop_text f.stop) rest
-    ∙ ap (λ (ts : List ℕ). heads_text f.heads ++ ts) (append_assoc (kept_text f.kept) (stop_text f.stop) rest)) in
+    let e : (front_text f ++ (heads_text f.heads ++ (epochs_text f.epochs ++ (kept_text f.kept ++ stop_text f.stop)))) ++ rest ≡ begin_text (front_of f) ++ b2 =
+    append_assoc (front_text f) (heads_text f.heads ++ (epochs_text f.epochs ++ (kept_text f.kept ++ stop_text f.stop))) rest
+    ∙ ap (λ (ts : List ℕ). front_text f ++ ts) (append_assoc (heads_text f.heads) (epochs_text f.epochs ++ (kept_text f.kept ++ stop_text f.stop)) rest
+    ∙ ap (λ (ts : List ℕ). heads_text f.heads ++ ts) (append_assoc (epochs_text f.epochs) (kept_text f.kept ++ stop_text f.stop) rest
+    ∙ ap (λ (ts : List ℕ). epochs_text f.epochs ++ ts) (append_assoc (kept_text f.kept) (stop_text f.stop) rest))) in
     rw (
       e,
-      front_codec.whole (front_of f) b2 (record { topic = h.topic; partition = h.partition; base = h.base; bytes = h.bytes }),
-      (heads_codec f.base).whole f.heads b1 (record { few = h.few; each = h.heads; offsets = h.offsets }),
+      front_codec.whole (front_of f) b2 (record { topic = h.topic; partition = h.partition; base = h.base; bytes = h.bytes; batches = h.batches }),
+      (heads_codec f.base f.bytes).whole f.heads b1 (record { few = h.few; each = h.heads; offsets = h.offsets; sizes = h.sizes }),
+      (epochs_codec begin f.heads).whole f.epochs b0 (record { few = h.few_epochs; each = h.epochs; changes = h.changes }),
       kept_whole (data_count f.heads) f.kept (stop_text f.stop ++ rest) h.kept,
-      stop_codec.whole f.stop rest h.stop,
+      (inside_codec begin (begin + record_count f.heads) (size_sum f.heads) f.bytes).whole f.stop rest (h.stop, h.inside),
     )
     refl
 

@@ -14,12 +14,14 @@ use Rattle.eos_fold.specs.declared.stop.Stop.TheVariants.{AtEnd, NoBatch, Elsewh
 use Rattle.eos_wire.specs.Numbers.{i8_text}
 use Rattle.eos_wire.specs.Writing.{varlong_of}
 use Rattle.eos_fold_file.specs.declared.fault.FoldFault.TheVariants as faults
+use Rattle.eos_fold_file.specs.declared.epoch.EpochEntry.{EpochEntry}
 use Rattle.eos_fold_file.specs.declared.head.BatchKind.{BatchKind}
 use Rattle.eos_fold_file.specs.declared.head.BatchKind.TheVariants.{Data, Control, Commit, Abort}
 use Rattle.eos_fold_file.specs.declared.head.FoldHead.{FoldHead}
-use Rattle.eos_fold_file.specs.Legal.{IsLegalKind, IsLegalHead, IsLegalStop}
+use Rattle.eos_fold_file.specs.Legal.{IsLegalKind, IsLegalHead, IsLegalEntry, IsLegalStop}
 use Rattle.eos_fold_file.specs.Numbers.{u64_text, kind_from, number_from, i32_from, i16_from, u64_from, u32_from}
-use Rattle.eos_fold_file.specs.Heads.{is_producer_possible, is_possible, kind_number, epoch_text, batch_kind_text, producer_text, head_text, commit_from, abort_from, kind_of, batch_kind_from, head_from}
+use Rattle.eos_fold_file.specs.Heads.{is_size_possible, is_producer_possible, is_possible, kind_number, epoch_text, batch_kind_text, producer_text, head_text, commit_from, abort_from, kind_of, batch_kind_from, head_from}
+use Rattle.eos_fold_file.specs.Epochs.{entry_text, entry_from}
 use Rattle.eos_fold_file.specs.Stops.{fault_number, batch_faults, fault_of, stop_text, known_fault, fault_from, no_batch_from, elsewhere_from, stop_of, stop_from}
 use Rattle.eos_fold_file.proofs.Takes.{as_passed, as_read, bind_ok, done, ok_is, must_ok, and_true, glue, Taken, IsCodec}
 use Rattle.eos_fold_file.proofs.NumberCodecs.{kind_codec, number_codec, i32_codec, i16_codec, u64_codec, u32_codec}
@@ -106,7 +108,7 @@ batch_kind_codec = record {
 
 count_small : (h : FoldHead) → is_possible h ≡ true → h.count < 2 ^ 32
 count_small h e =
-    let a = (and_true _ (is_producer_possible h) e).0 in
+    let a = (and_true _ (is_size_possible h && is_producer_possible h) e).0 in
     let b = (and_true (ltb 0 h.count && ltb h.count (2 ^ 31)) _ a).0 in
     let c = ltb-true h.count (2 ^ 31) (and_true (ltb 0 h.count) (ltb h.count (2 ^ 31)) b).1 in
     omega (arith, c)
@@ -153,6 +155,26 @@ head_codec = record {
         possible,
       )
       refl;
+}
+
+-- ---- leader epochs
+
+pub entry_codec : IsCodec entry_text IsLegalEntry entry_from
+unfolding entry_from
+entry_codec = record {
+  sound = λ bytes x fits e.
+      let p = bind_ok (i32_from bytes) _ x e in
+      let s = bind_ok (u64_from p.0.1) _ x p.2 in
+      let epoch = i32_codec.sound bytes p.0 fits p.1 in
+      let start = u64_codec.sound p.0.1 s.0 epoch.rest_fits s.1 in
+      let made : EpochEntry × List ℕ = (record { epoch = p.0.0; start_offset = s.0.0 }, s.0.1) in
+      as_read entry_text IsLegalEntry bytes made x s.2 (record {
+        parts = glue bytes (varlong_of p.0.0) p.0.1 (u64_text s.0.0) s.0.1 epoch.parts start.parts;
+        legal = record { epoch = epoch.legal; start_offset = start.legal };
+        rest_fits = start.rest_fits;
+      });
+  whole = λ entry rest h.
+      rw (append_assoc (varlong_of entry.epoch) (u64_text entry.start_offset) rest, i32_codec.whole entry.epoch (u64_text entry.start_offset ++ rest) h.epoch, u64_codec.whole entry.start_offset rest h.start_offset) refl;
 }
 
 -- ---- the stop

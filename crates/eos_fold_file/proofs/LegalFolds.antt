@@ -39,9 +39,15 @@ legal_from_widths f w r = record {
   partition = w.segment.partition;
   base = w.segment.base;
   bytes = w.segment.bytes;
+  batches = w.segment.batches;
   few = w.heads.0;
   heads = legal_heads f.heads w.heads.1 r.heads;
   offsets = r.offsets;
+  sizes = r.sizes;
+  few_epochs = w.epochs.0;
+  epochs = w.epochs.1;
+  changes = r.changes;
   kept = legal_kept _ f.kept w.kept r.kept;
   stop = legal_stop f.stop w.stop r.stop;
+  inside = r.inside;
 }

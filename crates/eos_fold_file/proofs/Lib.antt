@@ -8,8 +8,12 @@ pub mod Shared
 pub mod TextCodecs
 pub mod TextLoop
 pub mod HeadCodecs
+pub mod FrontCodecs
 pub mod FileCodecs
 pub mod LegalFolds
 pub mod FoldAnswers
 pub mod PossibleHeads
+pub mod LeastTexts
 pub mod RealHeads
+pub mod EpochLists
+pub mod HeadTotals

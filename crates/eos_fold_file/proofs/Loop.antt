@@ -18,6 +18,7 @@ fails_through faults.Version r s k h = k faults.Version h
 fails_through faults.Roles r s k h = k faults.Roles h
 fails_through faults.Number r s k h = k faults.Number h
 fails_through faults.Head r s k h = k faults.Head h
+fails_through faults.Epoch r s k h = k faults.Epoch h
 fails_through faults.Record r s k h = k faults.Record h
 fails_through faults.Stop r s k h = k faults.Stop h
 fails_through faults.Crc r s k h = k faults.Crc h
@@ -65,6 +66,10 @@ piece_more f before so_far next xs i d lt e q =
 
 pub three_pieces : (before a b c out1 out2 out3 : List ℕ) → out1 ≡ before ++ a → out2 ≡ out1 ++ b → out3 ≡ out2 ++ c → out3 ≡ before ++ (a ++ (b ++ c))
 three_pieces before a b c out1 out2 out3 e1 e2 e3 = rw (e3, e2, e1) (simp append_assoc)
+
+pub five_pieces : (before a b c d e out1 out2 out3 out4 out5 : List ℕ) → out1 ≡ before ++ a → out2 ≡ out1 ++ b → out3 ≡ out2 ++ c → out4 ≡ out3 ++ d → out5 ≡ out4 ++ e
+    → out5 ≡ before ++ (a ++ (b ++ (c ++ (d ++ e))))
+five_pieces before a b c d e out1 out2 out3 out4 out5 e1 e2 e3 e4 e5 = rw (e5, e4, e3, e2, e1) (simp append_assoc)
 
 pub four_pieces : (before a b c d out1 out2 out3 out4 : List ℕ) → out1 ≡ before ++ a → out2 ≡ out1 ++ b → out3 ≡ out2 ++ c → out4 ≡ out3 ++ d → out4 ≡ before ++ (a ++ (b ++ (c ++ d)))
 four_pieces before a b c d out1 out2 out3 out4 e1 e2 e3 e4 = rw (e4, e3, e2, e1) (simp append_assoc)

@@ -21,7 +21,7 @@ use Rattle.eos_fold_file.specs.declared.head.BatchKind.TheVariants.{Data, Contro
 use Rattle.eos_fold_file.specs.declared.head.FoldHead.{FoldHead}
 use Rattle.eos_fold_file.specs.Batches.{HasHead, HaveHeads}
 use Rattle.eos_fold_file.specs.Files.{record_count}
-use Rattle.eos_fold_file.specs.Heads.{is_control_kind, names_producer, is_producer_possible, is_count_possible, is_possible, batch_marker, batch_head}
+use Rattle.eos_fold_file.specs.Heads.{is_control_kind, names_producer, is_producer_possible, is_size_possible, is_count_possible, is_possible, batch_marker, batch_head}
 use Rattle.eos_fold_file.specs.Legal.{Each, IsLegalKind, IsLegalHead, IsLegal}
 use Rattle.eos_fold_file.proofs.Takes.{and_true}
 
@@ -101,10 +101,11 @@ only_one false n e q = absurd cc
 
 possible : (h : FoldHead) → IsTrue (is_possible h) → Possible h
 possible h e =
-    let a = and_true (is_count_possible h) (is_producer_possible h) e in
+    let a = and_true (is_count_possible h) (is_size_possible h && is_producer_possible h) e in
+    let d = and_true (is_size_possible h) (is_producer_possible h) a.1 in
     let b = and_true (ltb 0 h.count && ltb h.count (2 ^ 31)) (not (is_control_kind h.kind) || eqb h.count 1) a.0 in
     let c = and_true (ltb 0 h.count) (ltb h.count (2 ^ 31)) b.0 in
-    record { some = omega (arith, ltb-true 0 h.count c.0); fits = ltb-true h.count (2 ^ 31) c.1; alone = only_one (is_control_kind h.kind) h.count b.1; producer = a.1 }
+    record { some = omega (arith, ltb-true 0 h.count c.0); fits = ltb-true h.count (2 ^ 31) c.1; alone = only_one (is_control_kind h.kind) h.count b.1; producer = d.1 }
 
 control_told : (t : Bool) (k : BatchKind) → is_control (attributes_of t k) ≡ is_control_kind k
 unfolding attributes_of

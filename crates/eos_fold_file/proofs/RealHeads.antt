@@ -1,7 +1,7 @@
 -- The head of a batch that a log can have is one that a fold file can have.
-use Rattle.std.proofs.Common.{◌≡◌, ℕ, ◌^◌, Bool, true, false, not, cond, ◌||◌, eqb, ltb, ℤ, pos, List, [], ◌∷◌, length, Option, Some, None, refl, sym, ap, ◌∙◌, arith}
+use Rattle.std.proofs.Common.{◌≡◌, ℕ, ◌+◌, ◌*◌, ◌≤◌, ◌^◌, Bool, true, false, not, cond, ◌||◌, eqb, ltb, ℤ, pos, List, [], ◌∷◌, length, Option, Some, None, refl, sym, ap, ◌∙◌, arith}
 use Rattle.std.specs.Prelude.{⊤, IsTrue, int_lt, int_le, is_some}
-use Rattle.std.proofs.lemmas.Bool.{lt-ltb, eq-eqb}
+use Rattle.std.proofs.lemmas.Bool.{lt-ltb, le-ltb, eq-eqb}
 use Rattle.eos_batch.specs.declared.batch.Batch.{Batch}
 use Rattle.eos_batch.specs.declared.head.BatchHead.{BatchHead}
 use Rattle.eos_batch.specs.declared.marker.Kind.{Kind}
@@ -13,8 +13,10 @@ use Rattle.eos_batch.specs.Heads.{head_of}
 use Rattle.eos_batch.specs.Marker.{coordinator_epoch_of, end_kind, is_one_control_record, marker_in, marker_of, marker_with as marker_said}
 use Rattle.eos_batch.specs.Offsets.{offset_of}
 use Rattle.eos_batch.specs.Rules.{IsCounted, IsControlRight, IsProducerRight}
+use Rattle.eos_batch.specs.Text.{IsBatchText}
 use Rattle.eos_fold_file.specs.declared.head.FoldHead.{FoldHead}
-use Rattle.eos_fold_file.specs.Heads.{is_control_kind, kind_names_producer, is_count_possible, is_producer_possible, is_possible, marker_with, batch_head, kind_in, ended_by, fold_head}
+use Rattle.eos_fold_file.specs.Heads.{is_control_kind, kind_names_producer, is_count_possible, is_size_possible, is_producer_possible, is_possible, marker_with, batch_head, kind_in, ended_by, fold_head}
+use Rattle.eos_fold_file.proofs.LeastTexts.{batch_least}
 
 -- ---- what a marker has of its batch
 
@@ -91,8 +93,8 @@ names_back t true (Some m) = ended m.kind m.coordinator_epoch
     ended ends.Commit e = refl
     ended ends.Abort e = refl
 
-pub head_possible : (b : Batch) (size : ℕ) → IsCounted b → IsControlRight b → IsProducerRight b → IsTrue (is_possible (fold_head (head_of b size)))
-head_possible b size counted control producer =
+head_right : (b : Batch) (size : ℕ) → 61 + 7 * length b.records ≤ size → IsCounted b → IsControlRight b → IsProducerRight b → IsTrue (is_possible (fold_head (head_of b size)))
+head_right b size least counted control producer =
     let c = is_control b.attributes in
     let m = marker_of b in
     let h = fold_head (head_of b size) in
@@ -101,4 +103,8 @@ head_possible b size counted control producer =
     let one : (not c || eqb (length b.records) 1) ≡ true = alone c (length b.records) (one_record c b.records control) in
     let count : is_count_possible h ≡ true = rw (control_back c m, some, fits, one) refl in
     let names : is_producer_possible h ≡ true = ap (λ (x : Bool). cond (int_lt b.producer (pos 0)) (not x) (int_le (pos 0) b.epoch)) (names_back (is_transactional b.attributes) c m) ∙ producer in
-    rw (count, names) refl
+    let sized : is_size_possible h ≡ true = ap not (le-ltb size (61 + 7 * length b.records) least) in
+    rw (count, sized, names) refl
+
+pub head_possible : (text : List ℕ) (b : Batch) → IsBatchText text b → IsTrue (is_possible (fold_head (head_of b (length text))))
+head_possible text b t = head_right b (length text) (batch_least text b t) t.counted t.control t.producer

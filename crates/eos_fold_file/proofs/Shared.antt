@@ -1,13 +1,13 @@
 -- How many first bytes a text shares with the one before.
-use Rattle.std.proofs.Common.{◌≡◌, ℕ, zero, suc, ◌+◌, ◌<◌, ◌≤◌, ◌^◌, Bool, true, false, eqb, ltb, not, cond, List, [], ◌∷◌, ◌++◌, length, take, drop, get_or, Ok, Err, refl, sym, ap, ◌∙◌, subst, arith}
+use Rattle.std.proofs.Common.{◌≡◌, ℕ, zero, suc, ◌+◌, ◌-◌, ◌/◌, ◌<◌, ◌≤◌, ◌^◌, Bool, true, false, eqb, ltb, not, cond, List, [], ◌∷◌, ◌++◌, length, take, drop, get_or, Ok, Err, refl, sym, ap, ◌∙◌, subst, arith}
 use Rattle.std.specs.Prelude.{nat_eq, min}
 use Rattle.std.specs.List.{common_prefix_len}
 use Rattle.std.proofs.lemmas.Bool.{eqb-true, eq-eqb, ne_eqb, lt-ltb, ltb-true}
 use Rattle.std.proofs.Math.ListN.{drop_of_length-le}
-use Rattle.std.proofs.lemmas.List.{take-append-drop, take-append-le, length-take, length-take-le, drop_at, drop_more, get_or-take, take_min}
+use Rattle.std.proofs.lemmas.List.{take-append-drop, take-append-le, length-append, length-take, length-take-le, drop_at, drop_more, get_or-take, take_min}
 use Rattle.std.proofs.lemmas.List.Sums.{common_prefix_len-le}
 use Rattle.eos_fold_file.specs.declared.fault.FoldFault.TheVariants as faults
-use Rattle.eos_fold_file.specs.Texts.{shared, is_joined, joined}
+use Rattle.eos_fold_file.specs.Texts.{most_shared, shared, is_joined, joined}
 use Rattle.eos_fold_file.proofs.Takes.{and_true, must_ok}
 
 one_more : (m n y : ℕ) (xs ys : List ℕ) → m ≡ suc n → take n xs ≡ take n ys → take m (y ∷ xs) ≡ take m (y ∷ ys)
@@ -27,26 +27,33 @@ common_front (x ∷ xs) (y ∷ ys) = step (eqb x y) refl (common_front xs ys)
 pub common_done : (xs ys : List ℕ) (i most more : ℕ) → most ≡ min (length xs) (length ys) → most ≤ i → common_prefix_len nat_eq xs ys ≡ i + more → most ≡ common_prefix_len nat_eq xs ys
 common_done xs ys i most more e le so_far = let h = common_prefix_len-le nat_eq xs ys in omega (arith, h.0, h.1, e, le, so_far)
 
-pub shared_before : (before text : List ℕ) → shared before text ≤ length (take 127 before)
-shared_before before text = (common_prefix_len-le nat_eq (take 127 before) text).0
+pub shared_before : (before text : List ℕ) → shared before text ≤ length (take (most_shared (length text)) before)
+shared_before before text = (common_prefix_len-le nat_eq (take (most_shared (length text)) before) text).0
 
 pub shared_within : (before text : List ℕ) → shared before text ≤ length before
-shared_within before text = omega (arith, shared_before before text, length-take 127 before)
+shared_within before text = omega (arith, shared_before before text, length-take (most_shared (length text)) before)
+
+shared_most : (before text : List ℕ) → shared before text ≤ most_shared (length text)
+shared_most before text = omega (arith, shared_before before text, length-take (most_shared (length text)) before)
+
+most_few : (len : ℕ) → most_shared len ≤ 127
+most_few len = omega arith
 
 pub shared_few : (before text : List ℕ) → shared before text ≤ 127
-shared_few before text = omega (arith, shared_before before text, length-take 127 before)
+shared_few before text = omega (arith, shared_most before text, most_few (length text))
 
 pub shared_rest : (before text : List ℕ) → shared before text ≤ length text
-shared_rest before text = (common_prefix_len-le nat_eq (take 127 before) text).1
+shared_rest before text = (common_prefix_len-le nat_eq (take (most_shared (length text)) before) text).1
 
 -- as the code cuts the text before
-pub shared_is : (before text : List ℕ) → common_prefix_len nat_eq (take (min 127 (length before)) before) text ≡ shared before text
-shared_is before text = ap (λ (front : List ℕ). common_prefix_len nat_eq front text) (take_min 127 before)
+pub shared_is : (before text : List ℕ) → common_prefix_len nat_eq (take (min (most_shared (length text)) (length before)) before) text ≡ shared before text
+shared_is before text = ap (λ (front : List ℕ). common_prefix_len nat_eq front text) (take_min (most_shared (length text)) before)
 
 shared_front : (before text : List ℕ) → take (shared before text) before ≡ take (shared before text) text
 shared_front before text =
     let n = shared before text in
-    sym (ap (take n) (take-append-drop 127 before)) ∙ (take-append-le n (take 127 before) (drop 127 before) (shared_before before text) ∙ common_front (take 127 before) text)
+    let m = most_shared (length text) in
+    sym (ap (take n) (take-append-drop m before)) ∙ (take-append-le n (take m before) (drop m before) (shared_before before text) ∙ common_front (take m before) text)
 
 pub rejoined : (before text : List ℕ) → take (shared before text) before ++ drop (shared before text) text ≡ text
 rejoined before text = rw (shared_front before text) (take-append-drop (shared before text) text)
@@ -89,51 +96,64 @@ common_from front rest zero le = zero_more (common_prefix_len nat_eq front rest)
 common_from [] rest (suc n) le = absurd (omega arith)
 common_from (x ∷ xs) rest (suc n) le = let more = common_from xs rest n (omega arith) in rw (eq-eqb x x refl) (omega (arith, more))
 
--- so many of the text before, and as many more as both have in common from there on
-joined_from : (before rest : List ℕ) (count : ℕ) → count ≤ length before → count ≤ 127 → shared before (take count before ++ rest) ≡ count + common_prefix_len nat_eq (drop count (take 127 before)) rest
-joined_from before rest count le few =
-    let front : List ℕ = take 127 before in
-    let within : count ≤ length front = omega (arith, length-take 127 before, le, few) in
-    let cut : take count before ≡ take count front = sym (ap (take count) (take-append-drop 127 before)) ∙ take-append-le count front (drop 127 before) within in
-    ap (λ (xs : List ℕ). common_prefix_len nat_eq front (xs ++ rest)) cut ∙ common_from front rest count within
+joined_len : (before rest : List ℕ) (count : ℕ) → count ≤ length before → length (take count before ++ rest) ≡ count + length rest
+joined_len before rest count le = omega (arith, length-append (take count before) rest, length-take-le count before le)
 
-pub joined_many : (before rest : List ℕ) (count : ℕ) → 127 < count → eqb (shared before (take count before ++ rest)) count ≡ false
-joined_many before rest count lt = ne_eqb (shared before (take count before ++ rest)) count (λ q. omega (arith, q, shared_few before (take count before ++ rest), lt))
+-- so many of the text before, and as many more as both have in common from there on
+joined_from : (before rest : List ℕ) (count most : ℕ) → most ≡ most_shared (count + length rest) → count ≤ length before → count ≤ most
+    → shared before (take count before ++ rest) ≡ count + common_prefix_len nat_eq (drop count (take most before)) rest
+joined_from before rest count most is le few =
+    let whole : List ℕ = take count before ++ rest in
+    let front : List ℕ = take most before in
+    let within : count ≤ length front = omega (arith, length-take most before, le, few) in
+    let cut : take count before ≡ take count front = sym (ap (take count) (take-append-drop most before)) ∙ take-append-le count front (drop most before) within in
+    let limit : most_shared (length whole) ≡ most = ap most_shared (joined_len before rest count le) ∙ sym is in
+    ap (λ (n : ℕ). common_prefix_len nat_eq (take n before) whole) limit ∙ (ap (λ (xs : List ℕ). common_prefix_len nat_eq front (xs ++ rest)) cut ∙ common_from front rest count within)
+
+pub joined_many : (before rest : List ℕ) (count most : ℕ) → most ≡ most_shared (count + length rest) → count ≤ length before → most < count → eqb (shared before (take count before ++ rest)) count ≡ false
+joined_many before rest count most is le lt =
+    let whole : List ℕ = take count before ++ rest in
+    let limit : most_shared (length whole) ≡ most = ap most_shared (joined_len before rest count le) ∙ sym is in
+    let few : shared before whole ≤ most = subst (λ (n : ℕ). shared before whole ≤ n) limit (shared_most before whole) in
+    ne_eqb (shared before whole) count (λ q. omega (arith, q, few, lt))
 
 -- nothing more can be shared
-joined_last : (before rest : List ℕ) (count : ℕ) → count ≤ length before → count ≤ 127 → length (take 127 before) ≤ count → eqb (shared before (take count before ++ rest)) count ≡ true
-joined_last before rest count le few last =
-    let none : drop count (take 127 before) ≡ [] = drop_of_length-le (take 127 before) last in
-    let e = joined_from before rest count le few ∙ ap (λ (xs : List ℕ). count + common_prefix_len nat_eq xs rest) none in
+joined_last : (before rest : List ℕ) (count most : ℕ) → most ≡ most_shared (count + length rest) → count ≤ length before → count ≤ most → length (take most before) ≤ count
+    → eqb (shared before (take count before ++ rest)) count ≡ true
+joined_last before rest count most is le few last =
+    let none : drop count (take most before) ≡ [] = drop_of_length-le (take most before) last in
+    let e = joined_from before rest count most is le few ∙ ap (λ (xs : List ℕ). count + common_prefix_len nat_eq xs rest) none in
     eq-eqb (shared before (take count before ++ rest)) count (e ∙ omega arith)
 
-pub joined_top : (before rest : List ℕ) (count : ℕ) → count ≤ length before → count ≡ 127 → eqb (shared before (take count before ++ rest)) count ≡ true
-joined_top before rest count le top = joined_last before rest count le (omega arith) (omega (arith, length-take 127 before, top))
+pub joined_top : (before rest : List ℕ) (count most : ℕ) → most ≡ most_shared (count + length rest) → count ≤ length before → count ≡ most → eqb (shared before (take count before ++ rest)) count ≡ true
+joined_top before rest count most is le top = joined_last before rest count most is le (omega (arith, top)) (omega (arith, length-take most before, top))
 
-pub joined_whole : (before rest : List ℕ) (count : ℕ) → count ≤ 127 → count ≡ length before → eqb (shared before (take count before ++ rest)) count ≡ true
-joined_whole before rest count few all = joined_last before rest count (omega arith) few (omega (arith, length-take 127 before, all))
+pub joined_whole : (before rest : List ℕ) (count most : ℕ) → most ≡ most_shared (count + length rest) → count ≤ most → count ≡ length before → eqb (shared before (take count before ++ rest)) count ≡ true
+joined_whole before rest count most is few all = joined_last before rest count most is (omega (arith, all)) few (omega (arith, length-take most before, all))
 
 no_rest : (xs : List ℕ) → common_prefix_len nat_eq xs [] ≡ 0
 no_rest [] = refl
 no_rest (x ∷ xs) = refl
 
-pub joined_alone : (before rest : List ℕ) (count : ℕ) → count ≤ length before → count ≤ 127 → length rest ≡ 0 → eqb (shared before (take count before ++ rest)) count ≡ true
-joined_alone before [] count le few none =
-    let more = no_rest (drop count (take 127 before)) in
-    eq-eqb (shared before (take count before ++ [])) count (omega (arith, joined_from before [] count le few, more))
-joined_alone before (r ∷ rs) count le few none = absurd (omega arith)
+pub joined_alone : (before rest : List ℕ) (count most : ℕ) → most ≡ most_shared (count + length rest) → count ≤ length before → count ≤ most → length rest ≡ 0
+    → eqb (shared before (take count before ++ rest)) count ≡ true
+joined_alone before [] count most is le few none =
+    let more = no_rest (drop count (take most before)) in
+    eq-eqb (shared before (take count before ++ [])) count (omega (arith, joined_from before [] count most is le few, more))
+joined_alone before (r ∷ rs) count most is le few none = absurd (omega arith)
 
 by_next : (b : Bool) (count k n : ℕ) → n ≡ count + cond b (1 + k) 0 → eqb n count ≡ not b
 by_next true count k n e = ne_eqb n count (λ q. omega (arith, e, q))
 by_next false count k n e = eq-eqb n count (omega (arith, e))
 
-pub joined_next : (before rest : List ℕ) (count : ℕ) → count < length before → count < 127 → 0 < length rest → eqb (shared before (take count before ++ rest)) count ≡ not (eqb (get_or before count 0) (get_or rest 0 0))
-joined_next before [] count lt few some = absurd (omega arith)
-joined_next before (r ∷ rs) count lt few some =
-    let front : List ℕ = take 127 before in
-    let within : count < length front = omega (arith, length-take 127 before, lt, few) in
-    let here : drop count front ≡ get_or before count 0 ∷ drop (count + 1) front = drop_more front count 0 within ∙ ap (λ (b : ℕ). b ∷ drop (count + 1) front) (get_or-take 127 before count 0 few) in
-    let e = joined_from before (r ∷ rs) count (omega arith) (omega arith) ∙ ap (λ (xs : List ℕ). count + common_prefix_len nat_eq xs (r ∷ rs)) here in
+pub joined_next : (before rest : List ℕ) (count most : ℕ) → most ≡ most_shared (count + length rest) → count < length before → count < most → 0 < length rest
+    → eqb (shared before (take count before ++ rest)) count ≡ not (eqb (get_or before count 0) (get_or rest 0 0))
+joined_next before [] count most is lt few some = absurd (omega arith)
+joined_next before (r ∷ rs) count most is lt few some =
+    let front : List ℕ = take most before in
+    let within : count < length front = omega (arith, length-take most before, lt, few) in
+    let here : drop count front ≡ get_or before count 0 ∷ drop (count + 1) front = drop_more front count 0 within ∙ ap (λ (b : ℕ). b ∷ drop (count + 1) front) (get_or-take most before count 0 few) in
+    let e = joined_from before (r ∷ rs) count most is (omega arith) (omega arith) ∙ ap (λ (xs : List ℕ). count + common_prefix_len nat_eq xs (r ∷ rs)) here in
     by_next (eqb (get_or before count 0) r) count (common_prefix_len nat_eq (drop (count + 1) front) rs) (shared before (take count before ++ r ∷ rs)) e
 
 pub joined_fewer : (before : List ℕ) (count : ℕ) (rest : List ℕ) → eqb (shared before (take count before ++ rest)) count ≡ false → joined before count rest ≡ Err faults.Record

@@ -1,7 +1,8 @@
--- The fold of a segment: its front, of each batch the head, of each data record what was wanted, and why the front ends.
+-- The fold of a segment: its front, of each batch the head, where the leader epoch changes, of each data record what was wanted, why the
+-- front ends, and one checksum of those of its batches.
 -- Source: Kafka's documentation, "Log" (a segment is a run of record batches, named by its first offset) and Message Format,
 -- "Record Batch" and "Record".
-use Rattle.std.specs.Prelude.{◌≡◌, ℕ, ◌+◌, List, [], ◌∷◌, ◌++◌, length, ⊤}
+use Rattle.std.specs.Prelude.{◌≡◌, ℕ, ◌+◌, List, [], ◌∷◌, ◌++◌, length, take, drop, None, ⊤}
 use Rattle.eos_batch.specs.declared.batch.Batch.{Batch}
 use Rattle.eos_batch.specs.declared.record.Record.{Record}
 use Rattle.eos_batch.specs.Heads.{head_of}
@@ -11,6 +12,7 @@ use Rattle.eos_evidence.specs.declared.segment.Segment.{Segment}
 use Rattle.eos_touch.specs.Front.{records_in, ContinuesFrom}
 use Rattle.eos_fold.specs.Fronts.{base_of, StopsAt}
 use Rattle.eos_reading.specs.Kept.{kept_of}
+use Rattle.eos_wire.specs.Crc.{crc32c_of}
 use Rattle.eos_keeping.specs.Outputs.{kept_output}
 use Rattle.eos_wanted.specs.declared.wanted.Wanted.{Wanted}
 use Rattle.eos_wanted.specs.declared.wanted.Wanted.TheVariants as wants
@@ -19,6 +21,7 @@ use Rattle.eos_fold_file.specs.declared.file.FoldFile.{FoldFile}
 use Rattle.eos_fold_file.specs.declared.file.FoldKept.{FoldKept}
 use Rattle.eos_fold_file.specs.declared.file.FoldKept.TheVariants.{Presence, Claims, Texts}
 use Rattle.eos_fold_file.specs.declared.head.FoldHead.{FoldHead}
+use Rattle.eos_fold_file.specs.Epochs.{epoch_entries}
 use Rattle.eos_fold_file.specs.Heads.{fold_head}
 
 -- the bytes are texts of these batches, and the rest; each head is its batch's, with the number of its bytes
@@ -28,6 +31,12 @@ HasFoldHeads bytes [] (h ∷ hs) rest = ⊥
 HasFoldHeads bytes (b ∷ bs) [] rest = ⊥
 HasFoldHeads bytes (b ∷ bs) (h ∷ hs) rest =
     (text more : List ℕ) × IsBatchText text b × (bytes ≡ text ++ more) × (h ≡ fold_head (head_of b (length text))) × HasFoldHeads more bs hs rest
+
+-- the checksums of batches with these heads, as the bytes say them, one after the other: each batch has its own at its bytes 17 to 20,
+-- of all its bytes behind them
+abbrev pub checksums_in : List ℕ → List FoldHead → List ℕ
+checksums_in bytes [] = []
+checksums_in bytes (h ∷ hs) = take 4 (drop 17 bytes) ++ checksums_in (drop h.size bytes) hs
 
 -- what is kept of a record of Kafka's own logs
 abbrev pub fold_text_of : Record → FoldText
@@ -61,5 +70,7 @@ pub record IsFoldOf (segment : Segment) (f : FoldFile) : Type 0 where
   pub rest : List ℕ
   pub heads : HasFoldHeads segment.bytes batches f.heads rest
   pub continuous : ContinuesFrom (base_of segment) batches
+  pub epochs : f.epochs ≡ epoch_entries None batches
+  pub checked : f.batches ≡ crc32c_of (checksums_in segment.bytes f.heads)
   pub stops : StopsAt (base_of segment) (base_of segment + records_in batches) segment.bytes rest f.stop
   pub kept : IsKeptOf batches f.kept

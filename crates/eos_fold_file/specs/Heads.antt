@@ -1,7 +1,7 @@
 -- The heads of batches, as bytes of a fold file, and which of them a batch can have. A front's batches follow one another, so
 -- their offsets aren't written.
 -- Source: Kafka's documentation, Message Format, "Record Batch" and "Control Batches"; KIP-98 for the producer.
-use Rattle.std.specs.Prelude.{ℕ, zero, suc, ◌^◌, ℤ, pos, negsuc, List, [], ◌++◌, Option, Some, None, Result, Ok, Err, Bool, true, false, not, nat_lt, int_lt, int_le, ◌==◌, ◌&&◌, ◌||◌, if◌then◌else◌}
+use Rattle.std.specs.Prelude.{ℕ, zero, suc, ◌+◌, ◌*◌, ◌^◌, ℤ, pos, negsuc, List, [], ◌++◌, Option, Some, None, Result, Ok, Err, Bool, true, false, not, nat_lt, int_lt, int_le, ◌==◌, ◌&&◌, ◌||◌, if◌then◌else◌}
 use Rattle.eos_base.specs.Fallible.{◌>>=◌, must}
 use Rattle.eos_wire.specs.Numbers.{i8_text}
 use Rattle.eos_wire.specs.Writing.{varlong_of}
@@ -42,8 +42,13 @@ is_producer_possible h = if int_lt h.producer (pos 0) then not (names_producer h
 abbrev pub is_count_possible : FoldHead → Bool
 is_count_possible h = nat_lt 0 h.count && nat_lt h.count (2 ^ 31) && (not (is_control_kind h.kind) || (h.count == 1))
 
+-- so many records fit: a batch has 61 bytes before its records, and a record has at least 7 (its length, attributes, timestamp delta,
+-- offset delta, the lengths of its key and its value, the number of its headers)
+abbrev pub is_size_possible : FoldHead → Bool
+is_size_possible h = not (nat_lt h.size (61 + 7 * h.count))
+
 abbrev pub is_possible : FoldHead → Bool
-is_possible h = is_count_possible h && is_producer_possible h
+is_possible h = is_count_possible h && (is_size_possible h && is_producer_possible h)
 
 -- ---- the head at an offset
 

@@ -1,5 +1,5 @@
 -- Which values a fold file can have.
-use Rattle.std.specs.Prelude.{◌≡◌, ℕ, ◌<◌, ◌^◌, FitsSigned, List, [], ◌∷◌, length, Option, Some, None, IsTrue, ⊤}
+use Rattle.std.specs.Prelude.{◌≡◌, ℕ, ◌<◌, ◌^◌, unsigned_abs, FitsSigned, List, [], ◌∷◌, length, Option, Some, None, IsTrue, ⊤}
 use Rattle.std.specs.Int.{w16, w32, w64}
 use Rattle.std.specs.List.{list_all}
 use Rattle.eos_batch.specs.Real.{IsReal}
@@ -10,6 +10,7 @@ use Rattle.eos_keeping.specs.declared.output.KeptOutput.{KeptOutput}
 use Rattle.eos_keeping.specs.declared.output.KeptOutput.TheVariants.{Unclaimed, Asked, Foreign}
 use Rattle.eos_fold_file.specs.declared.claim.ClaimNumbers.{ClaimNumbers}
 use Rattle.eos_fold_file.specs.declared.claim.FoldText.{FoldText}
+use Rattle.eos_fold_file.specs.declared.epoch.EpochEntry.{EpochEntry}
 use Rattle.eos_fold_file.specs.declared.file.FoldFile.{FoldFile}
 use Rattle.eos_fold_file.specs.declared.file.FoldKept.{FoldKept}
 use Rattle.eos_fold_file.specs.declared.file.FoldKept.TheVariants.{Presence, Claims, Texts}
@@ -18,7 +19,8 @@ use Rattle.eos_fold_file.specs.declared.head.BatchKind.TheVariants.{Data, Contro
 use Rattle.eos_fold_file.specs.declared.head.FoldHead.{FoldHead}
 use Rattle.eos_fold_file.specs.Records.{is_placed, numbers_of}
 use Rattle.eos_fold_file.specs.Heads.{is_possible}
-use Rattle.eos_fold_file.specs.Files.{data_count, fits_offsets}
+use Rattle.eos_fold_file.specs.Epochs.{are_entries}
+use Rattle.eos_fold_file.specs.Files.{data_count, fits_offsets, fits_bytes, stops_inside}
 
 -- of each of a list
 abbrev pub Each : {X : Type 0} → (X → Type 0) → List X → Type 0
@@ -83,6 +85,10 @@ pub record IsLegalHead (h : FoldHead) : Type 0 where
   pub sequence : FitsSigned w32 h.sequence
   pub possible : IsTrue (is_possible h)
 
+pub record IsLegalEntry (e : EpochEntry) : Type 0 where
+  pub epoch : FitsSigned w32 e.epoch
+  pub start_offset : IsU64 e.start_offset
+
 -- ---- the file
 
 abbrev pub IsLegalStop : Stop → Type 0
@@ -102,11 +108,17 @@ pub record IsLegal (f : FoldFile) : Type 0 where
   pub partition : FitsSigned w32 f.partition
   pub base : FitsSigned w64 f.base
   pub bytes : IsU64 f.bytes
+  pub batches : IsU32 f.batches
   pub few : IsU64 (length f.heads)
   pub heads : Each IsLegalHead f.heads
   pub offsets : IsTrue (fits_offsets f.base f.heads)
+  pub sizes : IsTrue (fits_bytes f.bytes f.heads)
+  pub few_epochs : IsU64 (length f.epochs)
+  pub epochs : Each IsLegalEntry f.epochs
+  pub changes : IsTrue (are_entries (unsigned_abs f.base) None f.heads f.epochs)
   pub kept : IsLegalKept (data_count f.heads) f.kept
   pub stop : IsLegalStop f.stop
+  pub inside : IsTrue (stops_inside f.base f.bytes f.heads f.stop)
 
 -- ---- what a fold has to keep beside the widths of its numbers, which those of a program have
 
@@ -124,5 +136,8 @@ IsRightKept n (Texts texts) = length texts ≡ n
 pub record IsRight (f : FoldFile) : Type 0 where
   pub heads : Each (λ h. IsTrue (is_possible h)) f.heads
   pub offsets : IsTrue (fits_offsets f.base f.heads)
+  pub sizes : IsTrue (fits_bytes f.bytes f.heads)
+  pub changes : IsTrue (are_entries (unsigned_abs f.base) None f.heads f.epochs)
   pub kept : IsRightKept (data_count f.heads) f.kept
   pub stop : IsRightStop f.stop
+  pub inside : IsTrue (stops_inside f.base f.bytes f.heads f.stop)

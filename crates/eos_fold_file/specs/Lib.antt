@@ -3,6 +3,7 @@ pub mod Numbers
 pub mod Records
 pub mod Texts
 pub mod Heads
+pub mod Epochs
 pub mod Stops
 pub mod Files
 pub mod Folds

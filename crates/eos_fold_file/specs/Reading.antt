@@ -1,5 +1,5 @@
 -- Reading a fold file from left to right, with the first fault that is met: the order of the refusals.
-use Rattle.std.specs.Prelude.{ℕ, zero, suc, ◌-◌, ℤ, pos, negsuc, List, [], length, take, Result, Ok, Err, ◌==◌, nat_eq}
+use Rattle.std.specs.Prelude.{ℕ, zero, suc, ◌+◌, ◌-◌, ℤ, pos, negsuc, List, [], length, take, Result, Ok, Err, None, ◌==◌, ◌&&◌, nat_eq, unsigned_abs}
 use Rattle.std.specs.List.{list_all}
 use Rattle.std.specs.Cmp.Lexicographic.{pointwise}
 use Rattle.std.specs.Ordering.{int_eq}
@@ -10,6 +10,7 @@ use Rattle.eos_fold.specs.declared.stop.Stop.{Stop}
 use Rattle.eos_keeping.specs.declared.output.KeptOutput.{KeptOutput}
 use Rattle.eos_wanted.specs.declared.wanted.Wanted.{Wanted}
 use Rattle.eos_wanted.specs.declared.wanted.Wanted.TheVariants as wants
+use Rattle.eos_fold_file.specs.declared.epoch.EpochEntry.{EpochEntry}
 use Rattle.eos_fold_file.specs.declared.fault.FoldFault.{FoldFault}
 use Rattle.eos_fold_file.specs.declared.fault.FoldFault.TheVariants as faults
 use Rattle.eos_fold_file.specs.declared.file.FoldFile.{FoldFile}
@@ -21,8 +22,9 @@ use Rattle.eos_fold_file.specs.Numbers.{present, kind_from, number_from, i32_fro
 use Rattle.eos_fold_file.specs.Records.{is_placed, output_from}
 use Rattle.eos_fold_file.specs.Texts.{key_values_from}
 use Rattle.eos_fold_file.specs.Heads.{head_from}
-use Rattle.eos_fold_file.specs.Stops.{stop_from}
-use Rattle.eos_fold_file.specs.Files.{magic, data_count, fits_offsets}
+use Rattle.eos_fold_file.specs.Epochs.{are_entries, entry_from}
+use Rattle.eos_fold_file.specs.Stops.{is_inside, stop_from}
+use Rattle.eos_fold_file.specs.Files.{magic, record_count, data_count, size_sum, fits_offsets, fits_bytes}
 
 -- ---- what stands before the batches
 
@@ -34,7 +36,7 @@ magic_from bytes = do
 unfoldable pub version_from : List ℕ → Result (ℤ × List ℕ) FoldFault
 version_from bytes = do
   version ← kind_from bytes
-  must (int_eq version.0 (pos 2)) faults.Version version
+  must (int_eq version.0 (pos 3)) faults.Version version
 
 abbrev pub wanted_of : ℤ × List ℕ → Result (Wanted × List ℕ) FoldFault
 wanted_of (pos zero, bytes) = Ok (wants.Presence, bytes)
@@ -46,6 +48,9 @@ wanted_of (negsuc n, bytes) = Err faults.Roles
 unfoldable pub wanted_from : List ℕ → Result (Wanted × List ℕ) FoldFault
 wanted_from bytes = kind_from bytes >>= wanted_of
 
+unfoldable pub batches_from : List ℕ → Result (ℕ × List ℕ) FoldFault
+batches_from bytes = present (u32_at bytes)
+
 unfoldable pub front_from : List ℕ → Result (Front × List ℕ) FoldFault
 front_from bytes = do
   begin ← magic_from bytes
@@ -55,15 +60,24 @@ front_from bytes = do
   partition ← i32_from topic.1
   base ← number_from partition.1
   size ← u64_from base.1
-  Ok (record { wanted = wanted.0; topic = topic.0; partition = partition.0; base = base.0; bytes = size.0 }, size.1)
+  batches ← batches_from size.1
+  Ok (record { wanted = wanted.0; topic = topic.0; partition = partition.0; base = base.0; bytes = size.0; batches = batches.0 }, batches.1)
 
 -- ---- the batches, and what is kept of their records
 
-unfoldable pub heads_from : ℤ → List ℕ → Result (List FoldHead × List ℕ) FoldFault
-heads_from base bytes = do
+-- of a segment of this name and of so many bytes
+unfoldable pub heads_from : ℤ → ℕ → List ℕ → Result (List FoldHead × List ℕ) FoldFault
+heads_from base size bytes = do
   count ← u64_from bytes
   heads ← many_from head_from count.0 count.1
-  must (fits_offsets base heads.0) faults.Head heads
+  must (fits_offsets base heads.0 && fits_bytes size heads.0) faults.Head heads
+
+-- of a front with these heads
+unfoldable pub epochs_from : ℕ → List FoldHead → List ℕ → Result (List EpochEntry × List ℕ) FoldFault
+epochs_from begin heads bytes = do
+  count ← u64_from bytes
+  epochs ← many_from entry_from count.0 count.1
+  must (are_entries begin None heads epochs.0) faults.Epoch epochs
 
 -- each claim names a place among the topics, or a topic
 abbrev pub placed_claims : List (List ℕ) → List KeptOutput → Result FoldKept FoldFault
@@ -90,16 +104,33 @@ kept_from wants.Texts n bytes = texts_from n bytes
 
 -- ---- the whole
 
-abbrev pub file_with : Front → List FoldHead → FoldKept → Stop → FoldFile
-file_with front heads kept stop = record { topic = front.topic; partition = front.partition; base = front.base; bytes = front.bytes; heads = heads; kept = kept; stop = stop }
+abbrev pub file_with : Front → List FoldHead → List EpochEntry → FoldKept → Stop → FoldFile
+file_with front heads epochs kept stop = record {
+  topic = front.topic;
+  partition = front.partition;
+  base = front.base;
+  bytes = front.bytes;
+  batches = front.batches;
+  heads = heads;
+  epochs = epochs;
+  kept = kept;
+  stop = stop;
+}
+
+-- behind batches from this offset on, which end at this one and take so many of so many bytes
+unfoldable pub inside_from : ℕ → ℕ → ℕ → ℕ → List ℕ → Result (Stop × List ℕ) FoldFault
+inside_from begin next size bytes text = do
+  stop ← stop_from text
+  must (is_inside begin next size bytes stop.0) faults.Stop stop
 
 unfoldable pub body_from : List ℕ → Result (FoldFile × List ℕ) FoldFault
 body_from bytes = do
   front ← front_from bytes
-  heads ← heads_from front.0.base front.1
-  kept ← kept_from front.0.wanted (data_count heads.0) heads.1
-  stop ← stop_from kept.1
-  Ok (file_with front.0 heads.0 kept.0 stop.0, stop.1)
+  heads ← heads_from front.0.base front.0.bytes front.1
+  epochs ← epochs_from (unsigned_abs front.0.base) heads.0 heads.1
+  kept ← kept_from front.0.wanted (data_count heads.0) epochs.1
+  stop ← inside_from (unsigned_abs front.0.base) (unsigned_abs front.0.base + record_count heads.0) (size_sum heads.0) front.0.bytes kept.1
+  Ok (file_with front.0 heads.0 epochs.0 kept.0 stop.0, stop.1)
 
 -- the bytes before the rest
 abbrev pub before : List ℕ → List ℕ → List ℕ

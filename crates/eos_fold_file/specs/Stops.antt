@@ -1,5 +1,5 @@
 -- Why a front ends, as bytes of a fold file.
-use Rattle.std.specs.Prelude.{ℕ, zero, suc, ℤ, pos, negsuc, List, [], ◌∷◌, ◌++◌, find, Option, Result, Ok, Err}
+use Rattle.std.specs.Prelude.{ℕ, zero, suc, ℤ, pos, negsuc, List, [], ◌∷◌, ◌++◌, find, Option, Result, Ok, Err, Bool, not, nat_lt, ◌==◌, ◌&&◌}
 use Rattle.std.specs.Ordering.{int_eq}
 use Rattle.eos_base.specs.Fallible.{◌>>=◌, or_fault}
 use Rattle.eos_wire.specs.Numbers.{i8_text}
@@ -37,6 +37,13 @@ abbrev pub stop_text : Stop → List ℕ
 stop_text AtEnd = i8_text (pos 0)
 stop_text (NoBatch segment byte fault) = i8_text (pos 1) ++ (u64_text segment ++ (u64_text byte ++ i8_text (fault_number fault)))
 stop_text (Elsewhere found) = i8_text (pos 2) ++ u64_text found
+
+-- Batches from this offset on end at this one, and take so many of so many bytes: so a front ends. Where it ends before all bytes, it
+-- does so behind its batches.
+abbrev pub is_inside : ℕ → ℕ → ℕ → ℕ → Stop → Bool
+is_inside begin next size bytes AtEnd = size == bytes
+is_inside begin next size bytes (NoBatch segment byte fault) = (segment == begin) && ((byte == size) && nat_lt size bytes)
+is_inside begin next size bytes (Elsewhere found) = not (found == next) && nat_lt size bytes
 
 -- ---- reading
 

@@ -1,7 +1,7 @@
 -- The keys and values of Kafka's own logs, as bytes of a fold file. Those of neighbours begin alike, so of each is written how many
 -- of its first bytes it shares with the last of its kind that wasn't null, and its rest: front coding. No more than 127 bytes are
--- shared, so a text is at most so much longer than what stands of it.
-use Rattle.std.specs.Prelude.{ℕ, zero, suc, ◌^◌, ℤ, pos, negsuc, Bool, nat_eq, nat_lt, ◌==◌, ◌&&◌, List, [], ◌∷◌, ◌++◌, length, take, drop, Option, Some, None, Result, Ok, Err}
+-- shared, and of a long text not the last sixteenth, so a text is at most 16 times as long as what stands of it.
+use Rattle.std.specs.Prelude.{ℕ, zero, suc, ◌^◌, ◌+◌, ◌-◌, ◌/◌, min, ℤ, pos, negsuc, Bool, nat_eq, nat_lt, ◌==◌, ◌&&◌, List, [], ◌∷◌, ◌++◌, length, take, drop, Option, Some, None, Result, Ok, Err}
 use Rattle.std.specs.List.{common_prefix_len}
 use Rattle.eos_base.specs.Fallible.{◌>>=◌, must}
 use Rattle.eos_wire.specs.Numbers.{i8_text}
@@ -11,9 +11,14 @@ use Rattle.eos_fold_file.specs.declared.claim.FoldText.{FoldText}
 use Rattle.eos_fold_file.specs.Numbers.{bytes_text, kind_from, bytes_from}
 use Rattle.eos_fold_file.specs.Records.{optional_claim_text, optional_claim_from}
 
+-- how many first bytes a text of so many can share: of what stands of it, its kind and its length are two bytes, so it is at most 16
+-- times as long as that
+abbrev pub most_shared : ℕ → ℕ
+most_shared len = min 127 (len + 1 - len / 16)
+
 -- how many first bytes a text shares with the one before
 abbrev pub shared : List ℕ → List ℕ → ℕ
-shared before text = common_prefix_len nat_eq (take 127 before) text
+shared before text = common_prefix_len nat_eq (take (most_shared (length text)) before) text
 
 -- the last text that isn't null
 abbrev pub last_text : List ℕ → Option (List ℕ) → List ℕ

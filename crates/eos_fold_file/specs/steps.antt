@@ -2,3 +2,4 @@
 pub mod Faults
 pub mod Counts
 pub mod Widths
+pub mod Walks

@@ -35,7 +35,8 @@ pub(crate) trait Entry: Drop + Sized {
         ensures fit { OnOk result (entry_fits self.now) };
 }
 
-/// So many entries. Their list grows as they are read, so a count that the bytes don't bear out reserves nothing.
+/// So many entries. Their list has room for no more of them than bytes are left, so a count that the bytes don't bear out reserves
+/// little.
 pub(crate) fn read_many<T: Entry>(
     alloc: Global,
     rest: &mut Cursor<'_>,
@@ -43,7 +44,8 @@ pub(crate) fn read_many<T: Entry>(
 ) -> Result<Listed<T>, FoldFault>
     ensures { Gives result rest.new (many_from T.entry_from count rest.old) }
 {
-    let mut entries = Listed::new(Vec::new(alloc));
+    let room = count.min(rest.left() as u64) as usize;
+    let mut entries = Listed::new(Vec::with_capacity(alloc, room)?);
     for _ in 0..count {
         let entry = T::read(alloc, rest)?;
         entries.push(entry)?;

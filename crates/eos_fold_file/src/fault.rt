@@ -21,11 +21,13 @@ pub enum FoldFault {
     Roles,
     /// A number is spelled longer than it need be, or doesn't fit its field.
     Number,
-    /// No batch has this head, or the offsets of the batches pass the greatest i64.
+    /// No batch has this head, or the batches pass the greatest i64 by their offsets or their segment by their sizes.
     Head,
+    /// No batches have these leader epochs.
+    Epoch,
     /// What is kept of a record is of no known kind, or a text shares another number of bytes with the one before than it can.
     Record,
-    /// The front ends for no known reason.
+    /// The front ends for no known reason, or elsewhere than behind its batches.
     Stop,
     /// The checksum differs.
     Crc,
@@ -47,6 +49,7 @@ impl FoldFault {
             FoldFault::Roles => "Roles",
             FoldFault::Number => "Number",
             FoldFault::Head => "Head",
+            FoldFault::Epoch => "Epoch",
             FoldFault::Record => "Record",
             FoldFault::Stop => "Stop",
             FoldFault::Crc => "Crc",

@@ -4,6 +4,7 @@ ghost use Rattle.std.specs.Prelude.{◌≡◌};
 ghost use Rattle.eos_fold_file.specs.Files.{wanted_in};
 
 use crate::claim::FoldText;
+use crate::epoch::EpochEntry;
 use crate::head::FoldHead;
 use bytes::Bytes;
 use eos_base::Listed;
@@ -48,9 +49,13 @@ pub struct FoldFile {
     pub base: i64,
     /// The number of the segment's bytes, whatever of them is of the front.
     pub bytes: u64,
+    /// CRC-32C of the checksums of the front's batches, each as the four bytes in which its batch has it.
+    pub batches: u32,
     /// The heads of the front's batches, in order. The first begins at the segment's name, and each other one where the one before
     /// ends.
     pub heads: Listed<FoldHead>,
+    /// The leader epochs of these batches, each with the offset at which it begins.
+    pub epochs: Listed<EpochEntry>,
     /// As many as the data batches have records.
     pub kept: FoldKept,
     /// Why the front ends.

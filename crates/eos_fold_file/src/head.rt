@@ -23,6 +23,12 @@ use eos_batch::{BatchHead, Kind, Marker};
 use eos_wire::{Cursor, write_i8};
 use std::alloc::{AllocError, Global};
 
+/// How many bytes a batch has before its records.
+const LEAST_BATCH: usize = 61;
+
+/// The fewest bytes of a record.
+const LEAST_RECORD: usize = 7;
+
 /// What a batch is. An end marker has the epoch of the transaction coordinator that wrote it.
 #[derive(Clone, Copy, Debug, PartialEq, Eq)]
 pub enum BatchKind {
@@ -187,8 +193,8 @@ impl FoldHead {
         }
     }
 
-    /// Whether a batch can have this head: it has a record, and one only where it is a control batch; transactional data and end
-    /// markers name a producer; and a producer has an epoch.
+    /// Whether a batch can have this head: it has a record, one only where it is a control batch, and no more than fit into its bytes;
+    /// transactional data and end markers name a producer; and a producer has an epoch.
     pub fn is_possible(&self) -> bool
         ensures { result ≡ is_possible self.now }
     {
@@ -196,6 +202,9 @@ impl FoldHead {
             return false;
         }
         if self.is_control() && self.count != 1 {
+            return false;
+        }
+        if self.size < LEAST_BATCH + LEAST_RECORD * self.count as usize {
             return false;
         }
         if self.producer < 0 {

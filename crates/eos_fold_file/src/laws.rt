@@ -1,10 +1,10 @@
 //! What the definitions say of fold files. These functions do nothing; their contracts are theorems.
 
-ghost use Rattle.std.specs.Prelude.{◌≡◌, ◌++◌, [], ℕ, List, IsTrue, unsigned_abs};
+ghost use Rattle.std.specs.Prelude.{◌≡◌, ◌++◌, [], ℕ, List, length, IsTrue, unsigned_abs};
 ghost use Rattle.eos_batch.specs.declared.batch.Batch.{Batch};
 ghost use Rattle.eos_batch.specs.Heads.{head_of};
 ghost use Rattle.eos_batch.specs.Offsets.{offset_of};
-ghost use Rattle.eos_batch.specs.Rules.{IsCounted, IsControlRight, IsProducerRight};
+ghost use Rattle.eos_batch.specs.Text.{IsBatchText};
 ghost use Rattle.eos_fold_file.specs.declared.file.FoldFile.{FoldFile};
 ghost use Rattle.eos_fold_file.specs.Batches.{HaveHeads};
 ghost use Rattle.eos_fold_file.specs.Files.{fold_text};
@@ -17,9 +17,9 @@ pub fn prefix_free()
     ensures one_fold { (f g : FoldFile) → IsLegal f → IsLegal g → fold_text f ≡ fold_text g → f ≡ g }
 {}
 
-/// The head of a batch that a log can have is possible, and it is the batch's head again where it stands.
+/// The head of a batch is possible by the bytes of any text of it, and it is the batch's head again where it stands.
 pub fn heads()
-    ensures possible { (b : Batch) (size : ℕ) → IsCounted b → IsControlRight b → IsProducerRight b → IsTrue (is_possible (fold_head (head_of b size))) }
+    ensures possible { (text : List ℕ) (b : Batch) → IsBatchText text b → IsTrue (is_possible (fold_head (head_of b (length text)))) }
     ensures same { (b : Batch) (size : ℕ) → batch_head (offset_of b) (fold_head (head_of b size)) ≡ head_of b size }
 {}
 

@@ -3,32 +3,35 @@
 //! | Field | Form | Meaning |
 //! |---|---|---|
 //! | magic | 7 bytes | `EOSFOLD` |
-//! | version | kind | 2 |
+//! | version | kind | 3 |
 //! | roles | kind | what was wanted of the records: 0 presence, 1 claims, 2 texts |
 //! | topic, partition, base | text, numbers | which segment it is |
 //! | bytes | unsigned number | how many bytes the segment has |
+//! | batches | UINT32 | CRC-32C of the checksums of the front's batches |
 //! | heads | unsigned number, and so many heads | the batches of the front |
+//! | epochs | unsigned number, and so many entries | where their leader epoch changes |
 //! | topics | at 1: unsigned number, and so many texts | those that were asked for |
 //! | kept | at 1 and 2: one for each data record | what is kept of it |
 //! | stop | as its module says | why the front ends |
 //! | checksum | UINT32 | CRC-32C of all bytes before it |
 
-ghost use Rattle.std.specs.Prelude.{◌≡◌, IfOk};
+ghost use Rattle.std.specs.Prelude.{◌≡◌, ◌≤◌, ◌+◌, ◌^◌, IfOk, unsigned_abs};
 ghost use Rattle.eos_fold_file.specs.declared.file.FoldFile.{FoldFile};
 ghost use Rattle.eos_fold_file.specs.Faults.{Answers};
-ghost use Rattle.eos_fold_file.specs.Files.{fold_text};
+ghost use Rattle.eos_fold_file.specs.Files.{record_count, fold_text};
 ghost use Rattle.eos_fold_file.specs.Legal.{IsLegal};
-ghost use Rattle.eos_fold_file.specs.Reading.{magic_from, version_from, wanted_from, front_from, heads_from, placed_claims, claims_from, texts_from, kept_from, body_from, read_fold};
+ghost use Rattle.eos_fold_file.specs.Reading.{magic_from, version_from, wanted_from, batches_from, front_from, heads_from, epochs_from, placed_claims, claims_from, texts_from, kept_from, body_from, read_fold};
 ghost use Rattle.eos_fold_file.specs.steps.Faults.{Gives};
 ghost use Rattle.eos_fold_file.specs.steps.Counts.{IsCountedHeads, GivesHeads};
 
 use crate::claim::are_placed;
 use crate::entry::read_many;
+use crate::epoch::{EpochEntry, are_entries};
 use crate::fault::FoldFault;
 use crate::file::{FoldFile, FoldKept};
 use crate::head::FoldHead;
 use crate::number::{read_bytes, read_i32, read_kind, read_number, read_u64};
-use crate::stop::read_stop;
+use crate::stop::read_inside;
 use crate::texts::read_texts;
 use bytes::Bytes;
 use eos_base::Listed;
@@ -45,6 +48,18 @@ struct Front {
     partition: i32,
     base: i64,
     bytes: u64,
+    batches: u32,
+}
+
+/// What the batches of a front are together.
+#[derive(Clone, Copy)]
+struct Counted {
+    /// The offset after their last record.
+    next: u64,
+    /// The number of their data records.
+    records: u64,
+    /// The number of their bytes.
+    size: u64,
 }
 
 #[tactic(auto, unfolding(crate::specs::Reading::magic_from))]
@@ -63,7 +78,7 @@ fn read_version(rest: &mut Cursor<'_>) -> Result<i8, FoldFault>
     ensures { Gives result rest.new (version_from rest.old) }
 {
     let version = read_kind(rest)?;
-    if version != 2 {
+    if version != 3 {
         return Err(FoldFault::Version);
     }
     Ok(version)
@@ -81,6 +96,13 @@ fn read_wanted(rest: &mut Cursor<'_>) -> Result<Wanted, FoldFault>
     }
 }
 
+#[tactic(auto, unfolding(crate::specs::Reading::batches_from))]
+fn read_batches(rest: &mut Cursor<'_>) -> Result<u32, FoldFault>
+    ensures { Gives result rest.new (batches_from rest.old) }
+{
+    rest.u32().ok_or(FoldFault::Short)
+}
+
 #[tactic(auto, unfolding(crate::specs::Reading::front_from))]
 fn read_front(rest: &mut Cursor<'_>) -> Result<Front, FoldFault>
     ensures { Gives result rest.new (front_from rest.old) }
@@ -92,47 +114,79 @@ fn read_front(rest: &mut Cursor<'_>) -> Result<Front, FoldFault>
     let partition = read_i32(rest)?;
     let base = read_number(rest)?;
     let bytes = read_u64(rest)?;
+    let batches = read_batches(rest)?;
     Ok(Front {
         wanted,
         topic,
         partition,
         base,
         bytes,
+        batches,
     })
 }
 
-/// The offset after the last record of batches from this one on, or the greatest u64 where that is less; and how many data records
-/// they have, where no offset passes the greatest i64.
-fn count_records(begin: u64, heads: &[FoldHead]) -> (u64, u64)
+/// The offset after the last record of batches from this one on, and the number of their bytes, or the greatest u64 where that is less;
+/// and how many data records they have, where no offset passes the greatest i64.
+fn count_records(begin: u64, heads: &[FoldHead]) -> Counted
     ensures { IsCountedHeads begin heads.now result }
 {
     let mut next = begin;
-    let mut data = 0u64;
+    let mut records = 0u64;
+    let mut size = 0u64;
     for head in heads {
         next = next.saturating_add(u64::from(head.count));
         if !head.is_control() {
-            data = data.saturating_add(u64::from(head.count));
+            records = records.saturating_add(u64::from(head.count));
         }
+        size = size.saturating_add(head.size as u64);
     }
-    (next, data)
+    Counted {
+        next,
+        records,
+        size,
+    }
 }
 
-/// The heads, and how many data records they have.
-#[tactic(auto, unfolding(crate::specs::Reading::heads_from))]
+/// The heads of a segment of this name and of so many bytes.
+#[tactic(auto, unfolding(crate::specs::Reading::heads_from), using(crate::proofs::HeadTotals::offsets_past, crate::proofs::HeadTotals::sizes_past, crate::proofs::HeadTotals::both_fit, crate::proofs::HeadTotals::counted_are, crate::proofs::HeadTotals::counted_within))]
 fn read_heads(
     alloc: Global,
     rest: &mut Cursor<'_>,
     base: i64,
-) -> Result<(Listed<FoldHead>, u64), FoldFault>
-    ensures { GivesHeads result rest.new (heads_from base rest.old) }
+    bytes: u64,
+) -> Result<(Listed<FoldHead>, Counted), FoldFault>
+    ensures heads { GivesHeads (unsigned_abs base) result rest.new (heads_from base bytes rest.old) }
+    ensures within { IfOk result (λ read. unsigned_abs base + record_count read.0 ≤ 2 ^ 63) }
 {
     let count = read_u64(rest)?;
     let heads: Listed<FoldHead> = read_many(alloc, rest, count)?;
-    let (next, data) = count_records(base.unsigned_abs(), heads.as_slice());
-    if next > 1 << 63 {
+    let counted = count_records(base.unsigned_abs(), heads.as_slice());
+    if counted.next > 1 << 63 {
         return Err(FoldFault::Head);
     }
-    Ok((heads, data))
+    if counted.size > bytes.min(1 << 63) {
+        return Err(FoldFault::Head);
+    }
+    Ok((heads, counted))
+}
+
+/// The leader epochs of a front that begins here and has these heads.
+#[tactic(auto, unfolding(crate::specs::Reading::epochs_from))]
+fn read_epochs(
+    alloc: Global,
+    rest: &mut Cursor<'_>,
+    begin: u64,
+    heads: &[FoldHead],
+) -> Result<Listed<EpochEntry>, FoldFault>
+    requires { begin + record_count heads.now ≤ 2 ^ 63 }
+    ensures { Gives result rest.new (epochs_from begin heads.now rest.old) }
+{
+    let count = read_u64(rest)?;
+    let epochs: Listed<EpochEntry> = read_many(alloc, rest, count)?;
+    if !are_entries(begin, heads, epochs.as_slice()) {
+        return Err(FoldFault::Epoch);
+    }
+    Ok(epochs)
 }
 
 /// Claims, each of which names a place among the topics, or a topic.
@@ -184,15 +238,19 @@ fn read_body(alloc: Global, rest: &mut Cursor<'_>) -> Result<FoldFile, FoldFault
     ensures { Gives result rest.new (body_from rest.old) }
 {
     let front = read_front(rest)?;
-    let (heads, count) = read_heads(alloc, rest, front.base)?;
-    let kept = read_kept(alloc, rest, front.wanted, count)?;
-    let stop = read_stop(rest)?;
+    let begin = front.base.unsigned_abs();
+    let (heads, counted) = read_heads(alloc, rest, front.base, front.bytes)?;
+    let epochs = read_epochs(alloc, rest, begin, heads.as_slice())?;
+    let kept = read_kept(alloc, rest, front.wanted, counted.records)?;
+    let stop = read_inside(rest, begin, counted.next, counted.size, front.bytes)?;
     Ok(FoldFile {
         topic: front.topic,
         partition: front.partition,
         base: front.base,
         bytes: front.bytes,
+        batches: front.batches,
         heads,
+        epochs,
         kept,
         stop,
     })
@@ -218,7 +276,7 @@ fn read_fold(alloc: Global, mut rest: Cursor<'_>) -> Result<FoldFile, FoldFault>
 /// The fold that a file says, and nothing else: its bytes are those that are written for it.
 ///
 /// # Errors
-/// The first fault in field order. Short where the bytes run out, Magic, Version, Roles, Number, Head, Record and Stop where a
+/// The first fault in field order. Short where the bytes run out, Magic, Version, Roles, Number, Head, Epoch, Record and Stop where a
 /// field isn't one, Crc where the checksum differs, Trailing where bytes are left. OutOfMemory may come at any field; a count
 /// reserves nothing that the bytes don't bear out.
 pub fn decode_fold(alloc: Global, bytes: &Bytes) -> Result<FoldFile, FoldFault>

@@ -3,12 +3,13 @@
 //! | Field | Form | Meaning |
 //! |---|---|---|
 //! | kind | kind | 0 at the end of all bytes; 1 at bytes that are no batch; 2 at a batch that begins elsewhere |
-//! | at 1: segment, byte | unsigned numbers | the segment's name, and the place among its bytes |
+//! | at 1: segment, byte | unsigned numbers | the segment's name, and the place among its bytes, which is behind its batches |
 //! | at 1: fault | kind | why these bytes are no batch: the place of the fault among those of `BatchFault`, from 0 |
 //! | at 2: found | unsigned number | where the batch begins |
 
 ghost use Rattle.std.specs.Prelude.{◌≡◌, ◌++◌, OnOk};
-ghost use Rattle.eos_fold_file.specs.Stops.{fault_number, fault_of, fault_from, stop_text, no_batch_from, elsewhere_from, stop_from};
+ghost use Rattle.eos_fold_file.specs.Reading.{inside_from};
+ghost use Rattle.eos_fold_file.specs.Stops.{fault_number, fault_of, fault_from, stop_text, no_batch_from, elsewhere_from, stop_from, is_inside};
 ghost use Rattle.eos_fold_file.specs.steps.Faults.{Gives};
 ghost use Rattle.eos_fold_file.specs.steps.Widths.{HasStopWidths};
 
@@ -91,7 +92,7 @@ fn read_elsewhere(rest: &mut Cursor<'_>) -> Result<Stop, FoldFault>
 }
 
 #[tactic(auto, unfolding(crate::specs::Stops::stop_from))]
-pub(crate) fn read_stop(rest: &mut Cursor<'_>) -> Result<Stop, FoldFault>
+fn read_stop(rest: &mut Cursor<'_>) -> Result<Stop, FoldFault>
     ensures { Gives result rest.new (stop_from rest.old) }
 {
     match read_kind(rest)? {
@@ -100,6 +101,35 @@ pub(crate) fn read_stop(rest: &mut Cursor<'_>) -> Result<Stop, FoldFault>
         2 => read_elsewhere(rest),
         _ => Err(FoldFault::Stop),
     }
+}
+
+/// Whether batches from `begin` on, which end at `next` and take `size` of so many bytes, end so.
+fn is_inside(begin: u64, next: u64, size: u64, bytes: u64, stop: Stop) -> bool
+    ensures { result ≡ is_inside begin next size bytes stop }
+{
+    match stop {
+        Stop::AtEnd => size == bytes,
+        Stop::NoBatch { segment, byte, .. } => segment == begin && byte == size && size < bytes,
+        Stop::Elsewhere { found } => found != next && size < bytes,
+    }
+}
+
+/// Why a front ends whose batches begin at `begin`, end at `next` and take `size` of so many bytes.
+#[tactic(auto, unfolding(crate::specs::Reading::inside_from))]
+pub(crate) fn read_inside(
+    rest: &mut Cursor<'_>,
+    begin: u64,
+    next: u64,
+    size: u64,
+    bytes: u64,
+) -> Result<Stop, FoldFault>
+    ensures { Gives result rest.new (inside_from begin next size bytes rest.old) }
+{
+    let stop = read_stop(rest)?;
+    if !is_inside(begin, next, size, bytes, stop) {
+        return Err(FoldFault::Stop);
+    }
+    Ok(stop)
 }
 
 pub(crate) fn write_stop(out: &mut Vec<u8>, stop: Stop) -> Result<(), AllocError>

@@ -2,18 +2,18 @@
 //!
 //! | Field of a key and of a value | Form | Meaning |
 //! |---|---|---|
-//! | shared | kind | -1 null; else how many first bytes it has in common with the last of its kind that wasn't null, at most 127 |
+//! | shared | kind | -1 null; else how many first bytes it shares with the last of its kind that wasn't null |
 //! | rest | text, unless null | the bytes behind those |
 //!
 //! A record is its key, its value, and its claim: kind 0 none; 1 a claim: topic (text), partition, offset, output, of. A text that
-//! shares fewer bytes than it can is refused, so it has one spelling only; one that shares as many as it can is at most 127 bytes
-//! longer than what stands of it.
+//! shares fewer bytes than it can is refused, so it has one spelling only. It can share at most 127, and of a long text not the last
+//! sixteenth, so no text is more than 16 times as long as what stands of it.
 
-ghost use Rattle.std.specs.Prelude.{◌≡◌, ◌++◌, ◌≤◌, ◌<◌, ◌^◌, ◌==◌, [], length, take, nat_eq, Some, IfOk, OnOk};
+ghost use Rattle.std.specs.Prelude.{◌≡◌, ◌++◌, ◌≤◌, ◌<◌, ◌+◌, ◌^◌, ◌==◌, [], length, take, nat_eq, Some, IfOk, OnOk};
 ghost use Rattle.std.specs.List.{common_prefix_len};
 ghost use Rattle.eos_fold_file.specs.Faults.{Answers};
 ghost use Rattle.eos_fold_file.specs.Legal.{Each, IsText, IsOptionalText, IsLegalText};
-ghost use Rattle.eos_fold_file.specs.Texts.{shared, last_text, shared_text, key_value_text, key_values_text, joined, rest_from, shared_from, key_value_from, key_values_from};
+ghost use Rattle.eos_fold_file.specs.Texts.{most_shared, shared, last_text, shared_text, key_value_text, key_values_text, joined, rest_from, shared_from, key_value_from, key_values_from};
 ghost use Rattle.eos_fold_file.specs.steps.Faults.{Gives};
 
 use crate::claim::{FoldText, read_optional_claim, write_optional_claim};
@@ -26,6 +26,12 @@ use std::alloc::{AllocError, Global};
 
 /// The most bytes that are shared.
 const MOST: usize = 127;
+
+/// What stands of a text is at least its length by this number.
+const SHARE: usize = 16;
+
+/// The fewest bytes of a record.
+const LEAST: usize = 3;
 
 /// How large the blocks are in which texts lie, or as one text where that is larger.
 const BLOCK: usize = 0x4000;
@@ -43,14 +49,21 @@ fn common(front: &[u8], text: &[u8]) -> usize
     most
 }
 
+/// How many first bytes a text of so many can share.
+fn most_shared(len: usize) -> usize
+    requires { len + 1 < 2 ^ 64 }
+    ensures { result ≡ most_shared len }
+{
+    MOST.min(len + 1 - len / SHARE)
+}
+
 /// How many first bytes a text shares with the one before.
-#[tactic(auto, using(crate::proofs::Shared::shared_is, crate::proofs::Shared::shared_few, crate::proofs::Shared::shared_rest))]
 fn shared(before: &[u8], text: &[u8]) -> usize
     ensures value { result ≡ shared before.now text.now }
     ensures few { result ≤ 127 }
     ensures within { result ≤ length text.now }
 {
-    common(&before[..MOST.min(before.len())], text)
+    common(&before[..most_shared(text.len()).min(before.len())], text)
 }
 
 // ---- reading
@@ -61,10 +74,11 @@ fn is_most(before: &[u8], count: usize, rest: &[u8]) -> bool
     requires { count ≤ length before.now }
     ensures { result ≡ (shared before.now (take count before.now ++ rest.now) == count) }
 {
-    if count > MOST {
+    let most = most_shared(count + rest.len());
+    if count > most {
         return false;
     }
-    if count == MOST || count == before.len() {
+    if count == most || count == before.len() {
         return true;
     }
     if rest.is_empty() {
@@ -170,7 +184,7 @@ fn last(before: Bytes, text: &Option<Bytes>) -> Result<Bytes, AllocError>
     }
 }
 
-/// So many records. Their list grows as they are read.
+/// So many records. Their list has room for no more of them than the bytes that are left can say.
 pub(crate) fn read_texts(
     alloc: Global,
     rest: &mut Cursor<'_>,
@@ -178,7 +192,8 @@ pub(crate) fn read_texts(
 ) -> Result<Listed<FoldText>, FoldFault>
     ensures { Gives result rest.new (key_values_from [] [] count rest.old) }
 {
-    let mut texts = Listed::new(Vec::new(alloc));
+    let most = count.min((rest.left() / LEAST) as u64) as usize;
+    let mut texts = Listed::new(Vec::with_capacity(alloc, most)?);
     let mut room = BytesMut::new(alloc);
     let mut key = Bytes::new();
     let mut value = Bytes::new();

@@ -1,13 +1,14 @@
 //! A fold file, written. The layout stands at the head of the module that reads it, and the code follows its order.
 
 ghost use Rattle.std.specs.Prelude.{◌≡◌, ◌++◌, ◌<◌, ◌^◌, OnOk, IfOk};
-ghost use Rattle.eos_fold_file.specs.Files.{wanted_number, segment_text, front_text, heads_text, kept_text, body_text, fold_text};
+ghost use Rattle.eos_fold_file.specs.Files.{wanted_number, segment_text, front_text, heads_text, epochs_text, kept_text, body_text, fold_text};
 ghost use Rattle.eos_fold_file.specs.Legal.{IsRight};
 ghost use Rattle.eos_fold_file.specs.Reading.{read_fold};
-ghost use Rattle.eos_fold_file.specs.steps.Widths.{HasSegmentWidths, AreHeadWidths, HasKeptWidths, HasWidths};
+ghost use Rattle.eos_fold_file.specs.steps.Widths.{HasSegmentWidths, AreHeadWidths, AreEpochWidths, HasKeptWidths, HasWidths};
 ghost use Rattle.eos_wire.specs.Crc.{crc32c_of};
 
 use crate::entry::write_many;
+use crate::epoch::EpochEntry;
 use crate::file::{FoldFile, FoldKept};
 use crate::head::FoldHead;
 use crate::number::{write_number, write_slice, write_u64};
@@ -27,7 +28,7 @@ fn wanted_number(wanted: Wanted) -> i8
     }
 }
 
-/// Which segment it is, and how many bytes it has.
+/// Which segment it is, how many bytes it has, and the checksum of its batches.
 fn write_segment(out: &mut Vec<u8>, fold: &FoldFile) -> Result<(), AllocError>
     ensures text { OnOk result (out.new.items ≡ out.old.items ++ segment_text fold.now) }
     ensures fit { OnOk result (HasSegmentWidths fold.now) }
@@ -35,7 +36,8 @@ fn write_segment(out: &mut Vec<u8>, fold: &FoldFile) -> Result<(), AllocError>
     write_slice(out, fold.topic.as_slice())?;
     write_number(out, i64::from(fold.partition))?;
     write_number(out, fold.base)?;
-    write_u64(out, fold.bytes)
+    write_u64(out, fold.bytes)?;
+    write_u32(out, fold.batches)
 }
 
 fn write_front(out: &mut Vec<u8>, fold: &FoldFile) -> Result<(), AllocError>
@@ -43,7 +45,7 @@ fn write_front(out: &mut Vec<u8>, fold: &FoldFile) -> Result<(), AllocError>
     ensures fit { OnOk result (HasSegmentWidths fold.now) }
 {
     out.extend_from_slice(b"EOSFOLD".as_slice())?;
-    write_i8(out, 2)?;
+    write_i8(out, 3)?;
     write_i8(out, wanted_number(fold.kept.wanted()))?;
     write_segment(out, fold)
 }
@@ -54,6 +56,14 @@ fn write_heads(out: &mut Vec<u8>, heads: &[FoldHead]) -> Result<(), AllocError>
 {
     write_u64(out, heads.len() as u64)?;
     write_many(out, heads)
+}
+
+fn write_epochs(out: &mut Vec<u8>, epochs: &[EpochEntry]) -> Result<(), AllocError>
+    ensures text { OnOk result (out.new.items ≡ out.old.items ++ epochs_text epochs.now) }
+    ensures fit { OnOk result (AreEpochWidths epochs.now) }
+{
+    write_u64(out, epochs.len() as u64)?;
+    write_many(out, epochs)
 }
 
 fn write_kept(out: &mut Vec<u8>, kept: &FoldKept) -> Result<(), AllocError>
@@ -78,6 +88,7 @@ fn write_body(out: &mut Vec<u8>, fold: &FoldFile) -> Result<(), AllocError>
 {
     write_front(out, fold)?;
     write_heads(out, fold.heads.as_slice())?;
+    write_epochs(out, fold.epochs.as_slice())?;
     write_kept(out, &fold.kept)?;
     write_stop(out, fold.stop)
 }
@@ -94,7 +105,7 @@ fn write_fold(alloc: Global, fold: &FoldFile) -> Result<Vec<u8>, AllocError>
     Ok(out)
 }
 
-/// The bytes of a fold file, which read back as the fold where its heads, counts and places are right.
+/// The bytes of a fold file, which read back as the fold where it is right: its heads, counts, epochs, places and stop.
 ///
 /// # Errors
 /// Only want of memory.

@@ -1,3 +1,4 @@
+pub mod FoldBounds
 pub mod Saying
 pub mod SameShape
 pub mod OneEvidence

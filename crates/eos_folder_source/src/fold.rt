@@ -1,6 +1,6 @@
 //! The folds of a folder: how one is read, and why one is refused.
 
-ghost use Rattle.std.specs.Prelude.{◌≡◌, ◌≢◌, ◌≤◌, ◌<◌, ◌-◌, ◌^◌, min, None, Some, Ok, IfOk};
+ghost use Rattle.std.specs.Prelude.{◌≡◌, ◌≢◌, ◌≤◌, ◌<◌, ◌^◌, None, Some, Ok, IfOk};
 ghost use Rattle.eos_fold_file.specs.Files.{record_count};
 ghost use Rattle.eos_fold_file.specs.Legal.{IsLegal};
 ghost use Rattle.eos_fold_file.specs.Reading.{read_fold};
@@ -8,30 +8,17 @@ ghost use Rattle.eos_folder_source.specs.steps.Folds.{IsForName};
 
 use bytes::Bytes;
 use eos_evidence::{MAX_SEGMENT_BYTES, Segment};
-use eos_fold_file::{FoldFault, FoldFile, FoldHead, decode_fold};
+use eos_fold_file::{FoldFault, FoldFile, decode_fold};
 use eos_fold_run::Unfit;
 use eos_folder::{Cause, FoldRefusal, FolderFault, Form, refused_fold, segment_path};
 use std::alloc::Global;
 
-/// Why a fold isn't one of the segment by whose name its file lies there. Each record takes bytes of its segment, so a small file can't
-/// make a check go over more records than a segment has room for.
+/// Why a fold isn't one of the segment by whose name its file lies there.
 #[derive(Clone, Copy)]
 pub(crate) enum Mismatch {
     Partition,
     Base,
     Long,
-    Crowded,
-}
-
-/// The number of records of the batches with these heads, or the greatest u64 where that is less.
-fn records_in(heads: &[FoldHead]) -> u64
-    ensures { result ≡ min (record_count heads.now) (2 ^ 64 - 1) }
-{
-    let mut records = 0u64;
-    for head in heads {
-        records = records.saturating_add(u64::from(head.count));
-    }
-    records
 }
 
 /// Why a fold isn't one of the segment of this name, by the first of these tests.
@@ -40,7 +27,6 @@ fn mismatch_of(name: &Segment, fold: &FoldFile) -> Option<Mismatch>
     ensures partition { result ≡ Some Mismatch.Partition → fold.now.topic ≡ name.now.topic → fold.now.partition ≢ name.now.partition }
     ensures base { result ≡ Some Mismatch.Base → fold.now.base ≢ name.now.base }
     ensures long { result ≡ Some Mismatch.Long → MAX_SEGMENT_BYTES < fold.now.bytes }
-    ensures crowded { result ≡ Some Mismatch.Crowded → fold.now.bytes < record_count fold.now.heads }
 {
     if fold.topic != name.topic || fold.partition != name.partition {
         return Some(Mismatch::Partition);
@@ -51,13 +37,12 @@ fn mismatch_of(name: &Segment, fold: &FoldFile) -> Option<Mismatch>
     if fold.bytes > MAX_SEGMENT_BYTES as u64 {
         return Some(Mismatch::Long);
     }
-    if records_in(fold.heads.as_slice()) > fold.bytes {
-        return Some(Mismatch::Crowded);
-    }
     None
 }
 
-/// The fold of the segment of this name in a folder, of these bytes.
+/// The fold of the segment of this name in a folder, of these bytes. It has no more records than its segment has bytes, so a small file
+/// can't make a check go over more records than a segment has room for.
+#[tactic(auto, using(crate::proofs::FoldBounds::records_within))]
 pub(crate) fn read_fold(
     alloc: Global,
     folder: &str,
@@ -67,6 +52,7 @@ pub(crate) fn read_fold(
     ensures read { IfOk result (λ fold. read_fold bytes.now ≡ Ok fold) }
     ensures legal { IfOk result IsLegal }
     ensures named { IfOk result (IsForName name.now) }
+    ensures room { IfOk result (λ fold. record_count fold.heads ≤ fold.bytes) }
 {
     match decode_fold(alloc, bytes) {
         Ok(fold) => match mismatch_of(name, &fold) {
@@ -88,10 +74,6 @@ fn refused_as(alloc: Global, folder: &str, name: &Segment, why: Mismatch) -> Fol
         Mismatch::Base => FoldRefusal {
             name: "Base",
             words: "it is of another segment than its name says",
-        },
-        Mismatch::Crowded => FoldRefusal {
-            name: FoldFault::Head.name(),
-            words: "its batches have more records than its segment has bytes",
         },
         Mismatch::Long => {
             return match segment_path(alloc, folder, name, Form::Fold) {
@@ -136,6 +118,7 @@ fn unread(fault: FoldFault) -> FoldRefusal {
             FoldFault::Number =>
                 "a number is spelled longer than it need be, or doesn't fit its field",
             FoldFault::Head => "no batch has a head that stands in it, or the offsets pass 2^63",
+            FoldFault::Epoch => "no batches have the leader epochs that stand in it",
             FoldFault::Record =>
                 "what is kept of a record is of no known kind, or of no topic that was asked for",
             FoldFault::Stop => "the segment's front ends for no known reason",

@@ -88,4 +88,4 @@ all_possible bytes [] [] rest s = tt
 all_possible bytes [] (h ∷ hs) rest s = absurd s
 all_possible bytes (b ∷ bs) [] rest s = absurd s
 all_possible bytes (b ∷ bs) (h ∷ hs) rest s =
-    (subst (λ (x : FoldHead). IsTrue (is_possible x)) (sym s.4) (head_possible b (length s.0) s.2.counted s.2.control s.2.producer), all_possible s.1 bs hs rest s.5)
+    (subst (λ (x : FoldHead). IsTrue (is_possible x)) (sym s.4) (head_possible s.0 b s.2), all_possible s.1 bs hs rest s.5)

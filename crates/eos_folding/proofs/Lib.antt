@@ -1,4 +1,8 @@
 pub mod HeadCounts
+pub mod SealTexts
+pub mod SealSteps
+pub mod SealLists
+pub mod EpochEntries
 pub mod PlacedClaims
 pub mod PassedHeads
 pub mod FrontSteps

@@ -98,7 +98,9 @@ pub fn fold_of<R: Read>(
         partition: name.partition,
         base: name.base,
         bytes: front.bytes,
+        batches: front.batches,
         heads: front.heads,
+        epochs: front.epochs,
         kept,
         stop: front.stop,
     })

@@ -4,18 +4,21 @@ ghost use Rattle.std.specs.Prelude.{◌≡◌, ◌≤◌, ◌<◌, ◌+◌, ◌^
 ghost use Rattle.std.specs.Io.KnownBytes.{Consumes, IsAtEnd};
 ghost use Rattle.eos_batch.specs.declared.record.Record.{Record};
 ghost use Rattle.eos_evidence.specs.Reading.{Takes, TakesAtMost};
-ghost use Rattle.eos_reading.specs.Folds.{IsFolded};
 ghost use Rattle.eos_reading.specs.Kept.{kept_of};
 ghost use Rattle.eos_folding.specs.steps.Passing.{AllFit};
 ghost use Rattle.eos_folding.specs.steps.Fronts.{stop_of, IsFront};
+ghost use Rattle.eos_folding.specs.steps.Sealing.{IsSealed};
 
 use crate::pass::pass_heads;
+use crate::seals::{checksum_of, entries_of};
+use crate::segment::{Sealed, Sealing};
 use eos_base::Listed;
 use eos_batch::BatchFault;
+use eos_chunks::read_folded;
 use eos_evidence::{MAX_SEGMENT_BYTES, ReadFault};
 use eos_fold::Stop;
-use eos_fold_file::FoldHead;
-use eos_reading::{Folded, Reading, fold_log};
+use eos_fold_file::{EpochEntry, FoldHead};
+use eos_reading::Reading;
 use std::alloc::{AllocError, Global};
 use std::io::Read;
 
@@ -24,6 +27,10 @@ use std::io::Read;
 pub(crate) struct Front {
     /// The head of each batch.
     pub(crate) heads: Listed<FoldHead>,
+    /// The leader epochs of the batches, each with the offset at which it begins.
+    pub(crate) epochs: Listed<EpochEntry>,
+    /// CRC-32C of the batches' checksums.
+    pub(crate) batches: u32,
     /// Why it ends.
     pub(crate) stop: Stop,
     /// The number of the segment's bytes, whatever of them is of the front.
@@ -51,21 +58,26 @@ fn stop_of(begin: u64, found: Option<u64>, stop: Option<(u64, BatchFault)>) -> S
 fn front_of<T: Drop>(
     alloc: Global,
     begin: u64,
-    folded: Folded<T>,
+    sealed: Sealed<T>,
 ) -> Result<(Front, Vec<T>), AllocError>
     requires begin { begin ≤ 2 ^ 63 }
-    requires fit { AllFit folded.heads }
-    ensures { IfOk result (λ both. (keep : ℕ → Record → T) (bytes : List ℕ) → length bytes < 2 ^ 64 → IsFolded keep bytes folded → IsFront begin bytes (λ batches. both.1.items ≡ kept_of keep batches) both.0) }
+    requires fit { AllFit sealed.folded.heads }
+    ensures { IfOk result (λ both. (keep : ℕ → Record → T) (bytes : List ℕ) → length bytes < 2 ^ 64 → IsSealed keep bytes sealed → IsFront begin bytes (λ batches. both.1.items ≡ kept_of keep batches) both.0) }
 {
-    let passed = pass_heads(alloc, begin, folded.heads())?;
-    let stop = stop_of(begin, passed.found, folded.stop());
-    let bytes = folded.bytes();
-    let (_, mut kept) = folded.into_parts();
+    let passed = pass_heads(alloc, begin, sealed.heads.as_slice())?;
+    let stop = stop_of(begin, passed.found, sealed.stop);
+    let mut seals = sealed.seals;
+    seals.truncate(passed.heads.len());
+    let epochs = entries_of(alloc, seals.as_slice())?;
+    let batches = checksum_of(alloc, seals.as_slice())?;
+    let mut kept = sealed.kept;
     kept.truncate(passed.records);
     let front = Front {
         heads: passed.heads,
+        epochs: Listed::new(epochs),
+        batches,
         stop,
-        bytes,
+        bytes: sealed.bytes,
     };
     Ok((front, kept))
 }
@@ -85,7 +97,8 @@ pub(crate) fn read_front<K: Reading, R: Read>(
     ensures limit { result ≡ Err ReadFault.Limit → Takes (MAX_SEGMENT_BYTES + 1) (R.remaining reader.old) (R.remaining reader.new) }
     ensures refused { OnErr result (TakesAtMost (MAX_SEGMENT_BYTES + 1) (R.remaining reader.old) (R.remaining reader.new)) }
 {
-    let folded = fold_log(alloc, reading, reader)?;
-    let both = front_of(alloc, begin, folded)?;
+    let sealing: Sealing<K> = Sealing::new(alloc);
+    let (sealing, waiting) = read_folded(alloc, reading, sealing, reader)?;
+    let both = front_of(alloc, begin, sealing.finish(waiting))?;
     Ok(both)
 }

@@ -5,6 +5,8 @@
 mod fold;
 mod front;
 mod pass;
+mod seals;
+mod segment;
 mod texts;
 
 pub use fold::fold_of;

@@ -6,8 +6,10 @@ use Rattle.eos_touch.specs.Front.{records_in, ContinuesFrom}
 use Rattle.eos_fold.specs.declared.stop.Stop.{Stop}
 use Rattle.eos_fold.specs.declared.stop.Stop.TheVariants.{AtEnd, NoBatch, Elsewhere}
 use Rattle.eos_fold.specs.Fronts.{StopsAt}
-use Rattle.eos_fold_file.specs.Folds.{HasFoldHeads}
+use Rattle.eos_fold_file.specs.Epochs.{epoch_entries}
+use Rattle.eos_fold_file.specs.Folds.{HasFoldHeads, checksums_in}
 use Rattle.eos_fold_file.specs.Legal.{IsRightStop}
+use Rattle.eos_wire.specs.Crc.{crc32c_of}
 use Rattle.eos_folding.specs.declared.front.Front.{Front}
 
 -- the next batch begins elsewhere; or no batch stands where the log stops; or nothing is left
@@ -22,6 +24,8 @@ pub record IsFront (begin : ℕ) (bytes : List ℕ) (IsKept : List Batch → Typ
   pub rest : List ℕ
   pub heads_are : HasFoldHeads bytes batches f.heads rest
   pub continuous : ContinuesFrom begin batches
+  pub epochs_are : f.epochs ≡ epoch_entries None batches
+  pub checked : f.batches ≡ crc32c_of (checksums_in bytes f.heads)
   pub stops : StopsAt begin (begin + records_in batches) bytes rest f.stop
   pub right : IsRightStop f.stop
   pub kept_is : IsKept batches

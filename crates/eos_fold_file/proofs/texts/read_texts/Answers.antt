@@ -6,7 +6,7 @@ use Rattle.eos_fold_file.proofs.texts.read_texts.Goals as goal
 
 pub returns-in_err-text : goal.returns-in_err-text
 returns-in_err-text c =
-    let p = err_from_is_err_and c.from_residual.result c.from_residual.ensures.1 in
+    let p = err_from_is_err_and c.from_residual-in_err-text.result c.from_residual-in_err-text.ensures.1 in
     rw (p.1, p.2) (ends c.in_err-text.field-0.0 c.loop.texts c.loop.key c.loop.value c.as_slice.result.now c.as_slice-in-loop.result.now c.args.count c.loop.counter c.loop.rest
     (key_values_from [] [] c.args.count c.args.rest.now) c.loop-test.true c.as_slice.ensures c.as_slice-in-loop.ensures c.in_err-text.ensures.text c.loop.invariant.read)
 

@@ -1,0 +1,117 @@
+"""What hostile folds cost: memory by their own bytes, and time by a fold of a log of the same size and by the segment that they say.
+
+For tests/folds.py. Each fold is made by tests/fold_files.py, with its checksum right, and stands in the place of one of a good folder.
+"""
+import os
+import random
+
+import fold_files
+from fold_files import CLAIMS, PRESENCE, TEXTS, Fold, Head
+from fold_folders import fold_path, folds_of, with_folds, write
+
+GOOD = "tests/evidence/row-yes-2"
+# What a byte of a fold may hold: a head takes nine of them, and of each producer a check holds some hundreds.
+BYTES = 128
+# How many times the time of a fold of a log. Records that only have to be there take none of a fold's bytes, so a check of a fold may
+# take as long besides as reading the segment that it says would, by so many bytes a second.
+TIMES, SPEED = 10, 40_000_000
+# What runs differ by: in KiB, and in seconds.
+ROOM, SECONDS = 2048, 0.05
+PLACES = {PRESENCE: (b"in", 0), CLAIMS: (b"out", 0), TEXTS: (b"__consumer_offsets", 0)}
+
+
+def fold_with(roles, heads, kept=(), epochs=None, topics=()):
+    size = sum(head.size for head in heads)
+    epochs = [(0, 0)] if epochs is None and heads else epochs or []
+    return Fold(roles, *PLACES[roles], 0, size, 0, heads, epochs, list(topics), list(kept), ())
+
+
+def batch_of(count):
+    return [Head(0, None, count, 61 + 7 * count, -1, -1, -1)]
+
+
+def logged(roles, size, chance):
+    """Of a log as brokers have it, with about so many bytes."""
+    if roles == PRESENCE:
+        return fold_with(roles, [Head(1, None, 3, 300, 2**20 + at, 0, 3 * at) for at in range(size // 12)])
+    if roles == CLAIMS:
+        claims = [fold_files.Claim(b"in", chance.randrange(9), at, 1, 1) for at in range(size // 8)]
+        return fold_with(roles, batch_of(len(claims)), claims, topics=[b"in"])
+    texts = [(b"group-%06d" % chance.randrange(10**6) + b"topic", chance.randbytes(24), None) for at in range(size // 42)]
+    return fold_with(roles, batch_of(len(texts)), texts)
+
+
+def hostile(kind, size, chance):
+    """A fold of about so many bytes that says much."""
+    if kind == "null texts":
+        return fold_with(TEXTS, batch_of(size // 3), [(None, None, None)] * (size // 3))
+    if kind == "empty texts":
+        return fold_with(TEXTS, batch_of(size // 5), [(b"", b"", None)] * (size // 5))
+    if kind == "shared texts":
+        long = chance.choice([31, 32, 47, 100, 127, 128, 140])
+        text = chance.randbytes(long)
+        return fold_with(TEXTS, batch_of(size // 16), [(text, text, None)] * (size // 16))
+    if kind == "no claims":
+        return fold_with(CLAIMS, batch_of(size), [None] * size, topics=[b"in"])
+    if kind == "topics":
+        return fold_with(CLAIMS, [], topics=[b""] * size)
+    if kind == "heads":
+        return fold_with(PRESENCE, batch_of(1) * (size // 7))
+    if kind == "producers":
+        return fold_with(PRESENCE, [Head(1, None, 1, 68, at, 0, 0) for at in range(size // 9)])
+    if kind == "leader epochs":
+        count = size // 10
+        return fold_with(PRESENCE, batch_of(1) * count, epochs=[(at % 2, at) for at in range(count)])
+    count = (2**30 - 61) // 7
+    return fold_with(PRESENCE, [Head(0, None, count, 2**30, -1, -1, -1)])
+
+
+KINDS = ["null texts", "empty texts", "shared texts", "no claims", "topics", "heads", "producers", "leader epochs", "records"]
+
+
+def changed(data, chance):
+    """With a byte changed, or cut short, or a count that its bytes don't bear out."""
+    body = bytearray(data[:-4])
+    way = chance.randrange(4)
+    if way == 0 and len(body) > 20:
+        body[chance.randrange(8, len(body))] = chance.randrange(256)
+    if way == 1:
+        del body[chance.randrange(8, len(body)):]
+    return fold_files.sealed(bytes(body))
+
+
+def spent(tests, folder):
+    """The greatest memory of a run in KiB, and its seconds."""
+    pid = os.posix_spawn(
+        tests.program, [tests.program, "check", "--workers", "1", folder], os.environ,
+        file_actions=[(os.POSIX_SPAWN_OPEN, fd, os.devnull, os.O_WRONLY, 0) for fd in (1, 2)],
+    )
+    _, status, usage = os.wait4(pid, 0)
+    tests.same("a hostile fold, a status", os.waitstatus_to_exitcode(status) in (0, 1, 2), True)
+    return usage.ru_maxrss, usage.ru_utime + usage.ru_stime
+
+
+def costs(tests):
+    count, chance = int(os.environ.get("FOLD_COSTS", "90")), random.Random(7)
+    folds, _ = folds_of(GOOD)
+    folder = with_folds(GOOD, folds, tests.new("costs"))
+    least = max(spent(tests, folder)[0] for _ in range(3))
+    most_bytes = most_times = 0
+    for at in range(count):
+        kind, size = KINDS[at % len(KINDS)], chance.choice([40, 4000, 40000, 200000])
+        made = hostile(kind, size, chance)
+        data = changed(fold_files.file_of(made), chance)
+        name, number = PLACES[made.roles]
+        path = fold_path(f"{name.decode()}-{number}", 0)
+        write(os.path.join(folder, path), fold_files.file_of(logged(made.roles, len(data), chance)))
+        right = spent(tests, folder)
+        write(os.path.join(folder, path), data)
+        found = spent(tests, folder)
+        write(os.path.join(folder, path), folds[path])
+        held, room = found[0] - least, BYTES * len(data) / 1024 + ROOM
+        seconds = TIMES * right[1] + made.size / SPEED + SECONDS
+        tests.same(f"{kind}, {len(data)} bytes, {held} KiB", held <= room, True)
+        tests.same(f"{kind}, {len(data)} bytes, {found[1]} s", found[1] <= seconds, True)
+        if len(data) > 30000:
+            most_bytes, most_times = max(most_bytes, 1024 * held / len(data)), max(most_times, found[1] / max(right[1], 0.01))
+    print(f"{count} hostile folds: at most {most_bytes:.1f} bytes of memory a byte, {most_times:.1f} times the time of a log's")
