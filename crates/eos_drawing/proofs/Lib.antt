@@ -1,1 +1,4 @@
+mod FolderAnswers
+mod JudgedAnswers
 pub mod KeptPictures
+mod Placed

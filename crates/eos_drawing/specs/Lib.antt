@@ -1,1 +1,4 @@
+pub mod Drawings
+pub mod Folders
 pub mod Pictures
+pub mod steps

@@ -1,5 +1,7 @@
 //! The drawing of a picture.
 
+ghost use Rattle.std.specs.Prelude.{◌≡◌, IfOk, string_bytes};
+
 use crate::canvas::Canvas;
 use crate::headings::{draw_heading, heading_of};
 use crate::legend::{ROOM, draw_legend};
@@ -138,7 +140,9 @@ fn laid_upon(ground: Canvas, canvas: Canvas) -> Result<Vec<Shape>, AllocError> {
 ///
 /// # Errors
 /// Only want of memory.
-pub fn drawing_of(alloc: Global, picture: &Picture, title: String) -> Result<Drawing, AllocError> {
+pub fn drawing_of(alloc: Global, picture: &Picture, title: String) -> Result<Drawing, AllocError>
+    ensures { IfOk result (λ drawing. string_bytes drawing.title ≡ string_bytes title) }
+{
     let plan = plan_of(alloc, picture)?;
     let width = plan.right().max(ROOM.width).saturating_add(GAP);
     let mut canvas = Canvas::new(alloc);

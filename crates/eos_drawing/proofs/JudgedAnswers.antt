@@ -1,0 +1,128 @@
+-- What is drawn of what was judged is the answer to each evidence of which it was judged.
+use Rattle.std.proofs.Common.{◌≡◌, ◌≤◌, ◌<◌, ◌-◌, ℕ, zero, suc, false, List, [], length, slice_index_or, Option, None, Some, Result, Ok, Err, IfOk, inl, inr, refl, sym, subst, string_bytes, arith}
+use Rattle.std.proofs.lemmas.Option.{slice_get_read}
+use Rattle.std.specs.Option.{unwrap_or}
+use Rattle.std.specs.Prelude.{slice_get}
+use Rattle.eos_check.specs.declared.verdict.Counts.{Counts}
+use Rattle.eos_check.specs.declared.verdict.Fault.{Fault}
+use Rattle.eos_check.specs.declared.verdict.Verdict.{Verdict}
+use Rattle.eos_check.specs.declared.verdict.Verdict.TheVariants.{Yes, No}
+use Rattle.eos_check.specs.Verdicts.{IsVerdict}
+use Rattle.eos_evidence.specs.Evidence.{EvidenceParts}
+use Rattle.eos_picture.specs.declared.mark.Picture.{Picture}
+use Rattle.eos_source.specs.Said.{Known}
+use Rattle.eos_source_check.specs.Judged.{IsJudgedFor, IsJudgedOf}
+use Rattle.eos_source_check.specs.declared.judged.Judged.{Judged}
+use Rattle.eos_source_faults.specs.Again.{AreThere}
+use Rattle.eos_source_faults.specs.Listed.{IsListOf}
+use Rattle.eos_drawing.specs.declared.answer.Answer.{Answer}
+use Rattle.eos_drawing.specs.declared.answer.Answer.TheVariants as answers
+use Rattle.eos_drawing.specs.declared.answer.Drawn.{Drawn}
+use Rattle.eos_drawing.specs.Drawings.{fault_of, around_of, AreItsFaults, IsShown, IsDrawing, AreTooFew}
+use Rattle.eos_drawing.specs.Folders.{is_later, HoldsAsRead}
+use Rattle.eos_drawing.specs.Pictures.{IsPictureOf}
+use Rattle.eos_drawing.specs.steps.Answers.{IsAnswer, IsText, IsDrawnBy, IsAnswerBy}
+
+drawing_is : (e : EvidenceParts) (judged : Judged) (verdict : Verdict) (fault around : Option ℕ) (drawn : Drawn) → IsJudgedFor judged e → IsShown e fault verdict
+    → IsDrawnBy judged verdict around drawn → IsDrawing e fault around drawn.status (string_bytes drawn.line) (string_bytes drawn.text)
+drawing_is e judged verdict fault around drawn j shown d = record {
+  verdict = verdict;
+  shown = shown;
+  picture = d.picture;
+  is = d.is e j;
+  size = d.text.size;
+  drawing = d.text.drawing;
+  title = d.text.title;
+  says = d.text.says;
+  exit = d.text.exit;
+}
+
+pub of_judged : (known : ℕ → Known) (shape : EvidenceParts) (judged : Judged) (fault around : Option ℕ) (answer : Answer) → IsJudgedOf known shape judged
+    → IsAnswerBy known shape judged fault around answer → HoldsAsRead known shape (is_later fault) (IsAnswer fault around answer)
+of_judged known shape judged fault around answer j a = record {
+  again = a.again;
+  once = a.once;
+  read = a.read;
+  are = record { said = j.said; as_known = j.as_known; holds = λ e of there. a.are e of.spec (j.holds e of) there };
+}
+
+-- ---- by a picture
+
+pub many_around : (around : Option ℕ) → unwrap_or around 6 ≡ around_of around
+many_around None = refl
+many_around (Some many) = refl
+
+pub drawn_by : {E : Type 0} (judged : Judged) (verdict : Verdict) (around : Option ℕ) (picture : Picture) (result : Result Drawn E)
+    → ((e : EvidenceParts) → IsJudgedFor judged e → IsPictureOf e (fault_of verdict) (around_of around) picture) → IfOk result (IsText picture verdict) → IfOk result (IsDrawnBy judged verdict around)
+drawn_by judged verdict around picture (Ok drawn) is text = record { picture = picture; is = is; text = text }
+drawn_by judged verdict around picture (Err refused) is text = tt
+
+-- ---- of the verdict itself
+
+pub shown : (known : ℕ → Known) (shape : EvidenceParts) (judged : Judged) (fault around : Option ℕ) (drawn : Drawn) → fault ≡ None → IsDrawnBy judged judged.verdict around drawn
+    → IsAnswerBy known shape judged fault around (answers.Drawn drawn)
+shown known shape judged fault around drawn none d = record {
+  again = [];
+  once = λ _. refl;
+  read = tt;
+  are = λ e spec j there. drawing_is e judged judged.verdict fault around drawn j (subst (λ (f : Option ℕ). IsShown e f judged.verdict) (sym none) j.verdict) d;
+}
+
+pub none_of_yes : (known : ℕ → Known) (shape : EvidenceParts) (judged : Judged) (fault around : Option ℕ) (number : ℕ) (counts : Counts) → fault ≡ Some number → judged.verdict ≡ Yes counts
+    → IsAnswerBy known shape judged fault around (answers.TooFew 0)
+none_of_yes known shape judged fault around number counts asked is = record {
+  again = [];
+  once = λ _. refl;
+  read = tt;
+  are = λ e spec j there. subst (λ (f : Option ℕ). AreTooFew e f 0) (sym asked) (inl (refl, counts, subst (IsVerdict e) is j.verdict));
+}
+
+pub first_shown : (known : ℕ → Known) (shape : EvidenceParts) (judged : Judged) (fault around : Option ℕ) (number : ℕ) (drawn : Drawn) → fault ≡ Some number → number ≤ 1
+    → (f : Fault) × (judged.verdict ≡ No f) → IsDrawnBy judged judged.verdict around drawn → IsAnswerBy known shape judged fault around (answers.Drawn drawn)
+first_shown known shape judged fault around number drawn asked first is d = record {
+  again = [];
+  once = λ _. refl;
+  read = tt;
+  are = λ e spec j there.
+      drawing_is e judged judged.verdict fault around drawn j
+      (subst (λ (f : Option ℕ). IsShown e f judged.verdict) (sym asked) (is.0, is.1, inl (first, subst (IsVerdict e) is.1 j.verdict))) d;
+}
+
+-- ---- of a later fault
+
+never_first : (number : ℕ) → 1 < number → is_later (Some number) ≡ false → ⊥
+never_first zero later first = omega (arith, later)
+never_first (suc zero) later first = omega (arith, later)
+never_first (suc (suc n)) later first = cc first
+
+list_of : (known : ℕ → Known) (shape e : EvidenceParts) (judged : Judged) (faults : List Fault) → (list : IsListOf known shape judged.logs faults) → e.spec ≡ shape.spec → IsJudgedFor judged e
+    → AreThere list.again e.partitions → AreItsFaults e faults
+list_of known shape e judged faults list spec j there = record { logs = j.logs.whole; of = j.logs.of; are = list.are e j.is_evidence spec j.logs there }
+
+pub later_shown : (known : ℕ → Known) (shape : EvidenceParts) (judged : Judged) (fault around : Option ℕ) (number : ℕ) (faults : List Fault) (verdict : Verdict) (drawn : Drawn)
+    → fault ≡ Some number → 1 < number → IsListOf known shape judged.logs faults → (f : Fault) × (verdict ≡ No f) × (slice_get faults (number - 1) ≡ Some f)
+    → IsDrawnBy judged verdict around drawn → IsAnswerBy known shape judged fault around (answers.Drawn drawn)
+later_shown known shape judged fault around number faults verdict drawn asked later list at d = record {
+  again = list.again;
+  once = λ first. absurd (never_first number later (subst (λ (f : Option ℕ). is_later f ≡ false) asked first));
+  read = list.read;
+  are = λ e spec j there.
+      drawing_is e judged verdict fault around drawn j
+      (subst (λ (f : Option ℕ). IsShown e f verdict) (sym asked) (at.0, at.1, inr (later, faults, list_of known shape e judged faults list spec j there, at.2))) d;
+}
+
+pub later_lacks : (known : ℕ → Known) (shape : EvidenceParts) (judged : Judged) (fault around : Option ℕ) (number count : ℕ) (faults : List Fault) → fault ≡ Some number → 1 < number
+    → IsListOf known shape judged.logs faults → (count ≡ length faults) × (count < number) → IsAnswerBy known shape judged fault around (answers.TooFew count)
+later_lacks known shape judged fault around number count faults asked later list few = record {
+  again = list.again;
+  once = λ first. absurd (never_first number later (subst (λ (f : Option ℕ). is_later f ≡ false) asked first));
+  read = list.read;
+  are = λ e spec j there.
+      subst (λ (f : Option ℕ). AreTooFew e f count) (sym asked) (inr (few.1, faults, list_of known shape e judged faults list spec j there, few.0));
+}
+
+pub taken : (faults : List Fault) (place number : ℕ) (f : Fault) → place ≡ number - 1 → place < length faults → f ≡ slice_index_or faults place f
+    → (g : Fault) × (No f ≡ No g) × (slice_get faults (number - 1) ≡ Some g)
+taken faults place number f same lt is =
+    let at : slice_get faults place ≡ Some f = slice_get_read faults _ place f refl lt is in
+    (f, refl, subst (λ (i : ℕ). slice_get faults i ≡ Some f) same at)

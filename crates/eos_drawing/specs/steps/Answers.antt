@@ -1,0 +1,45 @@
+-- What is drawn of what was judged, of whatever evidence that is.
+use Rattle.std.specs.Prelude.{◌≡◌, ℕ, List, [], Option, false, string_bytes}
+use Rattle.std.specs.Str.{trim_end}
+use Rattle.eos_check.specs.declared.verdict.Verdict.{Verdict}
+use Rattle.eos_evidence.specs.declared.partition.Partition.{Partition}
+use Rattle.eos_evidence.specs.Evidence.{EvidenceParts}
+use Rattle.eos_picture.specs.declared.mark.Picture.{Picture}
+use Rattle.eos_report.specs.VerdictTexts.{verdict_line, status_of}
+use Rattle.eos_source.specs.Said.{Known}
+use Rattle.eos_source_check.specs.Judged.{IsJudgedFor}
+use Rattle.eos_source_check.specs.declared.judged.Judged.{Judged}
+use Rattle.eos_source_faults.specs.Again.{AreAgain, AreThere}
+use Rattle.eos_svg.specs.declared.drawing.Drawing.{Drawing}
+use Rattle.eos_svg.specs.Shapes.{svg_text}
+use Rattle.eos_drawing.specs.declared.answer.Answer.{Answer}
+use Rattle.eos_drawing.specs.declared.answer.Answer.TheVariants as answers
+use Rattle.eos_drawing.specs.declared.answer.Drawn.{Drawn}
+use Rattle.eos_drawing.specs.Drawings.{fault_of, around_of, drew_line, IsDrawing, AreTooFew}
+use Rattle.eos_drawing.specs.Folders.{is_later}
+use Rattle.eos_drawing.specs.Pictures.{IsPictureOf}
+
+abbrev pub IsAnswer : Option ℕ → Option ℕ → Answer → EvidenceParts → Type 0
+IsAnswer fault around (answers.Drawn drawn) e = IsDrawing e fault around drawn.status (string_bytes drawn.line) (string_bytes drawn.text)
+IsAnswer fault around (answers.TooFew count) e = AreTooFew e fault count
+
+-- the line on this picture's size, the text of a drawing, and the status of the verdict
+pub record IsText (picture : Picture) (verdict : Verdict) (drawn : Drawn) : Type 0 where
+  pub size : string_bytes drawn.line ≡ drew_line picture
+  pub drawing : Drawing
+  pub title : string_bytes drawing.title ≡ trim_end (verdict_line verdict)
+  pub says : string_bytes drawn.text ≡ svg_text drawing
+  pub exit : drawn.status ≡ status_of verdict
+
+-- of a picture around the fault of this verdict, of each evidence of which this was judged
+pub record IsDrawnBy (judged : Judged) (verdict : Verdict) (around : Option ℕ) (drawn : Drawn) : Type 0 where
+  pub picture : Picture
+  pub is : (e : EvidenceParts) → IsJudgedFor judged e → IsPictureOf e (fault_of verdict) (around_of around) picture
+  pub text : IsText picture verdict drawn
+
+-- it is the answer to each evidence of this shape of which this was judged, and which has the partitions as they were read again
+pub record IsAnswerBy (known : ℕ → Known) (shape : EvidenceParts) (judged : Judged) (fault around : Option ℕ) (answer : Answer) : Type 0 where
+  pub again : List (Option Partition)
+  pub once : is_later fault ≡ false → again ≡ []
+  pub read : AreAgain known 0 shape.partitions again
+  pub are : (e : EvidenceParts) → e.spec ≡ shape.spec → IsJudgedFor judged e → AreThere again e.partitions → IsAnswer fault around answer e

@@ -1,0 +1,226 @@
+//! What is drawn of an evidence whose pieces a source has.
+
+ghost use Rattle.std.specs.Prelude.{◌≡◌, ◌<◌, ◌-◌, length, Some, IfOk, IfErr, slice_get, string_bytes};
+ghost use Rattle.std.specs.Option.{option_copied};
+ghost use Rattle.std.specs.Str.{trim_end};
+ghost use Rattle.eos_check.specs.declared.verdict.Fault.{Fault as AFault};
+ghost use Rattle.eos_check.specs.declared.verdict.Verdict.TheVariants.{No};
+ghost use Rattle.eos_drawing.specs.Drawings.{fault_of, drew_line};
+ghost use Rattle.eos_drawing.specs.Folders.{is_later, HoldsAsRead};
+ghost use Rattle.eos_drawing.specs.steps.Answers.{IsAnswer, IsText, IsDrawnBy, IsAnswerBy};
+ghost use Rattle.eos_report.specs.VerdictTexts.{verdict_line, status_of};
+ghost use Rattle.eos_source.specs.Said.{known_by};
+
+use crate::picture::judged_picture;
+use eos_check::{Fault, Verdict};
+use eos_evidence::{Evidence, Spec};
+use eos_layout::drawing_of;
+use eos_picture::Picture;
+use eos_report::verdict_line;
+use eos_source::Source;
+use eos_source_check::{Judged, judge_source};
+use eos_source_faults::{Unlisted, all_source_faults};
+use eos_svg::svg_text;
+use eos_workers::Workers;
+use std::alloc::{AllocError, Global};
+use std::thread::Threads;
+
+/// How many transactions are shown on each side of the fault where it isn't said.
+const AROUND: u64 = 6;
+
+/// Which picture is wanted.
+#[derive(Clone, Copy)]
+pub(crate) struct Wanted {
+    /// Around which fault of all, from 1 on; where none is said around the verdict's, or of a yes.
+    pub fault: Option<u64>,
+    /// How many transactions are shown on each side.
+    pub around: Option<u64>,
+}
+
+/// What is drawn.
+#[derive(Drop)]
+pub(crate) struct Drawn {
+    /// The exit status: 0 for yes, 1 for no.
+    pub status: u8,
+    /// The line on its size.
+    pub line: String,
+    pub text: String,
+}
+
+/// What became of it.
+#[derive(Drop)]
+pub(crate) enum Answer {
+    Drawn(Drawn),
+    /// There are only so many faults.
+    TooFew(usize),
+}
+
+/// Where the pieces of an evidence are read, and which ones there are.
+#[derive(Clone, Copy)]
+pub(crate) struct Pieces<'a, S> {
+    pub source: &'a S,
+    /// The evidence, with no bytes in its segments.
+    pub shape: &'a Evidence,
+}
+
+/// Reads the pieces, each once, and no more of them is held than the verdict wants; then draws what is wanted.
+#[tactic(auto, using(crate::proofs::JudgedAnswers::of_judged))]
+pub(crate) fn answer_source<S: Source, R: Threads + Sync>(
+    alloc: Global,
+    threads: &R,
+    pieces: Pieces<'_, S>,
+    wanted: Wanted,
+) -> Result<Answer, Unlisted<S::Fault>>
+    ensures { IfOk result (λ answer. HoldsAsRead (known_by (S.said pieces.entry.source.now) (S.is_log pieces.entry.source.now)) pieces.entry.shape.now (is_later wanted.fault) (IsAnswer wanted.fault wanted.around answer)) }
+{
+    let workers = Workers::standard();
+    match judge_source(alloc, threads, pieces.source, pieces.shape, workers) {
+        Ok(judged) => {
+            let answer = answer_judged(alloc, pieces, &judged, wanted)?;
+            Ok(answer)
+        }
+        Err(fault) => Err(Unlisted::Refused(fault)),
+    }
+}
+
+/// Draws of what was judged what is wanted.
+#[tactic(auto, using(crate::proofs::JudgedAnswers::shown, crate::proofs::JudgedAnswers::none_of_yes))]
+fn answer_judged<S: Source>(
+    alloc: Global,
+    pieces: Pieces<'_, S>,
+    judged: &Judged,
+    wanted: Wanted,
+) -> Result<Answer, Unlisted<S::Fault>>
+    ensures { IfOk result (IsAnswerBy (known_by (S.said pieces.entry.source.now) (S.is_log pieces.entry.source.now)) pieces.entry.shape.now judged.now wanted.fault wanted.around) }
+{
+    match wanted.fault {
+        Some(number) => match &judged.verdict {
+            Verdict::Yes(_) => Ok(Answer::TooFew(0)),
+            Verdict::No(_) => answer_numbered(alloc, pieces, judged, wanted, number),
+        },
+        None => {
+            let drawn = drawn_of(alloc, pieces.shape.spec(), judged, &judged.verdict, wanted)?;
+            Ok(Answer::Drawn(drawn))
+        }
+    }
+}
+
+/// The same of a no, around the fault of this number.
+fn answer_numbered<S: Source>(
+    alloc: Global,
+    pieces: Pieces<'_, S>,
+    judged: &Judged,
+    wanted: Wanted,
+    number: u64,
+) -> Result<Answer, Unlisted<S::Fault>>
+    requires number { wanted.fault ≡ Some number }
+    requires no { (fault : AFault) × (judged.now.verdict ≡ No fault) }
+    ensures { IfOk result (IsAnswerBy (known_by (S.said pieces.entry.source.now) (S.is_log pieces.entry.source.now)) pieces.entry.shape.now judged.now wanted.fault wanted.around) }
+{
+    if number > 1 {
+        return answer_later(alloc, pieces, judged, wanted, number);
+    }
+    let drawn = drawn_of(alloc, pieces.shape.spec(), judged, &judged.verdict, wanted)?;
+    Ok(Answer::Drawn(drawn))
+}
+
+/// The same around a later fault than the first. Partitions that have faults by themselves are read once more, whole, one after the
+/// other.
+fn answer_later<S: Source>(
+    alloc: Global,
+    pieces: Pieces<'_, S>,
+    judged: &Judged,
+    wanted: Wanted,
+    number: u64,
+) -> Result<Answer, Unlisted<S::Fault>>
+    requires number { wanted.fault ≡ Some number }
+    requires later { 1 < number }
+    ensures { IfOk result (IsAnswerBy (known_by (S.said pieces.entry.source.now) (S.is_log pieces.entry.source.now)) pieces.entry.shape.now judged.now wanted.fault wanted.around) }
+{
+    let faults = all_source_faults(alloc, pieces.source, pieces.shape, &judged.logs)?;
+    match later_of(faults, number) {
+        Ok(verdict) => {
+            let drawn = drawn_of(alloc, pieces.shape.spec(), judged, &verdict, wanted)?;
+            Ok(Answer::Drawn(drawn))
+        }
+        Err(count) => Ok(Answer::TooFew(count)),
+    }
+}
+
+/// The fault of this number as a verdict; or there are only so many.
+#[tactic(auto, using(crate::proofs::JudgedAnswers::taken))]
+fn later_of(mut faults: Vec<Fault>, number: u64) -> Result<Verdict, usize>
+    requires { 1 < number }
+    ensures ok { IfOk result (λ verdict. (fault : AFault) × (verdict ≡ No fault) × (slice_get faults.items (number - 1) ≡ Some fault)) }
+    ensures err { IfErr result (λ count. (count ≡ length faults.items) × (count < number)) }
+{
+    let count = faults.len();
+    if number > count as u64 {
+        return Err(count);
+    }
+    let place = (number - 1) as usize;
+    Ok(Verdict::No(faults.swap_remove(place)))
+}
+
+fn fault_of(verdict: &Verdict) -> Option<&Fault>
+    ensures { option_copied result ≡ fault_of verdict.now }
+{
+    match verdict {
+        Verdict::Yes(_) => None,
+        Verdict::No(fault) => Some(fault),
+    }
+}
+
+/// Of the fault of this verdict, or of none at yes.
+fn drawn_of(
+    alloc: Global,
+    spec: &Spec,
+    judged: &Judged,
+    verdict: &Verdict,
+    wanted: Wanted,
+) -> Result<Drawn, AllocError>
+    ensures { IfOk result (IsDrawnBy judged.now verdict.now wanted.around) }
+{
+    let around = wanted.around.unwrap_or(AROUND) as usize;
+    let picture = judged_picture(alloc, spec, judged, fault_of(verdict), around)?;
+    drawn_picture(alloc, &picture, verdict)
+}
+
+/// This picture, with the verdict's line as its title.
+fn drawn_picture(alloc: Global, picture: &Picture, verdict: &Verdict) -> Result<Drawn, AllocError>
+    ensures { IfOk result (IsText picture.now verdict.now) }
+{
+    let title = title_of(alloc, verdict)?;
+    let drawing = drawing_of(alloc, picture, title)?;
+    Ok(Drawn {
+        status: status_of(verdict),
+        line: line_of(alloc, picture)?,
+        text: svg_text(alloc, &drawing)?,
+    })
+}
+
+/// How large the picture is.
+fn line_of(alloc: Global, picture: &Picture) -> Result<String, AllocError>
+    ensures { IfOk result (λ line. string_bytes line ≡ drew_line picture.now) }
+{
+    let columns = picture.columns.len();
+    let rows = picture.rows.len();
+    format!(in alloc; "drew columns={columns} rows={rows}\n")
+}
+
+fn status_of(verdict: &Verdict) -> u8
+    ensures { result ≡ status_of verdict.now }
+{
+    match verdict {
+        Verdict::Yes(_) => 0,
+        Verdict::No(_) => 1,
+    }
+}
+
+/// The line of the verdict, without its end.
+fn title_of(alloc: Global, verdict: &Verdict) -> Result<String, AllocError>
+    ensures { IfOk result (λ title. string_bytes title ≡ trim_end (verdict_line verdict.now)) }
+{
+    let line = verdict_line(alloc, verdict)?;
+    String::from_str(alloc, line.trim_end())
+}
