@@ -294,12 +294,30 @@ def bad_input(source):
     os.symlink("nowhere", f"{folder}/evidence.json")
     refused(folder, [*app, *ends], f"cannot write {folder}/evidence.json: it is there already", input=good.encode())
     os.remove(f"{folder}/evidence.json")
+    refused(f"{folder}/in-0/00000000000000000000.log", [*app, *ends],
+            f"cannot read {folder}/in-0/00000000000000000000.log\n  not a folder", input=good.encode())
+    stale(folder, manifest, [*app, *ends], good)
     for words in (["init"], ["init", *app, *ends], ["init", "--app", "--ends", "-", folder], ["init", "--app", "", *ends, folder]):
         status, out, text = run(*words)
         expect((status, out) == (2, "") and text != "", f"bad words {words}")
     with open("/dev/full", "w", encoding="utf-8") as full:
         done = subprocess.run([program, "init", *app, "--ends-from-logs", folder], stdout=full, stderr=subprocess.PIPE, timeout=60)
         expect((done.returncode, done.stderr.decode()) == (2, CUT + "eoscheck: cannot write -\n"), "init to a full device")
+
+
+def stale(folder, manifest, words, lines):
+    """What a killed run left beside the manifest's place is replaced; what stands there otherwise stays."""
+    beside = f"{folder}/evidence.json.new"
+    with open(beside, "w", encoding="utf-8") as file:
+        file.write('{"version":')
+    status, out, _ = init(folder, *words, input=lines.encode())
+    expect((status, out) == (0, f"wrote partitions={len(manifest['ends'])}\n") and load(folder) == manifest, f"init beside a stale file: {out}")
+    expect(not os.path.exists(beside), "a stale file beside the manifest is replaced")
+    os.remove(f"{folder}/evidence.json")
+    os.mkdir(beside)
+    status, out, _ = init(folder, *words, input=lines.encode())
+    expect((status, out) == (2, "") and os.path.isdir(beside) and "evidence.json" not in os.listdir(folder), "a folder beside the manifest's place")
+    os.rmdir(beside)
 
 
 # ---- what is said beside
@@ -389,7 +407,7 @@ def without_applications(source):
 
 def refused_memory(folder, manifest, words, notes, library):
     """Each allocation of a run, or where there are many every so-manieth: the manifest is written and the notes are told, or the
-    answer is want of memory, maybe after some notes; then there is no manifest, or all of it."""
+    answer is want of memory, before any note, and there is no manifest."""
     files = sorted(os.listdir(folder))
     count = os.path.join(scratch, "count")
     setting = dict(os.environ, LD_PRELOAD=library)
@@ -399,7 +417,7 @@ def refused_memory(folder, manifest, words, notes, library):
     os.remove(f"{folder}/evidence.json")
     with open(count, encoding="utf-8") as file:
         total = int(file.read())
-    told = after = 0
+    told = 0
     for at in range(1, total + 1, max(1, total // 400)):
         found = init(folder, "--app", APP, *words, input=text, env=dict(setting, REFUSE_AT=str(at)))
         made = os.path.exists(f"{folder}/evidence.json")
@@ -410,12 +428,9 @@ def refused_memory(folder, manifest, words, notes, library):
             expect(made, f"{words}, allocation {at} refused: no manifest")
             continue
         told += 1
-        after += made
-        said = found[2].removesuffix("eoscheck: out of memory\n")
-        right = found[:2] == (3, "") and said != found[2] and notes.startswith(said)
+        right = found == (3, "", "eoscheck: out of memory\n") and not made
         expect(right and sorted(os.listdir(folder)) == files, f"{words}, allocation {at} refused: {found}")
     expect(told > min(100, total // 2), f"{words}: {told} of {total} refused allocations are told")
-    return after
 
 
 def refused_runs(source, library):
@@ -439,9 +454,7 @@ def refused_runs(source, library):
         "out-1 has no folder",
     ]
     notes = noted_of(told)
-    after = refused_memory(folder, manifest, ["--ends", "-"], notes, library)
-    # a text of each note, and of its partition's name
-    expect(after >= 6, f"only {after} refused allocations are told after the manifest was written")
+    refused_memory(folder, manifest, ["--ends", "-"], notes, library)
 
 
 def main():

@@ -3,29 +3,54 @@
 
     python3 -B tests/killed.py PROGRAM LIBRARY
 
-LIBRARY is tests/killed.c, built. Of `draw`, `check --report` and `simulate --history` a run that isn't killed says what the file
-holds. After one that was killed the file isn't there, or is that one; and the next run makes it, or is refused since it is there,
+LIBRARY is tests/killed.c, built. Of `draw`, `check --report`, `simulate --history`, `init` and `fold` a run that isn't killed says what
+the file holds. After one that was killed the file isn't there, or is that one; and the next run makes it, or is refused since it is there,
 and leaves nothing beside it. A file that was there before stays, as does the folder that is read. The last line is
 'N passed, N failed'.
 """
+import collections
 import json
 import os
+import shutil
 import subprocess
 import sys
 import tempfile
 
 FOLDER = os.path.abspath("tests/evidence/row-yes-2")
 THERE = "eoscheck: cannot write {}: it is there already\n"
-# Of each command its words, for a file and for a folder that isn't there, and how many calls it has at least.
+# A command: its words, for a file and for a folder that isn't there; how many calls it has at least; where in a folder of its own the file
+# is to stand, and what is put into that folder before.
+Command = collections.namedtuple("Command", "words least place before", defaults=("file", lambda scratch: None))
+
+
+def copy_logs(scratch):
+    """A folder of copied logs without a manifest."""
+    for name in os.listdir(FOLDER):
+        if name != "evidence.json":
+            shutil.copytree(f"{FOLDER}/{name}", f"{scratch}/{name}")
+
+
+def make_folder(scratch):
+    """A folder with one for folds in it, so that nothing but their files is new."""
+    os.makedirs(f"{scratch}/in-0")
+
+
+def fold_words(file, _):
+    out = os.path.dirname(os.path.dirname(file))
+    return ["fold", "--manifest", f"{FOLDER}/evidence.json", "--out", out, f"{FOLDER}/in-0"]
+
+
 COMMANDS = {
-    "draw": (lambda file, _: ["draw", FOLDER, file], 8),
-    "check --report": (lambda file, _: ["check", "--workers", "1", "--quiet", "--report", file, FOLDER], 8),
-    "simulate --history": (lambda file, folder: ["simulate", "--seed", "7", "--events", "30", "--history", file, folder], 30),
+    "draw": Command(lambda file, _: ["draw", FOLDER, file], 8),
+    "check --report": Command(lambda file, _: ["check", "--workers", "1", "--quiet", "--report", file, FOLDER], 8),
+    "simulate --history": Command(lambda file, folder: ["simulate", "--seed", "7", "--events", "30", "--history", file, folder], 30),
+    "init": Command(lambda file, _: ["init", "--ends-from-logs", "--app", "g:in:out", os.path.dirname(file)], 4, "evidence.json", copy_logs),
+    "fold": Command(fold_words, 4, "in-0/00000000000000000000.fold", make_folder),
 }
 
 
 def read(path):
-    with open(path, encoding="utf-8") as file:
+    with open(path, "rb") as file:
         return file.read()
 
 
@@ -55,44 +80,46 @@ class Tests:
         done = subprocess.run([self.program, *words], capture_output=True, text=True, timeout=120, env={**os.environ, **loaded})
         return done.returncode, done.stdout, done.stderr
 
-    def killed(self, command, at, whole):
+    def killed(self, name, command, at, whole):
         """Of a command the run that is killed before this call, and the next one."""
-        words, _ = COMMANDS[command]
-        name = f"{command}, killed before call {at}"
+        said_of = f"{name}, killed before call {at}"
         with tempfile.TemporaryDirectory() as scratch:
-            file = f"{scratch}/file"
-            status, _, said = self.ran(words(file, f"{scratch}/first"), KILL_AT=str(at))
-            self.expect(status == -9, f"{name}: status {status}, {said}")
+            command.before(scratch)
+            file = f"{scratch}/{command.place}"
+            others = {*os.listdir(os.path.dirname(file)), "first", "second"}
+            status, _, said = self.ran(command.words(file, f"{scratch}/first"), KILL_AT=str(at))
+            self.expect(status == -9, f"{said_of}: status {status}, {said}")
             is_there = os.path.lexists(file)
-            self.expect(not is_there or told(command, read(file)) == whole[0], f"{name}: half a file")
-            again = self.ran(words(file, f"{scratch}/second"))
+            self.expect(not is_there or told(name, read(file)) == whole[0], f"{said_of}: half a file")
+            again = self.ran(command.words(file, f"{scratch}/second"))
             wanted = (2, "", THERE.format(file)) if is_there else whole[1]
-            self.expect(again == wanted, f"{name}: then {again}, not {wanted}")
-            self.expect(told(command, read(file)) == whole[0], f"{name}: another file")
-            left = sorted(set(os.listdir(scratch)) - {"first", "second"})
-            self.expect(left == ["file"] or is_there and left == ["file", "file.new"], f"{name}: {left} are left")
+            self.expect(again == wanted, f"{said_of}: then {again}, not {wanted}")
+            self.expect(told(name, read(file)) == whole[0], f"{said_of}: another file")
+            left = {it.replace(os.path.basename(file), "file", 1) for it in set(os.listdir(os.path.dirname(file))) - others}
+            self.expect(left == {"file"} or is_there and left == {"file", "file.new"}, f"{said_of}: {left} are left")
 
-    def of(self, command):
-        words, most = COMMANDS[command]
-        with tempfile.TemporaryDirectory() as scratch:
-            file, count = f"{scratch}/file", f"{scratch}/count"
-            done = self.ran(words(file, f"{scratch}/folder"), KILL_COUNT=count)
-            self.expect(done[0] == 0, f"{command}: {done}")
-            whole, calls = (told(command, read(file)), done), int(read(count))
-            self.expect(sorted(set(os.listdir(scratch)) - {"folder"}) == ["count", "file"], f"{command}: something is left")
-            self.expect(calls >= most, f"{command} has only {calls} calls")
+    def of(self, name, command):
+        with tempfile.TemporaryDirectory() as scratch, tempfile.TemporaryDirectory() as beside:
+            command.before(scratch)
+            file, count = f"{scratch}/{command.place}", f"{beside}/count"
+            others = {*os.listdir(os.path.dirname(file)), os.path.basename(file)}
+            done = self.ran(command.words(file, f"{beside}/folder"), KILL_COUNT=count)
+            self.expect(done[0] == 0, f"{name}: {done}")
+            whole, calls = (told(name, read(file)), done), int(read(count))
+            self.expect(set(os.listdir(os.path.dirname(file))) == others, f"{name}: something is left")
+            self.expect(calls >= command.least, f"{name} has only {calls} calls")
             with open(file, "w", encoding="utf-8") as other:
                 other.write("other")
-            done = self.ran(words(file, f"{scratch}/third"))
-            self.expect(done == (2, "", THERE.format(file)) and read(file) == "other", f"{command} over a file: {done}")
+            done = self.ran(command.words(file, f"{beside}/third"))
+            self.expect(done == (2, "", THERE.format(file)) and read(file) == b"other", f"{name} over a file: {done}")
         for at in range(1, calls + 1):
-            self.killed(command, at, whole)
+            self.killed(name, command, at, whole)
 
 
 def main():
     tests = Tests(*map(os.path.abspath, sys.argv[1:]))
-    for command in COMMANDS:
-        tests.of(command)
+    for name, command in COMMANDS.items():
+        tests.of(name, command)
     print(f"{tests.passed} passed, {tests.failed} failed")
     return 1 if tests.failed else 0
 

@@ -24,8 +24,6 @@ MOST_LINES_OF_THE_DISK = 100
 # What still writes files by itself.
 WRITERS = {
     "crates/eos_folder/src/placing.rt",
-    "crates/eos_folding_files/src/writing.rt",
-    "crates/eos_init_files/src/writing.rt",
 }
 # The crate that is nothing but callers.
 TESTS = {"eos_tests"}

@@ -1,6 +1,7 @@
 //! `fold`: the folds of segments where they lie.
 
-use eos_ending::{Ending, STANDARD, Subject, end, end_unread, end_unwritten};
+use eos_disk::HostDisk;
+use eos_ending::{Ending, STANDARD, Subject, end, end_unchanged, end_unread};
 use eos_folder::FolderFault;
 use eos_folding_files::{Folded, FoldingFault, Given, fold_folders};
 use eos_words::Fold;
@@ -12,7 +13,7 @@ pub fn fold_partitions(rt: &HostRuntime, words: &Fold<'_>) -> u8 {
         out: words.out,
         folders: words.folders.as_slice(),
     };
-    match fold_folders(rt, given) {
+    match fold_folders(rt.alloc(), &mut HostDisk { rt }, given) {
         Ok(folded) => say(rt, folded),
         Err(fault) => refuse(rt, words, fault),
     }
@@ -45,7 +46,7 @@ fn refuse(rt: &HostRuntime, words: &Fold<'_>, fault: FoldingFault<'_>) -> u8 {
             rt,
             Ending::Unfit(path, "another folder of this partition is given"),
         ),
-        FoldingFault::CannotWrite(path, kind) => end_unwritten(rt, &path, kind),
+        FoldingFault::CannotWrite(path, why) => end_unchanged(rt, &path, why),
         FoldingFault::OutOfMemory => end(rt, Ending::OutOfMemory),
     }
 }

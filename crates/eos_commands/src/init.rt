@@ -1,11 +1,10 @@
 //! `init`: the manifest of a folder of copied logs.
 
 use eos_disk::HostDisk;
-use eos_ending::{Ending, STANDARD, end};
+use eos_ending::{Ending, STANDARD, Subject, end, end_unread};
 use eos_evidence::SpecFault;
 use eos_folder::Cause;
 use eos_init_files::{Given, InitFault, Made, init, name_text};
-use eos_text::finish;
 use eos_words::Init;
 use std::alloc::AllocError;
 use std::io;
@@ -29,11 +28,8 @@ pub fn init_folder(rt: &HostRuntime, words: &Init<'_>) -> u8 {
         ends: words.ends,
         folder: words.folder,
     };
-    match init(rt, given) {
-        Ok(made) => match tell(rt, &made) {
-            Ok(status) => status,
-            Err(_) => end(rt, Ending::OutOfMemory),
-        },
+    match init(rt.alloc(), &mut HostDisk { rt }, given, &mut rt.reader()) {
+        Ok(made) => tell(rt, &made),
         Err(fault) => match explain(rt, words, fault) {
             Ok(status) => status,
             Err(_) => end(rt, Ending::OutOfMemory),
@@ -47,16 +43,13 @@ pub(crate) fn refuse(rt: &HostRuntime, why: &str) -> u8 {
     2
 }
 
-fn tell(rt: &HostRuntime, made: &Made) -> Result<u8, AllocError> {
-    let partitions = made.partitions;
-    let line = format!(in rt.alloc(); "wrote partitions={partitions}\n")?;
+fn tell(rt: &HostRuntime, made: &Made) -> u8 {
     for note in made.notes.as_slice() {
-        let note = note.text(rt.alloc())?;
         let _ = eprint!(rt; "eoscheck: note: {note}\n");
     }
-    match finish(&mut io::writer(rt), line.as_bytes()) {
-        Ok(()) => Ok(0),
-        Err(_) => Ok(end(rt, Ending::CannotWrite(STANDARD))),
+    match made.told_to(&mut io::writer(rt)) {
+        Ok(()) => 0,
+        Err(_) => end(rt, Ending::CannotWrite(STANDARD)),
     }
 }
 
@@ -83,13 +76,7 @@ fn explain(rt: &HostRuntime, words: &Init<'_>, fault: InitFault) -> Result<u8, A
             let name = name_text(alloc, &name)?;
             format!(in alloc; "{name} has no end")?
         }
-        InitFault::CannotRead(path) => {
-            let cause = Cause::of_file(alloc, &HostDisk { rt }, path.as_str());
-            return Ok(end(rt, Ending::CannotRead(path.as_str(), &cause)));
-        }
-        InitFault::Fold(path, name, cause) => {
-            return Ok(end(rt, Ending::Refused(path.as_str(), name, &cause)));
-        }
+        InitFault::Unread(fault) => return Ok(end_unread(rt, Subject::Only, &fault)),
         InitFault::CannotWrite(path) => return Ok(end(rt, Ending::CannotWrite(path.as_str()))),
         InitFault::Apps(SpecFault::Field) => String::from_str(alloc, DOUBLED_APPS)?,
         InitFault::Ends(SpecFault::Field) => String::from_str(alloc, DOUBLED_ENDS)?,

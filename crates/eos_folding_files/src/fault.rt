@@ -3,9 +3,9 @@
 ghost use Rattle.std.specs.Prelude.{◌≡◌};
 ghost use Rattle.eos_folding_files.specs.declared.fault.FoldingFault.TheVariants.{Unread, OutOfMemory};
 
+use eos_disk::ChangeFault;
 use eos_folder::FolderFault;
 use std::alloc::{AllocError, AllocFailed};
-use std::io::ErrorKind;
 
 /// Why not all segments were folded: the first of what stands against it.
 #[derive(Drop)]
@@ -19,7 +19,7 @@ pub enum FoldingFault<'a> {
     /// The folder at this path is of the same partition as one before it.
     SameName(&'a str),
     /// The file or folder of this path can't be written, for such a reason.
-    CannotWrite(String, ErrorKind),
+    CannotWrite(String, ChangeFault),
     /// A growth of memory was refused.
     OutOfMemory,
 }
@@ -45,5 +45,13 @@ impl<'a, T: Drop> From<AllocFailed<T>> for FoldingFault<'a> {
 
     fn from(_e: AllocFailed<T>) -> FoldingFault<'a> {
         FoldingFault::OutOfMemory
+    }
+}
+
+/// What can't be written at this path.
+pub(crate) fn unwritten<'a>(path: String, fault: ChangeFault) -> FoldingFault<'a> {
+    match fault {
+        ChangeFault::OutOfMemory => FoldingFault::OutOfMemory,
+        fault => FoldingFault::CannotWrite(path, fault),
     }
 }

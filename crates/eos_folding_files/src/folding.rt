@@ -1,16 +1,26 @@
 //! Folding segments, one after the other.
 
+ghost use Rattle.std.specs.Prelude.{◌≡◌, ℕ, List, map, Ok, IfOk, OnOk, OnErr};
+ghost use Rattle.eos_disk.specs.Entries.{HasBytes};
+ghost use Rattle.eos_evidence.specs.Manifest.{spec_said_by};
+ghost use Rattle.eos_evidence.specs.Parts.{Parts};
+ghost use Rattle.eos_fold_file.specs.Legal.{IsRight};
+ghost use Rattle.eos_source.specs.Topics.{AreSourceTopics};
+ghost use Rattle.eos_folding_files.specs.Folding.{item_of, items_in, items_of, AreFoldersAt, IsFoldAt, IsFoldPut, IsFoldLeft, Folded as AreFolded, FoldedInPart};
+ghost use Rattle.eos_folding_files.specs.declared.folder.PartitionFolder.{PartitionFolder};
+
 use crate::fault::FoldingFault;
 use crate::folder::{PartitionFolder, find_folders};
 use crate::writing::write_fold;
 use bytes::Bytes;
-use eos_disk::HostDisk;
-use eos_evidence::Segment;
-use eos_fold_file::encode_fold;
+use eos_disk::{Disk, DiskMut};
+use eos_evidence::App;
+use eos_fold_file::{FoldFile, encode_fold};
 use eos_folder::{open_log, read_manifest};
 use eos_folding::fold_of;
 use eos_source::source_topics;
 use eos_wanted::{Wanted, Wants};
+use std::alloc::Global;
 
 /// What is given.
 #[derive(Clone, Copy)]
@@ -31,12 +41,20 @@ pub struct Folded {
     pub bytes: u64,
 }
 
+/// For whom segments are folded, and where to.
+#[derive(Clone, Copy)]
+struct Roles<'a> {
+    apps: &'a [App],
+    /// The topics whose claims are kept by a number.
+    topics: &'a [Bytes],
+    out: &'a str,
+}
+
 /// How the segments of a partition are folded, and where to.
 #[derive(Clone, Copy)]
 struct Asked<'a> {
     /// What is wanted of their records.
     wanted: Wanted,
-    /// The topics whose claims are kept by a number.
     topics: &'a [Bytes],
     out: &'a str,
 }
@@ -55,59 +73,110 @@ impl Folded {
 /// # Errors
 /// The first of what stands against it: the manifest, then the folders in order, then their segments in order. Before the first
 /// segment is read nothing was written; after that the folds of those before the one that is refused.
-pub fn fold_folders<'a>(rt: &HostRuntime, given: Given<'a>) -> Result<Folded, FoldingFault<'a>> {
-    let alloc = rt.alloc();
-    let spec = read_manifest(
-        alloc,
-        &HostDisk { rt },
-        String::from_str(alloc, given.manifest)?,
-    )?;
+#[tactic(auto, using(crate::proofs::FoldsMore::nothing_folded))]
+pub fn fold_folders<'a, D: DiskMut>(
+    alloc: Global,
+    disk: &mut D,
+    given: Given<'a>,
+) -> Result<Folded, FoldingFault<'a>>
+    ensures ok { OnOk result ((text : List ℕ) × (spec : Parts) × (folders : List PartitionFolder) × (topics : List (List ℕ))
+        × HasBytes (D.holds disk.old given.entry.manifest.now) text × (spec_said_by text ≡ Ok spec)
+        × AreFoldersAt (D.holds disk.old) spec.ends (map (λ p. p.now) given.entry.folders.now) folders
+        × AreSourceTopics spec.apps topics × AreFolded (D.holds disk.old) topics given.entry.out.now (items_of spec.apps folders) (D.holds disk.new)) }
+    ensures err { OnErr result ((topics : List (List ℕ)) × FoldedInPart (D.holds disk.old) topics given.entry.out.now (D.holds disk.new)) }
+{
+    let manifest = String::from_str(alloc, given.manifest)?;
+    let spec = read_manifest(alloc, &*disk, manifest)?;
+    let ends = spec.ends().as_slice();
+    let folders = find_folders(alloc, &*disk, given.folders, ends, given.out)?;
     let apps = spec.apps().as_slice();
-    let wants = Wants::of(alloc, apps)?;
     let topics = source_topics(alloc, apps)?;
+    let roles = Roles {
+        apps,
+        topics: topics.as_slice(),
+        out: given.out,
+    };
+    fold_all(alloc, disk, folders.as_slice(), roles)
+}
+
+/// Folds the segments of these folders, one folder after the other.
+#[tactic(auto, using(crate::proofs::FoldsMore::none_folded))]
+fn fold_all<'a, D: DiskMut>(
+    alloc: Global,
+    disk: &mut D,
+    folders: &[PartitionFolder<'a>],
+    roles: Roles<'_>,
+) -> Result<Folded, FoldingFault<'a>>
+    ensures ok { OnOk result (AreFolded (D.holds disk.old) roles.entry.topics.now roles.entry.out.now (items_of roles.entry.apps.now folders.now) (D.holds disk.new)) }
+    ensures err { OnErr result (FoldedInPart (D.holds disk.old) roles.entry.topics.now roles.entry.out.now (D.holds disk.new)) }
+{
+    let wants = Wants::of(alloc, roles.apps)?;
     let mut folded = Folded {
         segments: 0,
         bytes: 0,
     };
-    for folder in find_folders(rt, given.folders, spec.ends().as_slice(), given.out)? {
+    for folder in folders {
         let asked = Asked {
             wanted: wants.of_topic(folder.name.topic.as_slice()),
-            topics: topics.as_slice(),
-            out: given.out,
+            topics: roles.topics,
+            out: roles.out,
         };
-        fold_folder(rt, &folder, asked, &mut folded)?;
+        fold_folder(alloc, disk, folder, asked, &mut folded)?;
     }
     Ok(folded)
 }
 
 /// Folds the segments of a partition's folder, in order.
-fn fold_folder<'a>(
-    rt: &HostRuntime,
+fn fold_folder<'a, D: DiskMut>(
+    alloc: Global,
+    disk: &mut D,
     folder: &PartitionFolder<'a>,
     asked: Asked<'_>,
     folded: &mut Folded,
-) -> Result<(), FoldingFault<'a>> {
+) -> Result<(), FoldingFault<'a>>
+    ensures ok { OnOk result (AreFolded (D.holds disk.old) asked.entry.topics.now asked.entry.out.now (items_in asked.entry.wanted folder.now) (D.holds disk.new)) }
+    ensures err { OnErr result (FoldedInPart (D.holds disk.old) asked.entry.topics.now asked.entry.out.now (D.holds disk.new)) }
+{
     for base in folder.bases.as_slice() {
-        let name = folder.segment(*base)?;
-        folded.add(fold_segment(rt, folder.path, &name, asked)?);
+        folded.add(fold_segment(alloc, disk, folder, *base, asked)?);
     }
     Ok(())
 }
 
-/// Folds the segment of this name, whose log lies in the folder of this path, and gives the number of its bytes.
-fn fold_segment<'a>(
-    rt: &HostRuntime,
-    folder: &str,
-    name: &Segment,
+/// Folds the segment of a partition's folder with this first offset, and gives the number of its bytes.
+#[tactic(auto, using(crate::proofs::FoldsMore::left_nothing))]
+fn fold_segment<'a, D: DiskMut>(
+    alloc: Global,
+    disk: &mut D,
+    folder: &PartitionFolder<'a>,
+    base: i64,
     asked: Asked<'_>,
-) -> Result<u64, FoldingFault<'a>> {
-    let alloc = rt.alloc();
-    let mut file = open_log(alloc, &HostDisk { rt }, folder, name.base)?;
-    let fold = match fold_of(alloc, asked.wanted, asked.topics, name, &mut file) {
-        Ok(fold) => fold,
-        Err(why) => return Err(FoldingFault::Unread(file.refusal(alloc, why))),
-    };
+) -> Result<u64, FoldingFault<'a>>
+    ensures ok { OnOk result (IsFoldPut (D.holds disk.old) asked.entry.topics.now asked.entry.out.now (item_of asked.entry.wanted folder.now base) (D.holds disk.new)) }
+    ensures err { OnErr result (IsFoldLeft (D.holds disk.old) asked.entry.out.now (item_of asked.entry.wanted folder.now base) (D.holds disk.new)) }
+{
+    let fold = read_fold(alloc, &*disk, folder, base, asked)?;
     let bytes = encode_fold(alloc, &fold)?;
-    write_fold(rt, asked.out, name, bytes.as_slice())?;
+    let name = folder.segment(base)?;
+    write_fold(alloc, disk, asked.out, &name, bytes.as_slice())?;
     Ok(fold.bytes)
+}
+
+/// The fold of the segment of a partition's folder with this first offset.
+fn read_fold<'a, D: Disk>(
+    alloc: Global,
+    disk: &D,
+    folder: &PartitionFolder<'a>,
+    base: i64,
+    asked: Asked<'_>,
+) -> Result<FoldFile, FoldingFault<'a>>
+    ensures fold { IfOk result (IsFoldAt (D.holds disk.now) asked.entry.topics.now (item_of asked.entry.wanted folder.now base)) }
+    ensures right { IfOk result IsRight }
+{
+    let name = folder.segment(base)?;
+    let mut file = open_log(alloc, disk, folder.path, base)?;
+    match fold_of(alloc, asked.wanted, asked.topics, &name, &mut file) {
+        Ok(fold) => Ok(fold),
+        Err(why) => Err(FoldingFault::Unread(file.refusal(alloc, why))),
+    }
 }

@@ -1,31 +1,40 @@
-//! Writing a fold: to a file beside its place, which is then put there whole.
+//! Writing a fold, whole or not at all.
 
-use crate::fault::FoldingFault;
+ghost use Rattle.std.specs.Prelude.{List, ℕ, OnOk, OnErr};
+ghost use Rattle.eos_disk.specs.Changes.{AreMade, AreMadeTo};
+ghost use Rattle.eos_disk.specs.Entries.{Entry};
+ghost use Rattle.eos_disk.specs.Putting.{IsPlaced, IsLeft};
+ghost use Rattle.eos_folder.specs.Paths.{partition_path, segment_path};
+ghost use Rattle.eos_folder.specs.declared.names.Form.TheVariants.{Fold};
+
+use crate::fault::{FoldingFault, unwritten};
+use eos_disk::{DiskMut, put_file};
 use eos_evidence::Segment;
-use eos_folder::{Form, partition_path, put_in_place, segment_path, write_new};
-use std::fs;
+use eos_folder::{Form, partition_path, segment_path};
+use std::alloc::Global;
 
 /// Writes the fold of the segment of this name to its place in a folder of folds, at which nothing may be. Folders that aren't there
 /// are made.
-pub(crate) fn write_fold<'a>(
-    rt: &HostRuntime,
+#[tactic(auto, using(crate::proofs::Unmade::not_begun, crate::proofs::Unmade::not_made, crate::proofs::Unmade::is_put))]
+pub(crate) fn write_fold<'a, D: DiskMut>(
+    alloc: Global,
+    disk: &mut D,
     out: &str,
     name: &Segment,
     bytes: &[u8],
-) -> Result<(), FoldingFault<'a>> {
-    let alloc = rt.alloc();
+) -> Result<(), FoldingFault<'a>>
+    ensures ok { OnOk result ((mid : List ℕ → Entry) × AreMade (D.holds disk.old) (partition_path out.now name.now.topic name.now.partition) mid
+        × IsPlaced mid (segment_path out.now name.now Fold) bytes.now (D.holds disk.new)) }
+    ensures err { OnErr result ((mid : List ℕ → Entry) × AreMadeTo (D.holds disk.old) (partition_path out.now name.now.topic name.now.partition) mid
+        × IsLeft mid (segment_path out.now name.now Fold) bytes.now (D.holds disk.new)) }
+{
     let folder = partition_path(alloc, out, name.topic.as_slice(), name.partition)?;
     let path = segment_path(alloc, out, name, Form::Fold)?;
-    let beside = format!(in alloc; "{path}.new")?;
-    if let Err(e) = fs::create_dir_all(rt, folder.as_str()) {
-        return Err(FoldingFault::CannotWrite(folder, e.kind()));
+    if let Err(fault) = disk.make_folders(alloc, folder.as_str()) {
+        return Err(unwritten(folder, fault));
     }
-    if let Err(e) = write_new(rt, &beside, bytes) {
-        return Err(FoldingFault::CannotWrite(beside, e.kind()));
+    match put_file(alloc, disk, path.as_str(), bytes) {
+        Ok(()) => Ok(()),
+        Err(fault) => Err(unwritten(path, fault)),
     }
-    if let Err(e) = put_in_place(rt, &beside, &path) {
-        let _ = fs::remove_file(rt, beside.as_str());
-        return Err(FoldingFault::CannotWrite(path, e.kind()));
-    }
-    Ok(())
 }

@@ -1,12 +1,14 @@
 //! Why no manifest is made.
 
 ghost use Rattle.std.specs.Prelude.{◌≡◌};
-ghost use Rattle.eos_init_files.specs.declared.fault.InitFault.TheVariants.{OutOfMemory};
+ghost use Rattle.eos_init_files.specs.declared.fault.InitFault.TheVariants.{Unread, OutOfMemory};
 
 use eos_base::PartitionName;
+use eos_disk::DiskFault;
 use eos_evidence::SpecFault;
-use eos_folder::{Cause, FolderFault};
+use eos_folder::{FolderFault, NamedFile};
 use std::alloc::{AllocError, AllocFailed};
+use std::io::Read;
 
 /// Why no manifest is made: the first of what stands against it. Nothing was written then.
 #[derive(Drop)]
@@ -15,10 +17,8 @@ pub enum InitFault {
     ThereAlready(String),
     /// The word of this place, counted from 0, is no GROUP:SOURCE,..:OUTPUT,...
     App(usize),
-    /// This file or folder can't be read.
-    CannotRead(String),
-    /// This file is a fold, which is refused by this name.
-    Fold(String, &'static str, Cause),
+    /// A file or folder isn't read, or is a fold.
+    Unread(FolderFault),
     /// This file can't be written.
     CannotWrite(String),
     /// The line of this number, counted from 1, is no TOPIC:PARTITION:OFFSET.
@@ -29,10 +29,18 @@ pub enum InitFault {
     Apps(SpecFault),
     /// The ends are refused: a partition stands twice, or there are too many.
     Ends(SpecFault),
-    /// A file is larger than a segment may be.
+    /// A log ends past the greatest offset.
     Limit,
     /// A growth of memory was refused.
     OutOfMemory,
+}
+
+impl From<FolderFault> for InitFault {
+    ghost from_gives = { λ fault e. e ≡ Unread fault };
+
+    fn from(fault: FolderFault) -> InitFault {
+        InitFault::Unread(fault)
+    }
 }
 
 impl From<AllocError> for InitFault {
@@ -51,13 +59,10 @@ impl<T: Drop> From<AllocFailed<T>> for InitFault {
     }
 }
 
-/// What a folder that can't be read stands for here.
-pub(crate) fn unread(fault: FolderFault) -> InitFault {
-    match fault {
-        FolderFault::CannotRead(path, _cause) => InitFault::CannotRead(path),
-        FolderFault::Fold(path, name, cause) => InitFault::Fold(path, name, cause),
-        FolderFault::Manifest(fault, _cause) => InitFault::Ends(fault),
-        FolderFault::Limit(_cause) => InitFault::Limit,
-        FolderFault::OutOfMemory => InitFault::OutOfMemory,
+/// Why the folder of this path isn't listed, in the words for a file of this kind that isn't opened.
+pub(crate) fn unlisted<F: Read + Drop>(path: String, fault: DiskFault) -> FolderFault {
+    match NamedFile::<F>::of_opened(path, Err(fault)) {
+        Ok(_) => FolderFault::OutOfMemory,
+        Err(fault) => fault,
     }
 }

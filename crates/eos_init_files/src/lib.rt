@@ -4,11 +4,14 @@
 
 mod copied;
 mod fault;
+mod given;
 mod lines;
 mod making;
 mod note;
+mod noting;
 mod writing;
 
 pub use fault::InitFault;
-pub use making::{Given, Made, init};
-pub use note::{Note, OfLines, name_text};
+pub use given::Given;
+pub use making::{Made, init};
+pub use note::name_text;

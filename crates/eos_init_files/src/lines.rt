@@ -1,12 +1,12 @@
 //! What the lines of ends say beside the ends, and what is told of it.
 
-use crate::copied::Names;
 use crate::fault::InitFault;
 use crate::note::{Note, OfLines};
 use bytes::Bytes;
-use eos_base::PartitionName;
+use eos_base::{PartitionName, Sorted};
 use eos_evidence::{App, End};
 use eos_init::{coordinator_of, partitions_of};
+use std::alloc::Global;
 use std::collections::BTreeSet;
 
 const OFFSETS: &str = "__consumer_offsets";
@@ -32,43 +32,43 @@ pub(crate) fn has_returns(text: &[u8]) -> bool {
 
 /// Adds what is to be told of the lines of this file: there are none, they end in carriage returns, a topic has none.
 pub(crate) fn push_of_lines(
-    rt: &HostRuntime,
+    alloc: Global,
     notes: &mut Vec<Note>,
     file: &str,
     apps: &[App],
     said: &Said,
 ) -> Result<(), InitFault> {
     if said.ends.is_empty() {
-        return push_of_file(rt, notes, file, OfLines::None);
+        return push_of_file(alloc, notes, file, OfLines::None);
     }
     if said.has_returns {
-        push_of_file(rt, notes, file, OfLines::Returns)?;
+        push_of_file(alloc, notes, file, OfLines::Returns)?;
     }
-    let topics = topics_of(rt, apps)?;
+    let topics = topics_of(alloc, apps)?;
     for topic in &topics {
         if !said.ends.iter().any(|end| end.topic == *topic) {
-            push_of_file(rt, notes, file, OfLines::Lacks(topic.clone()?))?;
+            push_of_file(alloc, notes, file, OfLines::Lacks(topic.clone()?))?;
         }
     }
     Ok(())
 }
 
 fn push_of_file(
-    rt: &HostRuntime,
+    alloc: Global,
     notes: &mut Vec<Note>,
     file: &str,
     what: OfLines,
 ) -> Result<(), InitFault> {
-    let file = String::from_str(rt.alloc(), file)?;
+    let file = String::from_str(alloc, file)?;
     notes.push(Note::Lines(file, what))?;
     Ok(())
 }
 
 /// The topics that applications name, and Kafka's own two, each once, in order.
-fn topics_of(rt: &HostRuntime, apps: &[App]) -> Result<BTreeSet<Bytes>, InitFault> {
-    let mut topics = BTreeSet::new(rt.alloc());
-    topics.insert(Bytes::copy_from_slice(rt.alloc(), OFFSETS.as_bytes())?)?;
-    topics.insert(Bytes::copy_from_slice(rt.alloc(), STATES.as_bytes())?)?;
+fn topics_of(alloc: Global, apps: &[App]) -> Result<BTreeSet<Bytes>, InitFault> {
+    let mut topics = BTreeSet::new(alloc);
+    topics.insert(Bytes::copy_from_slice(alloc, OFFSETS.as_bytes())?)?;
+    topics.insert(Bytes::copy_from_slice(alloc, STATES.as_bytes())?)?;
     for app in apps {
         for topic in app.sources.as_slice() {
             topics.insert(topic.clone()?)?;
@@ -82,23 +82,23 @@ fn topics_of(rt: &HostRuntime, apps: &[App]) -> Result<BTreeSet<Bytes>, InitFaul
 
 /// Adds for each group to which partition of the offsets log it commits, where the ends are those of all of them.
 pub(crate) fn push_of_groups(
-    rt: &HostRuntime,
+    alloc: Global,
     notes: &mut Vec<Note>,
     apps: &[App],
     said: &Said,
-    folders: &Names,
+    folders: &Sorted<PartitionName>,
 ) -> Result<(), InitFault> {
     let Some(partitions) = partitions_of(said.ends.as_slice(), OFFSETS.as_bytes()) else {
         return Ok(());
     };
     for app in apps {
         let partition = PartitionName {
-            topic: Bytes::copy_from_slice(rt.alloc(), OFFSETS.as_bytes())?,
+            topic: Bytes::copy_from_slice(alloc, OFFSETS.as_bytes())?,
             partition: coordinator_of(app.group.as_str(), partitions),
         };
         notes.push(Note::Group {
             group: app.group.clone()?,
-            has_folder: folders.contains(&partition),
+            has_folder: folders.holds(&partition),
             partition,
             partitions,
         })?;

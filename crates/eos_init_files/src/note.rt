@@ -8,7 +8,7 @@ use std::alloc::{AllocError, Global};
 
 /// What `check` will refuse in the evidence, or can't see.
 #[derive(Drop)]
-pub enum Note {
+pub(crate) enum Note {
     /// The ends are those of the copied logs.
     EndsOfCopies,
     /// This holds of the lines of the file of this path.
@@ -30,7 +30,7 @@ pub enum Note {
 
 /// What may be wrong with the lines of ends.
 #[derive(Drop)]
-pub enum OfLines {
+pub(crate) enum OfLines {
     /// There are none.
     None,
     /// Lines end in carriage returns, which weren't read.
@@ -54,12 +54,24 @@ impl OfLines {
     }
 }
 
+/// The notes as texts of one line, each without its newline.
+///
+/// # Errors
+/// A growth of memory was refused.
+pub(crate) fn note_texts(alloc: Global, notes: &[Note]) -> Result<Vec<String>, AllocError> {
+    let mut texts = Vec::new(alloc);
+    for note in notes {
+        texts.push(note.text(alloc)?)?;
+    }
+    Ok(texts)
+}
+
 impl Note {
     /// The note as a text of one line, without its newline.
     ///
     /// # Errors
     /// A growth of memory was refused.
-    pub fn text(&self, alloc: Global) -> Result<String, AllocError> {
+    pub(crate) fn text(&self, alloc: Global) -> Result<String, AllocError> {
         match self {
             Note::EndsOfCopies => String::from_str(
                 alloc,

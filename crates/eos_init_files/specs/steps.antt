@@ -1,2 +1,2 @@
 -- What only private functions promise: steps towards what the public calls say.
-pub mod Paths
+pub mod Names

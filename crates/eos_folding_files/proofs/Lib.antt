@@ -1,0 +1,4 @@
+mod AllFolded
+mod FoldersFound
+mod FoldsMore
+mod Unmade

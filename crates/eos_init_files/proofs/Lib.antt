@@ -1,0 +1,6 @@
+mod Asked
+mod CopiedEnds
+mod GivenTexts
+mod ManifestParts
+mod NameSets
+mod Placed

@@ -1,0 +1,67 @@
+//! What is told of copied logs beside their manifest.
+
+use crate::copied::Logs;
+use crate::fault::InitFault;
+use crate::lines::{Said, push_of_groups, push_of_lines};
+use crate::note::Note;
+use eos_base::{PartitionName, Sorted};
+use eos_disk::Disk;
+use eos_evidence::{End, Spec};
+use eos_init::is_compressed_at_head;
+
+/// What is told where the ends are those of this file, or of the copied logs.
+pub(crate) fn notes_on<D: Disk>(
+    logs: &Logs<'_, D>,
+    file: Option<&str>,
+    spec: &Spec,
+    folders: &Sorted<PartitionName>,
+    said: &Said,
+) -> Result<Vec<Note>, InitFault> {
+    let mut notes = Vec::new(logs.alloc);
+    let apps = spec.apps();
+    match file {
+        Some(file) => push_of_lines(logs.alloc, &mut notes, file, apps.as_slice(), said)?,
+        None => notes.push(Note::EndsOfCopies)?,
+    }
+    for end in spec.ends().as_slice() {
+        if let Some(note) = note_on(logs, end, folders)? {
+            notes.push(note)?;
+        }
+    }
+    if file.is_some() {
+        push_of_groups(logs.alloc, &mut notes, apps.as_slice(), said, folders)?;
+    }
+    Ok(notes)
+}
+
+/// What `check` will refuse of a partition, as far as its folder and the head of its first segment show.
+fn note_on<D: Disk>(
+    logs: &Logs<'_, D>,
+    end: &End,
+    folders: &Sorted<PartitionName>,
+) -> Result<Option<Note>, InitFault> {
+    let name = PartitionName {
+        topic: end.topic.clone()?,
+        partition: end.partition,
+    };
+    if !folders.holds(&name) {
+        return Ok(if end.end > 0 {
+            Some(Note::NoFolder(name))
+        } else {
+            None
+        });
+    }
+    let bases = logs.bases(end)?;
+    let Some(base) = bases.first() else {
+        return Ok(None);
+    };
+    if *base != 0 {
+        return Ok(Some(Note::FirstSegment(name, *base)));
+    }
+    let bytes = logs.segment(end, *base)?;
+    Ok(if is_compressed_at_head(bytes.as_slice()) {
+        Some(Note::Compressed(name))
+    } else {
+        None
+    })
+}
