@@ -16,7 +16,9 @@ import json
 import os
 import random
 import re
+import resource
 import shutil
+import signal
 import subprocess
 import sys
 import tempfile
@@ -375,9 +377,19 @@ def files():
         expect(file.read() == "mine\n", "a history was written over another file")
     os.mkdir(folder)
     status, _, told = run(*script, "--history", f"{scratch}/unwritten", folder)
-    expect(status == 2 and not os.path.exists(f"{scratch}/unwritten"), f"a history without a folder: {told}")
+    expect(status == 2 and not any(it.startswith("unwritten") for it in os.listdir(scratch)), f"a history without a folder: {told}")
     os.rmdir(folder)
     expect(not os.path.exists(folder), "a folder without a history")
+    # where the system writes no more of the history, neither is left
+    status, out, told = run(*script[:-1], 400, "--history", f"{scratch}/long", folder, preexec_fn=small_files)
+    expect((status, out, told) == (2, "", f"eoscheck: cannot write {scratch}/long\n"), f"a full disk: {status} {told}")
+    expect(not os.path.exists(folder) and not any(it.startswith("long") for it in os.listdir(scratch)), "a full disk leaves something")
+
+
+def small_files():
+    """No file gets larger than 20,000 bytes: a segment is smaller, and a history isn't."""
+    signal.signal(signal.SIGXFSZ, signal.SIG_IGN)
+    resource.setrlimit(resource.RLIMIT_FSIZE, (20_000, 20_000))
 
 
 def refused_memory(library):

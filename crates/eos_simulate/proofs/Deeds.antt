@@ -1,6 +1,10 @@
 -- Deeds after deeds.
-use Rattle.std.proofs.Common.{◌≡◌, ℕ, ◌+◌, ◌<◌, Bool, true, List, [], ◌∷◌, ◌++◌, length, take, get_or, None, if◌then◌else◌, sym, ap, ◌∙◌, append_assoc}
-use Rattle.std.proofs.lemmas.List.{map-append, take_more}
+use Rattle.std.proofs.Common.{◌≡◌, ℕ, ◌+◌, ◌<◌, ◌≤◌, ◌≢◌, Bool, true, List, Contains, Option, None, Some, IfSome, IsSome, [], ◌∷◌, ◌++◌, length, take, drop, get_or, if◌then◌else◌, refl, sym, ap, ap₂, subst, ◌∙◌, append_assoc}
+use Rattle.std.proofs.lemmas.Bool.{false≢true}
+use Rattle.std.proofs.lemmas.List.{take_all, take_more, take-append-drop, append-nil}
+use Rattle.std.proofs.lemmas.List.Elements.{Contains-append_left, Contains-push}
+use Rattle.std.specs.List.{AllZip}
+use Rattle.eos_machine.specs.declared.switches.Switches.{Switches}
 use Rattle.eos_machine.specs.declared.event.Event.{Event}
 use Rattle.eos_machine.specs.declared.event.Reply.{Reply}
 use Rattle.eos_cluster.specs.Courses.{Course}
@@ -10,7 +14,11 @@ use Rattle.eos_scripts.specs.Driven.{is_taken, recorded, IsKept}
 use Rattle.eos_history_lines.specs.declared.line.Deed.{Deed as SaidDeed}
 use Rattle.eos_history_lines.specs.declared.line.Deed.TheVariants as said
 use Rattle.eos_history_lines.specs.declared.line.Line.{Line}
-use Rattle.eos_simulate.specs.Histories.{act_of, act_said, acts_of, acts_said}
+use Rattle.eos_simulate.specs.declared.replaying.ReplayFault.{ReplayFault}
+use Rattle.eos_simulate.specs.declared.replaying.ReplayFault.TheVariants.{NotAtRest, Limit, Otherwise, OutOfMemory}
+use Rattle.eos_simulate.specs.Histories.{act_said, acts_of, acts_said, reply_said, Agrees, IsAsSaid}
+use Rattle.eos_simulate.specs.Replays.{DiffersFirst, IfOtherwise}
+use Rattle.eos_simulate.specs.steps.Passing.{HavePassed, HasPassed, HasDiffered, DiffersAfter, IsOther}
 use Rattle.eos_scripts.proofs.OneAfterAnother as deeds
 
 pub kept_on : (s t u : Course) (before now after : List Deed) → IsKept s before t now → IsKept t now u after → IsKept s before u after
@@ -21,14 +29,132 @@ pub kept_still : (s : Course) (now : List Deed) → IsKept s now s now
 kept_still = deeds.kept_still
 
 -- an event more that was taken
-pub taken_acts : (ds now : List Deed) (e f : Event) (r : Reply) → is_taken r ≡ true → now ≡ recorded ds e r → e ≡ f → acts_of now ≡ acts_of ds ++ said.Asked f None ∷ []
-taken_acts ds now e f r taken is same =
-    let stored : now ≡ ds ++ done.Asked e r ∷ [] = is ∙ ap (λ (b : Bool). if b then ds ++ done.Asked e r ∷ [] else ds) taken in
-    ap acts_of stored ∙ (map-append act_of ds (done.Asked e r ∷ []) ∙ ap (λ (x : Event). acts_of ds ++ said.Asked x None ∷ []) same)
+pub taken_deed : (ds now : List Deed) (e f : Event) (r : Reply) → is_taken r ≡ true → now ≡ recorded ds e r → e ≡ f → now ≡ ds ++ done.Asked f r ∷ []
+taken_deed ds now e f r taken is same =
+    is ∙ ap (λ (b : Bool). if b then ds ++ done.Asked e r ∷ [] else ds) taken ∙ ap (λ (x : Event). ds ++ done.Asked x r ∷ []) same
 
--- a line more that was passed
-pub line_more : (ls : List Line) (i : ℕ) (l : Line) (first before now : List SaidDeed) → i < length ls → l ≡ get_or ls i l → before ≡ first ++ acts_said (take i ls) → now ≡ before ++ act_said l.deed ∷ [] → now ≡ first ++ acts_said (take (i + 1) ls)
-line_more ls i l first before now lt is so_far more =
-    let passed : take (i + 1) ls ≡ take i ls ++ l ∷ [] = take_more ls i l lt ∙ ap (λ (x : Line). take i ls ++ x ∷ []) (sym is) in
-    let lines : acts_said (take (i + 1) ls) ≡ acts_said (take i ls) ++ act_said l.deed ∷ [] = ap acts_said passed ∙ map-append (λ (x : Line). act_said x.deed) (take i ls) (l ∷ []) in
-    more ∙ (ap (λ (xs : List SaidDeed). xs ++ act_said l.deed ∷ []) so_far ∙ (append_assoc first (acts_said (take i ls)) (act_said l.deed ∷ []) ∙ ap (λ (xs : List SaidDeed). first ++ xs) (sym lines)))
+-- ---- lines that were passed
+
+pub passed_asked : (before now : List Deed) (l : Line) (e : Event) (s : Option Reply) (met : Reply) → l.deed ≡ said.Asked e s → now ≡ before ++ done.Asked e met ∷ [] → Agrees (Some met) s → HasPassed before now l
+passed_asked before now l e s met is kept agrees = record {
+  deed = done.Asked e met;
+  kept = kept;
+  says = record { act = sym (ap act_said is); reply = subst (λ (d : SaidDeed). Agrees (Some met) (reply_said d)) (sym is) agrees };
+}
+
+pub passed_set : (before now : List Deed) (l : Line) (u : Switches) → l.deed ≡ said.Set u → now ≡ before ++ done.Set u ∷ [] → HasPassed before now l
+passed_set before now l u is kept = record {
+  deed = done.Set u;
+  kept = kept;
+  says = record { act = sym (ap act_said is); reply = subst (λ (d : SaidDeed). Agrees None (reply_said d)) (sym is) tt };
+}
+
+pub differed : (before now : List Deed) (l told : Line) (e : Event) (s : Option Reply) (met : Reply) → l.deed ≡ said.Asked e s → now ≡ before ++ done.Asked e met ∷ [] → IfSome s (λ r. met ≢ r) → IsSome s
+    → told ≡ record { number = l.number; deed = said.Asked e (Some met) } → HasDiffered before now l told
+differed before now l told e None met is kept apart some tells = absurd (false≢true some)
+differed before now l told e (Some r) met is kept apart some tells = record {
+  event = e;
+  said_reply = r;
+  met = met;
+  kept = kept;
+  says = is;
+  differs = apart;
+  tells = tells;
+}
+
+pub other_fault : (f : ReplayFault) (P : Line → Type 0) → IsOther f → IfOtherwise f P
+other_fault NotAtRest P h = tt
+other_fault Limit P h = tt
+other_fault (Otherwise told) P h = absurd h
+other_fault OutOfMemory P h = tt
+
+pub none_passed : (b : List Deed) → HavePassed b b []
+none_passed b = record { since = []; kept = sym (append-nil b); each = tt }
+
+zip_more : (ds : List Deed) (ls : List Line) (d : Deed) (l : Line) → AllZip IsAsSaid ds ls → IsAsSaid d l → AllZip IsAsSaid (ds ++ d ∷ []) (ls ++ l ∷ [])
+zip_more [] [] d l h s = (s, tt)
+zip_more [] (m ∷ ls) d l h s = absurd h
+zip_more (e ∷ ds) [] d l h s = absurd h
+zip_more (e ∷ ds) (m ∷ ls) d l h s = (h.0, zip_more ds ls d l h.1 s)
+
+passed_more : (b now new : List Deed) (ls : List Line) (l : Line) → HavePassed b now ls → HasPassed now new l → HavePassed b new (ls ++ l ∷ [])
+passed_more b now new ls l h s = record {
+  since = h.since ++ s.deed ∷ [];
+  kept = s.kept ∙ (ap (λ (x : List Deed). x ++ s.deed ∷ []) h.kept ∙ append_assoc b h.since (s.deed ∷ []));
+  each = zip_more h.since ls s.deed l h.each s.says;
+}
+
+-- of a list of lines one line more
+pub line_more : (ls : List Line) (i : ℕ) (l : Line) (b now new : List Deed) → i < length ls → l ≡ get_or ls i l → HavePassed b now (take i ls) → HasPassed now new l → HavePassed b new (take (i + 1) ls)
+line_more ls i l b now new lt is h s =
+    let further : take (i + 1) ls ≡ take i ls ++ l ∷ [] = take_more ls i l lt ∙ ap (λ (x : Line). take i ls ++ x ∷ []) (sym is) in
+    subst (λ (x : List Line). HavePassed b new x) (sym further) (passed_more b now new (take i ls) l h s)
+
+-- all of them
+pub all_passed : (ls : List Line) (i : ℕ) (b now : List Deed) → length ls ≤ i → HavePassed b now (take i ls) → HavePassed b now ls
+all_passed ls i b now end h = subst (λ (x : List Line). HavePassed b now x) (take_all i ls end) h
+
+-- at this line it differs
+line_differs : (ls : List Line) (i : ℕ) (l told : Line) (b now new : List Deed) → i < length ls → l ≡ get_or ls i l → HavePassed b now (take i ls) → HasDiffered now new l told → DiffersAfter b ls new told
+line_differs ls i l told b now new lt is h s = record {
+  passed = take i ls;
+  here = l;
+  others = drop (i + 1) ls;
+  middle = now;
+  parts = sym (take-append-drop (i + 1) ls)
+      ∙ ap (λ (x : List Line). x ++ drop (i + 1) ls) (take_more ls i l lt ∙ ap (λ (x : Line). take i ls ++ x ∷ []) (sym is))
+      ∙ append_assoc (take i ls) (l ∷ []) (drop (i + 1) ls);
+  agrees = h;
+  last = s;
+}
+
+-- ---- a history that began with nothing in it
+
+acts_alike : (ds : List Deed) (ls : List Line) → AllZip IsAsSaid ds ls → acts_of ds ≡ acts_said ls
+acts_alike [] [] h = refl
+acts_alike [] (l ∷ ls) h = absurd h
+acts_alike (d ∷ ds) [] h = absurd h
+acts_alike (d ∷ ds) (l ∷ ls) h = ap₂ (λ (x : SaidDeed) (xs : List SaidDeed). x ∷ xs) h.0.act (acts_alike ds ls h.1)
+
+pub passed_each : (b now : List Deed) (ls : List Line) → b ≡ [] → HavePassed b now ls → AllZip IsAsSaid now ls
+passed_each b now ls none h = subst (λ (x : List Deed). AllZip IsAsSaid x ls) (sym (h.kept ∙ ap (λ (x : List Deed). x ++ h.since) none)) h.each
+
+pub passed_acts : (b now : List Deed) (ls : List Line) → b ≡ [] → HavePassed b now ls → acts_of now ≡ acts_said ls
+passed_acts b now ls none h = acts_alike now ls (passed_each b now ls none h)
+
+differs_first : (b now : List Deed) (ls : List Line) (told : Line) → b ≡ [] → DiffersAfter b ls now told → DiffersFirst ls now told
+differs_first b now ls told none h = record {
+  before = h.passed;
+  here = h.here;
+  others = h.others;
+  passed = h.middle;
+  event = h.last.event;
+  said_reply = h.last.said_reply;
+  met = h.last.met;
+  parts = h.parts;
+  agrees = passed_each b h.middle h.passed none h.agrees;
+  done_so_far = h.last.kept;
+  says = h.last.says;
+  differs = h.last.differs;
+  tells = h.last.tells;
+}
+
+-- what was set stays in what is kept
+pub set_stays : (s t : Course) (u : Switches) (before middle now : List Deed) → middle ≡ before ++ done.Set u ∷ [] → IsKept s middle t now → Contains now (done.Set u)
+set_stays s t u before middle now set k =
+    let whole : now ≡ (before ++ done.Set u ∷ []) ++ k.since = k.kept ∙ ap (λ (x : List Deed). x ++ k.since) set in
+    subst (λ (x : List Deed). Contains x (done.Set u)) (sym whole) (Contains-append_left (before ++ done.Set u ∷ []) k.since (done.Set u) (Contains-push before (done.Set u)))
+
+-- of a fault, where the history began with nothing in it
+pub first_of_all : (f : ReplayFault) (b now : List Deed) (ls : List Line) → b ≡ [] → IfOtherwise f (DiffersAfter b ls now) → IfOtherwise f (DiffersFirst ls now)
+first_of_all NotAtRest b now ls none h = tt
+first_of_all Limit b now ls none h = tt
+first_of_all (Otherwise told) b now ls none h = differs_first b now ls told none h
+first_of_all OutOfMemory b now ls none h = tt
+
+-- at this line a fault
+pub fault_differs : (f : ReplayFault) (ls : List Line) (i : ℕ) (l : Line) (b now new : List Deed) → i < length ls → l ≡ get_or ls i l → HavePassed b now (take i ls) → IfOtherwise f (HasDiffered now new l) → IfOtherwise f (DiffersAfter b ls new)
+fault_differs NotAtRest ls i l b now new lt is h s = tt
+fault_differs Limit ls i l b now new lt is h s = tt
+fault_differs (Otherwise told) ls i l b now new lt is h s = line_differs ls i l told b now new lt is h s
+fault_differs OutOfMemory ls i l b now new lt is h s = tt

@@ -1,8 +1,10 @@
 -- What was done to a simulated cluster, and the evidence that it leaves.
-use Rattle.std.specs.Prelude.{◌≡◌, true, List, [], ◌∷◌, map, None}
+use Rattle.std.specs.Prelude.{◌≡◌, true, ⊤, Contains, List, map, Option, None, Some}
 use Rattle.eos_evidence.specs.Evidence.{EvidenceParts}
 use Rattle.eos_machine.specs.declared.config.Config.{Config}
-use Rattle.eos_machine.specs.Switching.{none}
+use Rattle.eos_machine.specs.declared.event.Reply.{Reply}
+use Rattle.eos_machine.specs.declared.switches.Switches.{Switches}
+use Rattle.eos_machine.specs.Switching.{none, any_on}
 use Rattle.eos_machine.specs.World.{opening}
 use Rattle.eos_cluster.specs.Courses.{Course}
 use Rattle.eos_logs.specs.Evidences.{IsEvidenceOf}
@@ -23,6 +25,10 @@ pub record IsLeftBy (c : Config) (deeds : List Deed) (e : EvidenceParts) : Type 
   pub leads : Leads (new_course c) deeds course
   pub evidence : IsEvidenceOf course.config course.world e
 
+-- and its switches were set to these, if any is on: the rules that it breaks are those that are asked for
+abbrev pub HasBroken : Switches → List Deed → Type 0
+HasBroken s deeds = any_on s ≡ true → Contains deeds (done.Set s)
+
 -- what was done, and what a line says of it, without the replies
 abbrev pub act_of : Deed → SaidDeed
 act_of (done.Asked event reply) = said.Asked event None
@@ -37,3 +43,24 @@ acts_of ds = map act_of ds
 
 abbrev pub acts_said : List Line → List SaidDeed
 acts_said ls = map (λ l. act_said l.deed) ls
+
+-- ---- a schedule that is run again
+
+-- the reply, and the one that a line says
+abbrev pub reply_of : Deed → Option Reply
+reply_of (done.Asked event reply) = Some reply
+reply_of (done.Set switches) = None
+
+abbrev pub reply_said : SaidDeed → Option Reply
+reply_said (said.Asked event reply) = reply
+reply_said (said.Set switches) = None
+
+-- any will do where none is said
+abbrev pub Agrees : Option Reply → Option Reply → Type 0
+Agrees met None = ⊤
+Agrees met (Some reply) = met ≡ Some reply
+
+-- what the line says was done, and answered as it says
+pub record IsAsSaid (d : Deed) (l : Line) : Type 0 where
+  pub act : act_of d ≡ act_said l.deed
+  pub reply : Agrees (reply_of d) (reply_said l.deed)

@@ -1,2 +1,5 @@
 pub mod Simulated
+pub mod Settings
 pub mod Histories
+pub mod Replays
+pub mod steps

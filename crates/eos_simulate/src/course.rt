@@ -1,6 +1,7 @@
 //! What a simulated cluster does, as the words of the command line say.
 
-ghost use Rattle.std.specs.Prelude.{◌≡◌, false, None, IfSome};
+ghost use Rattle.std.specs.Prelude.{◌≡◌, min, bytes_eq, true, false, None, IfSome, IfOk, option_map, unwrap_or};
+ghost use Rattle.eos_simulate.specs.Settings.{config_said, rates_said, is_named, switches_said};
 ghost use Rattle.eos_machine.specs.Switching.{switch_name, any_on};
 
 use crate::making::SimulationFault;
@@ -10,17 +11,6 @@ use eos_machine::Config;
 use eos_scripts::{ChosenMishap, Mishap, Rates, Settings, Turning};
 use eos_words::{Simulation, Sizes, Thousandths};
 use std::alloc::Global;
-
-/// How large the cluster is where the words don't say.
-const SIZES: Config = Config {
-    applications: 2,
-    inputs: 2,
-    outputs: 2,
-    transaction_logs: 1,
-    segment_records: 16,
-    batch_records: 1,
-    chain: false,
-};
 
 /// The switches, in the order in which their tails come.
 pub(crate) const SWITCHES: [Switch; 7] = [
@@ -48,7 +38,13 @@ pub struct Course {
 
 impl Course {
     /// What the words say.
-    pub fn of_words(alloc: Global, words: &Simulation<'_>) -> Result<Course, SimulationFault> {
+    pub fn of_words(alloc: Global, words: &Simulation<'_>) -> Result<Course, SimulationFault>
+        ensures sizes { IfOk result (λ course. course.config ≡ config_said words.now.sizes) }
+        ensures script { IfOk result (λ course. (course.seed ≡ words.now.seed) × (course.words ≡ words.now.events)) }
+        ensures rates { IfOk result (λ course. course.rates ≡ rates_said words.now.rates) }
+        ensures switches { IfOk result (λ course. course.switches ≡ switches_said words.now.switches.items) }
+        ensures turning { IfOk result (λ course. course.switch_at ≡ words.now.switch_at) }
+    {
         let rates = rates_of(&words.rates);
         if !rates.fit() {
             return Err(SimulationFault::Unfit("rates", "more than 1000 in all"));
@@ -92,7 +88,10 @@ impl Course {
 
     /// What its run is besides its script.
     pub(crate) fn settings(&self) -> Settings<'_>
-        ensures { any_on self.now.switches ≡ false → result.turning ≡ None }
+        ensures honest { any_on self.now.switches ≡ false → result.turning ≡ None }
+        ensures rates { result.rates ≡ self.now.rates }
+        ensures mishaps { result.mishaps.now ≡ self.now.mishaps.items }
+        ensures turning { any_on self.now.switches ≡ true → result.turning ≡ option_map (λ at. record { after = at; switches = self.now.switches }) self.now.switch_at }
     {
         Settings {
             rates: self.rates,
@@ -134,26 +133,33 @@ fn unfit(
     None
 }
 
-fn config_of(sizes: &Sizes) -> Config {
+/// How large the cluster is; these are the sizes where the words don't say.
+fn config_of(sizes: &Sizes) -> Config
+    ensures { result ≡ config_said sizes.now }
+{
     Config {
-        applications: size_of(sizes.applications, SIZES.applications),
-        inputs: size_of(sizes.inputs, SIZES.inputs),
-        outputs: size_of(sizes.outputs, SIZES.outputs),
-        transaction_logs: size_of(sizes.transaction_logs, SIZES.transaction_logs),
-        segment_records: size_of(sizes.segment_records, SIZES.segment_records),
-        batch_records: size_of(sizes.batch_records, SIZES.batch_records),
+        applications: size_of(sizes.applications, 2),
+        inputs: size_of(sizes.inputs, 2),
+        outputs: size_of(sizes.outputs, 2),
+        transaction_logs: size_of(sizes.transaction_logs, 1),
+        segment_records: size_of(sizes.segment_records, 16),
+        batch_records: size_of(sizes.batch_records, 1),
         chain: sizes.chain,
     }
 }
 
-fn size_of(chosen: Option<u64>, size: usize) -> usize {
+fn size_of(chosen: Option<u64>, size: usize) -> usize
+    ensures { result ≡ unwrap_or chosen size }
+{
     match chosen {
         Some(chosen) => chosen as usize,
         None => size,
     }
 }
 
-fn rates_of(words: &Thousandths) -> Rates {
+fn rates_of(words: &Thousandths) -> Rates
+    ensures { result ≡ rates_said words.now }
+{
     Rates {
         lose: rate_of(words.lose),
         repeat: rate_of(words.repeat),
@@ -166,7 +172,9 @@ fn rates_of(words: &Thousandths) -> Rates {
 }
 
 /// A rate; the words allow none above 1,000.
-fn rate_of(chosen: Option<u64>) -> Option<u16> {
+fn rate_of(chosen: Option<u64>) -> Option<u16>
+    ensures { result ≡ option_map (λ rate. min rate 1000) chosen }
+{
     match chosen {
         Some(rate) => Some(rate.min(1000) as u16),
         None => None,
@@ -188,12 +196,38 @@ fn mishaps_of(alloc: Global, words: &[&str]) -> Result<Vec<ChosenMishap>, Simula
 }
 
 /// The switches of these names, if each has one.
-fn switches_named(names: &[&str]) -> Option<Switches> {
-    let mut switches = Switches::none();
+fn switches_named(names: &[&str]) -> Option<Switches>
+    ensures { IfSome result (λ switches. switches ≡ switches_said names.now) }
+{
     for name in names {
-        turn_on(&mut switches, switch_named(name)?);
+        switch_named(name)?;
     }
-    Some(switches)
+    Some(Switches {
+        keep_duplicates: is_named(names, Switch::KeepDuplicates),
+        no_fence: is_named(names, Switch::NoFence),
+        no_bump: is_named(names, Switch::NoBump),
+        lose_marker: is_named(names, Switch::LoseMarker),
+        swap_marker: is_named(names, Switch::SwapMarker),
+        hide_listing: is_named(names, Switch::HideListing),
+        ignore_generation: is_named(names, Switch::IgnoreGeneration),
+    })
+}
+
+fn is_named(names: &[&str], switch: Switch) -> bool
+    ensures { result ≡ is_named names.now switch }
+{
+    for name in names {
+        if is_called(switch, name) {
+            return true;
+        }
+    }
+    false
+}
+
+fn is_called(switch: Switch, name: &str) -> bool
+    ensures { result ≡ bytes_eq name.now (switch_name switch) }
+{
+    name == switch.name()
 }
 
 /// The switch of this name.
@@ -206,19 +240,6 @@ fn switch_named(name: &str) -> Option<Switch>
         }
     }
     None
-}
-
-/// Turns a switch on beside those that are.
-fn turn_on(switches: &mut Switches, switch: Switch) {
-    match switch {
-        Switch::KeepDuplicates => switches.keep_duplicates = true,
-        Switch::NoFence => switches.no_fence = true,
-        Switch::NoBump => switches.no_bump = true,
-        Switch::LoseMarker => switches.lose_marker = true,
-        Switch::SwapMarker => switches.swap_marker = true,
-        Switch::HideListing => switches.hide_listing = true,
-        Switch::IgnoreGeneration => switches.ignore_generation = true,
-    }
 }
 
 /// Whether a switch is on.

@@ -1,37 +1,19 @@
-//! The folder of a simulated cluster's evidence, which is there whole or not at all, and the file of its history.
+//! The folder of a simulated cluster's evidence and the file of its history: both are there whole, or neither.
 
 use crate::course::Course;
 use crate::history_file::history_text;
-use crate::kept::simulate_kept;
-use crate::making::{SimulationFault, simulate, told_to};
+use crate::kept::simulate;
+use crate::making::{SimulationFault, told_to};
 use crate::replaying::{ReplayFault, replay};
 use crate::schedule_file::{end_unreplayed, read_schedule};
-use eos_disk::HostDisk;
-use eos_ending::{Ending, STANDARD, end, fill_file, make_file};
+use eos_disk::{DiskMut, HostDisk, HostFile};
+use eos_ending::{Ending, STANDARD, end, end_unchanged, leave_file, make_file};
 use eos_evidence::Evidence;
 use eos_folder::{Cause, WritingFault, Written, make_folder, write_evidence};
 use eos_history_lines::Schedule;
 use eos_scripts::History;
 use eos_words::Simulation;
 use std::io;
-
-/// What a run leaves.
-#[derive(Drop)]
-struct Left {
-    /// The exit status.
-    status: u8,
-    /// The text of its history, where there is a folder and one was asked for.
-    history: Option<String>,
-}
-
-impl Left {
-    fn nothing(status: u8) -> Left {
-        Left {
-            status,
-            history: None,
-        }
-    }
-}
 
 /// What a cluster left: the evidence, and the text of its history, if that was asked for.
 #[derive(Drop)]
@@ -40,124 +22,140 @@ struct Made {
     history: Option<String>,
 }
 
-/// Writes what a simulated cluster leaves as a new folder, and on standard output that it did; and its history to a new file, if
-/// that is asked for. Gives the exit status.
+/// Writes what a simulated cluster leaves as a new folder, and its history to a new file, if that is asked for; and then on standard
+/// output that it did. Gives the exit status.
 pub fn simulate_folder(rt: &HostRuntime, words: &Simulation<'_>) -> u8 {
     let Some(path) = words.history else {
-        return leave_folder(rt, words).status;
+        return leave_folder(rt, words, None);
     };
     match make_file(rt, path) {
+        Ok(file) => leave_folder(rt, words, Some(file)),
         Err(status) => status,
-        Ok(file) => {
-            let left = leave_folder(rt, words);
-            fill_file(rt, path, file, left.history, left.status)
+    }
+}
+
+/// Leaves the folder, and the history that was begun; or neither.
+fn leave_folder(rt: &HostRuntime, words: &Simulation<'_>, file: Option<HostFile<'_>>) -> u8 {
+    let mut written = Written::new(rt.alloc());
+    match make(rt, words, &mut written) {
+        Ok(Made { evidence, history }) => match leave_history(rt, words, file, history) {
+            Ok(()) => write_made(rt, words, &mut written, &evidence),
+            Err(status) => {
+                written.remove(rt.alloc(), &mut HostDisk { rt });
+                status
+            }
+        },
+        Err(status) => {
+            written.remove(rt.alloc(), &mut HostDisk { rt });
+            let _ = leave_history(rt, words, file, None);
+            status
         }
     }
 }
 
-fn leave_folder(rt: &HostRuntime, words: &Simulation<'_>) -> Left {
+/// Writes the history that was begun, if one was, or drops it where there is no text. Otherwise says why it can't, and gives the
+/// exit status.
+fn leave_history(
+    rt: &HostRuntime,
+    words: &Simulation<'_>,
+    file: Option<HostFile<'_>>,
+    text: Option<String>,
+) -> Result<(), u8> {
+    let (Some(path), Some(file)) = (words.history, file) else {
+        return Ok(());
+    };
+    match leave_file(rt.alloc(), &mut HostDisk { rt }, file, text) {
+        Ok(()) => Ok(()),
+        Err(fault) => Err(end_unchanged(rt, path, fault)),
+    }
+}
+
+/// Makes the folder, and what is to stand in it. Otherwise says why not, and gives the exit status.
+fn make(rt: &HostRuntime, words: &Simulation<'_>, written: &mut Written) -> Result<Made, u8> {
     match words.schedule {
-        None => leave_scripted(rt, words),
-        Some(path) => leave_scheduled(rt, words, path),
+        None => make_by_words(rt, words, written),
+        Some(path) => {
+            let schedule = read_schedule(rt, path)?;
+            begin_folder(rt, words.folder, written)?;
+            match make_by_schedule(rt, &schedule, words.history.is_some()) {
+                Ok(made) => Ok(made),
+                Err(fault) => Err(end_unreplayed(rt, path, fault)),
+            }
+        }
+    }
+}
+
+fn make_by_words(
+    rt: &HostRuntime,
+    words: &Simulation<'_>,
+    written: &mut Written,
+) -> Result<Made, u8> {
+    let course = match Course::of_words(rt.alloc(), words) {
+        Ok(course) => course,
+        Err(fault) => return Err(end_unmade(rt, fault)),
+    };
+    begin_folder(rt, words.folder, written)?;
+    match make_by_script(rt, &course, words.history.is_some()) {
+        Ok(made) => Ok(made),
+        Err(fault) => Err(end_unmade(rt, fault)),
+    }
+}
+
+fn begin_folder(rt: &HostRuntime, folder: &str, written: &mut Written) -> Result<(), u8> {
+    match make_folder(rt.alloc(), &mut HostDisk { rt }, written, folder) {
+        Ok(()) => Ok(()),
+        Err(fault) => Err(end_unleft(rt, fault)),
     }
 }
 
 /// What a script leaves.
-fn leave_scripted(rt: &HostRuntime, words: &Simulation<'_>) -> Left {
-    let course = match Course::of_words(rt.alloc(), words) {
-        Ok(course) => course,
-        Err(fault) => return Left::nothing(end_unmade(rt, fault)),
-    };
-    let mut written = Written::new(rt.alloc());
-    if let Err(fault) = make_folder(rt.alloc(), &mut HostDisk { rt }, &mut written, words.folder) {
-        return Left::nothing(end_unwritten(rt, fault));
-    }
-    match made_by_script(rt, &course, words.history.is_some()) {
-        Ok(made) => write_made(rt, words.folder, written, made),
-        Err(fault) => {
-            written.remove(rt.alloc(), &mut HostDisk { rt });
-            Left::nothing(end_unmade(rt, fault))
-        }
-    }
-}
-
-fn made_by_script(rt: &HostRuntime, course: &Course, keeps: bool) -> Result<Made, SimulationFault> {
-    if !keeps {
-        return Ok(Made {
-            evidence: simulate(rt.alloc(), course)?,
-            history: None,
-        });
-    }
+fn make_by_script(rt: &HostRuntime, course: &Course, keeps: bool) -> Result<Made, SimulationFault> {
     let mut history = History::new(rt.alloc());
-    let evidence = simulate_kept(rt.alloc(), course, &mut history)?;
-    let text = history_text(rt.alloc(), &course.head(), &history)?;
-    Ok(Made {
-        evidence,
-        history: Some(text),
-    })
+    let evidence = simulate(rt.alloc(), course, &mut history)?;
+    let history = if keeps {
+        Some(history_text(rt.alloc(), &course.head(), &history)?)
+    } else {
+        None
+    };
+    Ok(Made { evidence, history })
 }
 
 /// What a schedule leaves.
-fn leave_scheduled(rt: &HostRuntime, words: &Simulation<'_>, path: &str) -> Left {
-    let schedule = match read_schedule(rt, path) {
-        Ok(schedule) => schedule,
-        Err(status) => return Left::nothing(status),
-    };
-    let mut written = Written::new(rt.alloc());
-    if let Err(fault) = make_folder(rt.alloc(), &mut HostDisk { rt }, &mut written, words.folder) {
-        return Left::nothing(end_unwritten(rt, fault));
-    }
-    match made_by_schedule(rt, &schedule, words.history.is_some()) {
-        Ok(made) => write_made(rt, words.folder, written, made),
-        Err(fault) => {
-            written.remove(rt.alloc(), &mut HostDisk { rt });
-            Left::nothing(end_unreplayed(rt, path, fault))
-        }
-    }
-}
-
-fn made_by_schedule(
+fn make_by_schedule(
     rt: &HostRuntime,
     schedule: &Schedule,
     keeps: bool,
 ) -> Result<Made, ReplayFault> {
     let mut history = History::new(rt.alloc());
     let evidence = replay(rt.alloc(), schedule, &mut history)?;
-    if !keeps {
-        return Ok(Made {
-            evidence,
-            history: None,
-        });
-    }
-    let text = history_text(rt.alloc(), &schedule.head, &history)?;
-    Ok(Made {
-        evidence,
-        history: Some(text),
-    })
+    let history = if keeps {
+        Some(history_text(rt.alloc(), &schedule.head, &history)?)
+    } else {
+        None
+    };
+    Ok(Made { evidence, history })
 }
 
-/// Writes the evidence, and says so on standard output.
-fn write_made(rt: &HostRuntime, folder: &str, mut written: Written, made: Made) -> Left {
+/// Writes the evidence, and then says so on standard output. Where it can't be written, neither it nor the history is left.
+fn write_made(
+    rt: &HostRuntime,
+    words: &Simulation<'_>,
+    written: &mut Written,
+    evidence: &Evidence,
+) -> u8 {
     let mut disk = HostDisk { rt };
-    if let Err(fault) = write_evidence(
-        rt.alloc(),
-        &mut disk,
-        &mut written,
-        folder,
-        &made.evidence,
-    ) {
+    if let Err(fault) = write_evidence(rt.alloc(), &mut disk, written, words.folder, evidence) {
         written.remove(rt.alloc(), &mut disk);
-        return Left::nothing(end_unwritten(rt, fault));
+        if let Some(path) = words.history {
+            let _ = disk.remove(rt.alloc(), path);
+        }
+        return end_unleft(rt, fault);
     }
-    let told = told_to(rt.alloc(), &made.evidence, &mut io::writer(rt));
-    let status = end(
+    let told = told_to(rt.alloc(), evidence, &mut io::writer(rt));
+    end(
         rt,
-        Ending::of_answer(told, folder, STANDARD, &Cause::Unknown),
-    );
-    Left {
-        status,
-        history: made.history,
-    }
+        Ending::of_answer(told, words.folder, STANDARD, &Cause::Unknown),
+    )
 }
 
 /// Says why there is no evidence of a simulated cluster.
@@ -171,7 +169,7 @@ fn end_unmade(rt: &HostRuntime, fault: SimulationFault) -> u8 {
 }
 
 /// Says why a folder wasn't written.
-fn end_unwritten(rt: &HostRuntime, fault: WritingFault) -> u8 {
+fn end_unleft(rt: &HostRuntime, fault: WritingFault) -> u8 {
     match fault {
         WritingFault::CannotWrite(path) => end(rt, Ending::CannotWrite(path.as_str())),
         WritingFault::OutOfMemory => end(rt, Ending::OutOfMemory),

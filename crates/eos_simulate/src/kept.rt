@@ -1,11 +1,11 @@
-//! Making the evidence, with a history of what was done for it.
+//! Making the evidence, with a history of what is done for it.
 
-ghost use Rattle.std.specs.Prelude.{◌≡◌, [], true, false, IfOk};
+ghost use Rattle.std.specs.Prelude.{◌≡◌, [], true, false, IfOk, OnOk};
 ghost use Rattle.eos_logs.specs.Schedules.{IsOfSchedule};
 ghost use Rattle.eos_machine.specs.Switching.{any_on};
 ghost use Rattle.eos_schedules.specs.Schedules.{HasRightLogs, HasNoFaultInLogs};
 ghost use Rattle.eos_scripts.specs.Driven.{IsKept};
-ghost use Rattle.eos_simulate.specs.Histories.{new_course, IsLeftBy};
+ghost use Rattle.eos_simulate.specs.Histories.{new_course, IsLeftBy, HasBroken};
 
 use crate::course::{Course, SWITCHES, is_on};
 use crate::making::{SimulationFault, evidence_of, new_cluster, none_unmet};
@@ -14,19 +14,23 @@ use eos_evidence::Evidence;
 use eos_scripts::{History, Script, run_kept, run_tail_kept};
 use std::alloc::{AllocError, Global};
 
-/// What `simulate` makes, and keeps in a history what is done to the cluster.
-pub fn simulate_kept(
+/// What a cluster leaves that is driven by the words of a seed's script. With switches it breaks these rules, if not inside the
+/// script then afterwards, in a few further events each; without one its logs have no fault. A history that began with nothing in it
+/// has what was done.
+pub fn simulate(
     alloc: Global,
     course: &Course,
     history: &mut History,
 ) -> Result<Evidence, SimulationFault>
     ensures kept { history.old ≡ [] → IfOk result (IsLeftBy course.now.config history.new) }
+    ensures switched { OnOk result (HasBroken course.now.switches history.new) }
     ensures schedule { any_on course.now.switches ≡ false → IfOk result IsOfSchedule }
     ensures right { any_on course.now.switches ≡ false → IfOk result HasRightLogs }
     ensures faultless { any_on course.now.switches ≡ false → IfOk result HasNoFaultInLogs }
 {
     let cluster = broken(alloc, course, history)?;
-    evidence_of(&cluster)
+    let evidence = evidence_of(&cluster)?;
+    Ok(evidence)
 }
 
 /// A cluster that has done what the script says, and then has broken the rules whose switches are on.
@@ -34,6 +38,7 @@ pub fn simulate_kept(
 fn broken(alloc: Global, course: &Course, history: &mut History) -> Result<Cluster, SimulationFault>
     ensures kept { IfOk result (λ cluster. IsKept (new_course course.now.config) history.old cluster history.new) }
     ensures honest { any_on course.now.switches ≡ false → IfOk result (λ cluster. cluster.honest ≡ true) }
+    ensures rules { OnOk result (HasBroken course.now.switches history.new) }
 {
     let mut cluster = driven(alloc, course, history)?;
     break_rules(alloc, &mut cluster, history, course.switches)?;
@@ -53,7 +58,7 @@ fn driven(alloc: Global, course: &Course, history: &mut History) -> Result<Clust
 }
 
 /// Sets the switches, if any is on, and drives the cluster by the events that show those which are.
-#[tactic(auto, using(crate::proofs::Deeds::kept_on, crate::proofs::Deeds::kept_still))]
+#[tactic(auto, using(crate::proofs::Deeds::kept_on, crate::proofs::Deeds::kept_still, crate::proofs::Deeds::set_stays))]
 fn break_rules(
     alloc: Global,
     cluster: &mut Cluster,
@@ -62,6 +67,7 @@ fn break_rules(
 ) -> Result<(), AllocError>
     ensures kept { IsKept cluster.old history.old cluster.new history.new }
     ensures honest { any_on switches ≡ false → cluster.new.honest ≡ cluster.old.honest }
+    ensures rules { OnOk result (HasBroken switches history.new) }
 {
     if !switches.any_on() {
         return Ok(());

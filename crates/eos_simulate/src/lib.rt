@@ -12,6 +12,6 @@ mod schedule_file;
 
 pub use course::Course;
 pub use folder::simulate_folder;
-pub use kept::simulate_kept;
-pub use making::{SimulationFault, simulate, told_to};
+pub use kept::simulate;
+pub use making::{SimulationFault, told_to};
 pub use replaying::{ReplayFault, replay};

@@ -1,22 +1,20 @@
-//! Making the evidence: what a simulated cluster leaves behind.
+//! What a simulated cluster leaves behind, and what is said of it.
 
-ghost use Rattle.std.specs.Prelude.{◌≡◌, true, false, Err, IfOk, OnErr, string_bytes};
+ghost use Rattle.std.specs.Prelude.{◌≡◌, true, Err, IfOk, OnErr, string_bytes};
 ghost use Rattle.std.specs.Io.KnownBytes.{Appends, Keeps};
 ghost use Rattle.eos_text.specs.Writing.{WritesFront};
 ghost use Rattle.eos_logs.specs.Evidences.{IsEvidenceOf};
 ghost use Rattle.eos_logs.specs.Schedules.{IsOfSchedule};
-ghost use Rattle.eos_machine.specs.Switching.{any_on};
 ghost use Rattle.eos_schedules.specs.Schedules.{HasRightLogs, HasNoFaultInLogs};
 ghost use Rattle.eos_simulate.specs.Histories.{new_course};
 ghost use Rattle.eos_simulate.specs.Simulated.{wrote_line};
 ghost use Rattle.eos_segment.specs.Running.{IsOfReading};
 ghost use Rattle.eos_simulate.specs.declared.making.SimulationFault.TheVariants.{OutOfMemory};
 
-use crate::course::{Course, SWITCHES, is_on};
-use eos_cluster::{Cluster, EvidenceRefusal, NewFault, Switches};
+use eos_cluster::{Cluster, EvidenceRefusal, NewFault};
 use eos_evidence::Evidence;
 use eos_machine::Config;
-use eos_scripts::{Mishap, Script, run_tail, run_with};
+use eos_scripts::Mishap;
 use eos_segment::RunFault;
 use eos_text::{finish, push_text, push_value};
 use std::alloc::{AllocError, AllocFailed, Global};
@@ -51,31 +49,6 @@ impl<T: Drop> From<AllocFailed<T>> for SimulationFault {
     }
 }
 
-/// What a cluster leaves that is driven by the words of a seed's script. With switches it breaks these rules, if not inside the
-/// script then afterwards, in a few further events each. Without one its logs have no fault.
-pub fn simulate(alloc: Global, course: &Course) -> Result<Evidence, SimulationFault>
-    ensures schedule { any_on course.now.switches ≡ false → IfOk result IsOfSchedule }
-    ensures right { any_on course.now.switches ≡ false → IfOk result HasRightLogs }
-    ensures faultless { any_on course.now.switches ≡ false → IfOk result HasNoFaultInLogs }
-{
-    let mut cluster = driven(alloc, course)?;
-    if course.switches.any_on() {
-        cluster.set(course.switches);
-        show(&mut cluster, course.switches)?;
-    }
-    evidence_of(&cluster)
-}
-
-/// Drives a cluster by the events that show the switches which are on.
-fn show(cluster: &mut Cluster, switches: Switches) -> Result<(), AllocError> {
-    for switch in SWITCHES {
-        if is_on(switches, switch) {
-            run_tail(cluster, switch)?;
-        }
-    }
-    Ok(())
-}
-
 /// A cluster of these sizes before any event.
 pub(crate) fn new_cluster(alloc: Global, config: Config) -> Result<Cluster, SimulationFault>
     ensures { IfOk result (λ cluster. cluster ≡ new_course config) }
@@ -85,17 +58,6 @@ pub(crate) fn new_cluster(alloc: Global, config: Config) -> Result<Cluster, Simu
         Err(NewFault::Range) => Err(SimulationFault::Limit),
         Err(NewFault::OutOfMemory) => Err(SimulationFault::OutOfMemory),
     }
-}
-
-/// A cluster that has done what the script says.
-fn driven(alloc: Global, course: &Course) -> Result<Cluster, SimulationFault>
-    ensures { any_on course.now.switches ≡ false → IfOk result (λ cluster. cluster.honest ≡ true) }
-{
-    let mut cluster = new_cluster(alloc, course.config)?;
-    let script = Script::from_seed(alloc, course.seed, course.words)?;
-    let unmet = run_with(alloc, &mut cluster, &script, &course.settings())?;
-    none_unmet(unmet)?;
-    Ok(cluster)
 }
 
 /// Refuses a mishap that didn't happen.

@@ -1,10 +1,14 @@
 //! A schedule that is run again: what its lines say is done to a new cluster.
 
-ghost use Rattle.std.specs.Prelude.{◌≡◌, ◌++◌, ◌∷◌, [], None, IfOk, OnOk};
+ghost use Rattle.std.specs.Prelude.{◌≡◌, ◌≢◌, ◌++◌, ◌∷◌, [], true, false, Some, IfOk, IfErr, IfSome, IsSome, OnOk};
+ghost use Rattle.std.specs.List.{AllZip};
 ghost use Rattle.eos_history_lines.specs.declared.line.Deed.TheVariants.{Asked};
+ghost use Rattle.eos_scripts.specs.declared.deed.Deed.TheVariants as deeds;
 ghost use Rattle.eos_scripts.specs.Driven.{is_taken, IsKept};
 ghost use Rattle.eos_simulate.specs.declared.replaying.ReplayFault.TheVariants.{OutOfMemory};
-ghost use Rattle.eos_simulate.specs.Histories.{new_course, act_said, acts_of, acts_said, IsLeftBy};
+ghost use Rattle.eos_simulate.specs.Histories.{new_course, acts_of, acts_said, IsLeftBy, Agrees, IsAsSaid};
+ghost use Rattle.eos_simulate.specs.Replays.{IfOtherwise, DiffersFirst};
+ghost use Rattle.eos_simulate.specs.steps.Passing.{HavePassed, DiffersAfter, HasPassed, HasDiffered, IsOther};
 
 use crate::making::{SimulationFault, evidence_of, new_cluster};
 use eos_cluster::Cluster;
@@ -45,7 +49,9 @@ impl<T: Drop> From<AllocFailed<T>> for ReplayFault {
 }
 
 /// Why there is no evidence, of a fault that a schedule can have too.
-fn refused(fault: SimulationFault) -> ReplayFault {
+fn refused(fault: SimulationFault) -> ReplayFault
+    ensures { IsOther result }
+{
     match fault {
         SimulationFault::NotAtRest => ReplayFault::NotAtRest,
         SimulationFault::Limit | SimulationFault::Unfit(_, _) => ReplayFault::Limit,
@@ -58,6 +64,7 @@ fn refused(fault: SimulationFault) -> ReplayFault {
 ///
 /// # Errors
 /// The first line that is answered otherwise than it says, where it says it; `NotAtRest`; `Limit`; want of memory.
+#[tactic(auto, using(crate::proofs::Deeds::passed_each, crate::proofs::Deeds::passed_acts, crate::proofs::Deeds::first_of_all, crate::proofs::Deeds::other_fault))]
 pub fn replay(
     alloc: Global,
     schedule: &Schedule,
@@ -65,68 +72,106 @@ pub fn replay(
 ) -> Result<Evidence, ReplayFault>
     ensures kept { history.old ≡ [] → IfOk result (IsLeftBy schedule.now.head.config history.new) }
     ensures done { history.old ≡ [] → OnOk result (acts_of history.new ≡ acts_said schedule.now.lines) }
+    ensures answered { history.old ≡ [] → OnOk result (AllZip IsAsSaid history.new schedule.now.lines) }
+    ensures otherwise { history.old ≡ [] → IfErr result (λ fault. IfOtherwise fault (DiffersFirst schedule.now.lines history.new)) }
 {
-    let cluster = replayed(alloc, schedule, history)?;
+    let cluster = match replayed(alloc, schedule, history) {
+        Ok(cluster) => cluster,
+        Err(fault) => return Err(fault),
+    };
     match evidence_of(&cluster) {
         Ok(evidence) => Ok(evidence),
         Err(fault) => Err(refused(fault)),
     }
 }
 
+#[tactic(auto, using(crate::proofs::Deeds::other_fault))]
 fn replayed(
     alloc: Global,
     schedule: &Schedule,
     history: &mut History,
 ) -> Result<Cluster, ReplayFault>
     ensures kept { IfOk result (λ cluster. IsKept (new_course schedule.now.head.config) history.old cluster history.new) }
-    ensures done { OnOk result (acts_of history.new ≡ acts_of history.old ++ acts_said schedule.now.lines) }
+    ensures passed { OnOk result (HavePassed history.old history.new schedule.now.lines) }
+    ensures otherwise { IfErr result (λ fault. IfOtherwise fault (DiffersAfter history.old schedule.now.lines history.new)) }
 {
     let mut cluster = match new_cluster(alloc, schedule.head.config) {
         Ok(cluster) => cluster,
         Err(fault) => return Err(refused(fault)),
     };
-    take_lines(&mut cluster, history, schedule.lines.as_slice())?;
-    Ok(cluster)
+    match take_lines(&mut cluster, history, schedule.lines.as_slice()) {
+        Ok(()) => Ok(cluster),
+        Err(fault) => Err(fault),
+    }
 }
 
-#[tactic(auto, using(crate::proofs::Deeds::kept_on, crate::proofs::Deeds::kept_still))]
+#[tactic(auto, using(crate::proofs::Deeds::kept_on, crate::proofs::Deeds::kept_still, crate::proofs::Deeds::none_passed))]
 fn take_lines(
     cluster: &mut Cluster,
     history: &mut History,
     lines: &[Line],
 ) -> Result<(), ReplayFault>
     ensures kept { IsKept cluster.old history.old cluster.new history.new }
-    ensures done { OnOk result (acts_of history.new ≡ acts_of history.old ++ acts_said lines.now) }
+    ensures passed { OnOk result (HavePassed history.old history.new lines.now) }
+    ensures otherwise { IfErr result (λ fault. IfOtherwise fault (DiffersAfter history.old lines.now history.new)) }
 {
     for line in lines {
-        take_line(cluster, history, line)?;
+        if let Err(fault) = take_line(cluster, history, line) {
+            return Err(fault);
+        }
     }
     Ok(())
 }
 
+#[tactic(auto, using(crate::proofs::Deeds::passed_set, crate::proofs::Deeds::passed_asked, crate::proofs::Deeds::differed, crate::proofs::Deeds::other_fault))]
 fn take_line(cluster: &mut Cluster, history: &mut History, line: &Line) -> Result<(), ReplayFault>
     ensures kept { IsKept cluster.old history.old cluster.new history.new }
-    ensures done { OnOk result (acts_of history.new ≡ acts_of history.old ++ act_said line.now.deed ∷ []) }
+    ensures passed { OnOk result (HasPassed history.old history.new line.now) }
+    ensures otherwise { IfErr result (λ fault. IfOtherwise fault (HasDiffered history.old history.new line.now)) }
 {
     match &line.deed {
-        Deed::Set(switches) => {
-            history.set(cluster, *switches)?;
-            Ok(())
-        }
+        Deed::Set(switches) => match history.set(cluster, *switches) {
+            Ok(()) => Ok(()),
+            Err(_) => Err(ReplayFault::OutOfMemory),
+        },
         Deed::Asked { event, reply } => {
-            let met = ask(cluster, history, event)?;
-            match *reply {
-                Some(said) if said != met => Err(ReplayFault::Otherwise(Line {
-                    number: line.number,
-                    deed: Deed::Asked {
-                        event: event.clone()?,
-                        reply: Some(met),
-                    },
-                })),
-                _ => Ok(()),
+            let met = match ask(cluster, history, event) {
+                Ok(met) => met,
+                Err(fault) => return Err(fault),
+            };
+            if agrees(met, *reply) {
+                return Ok(());
+            }
+            match answered(line.number, event, met) {
+                Ok(told) => Err(ReplayFault::Otherwise(told)),
+                Err(_) => Err(ReplayFault::OutOfMemory),
             }
         }
     }
+}
+
+/// Whether an event was answered as is said, where that is said.
+fn agrees(met: Reply, said: Option<Reply>) -> bool
+    ensures yes { result ≡ true → Agrees (Some met) said }
+    ensures no { result ≡ false → IfSome said (λ reply. met ≢ reply) × IsSome said }
+{
+    match said {
+        None => true,
+        Some(reply) => met == reply,
+    }
+}
+
+/// The line of this number, of an event that was answered so.
+fn answered(number: u64, event: &Event, met: Reply) -> Result<Line, AllocError>
+    ensures { IfOk result (λ line. line ≡ record { number = number; deed = Asked event.now (Some met) }) }
+{
+    Ok(Line {
+        number,
+        deed: Deed::Asked {
+            event: event.clone()?,
+            reply: Some(met),
+        },
+    })
 }
 
 /// Whether an event was taken, by its reply.
@@ -137,12 +182,15 @@ fn is_taken(reply: Reply) -> bool
 }
 
 /// What the cluster answers to an event that it takes.
-#[tactic(auto, using(crate::proofs::Deeds::taken_acts))]
+#[tactic(auto, using(crate::proofs::Deeds::taken_deed))]
 fn ask(cluster: &mut Cluster, history: &mut History, event: &Event) -> Result<Reply, ReplayFault>
     ensures kept { IsKept cluster.old history.old cluster.new history.new }
-    ensures done { OnOk result (acts_of history.new ≡ acts_of history.old ++ Asked event.now None ∷ []) }
+    ensures done { IfOk result (λ met. history.new ≡ history.old ++ deeds.Asked event.now met ∷ []) }
+    ensures other { IfErr result IsOther }
 {
-    let event = event.clone()?;
+    let Ok(event) = event.clone() else {
+        return Err(ReplayFault::OutOfMemory);
+    };
     let reply = history.ask(cluster, event);
     if is_taken(reply) {
         return Ok(reply);

@@ -1,0 +1,2 @@
+-- What only private functions promise: steps towards what the public calls say.
+pub mod Passing
