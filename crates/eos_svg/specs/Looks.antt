@@ -12,6 +12,7 @@ look_text looks.Aborted = codes " class=\"aborted\" fill=\"#d4d4d4\" stroke=\"#8
 look_text looks.Open = codes " class=\"open\" fill=\"#ffffff\" stroke=\"#003f63\""
 look_text looks.CommitMarker = codes " class=\"commit-marker\" fill=\"#0072b2\" stroke=\"#003f63\""
 look_text looks.AbortMarker = codes " class=\"abort-marker\" fill=\"#ffffff\" stroke=\"#6e6e6e\""
+look_text looks.Missing = codes " class=\"missing\" fill=\"#ffffff\" stroke=\"#d00000\" stroke-width=\"2\" stroke-dasharray=\"3 2\""
 look_text looks.Passed = codes " class=\"passed\" fill=\"#e3eff7\" stroke=\"#0072b2\""
 look_text looks.NotPassed = codes " class=\"not-passed\" fill=\"#f4f4f4\" stroke=\"#8c8c8c\" stroke-dasharray=\"3 3\""
 look_text looks.Fault = codes " class=\"fault\" fill=\"none\" stroke=\"#d00000\" stroke-width=\"3\""

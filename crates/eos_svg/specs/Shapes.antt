@@ -1,4 +1,4 @@
--- The text of a drawing (W3C, "Scalable Vector Graphics 1.1": "Document Structure", "Basic Shapes", "Paths", "Text"). Each shape is one
+-- The text of a drawing (W3C, "Scalable Vector Graphics 1.1": "Document Structure", "Basic Shapes", "Paths", "Text", "Interactivity"). Each shape is one
 -- element; what a text says is the only part of it that isn't this project's own.
 use Rattle.std.specs.Prelude.{ℕ, List, ◌++◌, codes, flat_map, string_bytes}
 use Rattle.std.specs.Fmt.{decimal}
@@ -47,12 +47,20 @@ words_text at text look =
     pair_text (codes "<text x=\"") at.x (codes "\" y=\"") at.y
     ++ (codes "\"" ++ (look_text look ++ (codes ">" ++ (xml_text text ++ codes "</text>\n"))))
 
+-- a part that isn't painted, but has a description where a pointer rests on it
+unfoldable pub told_text : Point → Size → List ℕ → List ℕ
+told_text at size text =
+    pair_text (codes "<rect x=\"") at.x (codes "\" y=\"") at.y
+    ++ (pair_text (codes "\" width=\"") size.width (codes "\" height=\"") size.height
+    ++ (codes "\" class=\"mark\" fill=\"none\" pointer-events=\"all\"><title>" ++ (xml_text text ++ codes "</title></rect>\n")))
+
 abbrev pub shape_text : Shape → List ℕ
 shape_text (shapes.Rectangle at size look) = rectangle_text at size look
 shape_text (shapes.Diamond at look) = diamond_text at look
 shape_text (shapes.Line line look) = line_text line look
 shape_text (shapes.Arc line over look) = arc_text line over look
 shape_text (shapes.Text at text look) = words_text at (string_bytes text) look
+shape_text (shapes.Told at size text) = told_text at size (string_bytes text)
 
 -- how a drawing begins: its size, its name, and how its texts are set
 unfoldable pub head_text : Drawing → List ℕ

@@ -22,7 +22,13 @@ pub struct Drawing {
 
 /// Adds two numbers, each after a label.
 #[tactic(auto, unfolding(crate::specs::Shapes::pair_text))]
-fn push_pair(out: &mut String, first: &str, a: u64, second: &str, b: u64) -> Result<(), AllocError>
+pub(crate) fn push_pair(
+    out: &mut String,
+    first: &str,
+    a: u64,
+    second: &str,
+    b: u64,
+) -> Result<(), AllocError>
     ensures { OnOk result (Adds (string_bytes out.old) (string_bytes out.new) (pair_text first.now a second.now b)) }
 {
     write!(out, "{first}{a}{second}{b}")

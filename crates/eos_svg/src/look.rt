@@ -23,6 +23,8 @@ pub enum Look {
     CommitMarker,
     /// An end marker that aborts.
     AbortMarker,
+    /// An end marker that should be there.
+    Missing,
     /// Offsets that a commit passed.
     Passed,
     /// Offsets that would have been passed, had the commit held.
@@ -60,6 +62,9 @@ impl Look {
             Look::Open => " class=\"open\" fill=\"#ffffff\" stroke=\"#003f63\"",
             Look::CommitMarker => " class=\"commit-marker\" fill=\"#0072b2\" stroke=\"#003f63\"",
             Look::AbortMarker => " class=\"abort-marker\" fill=\"#ffffff\" stroke=\"#6e6e6e\"",
+            Look::Missing => {
+                " class=\"missing\" fill=\"#ffffff\" stroke=\"#d00000\" stroke-width=\"2\" stroke-dasharray=\"3 2\""
+            }
             Look::Passed => " class=\"passed\" fill=\"#e3eff7\" stroke=\"#0072b2\"",
             Look::NotPassed => {
                 " class=\"not-passed\" fill=\"#f4f4f4\" stroke=\"#8c8c8c\" stroke-dasharray=\"3 3\""

@@ -2,8 +2,9 @@
 
 ghost use Rattle.std.specs.Prelude.{◌≡◌, OnOk, string_bytes};
 ghost use Rattle.eos_text.specs.Adding.{Adds};
-ghost use Rattle.eos_svg.specs.Shapes.{rectangle_text, diamond_text, line_text, arc_text, words_text, shape_text};
+ghost use Rattle.eos_svg.specs.Shapes.{rectangle_text, diamond_text, line_text, arc_text, words_text, told_text, shape_text};
 
+use crate::drawing::push_pair;
 use crate::escaping::push_xml;
 use crate::look::Look;
 use eos_text::push_text;
@@ -43,6 +44,8 @@ pub enum Shape {
     Arc { line: Line, over: Point, look: Look },
     /// A text, by the left end of its base line. Its bytes may be any.
     Text { at: Point, text: String, look: Look },
+    /// What is told where a pointer rests on this part of the drawing, by its upper left corner. Its bytes may be any.
+    Told { at: Point, size: Size, text: String },
 }
 
 #[tactic(auto, unfolding(crate::specs::Shapes::rectangle_text, crate::specs::Shapes::pair_text, crate::specs::Shapes::end_text))]
@@ -121,6 +124,20 @@ fn push_words(out: &mut String, at: Point, text: &str, look: Look) -> Result<(),
     Ok(())
 }
 
+fn push_told(out: &mut String, at: Point, size: Size, text: &str) -> Result<(), AllocError>
+    ensures { OnOk result (Adds (string_bytes out.old) (string_bytes out.new) (told_text at size text.now)) }
+{
+    push_pair(out, "<rect x=\"", at.x, "\" y=\"", at.y)?;
+    push_pair(out, "\" width=\"", size.width, "\" height=\"", size.height)?;
+    push_text(
+        out,
+        "\" class=\"mark\" fill=\"none\" pointer-events=\"all\"><title>",
+    )?;
+    push_xml(out, text.as_bytes())?;
+    push_text(out, "</title></rect>\n")?;
+    Ok(())
+}
+
 /// Adds a shape.
 pub(crate) fn push_shape(out: &mut String, shape: &Shape) -> Result<(), AllocError>
     ensures { OnOk result (Adds (string_bytes out.old) (string_bytes out.new) (shape_text shape.now)) }
@@ -131,5 +148,6 @@ pub(crate) fn push_shape(out: &mut String, shape: &Shape) -> Result<(), AllocErr
         Shape::Line { line, look } => push_line(out, *line, *look),
         Shape::Arc { line, over, look } => push_arc(out, *line, *over, *look),
         Shape::Text { at, text, look } => push_words(out, *at, text.as_str(), *look),
+        Shape::Told { at, size, text } => push_told(out, *at, *size, text.as_str()),
     }
 }
