@@ -13,6 +13,7 @@ import collections
 import json
 import os
 import random
+import re
 import resource
 import shutil
 import signal
@@ -33,10 +34,10 @@ from random_evidence import Folder, Piece, sealed
 SPACE = "{http://www.w3.org/2000/svg}"
 TAGS = {SPACE + name for name in ("svg", "title", "rect", "line", "path", "text")}
 ATTRIBUTES = set(
-    "xmlns width height viewBox font-family font-size font-weight x y x1 y1 x2 y2 d class fill stroke stroke-width stroke-dasharray".split()
+    "xmlns width height viewBox font-family font-size font-weight x y x1 y1 x2 y2 d class fill stroke stroke-width stroke-dasharray pointer-events".split()
 )
 # one of each stands in the legend, but for the arc
-LEGEND = collections.Counter(["committed", "aborted", "open", "commit-marker", "abort-marker", "passed", "fault"])
+LEGEND = collections.Counter(["committed", "aborted", "open", "commit-marker", "abort-marker", "missing", "passed", "fault"])
 MOST = 12
 SWITCHES = "keep-duplicates no-fence no-bump lose-marker swap-marker hide-listing ignore-generation".split()
 MISHAPS = "lost-output repeated-output early-output wrong-count wrong-number foreign-source other-transaction".split()
@@ -110,7 +111,12 @@ def commit_in(part, record):
         return None
 
 
-def shapes_of(parts, shown):
+def has_own_end(part, it):
+    """Whether a marker has the epoch that was decided."""
+    return any(plain_logs.is_marker(b) and (b.producer, b.epoch) == (it.writer[0], it.marker_epoch) for b in part.batches)
+
+
+def shapes_of(parts, shown, line):
     """How many shapes of each kind stand for the things of these transactions; the greatest number of one cell; and the rows."""
     shapes, cells, rows = collections.Counter(), collections.Counter(), set()
     place_of = {}
@@ -127,25 +133,32 @@ def shapes_of(parts, shown):
         if it.kind:
             add("committed" if it.kind == COMMIT else "aborted", it.home, place, "box")
     for part in parts:
-        last = {}
+        last, lacking, drawn_ends = {}, set(), set()
+        for place, it in enumerate(shown):
+            written = any(b.word == "txn" and (b.producer, b.epoch) == it.writer for b in part.batches)
+            if it.kind and not has_own_end(part, it) and (written or is_missed(part, it, line)):
+                lacking.add(place)
+                add("missing", part.name, place, "marker")
         for batch in part.batches:
             place = place_of.get((batch.producer, batch.epoch)) if batch.word == "txn" else None
             if plain_logs.is_marker(batch):
                 for place, it in enumerate(shown):
                     if it.kind and (batch.producer, batch.epoch) == (it.writer[0], it.marker_epoch):
-                        add(f"{batch.word}-marker", part.name, place, "marker")
+                        drawn_ends.add((place, batch.word))
             elif batch.word in ("txn", "plain"):
                 look = look_of(part, batch) if batch.word == "txn" else "committed"
                 for record in batch.records:
                     commit = part.name[0] == OFFSETS and commit_in(part, record)
                     if place is not None:
-                        add(look, part.name, place, "line" if commit else "box")
+                        add("open" if place in lacking else look, part.name, place, "line" if commit else "box")
                     if commit:
                         key, offset = commit
                         if place is not None and key[1:] in names:
                             add("passed" if look == "committed" else "not-passed", key[1:], place, "line")
                         if look == "committed":
                             last[key] = offset
+        for place, word in drawn_ends:
+            add(f"{word}-marker", part.name, place, "marker")
         closed = set()
         for batch in part.batches:
             place = place_of.get((batch.producer, batch.epoch)) if batch.word == "txn" else None
@@ -154,7 +167,39 @@ def shapes_of(parts, shown):
                 if marker and (place, marker.epoch, marker.word) not in closed:
                     closed.add((place, marker.epoch, marker.word))
                     add(f"{marker.word}-marker", part.name, place, "marker")
+        for marker in markers_at_fault(part, line):
+            of_decided = any(it.kind and (marker.producer, marker.epoch) == (it.writer[0], it.marker_epoch) for it in shown)
+            of_others = any(shown[p].writer[0] == marker.producer and word == marker.word for p, _, word in closed)
+            if not of_decided and not of_others:
+                add(f"{marker.word}-marker", part.name, None, "marker")
     return shapes, max(cells.values(), default=0), rows
+
+
+def words_of(line):
+    return dict(word.split("=", 1) for word in line.split() if "=" in word)
+
+
+def is_missed(part, it, line):
+    """Whether the line says that the transaction lacks its marker in this partition."""
+    words = words_of(line)
+    if line.startswith("no 3.7 ") and words["partition"] == reference.place_text(part.name):
+        producer, epoch = int(words["producer"]), int(words["epoch"])
+        return it.writer == (producer, epoch)
+    return False
+
+
+def markers_at_fault(part, line):
+    """Of each kind one of the markers of this partition that the line is about."""
+    words, name = words_of(line), reference.place_text(part.name)
+    found = {}
+    for batch in part.batches:
+        if plain_logs.is_marker(batch):
+            if line.startswith("no 3.5 ") and words["partition"] == name:
+                if (batch.producer, batch.epoch) == (int(words["producer"]), int(words["epoch"])):
+                    found[batch.word] = batch
+            elif re.match(r"no 1\.[3-9] ", line) and line.split()[3] == name and batch.base == int(words["offset"]):
+                found[batch.word] = batch
+    return found.values()
 
 
 # ---- a picture
@@ -166,7 +211,8 @@ def headings(root):
 
 
 def shortened(line, most=30):
-    return line if len(line) <= most else line[: most - 2] + ".."
+    last = (most - 2) // 2
+    return line if len(line) <= most else line[: most - 2 - last] + ".." + line[-last:]
 
 
 def first_line(place, it):
@@ -256,13 +302,13 @@ def check_shapes(what, folder, root, printed, around, line):
     if middle is not None:
         start = max(0, middle - around)
         same(f"{what}: middle", (before, len(heads)), (start, min(len(every), middle + around + 1) - start))
-    shapes, most, rows = shapes_of(parts, shown)
+    shapes, most, rows = shapes_of(parts, shown, line)
     found = collections.Counter(it.get("class") for it in root.iter() if it.tag in (SPACE + "rect", SPACE + "path"))
     if most <= MOST:
         wanted = shapes + LEGEND
-        kinds = ["committed", "aborted", "open", "commit-marker", "abort-marker", "passed", "not-passed"]
+        kinds = ["committed", "aborted", "open", "commit-marker", "abort-marker", "missing", "passed", "not-passed"]
         same(f"{what}: shapes", {it: found[it] for it in kinds}, {it: wanted[it] for it in kinds})
-    same(f"{what}: columns drawn", found["column"], len(heads))
+    same(f"{what}: columns drawn", found["column"] - len(heads) in (0, 1), True)
     check_labels(what, root)
     drawn_rows = sum(1 for it in root.iter(SPACE + "line"))
     same(f"{what}: printed", printed, f"drew columns={len(heads)} rows={drawn_rows}\n")

@@ -1,12 +1,13 @@
 # The manifests that `init` makes, its refusals, and its refused allocations; which partition a name has; reports, against their
-# schema and against what is printed, which needs Python's jsonschema; pictures, against a second reading of the logs; what runs leave
-# that are killed.
+# schema and against what is printed, which needs Python's jsonschema; pictures, against a second reading of the logs, and whether they show the
+# cause; what runs leave that are killed.
 . tests/common.sh
 preloaded refuse
 counted coordinators python3 -B tests/coordinator.py "$program"
 counted manifests python3 -B tests/init.py "$program" "$scratch/refuse.so"
 counted reports python3 -B tests/report.py "$program" "$scratch/refuse.so"
 counted pictures python3 -B tests/draw.py "$program" "$scratch/refuse.so"
+counted 'causes in pictures' python3 -B tests/pictures.py "$program"
 preloaded killed
 counted 'killed runs' python3 -B tests/killed.py "$program" "$scratch/killed.so"
 end

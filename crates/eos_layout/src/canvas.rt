@@ -63,6 +63,12 @@ impl Canvas {
         self.text(at, text, look)
     }
 
+    /// What is told of a shape of this size where a pointer rests on it.
+    pub(crate) fn told(&mut self, at: Point, size: Size, text: String) -> Result<(), AllocError> {
+        self.shapes.push(Shape::Told { at, size, text })?;
+        Ok(())
+    }
+
     /// A ring around a shape of this size, which is a place of the fault.
     pub(crate) fn ring(&mut self, at: Point, size: Size) -> Result<(), AllocError> {
         let corner = Point {

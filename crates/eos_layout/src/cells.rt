@@ -27,27 +27,30 @@ pub(crate) fn room_of(sign: &Sign) -> Room {
     match sign {
         Sign::Decision { .. } | Sign::Record { .. } | Sign::Spot(_) => Room::Box,
         Sign::Commit { .. } | Sign::Passed { .. } => Room::Line,
-        Sign::Marker(_) => Room::Edge,
+        Sign::Marker { .. } | Sign::Missing(_) => Room::Edge,
     }
 }
 
-/// The offset at which the mark's record stands, if it is of one.
-pub(crate) fn offset_of(sign: &Sign) -> Option<u64> {
-    match sign {
+/// The offset at which the mark's record stands, if it is known.
+pub(crate) fn offset_of(mark: &Mark) -> Option<u64> {
+    match &mark.sign {
         Sign::Decision { offset, .. } | Sign::Record { offset, .. } | Sign::Commit { offset, .. } =>
             Some(*offset),
         Sign::Spot(offset) => *offset,
-        Sign::Passed { .. } | Sign::Marker(_) => None,
+        Sign::Marker { .. } => mark.offset,
+        Sign::Passed { .. } | Sign::Missing(_) => None,
     }
 }
 
-/// What a cell holds: how many boxes with an offset, lines, end markers, and how many of these aren't drawn.
+/// What a cell holds: how many boxes with an offset, lines, end markers, and how many of these aren't drawn; and whether an end marker
+/// is missing.
 #[derive(Clone, Copy)]
 pub(crate) struct Cell {
     boxes: u64,
     lines: u64,
     markers: u64,
     pub left_out: u64,
+    pub is_open: bool,
 }
 
 const EMPTY: Cell = Cell {
@@ -55,6 +58,7 @@ const EMPTY: Cell = Cell {
     lines: 0,
     markers: 0,
     left_out: 0,
+    is_open: false,
 };
 
 impl Cell {
@@ -71,6 +75,9 @@ impl Cell {
     /// With the mark.
     pub(crate) fn with(self, mark: &Mark) -> Cell {
         let mut cell = self;
+        if matches!(mark.sign, Sign::Missing(_)) {
+            cell.is_open = true;
+        }
         if self.is_full(mark) {
             cell.left_out = self.left_out.saturating_add(1);
             return cell;
@@ -116,7 +123,7 @@ pub(crate) fn cells_of(alloc: Global, columns: usize, row: &Row) -> Result<Vec<C
 /// The height of a line of the row: more where a place of the fault has its offset below it.
 pub(crate) fn pitch_of(row: &Row) -> u64 {
     for mark in row.marks.as_slice() {
-        if mark.is_of_fault && offset_of(&mark.sign).is_some() {
+        if mark.is_of_fault && offset_of(mark).is_some() {
             return LINE.saturating_add(LABEL);
         }
     }

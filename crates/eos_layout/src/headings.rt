@@ -69,6 +69,11 @@ pub(crate) fn heading_of(
     })
 }
 
+/// Draws what stands above the column of what is of none of the transactions.
+pub(crate) fn draw_other_heading(canvas: &mut Canvas, at: Point) -> Result<(), AllocError> {
+    canvas.words(moved(at, 6, 28), "of none of these", Look::Remark)
+}
+
 /// Draws it at the upper left corner of the column.
 pub(crate) fn draw_heading(
     canvas: &mut Canvas,

@@ -17,23 +17,27 @@ pub(crate) fn digits(number: u64) -> u64 {
     count
 }
 
-/// The first bytes of a text in ASCII, and two dots where it has more than so many.
+/// A text in ASCII of at most so many characters: of a longer one the first and the last ones, with two dots between.
 pub(crate) fn shortened(alloc: Global, text: &str, most: usize) -> Result<String, AllocError> {
     let bytes = text.as_bytes();
-    let is_long = most < bytes.len();
-    let kept = if is_long {
-        most.saturating_sub(2)
-    } else {
-        bytes.len()
-    };
     let mut out = String::new(alloc);
-    for byte in bytes.iter().take(kept) {
+    if bytes.len() <= most {
+        push_bytes(&mut out, bytes)?;
+        return Ok(out);
+    }
+    let kept = most.saturating_sub(2);
+    let last = kept / 2;
+    push_bytes(&mut out, &bytes[..(kept - last).min(bytes.len())])?;
+    push_text(&mut out, "..")?;
+    push_bytes(&mut out, &bytes[bytes.len().saturating_sub(last)..])?;
+    Ok(out)
+}
+
+fn push_bytes(out: &mut String, bytes: &[u8]) -> Result<(), AllocError> {
+    for byte in bytes {
         out.push(char::from(*byte))?;
     }
-    if is_long {
-        push_text(&mut out, "..")?;
-    }
-    Ok(out)
+    Ok(())
 }
 
 /// A partition's name, of at most so many characters: the topic is shortened where it is longer.

@@ -3,7 +3,7 @@
 ghost use Rattle.std.specs.Prelude.{◌≡◌, IfOk, string_bytes};
 
 use crate::canvas::Canvas;
-use crate::headings::{draw_heading, heading_of};
+use crate::headings::{draw_heading, draw_other_heading, heading_of};
 use crate::legend::{ROOM, draw_legend};
 use crate::plan::{GAP, Plan, plan_of};
 use crate::rows::draw_row;
@@ -69,6 +69,13 @@ fn draw_headings(
         };
         draw_heading(canvas, at, heading)?;
     }
+    if plan.columns > picture.columns.len() {
+        let at = Point {
+            x: plan.x_of(picture.columns.len() as u64),
+            y: top,
+        };
+        draw_other_heading(canvas, at)?;
+    }
     Ok(())
 }
 
@@ -81,7 +88,7 @@ fn draw_rows(
 ) -> Result<u64, AllocError> {
     let mut bottom = top;
     for row in picture.rows.as_slice() {
-        bottom = draw_row(canvas, plan, bottom, row)?;
+        bottom = draw_row(canvas, plan, bottom, row, picture)?;
     }
     Ok(bottom)
 }

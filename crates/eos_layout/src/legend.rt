@@ -14,6 +14,11 @@ fn draw_sample(canvas: &mut Canvas, at: Point, look: Look, words: &str) -> Resul
     canvas.words(moved(at, 22, 11), words, Look::Remark)
 }
 
+/// Where its last line begins.
+fn last_of(at: Point) -> Point {
+    moved(at, 0, 44)
+}
+
 /// Draws it below the rows.
 pub(crate) fn draw_legend(canvas: &mut Canvas, at: Point) -> Result<(), AllocError> {
     draw_sample(canvas, at, Look::Committed, "committed")?;
@@ -24,16 +29,21 @@ pub(crate) fn draw_legend(canvas: &mut Canvas, at: Point) -> Result<(), AllocErr
     canvas.words(moved(down, 22, 11), "commits", Look::Remark)?;
     canvas.diamond(moved(down, 118, 0), Look::AbortMarker)?;
     canvas.words(moved(down, 132, 11), "aborts", Look::Remark)?;
+    canvas.diamond(moved(last_of(at), 308, 0), Look::Missing)?;
+    canvas.words(
+        moved(last_of(at), 322, 11),
+        "an end marker that is missing; x2: it stands there twice",
+        Look::Remark,
+    )?;
     draw_sample(
         canvas,
         moved(down, 205, 0),
         Look::Passed,
         "[a,b) inputs that its commit passed, dashed where it didn't hold",
     )?;
-    let last = moved(down, 0, 22);
     draw_sample(
         canvas,
-        last,
+        last_of(at),
         Look::Fault,
         "a place of the fault, its offset below",
     )

@@ -9,5 +9,6 @@ mod layout;
 mod legend;
 mod plan;
 mod rows;
+mod told;
 
 pub use layout::drawing_of;

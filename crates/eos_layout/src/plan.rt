@@ -3,7 +3,7 @@
 use crate::cells::offset_of;
 use crate::headings::heading_of;
 use crate::labels::{digits, name_label};
-use eos_picture::{Picture, Row};
+use eos_picture::{Column, Mark, Picture, Row};
 use std::alloc::{AllocError, Global};
 
 /// The width of a character, and more.
@@ -71,10 +71,31 @@ fn offset_digits(picture: &Picture) -> u64 {
     let mut most = 2;
     for row in picture.rows.as_slice() {
         for mark in row.marks.as_slice() {
-            most = digits(offset_of(&mark.sign).unwrap_or(0)).max(most);
+            most = digits(offset_of(mark).unwrap_or(0)).max(most);
         }
     }
     most
+}
+
+/// Whether a mark is of none of these transactions.
+fn has_other(marks: &[Mark], columns: &[Column]) -> bool {
+    for mark in marks {
+        if mark.column >= columns.len() {
+            return true;
+        }
+    }
+    false
+}
+
+/// How many columns there are: one more where a mark is of none of the transactions.
+pub(crate) fn columns_of(picture: &Picture) -> usize {
+    let columns = picture.columns.as_slice();
+    for row in picture.rows.as_slice() {
+        if has_other(row.marks.as_slice(), columns) {
+            return columns.len().saturating_add(1);
+        }
+    }
+    columns.len().max(1)
 }
 
 pub(crate) fn plan_of(alloc: Global, picture: &Picture) -> Result<Plan, AllocError> {
@@ -89,7 +110,7 @@ pub(crate) fn plan_of(alloc: Global, picture: &Picture) -> Result<Plan, AllocErr
     Ok(Plan {
         left: width_of(names).saturating_add(2 * GAP),
         column,
-        columns: picture.columns.len().max(1),
+        columns: columns_of(picture),
         record,
         per_line: per_line.max(1),
     })

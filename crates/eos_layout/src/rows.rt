@@ -4,9 +4,10 @@ use crate::canvas::{Canvas, moved};
 use crate::cells::{Cell, Place, Room, cells_of, empty_cells, offset_of, pitch_of, room_of};
 use crate::labels::{commit_label, number_label, passed_label};
 use crate::plan::{CHARACTER, Plan, row_name};
+use crate::told::{Marked, told_of};
 use eos_batch::Kind;
 use eos_fold::Fate;
-use eos_picture::{Mark, Row, Sign};
+use eos_picture::{Mark, Picture, Row, Sign};
 use eos_svg::{Look, Point, Size};
 use eos_text::{push_text, push_value};
 use std::alloc::{AllocError, Global};
@@ -51,12 +52,15 @@ fn passed_look(fate: Fate) -> Look {
     }
 }
 
-fn sign_look(sign: &Sign) -> Look {
+/// How a mark looks in a cell in which an end marker is missing, or not: then its data are open, whatever marker comes later.
+fn sign_look(sign: &Sign, is_open: bool) -> Look {
     match sign {
+        Sign::Record { .. } | Sign::Commit { .. } if is_open => Look::Open,
         Sign::Decision { kind, .. } => look_of_kind(*kind),
         Sign::Record { fate, .. } | Sign::Commit { fate, .. } => look_of(*fate),
         Sign::Passed { fate, .. } => passed_look(*fate),
-        Sign::Marker(kind) => marker_look(*kind),
+        Sign::Marker { kind, .. } => marker_look(*kind),
+        Sign::Missing(_) => Look::Missing,
         Sign::Spot(_) => Look::Page,
     }
 }
@@ -79,16 +83,16 @@ fn words_of(alloc: Global, sign: &Sign, most: usize) -> Result<String, AllocErro
         } => commit_label(alloc, source, *committed, most),
         Sign::Passed { from, to, .. } => passed_label(alloc, *from, *to),
         Sign::Spot(Some(offset)) => number_label(alloc, *offset),
-        Sign::Spot(None) | Sign::Marker(_) => String::from_str(alloc, "?"),
+        Sign::Spot(None) | Sign::Marker { .. } | Sign::Missing(_) => String::from_str(alloc, "?"),
     }
 }
 
 // ---- marks
 
 /// A ring around a place of the fault, and its offset below it.
-fn draw_ring(canvas: &mut Canvas, at: Point, size: Size, sign: &Sign) -> Result<(), AllocError> {
+fn draw_ring(canvas: &mut Canvas, at: Point, size: Size, mark: &Mark) -> Result<(), AllocError> {
     canvas.ring(at, size)?;
-    if let Some(offset) = offset_of(sign) {
+    if let Some(offset) = offset_of(mark) {
         let mut text = String::new(canvas.alloc);
         push_value(&mut text, ":", &offset)?;
         let below = moved(at, 0, size.height.saturating_add(14));
@@ -98,60 +102,111 @@ fn draw_ring(canvas: &mut Canvas, at: Point, size: Size, sign: &Sign) -> Result<
 }
 
 /// An end marker, by its upper corner.
-fn draw_marker(canvas: &mut Canvas, at: Point, mark: &Mark) -> Result<(), AllocError> {
-    canvas.diamond(at, sign_look(&mark.sign))?;
+fn draw_marker(
+    canvas: &mut Canvas,
+    place: Place<'_>,
+    at: Point,
+    marked: Marked<'_>,
+) -> Result<(), AllocError> {
+    let mark = marked.mark;
+    let corner = Point {
+        x: at.x.saturating_sub(DIAMOND.width / 2),
+        y: at.y,
+    };
+    canvas.diamond(at, sign_look(&mark.sign, false))?;
+    draw_count(
+        canvas,
+        moved(corner, 0, place.pitch.saturating_sub(2)),
+        &mark.sign,
+    )?;
     if mark.is_of_fault {
-        let corner = Point {
-            x: at.x.saturating_sub(DIAMOND.width / 2),
-            y: at.y,
-        };
-        draw_ring(canvas, corner, DIAMOND, &mark.sign)?;
+        draw_ring(canvas, corner, DIAMOND, mark)?;
+    }
+    let told = told_of(canvas.alloc, marked, false)?;
+    canvas.told(corner, DIAMOND, told)
+}
+
+/// How many there are, where there is more than one.
+fn draw_count(canvas: &mut Canvas, at: Point, sign: &Sign) -> Result<(), AllocError> {
+    if let Sign::Marker { count, .. } = sign {
+        if *count > 1 {
+            let mut text = String::new(canvas.alloc);
+            push_value(&mut text, "x", count)?;
+            return canvas.text(at, text, Look::Words);
+        }
     }
     Ok(())
 }
 
 /// A box with a text.
-fn draw_box(canvas: &mut Canvas, at: Point, width: u64, mark: &Mark) -> Result<(), AllocError> {
-    let size = Size { width, height: BOX };
-    let look = sign_look(&mark.sign);
+fn draw_box(
+    canvas: &mut Canvas,
+    at: Point,
+    size: Size,
+    mark: &Mark,
+    is_open: bool,
+) -> Result<(), AllocError> {
+    let width = size.width;
+    let look = sign_look(&mark.sign, is_open);
     let text = words_of(canvas.alloc, &mark.sign, (width / CHARACTER) as usize)?;
     canvas.rectangle(at, size, look)?;
     canvas.text(moved(at, 4, 12), text, words_on(look))?;
     if mark.is_of_fault {
-        draw_ring(canvas, at, size, &mark.sign)?;
+        draw_ring(canvas, at, size, mark)?;
     }
     Ok(())
+}
+
+/// How large a box is.
+fn box_size(plan: &Plan, mark: &Mark) -> Size {
+    let width = match room_of(&mark.sign) {
+        Room::Line => plan.column.saturating_sub(36),
+        Room::Box | Room::Edge => plan.record,
+    };
+    Size { width, height: BOX }
 }
 
 /// Draws a mark in a cell that holds so much, of which so much is drawn.
 fn draw_mark(
     canvas: &mut Canvas,
     place: Place<'_>,
-    mark: &Mark,
+    marked: Marked<'_>,
     all: Cell,
     drawn: Cell,
 ) -> Result<(), AllocError> {
+    let mark = marked.mark;
     let column = mark.column;
-    match room_of(&mark.sign) {
-        Room::Box => {
-            let at = place.next_box(column, drawn);
-            draw_box(canvas, at, place.plan.record, mark)
+    let size = box_size(place.plan, mark);
+    let at = match room_of(&mark.sign) {
+        Room::Box => place.next_box(column, drawn),
+        Room::Line => place.next_line(column, all, drawn),
+        Room::Edge => {
+            let at = place.next_marker(column, drawn);
+            return draw_marker(canvas, place, at, marked);
         }
-        Room::Line => {
-            let at = place.next_line(column, all, drawn);
-            draw_box(canvas, at, place.plan.column.saturating_sub(36), mark)
-        }
-        Room::Edge => draw_marker(canvas, place.next_marker(column, drawn), mark),
-    }
+    };
+    draw_box(canvas, at, size, mark, all.is_open)?;
+    let told = told_of(canvas.alloc, marked, all.is_open)?;
+    canvas.told(at, size, told)
 }
 
-fn draw_marks(canvas: &mut Canvas, place: Place<'_>, row: &Row) -> Result<(), AllocError> {
+fn draw_marks(
+    canvas: &mut Canvas,
+    place: Place<'_>,
+    row: &Row,
+    picture: &Picture,
+) -> Result<(), AllocError> {
     let mut drawn = empty_cells(canvas.alloc, place.cells.len())?;
     for mark in row.marks.as_slice() {
         let column = mark.column;
         if column < drawn.len() && column < place.cells.len() {
             if !drawn[column].is_full(mark) {
-                draw_mark(canvas, place, mark, place.cells[column], drawn[column])?;
+                let marked = Marked {
+                    name: &row.name,
+                    mark,
+                    column: picture.columns.get(column),
+                };
+                draw_mark(canvas, place, marked, place.cells[column], drawn[column])?;
             }
             drawn[column] = drawn[column].with(mark);
         }
@@ -201,6 +256,7 @@ pub(crate) fn draw_row(
     plan: &Plan,
     top: u64,
     row: &Row,
+    picture: &Picture,
 ) -> Result<u64, AllocError> {
     let cells = cells_of(canvas.alloc, plan.columns, row)?;
     let place = Place {
@@ -211,7 +267,7 @@ pub(crate) fn draw_row(
     };
     let bottom = place.bottom();
     draw_frame(canvas, place, row, bottom)?;
-    draw_marks(canvas, place, row)?;
+    draw_marks(canvas, place, row, picture)?;
     draw_left_out(canvas, place)?;
     Ok(bottom)
 }

@@ -1,6 +1,9 @@
 -- Marks that are true, and one more.
-use Rattle.std.proofs.Common.{◌≡◌, ◌<◌, length, zero, suc, arith, refl, ℕ, ℤ, List, [], ◌∷◌, ◌++◌, Option, Some, None, inl, inr, sym, ap, subst, ◌∙◌}
-use Rattle.std.specs.List.{slice_index_or}
+use Rattle.std.proofs.Common.{◌≡◌, ◌<◌, ◌≤◌, length, zero, suc, arith, refl, ℕ, ℤ, List, [], ◌∷◌, ◌++◌, Option, Some, None, inl, inr, sym, ap, subst, ◌∙◌}
+use Rattle.std.specs.List.{slice_get, slice_index_or}
+use Rattle.std.proofs.lemmas.Option.{slice_get_past}
+use Rattle.eos_batch.specs.declared.marker.Kind.{Kind}
+use Rattle.eos_batch.specs.declared.marker.Marker.{Marker}
 use Rattle.eos_base.specs.Members.{Has}
 use Rattle.eos_base.proofs.Membership.{append_cases}
 use Rattle.eos_fold.specs.declared.close.Close.{Close}
@@ -8,6 +11,8 @@ use Rattle.eos_fold.specs.Parts.{PartLog}
 use Rattle.eos_items.specs.declared.item.Fate.{Fate}
 use Rattle.eos_items.specs.declared.item.Item.{Item}
 use Rattle.eos_picture.specs.declared.mark.Column.{Column}
+use Rattle.eos_picture.specs.declared.mark.Decided.{Decided}
+use Rattle.eos_picture.specs.Ends.{ends, HasNone}
 use Rattle.eos_picture.specs.declared.mark.Mark.{Mark}
 use Rattle.eos_picture.specs.declared.mark.Row.{Row}
 use Rattle.eos_picture.specs.declared.mark.Sign.{Sign}
@@ -27,7 +32,8 @@ of_record p c x w (signs.Decision offset kind) has by e h = absurd h
 of_record p c x w (signs.Record offset fate) has by e h = record { item = x; has = has; by = by ∙ ap (λ (z : ℤ × ℤ). Some z) e; at = h.0; came_to = h.1 }
 of_record p c x w (signs.Commit offset fate source committed) has by e h = record { item = x; has = has; by = by ∙ ap (λ (z : ℤ × ℤ). Some z) e; at = h.0; came_to = h.1 }
 of_record p c x w (signs.Passed fate from to) has by e h = absurd h
-of_record p c x w (signs.Marker kind) has by e h = absurd h
+of_record p c x w (signs.Marker kind count) has by e h = absurd h
+of_record p c x w (signs.Missing kind) has by e h = absurd h
 of_record p c x w (signs.Spot place) has by e h = absurd h
 
 -- a record's sign is true in its writer's column
@@ -38,9 +44,34 @@ true_record p (Some c) x w sign has by e h = of_record p c x w sign has by e h
 pub one_more_in : (p : PartLog) (columns : List Column) (old new : List Mark) (m : Mark) → new ≡ old ++ m ∷ [] → IsTrueOf p columns m → AreTrue p columns old → AreTrue p columns new
 one_more_in p columns old new m e now before = subst (λ z. AreTrue p columns z) (sym e) (one_more p columns old m now before)
 
-pub spot_true : (p : PartLog) (c : Option Column) (place : Option ℕ) → IsTrueAt p c (signs.Spot place)
-spot_true p None place = tt
-spot_true p (Some c) place = tt
+pub unseen_true : (p : PartLog) (c : Option Column) → IsTrueAt p c (signs.Spot None)
+unseen_true p None = tt
+unseen_true p (Some c) = tt
+
+-- behind the last column
+pub past_true : (p : PartLog) (columns : List Column) (i : ℕ) (sign : Sign) → length columns ≤ i → IsTrueAt p (slice_get columns i) sign
+past_true p columns i sign le = subst (λ c. IsTrueAt p c sign) (sym (slice_get_past columns i le)) tt
+
+pub ends_same : (markers : List Marker) (a b c d : ℤ) (kind : Kind) → a ≡ c → b ≡ d → ends markers a b kind ≡ ends markers c d kind
+ends_same markers a b c d kind e f = ap (λ z. ends markers z b kind) e ∙ ap (λ z. ends markers c z kind) f
+
+-- end markers with the epoch of the transaction's data, or of no transaction
+pub own_true : (p : PartLog) (columns : List Column) (i : ℕ) (w : ℤ × ℤ) (kind : Kind) (count : ℕ) → ((c : Column) → slice_get columns i ≡ Some c → IsOfWriter (Some c) w) → 1 ≤ count
+    → count ≡ ends p.markers w.0 w.1 kind → IsTrueAt p (slice_get columns i) (signs.Marker kind count)
+own_true p columns i w kind count own some many = go (slice_get columns i) refl
+  where
+    go : (c : Option Column) → slice_get columns i ≡ c → IsTrueAt p c (signs.Marker kind count)
+    go None e = tt
+    go (Some c) e = inr (inr (record { some = some; many = many ∙ ap (λ (z : ℤ × ℤ). ends p.markers z.0 z.1 kind) (own c e) }))
+
+-- end markers with the epoch that was decided, and that there are none
+pub marked_true : (p : PartLog) (o : Option Column) (c : Column) (d : Decided) (kind : Kind) (count : ℕ) → o ≡ Some c → c.decided ≡ Some d → 1 ≤ count
+    → count ≡ ends p.markers c.producer d.marker_epoch kind → IsTrueAt p o (signs.Marker kind count)
+marked_true p o c d kind count at by some many = subst (λ z. IsTrueAt p z (signs.Marker kind count)) (sym at) (inl (record { decided = d; by = by; some = some; many = many }))
+
+pub missing_true : (p : PartLog) (o : Option Column) (c : Column) (d : Decided) → o ≡ Some c → c.decided ≡ Some d → HasNone p.markers c.producer d.marker_epoch
+    → IsTrueAt p o (signs.Missing d.kind)
+missing_true p o c d at by none = subst (λ z. IsTrueAt p z (signs.Missing d.kind)) (sym at) (record { decided = d; by = by; so = refl; none = none })
 
 pub passed_true : (p : PartLog) (c : Option Column) (fate : Fate) (from to : ℤ) → IsTrueAt p c (signs.Passed fate from to)
 passed_true p None fate from to = tt
@@ -50,9 +81,10 @@ pub none_true : (p : PartLog) (columns : List Column) (marks : List Mark) → ma
 none_true p columns marks e = subst (λ z. AreTrue p columns z) (sym e) (λ m h. absurd h)
 
 -- the next end marker of a transaction without a Prepare record
-pub closed_true : (p : PartLog) (c : Option Column) (x : Close) → Has p.closes x → IsOfWriter c (x.producer, x.epoch) → IsTrueAt p c (signs.Marker x.kind)
-closed_true p None x has e = absurd e
-closed_true p (Some c) x has e = inr (record { close = x; has = has; producer = sym (ap (λ (z : ℤ × ℤ). z.0) e); epoch = sym (ap (λ (z : ℤ × ℤ). z.1) e); so = refl })
+pub closed_true : (p : PartLog) (c : Option Column) (x : Close) (count : ℕ) → Has p.closes x → IsOfWriter c (x.producer, x.epoch) → count ≡ ends p.markers x.producer x.marker_epoch x.kind → IsTrueAt p c (signs.Marker x.kind count)
+closed_true p None x count has e many = absurd e
+closed_true p (Some c) x count has e many =
+    inr (inl (record { close = x; has = has; producer = sym (ap (λ (z : ℤ × ℤ). z.0) e); epoch = sym (ap (λ (z : ℤ × ℤ). z.1) e); so = refl; many = many }))
 
 pub indexed_has : {X : Type 0} (xs : List X) (i : ℕ) (d : X) → i < length xs → Has xs (slice_index_or xs i d)
 indexed_has [] i d lt = absurd (omega (arith, lt))

@@ -6,6 +6,8 @@ use Rattle.std.proofs.lemmas.Bool.{cases_lt}
 use Rattle.std.proofs.lemmas.Option.{slice_get_past}
 use Rattle.eos_base.specs.Members.{Has}
 use Rattle.eos_base.proofs.Membership.{append_cases, append_left, append_right}
+use Rattle.eos_batch.specs.declared.marker.Kind.{Kind}
+use Rattle.eos_batch.specs.declared.marker.Kind.TheVariants.{Commit, Abort}
 use Rattle.eos_batch.specs.declared.marker.Marker.{Marker}
 use Rattle.eos_fold.specs.declared.close.Close.{Close}
 use Rattle.eos_fold.specs.Parts.{PartLog, part_name, Rises}
@@ -17,7 +19,9 @@ use Rattle.eos_picture.specs.declared.mark.Sign.TheVariants as signs
 use Rattle.eos_picture.specs.Marks.{HasTrueRows}
 use Rattle.eos_picture.specs.Signs.{IsOfWriter}
 use Rattle.eos_table.specs.TransactionLog.{is_transaction_part}
-use Rattle.eos_picture.specs.Whole.{IsAt, IsMarkOf, Shows, ShowsRecord, ShowsDecision, ShowsMarker, ShowsClose, IsWhole, IsCovered}
+use Rattle.eos_picture.specs.Whole.{IsAt, IsMarkOf, Shows, ShowsRecord, ShowsDecision, ShowsEnds, ShowsMissing, ShowsClose, IsWhole, IsCovered}
+use Rattle.eos_picture.specs.Ends.{ends}
+use Rattle.eos_picture.specs.steps.Acts.{ShowsActs}
 use Rattle.eos_base.specs.declared.partition_name.PartitionName.{PartitionName}
 use Rattle.eos_claims.specs.declared.place.Place.{Place}
 use Rattle.eos_picture.specs.Window.{IsThere, IsOfRecordAt}
@@ -37,11 +41,22 @@ kept_record columns old new x keeps h = λ w i by of. kept_shown old new (IsMark
 pub kept_decision : (n : ℤ) (columns : List Column) (old new : List Mark) (i : ℕ) → Keeps old new → ShowsDecision n columns old i → ShowsDecision n columns new i
 kept_decision n columns old new i keeps h = λ c d at by in_it. kept_shown old new (IsAt i (signs.Decision d.offset d.kind)) keeps (h c d at by in_it)
 
-pub kept_marker : (columns : List Column) (old new : List Mark) (x : Marker) (i : ℕ) → Keeps old new → ShowsMarker columns old x i → ShowsMarker columns new x i
-kept_marker columns old new x i keeps h = λ c d at by producer epoch. kept_shown old new (IsAt i (signs.Marker x.kind)) keeps (h c d at by producer epoch)
+kept_ends : (markers : List Marker) (columns : List Column) (old new : List Mark) (i : ℕ) (kind : Kind) → Keeps old new → ShowsEnds markers columns old i kind → ShowsEnds markers columns new i kind
+kept_ends markers columns old new i kind keeps h = λ c d at by some. kept_shown old new (IsAt i (signs.Marker kind (ends markers c.producer d.marker_epoch kind))) keeps (h c d at by some)
 
-pub kept_close : (columns : List Column) (old new : List Mark) (x : Close) (i : ℕ) → Keeps old new → ShowsClose columns old x i → ShowsClose columns new x i
-kept_close columns old new x i keeps h = λ c at by producer epoch. kept_shown old new (IsAt i (signs.Marker x.kind)) keeps (h c at by producer epoch)
+kept_missing : (markers : List Marker) (columns : List Column) (old new : List Mark) (x : Item) (i : ℕ) → Keeps old new → ShowsMissing markers columns old x i → ShowsMissing markers columns new x i
+kept_missing markers columns old new x i keeps h = λ c d at by wrote none. kept_shown old new (IsAt i (signs.Missing d.kind)) keeps (h c d at by wrote none)
+
+pub kept_close : (markers : List Marker) (columns : List Column) (old new : List Mark) (x : Close) (i : ℕ) → Keeps old new → ShowsClose markers columns old x i → ShowsClose markers columns new x i
+kept_close markers columns old new x i keeps h = λ c at by producer epoch. kept_shown old new (IsAt i (signs.Marker x.kind (ends markers x.producer x.marker_epoch x.kind))) keeps (h c at by producer epoch)
+
+kept_acts : (p : PartLog) (columns : List Column) (old new : List Mark) (i : ℕ) → Keeps old new → ShowsActs p columns old i → ShowsActs p columns new i
+kept_acts p columns old new i keeps h = record {
+  decision = λ t. kept_decision p.number columns old new i keeps (h.decision t);
+  markers = λ kind. kept_ends p.markers columns old new i kind keeps (h.markers kind);
+  missing = λ x has. kept_missing p.markers columns old new x i keeps (h.missing x has);
+  closes = λ x has. kept_close p.markers columns old new x i keeps (h.closes x has);
+}
 
 pub keeps_all : {X : Type 0} (one two three : List X) → Keeps one two → Keeps two three → Keeps one three
 keeps_all one two three f g = λ x h. g x (f x h)
@@ -107,29 +122,39 @@ none_behind columns i w le h = subst (λ z. IsOfWriter z w) (slice_get_past colu
 
 -- ---- what each function adds
 
-pub decisions_next : (n : ℤ) (columns : List Column) (old new : List Mark) (i : ℕ) → Keeps old new → ShowsDecision n columns new i
-    → ((j : ℕ) → j < i → ShowsDecision n columns old j) → (j : ℕ) → j < i + 1 → ShowsDecision n columns new j
-decisions_next n columns old new i keeps now before = below_next (λ j. ShowsDecision n columns new j) i (λ j lt. kept_decision n columns old new j keeps (before j lt)) now
+-- one after the other
+pub all_acts : (p : PartLog) (columns : List Column) (d a b m k : List Mark) (i : ℕ) → (is_transaction_part p ≡ true → ShowsDecision p.number columns d i)
+    → Keeps d a → ShowsEnds p.markers columns a i Commit → Keeps a b → ShowsEnds p.markers columns b i Abort
+    → Keeps b m → ((x : Item) → Has p.items x → ShowsMissing p.markers columns m x i) → Keeps m k → ((x : Close) → Has p.closes x → ShowsClose p.markers columns k x i)
+    → ShowsActs p columns k i
+all_acts p columns d a b m k i decision da commits ab aborts bm missing mk closes = record {
+  decision = λ t. kept_decision p.number columns d k i (λ y g. mk y (bm y (ab y (da y g)))) (decision t);
+  markers = both;
+  missing = λ x has. kept_missing p.markers columns m k x i mk (missing x has);
+  closes = closes;
+}
+  where
+    both : (kind : Kind) → ShowsEnds p.markers columns k i kind
+    both Commit = kept_ends p.markers columns a k i Commit (λ y g. mk y (bm y (ab y g))) commits
+    both Abort = kept_ends p.markers columns b k i Abort (λ y g. mk y (bm y g)) aborts
 
-pub markers_next : (columns : List Column) (x : Marker) (old new : List Mark) (i : ℕ) → Keeps old new → ShowsMarker columns new x i
-    → ((j : ℕ) → j < i → ShowsMarker columns old x j) → (j : ℕ) → j < i + 1 → ShowsMarker columns new x j
-markers_next columns x old new i keeps now before = below_next (λ j. ShowsMarker columns new x j) i (λ j lt. kept_marker columns old new x j keeps (before j lt)) now
+pub acts_next : (p : PartLog) (columns : List Column) (old new : List Mark) (i : ℕ) → Keeps old new → ShowsActs p columns new i
+    → ((j : ℕ) → j < i → ShowsActs p columns old j) → (j : ℕ) → j < i + 1 → ShowsActs p columns new j
+acts_next p columns old new i keeps now before = below_next (λ j. ShowsActs p columns new j) i (λ j lt. kept_acts p columns old new j keeps (before j lt)) now
 
-pub closes_next : (columns : List Column) (x : Close) (old new : List Mark) (i : ℕ) → Keeps old new → ShowsClose columns new x i
-    → ((j : ℕ) → j < i → ShowsClose columns old x j) → (j : ℕ) → j < i + 1 → ShowsClose columns new x j
-closes_next columns x old new i keeps now before = below_next (λ j. ShowsClose columns new x j) i (λ j lt. kept_close columns old new x j keeps (before j lt)) now
-
-no_column : {P : Type 0} (columns : List Column) (i : ℕ) (c : Column) → length columns ≤ i → slice_get columns i ≡ Some c → P
+pub no_column : {P : Type 0} (columns : List Column) (i : ℕ) (c : Column) → length columns ≤ i → slice_get columns i ≡ Some c → P
 no_column columns i c le e = let past = slice_get_past columns i le in absurd cc
 
-pub decisions_all : (n : ℤ) (columns : List Column) (marks : List Mark) (k : ℕ) → length columns ≤ k → ((j : ℕ) → j < k → ShowsDecision n columns marks j) → (i : ℕ) → ShowsDecision n columns marks i
-decisions_all n columns marks k le below i = elim (cases_lt i k) [ inl l ↦ below i l | inr r ↦ λ c d at by in_it. no_column columns i c (omega (arith, le, r)) at ]
+past_acts : (p : PartLog) (columns : List Column) (marks : List Mark) (i : ℕ) → length columns ≤ i → ShowsActs p columns marks i
+past_acts p columns marks i le = record {
+  decision = λ t c d at by in_it. no_column columns i c le at;
+  markers = λ kind c d at by some. no_column columns i c le at;
+  missing = λ x has c d at by wrote none. no_column columns i c le at;
+  closes = λ x has c at by producer epoch. no_column columns i c le at;
+}
 
-pub markers_all : (columns : List Column) (marks : List Mark) (x : Marker) (k : ℕ) → length columns ≤ k → ((j : ℕ) → j < k → ShowsMarker columns marks x j) → (i : ℕ) → ShowsMarker columns marks x i
-markers_all columns marks x k le below i = elim (cases_lt i k) [ inl l ↦ below i l | inr r ↦ λ c d at by producer epoch. no_column columns i c (omega (arith, le, r)) at ]
-
-pub closes_all : (columns : List Column) (marks : List Mark) (x : Close) (k : ℕ) → length columns ≤ k → ((j : ℕ) → j < k → ShowsClose columns marks x j) → (i : ℕ) → ShowsClose columns marks x i
-closes_all columns marks x k le below i = elim (cases_lt i k) [ inl l ↦ below i l | inr r ↦ λ c at by producer epoch. no_column columns i c (omega (arith, le, r)) at ]
+pub acts_all : (p : PartLog) (columns : List Column) (marks : List Mark) (k : ℕ) → length columns ≤ k → ((j : ℕ) → j < k → ShowsActs p columns marks j) → (i : ℕ) → ShowsActs p columns marks i
+acts_all p columns marks k le below i = elim (cases_lt i k) [ inl l ↦ below i l | inr r ↦ past_acts p columns marks i (omega (arith, le, r)) ]
 
 -- the list that is gone over, one further
 pub one_further : {X : Type 0} (all list : List X) (k : ℕ) (d : X) (P Q : X → Type 0) → list ≡ all → k < length list → ((x : X) → P x → Q x) → Q (slice_index_or list k d)
@@ -155,16 +180,28 @@ records_next columns all left rest item old new e keeps now before x h = elim (b
 pub records_all : (columns : List Column) (all left : List Item) (marks : List Mark) → left ≡ [] → ((x : Item) → Has all x → Has left x ⊎ ShowsRecord columns marks x) → (x : Item) → Has all x → ShowsRecord columns marks x
 records_all columns all left marks e inv x h = elim (inv x h) [ inl is ↦ absurd (subst (λ z. Has z x) e is) | inr done ↦ done ]
 
+-- what is left of a list that is gone over
+pub left_next : {X : Type 0} (P : X → Type 0) (all left rest : List X) (item : X) → left ≡ item ∷ rest → P item → ((x : X) → Has all x → Has left x ⊎ P x) → (x : X) → Has all x → Has rest x ⊎ P x
+left_next {X} P all left rest item e now before x h = elim (before x h) [
+  | inl is ↦ elim (subst (λ (z : List X). Has z x) e is) [ inl same ↦ inr (subst P same now) | inr more ↦ inl more ]
+  | inr done ↦ inr done
+]
+
+pub left_none : {X : Type 0} (P : X → Type 0) (all left : List X) → left ≡ [] → ((x : X) → Has all x → Has left x ⊎ P x) → (x : X) → Has all x → P x
+left_none {X} P all left e inv x h = elim (inv x h) [ inl is ↦ absurd (subst (λ (z : List X). Has z x) e is) | inr done ↦ done ]
+
 -- the marks of a row, kind after kind
-pub whole_row : (p : PartLog) (columns : List Column) (d r a m k s : List Mark) → (is_transaction_part p ≡ true → (i : ℕ) → ShowsDecision p.number columns d i)
-    → Keeps d r → ((x : Item) → Has p.items x → ShowsRecord columns r x) → Keeps r a → Keeps a m → ((x : Marker) → Has p.markers x → (i : ℕ) → ShowsMarker columns m x i)
-    → Keeps m k → ((x : Close) → Has p.closes x → (i : ℕ) → ShowsClose columns k x i) → Keeps k s → IsWhole p columns s
-whole_row p columns d r a m k s decisions dr records ra am markers mk closes ks = record {
-  records = λ x h. kept_record columns r s x (λ y g. ks y (mk y (am y (ra y g)))) (records x h);
-  decisions = λ t i. kept_decision p.number columns d s i (λ y g. ks y (mk y (am y (ra y (dr y g))))) (decisions t i);
-  markers = λ x h i. kept_marker columns m s x i (λ y g. ks y (mk y g)) (markers x h i);
-  closes = λ x h i. kept_close columns k s x i ks (closes x h i);
-}
+pub whole_row : (p : PartLog) (columns : List Column) (r a m s : List Mark) → ((x : Item) → Has p.items x → ShowsRecord columns r x) → Keeps r a → Keeps a m
+    → ((i : ℕ) → ShowsActs p columns m i) → Keeps m s → IsWhole p columns s
+whole_row p columns r a m s records ra am acts ms =
+    let kept : (i : ℕ) → ShowsActs p columns s i = λ i. kept_acts p columns m s i ms (acts i) in
+    record {
+      records = λ x h. kept_record columns r s x (λ y g. ms y (am y (ra y g))) (records x h);
+      decisions = λ t i. (kept i).decision t;
+      markers = λ i kind. (kept i).markers kind;
+      missing = λ x h i. (kept i).missing x h;
+      closes = λ x h i. (kept i).closes x h;
+    }
 
 -- ---- rows
 
@@ -233,6 +270,21 @@ found_next all left rest item offset near now e up le is inv x w h at by = elim 
   ]
   | inr done ↦ let behind = done.1 item (subst (λ z. Has z item) (sym e) (inl refl)) in absurd (omega (arith, le, behind))
 ]
+
+-- a record that isn't there, where that is asked
+found_skip : (all left rest : List Item) (item : Item) (offset : ℕ) (near : Option (ℤ × ℤ)) → left ≡ item ∷ rest → item.offset ≢ offset → IsFound all left offset near → IsFound all rest offset near
+found_skip all left rest item offset near e other inv x w h at by = elim (inv x w h at by) [
+  | inl here ↦ elim (subst (λ z. Has z x) e here) [
+    | inl same ↦ absurd (other (ap (λ (z : Item). z.offset) same ∙ at))
+    | inr more ↦ inl more
+  ]
+  | inr done ↦ inr (done.0, λ y g. done.1 y (subst (λ z. Has z y) (sym e) (inr g)))
+]
+
+pub found_either : (all left rest : List Item) (item : Item) (offset : ℕ) (near now : Option (ℤ × ℤ)) → left ≡ item ∷ rest → Rises left → item.offset ≤ offset
+    → (now ≡ option_or item.writer near) ⊎ ((now ≡ near) × (item.offset ≢ offset)) → IsFound all left offset near → IsFound all rest offset now
+found_either all left rest item offset near now e up le (inl is) inv = found_next all left rest item offset near now e up le is inv
+found_either all left rest item offset near now e up le (inr (is, other)) inv = subst (λ z. IsFound all rest offset z) (sym is) (found_skip all left rest item offset near e other inv)
 
 -- ---- whose place it is
 

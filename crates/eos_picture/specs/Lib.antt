@@ -1,5 +1,6 @@
 pub mod Transactions
 pub mod Signs
+pub mod Ends
 pub mod Marks
 pub mod Whole
 pub mod Window

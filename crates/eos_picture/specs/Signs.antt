@@ -11,7 +11,8 @@ IsOf x (signs.Decision offset kind) = ⊥
 IsOf x (signs.Record offset fate) = (x.offset ≡ offset) × (x.fate ≡ fate)
 IsOf x (signs.Commit offset fate source committed) = (x.offset ≡ offset) × (x.fate ≡ fate)
 IsOf x (signs.Passed fate from to) = ⊥
-IsOf x (signs.Marker kind) = ⊥
+IsOf x (signs.Marker kind count) = ⊥
+IsOf x (signs.Missing kind) = ⊥
 IsOf x (signs.Spot place) = ⊥
 
 -- the producer id and epoch are those of the data of the transaction at this place

@@ -1,6 +1,7 @@
 -- That a picture leaves nothing out: whatever a transaction that is shown did in a partition has its mark in the partition's row.
-use Rattle.std.specs.Prelude.{◌≡◌, ◌⊎◌, ℕ, ℤ, List, [], Some, None, true, slice_get}
+use Rattle.std.specs.Prelude.{◌≡◌, ◌≤◌, ◌⊎◌, ℕ, ℤ, List, [], Some, None, true, slice_get}
 use Rattle.eos_base.specs.Members.{Has}
+use Rattle.eos_batch.specs.declared.marker.Kind.{Kind}
 use Rattle.eos_batch.specs.declared.marker.Marker.{Marker}
 use Rattle.eos_fold.specs.declared.close.Close.{Close}
 use Rattle.eos_fold.specs.Parts.{PartLog, part_name}
@@ -12,6 +13,7 @@ use Rattle.eos_picture.specs.declared.mark.Mark.{Mark}
 use Rattle.eos_picture.specs.declared.mark.Row.{Row}
 use Rattle.eos_picture.specs.declared.mark.Sign.{Sign}
 use Rattle.eos_picture.specs.declared.mark.Sign.TheVariants as signs
+use Rattle.eos_picture.specs.Ends.{ends, HasNone}
 use Rattle.eos_picture.specs.Signs.{IsOf, IsOfWriter}
 
 -- the mark is this sign in the column at this place
@@ -34,20 +36,28 @@ ShowsRecord columns marks x = (w : ℤ × ℤ) (i : ℕ) → x.writer ≡ Some w
 abbrev pub ShowsDecision : ℤ → List Column → List Mark → ℕ → Type 0
 ShowsDecision n columns marks i = (c : Column) (d : Decided) → slice_get columns i ≡ Some c → c.decided ≡ Some d → d.partition ≡ n → Shows marks (IsAt i (signs.Decision d.offset d.kind))
 
--- the end marker, if it has the epoch that was decided for the transaction at this place
-abbrev pub ShowsMarker : List Column → List Mark → Marker → ℕ → Type 0
-ShowsMarker columns marks x i = (c : Column) (d : Decided) → slice_get columns i ≡ Some c → c.decided ≡ Some d → c.producer ≡ x.producer → d.marker_epoch ≡ x.epoch → Shows marks (IsAt i (signs.Marker x.kind))
+-- the end markers of this kind with the epoch that was decided for the transaction at this place, if there are any: one mark for all of them
+abbrev pub ShowsEnds : List Marker → List Column → List Mark → ℕ → Kind → Type 0
+ShowsEnds markers columns marks i kind = (c : Column) (d : Decided) → slice_get columns i ≡ Some c → c.decided ≡ Some d → 1 ≤ ends markers c.producer d.marker_epoch kind
+    → Shows marks (IsAt i (signs.Marker kind (ends markers c.producer d.marker_epoch kind)))
+
+-- that there are none, if the transaction at this place has this data record
+abbrev pub ShowsMissing : List Marker → List Column → List Mark → Item → ℕ → Type 0
+ShowsMissing markers columns marks x i = (c : Column) (d : Decided) → slice_get columns i ≡ Some c → c.decided ≡ Some d → x.writer ≡ Some (c.producer, c.epoch)
+    → HasNone markers c.producer d.marker_epoch → Shows marks (IsAt i (signs.Missing d.kind))
 
 -- the next end marker behind the data of the transaction at this place, if nothing decided that
-abbrev pub ShowsClose : List Column → List Mark → Close → ℕ → Type 0
-ShowsClose columns marks x i = (c : Column) → slice_get columns i ≡ Some c → c.decided ≡ None → c.producer ≡ x.producer → c.epoch ≡ x.epoch → Shows marks (IsAt i (signs.Marker x.kind))
+abbrev pub ShowsClose : List Marker → List Column → List Mark → Close → ℕ → Type 0
+ShowsClose markers columns marks x i = (c : Column) → slice_get columns i ≡ Some c → c.decided ≡ None → c.producer ≡ x.producer → c.epoch ≡ x.epoch
+    → Shows marks (IsAt i (signs.Marker x.kind (ends markers x.producer x.marker_epoch x.kind)))
 
 -- all that the transactions did in this partition
 pub record IsWhole (p : PartLog) (columns : List Column) (marks : List Mark) : Type 0 where
   pub records : (x : Item) → Has p.items x → ShowsRecord columns marks x
   pub decisions : is_transaction_part p ≡ true → (i : ℕ) → ShowsDecision p.number columns marks i
-  pub markers : (x : Marker) → Has p.markers x → (i : ℕ) → ShowsMarker columns marks x i
-  pub closes : (x : Close) → Has p.closes x → (i : ℕ) → ShowsClose columns marks x i
+  pub markers : (i : ℕ) (kind : Kind) → ShowsEnds p.markers columns marks i kind
+  pub missing : (x : Item) → Has p.items x → (i : ℕ) → ShowsMissing p.markers columns marks x i
+  pub closes : (x : Close) → Has p.closes x → (i : ℕ) → ShowsClose p.markers columns marks x i
 
 -- a row of the partition's name, to which no mark is lacking
 pub record HasRow (p : PartLog) (columns : List Column) (rows : List Row) : Type 0 where

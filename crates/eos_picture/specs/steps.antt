@@ -1,4 +1,5 @@
 -- What only private functions promise: steps towards what the public calls say.
+pub mod Acts
 pub mod Found
 pub mod Kept
 pub mod Spots

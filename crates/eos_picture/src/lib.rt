@@ -2,7 +2,9 @@
 //! read from, each as a row, and in each cell what the transaction did there. How it is drawn, a crate above says.
 #![tactic(auto)]
 
+mod acts;
 mod content;
+mod ends;
 mod mark;
 mod marks;
 mod passes;

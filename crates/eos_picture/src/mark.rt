@@ -55,8 +55,13 @@ pub enum Sign {
         from: i64,
         to: i64,
     },
-    /// An end marker.
-    Marker(Kind),
+    /// The end markers of one kind, which are so many.
+    Marker {
+        kind: Kind,
+        count: u64,
+    },
+    /// An end marker of the kind that was decided, which isn't there.
+    Missing(Kind),
     /// A place of the fault at which no such thing stands.
     Spot(Option<u64>),
 }
@@ -64,18 +69,20 @@ pub enum Sign {
 /// A sign, and where it stands.
 #[derive(Drop)]
 pub struct Mark {
-    /// The place of its column among those of the picture.
+    /// The place of its column among those of the picture; their number where it is of none of these.
     pub column: usize,
     pub sign: Sign,
     /// Whether it is a place of the fault.
     pub is_of_fault: bool,
+    /// The fault's offset, where an end marker stands there.
+    pub offset: Option<u64>,
 }
 
 /// A partition.
 #[derive(Drop)]
 pub struct Row {
     pub name: PartitionName,
-    /// What the transactions did there, by kind of sign and offset.
+    /// What the transactions did there: data records in the order of their offsets, and then the others.
     pub marks: Vec<Mark>,
 }
 

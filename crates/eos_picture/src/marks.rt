@@ -1,14 +1,16 @@
 //! The marks of a row: which are of the fault, and the places of the fault at which none stands.
 
-ghost use Rattle.std.specs.Prelude.{◌<◌, length, slice_get, OnOk};
+ghost use Rattle.std.specs.Prelude.{◌≡◌, ◌<◌, Some, length, slice_get, OnOk};
 ghost use Rattle.eos_picture.specs.Marks.{IsTrueAt, AreTrue};
+ghost use Rattle.eos_picture.specs.Signs.{IsOfWriter};
 ghost use Rattle.eos_picture.specs.Whole.{IsAt, Shows};
 ghost use Rattle.eos_picture.specs.steps.Kept.{Keeps};
 
+use crate::ends::{End, count_ends, is_ended_by};
 use crate::mark::{Column, Mark, Sign};
 use crate::passes::Pass;
 use crate::spots::{At, Spot, is_of};
-use crate::window::{column_of_spot, is_named};
+use crate::window::{column_of, is_named};
 use eos_commits::is_visible;
 use eos_partition::Part;
 use std::alloc::AllocError;
@@ -36,8 +38,11 @@ fn is_at(at: At, column: &Column, sign: &Sign) -> bool {
         ) => place == *offset,
         (
             At::Transaction { producer, epoch },
-            Sign::Record { .. } | Sign::Commit { .. } | Sign::Marker(_),
-        ) => { is_of(column, producer, epoch) }
+            Sign::Record { .. } | Sign::Commit { .. } | Sign::Marker { .. } | Sign::Missing(_),
+        )
+        | (At::Open { producer, epoch }, Sign::Missing(_)) => { is_of(column, producer, epoch) }
+        (At::Marker { end, .. }, Sign::Marker { kind, .. }) => end.kind == *kind
+            && has_end(column, end),
         (At::Passing(place), Sign::Passed { fate, from, to }) => {
             is_visible(*fate) && is_within(place, *from, *to)
         }
@@ -45,17 +50,46 @@ fn is_at(at: At, column: &Column, sign: &Sign) -> bool {
     }
 }
 
+/// Whether the transaction has such end markers.
+fn has_end(column: &Column, end: End) -> bool {
+    if column.decided.is_none() {
+        return column.producer == end.producer;
+    }
+    is_ended_by(column, end.producer, end.epoch)
+}
+
 fn is_within(offset: u64, from: i64, to: i64) -> bool {
     (from < 0 || from as u64 <= offset) && 0 < to && offset < to as u64
 }
 
-fn is_of_fault(scene: Scene<'_>, part: &Part, column: &Column, sign: &Sign) -> bool {
+/// The place of the fault that the sign is, if it is one.
+fn spot_of(scene: Scene<'_>, part: &Part, column: &Column, sign: &Sign) -> Option<At> {
     for spot in scene.spots {
         if is_named(part, &spot.name) && is_at(spot.at, column, sign) {
-            return true;
+            return Some(spot.at);
+        }
+    }
+    None
+}
+
+/// Whether the fault says of the transaction that its end marker isn't in the partition.
+pub(crate) fn is_missed(scene: Scene<'_>, part: &Part, column: &Column) -> bool {
+    for spot in scene.spots {
+        if let At::Open { producer, epoch } = spot.at {
+            if is_named(part, &spot.name) && is_of(column, producer, epoch) {
+                return true;
+            }
         }
     }
     false
+}
+
+/// The offset of an end marker at a place of the fault.
+fn marker_offset(at: Option<At>) -> Option<u64> {
+    match at {
+        Some(At::Marker { offset, .. }) => offset,
+        _ => None,
+    }
 }
 
 /// Puts a sign at the end.
@@ -74,11 +108,12 @@ pub(crate) fn push_mark(
     let Some(of) = scene.columns.get(column) else {
         return Ok(());
     };
-    let is_of_fault = is_of_fault(scene, part, of, &sign);
+    let at = spot_of(scene, part, of, &sign);
     marks.push(Mark {
         column,
         sign,
-        is_of_fault,
+        is_of_fault: at.is_some(),
+        offset: marker_offset(at),
     })?;
     Ok(())
 }
@@ -121,31 +156,113 @@ fn push_absent(
     ensures so { AreTrue part.now scene.entry.columns.now marks.old.items → OnOk result (AreTrue part.now scene.entry.columns.now marks.new.items) }
     ensures keeps { OnOk result (Keeps marks.old.items marks.new.items) }
 {
-    if !is_named(part, &spot.name) || has_spot(marks.as_slice(), scene, spot.at) {
+    if !is_named(part, &spot.name)
+        || has_spot(marks.as_slice(), scene, spot.at)
+        || is_at_end(scene, spot)
+    {
         return Ok(());
     }
-    push_spot(marks, scene, part, spot)
+    match spot.at {
+        At::Offset(offset) => push_bare(marks, scene, part, offset),
+        At::Marker { end, offset } => push_stray(marks, scene, part, end, offset),
+        At::Transaction { producer, epoch } => push_unseen(marks, scene, part, producer, epoch),
+        At::Open { producer, epoch } => push_unseen(marks, scene, part, producer, epoch),
+        At::Passing(_) | At::Near(_) => Ok(()),
+    }
 }
 
-fn push_spot(
+/// Whether it is a place at which an end marker of the fault stands, or one should.
+fn is_at_end(scene: Scene<'_>, spot: &Spot) -> bool {
+    let At::Offset(place) = spot.at else {
+        return false;
+    };
+    for other in scene.spots {
+        let is_there = match other.at {
+            At::Marker { offset, .. } => offset == Some(place),
+            At::Open { .. } => true,
+            _ => false,
+        };
+        if is_there && other.name == spot.name {
+            return true;
+        }
+    }
+    false
+}
+
+/// A place at which nothing of these transactions stands.
+fn push_bare(
     marks: &mut Vec<Mark>,
     scene: Scene<'_>,
     part: &Part,
-    spot: &Spot,
+    offset: u64,
 ) -> Result<(), AllocError>
     ensures so { AreTrue part.now scene.entry.columns.now marks.old.items → OnOk result (AreTrue part.now scene.entry.columns.now marks.new.items) }
     ensures keeps { OnOk result (Keeps marks.old.items marks.new.items) }
 {
-    let place = match spot.at {
-        At::Offset(offset) => Some(offset),
-        At::Transaction { .. } => None,
-        At::Passing(_) => return Ok(()),
-    };
-    let column = column_of_spot(scene.columns, scene.logs, spot).unwrap_or(0);
+    marks.push(Mark {
+        column: scene.columns.len(),
+        sign: Sign::Spot(Some(offset)),
+        is_of_fault: true,
+        offset: None,
+    })?;
+    Ok(())
+}
+
+/// The place of the transaction whose data have this producer id and epoch, or the one behind the last.
+fn own_place(columns: &[Column], writer: (i64, i16)) -> usize
+    ensures { (c : Column) → slice_get columns.now result ≡ Some c → IsOfWriter (Some c) writer }
+{
+    match column_of(columns, writer) {
+        Some(column) => column,
+        None => columns.len(),
+    }
+}
+
+/// End markers that no transaction was decided to have, with the one whose data have their epoch.
+fn push_stray(
+    marks: &mut Vec<Mark>,
+    scene: Scene<'_>,
+    part: &Part,
+    end: End,
+    offset: Option<u64>,
+) -> Result<(), AllocError>
+    ensures so { AreTrue part.now scene.entry.columns.now marks.old.items → OnOk result (AreTrue part.now scene.entry.columns.now marks.new.items) }
+    ensures keeps { OnOk result (Keeps marks.old.items marks.new.items) }
+{
+    let count = count_ends(part, end);
+    if count == 0 {
+        return Ok(());
+    }
+    let column = own_place(scene.columns, (end.producer, end.epoch));
     marks.push(Mark {
         column,
-        sign: Sign::Spot(place),
+        sign: Sign::Marker {
+            kind: end.kind,
+            count,
+        },
         is_of_fault: true,
+        offset,
+    })?;
+    Ok(())
+}
+
+/// What a transaction didn't do, of which nothing says what it should have been.
+fn push_unseen(
+    marks: &mut Vec<Mark>,
+    scene: Scene<'_>,
+    part: &Part,
+    producer: i64,
+    epoch: i16,
+) -> Result<(), AllocError>
+    ensures so { AreTrue part.now scene.entry.columns.now marks.old.items → OnOk result (AreTrue part.now scene.entry.columns.now marks.new.items) }
+    ensures keeps { OnOk result (Keeps marks.old.items marks.new.items) }
+{
+    let column = column_of(scene.columns, (producer, epoch));
+    marks.push(Mark {
+        column: column.unwrap_or(scene.columns.len()),
+        sign: Sign::Spot(None),
+        is_of_fault: true,
+        offset: None,
     })?;
     Ok(())
 }

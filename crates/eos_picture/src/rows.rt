@@ -1,14 +1,14 @@
 //! The rows of a picture: what its transactions did in a partition.
 
-ghost use Rattle.std.specs.Prelude.{◌≡◌, ◌<◌, ◌++◌, ℕ, true, length, IfOk, OnOk};
+ghost use Rattle.std.specs.Prelude.{◌++◌, IfOk, OnOk};
 ghost use Rattle.eos_base.specs.Members.{Has};
 ghost use Rattle.eos_items.specs.declared.item.Item.{Item};
-ghost use Rattle.eos_table.specs.TransactionLog.{is_transaction_part};
 ghost use Rattle.eos_picture.specs.Marks.{AreTrue, IsTrueRow, HasTrueRows};
 ghost use Rattle.eos_picture.specs.Signs.{IsOf};
-ghost use Rattle.eos_picture.specs.Whole.{ShowsRecord, ShowsDecision, ShowsMarker, ShowsClose, IsWhole, IsCovered, HasWholeRows};
+ghost use Rattle.eos_picture.specs.Whole.{ShowsRecord, IsWhole, IsCovered, HasWholeRows};
 ghost use Rattle.eos_picture.specs.steps.Kept.{Keeps};
 
+use crate::acts::push_acts;
 use crate::mark::{Mark, Row, Sign};
 use crate::marks::{Scene, push_mark, push_spots};
 use crate::passes::{commit_of, is_of_offsets_log};
@@ -17,51 +17,10 @@ use crate::transactions::is_of_transaction_log;
 use crate::window::column_of;
 use bytes::Bytes;
 use eos_base::PartitionName;
-use eos_batch::Marker;
-use eos_fold::Close;
 use eos_partition::{ItemRef, Part};
 use std::alloc::{AllocError, Global};
 
 // ---- the signs
-
-/// The Prepare record of the transaction at this place, if it is in the partition.
-fn push_decision(
-    marks: &mut Vec<Mark>,
-    scene: Scene<'_>,
-    part: &Part,
-    i: usize,
-) -> Result<(), AllocError>
-    requires { i < length scene.columns.now }
-    ensures so { AreTrue part.now scene.entry.columns.now marks.old.items → OnOk result (AreTrue part.now scene.entry.columns.now marks.new.items) }
-    ensures keeps { OnOk result (Keeps marks.old.items marks.new.items) }
-    ensures shows { OnOk result (ShowsDecision part.now.number scene.entry.columns.now marks.new.items i) }
-{
-    let Some(decided) = &scene.columns[i].decided else {
-        return Ok(());
-    };
-    if decided.partition != part.partition() {
-        return Ok(());
-    }
-    let sign = Sign::Decision {
-        offset: decided.offset,
-        kind: decided.kind,
-    };
-    push_mark(marks, scene, part, i, sign)
-}
-
-fn push_decisions(marks: &mut Vec<Mark>, scene: Scene<'_>, part: &Part) -> Result<(), AllocError>
-    ensures so { AreTrue part.now scene.entry.columns.now marks.old.items → OnOk result (AreTrue part.now scene.entry.columns.now marks.new.items) }
-    ensures keeps { OnOk result (Keeps marks.old.items marks.new.items) }
-    ensures shows { OnOk result (is_transaction_part part.now ≡ true → (i : ℕ) → ShowsDecision part.now.number scene.entry.columns.now marks.new.items i) }
-{
-    if !is_of_transaction_log(part) {
-        return Ok(());
-    }
-    for i in 0..scene.columns.len() {
-        push_decision(marks, scene, part, i)?;
-    }
-    Ok(())
-}
 
 /// What a data record is, in a partition of the offsets log or not.
 fn sign_of(alloc: Global, of_offsets_log: bool, item: &ItemRef<'_>) -> Result<Sign, AllocError>
@@ -142,112 +101,6 @@ fn push_passes(marks: &mut Vec<Mark>, scene: Scene<'_>, part: &Part) -> Result<(
     Ok(())
 }
 
-/// The end marker, if it is of the transaction at this place, and that was decided.
-fn push_marker_of(
-    marks: &mut Vec<Mark>,
-    scene: Scene<'_>,
-    part: &Part,
-    marker: &Marker,
-    i: usize,
-) -> Result<(), AllocError>
-    requires inside { i < length scene.columns.now }
-    requires has { Has part.now.markers marker.now }
-    ensures so { AreTrue part.now scene.entry.columns.now marks.old.items → OnOk result (AreTrue part.now scene.entry.columns.now marks.new.items) }
-    ensures keeps { OnOk result (Keeps marks.old.items marks.new.items) }
-    ensures shows { OnOk result (ShowsMarker scene.entry.columns.now marks.new.items marker.now i) }
-{
-    let column = &scene.columns[i];
-    let Some(decided) = &column.decided else {
-        return Ok(());
-    };
-    if column.producer != marker.producer || decided.marker_epoch != marker.epoch {
-        return Ok(());
-    }
-    push_mark(marks, scene, part, i, Sign::Marker(marker.kind))
-}
-
-fn push_marker(
-    marks: &mut Vec<Mark>,
-    scene: Scene<'_>,
-    part: &Part,
-    marker: &Marker,
-) -> Result<(), AllocError>
-    requires { Has part.now.markers marker.now }
-    ensures so { AreTrue part.now scene.entry.columns.now marks.old.items → OnOk result (AreTrue part.now scene.entry.columns.now marks.new.items) }
-    ensures keeps { OnOk result (Keeps marks.old.items marks.new.items) }
-    ensures shows { OnOk result ((i : ℕ) → ShowsMarker scene.entry.columns.now marks.new.items marker.now i) }
-{
-    for i in 0..scene.columns.len() {
-        push_marker_of(marks, scene, part, marker, i)?;
-    }
-    Ok(())
-}
-
-/// The end markers of the transactions that were decided.
-fn push_markers(marks: &mut Vec<Mark>, scene: Scene<'_>, part: &Part) -> Result<(), AllocError>
-    ensures so { AreTrue part.now scene.entry.columns.now marks.old.items → OnOk result (AreTrue part.now scene.entry.columns.now marks.new.items) }
-    ensures keeps { OnOk result (Keeps marks.old.items marks.new.items) }
-    ensures shows { OnOk result ((x : Marker) → Has part.now.markers x → (i : ℕ) → ShowsMarker scene.entry.columns.now marks.new.items x i) }
-{
-    for marker in part.markers() {
-        push_marker(marks, scene, part, marker)?;
-    }
-    Ok(())
-}
-
-/// The end marker, if it is the next one behind the data of the transaction at this place, and nothing decided that.
-fn push_close_of(
-    marks: &mut Vec<Mark>,
-    scene: Scene<'_>,
-    part: &Part,
-    close: &Close,
-    i: usize,
-) -> Result<(), AllocError>
-    requires inside { i < length scene.columns.now }
-    requires has { Has part.now.closes close.now }
-    ensures so { AreTrue part.now scene.entry.columns.now marks.old.items → OnOk result (AreTrue part.now scene.entry.columns.now marks.new.items) }
-    ensures keeps { OnOk result (Keeps marks.old.items marks.new.items) }
-    ensures shows { OnOk result (ShowsClose scene.entry.columns.now marks.new.items close.now i) }
-{
-    let column = &scene.columns[i];
-    if column.decided.is_some()
-        || column.producer != close.producer
-        || column.epoch != close.epoch
-    {
-        return Ok(());
-    }
-    push_mark(marks, scene, part, i, Sign::Marker(close.kind))
-}
-
-fn push_close(
-    marks: &mut Vec<Mark>,
-    scene: Scene<'_>,
-    part: &Part,
-    close: &Close,
-) -> Result<(), AllocError>
-    requires { Has part.now.closes close.now }
-    ensures so { AreTrue part.now scene.entry.columns.now marks.old.items → OnOk result (AreTrue part.now scene.entry.columns.now marks.new.items) }
-    ensures keeps { OnOk result (Keeps marks.old.items marks.new.items) }
-    ensures shows { OnOk result ((i : ℕ) → ShowsClose scene.entry.columns.now marks.new.items close.now i) }
-{
-    for i in 0..scene.columns.len() {
-        push_close_of(marks, scene, part, close, i)?;
-    }
-    Ok(())
-}
-
-/// Those of the others: the next ones behind their data.
-fn push_closes(marks: &mut Vec<Mark>, scene: Scene<'_>, part: &Part) -> Result<(), AllocError>
-    ensures so { AreTrue part.now scene.entry.columns.now marks.old.items → OnOk result (AreTrue part.now scene.entry.columns.now marks.new.items) }
-    ensures keeps { OnOk result (Keeps marks.old.items marks.new.items) }
-    ensures shows { OnOk result ((x : Close) → Has part.now.closes x → (i : ℕ) → ShowsClose scene.entry.columns.now marks.new.items x i) }
-{
-    for close in part.closes() {
-        push_close(marks, scene, part, close)?;
-    }
-    Ok(())
-}
-
 // ---- rows
 
 fn row_of(alloc: Global, scene: Scene<'_>, part: &Part) -> Result<Row, AllocError>
@@ -255,11 +108,9 @@ fn row_of(alloc: Global, scene: Scene<'_>, part: &Part) -> Result<Row, AllocErro
     ensures whole { IfOk result (λ row. IsWhole part.now scene.entry.columns.now row.marks.items) }
 {
     let mut marks = Vec::new(alloc);
-    push_decisions(&mut marks, scene, part)?;
     push_records(alloc, &mut marks, scene, part)?;
     push_passes(&mut marks, scene, part)?;
-    push_markers(&mut marks, scene, part)?;
-    push_closes(&mut marks, scene, part)?;
+    push_acts(&mut marks, scene, part)?;
     push_spots(&mut marks, scene, part)?;
     Ok(Row {
         name: name_of(part)?,

@@ -6,16 +6,20 @@ ghost use Rattle.eos_fold.specs.Parts.{part_name};
 ghost use Rattle.eos_picture.specs.Window.{place_of};
 ghost use Rattle.eos_picture.specs.steps.Spots.{StartsAt, spot_at};
 
+use crate::ends::{End, count_ends, is_ended_by, marker_at, open_epoch};
 use crate::mark::Column;
+use crate::window::is_named;
 use bytes::Bytes;
 use eos_base::PartitionName;
+use eos_batch::Kind;
 use eos_check::Fault;
 use eos_claims::{OutputFault, OutputKind};
 use eos_commits::{TopicSet, is_visible};
 use eos_evidence::{App, GroupId};
+use eos_fold::{PartitionFault, PartitionFaultKind};
 use eos_lineage::LineageFault;
 use eos_partition::{ItemRef, Part};
-use eos_table::MatchFault;
+use eos_table::{MatchFault, MatchFaultKind};
 use std::alloc::{AllocError, Global};
 
 /// A place of a fault, in one partition.
@@ -32,8 +36,14 @@ pub(crate) enum At {
     Offset(u64),
     /// What the transaction of this producer id and epoch did in the partition.
     Transaction { producer: i64, epoch: i16 },
+    /// End markers of the partition, at this offset, if it is known.
+    Marker { end: End, offset: Option<u64> },
+    /// The end marker that the transaction of this producer id and epoch doesn't have in the partition.
+    Open { producer: i64, epoch: i16 },
     /// The commits that passed this offset of the partition.
     Passing(u64),
+    /// What stands before this offset, which is no place of the fault.
+    Near(u64),
 }
 
 fn clone_name(name: &PartitionName) -> Result<PartitionName, AllocError>
@@ -67,37 +77,180 @@ fn push_offset(spots: &mut Vec<Spot>, name: PartitionName, offset: u64) -> Resul
 fn push_match(
     alloc: Global,
     spots: &mut Vec<Spot>,
+    logs: &[Part],
     columns: &[Column],
     fault: &MatchFault,
 ) -> Result<(), AllocError> {
     for column in columns {
-        if is_of(column, fault.producer, fault.epoch) {
+        if is_meant(column, fault) {
             if let Some(decided) = &column.decided {
                 let name = transaction_log(alloc, decided.partition)?;
                 push_offset(spots, name, decided.offset)?;
             }
         }
     }
-    if let Some(name) = &fault.partition {
-        spots.push(Spot {
-            name: clone_name(name)?,
-            at: At::Transaction {
-                producer: fault.producer,
-                epoch: fault.epoch,
-            },
-        })?;
+    match &fault.partition {
+        None => Ok(()),
+        Some(name) => push_match_in(spots, logs, name, fault),
+    }
+}
+
+/// What the fault is about in this partition: the missing end marker, the stray ones, or all that the transaction did there.
+fn push_match_in(
+    spots: &mut Vec<Spot>,
+    logs: &[Part],
+    name: &PartitionName,
+    fault: &MatchFault,
+) -> Result<(), AllocError> {
+    let producer = fault.producer;
+    let epoch = fault.epoch;
+    match fault.kind {
+        MatchFaultKind::MissingMarker => push_at(spots, name, At::Open { producer, epoch }),
+        MatchFaultKind::StrayMarker => push_strays(spots, logs, name, producer, epoch),
+        _ => push_at(spots, name, At::Transaction { producer, epoch }),
+    }
+}
+
+fn push_at(spots: &mut Vec<Spot>, name: &PartitionName, at: At) -> Result<(), AllocError>
+    ensures stays { (first : Option Place) → StartsAt spots.old.items first → OnOk result (StartsAt spots.new.items first) }
+{
+    spots.push(Spot {
+        name: clone_name(name)?,
+        at,
+    })?;
+    Ok(())
+}
+
+/// The end markers of this producer id and epoch.
+fn push_strays(
+    spots: &mut Vec<Spot>,
+    logs: &[Part],
+    name: &PartitionName,
+    producer: i64,
+    epoch: i16,
+) -> Result<(), AllocError> {
+    let commit = End {
+        producer,
+        epoch,
+        kind: Kind::Commit,
+    };
+    let abort = End {
+        producer,
+        epoch,
+        kind: Kind::Abort,
+    };
+    for part in logs {
+        if is_named(part, name) {
+            push_stray(spots, part, name, commit)?;
+            push_stray(spots, part, name, abort)?;
+        }
     }
     Ok(())
 }
 
-/// Whether the transaction's data or its end markers have this producer id and epoch.
-pub(crate) fn is_of(column: &Column, producer: i64, epoch: i16) -> bool {
-    if column.producer != producer {
-        return false;
+/// Such end markers, if there are some.
+fn push_stray(
+    spots: &mut Vec<Spot>,
+    part: &Part,
+    name: &PartitionName,
+    end: End,
+) -> Result<(), AllocError> {
+    if count_ends(part, end) > 0 {
+        push_at(spots, name, At::Marker { end, offset: None })?;
     }
-    match &column.decided {
-        Some(decided) => column.epoch == epoch || decided.marker_epoch == epoch,
-        None => column.epoch == epoch,
+    Ok(())
+}
+
+// ---- in a partition by itself
+
+/// What stands at the place of a fault of the partition where that is no data record: an end marker, or nothing yet.
+fn push_beside(
+    spots: &mut Vec<Spot>,
+    part: &Part,
+    name: &PartitionName,
+    fault: &PartitionFault,
+) -> Result<(), AllocError>
+    ensures stays { (first : Option Place) → StartsAt spots.old.items first → OnOk result (StartsAt spots.new.items first) }
+{
+    match end_of(part, fault) {
+        Some(at) => push_at(spots, name, at),
+        None => push_at(spots, name, At::Near(fault.offset)),
+    }
+}
+
+fn push_besides(
+    spots: &mut Vec<Spot>,
+    logs: &[Part],
+    fault: &PartitionFault,
+) -> Result<(), AllocError>
+    ensures stays { (first : Option Place) → StartsAt spots.old.items first → OnOk result (StartsAt spots.new.items first) }
+{
+    let name = name_in(fault)?;
+    for part in logs {
+        if is_named(part, &name) {
+            push_beside(spots, part, &name, fault)?;
+        }
+    }
+    Ok(())
+}
+
+fn end_of(part: &Part, fault: &PartitionFault) -> Option<At> {
+    match fault.kind {
+        PartitionFaultKind::Pair { producer, .. } => {
+            let marker = marker_at(part, fault.offset)?;
+            if marker.producer != producer {
+                return None;
+            }
+            let end = End {
+                producer,
+                epoch: marker.epoch,
+                kind: marker.kind,
+            };
+            Some(At::Marker {
+                end,
+                offset: Some(fault.offset),
+            })
+        }
+        PartitionFaultKind::OpenAtEnd { producer } => {
+            let epoch = open_epoch(part, producer)?;
+            Some(At::Open { producer, epoch })
+        }
+        _ => None,
+    }
+}
+
+/// The name of the fault's partition.
+fn name_in(fault: &PartitionFault) -> Result<PartitionName, AllocError>
+    ensures { IfOk result (λ name. name ≡ record { topic = fault.now.topic; partition = fault.now.partition }) }
+{
+    Ok(PartitionName {
+        topic: fault.topic.clone()?,
+        partition: fault.partition,
+    })
+}
+
+/// The place that the fault names, and what is there.
+fn push_partition(
+    spots: &mut Vec<Spot>,
+    logs: &[Part],
+    fault: &PartitionFault,
+) -> Result<(), AllocError>
+    ensures { spots.old.items ≡ [] → OnOk result (StartsAt spots.new.items (place_of (Fault.Partition fault.now))) }
+{
+    push_offset(spots, name_in(fault)?, fault.offset)?;
+    push_besides(spots, logs, fault)
+}
+
+/// Whether the transaction's data have this producer id and epoch.
+pub(crate) fn is_of(column: &Column, producer: i64, epoch: i16) -> bool {
+    column.producer == producer && column.epoch == epoch
+}
+
+/// Whether the fault is of the transaction: its epoch is that of the data, or of end markers that no decision lists.
+fn is_meant(column: &Column, fault: &MatchFault) -> bool {
+    match fault.kind {
+        MatchFaultKind::StrayMarker => is_ended_by(column, fault.producer, fault.epoch),
+        _ => is_of(column, fault.producer, fault.epoch),
     }
 }
 
@@ -224,18 +377,12 @@ pub(crate) fn spots_of(
 {
     let mut spots = Vec::new(alloc);
     match fault {
-        Fault::Partition(fault) => {
-            let name = PartitionName {
-                topic: fault.topic.clone()?,
-                partition: fault.partition,
-            };
-            push_offset(&mut spots, name, fault.offset)?;
-        }
+        Fault::Partition(fault) => push_partition(&mut spots, logs, fault)?,
         Fault::Log(fault) => {
             let name = transaction_log(alloc, fault.partition)?;
             push_offset(&mut spots, name, fault.offset)?;
         }
-        Fault::Match(fault) => push_match(alloc, &mut spots, columns, fault)?,
+        Fault::Match(fault) => push_match(alloc, &mut spots, logs, columns, fault)?,
         Fault::Lineage(LineageFault::Record(fault)) => {
             push_offset(&mut spots, clone_name(&fault.partition)?, fault.offset)?;
         }

@@ -1,6 +1,7 @@
 //! Which transactions are shown: those around the fault.
 
-ghost use Rattle.std.specs.Prelude.{◌≡◌, ◌≢◌, ◌<◌, ℤ, List, [], Some, None, true, false, take, length, IfSome};
+ghost use Rattle.std.specs.Prelude.{◌≡◌, ◌≢◌, ◌<◌, ◌⊎◌, ℤ, List, [], Some, None, true, false, take, length, IfSome};
+ghost use Rattle.std.specs.Option.{option_or};
 ghost use Rattle.eos_base.specs.Members.{Has};
 ghost use Rattle.eos_items.specs.declared.item.Item.{Item};
 ghost use Rattle.eos_fold.specs.Parts.{part_name};
@@ -9,11 +10,12 @@ ghost use Rattle.eos_picture.specs.Window.{IsOfRecordAt, first_shown, end_shown}
 ghost use Rattle.eos_picture.specs.steps.Found.{IsPlaceOf};
 ghost use Rattle.eos_picture.specs.steps.Spots.{StartsAt, spot_at};
 
+use crate::ends::{End, is_ended_by};
 use crate::mark::Column;
-use crate::spots::{At, Spot, is_of};
+use crate::spots::{At, Spot};
 use crate::transactions::is_of_transaction_log;
 use eos_base::PartitionName;
-use eos_partition::Part;
+use eos_partition::{ItemRef, Part};
 
 fn is_written_by(column: &Column, writer: (i64, i16)) -> bool
     ensures yes { result ≡ true → writer ≡ (column.now.producer, column.now.epoch) }
@@ -29,17 +31,6 @@ pub(crate) fn column_of(columns: &[Column], writer: (i64, i16)) -> Option<usize>
 {
     for i in 0..columns.len() {
         if is_written_by(&columns[i], writer) {
-            return Some(i);
-        }
-    }
-    None
-}
-
-fn column_of_either(columns: &[Column], producer: i64, epoch: i16) -> Option<usize>
-    ensures inside { IfSome result (λ m. m < length columns.now) }
-{
-    for i in 0..columns.len() {
-        if is_of(&columns[i], producer, epoch) {
             return Some(i);
         }
     }
@@ -72,8 +63,26 @@ fn decided_near(columns: &[Column], partition: i32, offset: u64) -> Option<usize
     near
 }
 
-/// The producer id and epoch of the last transactional record of a partition up to this offset.
-fn writer_near(part: &Part, offset: u64) -> Option<(i64, i16)>
+/// The record's producer id and epoch, if it has some, and it is at this offset where that is asked; or else what was there before.
+fn nearer(
+    near: Option<(i64, i16)>,
+    item: &ItemRef<'_>,
+    offset: u64,
+    exactly: bool,
+) -> Option<(i64, i16)>
+    ensures { (result ≡ option_or item.now.writer near) ⊎ ((result ≡ near) × (item.now.offset ≢ offset)) }
+{
+    if !exactly {
+        return item.writer().or(near);
+    }
+    if item.offset() != offset {
+        return near;
+    }
+    item.writer().or(near)
+}
+
+/// The producer id and epoch of the last transactional record of a partition up to this offset, or if that is asked, exactly there.
+fn writer_near(part: &Part, offset: u64, exactly: bool) -> Option<(i64, i16)>
     ensures { (x : Item) (w : ℤ × ℤ) → Has part.now.items x → x.offset ≡ offset → x.writer ≡ Some w → result ≡ Some w }
 {
     let mut near = None;
@@ -82,7 +91,7 @@ fn writer_near(part: &Part, offset: u64) -> Option<(i64, i16)>
         if offset < item.offset() {
             return near;
         }
-        near = item.writer().or(near);
+        near = nearer(near, &item, offset, exactly);
     }
     near
 }
@@ -92,6 +101,7 @@ fn column_near(
     logs: &[Part],
     name: &PartitionName,
     offset: u64,
+    exactly: bool,
 ) -> Option<usize>
     ensures inside { IfSome result (λ m. m < length columns.now) }
     ensures of { IsOfRecordAt logs.now columns.now result (record { partition = name.now; offset = offset }) }
@@ -101,7 +111,7 @@ fn column_near(
             if is_of_transaction_log(part) {
                 return decided_near(columns, name.partition, offset);
             }
-            return match writer_near(part, offset) {
+            return match writer_near(part, offset, exactly) {
                 Some(writer) => column_of(columns, writer),
                 None => None,
             };
@@ -110,14 +120,29 @@ fn column_near(
     None
 }
 
+/// The transaction that has the end marker, or else one whose data have its epoch.
+fn column_of_end(columns: &[Column], end: End) -> Option<usize>
+    ensures inside { IfSome result (λ m. m < length columns.now) }
+{
+    for i in 0..columns.len() {
+        if is_ended_by(&columns[i], end.producer, end.epoch) {
+            return Some(i);
+        }
+    }
+    column_of(columns, (end.producer, end.epoch))
+}
+
 /// The transaction that did what stands at a place of the fault, or that was the last to do something in this partition before.
 pub(crate) fn column_of_spot(columns: &[Column], logs: &[Part], spot: &Spot) -> Option<usize>
     ensures inside { IfSome result (λ m. m < length columns.now) }
     ensures of { (at : Place) → spot.now ≡ spot_at at → IsOfRecordAt logs.now columns.now result at }
 {
     match spot.at {
-        At::Offset(offset) => column_near(columns, logs, &spot.name, offset),
-        At::Transaction { producer, epoch } => column_of_either(columns, producer, epoch),
+        At::Offset(offset) => column_near(columns, logs, &spot.name, offset, true),
+        At::Near(offset) => column_near(columns, logs, &spot.name, offset, false),
+        At::Marker { end, .. } => column_of_end(columns, end),
+        At::Transaction { producer, epoch } => column_of(columns, (producer, epoch)),
+        At::Open { producer, epoch } => column_of(columns, (producer, epoch)),
         At::Passing(_) => None,
     }
 }

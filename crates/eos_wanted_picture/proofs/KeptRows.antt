@@ -16,9 +16,10 @@ use Rattle.eos_picture.specs.declared.mark.Mark.{Mark}
 use Rattle.eos_picture.specs.declared.mark.Row.{Row}
 use Rattle.eos_picture.specs.declared.mark.Sign.{Sign}
 use Rattle.eos_picture.specs.declared.mark.Sign.TheVariants as signs
-use Rattle.eos_picture.specs.Marks.{IsWritten, IsDecided, IsMarked, IsClosed, IsSo, IsTrueAt, IsTrueRow, HasTrueRows}
+use Rattle.eos_picture.specs.Marks.{IsWritten, IsDecided, IsMarked, IsUnraised, IsMissing, IsClosed, IsSo, IsTrueAt, IsTrueRow, HasTrueRows}
+use Rattle.eos_picture.specs.Ends.{ends, HasNone}
 use Rattle.eos_picture.specs.Signs.{IsOf}
-use Rattle.eos_picture.specs.Whole.{IsMarkOf, Shows, ShowsDecision, IsWhole, IsCovered, HasWholeRows}
+use Rattle.eos_picture.specs.Whole.{IsMarkOf, Shows, ShowsDecision, ShowsEnds, ShowsClose, IsWhole, IsCovered, HasWholeRows}
 use Rattle.eos_wanted.specs.Wanted.{wanted_logs}
 use Rattle.eos_wanted_picture.proofs.SeenLogs.{seen, Alike, back, like, like_item, all_seen}
 
@@ -34,7 +35,8 @@ is_of_like x y o f (signs.Decision offset kind) h = h
 is_of_like x y o f (signs.Record offset fate) h = (sym o ∙ h.0, sym f ∙ h.1)
 is_of_like x y o f (signs.Commit offset fate source committed) h = (sym o ∙ h.0, sym f ∙ h.1)
 is_of_like x y o f (signs.Passed fate from to) h = h
-is_of_like x y o f (signs.Marker kind) h = h
+is_of_like x y o f (signs.Marker kind count) h = h
+is_of_like x y o f (signs.Missing kind) h = h
 is_of_like x y o f (signs.Spot place) h = h
 
 shown_like : (columns : List Column) (marks : List Mark) (w : ℤ × ℤ) (x y : Item) → x.offset ≡ y.offset → x.fate ≡ y.fate
@@ -52,29 +54,40 @@ module _ (p q : PartLog) (a : Alike p q) where
   decided : (c : Column) (offset : ℕ) (kind : Kind) → IsDecided p c offset kind → IsDecided q c offset kind
   decided c offset kind h = record { decided = h.decided; by = h.by; partition = h.partition ∙ ap number_of a.name; at = h.at; so = h.so }
 
-  marked : (c : Column) (kind : Kind) → IsMarked p c kind → IsMarked q c kind
-  marked c kind h = record {
-    decided = h.decided;
-    by = h.by;
-    marker = h.marker;
-    has = subst (λ (ms : List Marker). Has ms h.marker) a.markers h.has;
+  as_many : (producer epoch : ℤ) (kind : Kind) → ends p.markers producer epoch kind ≡ ends q.markers producer epoch kind
+  as_many producer epoch kind = ap (λ (ms : List Marker). ends ms producer epoch kind) a.markers
+
+  marked : (c : Column) (kind : Kind) (count : ℕ) → IsMarked p c kind count → IsMarked q c kind count
+  marked c kind count h = record { decided = h.decided; by = h.by; some = h.some; many = h.many ∙ as_many c.producer h.decided.marker_epoch kind }
+
+  unraised : (c : Column) (kind : Kind) (count : ℕ) → IsUnraised p c kind count → IsUnraised q c kind count
+  unraised c kind count h = record { some = h.some; many = h.many ∙ as_many c.producer c.epoch kind }
+
+  missing : (c : Column) (kind : Kind) → IsMissing p c kind → IsMissing q c kind
+  missing c kind h =
+      record { decided = h.decided; by = h.by; so = h.so; none = subst (λ (ms : List Marker). HasNone ms c.producer h.decided.marker_epoch) a.markers h.none }
+
+  closed : (c : Column) (kind : Kind) (count : ℕ) → IsClosed p c kind count → IsClosed q c kind count
+  closed c kind count h = record {
+    close = h.close;
+    has = subst (λ (cs : List Close). Has cs h.close) a.closes h.has;
     producer = h.producer;
     epoch = h.epoch;
     so = h.so;
+    many = h.many ∙ as_many h.close.producer h.close.marker_epoch h.close.kind;
   }
-
-  closed : (c : Column) (kind : Kind) → IsClosed p c kind → IsClosed q c kind
-  closed c kind h =
-      record { close = h.close; has = subst (λ (cs : List Close). Has cs h.close) a.closes h.has; producer = h.producer; epoch = h.epoch; so = h.so }
 
   so : (c : Column) (sign : Sign) → IsSo p c sign → IsSo q c sign
   so c (signs.Decision offset kind) h = decided c offset kind h
   so c (signs.Record offset fate) h = written c offset fate h
   so c (signs.Commit offset fate source committed) h = written c offset fate h
   so c (signs.Passed fate from to) h = h
-  so c (signs.Marker kind) (inl h) = inl (marked c kind h)
-  so c (signs.Marker kind) (inr h) = inr (closed c kind h)
-  so c (signs.Spot place) h = h
+  so c (signs.Marker kind count) (inl h) = inl (marked c kind count h)
+  so c (signs.Marker kind count) (inr (inl h)) = inr (inl (closed c kind count h))
+  so c (signs.Marker kind count) (inr (inr h)) = inr (inr (unraised c kind count h))
+  so c (signs.Missing kind) h = missing c kind h
+  so c (signs.Spot None) h = h
+  so c (signs.Spot (Some offset)) h = h
 
   true_at : (c : Option Column) (sign : Sign) → IsTrueAt p c sign → IsTrueAt q c sign
   true_at None sign h = h
@@ -89,8 +102,11 @@ module _ (p q : PartLog) (a : Alike p q) where
         let y = like_item q.items p.items (sym a.items) x has in
         shown_like columns marks w y.item x y.offset y.fate (h.records y.item y.has w i (y.writer ∙ by) of);
     decisions = λ is i. subst (λ n. ShowsDecision n columns marks i) (ap number_of a.name) (h.decisions (ap is_log_name a.name ∙ is) i);
-    markers = λ x has i. h.markers x (subst (λ (ms : List Marker). Has ms x) (sym a.markers) has) i;
-    closes = λ x has i. h.closes x (subst (λ (cs : List Close). Has cs x) (sym a.closes) has) i;
+    markers = λ i kind. subst (λ (ms : List Marker). ShowsEnds ms columns marks i kind) a.markers (h.markers i kind);
+    missing = λ x has i c d at by wrote none.
+        let y = like_item q.items p.items (sym a.items) x has in
+        h.missing y.item y.has i c d at by (y.writer ∙ wrote) (subst (λ (ms : List Marker). HasNone ms c.producer d.marker_epoch) (sym a.markers) none);
+    closes = λ x has i. subst (λ (ms : List Marker). ShowsClose ms columns marks x i) a.markers (h.closes x (subst (λ (cs : List Close). Has cs x) (sym a.closes) has) i);
   }
 
   pub covered : (columns : List Column) (rows : List Row) → IsCovered columns rows p → IsCovered columns rows q

@@ -1,6 +1,5 @@
-use Rattle.std.proofs.Common.{arith, ℤ, Option, ap, ◌∙◌}
-use Rattle.std.specs.Option.{option_or}
-use Rattle.eos_picture.proofs.WholeRows.{found_stop, found_next, found_end, rises_tail}
+use Rattle.std.proofs.Common.{arith}
+use Rattle.eos_picture.proofs.WholeRows.{found_stop, found_either, found_end, rises_tail}
 use Rattle.eos_picture.proofs.window.writer_near.Goals as goal
 
 pub returns-then-offset : goal.returns-then-offset
@@ -9,7 +8,7 @@ returns-then-offset c = found_stop c.args.part.now.items c.loop-item.items c.nex
 pub loop-item-preserved : goal.loop-item-preserved
 loop-item-preserved c = record {
   rises = rises_tail c.loop-item.items c.next.new.self c.in-Some.item c.in-Some.ensures.some c.loop-item.invariant.rises;
-  found = found_next c.args.part.now.items c.loop-item.items c.next.new.self c.in-Some.item c.args.offset c.loop-item.near c.or-near.result c.in-Some.ensures.some c.loop-item.invariant.rises (omega (arith, c.if-offset.false, c.offset.ensures)) (c.or-near.ensures ∙ ap (λ (z : Option (ℤ × ℤ)). option_or z c.loop-item.near) c.writer.ensures) c.loop-item.invariant.found;
+  found = found_either c.args.part.now.items c.loop-item.items c.next.new.self c.in-Some.item c.args.offset c.loop-item.near c.nearer-near.result c.in-Some.ensures.some c.loop-item.invariant.rises (omega (arith, c.if-offset.false, c.offset.ensures)) c.nearer-near.ensures c.loop-item.invariant.found;
 }
 
 pub returns : goal.returns

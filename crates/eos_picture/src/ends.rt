@@ -1,0 +1,147 @@
+//! The end markers of a transaction in a partition.
+
+ghost use Rattle.std.specs.Prelude.{◌≡◌, ◌≢◌, Some, true, false};
+ghost use Rattle.eos_base.specs.Members.{Has};
+ghost use Rattle.eos_items.specs.declared.item.Item.{Item};
+ghost use Rattle.eos_picture.specs.Ends.{is_kind as is_kind_of, is_end as is_end_of, ends, HasNone};
+
+use crate::mark::Column;
+use eos_batch::{Kind, Marker};
+use eos_fold::Fate;
+use eos_partition::Part;
+
+/// What an end marker says.
+#[derive(Clone, Copy)]
+pub(crate) struct End {
+    pub producer: i64,
+    pub epoch: i16,
+    pub kind: Kind,
+}
+
+fn is_kind(kind: Kind, other: Kind) -> bool
+    ensures { result ≡ is_kind_of kind other }
+{
+    match (kind, other) {
+        (Kind::Commit, Kind::Commit) | (Kind::Abort, Kind::Abort) => true,
+        _ => false,
+    }
+}
+
+fn is_end(marker: &Marker, end: End) -> bool
+    ensures { result ≡ is_end_of end.producer end.epoch end.kind marker.now }
+{
+    marker.producer == end.producer && marker.epoch == end.epoch && is_kind(marker.kind, end.kind)
+}
+
+fn count_in(markers: &[Marker], end: End) -> u64
+    ensures { result ≡ ends markers.now end.producer end.epoch end.kind }
+{
+    let mut count = 0u64;
+    for marker in markers {
+        if is_end(marker, end) {
+            count += 1;
+        }
+    }
+    count
+}
+
+/// How many end markers of a partition say this.
+pub(crate) fn count_ends(part: &Part, end: End) -> u64
+    ensures { result ≡ ends part.now.markers end.producer end.epoch end.kind }
+{
+    count_in(part.markers(), end)
+}
+
+fn count_kind(part: &Part, producer: i64, epoch: i16, kind: Kind) -> u64
+    ensures { result ≡ ends part.now.markers producer epoch kind }
+{
+    count_ends(
+        part,
+        End {
+            producer,
+            epoch,
+            kind,
+        },
+    )
+}
+
+/// Whether there is no end marker of this producer id and epoch.
+pub(crate) fn has_no_end(part: &Part, producer: i64, epoch: i16) -> bool
+    ensures yes { result ≡ true → HasNone part.now.markers producer epoch }
+    ensures no { result ≡ false → HasNone part.now.markers producer epoch → ⊥ }
+{
+    let commits = count_kind(part, producer, epoch, Kind::Commit);
+    let aborts = count_kind(part, producer, epoch, Kind::Abort);
+    commits == 0 && aborts == 0
+}
+
+fn is_writer(found: Option<(i64, i16)>, writer: (i64, i16)) -> bool
+    ensures { result ≡ false → found ≢ Some writer }
+{
+    match found {
+        None => false,
+        Some(found) => found.0 == writer.0 && found.1 == writer.1,
+    }
+}
+
+/// Whether a data record of the partition has this producer id and epoch.
+pub(crate) fn has_data(part: &Part, writer: (i64, i16)) -> bool
+    ensures { result ≡ false → (x : Item) → Has part.now.items x → x.writer ≢ Some writer }
+{
+    let mut items = part.items().cursor();
+    while let Some(item) = items.next() {
+        if is_writer(item.writer(), writer) {
+            return true;
+        }
+    }
+    false
+}
+
+/// Whether it was decided that the transaction's end markers have this producer id and epoch.
+pub(crate) fn is_ended_by(column: &Column, producer: i64, epoch: i16) -> bool {
+    match &column.decided {
+        Some(decided) => column.producer == producer && decided.marker_epoch == epoch,
+        None => false,
+    }
+}
+
+// ---- where they stand
+
+/// How many data records stand before this offset; none where one stands at it.
+fn data_before(part: &Part, offset: u64) -> Option<u64> {
+    let mut count = 0u64;
+    let mut items = part.items().cursor();
+    while let Some(item) = items.next() {
+        if offset == item.offset() {
+            return None;
+        }
+        if offset < item.offset() {
+            return Some(count);
+        }
+        count = count.saturating_add(1);
+    }
+    Some(count)
+}
+
+/// The end marker at this offset. Offsets are dense, and what isn't data is an end marker, unless it is a control record of another type,
+/// as Kafka writes none into these logs.
+pub(crate) fn marker_at(part: &Part, offset: u64) -> Option<Marker> {
+    let before = data_before(part, offset)?;
+    let place = offset.saturating_sub(before);
+    let marker = part.markers().get(place as usize)?;
+    Some(*marker)
+}
+
+/// The producer epoch of the last data of this producer id which no end marker follows.
+pub(crate) fn open_epoch(part: &Part, producer: i64) -> Option<i16> {
+    let mut epoch = None;
+    let mut items = part.items().cursor();
+    while let Some(item) = items.next() {
+        if let (Fate::Waiting(_), Some(writer)) = (item.fate(), item.writer()) {
+            if writer.0 == producer {
+                epoch = Some(writer.1);
+            }
+        }
+    }
+    epoch
+}
