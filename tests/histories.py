@@ -393,7 +393,7 @@ def small_files():
 
 
 def refused_memory(library):
-    """Each allocation, or where there are many every so-manieth: the folder and the history are there, or neither is whole."""
+    """Each allocation, or where there are many every so-manieth: the folder and the history are there whole, or neither is."""
     history, folder = f"{scratch}/memory", f"{scratch}/memory-folder"
     words = dict(os.environ, LD_PRELOAD=library)
     for script in (["--seed", 7, "--events", 5], ["--schedule", schedule(HEAD, event(1, "feed", source=0))]):
@@ -411,6 +411,7 @@ def refused_memory(library):
             if found == (3, "", "eoscheck: out of memory\n"):
                 told += 1
                 expect(not os.path.exists(history) or lines_of(history) == whole, f"allocation {at} refused: a part of a history")
+                expect(os.path.exists(history) == os.path.exists(folder), f"allocation {at} refused: one without the other")
             elif found != good or lines_of(history) != whole:
                 expect(False, f"allocation {at} refused: {found}")
         expect(told > 20, f"{script}: {told} of {total} refused allocations are told")
