@@ -188,6 +188,16 @@ def unread(path, cause):
     return 2, "", said(f"cannot read {path}", cause)
 
 
+def folded(room):
+    """Of a fold, which is no segment, it is said that it is one."""
+    done = run("fold", "--manifest", f"{GOOD}/evidence.json", "--out", f"{room}/folds", f"{GOOD}/in-0")
+    file = f"{room}/folds/in-0/00000000000000000000.fold"
+    same("a fold is made", (done[0], os.path.isfile(file)), (0, True))
+    for word in "dump", "chain":
+        status, _, err = run(word, file)
+        same(f"{word} of a fold", (status, err), (1, f"eoscheck: {file} has the name of a fold, which check reads; dump and chain read segments\n"))
+
+
 def long_file(path):
     with open(path, "wb") as file:
         file.truncate(MOST_BYTES + 1)
@@ -388,6 +398,7 @@ def main():
         folders(room)
         locked(room)
         segments(room)
+        folded(room)
         several(room)
         waits()
         progress(room)

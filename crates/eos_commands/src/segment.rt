@@ -8,6 +8,9 @@ use eos_segment::{RunFault, chain_file, chain_to, dump_file, dump_to};
 use eos_words::Answer;
 use std::io;
 
+/// How the name of a fold ends.
+const FOLD: &str = ".fold";
+
 /// Answers about the segment in this file, or on standard input where the name is `-`: on standard output, or on standard error
 /// why it can't. Gives the exit status.
 pub fn answer_segment(rt: &HostRuntime, answer: Answer<'_>, file: &str) -> u8 {
@@ -17,6 +20,11 @@ pub fn answer_segment(rt: &HostRuntime, answer: Answer<'_>, file: &str) -> u8 {
         answer_file(rt, answer, file)
     };
     let cause = cause_of_none(rt, answered, file);
+    if matches!(answered, Ok(1)) && file.ends_with(FOLD) {
+        let _ = eprint!(rt;
+            "eoscheck: {file} has the name of a fold, which check reads; dump and chain read segments\n"
+        );
+    }
     end(rt, Ending::of_answer(answered, file, STANDARD, &cause))
 }
 
