@@ -1,6 +1,6 @@
 # The manifests that `init` makes, its refusals, and its refused allocations; which partition a name has; reports, against their
 # schema and against what is printed, which needs Python's jsonschema; pictures, against a second reading of the logs, and whether they show the
-# cause; what runs leave that are killed.
+# cause; what runs leave that are killed; small stacks.
 . tests/common.sh
 preloaded refuse
 counted coordinators python3 -B tests/coordinator.py "$program"
@@ -10,4 +10,5 @@ counted pictures python3 -B tests/draw.py "$program" "$scratch/refuse.so"
 counted 'causes in pictures' python3 -B tests/pictures.py "$program"
 preloaded killed
 counted 'killed runs' python3 -B tests/killed.py "$program" "$scratch/killed.so"
+counted 'small stacks' python3 -B tests/stacks.py "$program"
 end
