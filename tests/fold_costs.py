@@ -4,19 +4,21 @@ For tests/folds.py. Each fold is made by tests/fold_files.py, with its checksum 
 """
 import os
 import random
+import resource
+import subprocess
 
 import fold_files
 from fold_files import CLAIMS, PRESENCE, TEXTS, Fold, Head
 from fold_folders import fold_path, folds_of, with_folds, write
 
 GOOD = "tests/evidence/row-yes-2"
-# What a byte of a fold may hold: a head takes nine of them, and of each producer a check holds some hundreds.
-BYTES = 128
+# What a byte of a fold may hold; where neither a key nor a value is there, three bytes say a record, of which a check keeps two views.
+BYTES, OF_NULLS = 64, 80
 # How many times the time of a fold of a log. Records that only have to be there take none of a fold's bytes, so a check of a fold may
 # take as long besides as reading the segment that it says would, by so many bytes a second.
 TIMES, SPEED = 10, 40_000_000
-# What runs differ by: in KiB, and in seconds.
-ROOM, SECONDS = 2048, 0.05
+# What runs differ by, in bytes and in seconds.
+ROOM, SECONDS = 2**18, 0.05
 PLACES = {PRESENCE: (b"in", 0), CLAIMS: (b"out", 0), TEXTS: (b"__consumer_offsets", 0)}
 
 
@@ -80,23 +82,35 @@ def changed(data, chance):
     return fold_files.sealed(bytes(body))
 
 
-def spent(tests, folder):
-    """The greatest memory of a run in KiB, and its seconds."""
-    pid = os.posix_spawn(
-        tests.program, [tests.program, "check", "--workers", "1", folder], os.environ,
-        file_actions=[(os.POSIX_SPAWN_OPEN, fd, os.devnull, os.O_WRONLY, 0) for fd in (1, 2)],
+def spent(tests, folder, most=resource.RLIM_INFINITY):
+    """The exit status of a check that may have so many bytes of data, and its seconds."""
+    run = subprocess.Popen(
+        [tests.program, "check", "--workers", "1", folder], stdin=subprocess.DEVNULL, stdout=subprocess.DEVNULL, stderr=subprocess.DEVNULL,
+        preexec_fn=lambda: resource.setrlimit(resource.RLIMIT_DATA, (most, most)),
     )
-    _, status, usage = os.wait4(pid, 0)
-    tests.same("a hostile fold, a status", os.waitstatus_to_exitcode(status) in (0, 1, 2), True)
-    return usage.ru_maxrss, usage.ru_utime + usage.ru_stime
+    _, status, usage = os.wait4(run.pid, 0)
+    run.returncode = os.waitstatus_to_exitcode(status)
+    return run.returncode, usage.ru_utime + usage.ru_stime
+
+
+def least_for(tests, folder):
+    """How many bytes of data a check of this folder wants, to 64 KiB."""
+    few, enough = 0, 2**28
+    while enough - few > 2**16:
+        half = (few + enough) // 2
+        if spent(tests, folder, half)[0] == 0:
+            enough = half
+        else:
+            few = half
+    return enough
 
 
 def costs(tests):
     count, chance = int(os.environ.get("FOLD_COSTS", "90")), random.Random(7)
     folds, _ = folds_of(GOOD)
     folder = with_folds(GOOD, folds, tests.new("costs"))
-    least = max(spent(tests, folder)[0] for _ in range(3))
-    most_bytes = most_times = 0
+    least = least_for(tests, folder)
+    most_times = 0
     for at in range(count):
         kind, size = KINDS[at % len(KINDS)], chance.choice([40, 4000, 40000, 200000])
         made = hostile(kind, size, chance)
@@ -104,14 +118,14 @@ def costs(tests):
         name, number = PLACES[made.roles]
         path = fold_path(f"{name.decode()}-{number}", 0)
         write(os.path.join(folder, path), fold_files.file_of(logged(made.roles, len(data), chance)))
-        right = spent(tests, folder)
+        right = spent(tests, folder)[1]
         write(os.path.join(folder, path), data)
-        found = spent(tests, folder)
+        each = OF_NULLS if kind == "null texts" else BYTES
+        status, found = spent(tests, folder, least + ROOM + each * len(data))
         write(os.path.join(folder, path), folds[path])
-        held, room = found[0] - least, BYTES * len(data) / 1024 + ROOM
-        seconds = TIMES * right[1] + made.size / SPEED + SECONDS
-        tests.same(f"{kind}, {len(data)} bytes, {held} KiB", held <= room, True)
-        tests.same(f"{kind}, {len(data)} bytes, {found[1]} s", found[1] <= seconds, True)
+        tests.same(f"{kind}, {len(data)} bytes: its status, with {each} bytes of memory for each of its own", status in (0, 1, 2), True)
+        seconds = TIMES * right + made.size / SPEED + SECONDS
+        tests.same(f"{kind}, {len(data)} bytes, {found} s", found <= seconds, True)
         if len(data) > 30000:
-            most_bytes, most_times = max(most_bytes, 1024 * held / len(data)), max(most_times, found[1] / max(right[1], 0.01))
-    print(f"{count} hostile folds: at most {most_bytes:.1f} bytes of memory a byte, {most_times:.1f} times the time of a log's")
+            most_times = max(most_times, found / max(right, 0.01))
+    print(f"{count} hostile folds: at most {most_times:.1f} times the time of a log's")
