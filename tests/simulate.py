@@ -556,12 +556,12 @@ def limited(most):
 def refused_folders():
     folder = os.path.join(scratch, "there")
     os.mkdir(folder)
-    message = f"eoscheck: cannot write {folder}\n"
+    message = f"eoscheck: cannot write {folder}: it is there already\n"
     expect(simulate(7, 10, folder) == (2, "", message), "simulate to a folder that is there")
     expect(os.listdir(folder) == [], "simulate writes to a folder that is there")
     file = os.path.join(scratch, "file")
     open(file, "w").close()
-    message = f"eoscheck: cannot write {file}\n"
+    message = f"eoscheck: cannot write {file}: it is there already\n"
     expect(simulate(7, 10, file) == (2, "", message), "simulate to a file that is there")
     absent = os.path.join(scratch, "absent/folder")
     message = f"eoscheck: cannot write {absent}\n"

@@ -6,7 +6,7 @@ use crate::kept::simulate;
 use crate::making::{SimulationFault, told_to};
 use crate::replaying::{ReplayFault, replay};
 use crate::schedule_file::{end_unreplayed, read_schedule};
-use eos_disk::{DiskMut, HostDisk, HostFile};
+use eos_disk::{ChangeFault, DiskMut, HostDisk, HostFile};
 use eos_ending::{Ending, STANDARD, end, end_unchanged, leave_file, make_file};
 use eos_evidence::Evidence;
 use eos_folder::{Cause, WritingFault, Written, make_folder, write_evidence};
@@ -102,8 +102,12 @@ fn make_by_words(
 }
 
 fn begin_folder(rt: &HostRuntime, folder: &str, written: &mut Written) -> Result<(), u8> {
-    match make_folder(rt.alloc(), &mut HostDisk { rt }, written, folder) {
+    let mut disk = HostDisk { rt };
+    match make_folder(rt.alloc(), &mut disk, written, folder) {
         Ok(()) => Ok(()),
+        Err(WritingFault::CannotWrite(_)) if disk.stands(folder) => {
+            Err(end_unchanged(rt, folder, ChangeFault::ThereAlready))
+        }
         Err(fault) => Err(end_unleft(rt, fault)),
     }
 }
