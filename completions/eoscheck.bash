@@ -18,12 +18,15 @@ _eoscheck() {
     --report)
       mapfile -t COMPREPLY < <(compgen -f -- "$word")
       return ;;
+    --page)
+      mapfile -t COMPREPLY < <(compgen -f -- "$word")
+      return ;;
     --expect)
       mapfile -t COMPREPLY < <(compgen -W 'transactions= inputs= outputs=' -- "$word")
       return ;;
     esac
     case $word in
-    -*) mapfile -t COMPREPLY < <(compgen -W '--workers --json --all --quiet --progress --report --force --strict --expect -h --help' -- "$word") ;;
+    -*) mapfile -t COMPREPLY < <(compgen -W '--workers --json --all --quiet --progress --report --page --force --strict --expect -h --help' -- "$word") ;;
     *) mapfile -t COMPREPLY < <(compgen -d -- "$word") ;;
     esac ;;
   dump)
@@ -103,6 +106,9 @@ _eoscheck() {
     esac ;;
   fold)
     case $before in
+    --verify)
+      mapfile -t COMPREPLY < <(compgen -d -- "$word")
+      return ;;
     --manifest)
       mapfile -t COMPREPLY < <(compgen -f -- "$word")
       return ;;
@@ -111,7 +117,7 @@ _eoscheck() {
       return ;;
     esac
     case $word in
-    -*) mapfile -t COMPREPLY < <(compgen -W '--manifest --out -h --help' -- "$word") ;;
+    -*) mapfile -t COMPREPLY < <(compgen -W '--verify --manifest --out -h --help' -- "$word") ;;
     *) mapfile -t COMPREPLY < <(compgen -d -- "$word") ;;
     esac ;;
   simulate)

@@ -11,13 +11,14 @@ line of this is 'N passed, N failed'.
 import os
 import re
 import shlex
+import struct
 import subprocess
 import sys
 import tempfile
 
 from random_evidence import Folder
-from what_you_see import (COMMITS, GOOD, STATES, add_commit, add_plain, by_the_consumer, front_gone, last_of_all, last_offsets, manifest,
-                          no_marker, only_one_without, open_at_end, open_output, outside, reset_and_again, settle, with_headers)
+from what_you_see import (COMMITS, GOOD, NUMBERS, STATES, TOPIC, add_commit, add_plain, by_the_consumer, front_gone, last_of_all, last_offsets, manifest,
+                          no_marker, numbers_of, only_one_without, open_at_end, open_output, outside, reset_and_again, settle, unlist, with_headers)
 
 HERE = os.path.dirname(os.path.abspath(__file__))
 
@@ -68,11 +69,50 @@ def two_in_one(folder):
     settle(folder, "out-0")
 
 
+def no_folder(folder):
+    """A partition that has an end has no folder."""
+    del folder.logs["in-1"]
+
+
+def other_names(folder):
+    """The folder of a partition has its segment under another name."""
+    def after(path):
+        os.rename(os.path.join(path, "in-1", f"{0:020}.log"), os.path.join(path, "in-1", "0.log"))
+    return after
+
+
+def commits_gone(epoch):
+    """The commit of the transaction of this epoch is lost; its end marker stands."""
+    def made(folder):
+        folder.logs[COMMITS] = [p for p in folder.logs[COMMITS] if (p.batch.word, p.batch.epoch) != ("txn", epoch)]
+        settle(folder, COMMITS)
+    return made
+
+
+def never_sent(folder):
+    """The last transaction, which has epoch 18, sent no offsets at all: nothing of it is in the offsets log, which it doesn't list."""
+    folder.logs[COMMITS] = [p for p in folder.logs[COMMITS] if p.batch.epoch not in (18, 19)]
+    settle(folder, COMMITS)
+    unlist(folder, (b"__consumer_offsets", 13), epochs=(18, 19))
+
+
+def turned(*keys):
+    """Outputs whose headers under these keys are little-endian."""
+    return with_headers(lambda h: {key: struct.pack("<" + NUMBERS[key], numbers_of(h)[key]) for key in keys})
+
+
+def moved_up(headers):
+    """Numbers by one byte to the left, which no order of their bytes gives."""
+    return {b"eo.offset": struct.pack(">q", numbers_of(headers)[b"eo.offset"] << 8)}
+
+
 # Of each case: its sign's words in the catalogue, the folder's change or the name of a story, the kind, what it has to mean, and the row.
 CASES = [
     ("A segment has the name that is due", renamed, "1.2", "The file was renamed", "in-0 segment 0"),
     ("The first segment's name is above 0", front_gone("in-0"), "1.2", "taken by retention", "in-0 segment 6"),
     ("The partition has no segment", lambda f: f.logs.update({"in-1": []}), "1.10", "Its folder isn't there", "in-1"),
+    ("The partition has no segment", no_folder, "1.10", "Its folder isn't there", "in-1"),
+    ("The partition has no segment", other_names, "1.10", "or holds no file that is named as a segment is", "in-1"),
     ("The log goes on behind", lambda f: f.manifest["ends"].update({"in-1": 19}), "1.10", "The end is of an earlier time", "in-1"),
     ("The log ends before", lambda f: f.logs["in-1"].pop(), "1.10", "The copy is cut", "in-1"),
     ("An end marker's epoch is above", later_marker, "1.5", "of another, later transaction", r"out-1:\d+"),
@@ -92,6 +132,15 @@ CASES = [
     ("A commit that goes past the input is of no", by_the_consumer, "5.12", "apart from the outputs", COMMITS + r":\d+"),
     ("The output is of no transaction", outside, "5.12", "outside any transaction", "out-1:0"),
     ("The transaction is complete, and a partition", "04-missing-marker", "1.6", "never had the marker", "payments-0"),
+    ("The output's transaction lists a partition of offsets", "47-lost-commit", "5.7", "Its commit is lost", "__consumer_offsets-1"),
+    ("The output's transaction lists a partition of offsets", commits_gone(18), "5.7", "Its commit is lost", COMMITS),
+    ("The output's transaction lists a partition of offsets", commits_gone(0), "5.12", "Its commit is lost", COMMITS),
+    ("A claim names the output with bytes turned round", turned(*NUMBERS), "5.11", "have another layout", r"out-\d:\d+"),
+    ("A claim names the output with bytes turned round", turned(b"eo.offset"), "5.11", "have another layout", r"out-\d:\d+"),
+    ("A claim names the output with bytes turned round", turned(b"eo.partition"), "5.11", "have another layout", r"out-\d:\d+"),
+    ("A claim names the output with bytes turned round", with_headers(lambda h: {TOPIC: h[TOPIC] + b"\0"}), "5.11", "have another layout", r"out-\d:\d+"),
+    ("A claim names the output with bytes turned round", with_headers(lambda h: {TOPIC: b'"' + h[TOPIC] + b'"'}), "5.11", "have another layout",
+     r"out-\d:\d+"),
 ]
 # Where no case holds, what the kind means.
 NEARLY = [
@@ -100,11 +149,11 @@ NEARLY = [
     (with_headers(lambda h: {b"eo.offset": h[b"eo.offset"][4:]}), "4.1", "can't be matched with an input"),
     ("34-dup-across-transactions", "5.10", "each time in a committed transaction"),
     (only_one_without, "5.11", "The input was passed and its outputs aren't visible"),
+    (never_sent, "5.7", "The output is visible and its input would be processed again"),
+    (with_headers(moved_up), "5.11", "The input was passed and its outputs aren't visible"),
+    (with_headers(lambda h: {TOPIC: h[TOPIC] + b"\0\0"}), "5.11", "The input was passed and its outputs aren't visible"),
+    (with_headers(lambda h: {TOPIC: b'"' + h[TOPIC]}), "5.11", "The input was passed and its outputs aren't visible"),
 ]
-
-
-# Of these kinds some folders have no record to look at.
-WITHOUT_COMMAND = "1.2", "1.10"
 
 
 def run(program, *words):
@@ -130,19 +179,32 @@ def written(scratch, change):
     if isinstance(change, str):
         return os.path.join(HERE, "stories", change)
     folder = Folder(GOOD)
-    change(folder)
+    after = change(folder)
     path = os.path.join(scratch, "folder")
     folder.write(path)
+    if callable(after):
+        after(path)
     return path
 
 
 def commanded(program, lines, folder):
     """What the command of a story's last line prints, run by a shell as it stands; None where the last line is none, or not of this folder."""
-    found = re.fullmatch(r"Run: eoscheck (dump --decode --from (\d+) --to (\d+) (.*))", lines[-1]) if lines else None
-    if not found or int(found[3]) != int(found[2]) + 1 or not shlex.split(found[4])[-1].startswith(folder + "/"):
+    found = re.fullmatch(r"Run: (?:(ls -l )|eoscheck (dump (?:--decode --from (\d+) --to (\d+) )?))(.*)", lines[-1]) if lines else None
+    if not found or not shlex.split(found[5])[-1].startswith(folder + "/") or (found[3] and int(found[4]) != int(found[3]) + 1):
         return None
-    done = subprocess.run(["sh", "-c", f'"$0" {found[1]}', program], capture_output=True, text=True, timeout=100, check=False)
-    return done.returncode, f"record offset={found[2]} " in done.stdout, done.stderr
+    words = f"{found[1]}{found[5]}" if found[1] else f'"$0" {found[2]}{found[5]}'
+    done = subprocess.run(["sh", "-c", words, program], capture_output=True, text=True, timeout=100, check=False)
+    if found[1]:
+        return listing_of(shlex.split(found[5])[-1], done)
+    wanted = f"record offset={found[3]} " if found[3] else "record offset="
+    return done.returncode, wanted in done.stdout, done.stderr
+
+
+def listing_of(path, done):
+    """What a listing of a partition's folder prints, which needs not be there."""
+    if not os.path.isdir(path):
+        return (0, True, "") if done.returncode and path in done.stderr else (done.returncode, False, done.stderr)
+    return done.returncode, all(name in done.stdout for name in os.listdir(path)), done.stderr
 
 
 def main():
@@ -167,15 +229,17 @@ def main():
         expect(shown and any(shown.split(" ")[0] in line for line in lines[1:] if line.startswith(" ")), f"{what}: its row isn't shown")
         expect(said(lines, "Next"), f"{what}: nothing to do next")
         expect(len(lines) <= 40, f"{what}: {len(lines)} lines")
-        if code not in WITHOUT_COMMAND:
-            expect(ran == (0, True, ""), f"{what}: its command: {ran}, {lines[-1:]}")
+        expect(ran == (0, True, ""), f"{what}: its command: {ran}, {lines[-1:]}")
         page = run(program, "explain", "--code", code)
         listed = [line for line in page.splitlines() if line.startswith("- " + sign)]
         expect(listed, f"{what}: its page has no such case")
     for change, code, means in NEARLY:
         with tempfile.TemporaryDirectory() as scratch:
-            lines = story_of(program, written(scratch, change), code)
+            folder = written(scratch, change)
+            lines = story_of(program, folder, code)
+            ran = commanded(program, lines, folder)
         expect(means in (said(lines, "Means") or ""), f"{code} nearly: means {said(lines, 'Means')}")
+        expect(ran == (0, True, ""), f"{code} nearly: its command: {ran}, {lines[-1:]}")
         expect(said(lines, "Shown by") is None, f"{code} nearly: shown by {said(lines, 'Shown by')}")
     for why in wrong:
         print(f"FAILED: {why}")

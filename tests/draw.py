@@ -291,17 +291,17 @@ def check_shapes(what, folder, root, printed, around, line):
     _, parts = plain_logs.read_folder(folder)
     every = transactions(parts)
     heads = headings(root)
-    before = int(heads[0].split()[0][1:]) - 1 if heads else 0
-    shown = every[before : before + len(heads)]
-    same(f"{what}: columns", heads, [first_line(before + i, it) for i, it in enumerate(shown)])
-    if line.startswith("yes"):
-        same(f"{what}: window", (before, len(heads)), (0, min(len(every), 2 * around)))
-    else:
-        same(f"{what}: window", len(heads) <= 2 * around + 1 or before == 0, True)
+    places = [int(head.split()[0][1:]) - 1 for head in heads]
+    shown = [every[place] for place in places]
+    same(f"{what}: columns", heads, [first_line(place, it) for place, it in zip(places, shown)])
     middle = middle_of(every, parts, line)
-    if middle is not None:
-        start = max(0, middle - around)
-        same(f"{what}: middle", (before, len(heads)), (start, min(len(every), middle + around + 1) - start))
+    if line.startswith("yes"):
+        same(f"{what}: window", places, list(range(min(len(every), 2 * around))))
+    elif middle is not None:
+        same(f"{what}: window around {middle}", places in windows(every, parts, line, middle, around), True)
+    else:
+        found = any(places in windows(every, parts, line, it, around) for it in places)
+        same(f"{what}: window", found or places == list(range(min(len(every), 2 * around))), True)
     shapes, most, rows = shapes_of(parts, shown, line)
     found = collections.Counter(it.get("class") for it in root.iter() if it.tag in (SPACE + "rect", SPACE + "path"))
     if most <= MOST:
@@ -316,6 +316,36 @@ def check_shapes(what, folder, root, printed, around, line):
     same(f"{what}: arcs", found["fault-arc"], max(0, found["fault"] - 2))
     width, height = float(root.get("width")), float(root.get("height"))
     same(f"{what}: inside", [it.attrib for it in root.iter(SPACE + "rect") if not is_inside(it, width, height)], [])
+
+
+def stand_of(part, it):
+    """Where a transaction stands in a partition: at its last data record, or at its Prepare record."""
+    if part.name[0] == STATES:
+        return it.offset if it.home == part.name else None
+    return max((place for batch, place, _ in plain_logs.records_of(part) if batch.word == "txn" and (batch.producer, batch.epoch) == it.writer), default=None)
+
+
+def named_in(line):
+    """The partition that the line names, if it names one."""
+    words = words_of(line)
+    if "at" in words:
+        return words["at"].rsplit(":", 1)[0]
+    return words.get("partition", line.split()[3] if re.match(r"no [124]\.", line) else None)
+
+
+def windows(every, parts, line, middle, around):
+    """What may be shown around a transaction: those beside it in the fault's partition, if it stands there, or else in any in which it has
+    data, or else in that of the transaction log."""
+    there = [part for part in parts if stand_of(part, every[middle]) is not None]
+    own = [part for part in there if reference.place_text(part.name) == named_in(line)]
+    shared = own or [part for part in there if part.name[0] != STATES] or there
+    found = [] if shared else [[middle]]
+    for part in shared:
+        stands = sorted((stand, place) for place, stand in enumerate(stand_of(part, it) for it in every) if stand is not None)
+        order = [place for _, place in stands]
+        at = order.index(middle)
+        found.append(order[max(0, at - around) : at + around + 1])
+    return found
 
 
 def check_labels(what, root):

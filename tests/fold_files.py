@@ -362,13 +362,14 @@ def record_of(roles, kept):
 
 def batches_of(fold):
     """Batches that have this fold, with no more in their records than it keeps."""
-    kept, offset = iter(fold.kept), fold.base
+    kept, offset, leader, starts = iter(fold.kept), fold.base, None, {start: epoch for epoch, start in fold.epochs}
     for head in fold.heads:
+        leader = starts.get(offset, leader)
         word = "txn" if head.kind == 1 else WORDS[head.kind & ~1]
         records = [plain_logs.Record(None, None, [])] * head.count
         if head.kind < 2 and fold.roles != PRESENCE:
             records = [record_of(fold.roles, next(kept)) for _ in range(head.count)]
-        yield plain_logs.Batch(offset, head.count, word, head.producer, head.epoch, head.sequence, records)
+        yield plain_logs.Batch(offset, head.count, word, head.producer, head.epoch, head.sequence, records, leader)
         offset += head.count
 
 

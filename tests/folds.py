@@ -8,8 +8,8 @@ compared with that of a second encoder (tests/fold_files.py), byte for byte. The
 some segments of each in one partition says the same as of the logs: line, status and notes, with 1 and with 4 workers, and in a
 report all but the seconds and the folder. The folds read by a second decoder deserve the verdict too, by tests/reference.py. Fold
 files that are none, and what can't be read or written, are in tests/fold_refusals.py; what hostile ones cost in
-tests/fold_costs.py; the commands of docs/SCALE.md in tests/fold_engines.py. REFUSE.SO and STREAMS.SO are tests/refuse.c and tests/streams.c, built. With the names of parts (see
-PARTS) these alone. Run it in the repository's top folder. The last line is 'N passed, N failed'.
+tests/fold_costs.py; `fold --verify` in tests/fold_verify.py; the commands of docs/SCALE.md in tests/fold_engines.py. REFUSE.SO and
+STREAMS.SO are tests/refuse.c and tests/streams.c, built. With the names of parts (see PARTS) these alone. Run it in the repository's top folder. The last line is 'N passed, N failed'.
 """
 import glob
 import json
@@ -25,6 +25,7 @@ import fold_costs
 import fold_engines
 import fold_files
 import fold_refusals
+import fold_verify
 import random_evidence
 import reference
 from fold_folders import (
@@ -320,6 +321,7 @@ PARTS = {
     "refused_reads": fold_refusals.refused_reads,
     "refused_writes": fold_refusals.refused_writes,
     "refused_memory": fold_refusals.refused_memory,
+    "verified": fold_verify.verified,
     "costs": fold_costs.costs,
     "words": fold_refusals.words,
     "engines": engines,

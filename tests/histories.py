@@ -5,7 +5,8 @@
 
 A folder is the same with a history and without one; its history's lines count up, and its totals are those that this file
 counts in the lines, the transactions those of `check`, and what was lost and repeated what the script's words say. Run again,
-each history gives the same folder byte for byte: of 200 seeds, and of 120 with random sizes, rates, switches and mishaps.
+each history gives the same folder and itself, byte for byte: of 200 seeds, and of 120 with random sizes, rates, switches and
+mishaps.
 Schedules written by hand have an answer worked out by hand. Lines that are cut, edited, broken or answered otherwise are told
 with their numbers, and nothing is left. With REFUSE.SO (tests/refuse.c, built) the allocations of a run are refused. Prints what
 is wrong, and as its last line 'N passed, N failed'.
@@ -119,8 +120,19 @@ def wrong_lines(lines, folder):
         rest = set(it) - {"number", "event", "reply"} - ({"value"} if it["reply"] == "done" else set())
         if it["reply"] not in REPLIES or rest != ARGUMENTS[it["event"]]:
             return f"{it}"
-    if any(set(it) != {"number", "set"} for it in deeds if "event" not in it) or tail["events"] != len(asked):
+    notes = [it for it in deeds if "note" in it]
+    if any(set(it) != {"number", "set"} for it in deeds if "event" not in it and "note" not in it) or tail["events"] != len(asked):
         return "other lines, or their number"
+    for it in notes:
+        if set(it) != {"number", "note", "mishap" if it["note"] == "mishap" else "message"}:
+            return f"{it}"
+    for name in ("lost", "repeated"):
+        if tail[name] != sum(it["note"] == name for it in notes):
+            return f"{tail}, and the lines say otherwise"
+    # what comes again does so in the next line
+    for it, after in zip(deeds, deeds[1:]):
+        if it.get("note") == "repeated" and (after.get("event"), after.get("message")) != ("deliver", it["message"]):
+            return f"{it} before {after}"
     said = run("check", "--quiet", folder)[1]
     counts = re.fullmatch(r"yes transactions=(\d+) .*\n", said)
     if counts and tail["transactions"] < int(counts[1]):
@@ -185,7 +197,7 @@ def again(seed):
         wrong = "another folder with a history"
     elif run("simulate", "--schedule", history, "--history", second, made) != first or not same_folder(plain, made):
         wrong = "another folder when it is run again"
-    elif lines_of(second)[:-1] != lines[:-1] or lines_of(second)[-1] != {**lines[-1], "lost": 0, "repeated": 0}:
+    elif not filecmp.cmp(history, second, shallow=False):
         wrong = "another history when it is run again"
     else:
         wrong = wrong_lines(lines, kept)
@@ -243,7 +255,21 @@ def worked():
     expect(replayed(HEAD, *deeds) == good, "a worked schedule")
     # any numbers, members in another order, replies left out, the totals behind
     plain = [dict(reversed([(k, v) for k, v in it.items() if k not in ("reply", "value")])) | {"number": 7} for it in deeds]
-    expect(replayed(HEAD, *plain, {"events": 0, "transactions": 0, "lost": 0, "repeated": 0}) == good, "the same without replies")
+    told = {"events": 15, "transactions": 1, "lost": 0, "repeated": 0}
+    expect(replayed(HEAD, *plain, told) == good, "the same without replies")
+    # what happened beside the cluster does nothing to it
+    noted = [
+        {"number": 1, "note": "lost", "message": 9},
+        *deeds,
+        {"number": 2, "note": "repeated", "message": 0},
+        {"number": 3, "note": "mishap", "mishap": "any"},
+    ]
+    expect(replayed(HEAD, *noted, {**told, "lost": 1, "repeated": 1}) == good, "notes")
+    # totals that don't fit
+    for name in told:
+        answer = replayed(HEAD, *deeds, {**told, name: told[name] + 1})
+        message = f"eoscheck: {scratch}/schedule: line 17: {name} is {told[name] + 1}, and the lines come to {told[name]}\n"
+        expect(answer == (2, "", message), f"a total that doesn't fit: {answer}")
     # its marker in out-1 is lost
     lost = deeds[:9] + [{"number": 99, "set": ["lose-marker"]}] + deeds[9:]
     answer = replayed(HEAD, *lost)
@@ -340,6 +366,8 @@ def refused():
         (2, [HEAD, event(1, "commit", session=0, source=0)]),
         (1, [json.dumps(HEAD)[:-1] + ', "seed": 1}']),
         (2, [HEAD, '{"number": 1, "event": "feed", "source": 0, "source": 0}']),
+        (2, [HEAD, {"number": 1, "note": "found", "message": 0}]),
+        (2, [HEAD, {"number": 1, "note": "lost", "message": 0, "event": "members"}]),
         (3, [HEAD, feed, feed | {"event": "Feed"}]),
         (3, [HEAD, feed, "", feed]),
         (3, [HEAD, {"events": 0, "transactions": 0, "lost": 0, "repeated": 0}, feed]),
@@ -396,7 +424,8 @@ def refused_memory(library):
     """Each allocation, or where there are many every so-manieth: the folder and the history are there whole, or neither is."""
     history, folder = f"{scratch}/memory", f"{scratch}/memory-folder"
     words = dict(os.environ, LD_PRELOAD=library)
-    for script in (["--seed", 7, "--events", 5], ["--schedule", schedule(HEAD, event(1, "feed", source=0))]):
+    lines = [HEAD, event(1, "feed", source=0), {"number": 2, "note": "mishap", "mishap": "any"}]
+    for script in (["--seed", 7, "--events", 5], ["--schedule", schedule(*lines)]):
         count = f"{scratch}/count"
         good = run("simulate", *script, "--history", history, folder, env=dict(words, REFUSE_COUNT=count))
         whole = lines_of(history)

@@ -85,94 +85,120 @@ def many_ends(count):
     return one(ends="{" + ",".join(f'"in-{k}":0' for k in range(count)) + "}")
 
 
-# The manifest, the refusal and its cause.
+LINES = '''{
+  "version": 1,
+  "group": "g",
+  "sources": ["in"], "outputs": ["out"],
+  "ends": { "orders-00": 1 }
+}
+'''
+
+# The manifest, the refusal, its cause and what stands at the place that it is about, from there on; the text's end for none.
 MANIFESTS = [
-    ("", "Json", "the text ends too early, at byte 0"),
-    ('{"version":1', "Json", "the text ends too early, at byte 12"),
-    ('{"version":1,}', "Json", "the text stops being JSON at byte 13"),
-    ('{"version":1,\n "group":g}', "Json", "the text stops being JSON at byte 23"),
-    ('{"version":1} {}', "Json", "the text stops being JSON at byte 14"),
-    (b'{"group":"\xff"}', "Json", "the bytes stop being UTF-8 at byte 10"),
-    ('{"a":' + "[" * 126 + "[0]", "Json", "the text nests deeper than 127 at byte 131"),
-    ("[1]", "Field", "the manifest is an array; an object is wanted"),
-    ("null", "Field", "the manifest is null; an object is wanted"),
-    (without(one(), "version"), "Field", "version is absent"),
-    (one(version='"1"'), "Field", "version is a text; an integer is wanted"),
-    (one(version="1.0"), "Field", "version is a number that isn't an integer of 64 bits; an integer is wanted"),
-    (one(version="true"), "Field", "version is a boolean; an integer is wanted"),
-    (one(version="3"), "Version", "version is 3; 1 or 2 is wanted"),
-    (one(version="-1"), "Version", "version is -1; 1 or 2 is wanted"),
-    (one(version=str(2**64 - 1)), "Version", f"version is {2**64 - 1}; 1 or 2 is wanted"),
-    (without(one(), "group"), "Field", "group is absent"),
-    (one(group="5"), "Field", "group is an integer; a text is wanted"),
-    (without(one(), "sources"), "Field", "sources is absent"),
-    (one(sources='"in"'), "Field", "sources is a text; an array is wanted"),
-    (one(sources='["in",null]'), "Field", "sources[1] is null; a text is wanted"),
-    (without(one(), "outputs"), "Field", "outputs is absent"),
-    (one(outputs="{}"), "Field", "outputs is an object; an array is wanted"),
-    (one(outputs="[[]]"), "Field", "outputs[0] is an array; a text is wanted"),
-    (without(one(), "ends"), "Field", "ends is absent"),
-    (one(ends="[]"), "Field", "ends is an array; an object is wanted"),
-    (one(ends='{"orders-00":1}'), "Field", 'ends["orders-00"] isn\'t a partition\'s name'),
-    (one(ends='{"orders":1}'), "Field", 'ends["orders"] isn\'t a partition\'s name'),
-    (one(ends='{"orders-2147483648":1}'), "Field", 'ends["orders-2147483648"] isn\'t a partition\'s name'),
-    (one(ends='{"orders-+1":1}'), "Field", 'ends["orders-+1"] isn\'t a partition\'s name'),
-    (one(ends='{"orders-0":"1"}'), "Field", 'ends["orders-0"] is a text; an integer is wanted'),
-    (one(ends='{"orders-0":1.5}'), "Field", 'ends["orders-0"] is a number that isn\'t an integer of 64 bits; an integer is wanted'),
-    (one(ends='{"orders-0":-0}'), "Field", 'ends["orders-0"] is a number that isn\'t an integer of 64 bits; an integer is wanted'),
-    (one(ends=f'{{"orders-0":{LARGEST + 1}}}'), "Field", f'ends["orders-0"] is {LARGEST + 1}; 0 to {LARGEST} is wanted'),
-    (one(ends='{"orders-0":-1}'), "Field", f'ends["orders-0"] is -1; 0 to {LARGEST} is wanted'),
-    (one(ends='{"or ders-0":1}'), "Field", 'ends["or ders-0"] isn\'t a partition\'s name, since its topic\'s isn\'t one'),
-    (one(ends='{"-0":1}'), "Field", 'ends["-0"] isn\'t a partition\'s name, since its topic\'s isn\'t one'),
-    (one(ends='{"a\\"\\n\\\\":1}'), "Field", 'ends["a\\"\\u000a\\\\"] isn\'t a partition\'s name'),
-    (one(sources='["or ders"]'), "Field", 'sources[0] is "or ders"' + TOPIC),
-    (one(sources='["in",".."]'), "Field", 'sources[1] is ".."' + TOPIC),
-    (one(outputs='["' + 250 * "o" + '"]'), "Field", f'outputs[0] is "{250 * "o"}"' + TOPIC),
-    (one(sources='["__consumer_offsets"]'), "Field", 'sources[0] is "__consumer_offsets"; a topic that isn\'t Kafka\'s own is wanted'),
-    (one(outputs='["__transaction_state"]'), "Field", 'outputs[0] is "__transaction_state"; a topic that isn\'t Kafka\'s own is wanted'),
-    (one(sources='["in","a","in"]'), "Field", 'sources[2] is "in" again; an application names a topic once'),
-    (one(outputs='["out","in"]'), "Field", 'outputs[1] is "in" again; an application names a topic once'),
-    ('{"version":2,' + ENDS + "}", "Field", "apps is absent"),
-    ('{"version":2,"apps":{},' + ENDS + "}", "Field", "apps is an object; an array is wanted"),
-    (two(app(), '"g"'), "Field", "apps[1] is a text; an object is wanted"),
-    (two(app(), '{"group":"h","outputs":[]}'), "Field", "apps[1].sources is absent"),
-    (two(app(), app("null")), "Field", "apps[1].group is null; a text is wanted"),
-    (two(app(sources='["in",7]')), "Field", "apps[0].sources[1] is an integer; a text is wanted"),
-    (two(app(), app('"h"', '["in"]', '["a/b"]')), "Field", 'apps[1].outputs[0] is "a/b"' + TOPIC),
-    (two(app(), app('"g"', '["in"]', '["fin"]')), "Field", 'two applications have the group "g"'),
-    (two(app(), app('"h"', '["in"]', '["out"]')), "Field", 'two applications have the output topic "out"'),
-    (many_apps(257), "Limit", "apps has 257 items; at most 256 are allowed"),
-    (many_ends(4097), "Limit", "ends has 4097 members; at most 4096 are allowed"),
+    ("", "Json", "the text ends too early, at byte 0", ""),
+    ('{"version":1', "Json", "the text ends too early, at byte 12", ""),
+    ('{"version":1,}', "Json", "the text stops being JSON at byte 13", "}"),
+    ('{"version":1,\n "group":g}', "Json", "the text stops being JSON at byte 23", "g}"),
+    ('{"version":1} {}', "Json", "the text stops being JSON at byte 14", "{}"),
+    (b'{"group":"\xff"}', "Json", "the bytes stop being UTF-8 at byte 10", b"\xff"),
+    ('{"a":' + "[" * 126 + "[0]", "Json", "the text nests deeper than 127 at byte 131", "[0]"),
+    ("[1]", "Field", "the manifest is an array; an object is wanted", "[1]"),
+    ("null", "Field", "the manifest is null; an object is wanted", "null"),
+    (without(one(), "version"), "Field", "version is absent", "{"),
+    (one(version='"1"'), "Field", "version is a text; an integer is wanted", '"1"'),
+    (one(version="1.0"), "Field", "version is a number that isn't an integer of 64 bits; an integer is wanted", "1.0"),
+    (one(version="true"), "Field", "version is a boolean; an integer is wanted", "true"),
+    (one(version="3"), "Version", "version is 3; 1 or 2 is wanted", "3,"),
+    (one(version="-1"), "Version", "version is -1; 1 or 2 is wanted", "-1"),
+    (one(version=str(2**64 - 1)), "Version", f"version is {2**64 - 1}; 1 or 2 is wanted", str(2**64 - 1)),
+    (without(one(), "group"), "Field", "group is absent", "{"),
+    (one(group="5"), "Field", "group is an integer; a text is wanted", "5,"),
+    (without(one(), "sources"), "Field", "sources is absent", "{"),
+    (one(sources='"in"'), "Field", "sources is a text; an array is wanted", '"in",'),
+    (one(sources='["in",null]'), "Field", "sources[1] is null; a text is wanted", "null"),
+    (without(one(), "outputs"), "Field", "outputs is absent", "{"),
+    (one(outputs="{}"), "Field", "outputs is an object; an array is wanted", "{},"),
+    (one(outputs="[[]]"), "Field", "outputs[0] is an array; a text is wanted", "[]]"),
+    (without(one(), "ends"), "Field", "ends is absent", "{"),
+    (one(ends="[]"), "Field", "ends is an array; an object is wanted", "[]"),
+    (one(ends='{"orders-00":1}'), "Field", 'ends["orders-00"] isn\'t a partition\'s name', '"orders-00'),
+    (one(ends='{"orders":1}'), "Field", 'ends["orders"] isn\'t a partition\'s name', '"orders"'),
+    (one(ends='{"orders-2147483648":1}'), "Field", 'ends["orders-2147483648"] isn\'t a partition\'s name', '"orders-2147483648"'),
+    (one(ends='{"orders-+1":1}'), "Field", 'ends["orders-+1"] isn\'t a partition\'s name', '"orders-+1"'),
+    (one(ends='{"orders-0":"1"}'), "Field", 'ends["orders-0"] is a text; an integer is wanted', '"1"'),
+    (one(ends='{"orders-0":1.5}'), "Field", 'ends["orders-0"] is a number that isn\'t an integer of 64 bits; an integer is wanted', "1.5"),
+    (one(ends='{"orders-0":-0}'), "Field", 'ends["orders-0"] is a number that isn\'t an integer of 64 bits; an integer is wanted', "-0}"),
+    (one(ends=f'{{"orders-0":{LARGEST + 1}}}'), "Field", f'ends["orders-0"] is {LARGEST + 1}; 0 to {LARGEST} is wanted', str(LARGEST + 1)),
+    (one(ends='{"orders-0":-1}'), "Field", f'ends["orders-0"] is -1; 0 to {LARGEST} is wanted', "-1"),
+    (one(ends='{"or ders-0":1}'), "Field", 'ends["or ders-0"] isn\'t a partition\'s name, since its topic\'s isn\'t one', '"or ders-0"'),
+    (one(ends='{"-0":1}'), "Field", 'ends["-0"] isn\'t a partition\'s name, since its topic\'s isn\'t one', '"-0"'),
+    (one(ends='{"a\\"\\n\\\\":1}'), "Field", 'ends["a\\"\\u000a\\\\"] isn\'t a partition\'s name', '"a\\"'),
+    (one(sources='["or ders"]'), "Field", 'sources[0] is "or ders"' + TOPIC, '"or ders"'),
+    (one(sources='["in",".."]'), "Field", 'sources[1] is ".."' + TOPIC, '".."'),
+    (one(outputs='["' + 250 * "o" + '"]'), "Field", f'outputs[0] is "{250 * "o"}"' + TOPIC, '"ooo'),
+    (one(sources='["__consumer_offsets"]'), "Field", 'sources[0] is "__consumer_offsets"; a topic that isn\'t Kafka\'s own is wanted', '"__consumer_offsets"'),
+    (one(outputs='["__transaction_state"]'), "Field", 'outputs[0] is "__transaction_state"; a topic that isn\'t Kafka\'s own is wanted', '"__transaction_state"'),
+    (one(sources='["in","a","in"]'), "Field", 'sources[2] is "in" again; an application names a topic once', '"in"],"outputs'),
+    (one(outputs='["out","in"]'), "Field", 'outputs[1] is "in" again; an application names a topic once', '"in"],"ends'),
+    ('{"version":2,' + ENDS + "}", "Field", "apps is absent", "{"),
+    ('{"version":2,"apps":{},' + ENDS + "}", "Field", "apps is an object; an array is wanted", "{},"),
+    (two(app(), '"g"'), "Field", "apps[1] is a text; an object is wanted", '"g"],'),
+    (two(app(), '{"group":"h","outputs":[]}'), "Field", "apps[1].sources is absent", '{"group":"h"'),
+    (two(app(), app("null")), "Field", "apps[1].group is null; a text is wanted", "null"),
+    (two(app(sources='["in",7]')), "Field", "apps[0].sources[1] is an integer; a text is wanted", "7]"),
+    (two(app(), app('"h"', '["in"]', '["a/b"]')), "Field", 'apps[1].outputs[0] is "a/b"' + TOPIC, '"a/b"'),
+    (two(app(), app('"g"', '["in"]', '["fin"]')), "Field", 'two applications have the group "g"', '"g","sources":["in"],"outputs":["fin"]'),
+    (two(app(), app('"h"', '["in"]', '["out"]')), "Field", 'two applications have the output topic "out"', '"out"]}],'),
+    (many_apps(257), "Limit", "apps has 257 items; at most 256 are allowed", '[{"group":"g0"'),
+    (many_ends(4097), "Limit", "ends has 4097 members; at most 4096 are allowed", '{"in-0":0,'),
     # the first in the stated order: version, types, ends' names, applications, ends, numbers
-    ('{"version":3,"ends":7}', "Version", "version is 3; 1 or 2 is wanted"),
-    (one(sources='[""]', ends='{"x":0}'), "Field", 'ends["x"] isn\'t a partition\'s name'),
-    (one(sources='[""]', ends='{"in-0":-1}'), "Field", 'sources[0] is ""' + TOPIC),
-    (one(ends='{"b-0":-1,"a-0":-2}'), "Field", f'ends["a-0"] is -2; 0 to {LARGEST} is wanted'),
-    (two(*(app('"g"', "[]", "[]") for _ in range(257))), "Field", 'two applications have the group "g"'),
+    ('{"version":3,"ends":7}', "Version", "version is 3; 1 or 2 is wanted", "3,"),
+    (one(sources='[""]', ends='{"x":0}'), "Field", 'ends["x"] isn\'t a partition\'s name', '"x"'),
+    (one(sources='[""]', ends='{"in-0":-1}'), "Field", 'sources[0] is ""' + TOPIC, '""]'),
+    (one(ends='{"b-0":-1,"a-0":-2}'), "Field", f'ends["a-0"] is -2; 0 to {LARGEST} is wanted', "-2"),
+    (two(*(app('"g"', "[]", "[]") for _ in range(257))), "Field", 'two applications have the group "g"', 70),
+    # lines, and characters of them
+    (LINES, "Field", 'ends["orders-00"] isn\'t a partition\'s name', '"orders-00"'),
+    (LINES.replace("\n", "\r\n"), "Field", 'ends["orders-00"] isn\'t a partition\'s name', '"orders-00"'),
+    ('{"\u00e9\u20ac\U0001f600":"\u00e9","version":1,"group":7}', "Field", "group is an integer; a text is wanted", "7}"),
+    ('{"\\u0067roup":5,\n"version":1}', "Field", "group is an integer; a text is wanted", "5,"),
+    # the last of those of a name counts
+    (one(ends='{"in-0":"x","in-0":-1}'), "Field", f'ends["in-0"] is -1; 0 to {LARGEST} is wanted', "-1"),
+    (" \n\t[]", "Field", "the manifest is an array; an object is wanted", "[]"),
 ]
 
 # The refused manifests among the folders of tests/evidence.
 REFUSED = [
-    ("random-Field-1", "Field", "ends is an array; an object is wanted"),
-    ("random-Field-2", "Field", "version is a number that isn't an integer of 64 bits; an integer is wanted"),
-    ("random-Json-1", "Json", "the text nests deeper than 127 at byte 413"),
-    ("random-Json-2", "Json", "the text nests deeper than 127 at byte 423"),
-    ("random-Limit-1", "Limit", "ends has 4103 members; at most 4096 are allowed"),
+    ("random-Field-1", "Field", "1:82: ends is an array; an object is wanted"),
+    ("random-Field-2", "Field", "1:13: version is a number that isn't an integer of 64 bits; an integer is wanted"),
+    ("random-Json-1", "Json", "1:414: the text nests deeper than 127 at byte 413"),
+    ("random-Json-2", "Json", "1:424: the text nests deeper than 127 at byte 423"),
+    ("random-Limit-1", "Limit", "1:87: ends has 4103 members; at most 4096 are allowed"),
 ]
+
+
+def position(text, part):
+    """The line and the character at which this part of a text begins, or which has this number."""
+    at = part if isinstance(part, int) else text.index(part) if part else len(text)
+    before = text[:at].decode("ascii") if isinstance(text, bytes) else text[:at]
+    return f"{before.count(chr(10)) + 1}:{len(before.rsplit(chr(10), 1)[-1]) + 1}"
 
 
 def manifests(room):
     folder = f"{room}/manifest"
     os.mkdir(folder)
-    for text, fault, cause in MANIFESTS:
+    for text, fault, cause, part in MANIFESTS:
         with open(f"{folder}/evidence.json", "wb") as file:
             file.write(text if isinstance(text, bytes) else text.encode())
-        same(f"the manifest {text[:60]!r}", run("check", folder), (2, "", said(f"evidence.json: {fault}", cause)))
+        second = f"{folder}/evidence.json:{position(text, part)}: {cause}"
+        same(f"the manifest {text[:60]!r}", run("check", folder), (2, "", said(f"evidence.json: {fault}", second)))
+    same("lines", position(LINES, '"orders-00"'), "5:13")
 
 
 def refused_samples():
     for name, fault, cause in REFUSED:
-        same(f"check of {name}", run("check", f"{EVIDENCE}/{name}"), (2, "", said(f"evidence.json: {fault}", cause)))
+        second = f"{EVIDENCE}/{name}/evidence.json:{cause}"
+        same(f"check of {name}", run("check", f"{EVIDENCE}/{name}"), (2, "", said(f"evidence.json: {fault}", second)))
 
 
 # ---- files and folders
@@ -279,7 +305,7 @@ def several(room):
     same("a yes and a no", run("check", yes, no), (1, f"{yes}: {YES}{no}: {end}", ""))
     same("a no and a yes", run("check", no, yes), (1, f"{no}: {end}{yes}: {YES}", ""))
     first = said(f"cannot read {absent}/evidence.json", "no such file", f"{absent}: ")
-    second = said("evidence.json: Version", "version is 3; 1 or 2 is wanted", f"{refused}: ")
+    second = said("evidence.json: Version", f"{refused}/evidence.json:1:12: version is 3; 1 or 2 is wanted", f"{refused}: ")
     found = run("check", no, absent, "--workers", "2", refused, yes)
     same("two that are refused among others", found, (2, f"{no}: {end}{yes}: {YES}", first + second))
     json_line = '{"answer":"yes","inputs":2,"outputs":3,"transactions":1}\n'
@@ -371,10 +397,11 @@ def refused(room, library):
     """Each allocation of a run that refuses a manifest, a third of them, is refused in turn: both lines, the first alone, or out of memory."""
     folder = f"{room}/refused-memory"
     os.mkdir(folder)
-    for text, fault, cause in [row for row in MANIFESTS if len(row[0]) < 200][::3]:
+    for text, fault, cause, part in [row for row in MANIFESTS if len(row[0]) < 200][::3]:
         with open(f"{folder}/evidence.json", "wb") as file:
             file.write(text if isinstance(text, bytes) else text.encode())
-        whole, alone = said(f"evidence.json: {fault}", cause), said(f"evidence.json: {fault}")
+        second = f"{folder}/evidence.json:{position(text, part)}: {cause}"
+        whole, alone = said(f"evidence.json: {fault}", second), said(f"evidence.json: {fault}")
         run("check", folder, env=dict(os.environ, LD_PRELOAD=library, REFUSE_COUNT=f"{room}/count"))
         with open(f"{room}/count", encoding="ascii") as file:
             count = int(file.read())

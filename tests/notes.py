@@ -18,13 +18,14 @@ import tempfile
 import notes_reference
 import reference
 from made_evidence import commit_record, text
-from random_evidence import Folder
+from random_evidence import Folder, Piece
 from what_you_see import COMMITS, GOOD, STATES, add_commit, add_plain, manifest, not_in_ends
 
 NOTHING, BEHIND = "group {} committed no offset of its sources", "group {} is behind: {} of {} visible inputs are below its committed offsets"
 ABSENT, GAP = "topic {} of group {} has no partition in ends", "topic {} has no partition {} in ends, but one of a greater number"
 UNLISTED, PAST = "{} isn't in ends, but group {} committed an offset of it", "group {} committed offset {} of {}, past its end {}"
 INTERNAL = "no partition of {} is in ends"
+FALLS = "the leader epoch falls at {}:{}"
 NO_APPLICATION = "no application is named: outputs and committed offsets aren't judged"
 
 
@@ -65,6 +66,15 @@ def both(*changes):
     def made(folder):
         for change in changes:
             change(folder)
+    return made
+
+
+def led(name, *epochs):
+    """The batches of a partition get these leader epochs, and those behind them the last of these. All have 3 in the good folder."""
+    def made(folder):
+        for place, piece in enumerate(folder.logs[name]):
+            epoch = struct.pack(">i", epochs[min(place, len(epochs) - 1)])
+            folder.logs[name][place] = Piece(piece.text[:12] + epoch + piece.text[16:], piece.name)
     return made
 
 
@@ -130,6 +140,19 @@ CASES = [
     ("one input more, committed", both(inputs("in-0", 1), commit("payments", "in-0", 21)), []),
     ("inputs of another topic", inputs("other-0", 3), []),
     ("an offset that went back", commit("payments", "in-1", 5), [BEHIND.format("payments", 25, 40)]),
+    # 8: a leader epoch that falls
+    ("leader epochs that rise", both(led("in-0", -1, 0, 0, 7, 2**31 - 1), led("out-1", 9)), []),
+    ("a leader epoch that falls at the second batch", led("in-0", 4, 3), [FALLS.format("in-0", 1)]),
+    ("leader epochs that fall twice", led("in-0", 4, 4, 3, 9, 2, 2), [FALLS.format("in-0", 2)]),
+    ("one batch of another replica", led("in-1", 3, 2, 3), [FALLS.format("in-1", 2)]),
+    ("a leader epoch that isn't there any more", led("in-1", 0, 0, -1), [FALLS.format("in-1", 4)]),
+    ("leader epochs that fall in two partitions", both(led("out-2", 5, 4), led("in-1", 1, 0), led("in-0", 6)), [
+        FALLS.format("in-1", 2), FALLS.format("out-2", 3)]),
+    ("leader epochs that fall in Kafka's own logs", both(led(STATES, 1, 1, 0), led(COMMITS, 2**31 - 1, -2**31)), [
+        FALLS.format(COMMITS, 2), FALLS.format(STATES, 2)]),
+    ("a leader epoch that falls where another log's end is wrong", both(led("in-1", 4, 3), end("in-0", 21)), [FALLS.format("in-1", 2)]),
+    ("leader epochs of a log that isn't in `ends`", both(led("out-2", 4, 3), not_in_ends("out-2")), []),
+    ("a leader epoch that falls, without applications", both(led("in-1", 4, 3), NO_APPS), [NO_APPLICATION, FALLS.format("in-1", 2)]),
     # phase 1
     ("another end than the log's", both(end("in-0", 21), commit("payments", "in-7", 5), commit("payments", "in-1", 21)), []),
     ("another end, and what the manifest shows", both(end("in-0", 21), manifest(group="late", outputs=["out", "x"]), empty("in-3")), [

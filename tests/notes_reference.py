@@ -53,6 +53,11 @@ def commits_of(parts, group, sources):
             continue
 
 
+def fall_of(part):
+    """The offset of the first batch of a lesser leader epoch than the batch before it, if there is one."""
+    return [after.base for before, after in itertools.pairwise(part.batches) if after.leader < before.leader][:1]
+
+
 def named(place):
     return reference.place_text(place)
 
@@ -66,7 +71,7 @@ def notes_of(folder):
     """For each kind of the list its lines."""
     apps, ends = manifest_of(folder)
     _, parts = read_folder(folder)
-    kinds = {n: [] for n in range(8)}
+    kinds = {n: [] for n in range(9)}
     present = {topic for topic, _ in ends}
     used = {topic for _, sources, outputs in apps for topic in sources + outputs}
     if len(apps) == 0:
@@ -80,6 +85,8 @@ def notes_of(folder):
         if absent is not None:
             kinds[4].append(f"topic {reference.escaped(topic)} has no partition {absent} in ends, but one of a greater number")
     kinds[6] = [f"no partition of {topic.decode()} is in ends" for topic in (OFFSETS, STATES) if topic not in present]
+    for part in parts:
+        kinds[8] += [f"the leader epoch falls at {named(part.name)}:{offset}" for offset in fall_of(part)]
     if any(has_fault(part) for part in parts):
         return kinds
     for group, sources, _ in apps:

@@ -5,8 +5,9 @@
 
 Each folder is made here, of transactions of a few producers in named partitions, with a marker lost, exchanged, doubled or of a wrong
 epoch, a record of the transaction log that doesn't read, long transactional ids, or fifty partitions of that log. What is looked for is
-written by hand: in which row and which transaction's column a mark stands, of which class it is, and what is told of it. Where
-rsvg-convert or chromium is there, the pictures are rendered, and the marks looked for by their colour. Run it in the repository's top folder.
+written by hand: which transactions are shown and in which order, in which row and which transaction's column a mark stands, of which class
+it is, and what is told of it. Where rsvg-convert or chromium is there, the pictures are rendered, and the marks looked for by their colour.
+Run it in the repository's top folder.
 The last line is 'N passed, N failed'.
 """
 import os
@@ -190,6 +191,23 @@ def many_homes(cluster):
         cluster.end(producer, "out-0" if producer % 10 == 9 else "out-1", markers=[] if producer == 159 else None)
 
 
+def take_turns(cluster):
+    """7 and 8, of two partitions of the transaction log, take turns in out-0; 9 is between them there, and writes to out-1."""
+    for _ in range(4):
+        cluster.whole(7, "out-0")
+        cluster.whole(9, "out-1")
+        cluster.whole(8, "out-0")
+    cluster.begin(8, "out-0")
+    cluster.end(8, "out-0", markers=[])
+
+
+def bad_state_of_many(cluster):
+    """Of sixty producers two are of that partition of the transaction log of which a record doesn't read."""
+    for producer in range(100, 160):
+        cluster.whole(producer, "out-0")
+    cluster.maker.append(cluster.homes[9], [(b"\0\0\0\1x", b"\0\x09", [])])
+
+
 CASES = {
     "lost": (lost, "no 1.6 EpochWhileOpen out-0 offset=5 producer=7", [
         ("out-0", "7/0", "missing", "missing: the end marker COMMIT"), ("out-0", "7/0", "open", "out-0:0 data record, open: its own"),
@@ -216,6 +234,21 @@ CASES = {
     "bad_state": (bad_state, "no 2.1 BadRecord", [(STATES + "-0", "none", "page", "a place of the fault")]),
     "long_ids": (long_ids, "no 1.11 OpenAtEnd", [("out-0", "9/0", "missing", "a place of the fault")]),
     "many_homes": (many_homes, "no 1.11 OpenAtEnd out-0 offset=17 producer=159", [("out-0", "159/0", "missing", "a place of the fault")]),
+    "take_turns": (take_turns, "no 1.11 OpenAtEnd out-0 offset=26 producer=8", [("out-0", "8/4", "missing", "a place of the fault")]),
+    "bad_state_of_many": (bad_state_of_many, "no 2.1 BadRecord __transaction_state-9 offset=8", [
+        (STATES + "-9", "none", "page", "a place of the fault")]),
+}
+# the partitions of the transaction log, where there are more than one
+HOMES = {"many_homes": 50, "bad_state_of_many": 50, "take_turns": 2}
+# the transactions that share a partition with the fault, in the order of its log
+COLUMNS = {
+    "many_homes": ["109/0", "119/0", "129/0", "139/0", "149/0", "159/0"],
+    "take_turns": ["7/1", "8/1", "7/2", "8/2", "7/3", "8/3", "8/4"],
+    "bad_state_of_many": ["109/0", "159/0"],
+    "stray": ["7/0"],
+    "lost": ["7/0", "8/0", "7/1"],
+    "exchanged": ["7/0", "8/0"],
+    "long_ids": ["7/0", "8/0", "9/0"],
 }
 # marks that may not stand there
 NOT_THERE = {
@@ -278,7 +311,7 @@ class Picture:
 
 def check(name, make, line, wanted):
     folder, path = os.path.join(scratch, name), os.path.join(scratch, name + ".svg")
-    cluster = Cluster("out-0", "out-1", homes=50 if name == "many_homes" else 1)
+    cluster = Cluster("out-0", "out-1", homes=HOMES.get(name, 1))
     make(cluster)
     cluster.write(folder)
     answer = subprocess.run([program, "check", "--quiet", folder], capture_output=True, timeout=100).stdout.decode().strip()
@@ -299,6 +332,8 @@ def check(name, make, line, wanted):
         same(f"{name}: no {look} of {writer} in {row}", picture.has(row, writer, look, ""), False)
     if name == "lost_second":
         same(f"{name}: the other Prepare record", picture.has(STATES + "-0", "7/0", "committed", "a place of the fault"), False)
+    if name in COLUMNS:
+        same(f"{name}: columns", [writer for _, writer in picture.columns if writer], COLUMNS[name])
     markers = [mark[:3] for mark in picture.marks if mark[2] and mark[2].endswith("-marker")]
     same(f"{name}: one mark for each kind", len(markers), len(set(markers)))
     if name == "long_ids":

@@ -15,7 +15,7 @@ from mutants import LAST_OFFSET, Reader, Refused, control_word
 OFFSETS, STATES = b"__consumer_offsets", b"__transaction_state"
 COMMIT, ABORT, TOMBSTONE = "commit", "abort", "tombstone"
 
-Batch = collections.namedtuple("Batch", "base count word producer epoch sequence records")
+Batch = collections.namedtuple("Batch", "base count word producer epoch sequence records leader")
 Record = collections.namedtuple("Record", "key value headers")
 Part = collections.namedtuple("Part", "name end batches stop")
 State = collections.namedtuple("State", "status producer epoch partitions")
@@ -82,7 +82,7 @@ def read_batch(data, at=0):
     if len(data) < at + 12 + length:
         raise Refused("Truncated")
     data = data[at : at + 12 + length]
-    magic, crc, attributes, last = struct.unpack(">bIhi", data[16:27])
+    leader, magic, crc, attributes, last = struct.unpack(">ibIhi", data[12:27])
     producer, epoch, sequence, count = struct.unpack(">qhii", data[43:61])
     if magic != 2:
         raise Refused("Magic")
@@ -96,7 +96,7 @@ def read_batch(data, at=0):
     word = control_word(records) if attributes & 32 else "txn" if attributes & 16 else "plain"
     if (producer < 0 and word in ("txn", COMMIT, ABORT)) or (producer >= 0 and epoch < 0):
         raise Refused("Producer")
-    return Batch(base, count, word, producer, epoch, sequence, records), 12 + length
+    return Batch(base, count, word, producer, epoch, sequence, records, leader), 12 + length
 
 
 def read_part(name, end, segments):

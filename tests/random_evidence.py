@@ -26,6 +26,7 @@ import mutants
 import notes_reference
 import plain_logs
 import reference
+from fault_fields import json_of
 from mutants import varint
 
 HERE = os.path.dirname(os.path.abspath(__file__))
@@ -617,13 +618,6 @@ def made(rng, folders, place):
             for log in sorted(set(touched)):
                 settle(folder, log, rng.random() < 0.9 and change is not sequence)
     return name, folder, done
-
-
-def json_of(line):
-    if line.startswith("no"):
-        return json.dumps({"answer": "no", "fault": line[3:]}, separators=(",", ":"))
-    counts = {key: int(n) for key, n in (part.split("=") for part in line.split()[1:])}
-    return json.dumps({"answer": "yes", **counts}, separators=(",", ":"), sort_keys=True)
 
 
 def list_of(lines, json_form=False):

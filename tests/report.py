@@ -108,6 +108,7 @@ NOTES = {
     "NothingCommitted": lambda n: f"group {shown(n['group'])} committed no offset of its sources",
     "NoInternal": lambda n: f"no partition of {n['topic']} is in ends",
     "Behind": lambda n: f"group {shown(n['group'])} is behind: {n['below']} of {n['inputs']} visible inputs are below its committed offsets",
+    "EpochFalls": lambda n: f"the leader epoch falls at {partition(n)}:{n['offset']}",
 }
 
 
@@ -213,7 +214,8 @@ def members():
     _, out, err = run("check", "--quiet", "--json", "--report", path, folder)
     found = report_in(path)
     same("notes that aren't printed", ("".join(map(note_line, found["notes"])), err), (notes, ""))
-    same("beside JSON", json.loads(out), {"answer": "no", "fault": fault_line(found["faults"][0])[3:]})
+    first = found["faults"][0]
+    same("beside JSON", json.loads(out), {"answer": "no", "fault": fault_line(first)[3:], "fields": first})
 
 
 def odd_id():

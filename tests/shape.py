@@ -21,10 +21,6 @@ MOST_LINES_OF_A_FILE = 400
 DISK = "eos_disk"
 KIT_FILES = re.compile(r"\bstd::fs\b|\bstd::\{[^}]*\bfs\b|\bfs::|\bFile::")
 MOST_LINES_OF_THE_DISK = 100
-# What still writes files by itself.
-WRITERS = {
-    "crates/eos_folder/src/placing.rt",
-}
 # The crate that is nothing but callers.
 TESTS = {"eos_tests"}
 COMMENTS = {"rt": re.compile(r"//.*"), "antt": re.compile(r"--.*")}
@@ -158,7 +154,7 @@ def of_sizes(found, say):
 
 def of_kit_files(found, say):
     """The code that names the kit's files."""
-    lines, writers = 0, set()
+    lines = 0
     for name in found:
         for path, text in sources(name, "rt"):
             if not KIT_FILES.search(text):
@@ -166,10 +162,7 @@ def of_kit_files(found, say):
             if name == DISK:
                 lines += sum(bool(line.strip()) for line in text.splitlines())
             else:
-                writers.add(path)
-                say(path in WRITERS, f"{path} names the kit's files, which {DISK} is for")
-    for path in sorted(WRITERS - writers):
-        say(False, f"{path} doesn't name the kit's files any more, and stands in tests/shape.py")
+                say(False, f"{path} names the kit's files, which {DISK} is for")
     say(0 < lines <= MOST_LINES_OF_THE_DISK, f"{DISK} has {lines} lines of code that name the kit's files")
 
 

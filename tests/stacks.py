@@ -4,7 +4,7 @@ much to each further thread.
 
     python3 -B tests/stacks.py PROGRAM
 
-Of less some large frames are in the way, which CONTRIBUTING.md names. What a run prints and leaves has to be what it prints and leaves
+CONTRIBUTING.md names the largest frames. What a run prints and leaves has to be what it prints and leaves
 with 8 MiB; of two the words are also those that stand here. The last line is 'N passed, N failed'.
 """
 import os
@@ -58,6 +58,7 @@ def commands(room):
         (["simulate", "--seed", "7", "--events", "60", "--history", f"{room}/history", f"{room}/simulated"], f"{room}/simulated/evidence.json"),
         (["simulate", "--schedule", f"{room}/history.kept", f"{room}/again"], f"{room}/again/evidence.json"),
         (["fold", "--manifest", f"{GOOD}/evidence.json", "--out", folds, *partitions()], f"{folds}/{os.path.basename(partitions()[0])}"),
+        (["fold", "--verify", f"{room}/folded", GOOD], None),
         (["init", "--app", "billing:orders:payments", "--ends-from-logs", f"{room}/copied"], f"{room}/copied/evidence.json"),
     ]
 

@@ -2,10 +2,10 @@
 """How many threads `check` starts, which only its speed depends on, and how many work at once: never more than there are workers.
 The caller does one share of each step itself, so a step in n shares starts n - 1, and with one worker none is started.
 
-With N workers, over P partitions, O of them of output topics, these are: those that draw pieces and read them, N, the matching in N
-shards, the faults of single records in N shares or P, if these are fewer, the claims in as many shares as runs of O / N partitions,
-rounded up, make; where there are 4,096 claims or more, the sort of these, in at most N; and the source logs beside the claims, in at
-most N, which is one or two where there is one source partition.
+With N workers, over P partitions, O of them of output topics, these are: those that draw pieces and read them, N, the quick walk of the
+matching, N, which the shards repeat where it says no, the faults of single records in N shares or P, if these are fewer, the claims in as many
+shares as runs of O / N partitions, rounded up, make; where there are 4,096 claims or more, the sort of these, in at most N; and the source logs
+beside the claims, in at most N, which is one or two where there is one source partition.
 
 Without `--workers` there are four. Who asks `check_lineage` and names no number gets at most 64: tests/unproved.py asks that.
 

@@ -77,7 +77,8 @@ def add_commit(folder, partition, offset, name=COMMITS):
 
 
 def add_plain(folder, name, records):
-    blank = Piece(bytes(16) + b"\2" + bytes(44), None if folder.logs.get(name) else 0)
+    leader = folder.logs[name][-1].text[12:16] if folder.logs.get(name) else bytes(4)
+    blank = Piece(bytes(12) + leader + b"\2" + bytes(44), None if folder.logs.get(name) else 0)
     piece = blank.with_records(records).changed(producer=-1, epoch=-1, sequence=-1)
     folder.logs.setdefault(name, []).append(piece)
     folder.manifest["ends"].setdefault(name, 0)
@@ -190,9 +191,12 @@ def by_the_consumer(folder):
     unlist(folder, (b"__consumer_offsets", 13))
 
 
-def unlist(folder, name):
+def unlist(folder, name, epochs=None):
+    """No state lists a partition any more; where epochs are named, none of these."""
     def change(_, record):
         state = plain_logs.state_value(record.value)
+        if epochs is not None and state.epoch not in epochs:
+            return [(record.key, record.value, record.headers)]
         listed = [f"{t.decode()}-{n}" for t, n in sorted(state.partitions - {name})]
         return [(record.key, state_text(random.Random(1), state.status, state.producer, state.epoch, listed), record.headers)]
 

@@ -6,6 +6,9 @@ preloaded refuse
 counted coordinators python3 -B tests/coordinator.py "$program"
 counted manifests python3 -B tests/init.py "$program" "$scratch/refuse.so"
 counted reports python3 -B tests/report.py "$program" "$scratch/refuse.so"
+
+# the page, beside the lines, the notes and the report of the same check
+counted pages python3 -B tests/page.py "$program" "$scratch/refuse.so"
 counted pictures python3 -B tests/draw.py "$program" "$scratch/refuse.so"
 counted 'causes in pictures' python3 -B tests/pictures.py "$program"
 preloaded killed

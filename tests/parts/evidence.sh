@@ -14,11 +14,7 @@ while IFS=$'\t' read -r name want line; do
     # the notes, by a second program
     python3 -B tests/notes_reference.py "tests/evidence/$name" > "$scratch/message"
   fi
-  case $line in
-    no*) echo "{\"answer\":\"no\",\"fault\":\"${line#no }\"}" > "$scratch/json" ;;
-    yes*) sed -nE 's/^yes transactions=([0-9]+) inputs=([0-9]+) outputs=([0-9]+)$/{"answer":"yes","inputs":\2,"outputs":\3,"transactions":\1}/p' \
-      "$scratch/line" > "$scratch/json" ;;
-  esac
+  if [ "$want" != 2 ]; then python3 -B tests/fault_fields.py "$line" > "$scratch/json"; fi
   for workers in 1 2 3 4 8 64; do
     run check --workers $workers "tests/evidence/$name"
     if [ "$want" = 2 ]; then only_first; fi

@@ -12,6 +12,8 @@ refused 1 check --help
 refused 1 explain tests/stories/34-dup-across-transactions
 refused 1 explain tests/stories/04-missing-marker
 refused 1 explain tests/stories/39-headers-as-text
+refused 1 explain tests/evidence/row-yes-2
+refused 1 explain tests/stories/47-lost-commit
 refused 1 explain tests/evidence/row-SplitGroup-1
 for i in 1 2 3 4 5 6 7 8 9; do cat "$segments/sarama-idem-1.log"; done > "$scratch/long"
 refused 101 dump "$scratch/long"

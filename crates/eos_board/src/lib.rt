@@ -1,9 +1,27 @@
-//! A pool of workers over the pieces of the evidence, under one name: the board with its receipts, the gate, the tickets, and
-//! the pool's core, one event after another.
-//!
-//! The program's own crates name the board's crate, and aren't proved anew where the pool's core changes.
+//! What workers share over the pieces of an evidence: tickets, which are numbers that they draw, each once; the board of runs, under a
+//! lock, with its receipts; runs that are tied to an evidence by their type; the gate that each worker passes; and the pool as a machine
+//! of events, which tests drive. Threads are no part of this crate: the types say what each step does, whoever makes it.
 #![tactic(auto)]
 
-pub use eos_board_core::{Board, Gate, Loose, OpenGate, Receipt, Refused, Tied, Why};
-pub use eos_pool_core::{PoolCore, PoolEvent, PoolReply};
-pub use eos_tickets::{Seat, Tickets};
+mod board;
+mod follow;
+mod gate;
+mod places;
+mod pool_core;
+mod pool_event;
+mod reach;
+mod refused;
+mod rule;
+mod stock;
+mod tickets;
+mod tied;
+mod worker;
+
+pub use board::{Board, Receipt};
+pub use gate::{Gate, OpenGate};
+pub use places::Places;
+pub use pool_core::PoolCore;
+pub use pool_event::{PoolEvent, PoolReply};
+pub use refused::{Refused, Why};
+pub use tickets::{Drawn, MAX_TICKETS, MAX_WORKERS, Seat, Tickets};
+pub use tied::{Loose, Pieces, Tied};

@@ -15,6 +15,10 @@ pub enum Sign {
     MovedBack,
     /// The output's own transaction committed exactly the input's offset.
     LastForNext,
+    /// The output's own transaction lists a partition of the offsets log that holds no commit of it.
+    LostCommit,
+    /// A claim names the output of the input in another layout.
+    OtherLayout,
     /// A commit of the group that goes past the input is of no transaction.
     PlainCommit,
     /// An end marker's epoch is above the one after its data's.

@@ -38,6 +38,15 @@ where the group goes on, the last that was read plus one.",
 (`docs/APPLICATION.md`).",
 };
 
+const LOST_COMMIT: Case = Case {
+    sign: Sign::LostCommit,
+    when: "The output's transaction lists a partition of offsets that lacks its commit",
+    means: "Its commit is lost: the transaction lists that partition of the offsets log,
+which holds nothing of it.",
+    next: "Compare that partition on the other replicas. If all lack it: was the commit
+refused (`sendOffsetsToTransaction`), and the transaction ended all the same?",
+};
+
 pub(crate) const GAP: &[Case] = &[
     Case {
         sign: Sign::Renamed,
@@ -129,6 +138,7 @@ transactional application's records have a producer id.",
 }];
 
 pub(crate) const EARLY: &[Case] = &[
+    LOST_COMMIT,
     OUTSIDE,
     LAST_FOR_NEXT,
     Case {
@@ -167,16 +177,27 @@ and why? What the commit is of stands in its row.",
     },
 ];
 
-pub(crate) const MISSING: &[Case] = &[Case {
-    sign: Sign::PlainCommit,
-    when: "A commit that goes past the input is of no transaction",
-    means: "The offset was committed apart from the outputs, by the consumer or a tool: it
+pub(crate) const MISSING: &[Case] = &[
+    Case {
+        sign: Sign::OtherLayout,
+        when: "A claim names the output with bytes turned round, or a NUL or quotes",
+        means: "The output is there, and its headers have another layout: a number with its
+bytes turned round, or a topic with a NUL behind it or in quotes.",
+        next: "How does the application write its headers? Numbers are big-endian, a topic is
+its bytes alone (`docs/APPLICATION.md`).",
+    },
+    Case {
+        sign: Sign::PlainCommit,
+        when: "A commit that goes past the input is of no transaction",
+        means: "The offset was committed apart from the outputs, by the consumer or a tool: it
 stands where the transaction of the outputs was aborted, or never came.",
-    next: "Does the application commit by `sendOffsetsToTransaction` alone? Look for
+        next: "Does the application commit by `sendOffsetsToTransaction` alone? Look for
 `enable.auto.commit`, `commitSync` and tools that reset offsets.",
-}];
+    },
+];
 
 pub(crate) const OTHER: &[Case] = &[
+    LOST_COMMIT,
     OUTSIDE,
     LAST_FOR_NEXT,
     Case {

@@ -1,7 +1,7 @@
 -- What all workers drew are the pieces, each once, where each of them drew until there was none left.
 use Rattle.std.proofs.Common.{◌≡◌, ℕ, ◌≤◌, true, List, [], ◌∷◌, length, refl, subst, ◌∙◌, arith}
 use Rattle.std.specs.Prelude.{All, Any}
-use Rattle.eos_tickets.specs.Places.{Place, AreBelow}
+use Rattle.eos_board.specs.Places.{Place, AreBelow}
 
 pub each_once : (n count : ℕ) (seats : List Place) (drawn : List ℕ) → 1 ≤ length seats → All (λ s. s.is_done ≡ true) seats → AreBelow (length drawn) drawn
     → (Any (λ s. s.is_done ≡ true) seats → length drawn ≡ count) → count ≡ n → AreBelow n drawn

@@ -7,7 +7,7 @@ use Rattle.eos_evidence.specs.declared.partition.Partition.{Partition}
 use Rattle.eos_evidence.specs.declared.segment.Segment.{Segment}
 use Rattle.eos_evidence.specs.Evidence.{segments_of}
 use Rattle.eos_fold.specs.Sums.{NamedView}
-use Rattle.eos_board_core.specs.Ties.{IsPiece, IsTied}
+use Rattle.eos_board.specs.Ties.{IsPiece, IsTied}
 use Rattle.eos_check.specs.steps.Runs.{AreAt, IsRunOf}
 
 -- ---- a piece

@@ -9,7 +9,7 @@ use crate::judging::judge;
 use crate::parts::parts_from;
 use crate::tied_evidence::TiedEvidence;
 use crate::verdict::Verdict;
-use eos_board_core::Pieces;
+use eos_board::Pieces;
 use eos_evidence::Evidence;
 use eos_partitions::Logs;
 use eos_workers::Workers;

@@ -3,7 +3,7 @@
 
 ghost use Rattle.std.specs.Prelude.{◌≡◌, ◌+◌, ◌<◌, ◌^◌, ◌++◌, [], ◌∷◌, length, IfOk, IfSome, IsTrue};
 ghost use Rattle.eos_lineage.specs.EvidenceLogs.{IsLogOf};
-ghost use Rattle.eos_board_core.specs.Ties.{IsPiece};
+ghost use Rattle.eos_board.specs.Ties.{IsPiece};
 ghost use Rattle.eos_check.specs.WholeLogs.{AreWholeLogs};
 ghost use Rattle.eos_check.specs.steps.Runs.{AreAt, AreOwn, IsBehind, IsRunOf};
 ghost use Rattle.eos_evidence.specs.Evidence.{IsPartition};
@@ -13,7 +13,7 @@ ghost use Rattle.eos_fold.specs.Whole.{segments_in};
 
 use crate::phases::copied;
 use crate::tied_evidence::TiedEvidence;
-use eos_board_core::{Pieces, Tied};
+use eos_board::{Pieces, Tied};
 use eos_evidence::{Partition, Segment};
 use eos_fold::{Part, PartitionFault};
 use eos_partitions::Logs;

@@ -1,15 +1,14 @@
 //! The workers: each draws pieces and summarises them, and then joins runs that lie side by side.
 
 ghost use Rattle.std.specs.Prelude.{◌≡◌, ◌<◌, ◌≤◌, true, vec_len, length, All, IfOk, IfSome};
-ghost use Rattle.eos_board_core.specs.Ties.{IsPiece};
+ghost use Rattle.eos_board.specs.Ties.{IsPiece};
 ghost use Rattle.eos_evidence.specs.Evidence.{segments_of};
 ghost use Rattle.eos_fold.specs.Sums.{IsFit, Follows};
-ghost use Rattle.eos_tickets.specs.Places.{IsFresh, AreBelow};
+ghost use Rattle.eos_board.specs.Places.{IsFresh, AreBelow};
 
 use crate::tied_evidence::TiedEvidence;
-use eos_board_core::{Board, Gate, Pieces, Receipt, Tied};
+use eos_board::{Board, Drawn, Gate, Pieces, Receipt, Seat, Tickets, Tied};
 use eos_evidence::Segment;
-use eos_tickets::{Drawn, Seat, Tickets};
 use eos_workers::Workers;
 use std::alloc::{AllocError, Global};
 use std::marker::{Model, PhantomData};
@@ -33,7 +32,7 @@ struct Workplace<'s, L: Ledger, E: Pieces, G> {
 impl<'s, L: Ledger, E: Pieces, G> Model for Workplace<'s, L, E, G> {
     ghost use Rattle.std.specs.Prelude.{◌≡◌, length};
     ghost use Rattle.eos_evidence.specs.Evidence.{segments_of};
-    ghost use Rattle.eos_tickets.specs.Places.{Counter};
+    ghost use Rattle.eos_board.specs.Places.{Counter};
 
     ghost Value = { Counter };
 
@@ -52,7 +51,7 @@ struct Worker<'s, L: Ledger, E: Pieces, G> {
 
 impl<'s, L: Ledger, E: Pieces, G> Model for Worker<'s, L, E, G> {
     ghost use Rattle.std.specs.Prelude.{◌≡◌, false};
-    ghost use Rattle.eos_tickets.specs.Places.{Counter};
+    ghost use Rattle.eos_board.specs.Places.{Counter};
 
     ghost Value = { Counter };
 

@@ -7,7 +7,7 @@ ghost use Rattle.eos_check.specs.steps.Shards.{lesser_answer, AreSettled};
 
 use eos_base::lesser;
 use eos_partition::Part;
-use eos_table::{MatchFault, TxnTable, match_shard};
+use eos_table::{MatchFault, TxnTable, are_matched, match_shard};
 use eos_workers::Workers;
 use std::alloc::{AllocError, Global};
 use std::thread;
@@ -38,7 +38,7 @@ fn least_of(
 
 /// The least fault between the decisions and the partitions' logs, or none, in as many shards as there are workers. Each shard may
 /// have a thread of its own; with one no thread is started.
-pub(crate) fn least_fault<R: Threads + Sync>(
+fn least_of_shards<R: Threads + Sync>(
     alloc: Global,
     rt: &R,
     table: &TxnTable,
@@ -55,4 +55,21 @@ pub(crate) fn least_fault<R: Threads + Sync>(
         &|shard| { match_shard(alloc, table, parts, shard as u32, shards) },
     )?;
     least_of(answers)
+}
+
+/// The same; where the quick walk finds that all agree, no shard is looked at.
+pub(crate) fn least_fault<R: Threads + Sync>(
+    alloc: Global,
+    rt: &R,
+    table: &TxnTable,
+    parts: &[Part],
+    workers: Workers,
+) -> Result<Option<MatchFault>, AllocError>
+    ensures { IfOk result (IsLeastOrNone fault_cmp (Stands table.now parts.now)) }
+{
+    let matched = are_matched(alloc, rt, workers, table, parts)?;
+    if matched {
+        return Ok(None);
+    }
+    least_of_shards(alloc, rt, table, parts, workers)
 }

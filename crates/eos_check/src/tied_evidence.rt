@@ -1,6 +1,6 @@
 //! An evidence whose pieces a type names.
 
-use eos_board_core::Pieces;
+use eos_board::Pieces;
 use eos_evidence::Evidence;
 use std::marker::{Model, PhantomData};
 

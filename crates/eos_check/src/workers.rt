@@ -10,7 +10,7 @@ use crate::parts::parts_from;
 use crate::pool::{Staff, runs_of};
 use crate::tied_evidence::TiedEvidence;
 use crate::verdict::Verdict;
-use eos_board_core::{Gate, Pieces};
+use eos_board::{Gate, Pieces};
 use eos_evidence::Evidence;
 use eos_partitions::Logs;
 use eos_workers::Workers;

@@ -1,5 +1,5 @@
 -- The answer to what a folder holds is that to the evidence that stands there.
-use Rattle.std.proofs.Common.{◌≡◌, ◌<◌, ℕ, Bool, true, false, List, [], length, Option, Some, option_map, string_bytes, refl, sym, subst, ◌∙◌}
+use Rattle.std.proofs.Common.{◌≡◌, ◌<◌, ℕ, Bool, true, false, List, [], length, Option, Some, string_bytes, refl, sym, subst, ◌∙◌}
 use Rattle.std.specs.Io.KnownBytes.{Appends}
 use Rattle.eos_disk.specs.Entries.{Entry}
 use Rattle.eos_ending.specs.declared.subject.Subject.{Subject}
@@ -11,8 +11,7 @@ use Rattle.eos_folder_source.specs.Logs.{is_log_at}
 use Rattle.eos_folder_source.specs.Saying.{said_at, known_at, StandsAt}
 use Rattle.eos_folder.proofs.OneShape.{one_shape}
 use Rattle.eos_folder_source.proofs.SameShape.{holds_of_known}
-use Rattle.eos_json_report.specs.declared.about.About.{About}
-use Rattle.eos_notes.specs.Lines.{IsNotesText}
+use Rattle.eos_notes.specs.Lines.{IsAllNotesText}
 use Rattle.eos_source.specs.Said.{Said, Known, known_by}
 use Rattle.eos_source.specs.Shapes.{IsOfShape}
 use Rattle.eos_source_faults.specs.Again.{AreThere}
@@ -20,6 +19,7 @@ use Rattle.eos_source_faults.proofs.KnownAgain.{there}
 use Rattle.eos_text.specs.Writing.{WritesFront, WritesFrontOf}
 use Rattle.eos_checking.specs.Checking.{IsCheckAnswer, IsReportAsked}
 use Rattle.eos_checking.specs.Demands.{IsUnmetText}
+use Rattle.eos_checking.specs.declared.check.Wanted.{Wanted}
 use Rattle.eos_checking.specs.declared.terms.Terms.{Terms}
 use Rattle.eos_checking.specs.Folders.{IsToldOf, HoldsAsRead, HoldsOf}
 use Rattle.eos_checking.specs.Sources.{IsAnswerFor, IsSourceAnswer, IsListAnswer}
@@ -31,7 +31,7 @@ Told = told.Said
 
 -- ---- of the first fault alone, and of all
 
-pub of_first : (known : ℕ → Known) (shape : EvidenceParts) (subject : Subject) (json all quiet : Bool) (terms : Terms) (about : Option About) (answer : SourceAnswer) → all ≡ false
+pub of_first : (known : ℕ → Known) (shape : EvidenceParts) (subject : Subject) (json all quiet : Bool) (terms : Terms) (about : Option Wanted) (answer : SourceAnswer) → all ≡ false
     → IsSourceAnswer known shape subject json quiet terms about answer → HoldsAsRead known shape all (IsAnswerFor subject json all quiet terms about answer)
 of_first known shape subject json all quiet terms about answer first h =
     record {
@@ -45,7 +45,7 @@ of_first known shape subject json all quiet terms about answer first h =
       };
     }
 
-pub of_list : (known : ℕ → Known) (shape : EvidenceParts) (subject : Subject) (json all quiet : Bool) (terms : Terms) (about : Option About) (answer : SourceAnswer) → all ≡ true
+pub of_list : (known : ℕ → Known) (shape : EvidenceParts) (subject : Subject) (json all quiet : Bool) (terms : Terms) (about : Option Wanted) (answer : SourceAnswer) → all ≡ true
     → IsListAnswer known shape subject json quiet terms about answer → HoldsAsRead known shape all (IsAnswerFor subject json all quiet terms about answer)
 of_list known shape subject json all quiet terms about answer every h =
     record {
@@ -93,20 +93,20 @@ folder_of holds folder shape forms all Holds is each = record { shape = shape; f
 
 -- ---- what is written
 
-told_for : (subject : Subject) (json all quiet : Bool) (terms : Terms) (about : Option About) (answer : SourceAnswer) (old new : Option (List ℕ)) (said : Told) (e : EvidenceParts) → said.status ≡ answer.status
-    → string_bytes said.notes ≡ string_bytes answer.notes → string_bytes said.unmet ≡ string_bytes answer.unmet → option_map string_bytes said.report ≡ option_map string_bytes answer.report
+told_for : (subject : Subject) (json all quiet : Bool) (terms : Terms) (about : Option Wanted) (answer : SourceAnswer) (old new : Option (List ℕ)) (said : Told) (e : EvidenceParts) → said.status ≡ answer.status
+    → string_bytes said.notes ≡ string_bytes answer.notes → string_bytes said.unmet ≡ string_bytes answer.unmet → said.report ≡ answer.report
     → Appends old new (string_bytes answer.lines) → IsAnswerFor subject json all quiet terms about answer e → IsToldOf subject json all quiet terms about old new said e
 told_for subject json all quiet terms about answer old new said e status notes unmet report written is =
     record {
       is_evidence = is.is_evidence;
       lines = (string_bytes answer.lines, subst (IsCheckAnswer (subject_text subject) e json all terms.demands (string_bytes answer.lines)) (sym status) is.lines, written);
-      notes = subst (IsNotesText e quiet) (sym notes) is.notes;
+      notes = subst (IsAllNotesText e quiet) (sym notes) is.notes;
       unmet = subst (IsUnmetText e terms) (sym unmet) is.unmet;
       report = subst (IsReportAsked e all about) (sym report) is.report;
     }
 
-pub told_of : (holds : List ℕ → Entry) (folder : List ℕ) (subject : Subject) (json all quiet : Bool) (terms : Terms) (about : Option About) (answer : SourceAnswer) (old new : Option (List ℕ)) (said : Told)
-    → said.status ≡ answer.status → string_bytes said.notes ≡ string_bytes answer.notes → string_bytes said.unmet ≡ string_bytes answer.unmet → option_map string_bytes said.report ≡ option_map string_bytes answer.report
+pub told_of : (holds : List ℕ → Entry) (folder : List ℕ) (subject : Subject) (json all quiet : Bool) (terms : Terms) (about : Option Wanted) (answer : SourceAnswer) (old new : Option (List ℕ)) (said : Told)
+    → said.status ≡ answer.status → string_bytes said.notes ≡ string_bytes answer.notes → string_bytes said.unmet ≡ string_bytes answer.unmet → said.report ≡ answer.report
     → Appends old new (string_bytes answer.lines) → HoldsOf holds folder all (IsAnswerFor subject json all quiet terms about answer) → HoldsOf holds folder all (IsToldOf subject json all quiet terms about old new said)
 told_of holds folder subject json all quiet terms about answer old new said status notes unmet report written h =
     record {
@@ -117,7 +117,7 @@ told_of holds folder subject json all quiet terms about answer old new said stat
           (IsToldOf subject json all quiet terms about old new said) (λ e is. told_for subject json all quiet terms about answer old new said e status notes unmet report written is) h.each;
     }
 
-pub front_of : (holds : List ℕ → Entry) (folder : List ℕ) (subject : Subject) (json all quiet : Bool) (terms : Terms) (about : Option About) (answer : SourceAnswer) (old new : Option (List ℕ))
+pub front_of : (holds : List ℕ → Entry) (folder : List ℕ) (subject : Subject) (json all quiet : Bool) (terms : Terms) (about : Option Wanted) (answer : SourceAnswer) (old new : Option (List ℕ))
     → WritesFront old new (string_bytes answer.lines) → HoldsOf holds folder all (IsAnswerFor subject json all quiet terms about answer)
     → HoldsOf holds folder all (λ e. WritesFrontOf (IsCheckAnswer (subject_text subject) e json all terms.demands) old new)
 front_of holds folder subject json all quiet terms about answer old new front h =

@@ -1,4 +1,3 @@
-pub mod VerdictLines
 pub mod Exits
 pub mod Reports
 pub mod SourceAnswers

@@ -1,5 +1,5 @@
 -- What is told of kept logs is true of the evidence whose logs they are kept of.
-use Rattle.std.proofs.Common.{◌≡◌, ℕ, Bool, true, false, List, [], Option, option_map, is_some, refl, sym, subst, string_bytes}
+use Rattle.std.proofs.Common.{◌≡◌, ℕ, Bool, true, false, List, [], Option, is_some, refl, sym, subst, string_bytes}
 use Rattle.eos_check.specs.declared.verdict.Fault.{Fault}
 use Rattle.eos_check.specs.declared.verdict.Verdict.{Verdict}
 use Rattle.eos_check.specs.declared.verdict.Verdict.TheVariants.{Yes, No}
@@ -9,18 +9,18 @@ use Rattle.eos_evidence.specs.declared.partition.Partition.{Partition}
 use Rattle.eos_evidence.specs.Evidence.{EvidenceParts}
 use Rattle.eos_evidence.specs.Parts.{Parts}
 use Rattle.eos_fold.specs.Parts.{PartLog}
-use Rattle.eos_json_report.specs.declared.about.About.{About}
-use Rattle.eos_notes.specs.Lines.{IsNotesTextBy}
-use Rattle.eos_notes.specs.Notes.{AreNotesBy}
+use Rattle.eos_notes.specs.Lines.{IsAllNotesTextBy}
+use Rattle.eos_notes.specs.Notes.{AreAllNotesBy}
 use Rattle.eos_partitions.specs.Faults.{first_of}
 use Rattle.eos_wanted.specs.Wanted.{wanted_logs}
-use Rattle.eos_wanted_notes.proofs.KeptNotes.{whole_text, whole_notes, kept_in_order}
+use Rattle.eos_wanted_notes.proofs.KeptNotes.{whole_all_text, whole_all, kept_in_order}
 use Rattle.eos_source.specs.Said.{Known}
 use Rattle.eos_source_faults.specs.Again.{AreAgain, AreThere}
 use Rattle.eos_source_check.specs.declared.judged.Judged.{Judged}
 use Rattle.eos_source_check.specs.Judged.{IsJudgedFor, IsJudgedOf}
 use Rattle.eos_checking.specs.Checking.{AreTold}
 use Rattle.eos_checking.specs.Demands.{IsNoted}
+use Rattle.eos_checking.specs.declared.check.Wanted.{Wanted}
 use Rattle.eos_checking.specs.declared.terms.Terms.{Terms}
 use Rattle.eos_checking.specs.Sources.{IsAnswerFor, IsSourceAnswer, IsListAnswer}
 use Rattle.eos_checking.specs.declared.source.SourceAnswer.{SourceAnswer}
@@ -31,32 +31,33 @@ told_alone : (e : EvidenceParts) (v : Verdict) → AreTold e false v (first_alon
 told_alone e (Yes counts) = refl
 told_alone e (No first) = refl
 
-answer_for : (shape e : EvidenceParts) (subject : Subject) (json all quiet : Bool) (terms : Terms) (about : Option About) (judged : Judged) (faults : List Fault) (answer : SourceAnswer) → e.spec ≡ shape.spec
+answer_for : (shape e : EvidenceParts) (subject : Subject) (json all quiet : Bool) (terms : Terms) (about : Option Wanted) (judged : Judged) (faults : List Fault) (answer : SourceAnswer) → e.spec ≡ shape.spec
     → IsJudgedFor judged e → AreTold e all judged.verdict faults → TellsOf shape.spec judged faults subject json all quiet terms about answer → IsAnswerFor subject json all quiet terms about answer e
 answer_for shape e subject json all quiet terms about judged faults answer spec j told t =
     let k = j.logs in
     let faulty = is_some (first_of judged.logs.faults.items) in
     let order : AreInOrder judged.logs.parts.items = subst AreInOrder (sym k.parts) (kept_in_order e k.whole j.is_evidence k.of) in
-    let over_kept : IsNotesTextBy shape.spec (wanted_logs e.spec.apps k.whole) faulty quiet (string_bytes answer.notes) =
-    subst (λ (ls : List PartLog). IsNotesTextBy shape.spec ls faulty quiet (string_bytes answer.notes)) k.parts (t.notes order) in
+    let epochs = judged.epochs.items in
+    let over_kept : IsAllNotesTextBy shape.spec (wanted_logs e.spec.apps k.whole) epochs faulty quiet (string_bytes answer.notes) =
+    subst (λ (ls : List PartLog). IsAllNotesTextBy shape.spec ls epochs faulty quiet (string_bytes answer.notes)) k.parts (t.notes order) in
     let status = t.status order in
-    let noted : (n : Bool) → IsNotedBy shape.spec judged.logs.parts.items faulty n → IsNoted e n =
+    let noted : (n : Bool) → IsNotedBy shape.spec judged.logs.parts.items epochs faulty n → IsNoted e n =
     λ n by.
-    let over : AreNotesBy shape.spec (wanted_logs e.spec.apps k.whole) faulty by.notes = subst (λ (ls : List PartLog). AreNotesBy shape.spec ls faulty by.notes) k.parts by.by in
-    let whole : AreNotesBy e.spec (wanted_logs e.spec.apps k.whole) faulty by.notes =
-    subst (λ (s : Parts). AreNotesBy s (wanted_logs e.spec.apps k.whole) faulty by.notes) (sym spec) over in
-    record { notes = by.notes; are = whole_notes e k.whole judged.logs.faults.items by.notes k.of k.faults whole; is = by.is } in
-    let by : IsNotesTextBy e.spec (wanted_logs e.spec.apps k.whole) faulty quiet (string_bytes answer.notes) =
-    subst (λ (s : Parts). IsNotesTextBy s (wanted_logs e.spec.apps k.whole) faulty quiet (string_bytes answer.notes)) (sym spec) over_kept in
+    let over : AreAllNotesBy shape.spec (wanted_logs e.spec.apps k.whole) epochs faulty by.notes = subst (λ (ls : List PartLog). AreAllNotesBy shape.spec ls epochs faulty by.notes) k.parts by.by in
+    let whole : AreAllNotesBy e.spec (wanted_logs e.spec.apps k.whole) epochs faulty by.notes =
+    subst (λ (s : Parts). AreAllNotesBy s (wanted_logs e.spec.apps k.whole) epochs faulty by.notes) (sym spec) over in
+    record { notes = by.notes; are = whole_all e k.whole judged.logs.faults.items epochs by.notes k.of k.faults j.epochs whole; is = by.is } in
+    let by : IsAllNotesTextBy e.spec (wanted_logs e.spec.apps k.whole) epochs faulty quiet (string_bytes answer.notes) =
+    subst (λ (s : Parts). IsAllNotesTextBy s (wanted_logs e.spec.apps k.whole) epochs faulty quiet (string_bytes answer.notes)) (sym spec) over_kept in
     record {
       is_evidence = j.is_evidence;
       lines = record { verdict = judged.verdict; faults = faults; is = j.verdict; told = told; lines = t.lines; noted = status.noted; notes = λ strict. noted status.noted (status.notes strict); exit = status.is };
-      notes = whole_text e k.whole judged.logs.faults.items quiet (string_bytes answer.notes) k.of k.faults by;
+      notes = whole_all_text e k.whole judged.logs.faults.items epochs quiet (string_bytes answer.notes) k.of k.faults j.epochs by;
       unmet = (judged.verdict, j.verdict, t.unmet);
-      report = kept_report e shape.spec judged all faults about (option_map string_bytes answer.report) spec k j.counted j.verdict told (t.report order);
+      report = kept_report e shape.spec judged all faults about answer.report spec k j.counted j.epochs j.verdict told (t.report order);
     }
 
-pub answer_is : (known : ℕ → Known) (shape : EvidenceParts) (subject : Subject) (json quiet : Bool) (terms : Terms) (about : Option About) (judged : Judged) (answer : SourceAnswer)
+pub answer_is : (known : ℕ → Known) (shape : EvidenceParts) (subject : Subject) (json quiet : Bool) (terms : Terms) (about : Option Wanted) (judged : Judged) (answer : SourceAnswer)
     → IsJudgedOf known shape judged → TellsOf shape.spec judged (first_alone judged.verdict) subject json false quiet terms about answer → IsSourceAnswer known shape subject json quiet terms about answer
 answer_is known shape subject json quiet terms about judged answer j t =
     record {
@@ -85,7 +86,7 @@ listed known shape judged (No first) faults is list =
           (record { logs = j.logs.whole; of = j.logs.of; are = list.are e j.is_evidence spec j.logs there });
     }
 
-pub list_is : (known : ℕ → Known) (shape : EvidenceParts) (subject : Subject) (json quiet : Bool) (terms : Terms) (about : Option About) (judged : Judged) (faults : List Fault) (answer : SourceAnswer)
+pub list_is : (known : ℕ → Known) (shape : EvidenceParts) (subject : Subject) (json quiet : Bool) (terms : Terms) (about : Option Wanted) (judged : Judged) (faults : List Fault) (answer : SourceAnswer)
     → IsJudgedOf known shape judged → AreListed known shape judged judged.verdict faults → TellsOf shape.spec judged faults subject json true quiet terms about answer
     → IsListAnswer known shape subject json quiet terms about answer
 list_is known shape subject json quiet terms about judged faults answer j are t =

@@ -1,6 +1,5 @@
 -- What `check` prints for an evidence: the line of its verdict, or the lines of all its faults, as text or as JSON.
-use Rattle.std.specs.Prelude.{◌≡◌, ℕ, List, [], ◌∷◌, ◌++◌, Bool, true, false, codes, Option, None, Some, if◌then◌else◌}
-use Rattle.serde_json.specs.Written.{compact_text}
+use Rattle.std.specs.Prelude.{◌≡◌, ℕ, List, [], ◌∷◌, ◌++◌, Bool, true, false, Option, None, Some, option_map, string_bytes, if◌then◌else◌}
 use Rattle.eos_check.specs.declared.verdict.Fault.{Fault}
 use Rattle.eos_check.specs.declared.verdict.Verdict.{Verdict}
 use Rattle.eos_check.specs.declared.verdict.Verdict.TheVariants.{Yes, No}
@@ -9,16 +8,19 @@ use Rattle.eos_evidence.specs.Evidence.{EvidenceParts}
 use Rattle.eos_fold.specs.Parts.{PartLog}
 use Rattle.eos_lineage.specs.EvidenceLogs.{AreLogsOf}
 use Rattle.eos_all_faults.specs.AllFaults.{AreAllFaults}
-use Rattle.eos_json_report.specs.declared.about.About.{About}
+use Rattle.eos_json_report.specs.Lines.{json_line, list_json}
+use Rattle.eos_json_report.specs.Pages.{IsPageText}
 use Rattle.eos_json_report.specs.Reports.{IsReportText}
 use Rattle.eos_notes.specs.declared.note.Note.{Note}
-use Rattle.eos_notes.specs.Notes.{AreNotes}
-use Rattle.eos_report.specs.VerdictTexts.{verdict_line, verdict_value}
-use Rattle.eos_report.specs.FaultLists.{list_text, list_json}
+use Rattle.eos_notes.specs.Notes.{AreAllNotes}
+use Rattle.eos_report.specs.VerdictTexts.{verdict_line}
+use Rattle.eos_report.specs.FaultLists.{list_text}
 use Rattle.eos_tallies.specs.declared.tally.Tallies.{Tallies}
 use Rattle.eos_tallies.specs.Tallies.{AreTallies}
 use Rattle.eos_words.specs.declared.demands.Demands.{Demands}
 use Rattle.eos_checking.specs.Demands.{IsNoted, exit_status}
+use Rattle.eos_checking.specs.declared.check.Made.{Made}
+use Rattle.eos_checking.specs.declared.check.Wanted.{Wanted}
 
 -- ---- the faults that are told
 
@@ -38,7 +40,7 @@ AreTold e true (No first) faults = IsWhole e faults
 
 -- the line, as JSON or as text
 abbrev pub verdict_answer : Bool → Verdict → List ℕ
-verdict_answer json verdict = if json then compact_text (verdict_value verdict) ++ codes "\n" else verdict_line verdict
+verdict_answer json verdict = if json then json_line verdict else verdict_line verdict
 
 abbrev pub list_answer : List ℕ → Bool → List Fault → List ℕ
 list_answer about json faults = if json then list_json about faults else list_text about faults
@@ -60,20 +62,31 @@ pub record IsCheckAnswer (about : List ℕ) (e : EvidenceParts) (json all : Bool
   pub notes : demands.strict ≡ true → IsNoted e noted
   pub exit : status ≡ exit_status demands verdict noted
 
--- a report on this evidence: its JSON value is that of the verdict, of the faults that are told, of the notes and of the tables
-pub record IsReport (e : EvidenceParts) (all : Bool) (about : About) (text : List ℕ) : Type 0 where
+-- a text that says so where it is wanted, and else none
+abbrev pub IsMadeIf : Bool → (List ℕ → Type 0) → Option (List ℕ) → Type 0
+IsMadeIf false Says made = made ≡ None
+IsMadeIf true Says None = ⊥
+IsMadeIf true Says (Some text) = Says text
+
+-- what is wanted of these beside the answer: the report, whose JSON value is theirs, and the page that says them
+pub record AreMade (wanted : Wanted) (verdict : Verdict) (faults : List Fault) (notes : List Note) (tallies : Tallies) (made : Made) : Type 0 where
+  pub report : IsMadeIf wanted.report (IsReportText wanted.about verdict faults notes tallies) (option_map string_bytes made.report)
+  pub page : IsMadeIf wanted.page (IsPageText wanted.about verdict faults notes tallies) (option_map string_bytes made.page)
+
+-- a report on this evidence and a page, as they are wanted: of the verdict, of the faults that are told, of the notes and of the tables
+pub record IsReport (e : EvidenceParts) (all : Bool) (wanted : Wanted) (made : Made) : Type 0 where
   pub verdict : Verdict
   pub faults : List Fault
   pub told : AreTold e all verdict faults
   pub notes : List Note
   pub is : IsVerdict e verdict
-  pub are : AreNotes e notes
+  pub are : AreAllNotes e notes
   pub tallies : Tallies
   pub tabled : AreTallies e tallies
-  pub says : IsReportText about verdict faults notes tallies text
+  pub says : AreMade wanted verdict faults notes tallies made
 
--- one where it is wanted, and else none
-abbrev pub IsReportAsked : EvidenceParts → Bool → Option About → Option (List ℕ) → Type 0
-IsReportAsked e all None text = text ≡ None
-IsReportAsked e all (Some about) None = ⊥
-IsReportAsked e all (Some about) (Some text) = IsReport e all about text
+-- them where anything is wanted, and else none
+abbrev pub IsReportAsked : EvidenceParts → Bool → Option Wanted → Option Made → Type 0
+IsReportAsked e all None made = made ≡ None
+IsReportAsked e all (Some wanted) None = ⊥
+IsReportAsked e all (Some wanted) (Some made) = IsReport e all wanted made

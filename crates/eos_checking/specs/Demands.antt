@@ -8,7 +8,7 @@ use Rattle.eos_check.specs.declared.verdict.Verdict.TheVariants.{Yes, No}
 use Rattle.eos_check.specs.Verdicts.{IsVerdict}
 use Rattle.eos_evidence.specs.Evidence.{EvidenceParts}
 use Rattle.eos_notes.specs.declared.note.Note.{Note}
-use Rattle.eos_notes.specs.Notes.{AreNotes}
+use Rattle.eos_notes.specs.Notes.{AreAllNotes}
 use Rattle.eos_report.specs.VerdictTexts.{status_of}
 use Rattle.eos_words.specs.declared.demands.Demands.{Demands}
 use Rattle.eos_checking.specs.declared.terms.Terms.{Terms}
@@ -18,7 +18,7 @@ use Rattle.eos_checking.specs.declared.terms.Terms.{Terms}
 -- whether a note stands beside the verdict
 pub record IsNoted (e : EvidenceParts) (noted : Bool) : Type 0 where
   pub notes : List Note
-  pub are : AreNotes e notes
+  pub are : AreAllNotes e notes
   pub is : noted ≡ not (length notes == 0)
 
 -- whether a count is another one than is expected

@@ -1,6 +1,6 @@
 -- What `check` writes and tells of a folder: it is true of the evidence that stands there. Where all faults are told, some partitions
 -- may have been read again: of a disk of which nothing is known it is then true of an evidence that has these as they were read again.
-use Rattle.std.specs.Prelude.{◌≡◌, ℕ, Bool, false, List, [], Option, string_bytes, option_map}
+use Rattle.std.specs.Prelude.{◌≡◌, ℕ, Bool, false, List, [], Option, string_bytes}
 use Rattle.eos_ending.specs.declared.subject.Subject.{Subject}
 use Rattle.eos_ending.specs.Subjects.{subject_text}
 use Rattle.eos_evidence.specs.declared.partition.Partition.{Partition}
@@ -9,24 +9,24 @@ use Rattle.eos_disk.specs.Entries.{Entry}
 use Rattle.eos_folder.specs.declared.names.Form.{Form}
 use Rattle.eos_folder.specs.Shapes.{IsShapeAt}
 use Rattle.eos_folder_source.specs.Saying.{known_at}
-use Rattle.eos_json_report.specs.declared.about.About.{About}
-use Rattle.eos_notes.specs.Lines.{IsNotesText}
+use Rattle.eos_notes.specs.Lines.{IsAllNotesText}
 use Rattle.eos_source.specs.Said.{Known}
 use Rattle.eos_source.specs.Shapes.{HoldsAsSaid}
 use Rattle.eos_source_faults.specs.Again.{AreAgain, AreThere}
 use Rattle.eos_text.specs.Writing.{Writes}
 use Rattle.eos_checking.specs.Checking.{IsCheckAnswer, IsReportAsked}
 use Rattle.eos_checking.specs.Demands.{IsUnmetText}
+use Rattle.eos_checking.specs.declared.check.Wanted.{Wanted}
 use Rattle.eos_checking.specs.declared.terms.Terms.{Terms}
 use Rattle.eos_checking.specs.declared.check.Said.{Said}
 
 -- the answer to this evidence was written, and what else is told is true of it
-pub record IsToldOf (subject : Subject) (json all quiet : Bool) (terms : Terms) (about : Option About) (old new : Option (List ℕ)) (said : Said) (evidence : EvidenceParts) : Type 0 where
+pub record IsToldOf (subject : Subject) (json all quiet : Bool) (terms : Terms) (about : Option Wanted) (old new : Option (List ℕ)) (said : Said) (evidence : EvidenceParts) : Type 0 where
   pub is_evidence : IsEvidence evidence
   pub lines : Writes (IsCheckAnswer (subject_text subject) evidence json all terms.demands) old new said.status
-  pub notes : IsNotesText evidence quiet (string_bytes said.notes)
+  pub notes : IsAllNotesText evidence quiet (string_bytes said.notes)
   pub unmet : IsUnmetText evidence terms (string_bytes said.unmet)
-  pub report : IsReportAsked evidence all about (option_map string_bytes said.report)
+  pub report : IsReportAsked evidence all about said.report
 
 -- so it is with each evidence of this shape whose segments are such as the pieces said, and, where all faults are told, which has the
 -- partitions as they were read again

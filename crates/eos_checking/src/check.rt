@@ -1,14 +1,14 @@
 //! What is asked of `check`, and the lines that answer.
 
-ghost use Rattle.std.specs.Prelude.{◌≡◌, ◌++◌, true, IfOk, string_bytes};
+ghost use Rattle.std.specs.Prelude.{◌≡◌, ◌++◌, IfOk, string_bytes};
 ghost use Rattle.eos_ending.specs.Subjects.{subject_text};
 ghost use Rattle.eos_checking.specs.Checking.{verdict_answer, list_answer, answer_text};
 
 use crate::terms::Terms;
 use eos_check::{Fault, Verdict};
 use eos_ending::Subject;
-use eos_json_report::About;
-use eos_report::{fault_list, fault_list_json, verdict_json, verdict_line};
+use eos_json_report::{About, fault_list_json, json_line};
+use eos_report::{fault_list, verdict_line};
 use eos_text::{push_text, push_value};
 use eos_workers::Workers;
 use std::alloc::{AllocError, Global};
@@ -29,8 +29,26 @@ pub struct Asked<'a, T> {
     pub terms: Terms<'a>,
     /// Which of several folders it is about.
     pub subject: Subject<'a>,
-    /// What a report says of the run, if one is wanted.
-    pub report: Option<About<'a>>,
+    /// What is made of it beside the answer, if anything is wanted.
+    pub report: Option<Wanted<'a>>,
+}
+
+/// What is made of a check beside its answer.
+#[derive(Clone, Copy)]
+pub struct Wanted<'a> {
+    /// What is said in it of the run.
+    pub about: About<'a>,
+    /// Whether a report is wanted, for programs.
+    pub report: bool,
+    /// Whether a page is wanted, for people.
+    pub page: bool,
+}
+
+/// What was made of a check beside its answer, as it was wanted.
+#[derive(Drop)]
+pub struct Made {
+    pub report: Option<String>,
+    pub page: Option<String>,
 }
 
 /// What is left to be told after the answer was written.
@@ -42,8 +60,8 @@ pub struct Said {
     pub notes: String,
     /// The lines of the counts that aren't the expected ones.
     pub unmet: String,
-    /// The report, if one was wanted.
-    pub report: Option<String>,
+    /// What was made beside it, if anything was wanted.
+    pub report: Option<Made>,
 }
 
 /// The faults that are told, which are all or the first alone.
@@ -119,13 +137,4 @@ fn answer_line(alloc: Global, verdict: &Verdict, json: bool) -> Result<String, A
     } else {
         verdict_line(alloc, verdict)
     }
-}
-
-fn json_line(alloc: Global, verdict: &Verdict) -> Result<String, AllocError>
-    ensures { IfOk result (λ line. string_bytes line ≡ verdict_answer true verdict.now) }
-{
-    let value = verdict_json(alloc, verdict)?;
-    let mut line = value.to_string(alloc)?;
-    line.push_str("\n")?;
-    Ok(line)
 }

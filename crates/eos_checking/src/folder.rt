@@ -1,6 +1,6 @@
 //! `check` of a folder: from the bytes of its files to the lines that are written.
 
-ghost use Rattle.std.specs.Prelude.{◌≡◌, ◌≢◌, Err, IfOk, IfErr, OnErr, option_map, string_bytes};
+ghost use Rattle.std.specs.Prelude.{◌≡◌, ◌≢◌, Err, IfOk, IfErr, OnErr, string_bytes};
 ghost use Rattle.std.specs.Io.KnownBytes.{Appends, Keeps};
 ghost use Rattle.eos_ending.specs.Subjects.{subject_text};
 ghost use Rattle.eos_evidence.specs.Evidence.{EvidenceParts, segments_of};
@@ -115,7 +115,7 @@ fn told<W: Write>(writer: &mut W, answer: SourceAnswer) -> Result<Said, WriteFau
     ensures status { IfOk result (λ said. said.status ≡ answer.status) }
     ensures notes { IfOk result (λ said. string_bytes said.notes ≡ string_bytes answer.notes) }
     ensures unmet { IfOk result (λ said. string_bytes said.unmet ≡ string_bytes answer.unmet) }
-    ensures report { IfOk result (λ said. option_map string_bytes said.report ≡ option_map string_bytes answer.report) }
+    ensures report { IfOk result (λ said. said.report ≡ answer.report) }
     ensures lines { IfOk result (λ said. Appends (W.contents writer.old) (W.contents writer.new) (string_bytes answer.lines)) }
     ensures front { OnErr result (WritesFront (W.contents writer.old) (W.contents writer.new) (string_bytes answer.lines)) }
 {

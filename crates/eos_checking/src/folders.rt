@@ -1,8 +1,8 @@
 //! `check` of folders: reads them one after the other, and tells of each its verdict and what else is wanted.
 
-use crate::check::{Asked, Said};
+use crate::check::{Asked, Made, Said, Wanted};
 use crate::folder::{Folder, Unchecked, check_folder_to};
-use crate::report_file::{begin_report, end_report, print_report};
+use crate::report_file::{ReportFile, begin_report, end_report, print_report};
 use crate::terms::Terms;
 use eos_disk::HostDisk;
 use eos_ending::{
@@ -24,10 +24,39 @@ struct Work<'w, 'a> {
     demands: Demands,
 }
 
-/// Checks the folders of evidence that the words name, writes the report of one, if that is asked for, and gives the exit status.
-pub fn check_words(rt: &HostRuntime, threads: &(impl Threads + Sync), words: &Check<'_>) -> u8 {
+/// Why the words don't fit each other, as a line says it.
+fn misfit(words: &Check<'_>) -> Option<&'static str> {
     if words.report.is_some() && words.folders.len() > 1 {
-        let _ = eprint!(rt; "eoscheck: check --report takes one FOLDER\n");
+        return Some("check --report takes one FOLDER");
+    }
+    match words.page {
+        Some(page) => misfit_of_page(words, page),
+        None if words.force && words.report.is_none() => Some(
+            "check --force goes with --report or --page",
+        ),
+        None => None,
+    }
+}
+
+fn misfit_of_page(words: &Check<'_>, page: &str) -> Option<&'static str> {
+    if words.folders.len() > 1 {
+        return Some("check --page takes one FOLDER");
+    }
+    if page == STANDARD {
+        return Some("check --page takes a FILE, not -");
+    }
+    match words.report {
+        Some(report) if report == page => Some("check --report and --page take two FILEs"),
+        _ => None,
+    }
+}
+
+/// Checks the folders of evidence that the words name, writes the report and the page of one, if that is asked for, and gives the exit
+/// status.
+#[inline(never)]
+pub fn check_words(rt: &HostRuntime, threads: &(impl Threads + Sync), words: &Check<'_>) -> u8 {
+    if let Some(why) = misfit(words) {
+        let _ = eprint!(rt; "eoscheck: {why}\n");
         return 2;
     }
     let demands = match words.demands {
@@ -35,29 +64,86 @@ pub fn check_words(rt: &HostRuntime, threads: &(impl Threads + Sync), words: &Ch
         Err(word) => return end(rt, Ending::Unfit(word, EXPECTATIONS)),
     };
     let work = Work { words, demands };
-    match words.report {
-        None => check_folders(rt, threads, work).status,
-        Some(STANDARD) => {
+    match begin_files(rt, words.report, words.page, words.force) {
+        Err(status) => status,
+        Ok(files) => {
             let done = check_folders(rt, threads, work);
-            print_report(rt, done.report, done.status)
+            end_files(rt, files, done)
         }
-        Some(path) => check_and_report(rt, threads, work, path),
     }
 }
 
-/// The same, with the report written to this path.
-fn check_and_report(
-    rt: &HostRuntime,
-    threads: &(impl Threads + Sync),
-    work: Work<'_, '_>,
-    path: &str,
-) -> u8 {
-    match begin_report(rt, path, work.words.force) {
-        Err(status) => status,
-        Ok(begun) => {
-            let done = check_folders(rt, threads, work);
-            end_report(rt, begun, done.report, done.status)
+/// The files that are made of a check, begun before it.
+#[derive(Drop)]
+struct Files<'a> {
+    /// That of the report, unless it is printed.
+    report: Option<ReportFile<'a>>,
+    page: Option<ReportFile<'a>>,
+}
+
+/// Begins the files that are asked for. Where one can't be begun, there is none, and it is said why.
+fn begin_files<'a>(
+    rt: &'a HostRuntime,
+    report: Option<&'a str>,
+    page: Option<&'a str>,
+    force: bool,
+) -> Result<Files<'a>, u8> {
+    let report = match report {
+        None => None,
+        Some(STANDARD) => None,
+        Some(path) => Some(begin_report(rt, path, force)?),
+    };
+    let Some(path) = page else {
+        return Ok(Files { report, page: None });
+    };
+    match begin_report(rt, path, force) {
+        Ok(page) => Ok(Files {
+            report,
+            page: Some(page),
+        }),
+        Err(status) => {
+            let _ = end_if_begun(rt, report, None, status);
+            Err(status)
         }
+    }
+}
+
+/// Ends the files that were begun, or drops them where nothing was made, and gives the exit status.
+fn end_files(rt: &HostRuntime, files: Files<'_>, done: Done) -> u8 {
+    let Done {
+        status,
+        report: made,
+        ..
+    } = done;
+    let (report, page) = texts_of(made);
+    let Files {
+        report: begun,
+        page: begun_page,
+    } = files;
+    let status = match begun {
+        Some(begun) => end_report(rt, begun, report, status),
+        None => print_report(rt, report, status),
+    };
+    end_if_begun(rt, begun_page, page, status)
+}
+
+/// The report's text and the page's.
+fn texts_of(made: Option<Made>) -> (Option<String>, Option<String>) {
+    match made {
+        Some(made) => (made.report, made.page),
+        None => (None, None),
+    }
+}
+
+fn end_if_begun(
+    rt: &HostRuntime,
+    begun: Option<ReportFile<'_>>,
+    text: Option<String>,
+    status: u8,
+) -> u8 {
+    match begun {
+        Some(begun) => end_report(rt, begun, text, status),
+        None => status,
     }
 }
 
@@ -95,8 +181,8 @@ struct Done {
     status: u8,
     /// Whether output can't be written, so that no further one is looked at.
     is_last: bool,
-    /// The report on it, if one was asked for.
-    report: Option<String>,
+    /// What was made of it beside its answer, if anything was asked for.
+    report: Option<Made>,
 }
 
 impl Done {
@@ -179,6 +265,20 @@ fn asked_by<'a, 'p>(
             demands: work.demands,
         },
         subject: progress.subject,
-        report: words.report.map(|_| about),
+        report: wanted_by(words, about),
+    }
+}
+
+/// What is asked for beside the answer, if anything is.
+fn wanted_by<'a>(words: &Check<'_>, about: About<'a>) -> Option<Wanted<'a>> {
+    let wanted = Wanted {
+        about,
+        report: words.report.is_some(),
+        page: words.page.is_some(),
+    };
+    if wanted.report || wanted.page {
+        Some(wanted)
+    } else {
+        None
     }
 }

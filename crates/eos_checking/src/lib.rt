@@ -1,4 +1,4 @@
-//! `check` as a command: reads folders of evidence, and tells of each the verdict, and all faults, notes and a report where these are
+//! `check` as a command: reads folders of evidence, and tells of each the verdict, and all faults, notes, a report and a page where these are
 //! wanted.
 #![tactic(auto)]
 
@@ -10,7 +10,7 @@ mod report_file;
 mod source;
 mod terms;
 
-pub use check::{Asked, Said};
+pub use check::{Asked, Made, Said, Wanted};
 pub use folder::{Folder, Unchecked, check_folder_to};
 pub use folders::check_words;
 pub use report::Timed;

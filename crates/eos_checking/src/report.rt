@@ -1,15 +1,21 @@
-//! The report of a check.
+//! What is made of a check beside its answer: the report and the page.
 
-ghost use Rattle.std.specs.Prelude.{IfOk, string_bytes};
+ghost use Rattle.std.specs.Prelude.{IfOk, option_map, string_bytes};
 ghost use Rattle.eos_commits.specs.Faults.{AreInOrder};
+ghost use Rattle.eos_json_report.specs.Pages.{IsPageText};
+ghost use Rattle.eos_json_report.specs.Reports.{IsReportText};
+ghost use Rattle.eos_checking.specs.Checking.{IsMadeIf};
 ghost use Rattle.eos_checking.specs.steps.Tellings.{IsReportBy};
 
+use crate::check::{Made, Wanted};
+use eos_base::Listed;
 use eos_check::{Fault, Verdict};
 use eos_ending::Progress;
 use eos_evidence::Spec;
-use eos_json_report::{About, Findings, Times, report_text};
-use eos_notes::notes;
+use eos_json_report::{Findings, Times, page_text, report_text};
+use eos_notes::all_notes;
 use eos_partitions::Logs;
+use eos_reading::EpochEntry;
 use eos_tallies::{Counted, tallies_of};
 use std::alloc::{AllocError, Global};
 
@@ -36,27 +42,59 @@ impl Timed for Progress<'_> {
     }
 }
 
-/// What a report is made of: a manifest, logs, whole or kept ones, with what is counted of their segments, and the verdict with the
-/// faults that are told.
+/// What a report is made of: a manifest, logs, whole or kept ones, with what is counted of their segments and the entries of their
+/// leader epochs, and the verdict with the faults that are told.
 #[derive(Clone, Copy)]
 pub(crate) struct Told<'a> {
     pub spec: &'a Spec,
     pub logs: &'a Logs,
     pub counted: &'a [Counted],
+    pub epochs: &'a [Listed<EpochEntry>],
     pub verdict: &'a Verdict,
     pub faults: &'a [Fault],
 }
 
-/// The report of these.
-pub(crate) fn text_of<T: Timed>(
+/// The report, where it is wanted.
+fn report_if(
+    alloc: Global,
+    wanted: Wanted<'_>,
+    found: Findings<'_>,
+    times: Times,
+) -> Result<Option<String>, AllocError>
+    ensures { IfOk result (λ made. IsMadeIf wanted.entry.report (IsReportText wanted.entry.about found.entry.verdict.now found.entry.faults.now found.entry.notes.now found.entry.tallies.now) (option_map string_bytes made)) }
+{
+    if !wanted.report {
+        return Ok(None);
+    }
+    let text = report_text(alloc, wanted.about, found, times)?;
+    Ok(Some(text))
+}
+
+/// The page, where it is wanted.
+fn page_if(
+    alloc: Global,
+    wanted: Wanted<'_>,
+    found: Findings<'_>,
+) -> Result<Option<String>, AllocError>
+    ensures { IfOk result (λ made. IsMadeIf wanted.entry.page (IsPageText wanted.entry.about found.entry.verdict.now found.entry.faults.now found.entry.notes.now found.entry.tallies.now) (option_map string_bytes made)) }
+{
+    if !wanted.page {
+        return Ok(None);
+    }
+    let text = page_text(alloc, wanted.about, found)?;
+    Ok(Some(text))
+}
+
+/// What is wanted of these.
+pub(crate) fn made_of<T: Timed>(
     alloc: Global,
     told: Told<'_>,
-    about: About<'_>,
+    wanted: Wanted<'_>,
     timed: &T,
-) -> Result<String, AllocError>
-    ensures { AreInOrder told.entry.logs.now.parts.items → IfOk result (λ text. IsReportBy told.entry about.entry (string_bytes text)) }
+) -> Result<Made, AllocError>
+    ensures { AreInOrder told.entry.logs.now.parts.items → IfOk result (IsReportBy told.entry wanted.entry) }
 {
-    let notes = notes(alloc, told.spec, told.logs)?;
+    let notes = all_notes(alloc, told.spec, told.logs, told.epochs)?;
     let tallies = tallies_of(alloc, told.spec, told.logs, told.counted)?;
     let findings = Findings {
         verdict: told.verdict,
@@ -64,6 +102,7 @@ pub(crate) fn text_of<T: Timed>(
         notes: notes.as_slice(),
         tallies: &tallies,
     };
-    let text = report_text(alloc, about, findings, timed.times())?;
-    Ok(text)
+    let report = report_if(alloc, wanted, findings, timed.times())?;
+    let page = page_if(alloc, wanted, findings)?;
+    Ok(Made { report, page })
 }

@@ -1,4 +1,4 @@
-//! Where a report goes: to the standard output, or to a file that is whole or not there.
+//! Where a report goes: to the standard output, or to a file that is whole or not there. So with a page.
 
 use eos_disk::{ChangeFault, Disk, DiskFault, DiskMut, HostDisk, HostFile, begin_file};
 use eos_ending::{Ending, STANDARD, end, end_unchanged, fill_file, leave_file, make_file};

@@ -1,21 +1,22 @@
 //! The answer of `check` for an evidence that is read from a source, chunk by chunk, of which no more is held than what it is worked
 //! out of.
 
-ghost use Rattle.std.specs.Prelude.{◌≡◌, ◌==◌, true, not, List, length, IfOk, is_some, option_map, string_bytes};
+ghost use Rattle.std.specs.Prelude.{◌≡◌, ◌==◌, true, not, List, length, IfOk, is_some, string_bytes};
 ghost use Rattle.eos_check.specs.declared.verdict.Fault.{Fault};
 ghost use Rattle.eos_commits.specs.Faults.{AreInOrder};
+ghost use Rattle.eos_notes.specs.Lines.{IsAllNotesTextBy};
+ghost use Rattle.eos_notes.specs.Notes.{AreAllNotesBy};
 ghost use Rattle.eos_partitions.specs.Faults.{first_of};
 ghost use Rattle.eos_source.specs.Said.{known_by};
 ghost use Rattle.eos_checking.specs.Sources.{IsSourceAnswer, IsListAnswer};
 ghost use Rattle.eos_checking.specs.steps.Tellings.{AreListed, TellsOf, ReportsOf, IsNotedBy, ExitsBy, first_alone};
 
-use crate::check::{Asked, Faults, lines_told};
-use crate::report::{Timed, Told, text_of};
+use crate::check::{Asked, Faults, Made, lines_told};
+use crate::report::{Timed, Told, made_of};
 use crate::terms::{exit_status, unmet_text};
 use eos_check::{Fault, Verdict};
 use eos_evidence::{Evidence, Spec};
-use eos_notes::{Note, lines_of, notes};
-use eos_partitions::Logs;
+use eos_notes::{Note, all_lines, all_notes};
 use eos_source::Source;
 use eos_source_check::{Judged, judge_source};
 use eos_source_faults::{Unlisted, all_source_faults};
@@ -43,8 +44,8 @@ pub struct SourceAnswer {
     pub notes: String,
     /// The lines of the counts that aren't the expected ones.
     pub unmet: String,
-    /// The report, if one was wanted.
-    pub report: Option<String>,
+    /// What was made beside it, if anything was wanted.
+    pub report: Option<Made>,
 }
 
 /// The fault that a verdict names, if it is a no.
@@ -57,28 +58,29 @@ fn faults_of(verdict: &Verdict) -> &[Fault]
     }
 }
 
-/// The report on what was judged, with these faults, if one is wanted.
+/// What is wanted beside the answer, of what was judged, with these faults.
 fn report_on<T: Timed>(
     alloc: Global,
     spec: &Spec,
     judged: &Judged,
     faults: &[Fault],
     asked: &Asked<'_, T>,
-) -> Result<Option<String>, AllocError>
-    ensures { AreInOrder judged.now.logs.parts.items → IfOk result (λ r. ReportsOf spec.now judged.now faults.now asked.now.report (option_map string_bytes r)) }
+) -> Result<Option<Made>, AllocError>
+    ensures { AreInOrder judged.now.logs.parts.items → IfOk result (ReportsOf spec.now judged.now faults.now asked.now.report) }
 {
     match asked.report {
         None => Ok(None),
-        Some(about) => {
+        Some(wanted) => {
             let told = Told {
                 spec,
                 logs: &judged.logs,
                 counted: judged.counted.as_slice(),
+                epochs: judged.epochs.as_slice(),
                 verdict: &judged.verdict,
                 faults,
             };
-            let text = text_of(alloc, told, about, asked.watch)?;
-            Ok(Some(text))
+            let made = made_of(alloc, told, wanted, asked.watch)?;
+            Ok(Some(made))
         }
     }
 }
@@ -90,15 +92,37 @@ fn any_stands(notes: &[Note]) -> bool
     !notes.is_empty()
 }
 
+/// The notes of what was judged.
+fn notes_of(alloc: Global, spec: &Spec, judged: &Judged) -> Result<Vec<Note>, AllocError>
+    ensures { AreInOrder judged.now.logs.parts.items
+        → IfOk result (λ notes. AreAllNotesBy spec.now judged.now.logs.parts.items judged.now.epochs.items (is_some (first_of judged.now.logs.faults.items)) notes.items) }
+{
+    all_notes(alloc, spec, &judged.logs, judged.epochs.as_slice())
+}
+
+/// The lines of these notes, or nothing where they are left out.
+fn note_lines_of(
+    alloc: Global,
+    spec: &Spec,
+    judged: &Judged,
+    quiet: bool,
+) -> Result<String, AllocError>
+    ensures { AreInOrder judged.now.logs.parts.items
+        → IfOk result (λ text. IsAllNotesTextBy spec.now judged.now.logs.parts.items judged.now.epochs.items (is_some (first_of judged.now.logs.faults.items)) quiet (string_bytes text)) }
+{
+    all_lines(alloc, spec, &judged.logs, judged.epochs.as_slice(), quiet)
+}
+
 /// Whether a note stands, where that counts.
 #[tactic(auto, using(crate::proofs::Exits::noted_is))]
-fn is_noted(alloc: Global, spec: &Spec, logs: &Logs, strict: bool) -> Result<bool, AllocError>
-    ensures { AreInOrder logs.now.parts.items → IfOk result (λ noted. strict ≡ true → IsNotedBy spec.now logs.now.parts.items (is_some (first_of logs.now.faults.items)) noted) }
+fn is_noted(alloc: Global, spec: &Spec, judged: &Judged, strict: bool) -> Result<bool, AllocError>
+    ensures { AreInOrder judged.now.logs.parts.items
+        → IfOk result (λ noted. strict ≡ true → IsNotedBy spec.now judged.now.logs.parts.items judged.now.epochs.items (is_some (first_of judged.now.logs.faults.items)) noted) }
 {
     if !strict {
         return Ok(false);
     }
-    let found = notes(alloc, spec, logs)?;
+    let found = notes_of(alloc, spec, judged)?;
     Ok(any_stands(found.as_slice()))
 }
 
@@ -112,7 +136,7 @@ fn status_of(
 ) -> Result<u8, AllocError>
     ensures { AreInOrder judged.now.logs.parts.items → IfOk result (ExitsBy spec.now judged.now demands) }
 {
-    let noted = is_noted(alloc, spec, &judged.logs, demands.strict)?;
+    let noted = is_noted(alloc, spec, judged, demands.strict)?;
     Ok(exit_status(demands, &judged.verdict, noted))
 }
 
@@ -127,7 +151,7 @@ fn told<T: Timed>(
     ensures { IfOk result (TellsOf spec.now judged.now faults.entry.told.now asked.now.subject asked.now.json faults.entry.all asked.now.quiet asked.now.terms asked.now.report) }
 {
     let lines = lines_told(alloc, &judged.verdict, faults, asked)?;
-    let notes = lines_of(alloc, spec, &judged.logs, asked.quiet)?;
+    let notes = note_lines_of(alloc, spec, judged, asked.quiet)?;
     let status = status_of(alloc, spec, judged, asked.terms.demands)?;
     let unmet = unmet_text(alloc, asked.terms, &judged.verdict)?;
     let report = report_on(alloc, spec, judged, faults.told, asked)?;

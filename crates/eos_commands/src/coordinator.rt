@@ -21,6 +21,7 @@ use std::io::Write;
 const MAX_PARTITIONS: u64 = i32::MAX as u64;
 
 /// Prints for each name that the words give which partition it has, and gives the exit status.
+#[inline(never)]
 pub fn print_coordinators(rt: &HostRuntime, words: &Coordinator<'_>) -> u8 {
     if words.names.is_empty() {
         return refuse(rt, "coordinator takes one NAME or several");

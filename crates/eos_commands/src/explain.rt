@@ -16,6 +16,7 @@ use std::io;
 use std::io::Write;
 
 /// Prints the catalogue's page of the kind of fault with this code, and gives the exit status.
+#[inline(never)]
 pub fn explain_code(rt: &HostRuntime, code: &str) -> u8 {
     match page_of(code) {
         Some(page) => {

@@ -7,6 +7,7 @@ use eos_folding_files::{Folded, FoldingFault, Given, fold_folders};
 use eos_words::Fold;
 
 /// Folds the segments of the folders that the words name, says on standard output how many, and gives the exit status.
+#[inline(never)]
 pub fn fold_partitions(rt: &HostRuntime, words: &Fold<'_>) -> u8 {
     let given = Given {
         manifest: words.manifest,

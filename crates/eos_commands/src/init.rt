@@ -16,6 +16,7 @@ const DOUBLED_ENDS: &str = "a partition has two ends";
 
 /// Writes the manifest of a folder, what is to be told of the logs on standard error, and how many partitions it has on
 /// standard output. Gives the exit status.
+#[inline(never)]
 pub fn init_folder(rt: &HostRuntime, words: &Init<'_>) -> u8 {
     if words.ends.is_some() == words.ends_from_logs {
         return refuse(rt, "init takes one of --ends FILE and --ends-from-logs");

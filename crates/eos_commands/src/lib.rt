@@ -1,5 +1,6 @@
 //! The commands that need no verdict: the listing of a segment and the check of its producers, the page of a kind of fault, the
-//! manifest of a folder of copied logs, which partition of Kafka's own two topics names have, and the folds of segments.
+//! manifest of a folder of copied logs, which partition of Kafka's own two topics names have, and the folds of segments, which are written
+//! or compared with logs.
 #![tactic(auto)]
 
 mod coordinator;
@@ -8,6 +9,7 @@ mod explain;
 mod fold;
 mod init;
 mod segment;
+mod verify;
 
 pub use coordinator::{coordinators_to, print_coordinators};
 pub use decoding::options_of;
@@ -15,3 +17,4 @@ pub use explain::{explain_code, page_to};
 pub use fold::fold_partitions;
 pub use init::init_folder;
 pub use segment::answer_segment;
+pub use verify::{found_to, verify_partitions};

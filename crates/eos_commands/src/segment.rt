@@ -13,6 +13,7 @@ const FOLD: &str = ".fold";
 
 /// Answers about the segment in this file, or on standard input where the name is `-`: on standard output, or on standard error
 /// why it can't. Gives the exit status.
+#[inline(never)]
 pub fn answer_segment(rt: &HostRuntime, answer: Answer<'_>, file: &str) -> u8 {
     let answered = if file == STANDARD {
         answer_input(rt, answer)

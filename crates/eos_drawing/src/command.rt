@@ -9,6 +9,7 @@ use std::sync::Wait;
 use std::thread::Threads;
 
 /// Draws the picture that the words ask for into a new file, tells how large it is, and gives the exit status.
+#[inline(never)]
 pub fn draw_folder(
     rt: &HostRuntime,
     threads: &(impl Threads + Wait + Sync),

@@ -11,7 +11,7 @@ mod saying;
 mod subject;
 
 pub use ending::{Ending, Told};
-pub use new_file::{end_unchanged, end_unwritten, fill_file, leave_file, make_file};
+pub use new_file::{end_unchanged, fill_file, leave_file, make_file};
 pub use progress::{Meter, Progress, Stages};
 pub use said::{end_unread, say_notes};
 pub use saying::{STANDARD, end, end_about};

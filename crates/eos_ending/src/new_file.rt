@@ -9,7 +9,6 @@ use eos_disk::{
     ChangeFault, DiskMut, HostDisk, HostFile, NewFile, begin_file, drop_file, end_file,
 };
 use std::alloc::Global;
-use std::io::{Error, ErrorKind};
 
 /// Begins a file of a name that isn't there. Otherwise says why not, and gives the exit status.
 pub fn make_file<'a>(rt: &'a HostRuntime, path: &str) -> Result<HostFile<'a>, u8> {
@@ -84,9 +83,4 @@ pub fn end_unchanged(rt: &HostRuntime, path: &str, fault: ChangeFault) -> u8 {
     };
     let _ = eprint!(rt; "eoscheck: cannot write {path}{why}\n");
     2
-}
-
-/// The same of an error of this kind.
-pub fn end_unwritten(rt: &HostRuntime, path: &str, kind: ErrorKind) -> u8 {
-    end_unchanged(rt, path, ChangeFault::from(Error::from(kind)))
 }

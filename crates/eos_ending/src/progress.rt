@@ -1,7 +1,7 @@
 //! How far a check is, as standard error is told, and how long its stages took.
 
 use crate::subject::Subject;
-use eos_board_core::Gate;
+use eos_board::Gate;
 use eos_fold::Named;
 use eos_folder::Watch;
 use std::sync::atomic::{AtomicU64, Ordering};

@@ -14,7 +14,7 @@ use std::io::{ErrorKind, Read};
 pub const MAX_SEGMENT_BYTES: usize = 0x4000_0000;
 
 /// How many bytes are asked for at once.
-const CHUNK: usize = 0x1_0000;
+const CHUNK: usize = 0x2000;
 
 /// How often in a row an interrupted read is tried.
 const TRIES: u32 = 1000;

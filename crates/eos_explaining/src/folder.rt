@@ -12,7 +12,7 @@ ghost use Rattle.eos_explaining.specs.steps.Tellings.{Tells, TellsFront};
 ghost use Rattle.eos_explaining.specs.declared.folder.Unexplained.TheVariants.{CannotWrite};
 
 use crate::answer::{Answer, Asked, explain};
-use eos_board_core::Gate;
+use eos_board::Gate;
 use eos_disk::{Disk, HostDisk};
 use eos_ending::{Ending, Meter, Progress, STANDARD, Subject, end, end_unread, say_notes};
 use eos_folder::{FolderFault, Reading, Watch, read_folder};
@@ -143,6 +143,7 @@ pub fn explain_folder_to<D: Disk, T: Gate + Watch, R: Threads + Wait + Sync, W: 
 }
 
 /// Prints the story of a fault of the evidence in a folder, and gives the exit status, that of `check`.
+#[inline(never)]
 pub fn explain_folder(
     rt: &HostRuntime,
     threads: &(impl Threads + Wait + Sync),

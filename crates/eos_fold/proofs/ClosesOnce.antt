@@ -25,8 +25,7 @@ use Rattle.eos_fold.specs.declared.close.Close.{Close}
 use Rattle.eos_fold.specs.Closes.{close_in, closes_in, rank_of, close_cmp}
 use Rattle.eos_fold.specs.contracts.close.CloseOrd.TheImpl.{ghosts as order}
 use Rattle.eos_fold.specs.contracts.close.ClosePartialEq.TheImpl.{ghosts as test}
-use Rattle.eos_fold.specs.Parts.{Ascends}
-use Rattle.eos_fold.specs.steps.Whole.{AreCloses}
+use Rattle.eos_fold.specs.Parts.{Ascends, AreCloses}
 
 -- ---- the order
 

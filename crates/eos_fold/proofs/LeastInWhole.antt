@@ -31,7 +31,8 @@ use Rattle.eos_touch.specs.FaultNames.{number_of}
 use Rattle.eos_touch.specs.Touches.{last_touch}
 use Rattle.eos_touch.specs.Front.{records_in}
 use Rattle.eos_fold.specs.Standing.{StandsAtTouch, IsOpen, StandsIn, producer_of, fault_cmp, IsPartitionFault}
-use Rattle.eos_fold.specs.steps.Whole.{IsWhole, kind_at_stop}
+use Rattle.eos_fold.specs.Stops.{kind_at_stop}
+use Rattle.eos_fold.specs.steps.Whole.{IsWhole}
 use Rattle.eos_fold.proofs.TouchesInWhole.{pairs_to, pairs_from, open_to, open_from}
 use Rattle.eos_fold.proofs.SteadyFronts.{IsSteady, front_steady, touch_inside, one_id}
 

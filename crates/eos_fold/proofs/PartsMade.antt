@@ -10,11 +10,11 @@ use Rattle.eos_fold.proofs.ClosesRead.{closes_read}
 use Rattle.eos_touch.specs.declared.fault.PartitionFault.{PartitionFault}
 use Rattle.eos_fold.specs.declared.summary.Summary.{Summary}
 use Rattle.eos_fold.specs.LeastFaults.{IsFaultIn}
-use Rattle.eos_fold.specs.Parts.{PartLog, Rises}
+use Rattle.eos_fold.specs.Parts.{PartLog, Rises, AreCloses}
 use Rattle.eos_fold.specs.Standing.{IsPartitionFault, AreOf}
 use Rattle.eos_summary.specs.Settling.{data_in}
 use Rattle.eos_fold.specs.Whole.{IsPartOf}
-use Rattle.eos_fold.specs.steps.Whole.{BeginsIn, IsWhole, AreCloses}
+use Rattle.eos_fold.specs.steps.Whole.{BeginsIn, IsWhole}
 use Rattle.eos_fold.proofs.RisingItems.{items_rise}
 use Rattle.eos_fold.proofs.SteadyFronts.{front_steady}
 

@@ -5,4 +5,5 @@ pub mod Sums
 pub mod Standing
 pub mod Whole
 pub mod LeastFaults
+pub mod Stops
 pub mod steps

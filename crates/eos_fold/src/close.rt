@@ -3,7 +3,7 @@
 ghost use Rattle.std.specs.Prelude.{◌≡◌, ◌++◌, IfOk, OnOk};
 ghost use Rattle.std.specs.Option.{option_to_list};
 ghost use Rattle.eos_fold.specs.Closes.{close_cmp, close_in, closes_in};
-ghost use Rattle.eos_fold.specs.steps.Whole.{AreCloses};
+ghost use Rattle.eos_fold.specs.Parts.{AreCloses};
 
 use eos_batch::Kind;
 use eos_items::{DataHead, Ending, LogIndex};
@@ -29,8 +29,8 @@ impl Close {
 }
 
 /// The close of a data batch, if its transaction has ended.
-fn close_of(head: DataHead) -> Option<Close>
-    ensures { option_to_list result ≡ close_in head.writer head.ending }
+fn close_of(head: &DataHead) -> Option<Close>
+    ensures { option_to_list result ≡ close_in head.now.writer head.now.ending }
 {
     let (producer, epoch) = head.writer?;
     let Ending::Ended {
@@ -48,9 +48,12 @@ fn close_of(head: DataHead) -> Option<Close>
     })
 }
 
-/// Puts the close of a data batch at the end, if there is one.
-fn push_close(closes: &mut Vec<Close>, head: DataHead) -> Result<(), AllocError>
-    ensures { OnOk result (closes.new.items ≡ closes.old.items ++ close_in head.writer head.ending) }
+/// Puts the close of the data batch with this head at the end, if its transaction has ended.
+///
+/// # Errors
+/// Only want of memory.
+pub fn push_close(closes: &mut Vec<Close>, head: &DataHead) -> Result<(), AllocError>
+    ensures { OnOk result (closes.new.items ≡ closes.old.items ++ close_in head.now.writer head.now.ending) }
 {
     let Some(close) = close_of(head) else {
         return Ok(());
@@ -65,13 +68,13 @@ fn list_closes(alloc: Global, index: &LogIndex) -> Result<Vec<Close>, AllocError
 {
     let mut closes = Vec::new(alloc);
     for i in 0..index.len() {
-        push_close(&mut closes, index.head(i))?;
+        push_close(&mut closes, &index.head(i))?;
     }
     Ok(closes)
 }
 
 /// Each unequal close once, in ascending order.
-fn once(mut closes: Vec<Close>) -> Vec<Close>
+pub fn once(mut closes: Vec<Close>) -> Vec<Close>
     ensures { AreCloses closes.items result.items }
 {
     closes.sort_unstable();

@@ -12,7 +12,7 @@ mod stop;
 mod summary;
 mod whole;
 
-pub use close::Close;
+pub use close::{Close, once, push_close};
 pub use eos_chain::{Chain, chain};
 pub use eos_items::{Fate, Item, ItemCursor, ItemRef, Items};
 pub use eos_summary::EndMark;
@@ -21,4 +21,5 @@ pub use many::summarise;
 pub use named::Named;
 pub use part::{Part, first_fault};
 pub use stop::Stop;
-pub use summary::Summary;
+pub use summary::{Summary, is_checked};
+pub use whole::{fault_of, kind_at_stop, pair_kind};

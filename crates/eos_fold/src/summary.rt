@@ -110,7 +110,7 @@ fn walk(alloc: Global, summary: &mut Summary, bytes: &Bytes) -> Result<(), Alloc
 }
 
 /// Whether the sequences of a topic are checked: not those of the internal topics.
-pub(crate) fn is_checked(topic: &[u8]) -> bool
+pub fn is_checked(topic: &[u8]) -> bool
     ensures { result ≡ not (is_internal topic.now) }
 {
     topic != b"__consumer_offsets".as_slice() && topic != b"__transaction_state".as_slice()

@@ -8,7 +8,8 @@ ghost use Rattle.eos_summary.specs.Summaries.{IsSummary};
 ghost use Rattle.eos_touch.specs.declared.fault.PartitionFaultKind.TheVariants.{Pair};
 ghost use Rattle.eos_fold.specs.Standing.{IsPartitionFault};
 ghost use Rattle.eos_fold.specs.Whole.{segments_in};
-ghost use Rattle.eos_fold.specs.steps.Whole.{BeginsIn, IsWhole, kind_at_stop};
+ghost use Rattle.eos_fold.specs.Stops.{kind_at_stop};
+ghost use Rattle.eos_fold.specs.steps.Whole.{BeginsIn, IsWhole};
 
 use crate::named::Named;
 use crate::stop::Stop;
@@ -63,8 +64,14 @@ fn is_declared(next: u64, end: i64) -> bool
     end >= 0 && end.unsigned_abs() == next
 }
 
-/// What stands where a front ends, if its log has no fault before.
-fn kind_at_stop(stop: Stop, next: u64, end: i64, left: Option<i64>) -> Option<PartitionFaultKind>
+/// What stands where a front ends, if its log has no fault before: behind it comes the offset `next`, the log was declared to end at
+/// `end`, and `left` is the least producer id that was left open.
+pub fn kind_at_stop(
+    stop: Stop,
+    next: u64,
+    end: i64,
+    left: Option<i64>,
+) -> Option<PartitionFaultKind>
     ensures { result ≡ kind_at_stop stop next end left }
 {
     match stop {
@@ -89,8 +96,13 @@ fn kind_at_stop(stop: Stop, next: u64, end: i64, left: Option<i64>) -> Option<Pa
     }
 }
 
-/// A fault of this partition.
-fn fault_of(topic: Bytes, partition: i32, offset: u64, kind: PartitionFaultKind) -> PartitionFault
+/// The fault of this partition.
+pub fn fault_of(
+    topic: Bytes,
+    partition: i32,
+    offset: u64,
+    kind: PartitionFaultKind,
+) -> PartitionFault
     ensures topic { result.topic ≡ topic }
     ensures partition { result.partition ≡ partition }
     ensures offset { result.offset ≡ offset }
@@ -104,7 +116,8 @@ fn fault_of(topic: Bytes, partition: i32, offset: u64, kind: PartitionFaultKind)
     }
 }
 
-fn pair_kind(fault: Fault) -> PartitionFaultKind
+/// The kind that a fault of two touches is.
+pub fn pair_kind(fault: Fault) -> PartitionFaultKind
     ensures { result ≡ Pair fault.kind fault.producer }
 {
     PartitionFaultKind::Pair {

@@ -5,9 +5,10 @@ use Rattle.std.proofs.lemmas.Bool.{eq-eqb, ne_eqb}
 use Rattle.std.proofs.lemmas.List.{drop_more, drop-drop, take_more, length-drop}
 use Rattle.std.proofs.lemmas.List.Sums.{sum_by-cons, sum_by_push}
 use Rattle.std.proofs.Math.ListN.{drop_of_length-le}
-use Rattle.eos_fold_file.specs.declared.epoch.EpochEntry.{EpochEntry}
+use Rattle.eos_reading.specs.declared.epoch.EpochEntry.{EpochEntry}
 use Rattle.eos_fold_file.specs.declared.head.FoldHead.{FoldHead}
-use Rattle.eos_fold_file.specs.Epochs.{is_change, are_entries}
+use Rattle.eos_reading.specs.Epochs.{is_change}
+use Rattle.eos_fold_file.specs.Epochs.{are_entries}
 use Rattle.eos_fold_file.specs.Files.{record_count}
 use Rattle.eos_fold_file.specs.steps.Walks.{begun}
 

@@ -11,7 +11,7 @@ use Rattle.eos_wanted.specs.declared.wanted.Wanted.TheVariants as wants
 use Rattle.eos_wire.specs.Crc.{crc32c_of}
 use Rattle.eos_wire.specs.Numbers.{IsBytes, i8_text, u32_at, u32_text}
 use Rattle.eos_wire.proofs.NumberTexts.{length-u32_text, u32_sound, u32_whole}
-use Rattle.eos_fold_file.specs.declared.epoch.EpochEntry.{EpochEntry}
+use Rattle.eos_reading.specs.declared.epoch.EpochEntry.{EpochEntry}
 use Rattle.eos_fold_file.specs.declared.fault.FoldFault.TheVariants as faults
 use Rattle.eos_fold_file.specs.declared.file.FoldFile.{FoldFile}
 use Rattle.eos_fold_file.specs.declared.file.FoldKept.{FoldKept}

@@ -14,7 +14,7 @@ use Rattle.eos_fold.specs.declared.stop.Stop.TheVariants.{AtEnd, NoBatch, Elsewh
 use Rattle.eos_wire.specs.Numbers.{i8_text}
 use Rattle.eos_wire.specs.Writing.{varlong_of}
 use Rattle.eos_fold_file.specs.declared.fault.FoldFault.TheVariants as faults
-use Rattle.eos_fold_file.specs.declared.epoch.EpochEntry.{EpochEntry}
+use Rattle.eos_reading.specs.declared.epoch.EpochEntry.{EpochEntry}
 use Rattle.eos_fold_file.specs.declared.head.BatchKind.{BatchKind}
 use Rattle.eos_fold_file.specs.declared.head.BatchKind.TheVariants.{Data, Control, Commit, Abort}
 use Rattle.eos_fold_file.specs.declared.head.FoldHead.{FoldHead}

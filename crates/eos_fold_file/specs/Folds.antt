@@ -11,6 +11,7 @@ use Rattle.eos_claims.specs.Headers.{claim_of}
 use Rattle.eos_evidence.specs.declared.segment.Segment.{Segment}
 use Rattle.eos_touch.specs.Front.{records_in, ContinuesFrom}
 use Rattle.eos_fold.specs.Fronts.{base_of, StopsAt}
+use Rattle.eos_reading.specs.Epochs.{epoch_entries}
 use Rattle.eos_reading.specs.Kept.{kept_of}
 use Rattle.eos_wire.specs.Crc.{crc32c_of}
 use Rattle.eos_keeping.specs.Outputs.{kept_output}
@@ -21,7 +22,6 @@ use Rattle.eos_fold_file.specs.declared.file.FoldFile.{FoldFile}
 use Rattle.eos_fold_file.specs.declared.file.FoldKept.{FoldKept}
 use Rattle.eos_fold_file.specs.declared.file.FoldKept.TheVariants.{Presence, Claims, Texts}
 use Rattle.eos_fold_file.specs.declared.head.FoldHead.{FoldHead}
-use Rattle.eos_fold_file.specs.Epochs.{epoch_entries}
 use Rattle.eos_fold_file.specs.Heads.{fold_head}
 
 -- the bytes are texts of these batches, and the rest; each head is its batch's, with the number of its bytes

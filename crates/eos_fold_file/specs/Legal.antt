@@ -10,7 +10,7 @@ use Rattle.eos_keeping.specs.declared.output.KeptOutput.{KeptOutput}
 use Rattle.eos_keeping.specs.declared.output.KeptOutput.TheVariants.{Unclaimed, Asked, Foreign}
 use Rattle.eos_fold_file.specs.declared.claim.ClaimNumbers.{ClaimNumbers}
 use Rattle.eos_fold_file.specs.declared.claim.FoldText.{FoldText}
-use Rattle.eos_fold_file.specs.declared.epoch.EpochEntry.{EpochEntry}
+use Rattle.eos_reading.specs.declared.epoch.EpochEntry.{EpochEntry}
 use Rattle.eos_fold_file.specs.declared.file.FoldFile.{FoldFile}
 use Rattle.eos_fold_file.specs.declared.file.FoldKept.{FoldKept}
 use Rattle.eos_fold_file.specs.declared.file.FoldKept.TheVariants.{Presence, Claims, Texts}

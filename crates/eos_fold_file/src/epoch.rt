@@ -7,7 +7,7 @@
 
 ghost use Rattle.std.specs.Prelude.{◌≡◌, ◌≤◌, ◌+◌, ◌^◌, ◌∷◌, List, length, drop, false, None, IfSome};
 ghost use Rattle.eos_fold_file.specs.declared.head.FoldHead.{FoldHead};
-ghost use Rattle.eos_fold_file.specs.Epochs.{is_change, are_entries};
+ghost use Rattle.eos_fold_file.specs.Epochs.{are_entries};
 ghost use Rattle.eos_fold_file.specs.Files.{record_count};
 ghost use Rattle.eos_fold_file.specs.steps.Walks.{begun};
 
@@ -15,25 +15,9 @@ use crate::entry::Entry;
 use crate::fault::FoldFault;
 use crate::head::FoldHead;
 use crate::number::{read_i32, read_u64, write_number, write_u64};
+use eos_reading::{EpochEntry, is_change};
 use eos_wire::Cursor;
 use std::alloc::{AllocError, Global};
-
-/// A leader epoch, and the offset of the first batch that has it.
-#[derive(Clone, Copy, Debug, PartialEq, Eq)]
-pub struct EpochEntry {
-    pub epoch: i32,
-    pub start_offset: u64,
-}
-
-/// Whether a batch of this leader epoch has another one than the batch before, or is the first.
-pub fn is_change(last: Option<i32>, epoch: i32) -> bool
-    ensures { result ≡ is_change last epoch }
-{
-    match last {
-        None => true,
-        Some(last) => last != epoch,
-    }
-}
 
 /// How far a front's entries were passed: the epoch of the last batch, and the place of the next entry.
 #[derive(Clone, Copy)]

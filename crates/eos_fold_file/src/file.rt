@@ -4,12 +4,12 @@ ghost use Rattle.std.specs.Prelude.{◌≡◌};
 ghost use Rattle.eos_fold_file.specs.Files.{wanted_in};
 
 use crate::claim::FoldText;
-use crate::epoch::EpochEntry;
 use crate::head::FoldHead;
 use bytes::Bytes;
 use eos_base::Listed;
 use eos_fold::Stop;
 use eos_keeping::KeptOutput;
+use eos_reading::EpochEntry;
 use eos_wanted::Wanted;
 
 /// What is kept of a front's data records, by what was wanted of them.

@@ -17,7 +17,6 @@ mod texts;
 mod write;
 
 pub use claim::FoldText;
-pub use epoch::{EpochEntry, is_change};
 pub use fault::FoldFault;
 pub use file::{FoldFile, FoldKept};
 pub use head::{BatchKind, FoldHead};

@@ -26,7 +26,7 @@ ghost use Rattle.eos_fold_file.specs.steps.Counts.{IsCountedHeads, GivesHeads};
 
 use crate::claim::are_placed;
 use crate::entry::read_many;
-use crate::epoch::{EpochEntry, are_entries};
+use crate::epoch::are_entries;
 use crate::fault::FoldFault;
 use crate::file::{FoldFile, FoldKept};
 use crate::head::FoldHead;
@@ -36,6 +36,7 @@ use crate::texts::read_texts;
 use bytes::Bytes;
 use eos_base::Listed;
 use eos_keeping::KeptOutput;
+use eos_reading::EpochEntry;
 use eos_wanted::Wanted;
 use eos_wire::{Cursor, are_bytes, crc32c};
 use std::alloc::Global;

@@ -8,12 +8,12 @@ ghost use Rattle.eos_fold_file.specs.steps.Widths.{HasSegmentWidths, AreHeadWidt
 ghost use Rattle.eos_wire.specs.Crc.{crc32c_of};
 
 use crate::entry::write_many;
-use crate::epoch::EpochEntry;
 use crate::file::{FoldFile, FoldKept};
 use crate::head::FoldHead;
 use crate::number::{write_number, write_slice, write_u64};
 use crate::stop::write_stop;
 use crate::texts::write_texts;
+use eos_reading::EpochEntry;
 use eos_wanted::Wanted;
 use eos_wire::{crc32c, write_i8, write_u32};
 use std::alloc::{AllocError, Global};

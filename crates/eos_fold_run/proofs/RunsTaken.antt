@@ -54,8 +54,9 @@ segment_from segment f begin heads is e h =
 
 -- ---- the front and the sizes
 
-pub front_told : (segment : Segment) (f : FoldFile) (front : Front) (is : IsFoldOf segment f) → front.begin ≡ unsigned_abs f.base → front.run.sequenced ≡ not (is_internal f.topic) → front.stop ≡ f.stop → GoesAlong is.batches front → IsFrontOf (segment ∷ []) is.batches front
-front_told segment f front is begin checked stop along =
+pub front_told : (segment : Segment) (f : FoldFile) (front : Front) (is : IsFoldOf segment f) → front.begin ≡ unsigned_abs f.base → front.run.sequenced ≡ not (is_internal f.topic) → front.stop ≡ f.stop → front.epochs.items ≡ f.epochs → GoesAlong is.batches front
+    → IsFrontOf (segment ∷ []) is.batches front
+front_told segment f front is begin checked stop epochs along =
     let name : front.begin ≡ base_of segment = begin ∙ ap unsigned_abs is.base in
     let sequenced : front.run.sequenced ≡ is_checked segment = checked ∙ ap (λ (t : List ℕ). not (is_internal t)) is.topic in
     let ends = subst (λ (st : Stop). StopsAt (base_of segment) (base_of segment + records_in is.batches) segment.bytes is.rest st) (sym stop) is.stops in
@@ -65,7 +66,7 @@ front_told segment f front is begin checked stop along =
       continuous = along.continuous;
       stops = subst (λ (n : ℕ). StopsAt n (n + records_in is.batches) segment.bytes is.rest front.stop) (sym name) ends;
     } in
-    of_one segment is.batches front name sequenced inside along.keeps
+    of_one segment is.batches front name sequenced inside along.keeps (epochs ∙ is.epochs)
 
 pub sizes_told : (segment : Segment) (f : FoldFile) (sizes : Sizes) → IsFoldOf segment f → sizes.segments ≡ 1 → sizes.bytes ≡ f.bytes → AreSized (segment ∷ []) sizes
 sizes_told segment f sizes is one bytes = record { counted = one; bytes_are = let e = is.bytes in omega (arith, bytes, e) }

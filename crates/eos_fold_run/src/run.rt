@@ -11,6 +11,7 @@ use crate::claims::are_said;
 use crate::front::front_of;
 use crate::kept::with_kept;
 use crate::unfit::Unfit;
+use eos_fold::is_checked;
 use eos_fold_file::{FoldFile, FoldKept, laws};
 use eos_kept::Sizes;
 use eos_part::{Asked, KeptRun};
@@ -28,13 +29,6 @@ fn is_asked_as(asked: Asked<'_>, kept: &FoldKept) -> bool
         (Wanted::Texts, FoldKept::Texts(_)) => true,
         _ => false,
     }
-}
-
-/// Whether the sequences of a topic are checked: not those of the internal topics.
-fn is_checked(topic: &[u8]) -> bool
-    ensures { result ≡ not (is_internal topic.now) }
-{
-    topic != b"__consumer_offsets".as_slice() && topic != b"__transaction_state".as_slice()
 }
 
 /// What is kept of the segment that was folded, as if it had been read. The fold may be anyone's: one that is of no segment gives a
@@ -64,6 +58,7 @@ pub fn run_of(alloc: Global, asked: Asked<'_>, fold: FoldFile) -> Result<KeptRun
     let sequenced = is_checked(fold.topic.as_slice());
     let (mut front, count) = front_of(alloc, begin, sequenced, fold.heads.as_slice())?;
     front.stop = fold.stop;
+    front.epochs = fold.epochs.into_vec();
     let sizes = Sizes {
         segments: 1,
         bytes: fold.bytes,

@@ -1,5 +1,5 @@
 -- The files of a partition by base: exactly those that the names of its folder say.
-use Rattle.std.proofs.Common.{◌≡◌, ◌≢◌, ◌<◌, ℕ, suc, ℤ, List, [], ◌∷◌, length, take, drop, slice_index_or, ◌+◌, ◌-◌, Option, None, Some, refl, sym, ap, ◌∙◌, subst, inl, inr, false, arith, IsPermutation, IsSorted}
+use Rattle.std.proofs.Common.{◌≡◌, ◌≢◌, ◌<◌, ℕ, suc, ℤ, List, [], ◌∷◌, ◌++◌, length, take, drop, slice_index_or, ◌+◌, ◌-◌, Option, None, Some, refl, sym, ap, ◌∙◌, subst, inl, inr, false, arith, IsPermutation, IsSorted}
 use Rattle.std.proofs.lemmas.Bool.{cases_lt}
 use Rattle.std.proofs.lemmas.Cmp.{int_cmp_total, int_ranked}
 use Rattle.std.proofs.lemmas.List.Elements.{All-from_recursion, recursion_from_All}
@@ -100,3 +100,13 @@ apart_next files i each last k lt = elim (cases_lt k i) [
 pub apart_all : (files : List FileName) → ((k : ℕ) → k < length files → IsApart (drop k files)) → AreApart files
 apart_all [] each = tt
 apart_all (f ∷ fs) each = (each 0 (omega arith), apart_all fs (λ k lt. each (suc k) (omega (arith, lt))))
+
+-- a front of them, each of another base than what follows
+pub front_rises : (taken later : List FileName) → IsSorted by_base (taken ++ later) → ((k : ℕ) → k < length taken → IsApart (drop k (taken ++ later))) → IsStrictlySortedBy by_base taken
+unfolding IsStrictlySortedBy
+front_rises [] later s apart = tt
+front_rises (f ∷ []) later s apart = (tt, tt)
+front_rises (f ∷ g ∷ fs) later s apart =
+    let rest = front_rises (g ∷ fs) later (sorted_rest f (g ∷ (fs ++ later)) s) (λ k lt. apart (suc k) (omega (arith, lt))) in
+    let less : by_base f g ≡ Less = less_of f.base g.base (s 0 f (omega arith) (omega arith)) (apart 0 (omega arith)) in
+    ((less, above f g fs less rest.0), rest)

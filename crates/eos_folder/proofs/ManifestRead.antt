@@ -6,14 +6,14 @@ use Rattle.eos_evidence.specs.declared.fault.SpecFault.TheVariants as faults
 use Rattle.eos_evidence.specs.Parts.{Parts, Answers}
 use Rattle.eos_folder.specs.declared.folder.FolderFault.{FolderFault}
 use Rattle.eos_folder.specs.declared.folder.FolderFault.TheVariants.{CannotRead, Manifest, Limit, Fold, OutOfMemory}
-use Rattle.eos_folder.specs.Refusals.{RefusesFile, RefusesManifest}
+use Rattle.eos_folder.specs.Refusals.{MayRefuse, RefusesFile, RefusesManifest}
 
-pub manifest_unread : (holds : List ℕ → Entry) (path : List ℕ) (e : FolderFault) → RefusesFile path e → RefusesManifest holds path e
-manifest_unread holds path (CannotRead named cause) h = h
-manifest_unread holds path (Limit cause) h = h
-manifest_unread holds path (Manifest fault cause) h = absurd h
-manifest_unread holds path (Fold named name cause) h = absurd h
-manifest_unread holds path OutOfMemory h = tt
+pub manifest_unread : (holds : List ℕ → Entry) (path : List ℕ) (e : FolderFault) → RefusesFile path e → MayRefuse (holds path) e → RefusesManifest holds path e
+manifest_unread holds path (CannotRead named cause) h so = (h, so)
+manifest_unread holds path (Limit cause) h so = h
+manifest_unread holds path (Manifest fault cause) h so = absurd h
+manifest_unread holds path (Fold named name cause) h so = absurd h
+manifest_unread holds path OutOfMemory h so = tt
 
 pub answered : (fault : SpecFault) (said : Result Parts SpecFault) → fault ≢ faults.OutOfMemory → Answers (Err fault) said → said ≡ Err fault
 answered faults.OutOfMemory said other h = absurd (other refl)

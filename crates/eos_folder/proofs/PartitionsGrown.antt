@@ -36,17 +36,17 @@ grown_append p (x ∷ xs) ys = grown_append (with_segment x p) xs ys
 
 -- ---- segments of other partitions
 
-abbrev AreOthers : End → List Segment → Type 0
+abbrev pub AreOthers : End → List Segment → Type 0
 AreOthers e = AllByRecursion (λ s. is_in s e ≡ false)
 
 skipped : (s : Segment) (p : Partition) → is_in s p.end ≡ false → with_segment s p ≡ p
 skipped s p other = rw other refl
 
-grown_skips : (p : Partition) (ss : List Segment) → AreOthers p.end ss → grown p ss ≡ p
+pub grown_skips : (p : Partition) (ss : List Segment) → AreOthers p.end ss → grown p ss ≡ p
 grown_skips p [] others = refl
 grown_skips p (s ∷ ss) others = ap (λ (q : Partition). grown q ss) (skipped s p others.0) ∙ grown_skips p ss others.1
 
-others_append : (e : End) (xs ys : List Segment) → AreOthers e xs → AreOthers e ys → AreOthers e (xs ++ ys)
+pub others_append : (e : End) (xs ys : List Segment) → AreOthers e xs → AreOthers e ys → AreOthers e (xs ++ ys)
 others_append e [] ys h k = k
 others_append e (x ∷ xs) ys h k = (h.0, others_append e xs ys h.1 k)
 
@@ -57,11 +57,11 @@ before_others : (e f : End) (files : List FileName) → end_cmp e f ≡ Less →
 before_others e f [] less = tt
 before_others e f (x ∷ xs) less = (same_end e f x ∙ ap is_eq less, before_others e f xs less)
 
-after_others : (e f : End) (files : List FileName) → end_cmp e f ≡ Less → AreOthers e (map (segment_of f) files)
+pub after_others : (e f : End) (files : List FileName) → end_cmp e f ≡ Less → AreOthers e (map (segment_of f) files)
 after_others e f [] less = tt
 after_others e f (x ∷ xs) less = (same_end f e x ∙ ap is_eq (end_total.antisymm f e ∙ ap ordering_reverse less), after_others e f xs less)
 
-later_others : (holds : List ℕ → Entry) (folder : List ℕ) (e : End) (es : List End) (names : List Segment) (forms : List Form)
+pub later_others : (holds : List ℕ → Entry) (folder : List ℕ) (e : End) (es : List End) (names : List Segment) (forms : List Form)
     → AllByRecursion (λ f. end_cmp e f ≡ Less) es → AreNamed holds folder es names forms → AreOthers e names
 later_others holds folder e [] names forms above are = subst (AreOthers e) (sym are.0) tt
 later_others holds folder e (f ∷ es) names forms above are =
@@ -97,7 +97,7 @@ map_last : (e : End) (done : List FileName) (f : FileName) → map (segment_of e
 map_last e [] f = refl
 map_last e (g ∷ gs) f = ap (λ (l : List Segment). segment_of e g ∷ l) (map_last e gs f)
 
-abbrev partition_of : End → List FileName → Partition
+abbrev pub partition_of : End → List FileName → Partition
 partition_of e files = record { end = e; segments = map (segment_of e) files }
 
 with_last : (e : End) (done : List FileName) (f : FileName) (fs : List FileName) → IsStrictlySortedBy by_base (done ++ f ∷ fs)
@@ -117,20 +117,20 @@ placed e done (f ∷ fs) up =
 -- ---- all partitions
 
 -- none of these segments is of one of these ends
-abbrev AreOfNone : List Segment → List End → Type 0
+abbrev pub AreOfNone : List Segment → List End → Type 0
 AreOfNone names = AllByRecursion (λ e. AreOthers e names)
 
-none_more : (e : End) (es : List End) (before : List Segment) (files : List FileName) → AllByRecursion (λ f. end_cmp e f ≡ Less) es → AreOfNone before es
+pub none_more : (e : End) (es : List End) (before : List Segment) (files : List FileName) → AllByRecursion (λ f. end_cmp e f ≡ Less) es → AreOfNone before es
     → AreOfNone (before ++ map (segment_of e) files) es
 none_more e [] before files above none = tt
 none_more e (f ∷ es) before files above none =
     (others_append f before (map (segment_of e) files) none.0 (before_others e f files above.0), none_more e es before files above.1 none.1)
 
-none_at_first : (es : List End) → AreOfNone [] es
+pub none_at_first : (es : List End) → AreOfNone [] es
 none_at_first [] = tt
 none_at_first (e ∷ es) = (tt, none_at_first es)
 
-head_is : (e : End) (before : List Segment) (files : List FileName) (later : List Segment) → AreOthers e before → IsStrictlySortedBy by_base files → AreOthers e later
+pub head_is : (e : End) (before : List Segment) (files : List FileName) (later : List Segment) → AreOthers e before → IsStrictlySortedBy by_base files → AreOthers e later
     → grown (empty_partition e) (before ++ (map (segment_of e) files ++ later)) ≡ partition_of e files
 head_is e before files later b up l =
     let own_ones = map (segment_of e) files in

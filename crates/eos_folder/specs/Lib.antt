@@ -4,5 +4,6 @@ pub mod Paths
 pub mod Reading
 pub mod Refusals
 pub mod Shapes
+pub mod Stopped
 pub mod Writing
 pub mod steps

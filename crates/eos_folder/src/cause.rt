@@ -1,7 +1,10 @@
 //! Why a file or a folder isn't read.
 
 ghost use Rattle.std.specs.Prelude.{◌≡◌, Some};
+ghost use Rattle.eos_disk.specs.Entries.{Entry, MayLackFile};
+ghost use Rattle.eos_disk.specs.declared.fault.DiskFault.TheVariants.{NotThere};
 ghost use Rattle.eos_folder.specs.Causes.{cause_text, is_unknown};
+ghost use Rattle.eos_folder.specs.Refusals.{IsSoAt};
 
 use eos_disk::{Disk, DiskFault};
 use std::alloc::Global;
@@ -13,6 +16,7 @@ use std::io::Read;
 pub enum Cause {
     /// It isn't known, or memory was refused to what would be said.
     Unknown,
+    /// Nothing stands there, as the disk says at its opening.
     NoSuchFile,
     PermissionDenied,
     /// It is a folder, where a file is wanted.
@@ -84,17 +88,32 @@ impl Cause {
     }
 
     /// Why nothing can be read from this reader, by asking it again for a byte.
-    pub fn of_reader<R: Read>(alloc: Global, reader: &mut R) -> Cause {
+    pub fn of_reader<R: Read>(alloc: Global, reader: &mut R) -> Cause
+        ensures { (e : Entry) → IsSoAt e result }
+    {
         match reader.read(&mut [0u8; 1]) {
             Ok(_) => Cause::Unknown,
-            Err(e) => Cause::of_fault(DiskFault::of_error(alloc, &e)),
+            Err(e) => Cause::of_open_file(DiskFault::of_error(alloc, &e)),
+        }
+    }
+
+    /// What the disk says of a file that is open, and so was there.
+    fn of_open_file(fault: DiskFault) -> Cause
+        ensures { (e : Entry) → IsSoAt e result }
+    {
+        match fault {
+            DiskFault::NotThere => Cause::Words("no such file"),
+            fault => Cause::of_fault(fault),
         }
     }
 
     /// What the disk says.
-    pub(crate) fn of_fault(fault: DiskFault) -> Cause {
+    pub(crate) fn of_fault(fault: DiskFault) -> Cause
+        ensures { (e : Entry) → (fault ≡ NotThere → MayLackFile e) → IsSoAt e result }
+    {
         match fault {
-            DiskFault::NotThere | DiskFault::Dangling => Cause::NoSuchFile,
+            DiskFault::NotThere => Cause::NoSuchFile,
+            DiskFault::Dangling => Cause::Words("no such file"),
             DiskFault::PermissionDenied => Cause::PermissionDenied,
             DiskFault::IsFolder => Cause::Folder,
             DiskFault::NotFolder => Cause::NotFolder,

@@ -1,9 +1,10 @@
 //! Files that are read: how they are opened, and why they can't be read.
 
-ghost use Rattle.std.specs.Prelude.{◌≡◌, ◌≤◌, length, Ok, IfOk, IfErr, IfSome, string_bytes};
-ghost use Rattle.eos_disk.specs.Entries.{Leaves, HasBytes};
+ghost use Rattle.std.specs.Prelude.{◌≡◌, ◌≤◌, length, Ok, Err, IfOk, IfErr, IfSome, string_bytes};
+ghost use Rattle.eos_disk.specs.Entries.{Entry, Leaves, HasBytes, MayLackFile};
+ghost use Rattle.eos_disk.specs.declared.fault.DiskFault.TheVariants.{NotThere};
 ghost use Rattle.eos_folder.specs.Paths.{file_path, path_of_end, segment_path};
-ghost use Rattle.eos_folder.specs.Refusals.{RefusesFile};
+ghost use Rattle.eos_folder.specs.Refusals.{RefusesFile, MayRefuse, IsUnread};
 ghost use Rattle.eos_folder.specs.declared.names.Form.TheVariants.{Log};
 
 use crate::cause::Cause;
@@ -40,6 +41,7 @@ impl<F: Read + Drop> NamedFile<F> {
     ) -> Result<NamedFile<F>, FolderFault>
         ensures ok { IfOk result (λ named. (opened ≡ Ok named.file) × (named.path ≡ path)) }
         ensures err { IfErr result (RefusesFile (string_bytes path)) }
+        ensures so { (e : Entry) → (opened ≡ Err NotThere → MayLackFile e) → IfErr result (MayRefuse e) }
     {
         match opened {
             Ok(file) => Ok(NamedFile { path, file }),
@@ -53,6 +55,7 @@ impl<F: Read + Drop> NamedFile<F> {
         ensures ok { IfOk result (λ bytes. IfSome (F.remaining self.file) (λ xs. bytes ≡ xs)) }
         ensures within { IfOk result (λ bytes. length bytes ≤ MAX_SEGMENT_BYTES) }
         ensures err { IfErr result (RefusesFile (string_bytes self.path)) }
+        ensures so { (e : Entry) → IfErr result (MayRefuse e) }
     {
         let NamedFile { path, mut file } = self;
         match read_segment(alloc, &mut file) {
@@ -60,21 +63,12 @@ impl<F: Read + Drop> NamedFile<F> {
             Err(why) => Err(refusal_of(alloc, path, &mut file, why)),
         }
     }
-
-    /// Why reading it ended so.
-    pub fn refusal(&mut self, alloc: Global, why: ReadFault) -> FolderFault
-        ensures { RefusesFile (string_bytes self.old.path) result }
-    {
-        match self.path.clone() {
-            Ok(path) => refusal_of(alloc, path, &mut self.file, why),
-            Err(_) => FolderFault::OutOfMemory,
-        }
-    }
 }
 
 /// Why reading the file of this path ended so.
 pub fn refusal_of<F: Read>(alloc: Global, path: String, file: &mut F, why: ReadFault) -> FolderFault
-    ensures { RefusesFile (string_bytes path) result }
+    ensures path { RefusesFile (string_bytes path) result }
+    ensures so { (e : Entry) → MayRefuse e result }
 {
     match why {
         ReadFault::Read => FolderFault::CannotRead(path, Cause::of_reader(alloc, file)),
@@ -92,6 +86,7 @@ pub fn open_file<D: Disk>(
     ensures ok { IfOk result (λ named. Leaves (D.holds disk.now (string_bytes path)) (D.File.remaining named.file)) }
     ensures path { IfOk result (λ named. named.path ≡ path) }
     ensures err { IfErr result (RefusesFile (string_bytes path)) }
+    ensures so { IfErr result (MayRefuse (D.holds disk.now (string_bytes path))) }
 {
     let opened = disk.open(alloc, path.as_str());
     NamedFile::of_opened(path, opened)
@@ -107,6 +102,7 @@ pub(crate) fn read_file<D: Disk>(
     ensures ok { IfOk result (λ bytes. HasBytes (D.holds disk.now (string_bytes path)) bytes) }
     ensures within { IfOk result (λ bytes. length bytes ≤ MAX_SEGMENT_BYTES) }
     ensures err { IfErr result (RefusesFile (string_bytes path)) }
+    ensures so { IfErr result (MayRefuse (D.holds disk.now (string_bytes path))) }
 {
     let named = open_file(alloc, disk, path)?;
     named.read_whole(alloc)
@@ -114,7 +110,9 @@ pub(crate) fn read_file<D: Disk>(
 
 /// Why the file or folder of this path isn't read.
 pub(crate) fn unread(path: String, fault: DiskFault) -> FolderFault
-    ensures { RefusesFile (string_bytes path) result }
+    ensures path { RefusesFile (string_bytes path) result }
+    ensures unread { IsUnread (string_bytes path) result }
+    ensures so { (e : Entry) → (fault ≡ NotThere → MayLackFile e) → MayRefuse e result }
 {
     match fault {
         DiskFault::OutOfMemory => FolderFault::OutOfMemory,
@@ -133,6 +131,7 @@ pub fn open_segment<D: Disk>(
 ) -> Result<NamedFile<D::File>, FolderFault>
     ensures ok { IfOk result (λ named. Leaves (D.holds disk.now (segment_path folder.now name.now form)) (D.File.remaining named.file)) }
     ensures err { IfErr result (RefusesFile (segment_path folder.now name.now form)) }
+    ensures so { IfErr result (MayRefuse (D.holds disk.now (segment_path folder.now name.now form))) }
 {
     let path = segment_path(alloc, folder, name, form)?;
     open_file(alloc, disk, path)
@@ -147,6 +146,7 @@ pub fn open_log<D: Disk>(
 ) -> Result<NamedFile<D::File>, FolderFault>
     ensures ok { IfOk result (λ named. Leaves (D.holds disk.now (file_path partition.now base Log)) (D.File.remaining named.file)) }
     ensures err { IfErr result (RefusesFile (file_path partition.now base Log)) }
+    ensures so { IfErr result (MayRefuse (D.holds disk.now (file_path partition.now base Log))) }
 {
     let path = file_path(alloc, partition, base, Form::Log)?;
     open_file(alloc, disk, path)
@@ -163,6 +163,7 @@ pub fn read_segment_file<D: Disk>(
     ensures ok { IfOk result (λ bytes. HasBytes (D.holds disk.now (file_path (path_of_end folder.now end.now) base Log)) bytes) }
     ensures within { IfOk result (λ bytes. length bytes ≤ MAX_SEGMENT_BYTES) }
     ensures err { IfErr result (RefusesFile (file_path (path_of_end folder.now end.now) base Log)) }
+    ensures so { IfErr result (MayRefuse (D.holds disk.now (file_path (path_of_end folder.now end.now) base Log))) }
 {
     let partition = partition_path(alloc, folder, end.topic.as_slice(), end.partition)?;
     let path = file_path(alloc, &partition, base, Form::Log)?;

@@ -1,6 +1,6 @@
 //! Reading a folder of evidence: its manifest, and the segments of the partitions that the manifest names.
 
-ghost use Rattle.std.specs.Prelude.{◌≡◌, ℕ, List, map, Ok, IfOk, IfErr, OnOk, string_bytes};
+ghost use Rattle.std.specs.Prelude.{◌≡◌, ℕ, List, map, Ok, Err, IfOk, IfErr, OnOk, string_bytes};
 ghost use Rattle.eos_disk.specs.Entries.{HasBytes};
 ghost use Rattle.eos_evidence.specs.Evidence.{IsEvidence, with_segment};
 ghost use Rattle.eos_evidence.specs.Manifest.{spec_said_by};
@@ -8,8 +8,10 @@ ghost use Rattle.eos_folder.specs.Paths.{manifest_path, segment_path};
 ghost use Rattle.eos_folder.specs.Reading.{IsReadWhole, name_of};
 ghost use Rattle.eos_folder.specs.Refusals.{RefusesManifest};
 ghost use Rattle.eos_folder.specs.Shapes.{IsShapeAt};
+ghost use Rattle.eos_folder.specs.Stopped.{IsShapeTo};
 ghost use Rattle.eos_folder.specs.steps.Filling.{IsFileRead, AreFilled, IsFilledBy};
-ghost use Rattle.eos_folder.specs.steps.Listing.{AreNamed, AreLogsNamed, partitions_with};
+ghost use Rattle.eos_folder.specs.steps.Listing.{AreNamed, AreLogsNamed, IsCut, partitions_with};
+ghost use Rattle.eos_folder.specs.declared.folder.FolderFault.{FolderFault as AFault};
 ghost use Rattle.eos_folder.specs.declared.folder.FolderFault.TheVariants.{OutOfMemory};
 ghost use Rattle.eos_folder.specs.declared.names.Form.TheVariants.{Log};
 
@@ -22,8 +24,8 @@ use crate::refusal::{NO_RECORDS, refused_fold};
 use crate::watch::Watch;
 use bytes::Bytes;
 use eos_disk::Disk;
-use eos_evidence::{AddFault, Evidence, EvidenceBuilder, Segment, Spec, SpecFault, parse_spec};
-use eos_manifest_cause::explain_spec;
+use eos_evidence::{Evidence, EvidenceBuilder, Segment, Spec, SpecFault, parse_spec};
+use eos_manifest_cause::{SpecCause, explain_spec};
 use eos_workers::Workers;
 use std::alloc::{AllocError, AllocFailed, Global};
 use std::thread;
@@ -96,7 +98,9 @@ pub fn read_shape<D: Disk, W: Watch>(
     folder: &str,
     watch: &W,
 ) -> Result<Shape, FolderFault>
-    ensures { IfOk result (λ shape. shape.listed ≡ Ok tt → IsShapeAt (D.holds disk.now) folder.now shape.evidence shape.forms.items) }
+    ensures all { IfOk result (λ shape. shape.listed ≡ Ok tt → IsShapeAt (D.holds disk.now) folder.now shape.evidence shape.forms.items) }
+    ensures front { IfOk result (λ shape. (why : AFault) → shape.listed ≡ Err why → IsShapeTo (D.holds disk.now) folder.now shape.evidence shape.forms.items why) }
+    ensures refused { IfErr result (RefusesManifest (D.holds disk.now) (manifest_path folder.now)) }
 {
     let mut listed = Ok(());
     match shape_of(alloc, disk, folder, watch, &mut listed) {
@@ -116,7 +120,9 @@ fn shape_of<D: Disk, W: Watch>(
     watch: &W,
     listed: &mut Result<(), FolderFault>,
 ) -> Result<(Evidence, Vec<Form>), FolderFault>
-    ensures { IfOk result (λ shape. listed.new ≡ Ok tt → IsShapeAt (D.holds disk.now) folder.now shape.0 shape.1.items) }
+    ensures all { IfOk result (λ shape. listed.new ≡ Ok tt → IsShapeAt (D.holds disk.now) folder.now shape.0 shape.1.items) }
+    ensures front { IfOk result (λ shape. (why : AFault) → listed.new ≡ Err why → IsShapeTo (D.holds disk.now) folder.now shape.0 shape.1.items why) }
+    ensures refused { IfErr result (RefusesManifest (D.holds disk.now) (manifest_path folder.now)) }
 {
     let Listing { spec, segments } = list_folder(alloc, disk, folder, watch, listed)?;
     let Segments { names, forms } = segments;
@@ -199,6 +205,9 @@ fn list_folder<D: Disk, W: Watch>(
 ) -> Result<Listing, FolderFault>
     ensures says { IfOk result (λ listing. (text : List ℕ) × HasBytes (D.holds disk.now (manifest_path folder.now)) text × (spec_said_by text ≡ Ok listing.spec)) }
     ensures named { IfOk result (λ listing. listed.new ≡ Ok tt → AreNamed (D.holds disk.now) folder.now listing.spec.ends listing.segments.names.items listing.segments.forms.items) }
+    ensures cut { IfOk result (λ listing. (why : AFault) → listed.new ≡ Err why
+        → IsCut (D.holds disk.now) folder.now listing.spec.ends listing.segments.names.items listing.segments.forms.items why) }
+    ensures refused { IfErr result (RefusesManifest (D.holds disk.now) (manifest_path folder.now)) }
 {
     let spec = read_manifest(alloc, disk, manifest_path(alloc, folder)?)?;
     let mut segments = Segments::new(alloc);
@@ -212,26 +221,37 @@ pub fn read_manifest<D: Disk>(alloc: Global, disk: &D, path: String) -> Result<S
     ensures says { IfOk result (λ spec. (text : List ℕ) × HasBytes (D.holds disk.now (string_bytes path)) text × (spec_said_by text ≡ Ok spec)) }
     ensures err { IfErr result (RefusesManifest (D.holds disk.now) (string_bytes path)) }
 {
+    let named = String::from_str(alloc, path.as_str())?;
     let manifest = read_file(alloc, disk, path)?;
     match parse_spec(alloc, manifest.as_slice()) {
         Ok(spec) => Ok(spec),
         Err(SpecFault::OutOfMemory) => Err(FolderFault::OutOfMemory),
         Err(fault) => {
-            let cause = cause_of_refusal(alloc, manifest.as_slice(), fault);
+            let cause = cause_of_refusal(alloc, named.as_str(), manifest.as_slice(), fault);
             Err(FolderFault::Manifest(fault, cause))
         }
     }
 }
 
-fn cause_of_refusal(alloc: Global, manifest: &[u8], fault: SpecFault) -> Cause {
+/// The file, the line and the column, as compilers tell them, and what is wrong there.
+fn cause_of_refusal(alloc: Global, path: &str, manifest: &[u8], fault: SpecFault) -> Cause {
     match explain_spec(alloc, manifest, fault) {
-        Some(cause) => Cause::Told(cause.text),
+        Some(cause) => match told_at(alloc, path, &cause) {
+            Ok(words) => Cause::Told(words),
+            Err(_) => Cause::Unknown,
+        },
         None => Cause::Unknown,
     }
 }
 
+fn told_at(alloc: Global, path: &str, cause: &SpecCause) -> Result<String, AllocError> {
+    let (line, column) = (cause.line, cause.column);
+    let text = cause.text.as_str();
+    format!(in alloc; "{path}:{line}:{column}: {text}")
+}
+
 /// The evidence of the segments in order.
-fn evidence_of(alloc: Global, spec: Spec, segments: Vec<Segment>) -> Result<Evidence, FolderFault>
+fn evidence_of(alloc: Global, spec: Spec, segments: Vec<Segment>) -> Result<Evidence, AllocError>
     ensures spec { IfOk result (λ evidence. evidence.spec ≡ spec) }
     ensures partitions { IfOk result (λ evidence. evidence.partitions ≡ partitions_with segments.items spec.ends) }
     ensures evidence { IfOk result IsEvidence }
@@ -243,16 +263,15 @@ fn evidence_of(alloc: Global, spec: Spec, segments: Vec<Segment>) -> Result<Evid
     Ok(builder.finish())
 }
 
-fn add(builder: &mut EvidenceBuilder, segment: Segment) -> Result<(), FolderFault>
+/// Adds a segment of a listing: one of a partition of the manifest, of another base than those before it, and no more than evidence may
+/// have. That a builder takes each of these isn't proved: a refusal counts as want of memory.
+fn add(builder: &mut EvidenceBuilder, segment: Segment) -> Result<(), AllocError>
     ensures spec { OnOk result (builder.new.spec ≡ builder.old.spec) }
     ensures partitions { OnOk result (builder.new.partitions ≡ map (with_segment segment) builder.old.partitions) }
 {
     match builder.add(segment) {
         Ok(()) => Ok(()),
-        Err(AddFault::OutOfMemory) => Err(FolderFault::OutOfMemory),
-        Err(AddFault::Limit | AddFault::Name | AddFault::Duplicate) => {
-            Err(FolderFault::Limit(Cause::Unknown))
-        }
+        Err(_) => Err(AllocError),
     }
 }
 
@@ -321,7 +340,7 @@ fn evidence_of_files(
     ensures evidence { IfOk result IsEvidence }
 {
     let segments = segments_of_files(alloc, files)?;
-    evidence_of(alloc, spec, segments)
+    Ok(evidence_of(alloc, spec, segments)?)
 }
 
 fn segments_of_files(alloc: Global, files: Vec<SegmentFile>) -> Result<Vec<Segment>, FolderFault>

@@ -8,7 +8,6 @@ pub mod laws;
 mod listing;
 mod names;
 mod paths;
-mod placing;
 mod refusal;
 mod watch;
 mod writing;
@@ -19,7 +18,6 @@ pub use folder::{FolderFault, Reading, Shape, read_folder, read_manifest, read_s
 pub use listing::{bases_in, bases_of};
 pub use names::Form;
 pub use paths::{manifest_path, partition_path, segment_path};
-pub use placing::{is_there, put_in_place, write_new};
-pub use refusal::{FoldRefusal, refused_fold};
+pub use refusal::{FoldRefusal, refused_at, refused_fold};
 pub use watch::Watch;
 pub use writing::{WritingFault, Written, make_folder, write_evidence};

@@ -1,11 +1,13 @@
 //! Which segments a folder has, by the names of the files in it.
 
-ghost use Rattle.std.specs.Prelude.{◌≡◌, ◌++◌, [], length, map, take, None, IfOk, IfErr, OnOk, IsPermutation, IsSorted, string_bytes};
+ghost use Rattle.std.specs.Prelude.{◌≡◌, ◌++◌, [], length, map, take, None, IfOk, IfErr, IfSome, OnOk, OnErr, IsPermutation, IsSorted, string_bytes};
 ghost use Rattle.eos_folder.specs.Paths.{file_path, path_of_end};
 ghost use Rattle.eos_folder.specs.Reading.{AreAllLogs};
-ghost use Rattle.eos_folder.specs.Refusals.{RefusesFile};
+ghost use Rattle.eos_folder.specs.Refusals.{RefusesFile, RefusesFold, IsUnread};
 ghost use Rattle.eos_folder.specs.Shapes.{segment_of, by_base, files_said, log_bases, AreByBase, IsFound, AreLogsAt};
-ghost use Rattle.eos_folder.specs.steps.Listing.{IsApart, AreApart, AreNamed};
+ghost use Rattle.eos_folder.specs.Stopped.{IsNextRefused, IsTwice};
+ghost use Rattle.eos_folder.specs.declared.names.Form.TheVariants.{Fold};
+ghost use Rattle.eos_folder.specs.steps.Listing.{IsApart, AreApart, AreNamed, IsTakenTo, IsCut};
 
 use crate::cause::Cause;
 use crate::files::unread;
@@ -47,7 +49,8 @@ impl Segments {
         ends: &[End],
     ) -> Result<(), FolderFault>
         requires { (self.old.names.items ≡ []) × (self.old.forms.items ≡ []) }
-        ensures { OnOk result (AreNamed (D.holds disk.now) folder.now ends.now self.new.names.items self.new.forms.items) }
+        ensures ok { OnOk result (AreNamed (D.holds disk.now) folder.now ends.now self.new.names.items self.new.forms.items) }
+        ensures cut { IfErr result (IsCut (D.holds disk.now) folder.now ends.now self.new.names.items self.new.forms.items) }
     {
         for end in ends {
             let files = files_of(alloc, disk, folder, end)?;
@@ -67,6 +70,7 @@ impl Segments {
         ensures names { OnOk result (self.new.names.items ≡ self.old.names.items ++ map (segment_of end.now) files.now) }
         ensures forms { OnOk result (self.new.forms.items ≡ self.old.forms.items ++ map (λ f. f.form) files.now) }
         ensures apart { OnOk result (AreApart files.now) }
+        ensures taken { IfErr result (IsTakenTo end.now (path_of_end folder.now end.now) files.now self.old.names.items self.new.names.items self.old.forms.items self.new.forms.items) }
     {
         for i in 0..files.len() {
             self.add(alloc, folder, end, &files[i..])?;
@@ -85,6 +89,8 @@ impl Segments {
         ensures names { OnOk result (self.new.names.items ≡ self.old.names.items ++ map (segment_of end.now) (take 1 files.now)) }
         ensures forms { OnOk result (self.new.forms.items ≡ self.old.forms.items ++ map (λ f. f.form) (take 1 files.now)) }
         ensures apart { OnOk result (IsApart files.now) }
+        ensures kept { OnErr result ((self.new.names.items ≡ self.old.names.items) × (self.new.forms.items ≡ self.old.forms.items)) }
+        ensures refused { IfErr result (IsNextRefused (path_of_end folder.now end.now) (length self.old.names.items) files.now) }
     {
         let Some(file) = files.first() else {
             return Ok(());
@@ -93,15 +99,13 @@ impl Segments {
             let path = path_of(alloc, folder, end, *file)?;
             return Err(FolderFault::Limit(Cause::ManySegments(path)));
         }
-        if files.len() > 1 && files[1].base == file.base {
-            let fold = FileName {
-                base: file.base,
-                form: Form::Fold,
-            };
-            return Err(refused_at(path_of(alloc, folder, end, fold), TWICE));
+        if let Some(twice) = first_twice(files) {
+            return Err(refused_twice(alloc, folder, end, twice));
         }
-        self.forms.push(file.form)?;
-        self.names.push(named(end, file.base)?)?;
+        let name = named(end, file.base)?;
+        self.forms.reserve(1)?;
+        self.names.push(name)?;
+        self.forms.push_reserved(file.form);
         Ok(())
     }
 
@@ -117,6 +121,29 @@ impl Segments {
         }
         None
     }
+}
+
+/// The first of these files, which are in order, where the next has its base: a log stands beside its fold.
+#[tactic(auto, using(crate::proofs::ListingsCut::two_first))]
+fn first_twice(files: &[FileName]) -> Option<FileName>
+    ensures twice { IfSome result (IsTwice files.now) }
+    ensures apart { result ≡ None → IsApart files.now }
+{
+    if files.len() > 1 && files[1].base == files[0].base {
+        return Some(files[0]);
+    }
+    None
+}
+
+/// The fold of this base is refused, beside which its log stands.
+fn refused_twice(alloc: Global, folder: &str, end: &End, file: FileName) -> FolderFault
+    ensures { RefusesFold (file_path (path_of_end folder.now end.now) file.base Fold) result }
+{
+    let fold = FileName {
+        base: file.base,
+        form: Form::Fold,
+    };
+    refused_at(path_of(alloc, folder, end, fold), TWICE)
 }
 
 /// The base offsets of a partition's segments, in order, each of which is a log: a fold is refused. A partition without a folder has
@@ -194,7 +221,8 @@ fn files_of<D: Disk>(
     folder: &str,
     end: &End,
 ) -> Result<Vec<FileName>, FolderFault>
-    ensures { IfOk result (λ files. IsFound (D.holds disk.now) (path_of_end folder.now end.now) files.items) }
+    ensures ok { IfOk result (λ files. IsFound (D.holds disk.now) (path_of_end folder.now end.now) files.items) }
+    ensures err { IfErr result (IsUnread (path_of_end folder.now end.now)) }
 {
     let path = partition_path(alloc, folder, end.topic.as_slice(), end.partition)?;
     match disk.list(alloc, &path) {

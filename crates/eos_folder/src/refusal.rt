@@ -1,5 +1,10 @@
 //! Why a fold in a folder is refused.
 
+ghost use Rattle.std.specs.Prelude.{◌≡◌, ℕ, List, IfOk, string_bytes};
+ghost use Rattle.eos_folder.specs.Paths.{segment_path};
+ghost use Rattle.eos_folder.specs.Refusals.{RefusesFold};
+ghost use Rattle.eos_folder.specs.declared.names.Form.TheVariants.{Fold};
+
 use crate::cause::Cause;
 use crate::folder::FolderFault;
 use crate::names::Form;
@@ -32,12 +37,16 @@ pub fn refused_fold(
     folder: &str,
     name: &Segment,
     refusal: FoldRefusal,
-) -> FolderFault {
+) -> FolderFault
+    ensures { RefusesFold (segment_path folder.now name.now Fold) result }
+{
     refused_at(segment_path(alloc, folder, name, Form::Fold), refusal)
 }
 
 /// The fold at this path is refused so.
-pub(crate) fn refused_at(path: Result<String, AllocError>, refusal: FoldRefusal) -> FolderFault {
+pub fn refused_at(path: Result<String, AllocError>, refusal: FoldRefusal) -> FolderFault
+    ensures { (at : List ℕ) → IfOk path (λ named. string_bytes named ≡ at) → RefusesFold at result }
+{
     match path {
         Ok(path) => FolderFault::Fold(path, refusal.name, Cause::Words(refusal.words)),
         Err(_) => FolderFault::OutOfMemory,

@@ -2,3 +2,4 @@ pub mod FoldBounds
 pub mod Saying
 pub mod SameShape
 pub mod OneEvidence
+pub mod Refused

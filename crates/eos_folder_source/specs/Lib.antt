@@ -1,3 +1,4 @@
 pub mod Logs
+pub mod Refusals
 pub mod Saying
 pub mod steps

@@ -1,17 +1,21 @@
 //! The folds of a folder: how one is read, and why one is refused.
 
-ghost use Rattle.std.specs.Prelude.{◌≡◌, ◌≢◌, ◌≤◌, ◌<◌, ◌^◌, None, Some, Ok, IfOk};
+ghost use Rattle.std.specs.Prelude.{◌≡◌, ◌≢◌, ◌≤◌, ◌<◌, ◌^◌, ℕ, List, None, Some, Ok, IfOk, IfErr, string_bytes};
+ghost use Rattle.eos_disk.specs.Entries.{Entry};
 ghost use Rattle.eos_fold_file.specs.Files.{record_count};
 ghost use Rattle.eos_fold_file.specs.Legal.{IsLegal};
 ghost use Rattle.eos_fold_file.specs.Reading.{read_fold};
+ghost use Rattle.eos_folder.specs.Paths.{segment_path};
+ghost use Rattle.eos_folder.specs.Refusals.{MayRefuse, RefusesFold, RefusesPiece};
+ghost use Rattle.eos_folder.specs.declared.names.Form.TheVariants.{Fold};
 ghost use Rattle.eos_folder_source.specs.steps.Folds.{IsForName};
 
 use bytes::Bytes;
 use eos_evidence::{MAX_SEGMENT_BYTES, Segment};
 use eos_fold_file::{FoldFault, FoldFile, decode_fold};
 use eos_fold_run::Unfit;
-use eos_folder::{Cause, FoldRefusal, FolderFault, Form, refused_fold, segment_path};
-use std::alloc::Global;
+use eos_folder::{Cause, FoldRefusal, FolderFault, Form, refused_at, refused_fold, segment_path};
+use std::alloc::{AllocError, Global};
 
 /// Why a fold isn't one of the segment by whose name its file lies there.
 #[derive(Clone, Copy)]
@@ -42,7 +46,7 @@ fn mismatch_of(name: &Segment, fold: &FoldFile) -> Option<Mismatch>
 
 /// The fold of the segment of this name in a folder, of these bytes. It has no more records than its segment has bytes, so a small file
 /// can't make a check go over more records than a segment has room for.
-#[tactic(auto, using(crate::proofs::FoldBounds::records_within))]
+#[tactic(auto, using(crate::proofs::FoldBounds::records_within, crate::proofs::Refused::fold_piece, crate::proofs::Refused::fold_so))]
 pub(crate) fn read_fold(
     alloc: Global,
     folder: &str,
@@ -53,6 +57,8 @@ pub(crate) fn read_fold(
     ensures legal { IfOk result IsLegal }
     ensures named { IfOk result (IsForName name.now) }
     ensures room { IfOk result (λ fold. record_count fold.heads ≤ fold.bytes) }
+    ensures path { IfErr result (RefusesPiece (segment_path folder.now name.now Fold)) }
+    ensures so { (e : Entry) → IfErr result (MayRefuse e) }
 {
     match decode_fold(alloc, bytes) {
         Ok(fold) => match mismatch_of(name, &fold) {
@@ -65,7 +71,11 @@ pub(crate) fn read_fold(
 }
 
 /// The fold of this name is of another segment.
-fn refused_as(alloc: Global, folder: &str, name: &Segment, why: Mismatch) -> FolderFault {
+#[tactic(auto, using(crate::proofs::Refused::fold_piece, crate::proofs::Refused::fold_so))]
+fn refused_as(alloc: Global, folder: &str, name: &Segment, why: Mismatch) -> FolderFault
+    ensures path { RefusesPiece (segment_path folder.now name.now Fold) result }
+    ensures so { (e : Entry) → MayRefuse e result }
+{
     let refusal = match why {
         Mismatch::Partition => FoldRefusal {
             name: "Partition",
@@ -85,13 +95,10 @@ fn refused_as(alloc: Global, folder: &str, name: &Segment, why: Mismatch) -> Fol
     refused_fold(alloc, folder, name, refusal)
 }
 
-/// The fold of the segment of this name can't be taken for what is asked.
-pub(crate) fn refused_unfit(
-    alloc: Global,
-    folder: &str,
-    name: &Segment,
-    why: Unfit,
-) -> FolderFault {
+/// The fold in the file of this path can't be taken for what is asked.
+pub(crate) fn refused_unfit(path: Result<String, AllocError>, why: Unfit) -> FolderFault
+    ensures { (at : List ℕ) → IfOk path (λ named. string_bytes named ≡ at) → RefusesFold at result }
+{
     let refusal = match why {
         Unfit::Roles => FoldRefusal {
             name: FoldFault::Roles.name(),
@@ -103,7 +110,7 @@ pub(crate) fn refused_unfit(
         },
         Unfit::OutOfMemory => return FolderFault::OutOfMemory,
     };
-    refused_fold(alloc, folder, name, refusal)
+    refused_at(path, refusal)
 }
 
 /// Bytes are no fold by this fault.

@@ -1,6 +1,6 @@
 //! A folder of a disk as a source.
 
-ghost use Rattle.std.specs.Prelude.{◌≡◌, Some, IfSome, slice_get};
+ghost use Rattle.std.specs.Prelude.{◌≡◌, ◌≤◌, ◌⊎◌, None, Some, IfSome, length, slice_get};
 ghost use Rattle.eos_evidence.specs.Evidence.{segments_of};
 
 use crate::fold::{read_fold, refused_unfit};
@@ -30,6 +30,7 @@ pub(crate) fn piece_of<'a>(
 ) -> Option<(&'a Segment, Form)>
     ensures name { IfSome result (λ found. slice_get (segments_of shape.now.partitions) piece ≡ Some found.0.now) }
     ensures form { IfSome result (λ found. slice_get forms.now piece ≡ Some found.1) }
+    ensures none { result ≡ None → (length (segments_of shape.now.partitions) ≤ piece) ⊎ (length forms.now ≤ piece) }
 {
     if piece >= shape.pieces() || piece >= forms.len() as u64 {
         return None;
@@ -44,15 +45,18 @@ impl<'a, D: Disk, W: Watch> Source for FolderSource<'a, D, W> {
 
     ghost use Rattle.eos_evidence.specs.Evidence.{segments_of};
     ghost use Rattle.eos_folder_source.specs.Logs.{is_log_at};
+    ghost use Rattle.eos_folder_source.specs.Refusals.{OutcomeAt};
     ghost use Rattle.eos_folder_source.specs.Saying.{said_at};
 
     ghost said = { λ s piece. said_at (D.holds s.disk.now) s.folder.now (segments_of s.shape.now.evidence.partitions) s.shape.now.forms.items piece };
 
     ghost is_log = { λ s piece. is_log_at s.shape.now.forms.items piece };
 
+    ghost outcomes = { λ s piece why. OutcomeAt (D.holds s.disk.now) s.folder.now (segments_of s.shape.now.evidence.partitions) s.shape.now.forms.items piece why };
+
     /// Opens the file of a segment. There is no file of a number that the shape doesn't have, which is answered as a segment too
     /// many.
-    #[tactic(auto, using(crate::proofs::Saying::log_at, crate::proofs::Saying::fold_at))]
+    #[tactic(auto, using(crate::proofs::Saying::log_at, crate::proofs::Saying::fold_at, crate::proofs::Refused::no_piece, crate::proofs::Refused::memory_at, crate::proofs::Refused::unopened_at, crate::proofs::Refused::file_at, crate::proofs::Refused::piece_at, crate::proofs::Refused::opened_at))]
     fn open(
         &self,
         alloc: Global,
@@ -64,11 +68,14 @@ impl<'a, D: Disk, W: Watch> Source for FolderSource<'a, D, W> {
         };
         let path = segment_path(alloc, self.folder, name, form)?;
         let opened = self.disk.open(alloc, path.as_str());
-        let file = NamedFile::of_opened(path, opened)?;
+        let named = NamedFile::of_opened(path, opened)?;
         match form {
-            Form::Log => Ok(Piece::Log(SegmentReader::new(file, self.watch))),
+            Form::Log => {
+                let NamedFile { file, .. } = named;
+                Ok(Piece::Log(SegmentReader::new(file, self.watch)))
+            }
             Form::Fold => {
-                let bytes = file.read_whole(alloc)?;
+                let bytes = named.read_whole(alloc)?;
                 self.watch.read(bytes.len() as u64);
                 let fold = read_fold(alloc, self.folder, name, &bytes)?;
                 Ok(Piece::Fold(fold))
@@ -76,19 +83,30 @@ impl<'a, D: Disk, W: Watch> Source for FolderSource<'a, D, W> {
         }
     }
 
+    /// The path is made again of the piece's number, since of a reader that was lent nothing but its bytes is known.
+    #[tactic(auto, using(crate::proofs::Refused::no_piece, crate::proofs::Refused::memory_at, crate::proofs::Refused::file_at))]
     fn refusal(
         &self,
         alloc: Global,
-        _piece: u64,
+        piece: u64,
         reader: &mut SegmentReader<'a, D::File, W>,
         why: ReadFault,
     ) -> FolderFault {
-        reader.refusal(alloc, why)
+        match piece_of(&self.shape.evidence, self.shape.forms.as_slice(), piece) {
+            Some((name, form)) => match segment_path(alloc, self.folder, name, form) {
+                Ok(path) => reader.refusal(alloc, path, why),
+                Err(_) => FolderFault::OutOfMemory,
+            },
+            None => FolderFault::Limit(Cause::Unknown),
+        }
     }
 
+    #[tactic(auto, using(crate::proofs::Refused::no_piece, crate::proofs::Refused::fold_at))]
     fn unfit(&self, alloc: Global, piece: u64, why: Unfit) -> FolderFault {
         match piece_of(&self.shape.evidence, self.shape.forms.as_slice(), piece) {
-            Some((name, _)) => refused_unfit(alloc, self.folder, name, why),
+            Some((name, form)) => {
+                refused_unfit(segment_path(alloc, self.folder, name, form), why)
+            }
             None => FolderFault::Limit(Cause::Unknown),
         }
     }

@@ -13,9 +13,10 @@ use Rattle.eos_touch.specs.Front.{ContinuesFrom}
 use Rattle.eos_fold.specs.declared.stop.Stop.{Stop}
 use Rattle.eos_fold.specs.declared.stop.Stop.TheVariants.{AtEnd, NoBatch, Elsewhere}
 use Rattle.eos_fold.specs.Fronts.{StopsAt}
-use Rattle.eos_fold_file.specs.declared.epoch.EpochEntry.{EpochEntry}
+use Rattle.eos_reading.specs.declared.epoch.EpochEntry.{EpochEntry}
 use Rattle.eos_fold_file.specs.declared.head.FoldHead.{FoldHead}
-use Rattle.eos_fold_file.specs.Epochs.{is_change, entry_at, epoch_entries, are_entries}
+use Rattle.eos_reading.specs.Epochs.{is_change, entry_at, epoch_entries}
+use Rattle.eos_fold_file.specs.Epochs.{are_entries}
 use Rattle.eos_fold_file.specs.Files.{size_sum}
 use Rattle.eos_fold_file.specs.Folds.{HasFoldHeads}
 use Rattle.eos_fold_file.specs.Stops.{is_inside}

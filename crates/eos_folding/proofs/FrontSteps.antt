@@ -20,6 +20,7 @@ use Rattle.eos_fold.specs.Fronts.{StopsAt}
 use Rattle.eos_reading.specs.Folds.{FoldedView, IsFolded}
 use Rattle.eos_reading.specs.Heads.{HasHeads}
 use Rattle.eos_reading.specs.Kept.{kept_in, kept_of}
+use Rattle.eos_reading.specs.Seals.{AreSeals, entries_of}
 use Rattle.eos_reading.proofs.KeptLists.{taken_back}
 use Rattle.eos_keeping.specs.declared.output.KeptOutput.{KeptOutput}
 use Rattle.eos_keeping.specs.Outputs.{kept_output}
@@ -37,12 +38,13 @@ use Rattle.eos_fold_file.specs.Records.{is_placed}
 use Rattle.eos_fold_file.specs.Legal.{IsRightStop, IsRightKept, IsRight}
 use Rattle.eos_folding.specs.declared.front.Front.{Front}
 use Rattle.eos_folding.specs.declared.pass.Passed.{Passed}
-use Rattle.eos_folding.specs.declared.seals.Seal.{Seal}
-use Rattle.eos_folding.specs.steps.Seals.{AreSeals, entries_of, checksum_text}
+use Rattle.eos_reading.specs.declared.seals.Seal.{Seal}
+use Rattle.eos_folding.specs.steps.Seals.{checksum_text}
 use Rattle.eos_folding.specs.steps.Fronts.{stop_of, IsFront}
 use Rattle.eos_folding.specs.steps.Passing.{AllFit, FollowFrom, EndsBefore, Passes}
 use Rattle.eos_folding.proofs.EpochEntries.{entries_fit, sizes_are, stop_inside}
-use Rattle.eos_folding.proofs.SealSteps.{seals_taken, entries_are, checksums_are}
+use Rattle.eos_reading.proofs.SealSteps.{seals_taken, entries_are}
+use Rattle.eos_folding.proofs.SealSteps.{checksums_are}
 use Rattle.eos_folding.proofs.HeadCounts.{kept_counted, records_counted, records_fit, all_possible}
 use Rattle.eos_folding.proofs.PlacedClaims.{all_placed}
 

@@ -1,5 +1,4 @@
 pub mod HeadCounts
-pub mod SealTexts
 pub mod SealSteps
 pub mod SealLists
 pub mod EpochEntries

@@ -17,8 +17,8 @@ use eos_batch::BatchFault;
 use eos_chunks::read_folded;
 use eos_evidence::{MAX_SEGMENT_BYTES, ReadFault};
 use eos_fold::Stop;
-use eos_fold_file::{EpochEntry, FoldHead};
-use eos_reading::Reading;
+use eos_fold_file::FoldHead;
+use eos_reading::{EpochEntry, Reading};
 use std::alloc::{AllocError, Global};
 use std::io::Read;
 

@@ -4,11 +4,10 @@ ghost use Rattle.std.specs.Prelude.{◌≡◌, ◌≤◌, ◌++◌, ℕ, List, [
 ghost use Rattle.eos_batch.specs.declared.record.Record.{Record};
 ghost use Rattle.eos_folding.specs.steps.Sealing.{IsSealing, IsSealed};
 
-use crate::seals::{Seal, read_seals};
 use bytes::Bytes;
 use eos_batch::{BatchFault, BatchHead};
 use eos_chunks::ByteFold;
-use eos_reading::{Reading, keep_batches};
+use eos_reading::{Reading, Seal, keep_batches, read_seals};
 use std::alloc::{AllocError, Global};
 use std::marker::Model;
 

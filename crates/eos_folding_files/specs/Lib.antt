@@ -1,2 +1,4 @@
 pub mod Folding
 pub mod Paths
+pub mod Verifying
+pub mod VerifyingLines

@@ -1,10 +1,11 @@
 //! Folding segments, one after the other.
 
-ghost use Rattle.std.specs.Prelude.{◌≡◌, ℕ, List, map, Ok, IfOk, OnOk, OnErr};
+ghost use Rattle.std.specs.Prelude.{◌≡◌, ℕ, List, map, Ok, IfOk, OnOk, OnErr, string_bytes};
 ghost use Rattle.eos_disk.specs.Entries.{HasBytes};
 ghost use Rattle.eos_evidence.specs.Manifest.{spec_said_by};
 ghost use Rattle.eos_evidence.specs.Parts.{Parts};
 ghost use Rattle.eos_fold_file.specs.Legal.{IsRight};
+ghost use Rattle.eos_folder.specs.Refusals.{RefusesFile};
 ghost use Rattle.eos_source.specs.Topics.{AreSourceTopics};
 ghost use Rattle.eos_folding_files.specs.Folding.{item_of, items_in, items_of, AreFoldersAt, IsFoldAt, IsFoldPut, IsFoldLeft, Folded as AreFolded, FoldedInPart};
 ghost use Rattle.eos_folding_files.specs.declared.folder.PartitionFolder.{PartitionFolder};
@@ -14,13 +15,14 @@ use crate::folder::{PartitionFolder, find_folders};
 use crate::writing::write_fold;
 use bytes::Bytes;
 use eos_disk::{Disk, DiskMut};
-use eos_evidence::App;
+use eos_evidence::{App, ReadFault};
 use eos_fold_file::{FoldFile, encode_fold};
-use eos_folder::{open_log, read_manifest};
+use eos_folder::{FolderFault, NamedFile, open_log, read_manifest, refusal_of};
 use eos_folding::fold_of;
 use eos_source::source_topics;
 use eos_wanted::{Wanted, Wants};
 use std::alloc::Global;
+use std::io::Read;
 
 /// What is given.
 #[derive(Clone, Copy)]
@@ -162,6 +164,18 @@ fn fold_segment<'a, D: DiskMut>(
     Ok(fold.bytes)
 }
 
+/// Why reading this file ended so.
+pub(crate) fn refused<F: Read + Drop>(
+    alloc: Global,
+    named: NamedFile<F>,
+    why: ReadFault,
+) -> FolderFault
+    ensures { RefusesFile (string_bytes named.path) result }
+{
+    let NamedFile { path, mut file } = named;
+    refusal_of(alloc, path, &mut file, why)
+}
+
 /// The fold of the segment of a partition's folder with this first offset.
 fn read_fold<'a, D: Disk>(
     alloc: Global,
@@ -177,6 +191,6 @@ fn read_fold<'a, D: Disk>(
     let mut file = open_log(alloc, disk, folder.path, base)?;
     match fold_of(alloc, asked.wanted, asked.topics, &name, &mut file) {
         Ok(fold) => Ok(fold),
-        Err(why) => Err(FoldingFault::Unread(file.refusal(alloc, why))),
+        Err(why) => Err(FoldingFault::Unread(refused(alloc, file, why))),
     }
 }

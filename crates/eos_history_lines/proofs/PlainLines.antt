@@ -20,12 +20,14 @@ use Rattle.eos_machine.specs.declared.event.Reply.TheVariants as replies
 use Rattle.eos_machine.specs.declared.switches.Switches.{Switches}
 use Rattle.eos_history_lines.specs.declared.line.Head.{Head}
 use Rattle.eos_history_lines.specs.declared.line.Deed.{Deed}
-use Rattle.eos_history_lines.specs.declared.line.Deed.TheVariants.{Asked, Set}
+use Rattle.eos_history_lines.specs.declared.line.Deed.TheVariants.{Asked, Set, Noted}
+use Rattle.eos_history_lines.specs.declared.line.Note.{Note}
+use Rattle.eos_history_lines.specs.declared.line.Note.TheVariants as notes
 use Rattle.eos_history_lines.specs.declared.line.Line.{Line}
 use Rattle.eos_history_lines.specs.declared.line.Tail.{Tail}
 use Rattle.eos_history_lines.specs.declared.line.Row.{Row}
 use Rattle.eos_history_lines.specs.declared.line.Row.TheVariants as rows
-use Rattle.eos_history_lines.specs.Lines.{count, integer, topic_value, named_if, switch_names, switches_value, with_sizes, with_asked, head_value, with_claim, claim_value, claimed, offset_or_null, with_arguments, with_event, with_value, with_reply, with_deed, line_value, with_tail, tail_value, row_value}
+use Rattle.eos_history_lines.specs.Lines.{count, integer, topic_value, named_if, switch_names, switches_value, with_sizes, with_asked, head_value, with_claim, claim_value, claimed, offset_or_null, with_arguments, with_event, with_value, with_reply, with_subject, with_note, with_deed, line_value, with_tail, tail_value, row_value}
 
 -- no float, at most so deep, and each member of an object once
 pub record Flat (n : ℕ) (d : Data) : Type 0 where
@@ -231,10 +233,21 @@ unfolding with_reply
 reply_flat None ms h = h
 reply_flat (Some r) ms h = value_flat r _ (put_flat 2 _ _ ms (string_flat 2 _) h)
 
+subject_flat : (note : Note) (ms : JsonMembers) → FlatMembers 2 ms → FlatMembers 2 (with_subject note ms)
+unfolding with_subject
+subject_flat (notes.Lost message) ms h = one _ message ms h
+subject_flat (notes.Repeated message) ms h = one _ message ms h
+subject_flat (notes.Erred mishap) ms h = put_flat 2 _ _ ms (topic_flat 1 mishap) h
+
+note_flat : (note : Note) (ms : JsonMembers) → FlatMembers 2 ms → FlatMembers 2 (with_note note ms)
+unfolding with_note
+note_flat note ms h = subject_flat note _ (put_flat 2 _ _ ms (string_flat 2 _) h)
+
 deed_flat : (d : Deed) (ms : JsonMembers) → FlatMembers 2 ms → FlatMembers 2 (with_deed d ms)
 unfolding with_deed
 deed_flat (Asked event reply) ms h = event_flat event _ (reply_flat reply ms h)
 deed_flat (Set switches) ms h = put_flat 2 _ _ ms (switches_flat 1 switches) h
+deed_flat (Noted note) ms h = note_flat note ms h
 
 pub line_flat : (l : Line) → Flat 3 (line_value l)
 unfolding line_value

@@ -21,15 +21,17 @@ use Rattle.eos_machine.specs.declared.switches.Switch.TheVariants.{KeepDuplicate
 use Rattle.eos_machine.specs.Switching.{switch_name}
 use Rattle.eos_history_lines.specs.declared.line.Head.{Head}
 use Rattle.eos_history_lines.specs.declared.line.Deed.{Deed}
-use Rattle.eos_history_lines.specs.declared.line.Deed.TheVariants.{Asked, Set}
+use Rattle.eos_history_lines.specs.declared.line.Deed.TheVariants.{Asked, Set, Noted}
+use Rattle.eos_history_lines.specs.declared.line.Note.{Note}
+use Rattle.eos_history_lines.specs.declared.line.Note.TheVariants as notes
 use Rattle.eos_history_lines.specs.declared.line.Line.{Line}
 use Rattle.eos_history_lines.specs.declared.line.Tail.{Tail}
 use Rattle.eos_history_lines.specs.declared.line.Row.{Row}
 use Rattle.eos_history_lines.specs.declared.line.Row.TheVariants as rows
-use Rattle.eos_history_lines.specs.Fits.{FitsClaim, FitsEvent, FitsDeed, FitsRow}
-use Rattle.eos_history_lines.specs.Words.{event_word}
-use Rattle.eos_history_lines.specs.Lines.{count, topic_value, named_if, switch_names, switches_value, with_sizes, with_asked, head_value, with_claim, claim_value, claimed, offset_or_null, with_arguments, with_event, with_value, with_reply, with_deed, line_value, with_tail, tail_value, row_value}
-use Rattle.eos_history_lines.specs.steps.Reading.{as_small, claim_in, claim_or_none, offset_or_none, event_called, event_in, reply_in, reply_from, is_text, is_named, switches_in, head_in, deed_from, deed_in, line_in, tail_in, row_from, row_in}
+use Rattle.eos_history_lines.specs.Fits.{FitsClaim, FitsEvent, FitsNote, FitsDeed, FitsRow}
+use Rattle.eos_history_lines.specs.Words.{event_word, note_word}
+use Rattle.eos_history_lines.specs.Lines.{count, integer, topic_value, named_if, switch_names, switches_value, with_sizes, with_asked, head_value, with_claim, claim_value, claimed, offset_or_null, with_arguments, with_event, with_value, with_reply, with_subject, with_note, with_deed, line_value, with_tail, tail_value, row_value}
+use Rattle.eos_history_lines.specs.steps.Reading.{as_small, claim_in, claim_or_none, offset_or_none, event_called, event_in, reply_in, reply_from, is_text, is_named, switches_in, head_in, note_called, deed_from, deed_of, deed_in, line_in, tail_in, row_from, row_in}
 
 -- ---- looking up what was put
 
@@ -295,21 +297,44 @@ tail_back t = refl
 -- a name that stands in no deed
 record NoDeed (q : List ℕ) : Type 0 where
   argument : NoArgument q
+  note : bytes_eq q (codes "note") ≡ false
+  mishap : bytes_eq q (codes "mishap") ≡ false
   event : bytes_eq q (codes "event") ≡ false
   reply : bytes_eq q (codes "reply") ≡ false
   value : bytes_eq q (codes "value") ≡ false
 
-past_asked : (q : List ℕ) (e : Event) (r : Option Reply) (ms : JsonMembers) → NoDeed q → get_member q (with_event e (with_reply r ms)) ≡ get_member q ms
+-- or in no event with its reply
+record NoAsked (q : List ℕ) : Type 0 where
+  argument : NoArgument q
+  event : bytes_eq q (codes "event") ≡ false
+  reply : bytes_eq q (codes "reply") ≡ false
+  value : bytes_eq q (codes "value") ≡ false
+
+past_asked : (q : List ℕ) (e : Event) (r : Option Reply) (ms : JsonMembers) → NoAsked q → get_member q (with_event e (with_reply r ms)) ≡ get_member q ms
 past_asked q e r ms n = past_event q e _ n.argument n.event ∙ past_reply q r ms n.value n.reply
 
-past_deed : (q : List ℕ) (d : Deed) (ms : JsonMembers) → NoDeed q → bytes_eq q (codes "set") ≡ false → get_member q (with_deed d ms) ≡ get_member q ms
-unfolding with_deed
-past_deed q (Asked event reply) ms n differ = past_asked q event reply ms n
-past_deed q (Set switches) ms n differ = other q _ _ ms differ
+past_subject : (q : List ℕ) (n : Note) (ms : JsonMembers) → bytes_eq q (codes "message") ≡ false → bytes_eq q (codes "mishap") ≡ false → get_member q (with_subject n ms) ≡ get_member q ms
+unfolding with_subject
+past_subject q (notes.Lost message) ms p r = other q _ _ ms p
+past_subject q (notes.Repeated message) ms p r = other q _ _ ms p
+past_subject q (notes.Erred mishap) ms p r = other q _ _ ms r
 
-deed_back : (d : Deed) (ms : JsonMembers) → FitsDeed d → get_member (codes "set") ms ≡ None → get_member (codes "reply") ms ≡ None → deed_in (object (with_deed d ms)) ≡ Some d
-unfolding with_deed switches_value
-deed_back (Asked event reply) ms h set none =
+past_deed : (q : List ℕ) (d : Deed) (ms : JsonMembers) → NoDeed q → bytes_eq q (codes "set") ≡ false → get_member q (with_deed d ms) ≡ get_member q ms
+unfolding with_deed with_note
+past_deed q (Asked event reply) ms n differ = past_asked q event reply ms (record { argument = n.argument; event = n.event; reply = n.reply; value = n.value })
+past_deed q (Set switches) ms n differ = other q _ _ ms differ
+past_deed q (Noted note) ms n differ = past_subject q note _ n.argument.message n.mishap ∙ other q _ _ ms n.note
+
+-- what was noted
+noted_back : (n : Note) (ms : JsonMembers) → FitsNote n → note_called (note_word n) (object (with_subject n ms)) ≡ Some n
+unfolding with_subject
+noted_back (notes.Lost message) ms h = rw (get_member-put (codes "message") (count message) ms) refl
+noted_back (notes.Repeated message) ms h = rw (get_member-put (codes "message") (count message) ms) refl
+noted_back (notes.Erred mishap) ms h = rw (get_member-put (codes "mishap") (topic_value mishap) ms, h) refl
+
+deed_back : (d : Deed) (ms : JsonMembers) → FitsDeed d → get_member (codes "note") ms ≡ None → get_member (codes "set") ms ≡ None → get_member (codes "reply") ms ≡ None → deed_in (object (with_deed d ms)) ≡ Some d
+unfolding with_deed with_note switches_value
+deed_back (Asked event reply) ms h note set none =
     let base = with_reply reply ms in
     let d = object (with_event event base) in
     let no_set = past_asked (codes "set") event reply ms (record {
@@ -318,14 +343,27 @@ deed_back (Asked event reply) ms h set none =
       reply = refl;
       value = refl;
     }) ∙ set in
+    let no_note = past_asked (codes "note") event reply ms (record {
+      argument = record { source = refl; application = refl; session = refl; partition = refl; claim = refl; offset = refl; kind = refl; topic = refl; message = refl };
+      event = refl;
+      reply = refl;
+      value = refl;
+    }) ∙ note in
     let replied = reply_said reply d ms
     (past_event (codes "reply") event base (record { source = refl; application = refl; session = refl; partition = refl; claim = refl; offset = refl; kind = refl; topic = refl; message = refl }) refl)
     (past_event (codes "value") event base (record { source = refl; application = refl; session = refl; partition = refl; claim = refl; offset = refl; kind = refl; topic = refl; message = refl }) refl)
     none in
-    ap (λ o. deed_from o d) no_set ∙ ap (λ o. option_and_then (λ r. option_map (λ e. Asked e r) (event_in d)) o) replied ∙ ap (λ o. option_map (λ e. Asked e reply) o) (event_said event base h)
-deed_back (Set switches) ms h set none =
-    ap (λ o. deed_from o (object (put (codes "set") (array (items_of (switch_names switches))) ms))) (get_member-put (codes "set") (array (items_of (switch_names switches))) ms)
+    ap (λ o. deed_of o d) no_note ∙ ap (λ o. deed_from o d) no_set ∙ ap (λ o. option_and_then (λ r. option_map (λ e. Asked e r) (event_in d)) o) replied ∙ ap (λ o. option_map (λ e. Asked e reply) o) (event_said event base h)
+deed_back (Set switches) ms h note set none =
+    let d = object (put (codes "set") (array (items_of (switch_names switches))) ms) in
+    ap (λ o. deed_of o d) (other (codes "note") (codes "set") (array (items_of (switch_names switches))) ms refl ∙ note)
+    ∙ ap (λ o. deed_from o d) (get_member-put (codes "set") (array (items_of (switch_names switches))) ms)
     ∙ ap (λ (s : Switches). Some (Set s)) (switches_back switches)
+deed_back (Noted note) ms h none set reply =
+    let base = put (codes "note") (string (note_word note)) ms in
+    let d = object (with_subject note base) in
+    let said = past_subject (codes "note") note base refl refl ∙ get_member-put (codes "note") (string (note_word note)) ms in
+    ap (λ o. deed_of o d) said ∙ ap (λ o. option_map (λ (n : Note). Noted n) o) (noted_back note base h)
 
 line_back : (l : Line) → FitsDeed l.deed → line_in (line_value l) ≡ Some l
 unfolding line_value
@@ -334,12 +372,14 @@ line_back l h =
     let d = object (with_deed l.deed base) in
     let numbered = past_deed (codes "number") l.deed base (record {
       argument = record { source = refl; application = refl; session = refl; partition = refl; claim = refl; offset = refl; kind = refl; topic = refl; message = refl };
+      note = refl;
+      mishap = refl;
       event = refl;
       reply = refl;
       value = refl;
     }) refl in
     ap (λ o. option_and_then (λ n. option_map (λ deed. record { number = n; deed = deed }) (deed_in d)) (option_and_then (λ v. option_and_then as_u64 (as_number v)) o)) numbered
-    ∙ ap (λ o. option_map (λ (deed : Deed). record { number = l.number; deed = deed }) o) (deed_back l.deed base h refl refl)
+    ∙ ap (λ o. option_map (λ (deed : Deed). record { number = l.number; deed = deed }) o) (deed_back l.deed base h refl refl refl)
 
 pub row_back : (r : Row) → FitsRow r → row_in (row_value r) ≡ Some r
 unfolding line_value tail_value with_tail
@@ -347,6 +387,8 @@ row_back (rows.Line l) h =
     let base = put (codes "number") (count l.number) no_members in
     let no_total = past_deed (codes "events") l.deed base (record {
       argument = record { source = refl; application = refl; session = refl; partition = refl; claim = refl; offset = refl; kind = refl; topic = refl; message = refl };
+      note = refl;
+      mishap = refl;
       event = refl;
       reply = refl;
       value = refl;

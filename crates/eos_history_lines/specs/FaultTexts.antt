@@ -2,7 +2,7 @@
 use Rattle.std.specs.Prelude.{ℕ, List, ◌++◌, codes}
 use Rattle.std.specs.Fmt.{decimal}
 use Rattle.eos_history_lines.specs.declared.mistake.Mistake.{Mistake}
-use Rattle.eos_history_lines.specs.declared.mistake.Mistake.TheVariants.{NoObject, Absent, Another, UnknownEvent, UnknownReply, UnknownSwitch, SwitchOrder, Surplus, Doubled, AfterTail}
+use Rattle.eos_history_lines.specs.declared.mistake.Mistake.TheVariants.{NoObject, Absent, Another, UnknownEvent, UnknownReply, UnknownSwitch, SwitchOrder, UnknownNote, Surplus, Doubled, AfterTail}
 use Rattle.eos_history_lines.specs.declared.fault.LineFault.{LineFault}
 use Rattle.eos_history_lines.specs.declared.fault.LineFault.TheVariants.{NotJson, Mistaken, OutOfMemory}
 use Rattle.eos_history_lines.specs.declared.schedule.ScheduleFault.{ScheduleFault}
@@ -15,6 +15,7 @@ mistake_text UnknownEvent = codes "there is no event of this name"
 mistake_text UnknownReply = codes "there is no reply of this name"
 mistake_text UnknownSwitch = codes "there is no switch of this name"
 mistake_text SwitchOrder = codes "the switches aren't in their order, each once"
+mistake_text UnknownNote = codes "there is no note of this name"
 mistake_text Surplus = codes "it has a member that such a line hasn't"
 mistake_text Doubled = codes "a member stands twice in it"
 mistake_text AfterTail = codes "it stands after the line of the totals"

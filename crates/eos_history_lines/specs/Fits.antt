@@ -6,7 +6,9 @@ use Rattle.eos_machine.specs.declared.item.Claim.{Claim}
 use Rattle.eos_machine.specs.declared.event.Event.{Event}
 use Rattle.eos_machine.specs.declared.event.Event.TheVariants.{Feed, Start, Produce, Commit, End, Resume, Fetch, Members, BrokerRestart, CoordinatorRestart, Deliver}
 use Rattle.eos_history_lines.specs.declared.line.Deed.{Deed}
-use Rattle.eos_history_lines.specs.declared.line.Deed.TheVariants.{Asked, Set}
+use Rattle.eos_history_lines.specs.declared.line.Deed.TheVariants.{Asked, Set, Noted}
+use Rattle.eos_history_lines.specs.declared.line.Note.{Note}
+use Rattle.eos_history_lines.specs.declared.line.Note.TheVariants as notes
 use Rattle.eos_history_lines.specs.declared.line.Row.{Row}
 use Rattle.eos_history_lines.specs.declared.line.Row.TheVariants as rows
 
@@ -30,9 +32,15 @@ FitsEvent (BrokerRestart topic partition) = is_utf8 topic ≡ true
 FitsEvent CoordinatorRestart = ⊤
 FitsEvent (Deliver message) = ⊤
 
+abbrev pub FitsNote : Note → Type 0
+FitsNote (notes.Lost message) = ⊤
+FitsNote (notes.Repeated message) = ⊤
+FitsNote (notes.Erred mishap) = is_utf8 mishap ≡ true
+
 abbrev pub FitsDeed : Deed → Type 0
 FitsDeed (Asked event reply) = FitsEvent event
 FitsDeed (Set switches) = ⊤
+FitsDeed (Noted note) = FitsNote note
 
 abbrev pub FitsRow : Row → Type 0
 FitsRow (rows.Line l) = FitsDeed l.deed

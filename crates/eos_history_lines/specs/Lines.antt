@@ -16,12 +16,14 @@ use Rattle.eos_machine.specs.declared.switches.Switch.TheVariants.{KeepDuplicate
 use Rattle.eos_machine.specs.Switching.{switch_name}
 use Rattle.eos_history_lines.specs.declared.line.Head.{Head}
 use Rattle.eos_history_lines.specs.declared.line.Deed.{Deed}
-use Rattle.eos_history_lines.specs.declared.line.Deed.TheVariants.{Asked, Set}
+use Rattle.eos_history_lines.specs.declared.line.Deed.TheVariants.{Asked, Set, Noted}
+use Rattle.eos_history_lines.specs.declared.line.Note.{Note}
+use Rattle.eos_history_lines.specs.declared.line.Note.TheVariants as notes
 use Rattle.eos_history_lines.specs.declared.line.Line.{Line}
 use Rattle.eos_history_lines.specs.declared.line.Tail.{Tail}
 use Rattle.eos_history_lines.specs.declared.line.Row.{Row}
 use Rattle.eos_history_lines.specs.declared.line.Row.TheVariants as rows
-use Rattle.eos_history_lines.specs.Words.{kind_word, event_word, reply_word}
+use Rattle.eos_history_lines.specs.Words.{kind_word, note_word, event_word, reply_word}
 
 abbrev pub count : ℕ → Data
 count n = number (unsigned n)
@@ -120,11 +122,22 @@ unfoldable pub with_reply : Option Reply → JsonMembers → JsonMembers
 with_reply None ms = ms
 with_reply (Some reply) ms = with_value reply (put (codes "reply") (string (reply_word reply)) ms)
 
+-- ---- notes
+
+unfoldable pub with_subject : Note → JsonMembers → JsonMembers
+with_subject (notes.Lost message) ms = put (codes "message") (count message) ms
+with_subject (notes.Repeated message) ms = put (codes "message") (count message) ms
+with_subject (notes.Erred mishap) ms = put (codes "mishap") (topic_value mishap) ms
+
+unfoldable pub with_note : Note → JsonMembers → JsonMembers
+with_note note ms = with_subject note (put (codes "note") (string (note_word note)) ms)
+
 -- ---- the lines
 
 unfoldable pub with_deed : Deed → JsonMembers → JsonMembers
 with_deed (Asked event reply) ms = with_event event (with_reply reply ms)
 with_deed (Set switches) ms = put (codes "set") (switches_value switches) ms
+with_deed (Noted note) ms = with_note note ms
 
 unfoldable pub line_value : Line → Data
 line_value l = object (with_deed l.deed (put (codes "number") (count l.number) no_members))

@@ -2,6 +2,8 @@
 use Rattle.std.specs.Prelude.{ℕ, List, codes}
 use Rattle.eos_batch.specs.declared.marker.Kind.{Kind}
 use Rattle.eos_batch.specs.declared.marker.Kind.TheVariants as kinds
+use Rattle.eos_history_lines.specs.declared.line.Note.{Note}
+use Rattle.eos_history_lines.specs.declared.line.Note.TheVariants as notes
 use Rattle.eos_machine.specs.declared.event.Event.{Event}
 use Rattle.eos_machine.specs.declared.event.Event.TheVariants.{Feed, Start, Produce, Commit, End, Resume, Fetch, Members, BrokerRestart, CoordinatorRestart, Deliver}
 use Rattle.eos_machine.specs.declared.event.Reply.{Reply}
@@ -10,6 +12,11 @@ use Rattle.eos_machine.specs.declared.event.Reply.TheVariants.{Done, Fenced, Out
 abbrev pub kind_word : Kind → List ℕ
 kind_word kinds.Commit = codes "commit"
 kind_word kinds.Abort = codes "abort"
+
+abbrev pub note_word : Note → List ℕ
+note_word (notes.Lost message) = codes "lost"
+note_word (notes.Repeated message) = codes "repeated"
+note_word (notes.Erred mishap) = codes "mishap"
 
 abbrev pub event_word : Event → List ℕ
 event_word (Feed source) = codes "feed"

@@ -6,6 +6,7 @@
 //! | the first | `schema` (1), `applications`, `inputs`, `outputs`, `transaction_logs`, `segment_records`, `batch_records`, `chain` (whether there is a second group), `switches` (names), `seed`, `words` |
 //! | an event | `number`, `event` (its name), its arguments, and, where it is known, `reply`, with `value` where that is `done` |
 //! | a change of the rules | `number`, `set` (the names of the switches that are on from there) |
+//! | what happened beside it | `number`, `note` (`lost`, `repeated` or `mishap`), and `message`, or `mishap`: `NAME@TOPIC-N:O` |
 //! | the last, which may be absent | `events`, `transactions`, `lost`, `repeated` |
 //!
 //! Members stand in the order of their names where they are written; they are read in any order, each once.
@@ -19,6 +20,7 @@ mod line;
 mod members;
 mod mistake;
 mod names;
+mod notes;
 mod object;
 mod reader;
 mod replies;
@@ -32,7 +34,7 @@ mod words;
 mod writer;
 
 pub use fault::LineFault;
-pub use line::{Deed, Head, Line, Row, Tail};
+pub use line::{Deed, Head, Line, Note, Row, Tail};
 pub use mistake::Mistake;
 pub use rows::{head_of, row_of};
 pub use schedule::{Schedule, ScheduleFault, schedule_of};

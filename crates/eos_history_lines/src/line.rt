@@ -1,5 +1,6 @@
 //! What the lines of a history say.
 
+use bytes::Bytes;
 use eos_machine::{Config, Event, Reply, Switches};
 
 /// What a simulated cluster was, and what it was asked for: the first line.
@@ -21,6 +22,19 @@ pub enum Deed {
     Asked { event: Event, reply: Option<Reply> },
     /// From there on the cluster breaks these rules, and no others.
     Set(Switches),
+    /// This happened beside the cluster.
+    Noted(Note),
+}
+
+/// What happened beside a cluster.
+#[derive(Debug, Drop)]
+pub enum Note {
+    /// The network lost this message.
+    Lost(u64),
+    /// The network delivers this message again, or late.
+    Repeated(u64),
+    /// A transaction makes this mishap, as the command line names it, `NAME@TOPIC-N:O`.
+    Erred(Bytes),
 }
 
 /// A line between the first and the last.

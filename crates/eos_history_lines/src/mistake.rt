@@ -22,6 +22,8 @@ pub enum Mistake {
     UnknownSwitch,
     /// The switches aren't in their order, each once.
     SwitchOrder,
+    /// No note has its name.
+    UnknownNote,
     /// It has a member that such a line hasn't.
     Surplus,
     /// Two members of one object have one name.
@@ -42,6 +44,7 @@ impl Display for Mistake {
             Mistake::UnknownReply => f.write_str("there is no reply of this name"),
             Mistake::UnknownSwitch => f.write_str("there is no switch of this name"),
             Mistake::SwitchOrder => f.write_str("the switches aren't in their order, each once"),
+            Mistake::UnknownNote => f.write_str("there is no note of this name"),
             Mistake::Surplus => f.write_str("it has a member that such a line hasn't"),
             Mistake::Doubled => f.write_str("a member stands twice in it"),
             Mistake::AfterTail => f.write_str("it stands after the line of the totals"),

@@ -1,13 +1,15 @@
 //! Lines, read from the members of a JSON object. What is read may lack what stands there besides: the value of what was read is
 //! compared with it afterwards.
 
-ghost use Rattle.std.specs.Prelude.{◌≡◌, IfOk};
+ghost use Rattle.std.specs.Prelude.{◌≡◌, IfOk, codes};
+ghost use Rattle.serde_json.specs.Find.{get};
 ghost use Rattle.serde_json.specs.View.{view};
-ghost use Rattle.eos_history_lines.specs.steps.Reading.{switches_at, sizes_in, head_in, asked_in, deed_in, line_in, tail_in};
+ghost use Rattle.eos_history_lines.specs.steps.Reading.{switches_at, sizes_in, head_in, asked_in, deed_from, deed_in, line_in, tail_in};
 
 use crate::events::read_event;
 use crate::line::{Deed, Head, Line, Tail};
 use crate::members::{count_in, size_in};
+use crate::notes::read_note;
 use crate::replies::read_reply;
 use crate::switch_names::switches_in;
 use eos_machine::{Config, Switches};
@@ -71,6 +73,18 @@ pub(crate) fn read_line(alloc: Global, value: &Value) -> Result<Option<Line>, Al
 
 fn read_deed(alloc: Global, value: &Value) -> Result<Option<Deed>, AllocError>
     ensures { IfOk result (λ deed. deed ≡ deed_in (view value.now)) }
+{
+    match value.get("note") {
+        None => read_done(alloc, value),
+        Some(said) => match read_note(alloc, said, value)? {
+            Some(note) => Ok(Some(Deed::Noted(note))),
+            None => Ok(None),
+        },
+    }
+}
+
+fn read_done(alloc: Global, value: &Value) -> Result<Option<Deed>, AllocError>
+    ensures { IfOk result (λ deed. deed ≡ deed_from (get (codes "set") (view value.now)) (view value.now)) }
 {
     match value.get("set") {
         None => read_asked(alloc, value),

@@ -73,6 +73,9 @@ pub(crate) fn look_at_row(value: &Value) -> Result<(), Mistake> {
         );
     }
     look_at(value, &[("number", Wanted::Count)])?;
+    if value.get("note").is_some() {
+        return look_at_note(value);
+    }
     if value.get("set").is_some() {
         return look_at_switches(value, "set");
     }
@@ -136,6 +139,14 @@ fn look_at_reply(value: &Value) -> Result<(), Mistake> {
         "done" => look_at(value, &[("value", Wanted::Count)]),
         word if plain_reply(word).is_none() => Err(Mistake::UnknownReply),
         _ => Ok(()),
+    }
+}
+
+fn look_at_note(value: &Value) -> Result<(), Mistake> {
+    match text_at(value, "note")? {
+        "lost" | "repeated" => look_at(value, &[("message", Wanted::Count)]),
+        "mishap" => look_at(value, &[("mishap", Wanted::Text)]),
+        _ => Err(Mistake::UnknownNote),
     }
 }
 

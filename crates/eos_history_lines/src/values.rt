@@ -6,6 +6,7 @@ ghost use Rattle.eos_history_lines.specs.Lines.{with_sizes, with_reply, with_tai
 
 use crate::events::put_event;
 use crate::line::{Deed, Head, Line, Tail};
+use crate::notes::put_note;
 use crate::object::Object;
 use crate::switch_names::value_of_switches;
 use crate::words::reply_word;
@@ -50,6 +51,7 @@ pub(crate) fn put_line(alloc: Global, out: &mut Object, line: &Line) -> Result<(
             put_event(alloc, out, event)
         }
         Deed::Set(switches) => out.put("set", value_of_switches(alloc, *switches)?),
+        Deed::Noted(note) => put_note(out, note),
     }
 }
 

@@ -1,8 +1,9 @@
 //! The words of a history.
 
 ghost use Rattle.std.specs.Prelude.{◌≡◌};
-ghost use Rattle.eos_history_lines.specs.Words.{kind_word, event_word, reply_word};
+ghost use Rattle.eos_history_lines.specs.Words.{kind_word, note_word, event_word, reply_word};
 
+use crate::line::Note;
 use eos_batch::Kind;
 use eos_machine::{Event, Reply};
 
@@ -12,6 +13,16 @@ pub(crate) fn kind_word(kind: Kind) -> &'static str
     match kind {
         Kind::Commit => "commit",
         Kind::Abort => "abort",
+    }
+}
+
+pub(crate) fn note_word(note: &Note) -> &'static str
+    ensures { result.now ≡ note_word note.now }
+{
+    match note {
+        Note::Lost(_) => "lost",
+        Note::Repeated(_) => "repeated",
+        Note::Erred(_) => "mishap",
     }
 }
 

@@ -1,1 +1,3 @@
 pub mod Depths
+mod Floats
+mod Fresh

@@ -3,4 +3,8 @@ pub mod FaultValues
 pub mod NoteValues
 pub mod TallyValues
 pub mod Reports
+pub mod Lines
+pub mod Html
+pub mod PageTables
+pub mod Pages
 pub mod steps

@@ -3,7 +3,7 @@ use Rattle.std.specs.Prelude.{codes}
 use Rattle.serde_json.specs.Data.{Data, Members, no_members, object, string, put}
 use Rattle.eos_notes.specs.ManifestNotes.{internal_name}
 use Rattle.eos_notes.specs.declared.note.Note.{Note}
-use Rattle.eos_notes.specs.declared.note.Note.TheVariants.{NoApplication, Unlisted, PastEnd, NoPartition, Gap, NothingCommitted, NoInternal, Behind}
+use Rattle.eos_notes.specs.declared.note.Note.TheVariants.{NoApplication, Unlisted, PastEnd, NoPartition, Gap, NothingCommitted, NoInternal, Behind, EpochFalls}
 use Rattle.eos_json_report.specs.Values.{text_value, count, integer, with_partition}
 
 unfoldable pub with_note : Note → Members → Members
@@ -18,6 +18,7 @@ with_note (NothingCommitted group) ms = put (codes "group") (text_value group) (
 with_note (NoInternal topic) ms = put (codes "topic") (string (internal_name topic)) (put (codes "kind") (string (codes "NoInternal")) ms)
 with_note (Behind group below inputs) ms =
     put (codes "inputs") (count inputs) (put (codes "below") (count below) (put (codes "group") (text_value group) (put (codes "kind") (string (codes "Behind")) ms)))
+with_note (EpochFalls p offset) ms = put (codes "offset") (count offset) (with_partition p.topic p.partition (put (codes "kind") (string (codes "EpochFalls")) ms))
 
 unfoldable pub note_value : Note → Data
 note_value note = object (with_note note no_members)

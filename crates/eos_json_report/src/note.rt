@@ -4,7 +4,7 @@ ghost use Rattle.std.specs.Prelude.{◌≡◌, IfOk, OnOk, codes};
 ghost use Rattle.serde_json.specs.Data.{string, put as with_member};
 ghost use Rattle.serde_json.specs.View.{view, items_view};
 ghost use Rattle.eos_json_report.specs.steps.Held.{held};
-ghost use Rattle.eos_json_report.specs.Values.{text_value, with_partition};
+ghost use Rattle.eos_json_report.specs.Values.{text_value, count, with_partition};
 ghost use Rattle.eos_json_report.specs.NoteValues.{with_note, note_value};
 ghost use Rattle.eos_json_report.specs.Reports.{note_items};
 
@@ -75,7 +75,16 @@ fn put_note(out: &mut Object, note: &Note) -> Result<(), AllocError>
             out.put_count("below", *below)?;
             out.put_count("inputs", *inputs)
         }
+        Note::EpochFalls { partition, offset } => put_fall(out, partition, *offset),
     }
+}
+
+fn put_fall(out: &mut Object, partition: &PartitionName, offset: u64) -> Result<(), AllocError>
+    ensures { OnOk result (held out.new ≡ with_member (codes "offset") (count offset) (with_partition partition.now.topic partition.now.partition (with_member (codes "kind") (string (codes "EpochFalls")) (held out.old)))) }
+{
+    out.put_str("kind", "EpochFalls")?;
+    out.put_partition(partition.topic.as_slice(), partition.partition)?;
+    out.put_count("offset", offset)
 }
 
 fn put_of_partition(

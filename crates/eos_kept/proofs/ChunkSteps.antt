@@ -1,5 +1,5 @@
 -- A segment's front: one chunk more, and the end.
-use Rattle.std.proofs.Common.{◌≡◌, ◌≢◌, ◌⊎◌, inl, inr, ℕ, ◌+◌, Bool, List, [], ◌∷◌, ◌++◌, length, take, drop, Err, refl, sym, ap, subst, ◌∙◌, append_assoc, arith}
+use Rattle.std.proofs.Common.{◌≡◌, ◌≢◌, ◌⊎◌, inl, inr, ℕ, ◌+◌, ◌-◌, None, Bool, List, [], ◌∷◌, ◌++◌, length, take, drop, Err, refl, sym, ap, subst, ◌∙◌, append_assoc, arith}
 use Rattle.std.proofs.lemmas.List.{length-append, length-drop, nil_from_length}
 use Rattle.std.proofs.lemmas.Grind.{flat_map-append}
 use Rattle.eos_batch.specs.declared.batch.Batch.{Batch}
@@ -18,10 +18,16 @@ use Rattle.eos_fold.specs.declared.stop.Stop.{Stop}
 use Rattle.eos_fold.specs.declared.stop.Stop.TheVariants.{AtEnd, NoBatch, Elsewhere}
 use Rattle.eos_fold.specs.Fronts.{base_of, StopsAt}
 use Rattle.eos_fold.specs.Sums.{is_checked}
+use Rattle.eos_reading.specs.declared.epoch.EpochEntry.{EpochEntry}
+use Rattle.eos_reading.specs.declared.seals.Seal.{Seal}
+use Rattle.eos_reading.specs.Epochs.{epoch_entries, epoch_behind}
 use Rattle.eos_reading.specs.Heads.{HasHeads}
 use Rattle.eos_reading.specs.Kept.{kept_in, kept_of}
 use Rattle.eos_reading.specs.Runs as read
+use Rattle.eos_reading.specs.Seals.{AreSeals, entries_of}
+use Rattle.eos_reading.proofs.EpochLists.{entries_on}
 use Rattle.eos_reading.proofs.KeptLists.{taken_back}
+use Rattle.eos_reading.proofs.SealSteps.{seals_taken, entries_are}
 use Rattle.eos_run.specs.declared.run.Run.{Run}
 use Rattle.eos_kept.specs.declared.front.Front.{Front}
 use Rattle.eos_kept.specs.Kept.{KeptView, IsKept}
@@ -29,7 +35,7 @@ use Rattle.eos_kept.specs.Sizes.{AreSized}
 use Rattle.eos_kept.specs.Passing.{GoesAlong, data_count, HoldsEach}
 use Rattle.eos_kept.specs.steps.Passing.{EndsBefore, Passes}
 use Rattle.eos_kept.specs.steps.Folding.{FoldView, IsOpenAt, IsFolding, EndsAt, CutsAt}
-use Rattle.eos_kept.proofs.PassedHeads.{parted, left_none, left_next, kept_of-length}
+use Rattle.eos_kept.proofs.PassedHeads.{parted, as_many, left_none, left_next, kept_of-length}
 use Rattle.eos_kept.proofs.JoinedKept.{same_along, kept_joined, of_one}
 
 end_elsewhere : (n : ℕ) → AtEnd ≡ Elsewhere n → ⊥
@@ -79,10 +85,23 @@ kept_passed {K} keep bs passed others kept after count parts is number =
       omega (arith, a, b, c, d, number),
     )
 
-pub chunk : {K : Type 0} (keep : ℕ → Record → K) (begin : ℕ) (sequenced : Bool) (fed waiting more buffer : List ℕ) (v w : FoldView K) (front : Front) (hs : List BatchHead) (kept : List K) (taken count : ℕ) (fault : BatchFault)
+-- the leader epochs of the batches that were passed, by the seals of all
+pub epochs_passed : (buffer left : List ℕ) (bs passed others : List Batch) (hs : List BatchHead) (seals : List Seal) (before now : ℕ) (es fs : List EpochEntry) → HasHeads buffer (passed ++ others) hs left → AreSeals buffer hs seals → before ≡ length bs
+    → now ≡ length (bs ++ passed) → es ≡ epoch_entries None bs → fs ≡ es ++ entries_of (epoch_behind None es) (take (now - before) seals) → fs ≡ epoch_entries None (bs ++ passed)
+epochs_passed buffer left bs passed others hs seals before now es fs reads sealed old new are is =
+    let p = parted buffer passed others hs left reads in
+    let few : now - before ≡ length p.first = let a = length-append bs passed in let b = as_many buffer passed p.first p.mid p.front in omega (arith, old, new, a, b) in
+    let of = seals_taken buffer p.first p.more seals (now - before) few (subst (λ (gs : List BatchHead). AreSeals buffer gs seals) p.heads sealed) in
+    let same : entries_of (epoch_behind None es) (take (now - before) seals) ≡ epoch_entries (epoch_behind None es) passed =
+    entries_are buffer passed p.first p.mid (take (now - before) seals) (epoch_behind None es) p.front of in
+    is ∙ (ap (λ (xs : List EpochEntry). es ++ xs) same ∙ entries_on bs passed es are)
+
+pub chunk : {K : Type 0} (keep : ℕ → Record → K) (begin : ℕ) (sequenced : Bool) (fed waiting more buffer : List ℕ) (v w : FoldView K) (front : Front) (hs : List BatchHead) (kept : List K) (seals : List Seal) (taken count : ℕ) (fault : BatchFault)
     → buffer ≡ waiting ++ more → v.front.stop ≡ AtEnd → (run : read.IsRun keep buffer [] hs v.kept kept taken fault) → Passes run.batches v.front front count → front.begin ≡ v.front.begin → front.run.sequenced ≡ v.front.run.sequenced
-    → w.kept ≡ take (length v.kept + count) kept → w.place ≡ v.place + taken → EndsAt w.place fault front w.front → IsFolding keep begin sequenced fed waiting v → IsFolding keep begin sequenced (fed ++ more) (drop taken buffer) w
-chunk {K} keep begin sequenced fed waiting more buffer v w front hs kept taken count fault is end run p begins checked kept_is place at f =
+    → w.kept ≡ take (length v.kept + count) kept → w.place ≡ v.place + taken → AreSeals buffer run.more seals
+    → w.epochs ≡ v.epochs ++ entries_of (epoch_behind None v.epochs) (take (front.batches - v.front.batches) seals) → EndsAt w.place fault front w.front → IsFolding keep begin sequenced fed waiting v
+    → IsFolding keep begin sequenced (fed ++ more) (drop taken buffer) w
+chunk {K} keep begin sequenced fed waiting more buffer v w front hs kept seals taken count fault is end run p begins checked kept_is place sealed epochs at f =
     let o = subst (λ (st : Stop). IsOpenAt st v.front v.place fed f.rest waiting) end f.ends in
     let bytes : buffer ≡ f.rest ++ more = is ∙ ap (λ (xs : List ℕ). xs ++ more) o.0 in
     let before : Splits (fed ++ more) f.batches buffer = subst (λ (xs : List ℕ). Splits (fed ++ more) f.batches xs) (sym bytes) (splits_more fed f.batches f.rest more f.texts) in
@@ -97,6 +116,9 @@ chunk {K} keep begin sequenced fed waiting more buffer v w front hs kept taken c
       rest = q.mid;
       texts = splits_join (fed ++ more) f.batches p.passed buffer q.mid before q.texts;
       along = same_along (f.batches ++ p.passed) front w.front at.begin at.next at.batches at.markers at.run (p.along f.batches f.along);
+      epochs_are =
+          epochs_passed buffer (drop taken buffer) f.batches p.passed p.others run.more seals v.front.batches front.batches v.epochs w.epochs reads sealed f.along.keeps.counted (p.along f.batches f.along).keeps.counted
+          f.epochs_are epochs;
       kept_is = kept_joined keep f.batches p.passed v.kept (kept_of keep p.passed) w.kept f.kept_is refl (kept_is ∙ (kept_passed keep run.batches p.passed p.others v.kept kept count p.parts run.kept_is p.counted).0);
       taken = number;
       ends = opened q.mid (drop taken buffer) (fed ++ more) p.others q.more front w.front w.place fault q.left p.ends at run.ends number;
@@ -121,33 +143,35 @@ still (Elsewhere n) f place place' fed more rest waiting left ne o =
     (o.0, (o.1.0, o.1.1 ++ more, o.1.2, ap (λ (xs : List ℕ). xs ++ more) o.1.3 ∙ append_assoc o.1.0 o.1.1 more), o.2, o.3)
 
 pub chunk_behind : {K : Type 0} (keep : ℕ → Record → K) (begin : ℕ) (sequenced : Bool) (fed waiting more buffer : List ℕ) (v w : FoldView K) (taken : ℕ) → v.front.stop ≢ AtEnd → buffer ≡ waiting ++ more → taken ≡ length buffer
-    → w.front ≡ v.front → w.kept ≡ v.kept → w.place ≡ v.place + taken → IsFolding keep begin sequenced fed waiting v → IsFolding keep begin sequenced (fed ++ more) (drop taken buffer) w
-chunk_behind {K} keep begin sequenced fed waiting more buffer v w taken ne is all front kept place f = subst (λ (x : FoldView K). IsFolding keep begin sequenced (fed ++ more) (drop taken buffer) x) so (record {
+    → w.front ≡ v.front → w.epochs ≡ v.epochs → w.kept ≡ v.kept → w.place ≡ v.place + taken → IsFolding keep begin sequenced fed waiting v → IsFolding keep begin sequenced (fed ++ more) (drop taken buffer) w
+chunk_behind {K} keep begin sequenced fed waiting more buffer v w taken ne is all front epochs kept place f = subst (λ (x : FoldView K). IsFolding keep begin sequenced (fed ++ more) (drop taken buffer) x) so (record {
   begins = f.begins;
   sequenced_is = f.sequenced_is;
   batches = f.batches;
   rest = f.rest ++ more;
   texts = splits_more fed f.batches f.rest more f.texts;
   along = f.along;
+  epochs_are = f.epochs_are;
   kept_is = f.kept_is;
   taken = let a = length-drop taken buffer in let b = ap length is in let c = length-append waiting more in let d = length-append fed more in let t = f.taken in omega (arith, a, all, b, c, d, t);
   ends = still v.front.stop v.front v.place (v.place + taken) fed more f.rest waiting (drop taken buffer) ne f.ends;
 })
   where
-    so : ◌≡◌ {A = FoldView K} (record { front = v.front; kept = v.kept; place = v.place + taken }) (record { front = w.front; kept = w.kept; place = w.place })
-    so = cc (front, kept, place)
+    so : ◌≡◌ {A = FoldView K} (record { front = v.front; epochs = v.epochs; kept = v.kept; place = v.place + taken }) (record { front = w.front; epochs = w.epochs; kept = w.kept; place = w.place })
+    so = cc (front, epochs, kept, place)
 
 -- ---- the first byte and the end
 
-pub chunk_none : {K : Type 0} (keep : ℕ → Record → K) (begin : ℕ) (sequenced : Bool) (v : FoldView K) → v.front.begin ≡ begin → v.front.run.sequenced ≡ sequenced → v.front.stop ≡ AtEnd → GoesAlong [] v.front → v.kept ≡ [] → v.place ≡ 0
+pub chunk_none : {K : Type 0} (keep : ℕ → Record → K) (begin : ℕ) (sequenced : Bool) (v : FoldView K) → v.front.begin ≡ begin → v.front.run.sequenced ≡ sequenced → v.front.stop ≡ AtEnd → GoesAlong [] v.front → v.epochs ≡ [] → v.kept ≡ [] → v.place ≡ 0
     → IsFolding keep begin sequenced [] [] v
-chunk_none keep begin sequenced v begins checked stop along kept place = record {
+chunk_none keep begin sequenced v begins checked stop along epochs kept place = record {
   begins = begins;
   sequenced_is = checked;
   batches = [];
   rest = [];
   texts = refl;
   along = along;
+  epochs_are = epochs;
   kept_is = kept;
   taken = omega (arith, place);
   ends = subst (λ (st : Stop). IsOpenAt st v.front v.place [] [] []) (sym stop) (refl, batch_none, omega (arith, place));
@@ -159,7 +183,7 @@ stops_so (NoBatch s b k) f place fed rest waiting none o = o.0
 stops_so (Elsewhere n) f place fed rest waiting none o = o
 
 module _ {K : Type 0} (keep : ℕ → Record → K) (segment : Segment) (waiting : List ℕ) (v : FoldView K) (w : KeptView K) (f : IsFolding keep (base_of segment) (is_checked segment) segment.bytes waiting v)
-    (begin : w.front.begin ≡ v.front.begin) (next : w.front.next ≡ v.front.next) (counted : w.front.batches ≡ v.front.batches) (markers : w.front.markers ≡ v.front.markers) (run : w.front.run ≡ v.front.run) (kept : w.kept ≡ v.kept) (sizes : AreSized (segment ∷ []) w.sizes) where
+    (begin : w.front.begin ≡ v.front.begin) (next : w.front.next ≡ v.front.next) (counted : w.front.batches ≡ v.front.batches) (markers : w.front.markers ≡ v.front.markers) (run : w.front.run ≡ v.front.run) (epochs : w.front.epochs.items ≡ v.epochs) (kept : w.kept ≡ v.kept) (sizes : AreSized (segment ∷ []) w.sizes) where
   whole : StopsAt v.front.begin v.front.next segment.bytes f.rest w.front.stop → IsKept keep (segment ∷ []) w
   whole stops =
       let along = same_along f.batches v.front w.front begin next counted markers run f.along in
@@ -167,7 +191,7 @@ module _ {K : Type 0} (keep : ℕ → Record → K) (segment : Segment) (waiting
       subst (λ (n : ℕ). StopsAt w.front.begin n segment.bytes f.rest w.front.stop) (sym next ∙ along.keeps.next) (subst (λ (n : ℕ). StopsAt n v.front.next segment.bytes f.rest w.front.stop) (sym begin) stops) in
       record {
         batches = f.batches;
-        front = of_one segment f.batches w.front (begin ∙ f.begins) (ap (λ (r : Run). r.sequenced) run ∙ f.sequenced_is) (record { rest = f.rest; texts = f.texts; continuous = along.continuous; stops = there }) along.keeps;
+        front = of_one segment f.batches w.front (begin ∙ f.begins) (ap (λ (r : Run). r.sequenced) run ∙ f.sequenced_is) (record { rest = f.rest; texts = f.texts; continuous = along.continuous; stops = there }) along.keeps (epochs ∙ f.epochs_are);
         kept = kept ∙ f.kept_is;
         sizes = sizes;
       }
@@ -183,16 +207,16 @@ module _ {K : Type 0} (keep : ℕ → Record → K) (segment : Segment) (waiting
       whole (subst (λ (st : Stop). StopsAt v.front.begin v.front.next segment.bytes f.rest st) (sym stop) ((λ none. some (o.0 ∙ none)), o.1, refl, o.2))
 
 pub finished : {K : Type 0} (keep : ℕ → Record → K) (segment : Segment) (rest : List ℕ) (waiting : ℕ) (v : FoldView K) (w : KeptView K) → length rest ≡ waiting → IsFolding keep (base_of segment) (is_checked segment) segment.bytes rest v
-    → CutsAt v.place waiting v.front w.front → w.kept ≡ v.kept → w.sizes.segments ≡ 1 → w.sizes.bytes ≡ v.place + waiting → IsKept keep (segment ∷ []) w
-finished keep segment rest waiting v w len f c kept one bytes = by_stop c.stop
+    → CutsAt v.place waiting v.front w.front → w.front.epochs.items ≡ v.epochs → w.kept ≡ v.kept → w.sizes.segments ≡ 1 → w.sizes.bytes ≡ v.place + waiting → IsKept keep (segment ∷ []) w
+finished keep segment rest waiting v w len f c epochs kept one bytes = by_stop c.stop
   where
     sizes : AreSized (segment ∷ []) w.sizes
     sizes = record { counted = one; bytes_are = let t = f.taken in omega (arith, bytes, t, len) }
 
     by_stop : ((waiting ≡ 0) × (w.front.stop ≡ v.front.stop)) ⊎ (((v.front.stop ≢ AtEnd) × (w.front.stop ≡ v.front.stop)) ⊎ ((v.front.stop ≡ AtEnd) × (waiting ≢ 0) × (w.front.stop ≡ NoBatch v.front.begin v.place faults.Truncated))) → IsKept keep (segment ∷ []) w
-    by_stop (inl x) = ended keep segment rest v w f c.begin c.next c.batches c.markers c.run kept sizes x.1 (λ _. nil_from_length rest (len ∙ x.0))
-    by_stop (inr (inl x)) = ended keep segment rest v w f c.begin c.next c.batches c.markers c.run kept sizes x.1 (λ e. absurd (x.0 e))
-    by_stop (inr (inr x)) = cut keep segment rest v w f c.begin c.next c.batches c.markers c.run kept sizes x.2 x.0 (λ none. x.1 (sym len ∙ ap (λ (xs : List ℕ). length xs) none))
+    by_stop (inl x) = ended keep segment rest v w f c.begin c.next c.batches c.markers c.run epochs kept sizes x.1 (λ _. nil_from_length rest (len ∙ x.0))
+    by_stop (inr (inl x)) = ended keep segment rest v w f c.begin c.next c.batches c.markers c.run epochs kept sizes x.1 (λ e. absurd (x.0 e))
+    by_stop (inr (inr x)) = cut keep segment rest v w f c.begin c.next c.batches c.markers c.run epochs kept sizes x.2 x.0 (λ none. x.1 (sym len ∙ ap (λ (xs : List ℕ). length xs) none))
 
 -- of what was folded a value is kept for each data record
 pub folded_each : {K : Type 0} (keep : ℕ → Record → K) (begin : ℕ) (sequenced : Bool) (fed rest : List ℕ) (v : FoldView K) → IsFolding keep begin sequenced fed rest v → HoldsEach v.front v.kept

@@ -1,5 +1,5 @@
 -- Fronts of two lists of segments, and what is kept of both.
-use Rattle.std.proofs.Common.{◌≡◌, ◌≢◌, ℕ, ◌+◌, inr, Bool, List, [], ◌∷◌, ◌++◌, length, refl, sym, ap, subst, ◌∙◌, arith}
+use Rattle.std.proofs.Common.{◌≡◌, ◌≢◌, ℕ, ◌+◌, inr, Bool, List, [], ◌∷◌, ◌++◌, length, None, refl, sym, ap, subst, ◌∙◌, arith}
 use Rattle.std.proofs.lemmas.List.{append-nil, length-append}
 use Rattle.std.proofs.lemmas.Grind.{flat_map-append}
 use Rattle.eos_batch.specs.declared.batch.Batch.{Batch}
@@ -15,7 +15,9 @@ use Rattle.eos_fold.specs.Fronts.{base_of, IsSegmentFront, GoesOn, IsFront}
 use Rattle.eos_fold.specs.Sums.{BeginsAt, AreChecked, is_checked}
 use Rattle.eos_fold.proofs.SegmentWalks.{markers_of-append}
 use Rattle.eos_fold.proofs.JoinedFronts.{front_goes, front_stops, other_name}
+use Rattle.eos_reading.specs.Epochs.{epoch_entries, epoch_behind, entries_behind}
 use Rattle.eos_reading.specs.Kept.{kept_in, kept_of}
+use Rattle.eos_reading.proofs.EpochLists.{entries_both}
 use Rattle.eos_run.specs.declared.run.Run.{Run}
 use Rattle.eos_run.specs.Runs.{IsRunOf}
 use Rattle.eos_run.proofs.JoinedRuns.{same_run}
@@ -40,6 +42,7 @@ stops_before xs ys bs f ne h = record {
   sequenced = checked_more xs ys f.run.sequenced h.sequenced;
   front = front_stops f.begin xs ys bs f.stop ne h.front;
   keeps = h.keeps;
+  epochs = h.epochs;
 }
 
 -- the same, with another stop
@@ -119,9 +122,9 @@ each_both f g r ks ls ms e along h k = record {
 -- ---- of segments
 
 -- a segment of another name comes
-pub stops_between : (xs ys : List Segment) (bs cs : List Batch) (f g r : Front) → f.stop ≡ AtEnd → g.begin ≢ f.next → r.begin ≡ f.begin → r.next ≡ f.next → r.batches ≡ f.batches → r.stop ≡ Elsewhere g.begin → r.markers ≡ f.markers → r.run ≡ f.run
+pub stops_between : (xs ys : List Segment) (bs cs : List Batch) (f g r : Front) → f.stop ≡ AtEnd → g.begin ≢ f.next → r.begin ≡ f.begin → r.next ≡ f.next → r.batches ≡ f.batches → r.stop ≡ Elsewhere g.begin → r.markers ≡ f.markers → r.epochs ≡ f.epochs → r.run ≡ f.run
     → IsFrontOf xs bs f → IsFrontOf ys cs g → IsFrontOf (xs ++ ys) bs r
-stops_between xs ys bs cs f g r end ne begin next counted stop markers run h k = record {
+stops_between xs ys bs cs f g r end ne begin next counted stop markers epochs run h k = record {
   begins = subst (λ (n : ℕ). BeginsAt (xs ++ ys) n) (sym begin) (begins_more xs ys f.begin h.begins);
   sequenced = subst (λ (x : Run). AreChecked (xs ++ ys) x.sequenced) (sym run) (checked_more xs ys f.run.sequenced h.sequenced);
   front =
@@ -130,12 +133,13 @@ stops_between xs ys bs cs f g r end ne begin next counted stop markers run h k =
       let both = front_goes f.begin xs ys bs [] (Elsewhere g.begin) a b in
       subst (λ (n : ℕ). IsFront n (xs ++ ys) bs r.stop) (sym begin) (subst (λ (st : Stop). IsFront f.begin (xs ++ ys) bs st) (sym stop) (subst (λ (ds : List Batch). IsFront f.begin (xs ++ ys) ds (Elsewhere g.begin)) (append-nil bs) both));
   keeps = keeps_same bs f r begin next counted markers run h.keeps;
+  epochs = ap (λ es. es.items) epochs ∙ h.epochs;
 }
 
 -- the second goes on where the first ends
 pub goes_on : (xs ys : List Segment) (bs cs : List Batch) (f g r : Front) → f.stop ≡ AtEnd → g.begin ≡ f.next → r.begin ≡ f.begin → r.next ≡ g.next → r.batches ≡ f.batches + g.batches → r.stop ≡ g.stop → r.markers.items ≡ f.markers.items ++ g.markers.items
-    → r.run.sequenced ≡ f.run.sequenced → IsRunOf (bs ++ cs) r.run → IsFrontOf xs bs f → IsFrontOf ys cs g → IsFrontOf (xs ++ ys) (bs ++ cs) r
-goes_on xs ys bs cs f g r end joint begin next counted stop markers sequenced run h k = record {
+    → r.epochs.items ≡ f.epochs.items ++ entries_behind (epoch_behind None f.epochs.items) g.epochs.items → r.run.sequenced ≡ f.run.sequenced → IsRunOf (bs ++ cs) r.run → IsFrontOf xs bs f → IsFrontOf ys cs g → IsFrontOf (xs ++ ys) (bs ++ cs) r
+goes_on xs ys bs cs f g r end joint begin next counted stop markers epochs sequenced run h k = record {
   begins = subst (λ (n : ℕ). BeginsAt (xs ++ ys) n) (sym begin) (begins_more xs ys f.begin h.begins);
   sequenced = subst (λ (b : Bool). AreChecked (xs ++ ys) b) (sym sequenced) (checked_more xs ys f.run.sequenced h.sequenced);
   front =
@@ -143,6 +147,7 @@ goes_on xs ys bs cs f g r end joint begin next counted stop markers sequenced ru
       let b : IsFront (f.begin + records_in bs) ys cs g.stop = subst (λ (n : ℕ). IsFront n ys cs g.stop) (joint ∙ h.keeps.next) k.front in
       subst (λ (n : ℕ). IsFront n (xs ++ ys) (bs ++ cs) r.stop) (sym begin) (subst (λ (st : Stop). IsFront f.begin (xs ++ ys) (bs ++ cs) st) (sym stop) (front_goes f.begin xs ys bs cs g.stop a b));
   keeps = keeps_both bs cs f g r joint begin next counted markers run h.keeps k.keeps;
+  epochs = epochs ∙ entries_both bs cs f.epochs.items g.epochs.items h.epochs k.epochs;
 }
 
 alone : (at : ℕ) (st : Stop) (bs : List Batch) → GoesOn st bs (λ os. IsFront at [] os st) bs st
@@ -151,12 +156,13 @@ alone at (NoBatch s b f) bs = (refl, refl)
 alone at (Elsewhere n) bs = (refl, refl)
 
 -- one segment
-pub of_one : (x : Segment) (bs : List Batch) (f : Front) → f.begin ≡ base_of x → f.run.sequenced ≡ is_checked x → IsSegmentFront f.begin x.bytes bs f.stop → KeepsFront bs f → IsFrontOf (x ∷ []) bs f
-of_one x bs f begins checked front keeps = record {
+pub of_one : (x : Segment) (bs : List Batch) (f : Front) → f.begin ≡ base_of x → f.run.sequenced ≡ is_checked x → IsSegmentFront f.begin x.bytes bs f.stop → KeepsFront bs f → f.epochs.items ≡ epoch_entries None bs → IsFrontOf (x ∷ []) bs f
+of_one x bs f begins checked front keeps epochs = record {
   begins = sym begins;
   sequenced = checked;
   front = inr (sym begins, bs, f.stop, front, alone (f.begin + records_in bs) f.stop bs);
   keeps = keeps;
+  epochs = epochs;
 }
 
 -- ---- what is kept
@@ -169,10 +175,10 @@ pub kept_before : {K : Type 0} (keep : ℕ → Record → K) (xs ys : List Segme
 kept_before keep xs ys v w sizes ne sized h k = record { batches = h.batches; front = stops_before xs ys h.batches v.front ne h.front; kept = h.kept; sizes = sized h.sizes k.sizes }
 
 pub kept_between : {K : Type 0} (keep : ℕ → Record → K) (xs ys : List Segment) (v w r : KeptView K) → v.front.stop ≡ AtEnd → w.front.begin ≢ v.front.next → r.front.begin ≡ v.front.begin → r.front.next ≡ v.front.next → r.front.batches ≡ v.front.batches → r.front.stop ≡ Elsewhere w.front.begin
-    → r.front.markers ≡ v.front.markers → r.front.run ≡ v.front.run → r.kept ≡ v.kept → (AreSized xs v.sizes → AreSized ys w.sizes → AreSized (xs ++ ys) r.sizes) → IsKept keep xs v → IsKept keep ys w → IsKept keep (xs ++ ys) r
-kept_between keep xs ys v w r end ne begin next counted stop markers run kept sized h k = record {
+    → r.front.markers ≡ v.front.markers → r.front.epochs ≡ v.front.epochs → r.front.run ≡ v.front.run → r.kept ≡ v.kept → (AreSized xs v.sizes → AreSized ys w.sizes → AreSized (xs ++ ys) r.sizes) → IsKept keep xs v → IsKept keep ys w → IsKept keep (xs ++ ys) r
+kept_between keep xs ys v w r end ne begin next counted stop markers epochs run kept sized h k = record {
   batches = h.batches;
-  front = stops_between xs ys h.batches k.batches v.front w.front r.front end ne begin next counted stop markers run h.front k.front;
+  front = stops_between xs ys h.batches k.batches v.front w.front r.front end ne begin next counted stop markers epochs run h.front k.front;
   kept = kept ∙ h.kept;
   sizes = sized h.sizes k.sizes;
 }

@@ -28,19 +28,36 @@ are_heads bytes [] (h ∷ hs) rest s = absurd s
 are_heads bytes (b ∷ bs) [] rest s = absurd s
 are_heads bytes (b ∷ bs) (h ∷ hs) rest s = (record { of = record { size = length s.0; is = s.4; right = s.2.producer }; counted = s.2.counted }, are_heads s.1 bs hs rest s.5)
 
--- the bytes after the first of the batches
-pub record Parted (bytes : List ℕ) (xs ys : List Batch) (rest : List ℕ) : Type 0 where
+-- the bytes after the first of the batches, and the heads of both
+pub record Parted (bytes : List ℕ) (xs ys : List Batch) (hs : List BatchHead) (rest : List ℕ) : Type 0 where
   pub mid : List ℕ
   pub texts : Splits bytes xs mid
+  pub first : List BatchHead
   pub more : List BatchHead
+  pub heads : hs ≡ first ++ more
+  pub front : HasHeads bytes xs first mid
   pub left : HasHeads mid ys more rest
 
-pub parted : (bytes : List ℕ) (xs ys : List Batch) (hs : List BatchHead) (rest : List ℕ) → HasHeads bytes (xs ++ ys) hs rest → Parted bytes xs ys rest
-parted bytes [] ys hs rest s = record { mid = bytes; texts = refl; more = hs; left = s }
+pub parted : (bytes : List ℕ) (xs ys : List Batch) (hs : List BatchHead) (rest : List ℕ) → HasHeads bytes (xs ++ ys) hs rest → Parted bytes xs ys hs rest
+parted bytes [] ys hs rest s = record { mid = bytes; texts = refl; first = []; more = hs; heads = refl; front = refl; left = s }
 parted bytes (x ∷ xs) ys [] rest s = absurd s
 parted bytes (x ∷ xs) ys (h ∷ hs) rest s =
     let p = parted s.1 xs ys hs rest s.5 in
-    record { mid = p.mid; texts = (s.0, s.1, s.2, s.3, p.texts); more = p.more; left = p.left }
+    record {
+      mid = p.mid;
+      texts = (s.0, s.1, s.2, s.3, p.texts);
+      first = h ∷ p.first;
+      more = p.more;
+      heads = ap (λ (gs : List BatchHead). h ∷ gs) p.heads;
+      front = (s.0, s.1, s.2, s.3, s.4, p.front);
+      left = p.left;
+    }
+
+pub as_many : (bytes : List ℕ) (bs : List Batch) (hs : List BatchHead) (rest : List ℕ) → HasHeads bytes bs hs rest → length bs ≡ length hs
+as_many bytes [] [] rest s = refl
+as_many bytes [] (h ∷ hs) rest s = absurd s
+as_many bytes (b ∷ bs) [] rest s = absurd s
+as_many bytes (b ∷ bs) (h ∷ hs) rest s = let e = as_many s.1 bs hs rest s.5 in omega (arith, e)
 
 pub left_none : (mid : List ℕ) (hs : List BatchHead) (rest : List ℕ) → HasHeads mid [] hs rest → mid ≡ rest
 left_none mid [] rest s = s

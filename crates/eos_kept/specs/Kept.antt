@@ -1,7 +1,7 @@
 -- What is kept of a list of segments: its front, begun at the name of its first segment, told without the records; of each
 -- data record of the front what a reading keeps; and how large the segments are. It is today's summary of the same segments,
 -- less the records.
-use Rattle.std.specs.Prelude.{◌≡◌, ℕ, ◌+◌, ◌≤◌, ◌^◌, List, length}
+use Rattle.std.specs.Prelude.{◌≡◌, ℕ, ◌+◌, ◌≤◌, ◌^◌, List, length, None}
 use Rattle.eos_batch.specs.declared.batch.Batch.{Batch}
 use Rattle.eos_batch.specs.declared.record.Record.{Record}
 use Rattle.eos_batch.specs.Marker.{markers_of}
@@ -9,6 +9,7 @@ use Rattle.eos_evidence.specs.declared.segment.Segment.{Segment}
 use Rattle.eos_touch.specs.Front.{records_in}
 use Rattle.eos_fold.specs.Fronts.{IsFront}
 use Rattle.eos_fold.specs.Sums.{BeginsAt, AreChecked}
+use Rattle.eos_reading.specs.Epochs.{epoch_entries}
 use Rattle.eos_reading.specs.Kept.{kept_of}
 use Rattle.eos_run.specs.Runs.{IsRunOf, SameRun}
 use Rattle.eos_kept.specs.declared.front.Front.{Front}
@@ -23,12 +24,13 @@ pub record KeepsFront (batches : List Batch) (f : Front) : Type 0 where
   pub markers : f.markers.items ≡ markers_of batches
   pub run : IsRunOf batches f.run
 
--- the front of these segments, which is these batches
+-- the front of these segments, which is these batches, and the offsets at which their leader epochs change
 pub record IsFrontOf (segments : List Segment) (batches : List Batch) (f : Front) : Type 0 where
   pub begins : BeginsAt segments f.begin
   pub sequenced : AreChecked segments f.run.sequenced
   pub front : IsFront f.begin segments batches f.stop
   pub keeps : KeepsFront batches f
+  pub epochs : f.epochs.items ≡ epoch_entries None batches
 
 -- a front, what is kept of its data records, and how large its segments are
 pub record KeptView (K : Type 0) : Type 0 where
@@ -50,6 +52,7 @@ pub record SameFront (f g : Front) : Type 0 where
   pub stop : g.stop ≡ f.stop
   pub batches : g.batches ≡ f.batches
   pub markers : g.markers.items ≡ f.markers.items
+  pub epochs : g.epochs.items ≡ f.epochs.items
   pub run : SameRun f.run g.run
 
 pub record SameKept {K : Type 0} (v w : KeptView K) : Type 0 where

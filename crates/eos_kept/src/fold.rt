@@ -1,6 +1,6 @@
 //! A segment's front as far as its bytes were fed.
 
-ghost use Rattle.std.specs.Prelude.{◌≡◌, ◌≤◌, ◌+◌, ◌∷◌, [], ◌^◌, ℕ, Bool, List, length, take, OnOk};
+ghost use Rattle.std.specs.Prelude.{◌≡◌, ◌≤◌, ◌+◌, ◌-◌, ◌∷◌, [], ◌^◌, ℕ, Bool, List, length, take, OnOk};
 ghost use Rattle.eos_batch.specs.declared.record.Record.{Record};
 ghost use Rattle.eos_evidence.specs.declared.segment.Segment.{Segment};
 ghost use Rattle.eos_fold.specs.Fronts.{base_of};
@@ -17,7 +17,7 @@ use eos_batch::{BatchFault, BatchHead};
 use eos_chunks::ByteFold;
 use eos_evidence::MAX_SEGMENT_BYTES;
 use eos_fold::Stop;
-use eos_reading::{Reading, keep_batches};
+use eos_reading::{EpochEntry, Reading, Seal, keep_batches, push_entries, read_seals};
 use std::alloc::{AllocError, Global};
 use std::marker::Model;
 
@@ -35,11 +35,15 @@ pub(crate) struct Asked<K> {
 #[derive(Drop)]
 pub(crate) struct SegmentFold<K: Reading> {
     front: Front,
+    /// The leader epochs of the front's batches.
+    epochs: Vec<EpochEntry>,
     kept: Vec<K::Kept>,
     /// How many bytes were taken: up to the last batch, or all behind a front's end.
     place: u64,
     /// The heads of a chunk's batches.
     heads: Vec<BatchHead>,
+    /// Their seals.
+    seals: Vec<Seal>,
 }
 
 impl<K: Reading> Model for SegmentFold<K> {
@@ -52,7 +56,7 @@ impl<K: Reading> Model for SegmentFold<K> {
 
     ghost coded = { Prim.hlevel (codes, of_front.the_row.coded) };
 
-    ghost view = { λ f. record { front = f.front; kept = f.kept.items; place = f.place } };
+    ghost view = { λ f. record { front = f.front; epochs = f.epochs.items; kept = f.kept.items; place = f.place } };
 
     ghost invariant = { λ f. IsRun f.front.run };
 }
@@ -101,6 +105,13 @@ fn keep_first<T: Drop>(kept: &mut Vec<T>, before: usize, count: usize) -> Result
     Ok(())
 }
 
+/// How many batches were passed, where there were so many before and are so many now.
+fn passed_since(before: u64, now: u64) -> usize
+    ensures { result ≡ now - before }
+{
+    now.saturating_sub(before) as usize
+}
+
 impl<K: Reading> ByteFold for SegmentFold<K> {
     ghost use Rattle.eos_kept.specs.steps.Folding.{IsFolding};
 
@@ -114,14 +125,16 @@ impl<K: Reading> ByteFold for SegmentFold<K> {
         told: &Asked<K>,
         buffer: &Bytes,
     ) -> Result<usize, AllocError> {
+        let size = buffer.len();
         if !is_at_end(self.front.stop) {
-            let Some(place) = self.place.checked_add(buffer.len() as u64) else {
+            let Some(place) = self.place.checked_add(size as u64) else {
                 return Err(AllocError);
             };
             self.place = place;
-            return Ok(buffer.len());
+            return Ok(size);
         }
         let before = self.kept.len();
+        let batches = self.front.batches;
         self.heads.clear();
         let (taken, fault) = keep_batches(
             alloc,
@@ -130,8 +143,13 @@ impl<K: Reading> ByteFold for SegmentFold<K> {
             &mut self.heads,
             &mut self.kept,
         )?;
+        self.seals.clear();
+        read_seals(buffer, self.heads.as_slice(), &mut self.seals)?;
         let count = pass_all(alloc, &mut self.front, &self.heads)?;
         keep_first(&mut self.kept, before, count)?;
+        self.seals
+            .truncate(passed_since(batches, self.front.batches));
+        push_entries(&mut self.epochs, self.seals.as_slice())?;
         let Some(place) = self.place.checked_add(taken as u64) else {
             return Err(AllocError);
         };
@@ -149,9 +167,11 @@ impl<K: Reading> SegmentFold<K> {
     {
         SegmentFold {
             front: Front::new(alloc, begin, sequenced),
+            epochs: Vec::new(alloc),
             kept: Vec::new(alloc),
             place: 0,
             heads: Vec::new(alloc),
+            seals: Vec::new(alloc),
         }
     }
 
@@ -164,11 +184,13 @@ impl<K: Reading> SegmentFold<K> {
     {
         let SegmentFold {
             mut front,
+            epochs,
             kept,
             place,
             ..
         } = self;
         cut_at(&mut front, place, waiting);
+        front.epochs = epochs;
         let sizes = Sizes {
             segments: 1,
             bytes: place + waiting as u64,

@@ -1,16 +1,18 @@
 //! The front of a list of segments, without its records.
 
-ghost use Rattle.std.specs.Prelude.{◌≡◌, ◌≢◌, ◌≤◌, ◌^◌, true, false, [], ◌++◌, List, IfOk, IfErr, OnOk};
+ghost use Rattle.std.specs.Prelude.{◌≡◌, ◌≢◌, ◌≤◌, ◌+◌, ◌^◌, true, false, [], ◌++◌, List, length, vec_len, vec_capacity, None, IfOk, IfErr, OnOk};
 ghost use Rattle.std.specs.Option.{option_to_list};
 ghost use Rattle.eos_batch.specs.declared.batch.Batch.{Batch};
 ghost use Rattle.eos_evidence.specs.declared.segment.Segment.{Segment};
 ghost use Rattle.eos_fold.specs.declared.stop.Stop.TheVariants.{AtEnd};
+ghost use Rattle.eos_reading.specs.Epochs.{epoch_behind, entries_behind};
 ghost use Rattle.eos_run.specs.Runs.{IsRun};
 ghost use Rattle.eos_kept.specs.Kept.{KeepsFront, IsFrontOf, SameFront};
 ghost use Rattle.eos_kept.specs.Passing.{GoesAlong};
 
 use eos_batch::Marker;
 use eos_fold::Stop;
+use eos_reading::{EpochEntry, append_entries};
 use eos_run::Run;
 use std::alloc::{AllocError, Global};
 
@@ -27,6 +29,8 @@ pub struct Front {
     pub batches: u64,
     /// Its end markers.
     pub markers: Vec<Marker>,
+    /// The leader epochs of its batches, each with the offset at which it begins.
+    pub epochs: Vec<EpochEntry>,
     pub run: Run,
 }
 
@@ -55,8 +59,28 @@ pub(crate) fn push_marker(
     Ok(())
 }
 
+/// Puts the end markers of what follows at the end, for which there is room.
+fn add_markers(markers: &mut Vec<Marker>, more: &mut Vec<Marker>)
+    requires { vec_len markers.old + vec_len more.old ≤ vec_capacity markers.old }
+    ensures { markers.new.items ≡ markers.old.items ++ more.old.items }
+{
+    let Ok(()) = markers.append(more) else {
+        unreachable!()
+    };
+}
+
+/// Puts the leader epochs of what follows at the end, for which there is room.
+fn add_epochs(epochs: &mut Vec<EpochEntry>, more: &[EpochEntry])
+    requires { vec_len epochs.old + length more.now ≤ vec_capacity epochs.old }
+    ensures { epochs.new.items ≡ epochs.old.items ++ entries_behind (epoch_behind None epochs.old.items) more.now }
+{
+    let Ok(()) = append_entries(epochs, more) else {
+        unreachable!()
+    };
+}
+
 impl Front {
-    /// Before the first batch of a segment of this name.
+    /// Before the first batch of a segment of this name. The leader epochs of its batches are for the caller to put there.
     pub fn new(alloc: Global, begin: u64, sequenced: bool) -> Front
         requires { begin ≤ 2 ^ 63 }
         ensures begin { result.begin ≡ begin }
@@ -70,6 +94,7 @@ impl Front {
             stop: Stop::AtEnd,
             batches: 0,
             markers: Vec::new(alloc),
+            epochs: Vec::new(alloc),
             run: Run::new(alloc, sequenced),
         }
     }
@@ -95,20 +120,22 @@ impl Front {
         let Some(batches) = before.batches.checked_add(after.batches) else {
             return Err((before, after));
         };
-        if before.markers.reserve(after.markers.len()).is_err() {
+        if before.markers.reserve(after.markers.len()).is_err()
+            || before.epochs.reserve(after.epochs.len()).is_err()
+        {
             return Err((before, after));
         }
         match Run::join(alloc, before.run, after.run) {
             Ok(run) => {
-                let Ok(()) = before.markers.append(&mut after.markers) else {
-                    unreachable!()
-                };
+                add_markers(&mut before.markers, &mut after.markers);
+                add_epochs(&mut before.epochs, after.epochs.as_slice());
                 Ok(Front {
                     begin: before.begin,
                     next: after.next,
                     stop: after.stop,
                     batches,
                     markers: before.markers,
+                    epochs: before.epochs,
                     run,
                 })
             }

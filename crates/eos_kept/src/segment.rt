@@ -1,9 +1,8 @@
 //! One segment, from its reader.
 
-ghost use Rattle.std.specs.Prelude.{◌≡◌, ◌≤◌, ◌+◌, ◌∷◌, [], ℕ, List, length, Err, IfOk, OnOk, OnErr, not};
+ghost use Rattle.std.specs.Prelude.{◌≡◌, ◌≤◌, ◌+◌, ◌∷◌, [], ℕ, List, length, Err, IfOk, OnOk, OnErr};
 ghost use Rattle.std.specs.Io.KnownBytes.{Consumes, IsAtEnd};
 ghost use Rattle.eos_evidence.specs.declared.segment.Segment.{Segment};
-ghost use Rattle.eos_evidence.specs.Topics.{is_internal};
 ghost use Rattle.eos_evidence.specs.Reading.{Takes, TakesAtMost};
 ghost use Rattle.eos_kept.specs.Kept.{IsKept};
 
@@ -11,16 +10,10 @@ use crate::fold::{Asked, SegmentFold};
 use crate::summary::Kept;
 use eos_chunks::read_folded;
 use eos_evidence::{MAX_SEGMENT_BYTES, ReadFault};
+use eos_fold::is_checked;
 use eos_reading::Reading;
 use std::alloc::Global;
 use std::io::Read;
-
-/// Whether the sequences of a topic are checked: not those of the internal topics.
-fn is_checked(topic: &[u8]) -> bool
-    ensures { result ≡ not (is_internal topic.now) }
-{
-    topic != b"__consumer_offsets".as_slice() && topic != b"__transaction_state".as_slice()
-}
 
 /// Reads a segment of this topic, whose name is `base`, to its end: what is kept of the bytes that the reader has left. No more
 /// of them is held than a chunk, or a batch where that is larger. At `Limit` one byte more than a segment may have was read, and

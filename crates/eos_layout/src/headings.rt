@@ -3,7 +3,7 @@
 use crate::canvas::{Canvas, moved};
 use crate::labels::shortened;
 use eos_batch::Kind;
-use eos_picture::{Column, Decided};
+use eos_picture::{Column, Decided, Picture};
 use eos_svg::{Look, Point};
 use eos_text::{push_escaped, push_text, push_value};
 use std::alloc::{AllocError, Global};
@@ -53,6 +53,14 @@ fn third_line(alloc: Global, column: &Column) -> Result<String, AllocError> {
     match &column.decided {
         None => String::from_str(alloc, "no Prepare record"),
         Some(decided) => decided_line(alloc, decided),
+    }
+}
+
+/// The place among all transactions of the one that is shown in this column.
+pub(crate) fn place_of(picture: &Picture, column: usize) -> usize {
+    match picture.places.get(column) {
+        None => column,
+        Some(place) => *place,
     }
 }
 

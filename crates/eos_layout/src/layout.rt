@@ -3,7 +3,7 @@
 ghost use Rattle.std.specs.Prelude.{◌≡◌, IfOk, string_bytes};
 
 use crate::canvas::Canvas;
-use crate::headings::{draw_heading, draw_other_heading, heading_of};
+use crate::headings::{draw_heading, draw_other_heading, heading_of, place_of};
 use crate::legend::{ROOM, draw_legend};
 use crate::plan::{GAP, Plan, plan_of};
 use crate::rows::draw_row;
@@ -23,7 +23,7 @@ const HEADINGS: u64 = 50;
 
 /// What a picture can't say.
 const NO_CLOCK: &str =
-    "a column is a transaction, in the order of its Prepare record; partitions have no clock in common";
+    "a column is a transaction, T1 the one of the first Prepare record; partitions have no clock in common";
 
 /// Draws a text in lines of at most so many characters, and gives the height where they end.
 fn draw_title(canvas: &mut Canvas, title: &str, most: u64) -> Result<u64, AllocError> {
@@ -61,8 +61,7 @@ fn draw_headings(
     top: u64,
 ) -> Result<(), AllocError> {
     for i in 0..picture.columns.len() {
-        let place = picture.before.saturating_add(i);
-        let heading = heading_of(canvas.alloc, place, &picture.columns[i])?;
+        let heading = heading_of(canvas.alloc, place_of(picture, i), &picture.columns[i])?;
         let at = Point {
             x: plan.x_of(i as u64),
             y: top,

@@ -17,7 +17,7 @@ pub(crate) struct AppList<'a> {
 
 impl<'a> AppList<'a> {
     /// Them as a manifest has them: by its version, which is looked at here.
-    pub(crate) fn of(words: &mut Words, manifest: &'a Value) -> Result<AppList<'a>, SpecFault> {
+    pub(crate) fn of(words: &mut Words<'_>, manifest: &'a Value) -> Result<AppList<'a>, SpecFault> {
         let are_listed = is_version_two(words, manifest)?;
         let values = if are_listed {
             array_at(words, manifest, Owner::Manifest, "apps")?
@@ -38,7 +38,7 @@ impl<'a> AppList<'a> {
 }
 
 /// Whether a manifest is of version 2, where it isn't of version 1.
-fn is_version_two(words: &mut Words, manifest: &Value) -> Result<bool, SpecFault> {
+fn is_version_two(words: &mut Words<'_>, manifest: &Value) -> Result<bool, SpecFault> {
     if !manifest.is_object() {
         let place = Place::Whole(Owner::Manifest);
         words.add_another(place, manifest, "an object");
@@ -46,7 +46,7 @@ fn is_version_two(words: &mut Words, manifest: &Value) -> Result<bool, SpecFault
     }
     let place = Place::Member(Owner::Manifest, "version");
     let Some(version) = manifest.get("version") else {
-        words.add_place(place, " is absent");
+        words.add_absent(Owner::Manifest, "version");
         return Err(SpecFault::Field);
     };
     match version.as_i64() {
@@ -57,6 +57,7 @@ fn is_version_two(words: &mut Words, manifest: &Value) -> Result<bool, SpecFault
             Err(SpecFault::Field)
         }
         _ => {
+            words.point_at(place);
             words.add_value("version is ", version);
             words.add("; 1 or 2 is wanted");
             Err(SpecFault::Version)

@@ -3,6 +3,7 @@
 ghost use Rattle.std.specs.Prelude.{◌≡◌, IfSome};
 
 use crate::json_place::parse;
+use crate::position::line_and_column;
 use crate::search::search;
 use crate::words::Words;
 use eos_evidence::SpecFault;
@@ -13,6 +14,10 @@ use std::alloc::Global;
 pub struct SpecCause {
     /// Of which fault it is the cause.
     pub fault: SpecFault,
+    /// The line of the manifest that it is about, from 1.
+    pub line: usize,
+    /// The character of that line, from 1.
+    pub column: usize,
     /// The place, what stands there and what is wanted: a part of a sentence, without a line's end.
     pub text: String,
 }
@@ -22,20 +27,26 @@ pub struct SpecCause {
 pub fn explain_spec(alloc: Global, bytes: &[u8], fault: SpecFault) -> Option<SpecCause>
     ensures { IfSome result (λ cause. cause.fault ≡ fault) }
 {
-    let mut words = Words::new(alloc);
+    let mut words = Words::new(alloc, bytes);
     let Err(found) = look_at(alloc, &mut words, bytes) else {
         return None;
     };
     if found == fault && found != SpecFault::OutOfMemory {
-        let text = words.into_text()?;
-        Some(SpecCause { fault: found, text })
+        let (text, at) = words.into_text()?;
+        let (line, column) = line_and_column(bytes, at);
+        Some(SpecCause {
+            fault: found,
+            line,
+            column,
+            text,
+        })
     } else {
         None
     }
 }
 
 /// Finds nothing where the manifest isn't refused; else the words say why it is.
-fn look_at(alloc: Global, words: &mut Words, bytes: &[u8]) -> Result<(), SpecFault> {
+fn look_at(alloc: Global, words: &mut Words<'_>, bytes: &[u8]) -> Result<(), SpecFault> {
     let manifest = parse(alloc, words, bytes)?;
     search(alloc, words, &manifest)
 }

@@ -10,11 +10,19 @@ use std::str;
 const MAX_DEPTH: usize = 127;
 
 /// The JSON value of bytes. Where they are no JSON text, the words say why, and at which byte, counted from 0.
-pub(crate) fn parse(alloc: Global, words: &mut Words, bytes: &[u8]) -> Result<Value, SpecFault> {
+pub(crate) fn parse(
+    alloc: Global,
+    words: &mut Words<'_>,
+    bytes: &[u8],
+) -> Result<Value, SpecFault> {
     let text = match str::from_utf8(bytes) {
         Ok(text) => text,
         Err(e) => {
-            words.add_value("the bytes stop being UTF-8 at byte ", &e.valid_up_to());
+            add_byte(
+                words,
+                "the bytes stop being UTF-8 at byte ",
+                e.valid_up_to(),
+            );
             return Err(SpecFault::Json);
         }
     };
@@ -29,19 +37,25 @@ pub(crate) fn parse(alloc: Global, words: &mut Words, bytes: &[u8]) -> Result<Va
 }
 
 /// Adds where a text stops being JSON.
-fn add_stop(words: &mut Words, bytes: &[u8], e: &Error) {
+fn add_stop(words: &mut Words<'_>, bytes: &[u8], e: &Error) {
     if e.is_eof() {
-        words.add_value("the text ends too early, at byte ", &bytes.len());
+        add_byte(words, "the text ends too early, at byte ", bytes.len());
         return;
     }
     let byte = byte_of(bytes, e.line(), e.column());
     match deep_at(bytes, byte) {
         Some(deep) => {
             words.add_value("the text nests deeper than ", &MAX_DEPTH);
-            words.add_value(" at byte ", &deep);
+            add_byte(words, " at byte ", deep);
         }
-        None => words.add_value("the text stops being JSON at byte ", &byte),
+        None => add_byte(words, "the text stops being JSON at byte ", byte),
     }
+}
+
+/// Adds at which byte it is.
+fn add_byte(words: &mut Words<'_>, label: &str, byte: usize) {
+    words.point_at_byte(byte);
+    words.add_value(label, &byte);
 }
 
 /// The byte at a line and a column, both counted from 1.

@@ -7,6 +7,7 @@ mod cause;
 mod json_place;
 mod names;
 mod place;
+mod position;
 mod repeats;
 mod search;
 mod types;

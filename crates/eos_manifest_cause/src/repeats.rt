@@ -1,6 +1,6 @@
 //! What stands twice in a manifest and may not. A set of what was seen finds it, so that a long list takes no long time.
 
-use crate::apps::items_of;
+use crate::apps::{AppList, items_of};
 use crate::place::{Owner, Place};
 use crate::words::Words;
 use eos_evidence::SpecFault;
@@ -11,7 +11,7 @@ use std::collections::BTreeSet;
 /// Looks whether a topic stands twice in an application's two lists together.
 pub(crate) fn look_at_repeats(
     alloc: Global,
-    words: &mut Words,
+    words: &mut Words<'_>,
     app: &Value,
     owner: Owner,
 ) -> Result<(), SpecFault> {
@@ -21,7 +21,7 @@ pub(crate) fn look_at_repeats(
 }
 
 fn look_at_list<'a>(
-    words: &mut Words,
+    words: &mut Words<'_>,
     seen: &mut BTreeSet<&'a str>,
     app: &'a Value,
     owner: Owner,
@@ -40,14 +40,15 @@ fn look_at_list<'a>(
 /// Looks whether two applications have one group.
 pub(crate) fn look_at_groups(
     alloc: Global,
-    words: &mut Words,
-    apps: &[Value],
+    words: &mut Words<'_>,
+    apps: AppList<'_>,
 ) -> Result<(), SpecFault> {
     let mut seen = BTreeSet::new(alloc);
-    for app in apps {
+    for (nth, app) in apps.values.iter().enumerate() {
         if let Some(group) = app.get("group").and_then(Value::as_str) {
             if !is_new(&mut seen, group)? {
-                words.add_shared("the group ", group);
+                let place = Place::Member(apps.owner(nth), "group");
+                words.add_shared(place, "the group ", group);
                 return Err(SpecFault::Field);
             }
         }
@@ -58,13 +59,14 @@ pub(crate) fn look_at_groups(
 /// Looks whether two applications have one output topic.
 pub(crate) fn look_at_outputs(
     alloc: Global,
-    words: &mut Words,
-    apps: &[Value],
+    words: &mut Words<'_>,
+    apps: AppList<'_>,
 ) -> Result<(), SpecFault> {
     let mut seen = BTreeSet::new(alloc);
-    for app in apps {
-        if let Some((_, topic)) = seen_before(&mut seen, app, "outputs")? {
-            words.add_shared("the output topic ", topic);
+    for (nth, app) in apps.values.iter().enumerate() {
+        if let Some((at, topic)) = seen_before(&mut seen, app, "outputs")? {
+            let place = Place::Item(apps.owner(nth), "outputs", at);
+            words.add_shared(place, "the output topic ", topic);
             return Err(SpecFault::Field);
         }
     }

@@ -12,7 +12,11 @@ use serde_json::{Map, Value};
 use std::alloc::Global;
 
 /// Finds nothing where the manifest isn't refused. Where it is, the words say which place it is, what stands there and what is wanted.
-pub(crate) fn search(alloc: Global, words: &mut Words, manifest: &Value) -> Result<(), SpecFault> {
+pub(crate) fn search(
+    alloc: Global,
+    words: &mut Words<'_>,
+    manifest: &Value,
+) -> Result<(), SpecFault> {
     let apps = AppList::of(words, manifest)?;
     look_at_app_types(words, apps)?;
     let ends = ends_of(words, manifest)?;
@@ -20,20 +24,20 @@ pub(crate) fn search(alloc: Global, words: &mut Words, manifest: &Value) -> Resu
     look_at_ends(alloc, words, ends, apps.values.len())
 }
 
-fn look_at_apps(alloc: Global, words: &mut Words, apps: AppList<'_>) -> Result<(), SpecFault> {
+fn look_at_apps(alloc: Global, words: &mut Words<'_>, apps: AppList<'_>) -> Result<(), SpecFault> {
     for (at, app) in apps.values.iter().enumerate() {
         let owner = apps.owner(at);
         look_at_topics(alloc, words, app, owner, "sources")?;
         look_at_topics(alloc, words, app, owner, "outputs")?;
         look_at_repeats(alloc, words, app, owner)?;
     }
-    look_at_groups(alloc, words, apps.values)?;
-    look_at_outputs(alloc, words, apps.values)
+    look_at_groups(alloc, words, apps)?;
+    look_at_outputs(alloc, words, apps)
 }
 
 fn look_at_topics(
     alloc: Global,
-    words: &mut Words,
+    words: &mut Words<'_>,
     app: &Value,
     owner: Owner,
     name: &str,
@@ -48,7 +52,7 @@ fn look_at_topics(
 
 fn look_at_topic(
     alloc: Global,
-    words: &mut Words,
+    words: &mut Words<'_>,
     topic: &str,
     place: Place<'_>,
 ) -> Result<(), SpecFault> {
@@ -66,7 +70,7 @@ fn look_at_topic(
 /// Looks at the ends of a manifest with so many applications, and then at both numbers.
 fn look_at_ends(
     alloc: Global,
-    words: &mut Words,
+    words: &mut Words<'_>,
     ends: &Map<String, Value>,
     apps: usize,
 ) -> Result<(), SpecFault> {
@@ -74,22 +78,26 @@ fn look_at_ends(
         look_at_end(alloc, words, name.as_str(), end)?;
     }
     if apps > MAX_APPS {
-        words.add_count("apps has ", apps, " items", MAX_APPS);
+        words.add_count("apps", apps, " items", MAX_APPS);
         return Err(SpecFault::Limit);
     }
     if ends.len() > MAX_PARTITIONS {
-        words.add_count("ends has ", ends.len(), " members", MAX_PARTITIONS);
+        words.add_count("ends", ends.len(), " members", MAX_PARTITIONS);
         return Err(SpecFault::Limit);
     }
     Ok(())
 }
 
-fn look_at_end(alloc: Global, words: &mut Words, name: &str, end: &Value) -> Result<(), SpecFault> {
-    let place = Place::End(name);
+fn look_at_end(
+    alloc: Global,
+    words: &mut Words<'_>,
+    name: &str,
+    end: &Value,
+) -> Result<(), SpecFault> {
     if let Some(topic) = topic_of(name) {
         if !is_topic(alloc, topic)? {
-            words.add_place(
-                place,
+            words.add_unnamed(
+                name,
                 " isn't a partition's name, since its topic's isn't one",
             );
             return Err(SpecFault::Field);
@@ -97,7 +105,7 @@ fn look_at_end(alloc: Global, words: &mut Words, name: &str, end: &Value) -> Res
     }
     match end.as_i64() {
         Some(offset) if offset < 0 => {
-            words.add_no_end(place, end);
+            words.add_no_end(Place::End(name), end);
             Err(SpecFault::Field)
         }
         _ => Ok(()),

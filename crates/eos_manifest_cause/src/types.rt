@@ -8,14 +8,14 @@ use eos_evidence::SpecFault;
 use serde_json::{Map, Value};
 
 /// Looks at the types of the applications, one after the other.
-pub(crate) fn look_at_app_types(words: &mut Words, apps: AppList<'_>) -> Result<(), SpecFault> {
+pub(crate) fn look_at_app_types(words: &mut Words<'_>, apps: AppList<'_>) -> Result<(), SpecFault> {
     for (at, app) in apps.values.iter().enumerate() {
         look_at_app(words, app, apps.owner(at))?;
     }
     Ok(())
 }
 
-fn look_at_app(words: &mut Words, app: &Value, owner: Owner) -> Result<(), SpecFault> {
+fn look_at_app(words: &mut Words<'_>, app: &Value, owner: Owner) -> Result<(), SpecFault> {
     if !app.is_object() {
         words.add_another(Place::Whole(owner), app, "an object");
         return Err(SpecFault::Field);
@@ -27,7 +27,7 @@ fn look_at_app(words: &mut Words, app: &Value, owner: Owner) -> Result<(), SpecF
 }
 
 fn look_at_texts(
-    words: &mut Words,
+    words: &mut Words<'_>,
     app: &Value,
     owner: Owner,
     name: &str,
@@ -39,7 +39,7 @@ fn look_at_texts(
     Ok(())
 }
 
-fn look_at_text(words: &mut Words, value: &Value, place: Place<'_>) -> Result<(), SpecFault> {
+fn look_at_text(words: &mut Words<'_>, value: &Value, place: Place<'_>) -> Result<(), SpecFault> {
     if value.is_string() {
         Ok(())
     } else {
@@ -50,7 +50,7 @@ fn look_at_text(words: &mut Words, value: &Value, place: Place<'_>) -> Result<()
 
 /// The ends, whose names and types are looked at.
 pub(crate) fn ends_of<'a>(
-    words: &mut Words,
+    words: &mut Words<'_>,
     manifest: &'a Value,
 ) -> Result<&'a Map<String, Value>, SpecFault> {
     let value = value_at(words, manifest, Owner::Manifest, "ends")?;
@@ -65,10 +65,10 @@ pub(crate) fn ends_of<'a>(
     Ok(ends)
 }
 
-fn look_at_end(words: &mut Words, name: &str, end: &Value) -> Result<(), SpecFault> {
+fn look_at_end(words: &mut Words<'_>, name: &str, end: &Value) -> Result<(), SpecFault> {
     let place = Place::End(name);
     if topic_of(name).is_none() {
-        words.add_place(place, " isn't a partition's name");
+        words.add_unnamed(name, " isn't a partition's name");
     } else if end.is_i64() {
         return Ok(());
     } else if end.is_u64() {
@@ -80,7 +80,7 @@ fn look_at_end(words: &mut Words, name: &str, end: &Value) -> Result<(), SpecFau
 }
 
 fn value_at<'a>(
-    words: &mut Words,
+    words: &mut Words<'_>,
     value: &'a Value,
     owner: Owner,
     name: &str,
@@ -88,7 +88,7 @@ fn value_at<'a>(
     match value.get(name) {
         Some(member) => Ok(member),
         None => {
-            words.add_place(Place::Member(owner, name), " is absent");
+            words.add_absent(owner, name);
             Err(SpecFault::Field)
         }
     }
@@ -96,7 +96,7 @@ fn value_at<'a>(
 
 /// The items of a member that has to be an array.
 pub(crate) fn array_at<'a>(
-    words: &mut Words,
+    words: &mut Words<'_>,
     value: &'a Value,
     owner: Owner,
     name: &str,

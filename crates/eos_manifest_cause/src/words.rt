@@ -1,6 +1,7 @@
 //! The words of a refusal: a place of the manifest, what stands there and what is wanted.
 
 use crate::place::{Owner, Place};
+use crate::position::{name_at, value_at};
 use eos_text::{push_text, push_value};
 use serde_json::Value;
 use std::alloc::{AllocError, Global};
@@ -8,22 +9,59 @@ use std::fmt::Display;
 
 /// Words, of which those are missing for which memory was refused.
 #[derive(Drop)]
-pub(crate) struct Words {
+pub(crate) struct Words<'a> {
+    alloc: Global,
+    /// What they are about.
+    manifest: &'a [u8],
     text: String,
     is_whole: bool,
+    /// The byte that they are about.
+    at: usize,
 }
 
-impl Words {
-    pub(crate) fn new(alloc: Global) -> Words {
+impl<'a> Words<'a> {
+    pub(crate) fn new(alloc: Global, manifest: &'a [u8]) -> Words<'a> {
         Words {
+            alloc,
+            manifest,
             text: String::new(alloc),
             is_whole: true,
+            at: 0,
         }
     }
 
-    /// The text of them, where none is missing.
-    pub(crate) fn into_text(self) -> Option<String> {
-        if self.is_whole { Some(self.text) } else { None }
+    /// The text of them with the byte that they are about, where none is missing.
+    pub(crate) fn into_text(self) -> Option<(String, usize)> {
+        if self.is_whole {
+            Some((self.text, self.at))
+        } else {
+            None
+        }
+    }
+
+    /// They are about this byte.
+    pub(crate) fn point_at_byte(&mut self, at: usize) {
+        self.at = at;
+    }
+
+    /// They are about what stands at a place.
+    pub(crate) fn point_at(&mut self, place: Place<'_>) {
+        let found = value_at(self.alloc, self.manifest, place);
+        self.point_at_found(found);
+    }
+
+    /// They are about the name of an end.
+    pub(crate) fn point_at_name(&mut self, name: &str) {
+        let found = name_at(self.alloc, self.manifest, name);
+        self.point_at_found(found);
+    }
+
+    /// What is looked for is there: it isn't found where memory was refused.
+    fn point_at_found(&mut self, found: Option<usize>) {
+        match found {
+            Some(at) => self.at = at,
+            None => self.is_whole = false,
+        }
     }
 
     pub(crate) fn add(&mut self, text: &str) {
@@ -45,6 +83,7 @@ impl Words {
 
     /// Adds what stands at a place, and what is wanted there.
     pub(crate) fn add_another(&mut self, place: Place<'_>, value: &Value, wanted: &str) {
+        self.point_at(place);
         self.add_place(place, " is ");
         self.add(type_of(value));
         self.add("; ");
@@ -54,6 +93,7 @@ impl Words {
 
     /// Adds a name that stands there, and what is said of it.
     pub(crate) fn add_named(&mut self, place: Place<'_>, name: &str, more: &str) {
+        self.point_at(place);
         self.add_place(place, " is ");
         self.add_quoted("", name);
         self.add(more);
@@ -66,29 +106,45 @@ impl Words {
         self.add(" is wanted");
     }
 
-    /// Adds what two applications have.
-    pub(crate) fn add_shared(&mut self, what: &str, name: &str) {
+    /// Adds what two applications have, the second of them at this place.
+    pub(crate) fn add_shared(&mut self, place: Place<'_>, what: &str, name: &str) {
+        self.point_at(place);
         self.add("two applications have ");
         self.add_quoted(what, name);
     }
 
     /// Adds a whole number at which no partition can end.
     pub(crate) fn add_no_end(&mut self, place: Place<'_>, value: &Value) {
+        self.point_at(place);
         self.add_place(place, " is ");
         self.add_value("", value);
         self.add("; 0 to 9223372036854775807 is wanted");
     }
 
-    /// Adds how many there are of something, and how many may be.
-    pub(crate) fn add_count(&mut self, label: &str, count: usize, what: &str, most: usize) {
-        self.add_value(label, &count);
+    /// Adds that a member of the manifest is absent, or of an application.
+    pub(crate) fn add_absent(&mut self, owner: Owner, name: &str) {
+        self.point_at(Place::Whole(owner));
+        self.add_place(Place::Member(owner, name), " is absent");
+    }
+
+    /// Adds an end whose name is refused, and what is said of it.
+    pub(crate) fn add_unnamed(&mut self, name: &str, more: &str) {
+        self.point_at_name(name);
+        self.add_place(Place::End(name), more);
+    }
+
+    /// Adds how many a member of the manifest has of something, and how many may be.
+    pub(crate) fn add_count(&mut self, name: &str, count: usize, what: &str, most: usize) {
+        self.point_at(Place::Member(Owner::Manifest, name));
+        self.add(name);
+        self.add_value(" has ", &count);
         self.add(what);
         self.add_value("; at most ", &most);
         self.add(" are allowed");
     }
 
     /// Adds a place and what follows.
-    pub(crate) fn add_place(&mut self, place: Place<'_>, more: &str) {
+    fn add_place(&mut self, place: Place<'_>, more: &str) {
         match place {
             Place::Whole(Owner::Manifest) => self.add("the manifest"),
             Place::Whole(Owner::App(at)) => self.add_index("apps", at),

@@ -6,3 +6,4 @@ pub mod UnlistedNotes
 pub mod PartTables
 pub mod FirstNamed
 pub mod Whole
+pub mod EpochFalls

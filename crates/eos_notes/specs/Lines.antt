@@ -4,7 +4,8 @@ use Rattle.eos_evidence.specs.Evidence.{EvidenceParts}
 use Rattle.eos_evidence.specs.Parts.{Parts}
 use Rattle.eos_fold.specs.Parts.{PartLog}
 use Rattle.eos_notes.specs.declared.note.Note.{Note}
-use Rattle.eos_notes.specs.Notes.{AreNotesBy, AreNotes}
+use Rattle.eos_reading.specs.declared.epoch.EpochEntry.{EpochEntry}
+use Rattle.eos_notes.specs.Notes.{AreNotesBy, AreNotes, AreAllNotesBy, AreAllNotes}
 use Rattle.eos_notes.specs.Texts.{note_lines}
 
 -- the lines of the notes, or nothing where they are left out
@@ -16,3 +17,12 @@ IsNotesText e false text = (notes : List Note) × AreNotes e notes × (text ≡ 
 abbrev pub IsNotesTextBy : Parts → List PartLog → Bool → Bool → List ℕ → Type 0
 IsNotesTextBy spec logs faulty true text = text ≡ []
 IsNotesTextBy spec logs faulty false text = (notes : List Note) × AreNotesBy spec logs faulty notes × (text ≡ note_lines notes)
+
+-- the same of all notes, with those of replicas
+abbrev pub IsAllNotesText : EvidenceParts → Bool → List ℕ → Type 0
+IsAllNotesText e true text = text ≡ []
+IsAllNotesText e false text = (notes : List Note) × AreAllNotes e notes × (text ≡ note_lines notes)
+
+abbrev pub IsAllNotesTextBy : Parts → List PartLog → List (List EpochEntry) → Bool → Bool → List ℕ → Type 0
+IsAllNotesTextBy spec logs epochs faulty true text = text ≡ []
+IsAllNotesTextBy spec logs epochs faulty false text = (notes : List Note) × AreAllNotesBy spec logs epochs faulty notes × (text ≡ note_lines notes)

@@ -1,15 +1,18 @@
 -- The notes of an evidence: signs that it isn't the one that was meant, in the order in which `check` prints them. They change no
 -- verdict.
-use Rattle.std.specs.Prelude.{◌≡◌, Bool, true, false, List, ◌++◌, Option, is_some}
+use Rattle.std.specs.Prelude.{◌≡◌, Bool, true, false, List, map, ◌++◌, Option, is_some}
 use Rattle.eos_evidence.specs.Evidence.{EvidenceParts}
 use Rattle.eos_evidence.specs.Parts.{Parts}
 use Rattle.eos_touch.specs.declared.fault.PartitionFault.{PartitionFault}
 use Rattle.eos_fold.specs.LeastFaults.{IsFirstFault}
-use Rattle.eos_fold.specs.Parts.{PartLog}
+use Rattle.eos_fold.specs.Parts.{PartLog, part_name}
 use Rattle.eos_lineage.specs.EvidenceLogs.{AreLogsOf}
+use Rattle.eos_reading.specs.declared.epoch.EpochEntry.{EpochEntry}
+use Rattle.eos_part.specs.Parts.{HaveEpochs}
 use Rattle.eos_notes.specs.declared.note.Note.{Note}
 use Rattle.eos_notes.specs.ManifestNotes.{no_application, absent_topics, gaps, absent_internals}
-use Rattle.eos_notes.specs.CommitNotes.{AreUnlistedNotes, past_ends, nothing_committed, behind}
+use Rattle.eos_notes.specs.CommitNotes.{end_name, AreUnlistedNotes, past_ends, nothing_committed, behind}
+use Rattle.eos_notes.specs.ReplicaNotes.{falls}
 
 -- what the manifest alone shows
 abbrev pub of_manifest : Parts → List Note
@@ -30,3 +33,12 @@ AreNotesBy spec logs false notes = (unlisted : List Note) × AreUnlistedNotes sp
 abbrev pub AreNotes : EvidenceParts → List Note → Type 0
 AreNotes e notes =
     (logs : List PartLog) × AreLogsOf e.partitions logs × (fault : Option PartitionFault) × IsFirstFault logs fault × AreNotesBy e.spec logs (is_some fault) notes
+
+-- ---- with those of replicas, by the entries at which the leader epochs of the partitions change
+
+abbrev pub AreAllNotesBy : Parts → List PartLog → List (List EpochEntry) → Bool → List Note → Type 0
+AreAllNotesBy spec logs epochs faulty notes = (first : List Note) × AreNotesBy spec logs faulty first × (notes ≡ first ++ falls (map part_name logs) epochs)
+
+abbrev pub AreAllNotes : EvidenceParts → List Note → Type 0
+AreAllNotes e notes =
+    (first : List Note) × AreNotes e first × (epochs : List (List EpochEntry)) × HaveEpochs e.partitions epochs × (notes ≡ first ++ falls (map (λ p. end_name p.end) e.partitions) epochs)

@@ -4,7 +4,7 @@ use Rattle.std.specs.Fmt.{decimal, signed_decimal}
 use Rattle.eos_text.specs.Escaping.{escaped}
 use Rattle.eos_notes.specs.ManifestNotes.{internal_name}
 use Rattle.eos_notes.specs.declared.note.Note.{Note}
-use Rattle.eos_notes.specs.declared.note.Note.TheVariants.{NoApplication, Unlisted, PastEnd, NoPartition, Gap, NothingCommitted, NoInternal, Behind}
+use Rattle.eos_notes.specs.declared.note.Note.TheVariants.{NoApplication, Unlisted, PastEnd, NoPartition, Gap, NothingCommitted, NoInternal, Behind, EpochFalls}
 
 unfoldable pub note_text : Note → List ℕ
 note_text NoApplication = codes "no application is named: outputs and committed offsets aren't judged"
@@ -18,6 +18,7 @@ note_text (NothingCommitted group) = (codes "group " ++ escaped group) ++ codes 
 note_text (NoInternal topic) = (codes "no partition of " ++ internal_name topic) ++ codes " is in ends"
 note_text (Behind group below inputs) =
     (codes "group " ++ escaped group) ++ ((codes " is behind: " ++ decimal below) ++ ((codes " of " ++ decimal inputs) ++ codes " visible inputs are below its committed offsets"))
+note_text (EpochFalls p offset) = (codes "the leader epoch falls at " ++ escaped p.topic) ++ ((codes "-" ++ signed_decimal p.partition) ++ (codes ":" ++ decimal offset))
 
 -- the line on standard error
 unfoldable pub note_line : Note → List ℕ

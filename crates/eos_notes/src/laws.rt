@@ -5,18 +5,26 @@ ghost use Rattle.eos_commits.specs.Faults.{AreInOrder};
 ghost use Rattle.eos_evidence.specs.Evidence.{EvidenceParts, IsEvidence};
 ghost use Rattle.eos_fold.specs.Parts.{PartLog};
 ghost use Rattle.eos_lineage.specs.EvidenceLogs.{AreLogsOf};
-ghost use Rattle.eos_notes.specs.Lines.{IsNotesTextBy, IsNotesText};
-ghost use Rattle.eos_notes.specs.Notes.{AreNotesBy, AreNotes};
+ghost use Rattle.eos_notes.specs.Lines.{IsNotesTextBy, IsNotesText, IsAllNotesTextBy, IsAllNotesText};
+ghost use Rattle.eos_notes.specs.Notes.{AreNotesBy, AreNotes, AreAllNotesBy, AreAllNotes};
 ghost use Rattle.eos_notes.specs.declared.note.Note.{Note as NoteOf};
+ghost use Rattle.eos_part.specs.Parts.{HaveEpochs};
 ghost use Rattle.eos_partitions.specs.Faults.{AreFaultsIn, first_of};
+ghost use Rattle.eos_reading.specs.declared.epoch.EpochEntry.{EpochEntry};
 ghost use Rattle.eos_touch.specs.declared.fault.PartitionFault.{PartitionFault};
 
 /// The logs of an evidence stand in order, and the notes by its manifest and these logs, with the first of its partitions' faults,
-/// are the evidence's; so is their text.
+/// are the evidence's; so is their text. So it is of all notes, with the entries of its partitions' leader epochs.
 pub fn whole()
     ensures order { (e : EvidenceParts) (logs : List PartLog) → IsEvidence e → AreLogsOf e.partitions logs → AreInOrder logs }
     ensures notes { (e : EvidenceParts) (logs : List PartLog) (faults : List (Option PartitionFault)) (notes : List NoteOf)
         → AreLogsOf e.partitions logs → AreFaultsIn e.partitions faults → AreNotesBy e.spec logs (is_some (first_of faults)) notes → AreNotes e notes }
     ensures text { (e : EvidenceParts) (logs : List PartLog) (faults : List (Option PartitionFault)) (quiet : Bool) (text : List ℕ)
         → AreLogsOf e.partitions logs → AreFaultsIn e.partitions faults → IsNotesTextBy e.spec logs (is_some (first_of faults)) quiet text → IsNotesText e quiet text }
+    ensures all { (e : EvidenceParts) (logs : List PartLog) (faults : List (Option PartitionFault)) (epochs : List (List EpochEntry)) (notes : List NoteOf)
+        → AreLogsOf e.partitions logs → AreFaultsIn e.partitions faults → HaveEpochs e.partitions epochs
+        → AreAllNotesBy e.spec logs epochs (is_some (first_of faults)) notes → AreAllNotes e notes }
+    ensures all_text { (e : EvidenceParts) (logs : List PartLog) (faults : List (Option PartitionFault)) (epochs : List (List EpochEntry)) (quiet : Bool) (text : List ℕ)
+        → AreLogsOf e.partitions logs → AreFaultsIn e.partitions faults → HaveEpochs e.partitions epochs
+        → IsAllNotesTextBy e.spec logs epochs (is_some (first_of faults)) quiet text → IsAllNotesText e quiet text }
 {}

@@ -10,10 +10,12 @@ pub mod laws;
 mod lines;
 mod manifest;
 mod note;
+mod replicas;
 mod text;
 mod unlisted;
 
 pub use evidence_notes::notes;
-pub use lines::lines_of;
+pub use lines::{all_lines, lines_of};
 pub use note::{InternalTopic, Note};
+pub use replicas::all_notes;
 pub use text::note_lines;

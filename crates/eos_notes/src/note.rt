@@ -47,6 +47,11 @@ pub enum Note {
         below: u64,
         inputs: u64,
     },
+    /// The batch at this offset of the partition has a lesser leader epoch than the batch before it. It is the first such batch.
+    EpochFalls {
+        partition: PartitionName,
+        offset: u64,
+    },
 }
 
 /// A topic in which Kafka keeps its own records.

@@ -63,6 +63,7 @@ fn push_note(alloc: Global, out: &mut String, note: &Note) -> Result<(), AllocEr
             below,
             inputs,
         } => push_behind(alloc, out, group, below, inputs),
+        Note::EpochFalls { partition, offset } => push_fall(alloc, out, partition, offset),
     }
 }
 
@@ -169,5 +170,24 @@ fn push_behind(
     push_value(out, " is behind: ", below)?;
     push_value(out, " of ", inputs)?;
     push_text(out, " visible inputs are below its committed offsets")?;
+    Ok(())
+}
+
+fn push_fall(
+    alloc: Global,
+    out: &mut String,
+    partition: &PartitionName,
+    offset: &u64,
+) -> Result<(), AllocError>
+    ensures { OnOk result (Adds (string_bytes out.old) (string_bytes out.new) (note_text (Note.EpochFalls partition.now offset.now))) }
+{
+    push_escaped(
+        alloc,
+        out,
+        "the leader epoch falls at ",
+        partition.topic.as_slice(),
+    )?;
+    push_value(out, "-", &partition.partition)?;
+    push_value(out, ":", offset)?;
     Ok(())
 }

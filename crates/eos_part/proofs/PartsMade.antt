@@ -28,7 +28,9 @@ use Rattle.eos_fold.specs.declared.summary.Summary.{Summary}
 use Rattle.eos_fold.specs.Fronts.{IsFront}
 use Rattle.eos_fold.specs.Standing.{IsPartitionFault, AreOf}
 use Rattle.eos_fold.specs.Sums.{AreChecked}
-use Rattle.eos_fold.specs.steps.Whole.{IsWhole, AreCloses, kind_at_stop}
+use Rattle.eos_fold.specs.Stops.{kind_at_stop}
+use Rattle.eos_fold.specs.Parts.{AreCloses}
+use Rattle.eos_fold.specs.steps.Whole.{IsWhole}
 use Rattle.eos_fold.proofs.ClosesRead.{closes_read}
 use Rattle.eos_fold.proofs.JoinedFronts.{other_name}
 use Rattle.eos_fold.proofs.LeastInWhole.{touch_answer, kind_answer, none_answer}
@@ -50,7 +52,8 @@ use Rattle.eos_keeping.specs.Records.{record_of, wanted_record, ReadsBack}
 use Rattle.eos_keeping.proofs.ExactClaims.{exact_claim}
 use Rattle.eos_wanted.proofs.ClaimHeaders.{back}
 use Rattle.eos_part.specs.declared.records.Records.{Records}
-use Rattle.eos_part.specs.Parts.{AreKept, HasBatches, IsWantedPart}
+use Rattle.eos_reading.specs.declared.epoch.EpochEntry.{EpochEntry}
+use Rattle.eos_part.specs.Parts.{AreKept, HasBatches, HasEpochs, IsWantedPart}
 use Rattle.eos_part.specs.steps.Closes.{closes_under}
 use Rattle.eos_part.specs.steps.Fronts.{AreRead, IsWholeFront, AreWhole, IsChecked, IsApart}
 use Rattle.eos_part.specs.declared.run.KeptRun.{KeptRun}
@@ -98,24 +101,24 @@ module _ (topic : List ℕ) (number end : ℤ) (segments : List Segment) (bs : L
 
 -- ---- the front of all segments
 
-pub whole_none : (w : Wanted) (segments : List Segment) (f : Front) (kept : Records) → f.begin ≡ 0 → f.stop ≡ AtEnd → KeepsFront [] f → AreRead w segments None kept → AreWhole w segments f kept
-whole_none w segments f kept begin stop keeps r = record {
+pub whole_none : (w : Wanted) (segments : List Segment) (f : Front) (kept : Records) → f.begin ≡ 0 → f.stop ≡ AtEnd → KeepsFront [] f → f.epochs.items ≡ [] → AreRead w segments None kept → AreWhole w segments f kept
+whole_none w segments f kept begin stop keeps epochs r = record {
   batches = [];
-  whole = record { begin = begin; front = subst (λ (ss : List Segment). IsFront 0 ss [] f.stop) (sym r.0) (refl, stop); keeps = keeps };
+  whole = record { begin = begin; front = subst (λ (ss : List Segment). IsFront 0 ss [] f.stop) (sym r.0) (refl, stop); keeps = keeps; epochs = epochs };
   wanted = r.1;
 }
 
 pub whole_same : (w : Wanted) (segments : List Segment) (f : Front) (kept : Records) → f.begin ≡ 0 → AreRead w segments (Some f) kept → AreWhole w segments f kept
 whole_same w segments f kept begin r = record {
   batches = r.0;
-  whole = record { begin = begin; front = subst (λ (n : ℕ). IsFront n segments r.0 f.stop) begin r.1.front; keeps = r.1.keeps };
+  whole = record { begin = begin; front = subst (λ (n : ℕ). IsFront n segments r.0 f.stop) begin r.1.front; keeps = r.1.keeps; epochs = r.1.epochs };
   wanted = r.2;
 }
 
-pub whole_other : (w : Wanted) (segments : List Segment) (f g : Front) (kept kept' : Records) → f.begin ≢ 0 → g.begin ≡ 0 → g.stop ≡ Elsewhere f.begin → KeepsFront [] g → records_in kept' ≡ [] → AreRead w segments (Some f) kept → AreWhole w segments g kept'
-whole_other w segments f g kept kept' ne begin stop keeps none r = record {
+pub whole_other : (w : Wanted) (segments : List Segment) (f g : Front) (kept kept' : Records) → f.begin ≢ 0 → g.begin ≡ 0 → g.stop ≡ Elsewhere f.begin → KeepsFront [] g → g.epochs.items ≡ [] → records_in kept' ≡ [] → AreRead w segments (Some f) kept → AreWhole w segments g kept'
+whole_other w segments f g kept kept' ne begin stop keeps epochs none r = record {
   batches = [];
-  whole = record { begin = begin; front = subst (λ (st : Stop). IsFront 0 segments [] st) (sym stop) (other_name 0 segments f.begin r.1.begins ne); keeps = keeps };
+  whole = record { begin = begin; front = subst (λ (st : Stop). IsFront 0 segments [] st) (sym stop) (other_name 0 segments f.begin r.1.begins ne); keeps = keeps; epochs = epochs };
   wanted = none;
 }
 
@@ -165,6 +168,9 @@ module _ (w : Wanted) (segments : List Segment) (f : Front) (kept : Records) (m 
 
   pub batches_told : (count : ℕ) → count ≡ f.batches → HasBatches segments count
   batches_told count e = record { batches = m.batches; stop = f.stop; front = m.whole.front; counted = e ∙ m.whole.keeps.counted }
+
+  pub epochs_told : (entries : List EpochEntry) → entries ≡ f.epochs.items → HasEpochs segments entries
+  epochs_told entries e = record { batches = m.batches; stop = f.stop; front = m.whole.front; changes = e ∙ m.whole.epochs }
 
 -- ---- what is kept of segments, taken apart
 

@@ -16,11 +16,13 @@ use crate::items::KeptItems;
 use crate::records::Records;
 use crate::whole::{least_fault, of_all};
 use bytes::Bytes;
+use eos_base::Listed;
 use eos_batch::Marker;
 use eos_evidence::End;
 use eos_fold::Close;
 use eos_keeping::{KeptOutput, KeptText};
 use eos_kept::{Front, Kept, Sizes};
+use eos_reading::EpochEntry;
 use eos_touch::PartitionFault;
 use std::alloc::{AllocError, Global};
 use std::marker::Model;
@@ -55,6 +57,8 @@ pub struct Told {
     pub batches: u64,
     /// How large the segments are, whatever of them is of the front.
     pub sizes: Sizes,
+    /// The leader epochs of the front's batches, each with the offset at which it begins.
+    pub epochs: Listed<EpochEntry>,
 }
 
 /// The log of a partition that is declared to end here, of a front, what is kept of its records, and how large its segments are.
@@ -75,6 +79,7 @@ fn made(
     let Front {
         batches,
         markers,
+        epochs,
         run,
         ..
     } = front;
@@ -91,6 +96,7 @@ fn made(
         fault,
         batches,
         sizes,
+        epochs: Listed::new(epochs),
     })
 }
 

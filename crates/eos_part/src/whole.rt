@@ -1,15 +1,11 @@
 //! The front of all segments of a partition, begun at 0, and its least fault.
 
-ghost use Rattle.std.specs.Prelude.{◌≡◌, [], List, ℤ, pos, not};
-ghost use Rattle.std.specs.Ordering.{int_eq};
+ghost use Rattle.std.specs.Prelude.{◌≡◌, [], List, ℤ};
 ghost use Rattle.eos_batch.specs.declared.batch.Batch.{Batch};
 ghost use Rattle.eos_evidence.specs.declared.segment.Segment.{Segment};
-ghost use Rattle.eos_evidence.specs.Topics.{is_internal};
 ghost use Rattle.eos_fold.specs.Standing.{IsPartitionFault, AreOf};
-ghost use Rattle.eos_fold.specs.steps.Whole.{kind_at_stop};
 ghost use Rattle.eos_kept.specs.Kept.{KeepsFront};
 ghost use Rattle.eos_kept.specs.Passing.{HoldsEach};
-ghost use Rattle.eos_touch.specs.declared.fault.PartitionFaultKind.TheVariants.{Pair};
 ghost use Rattle.eos_wanted.specs.declared.wanted.Wanted.{Wanted};
 ghost use Rattle.eos_part.specs.steps.Fronts.{AreRead, AreEach, AreWhole, IsWholeFront, IsChecked};
 ghost use Rattle.eos_part.specs.Records.{records_in, ReadBack, SayClaims};
@@ -17,18 +13,11 @@ ghost use Rattle.eos_part.specs.Records.{records_in, ReadBack, SayClaims};
 use crate::records::Records;
 use bytes::Bytes;
 use eos_evidence::End;
-use eos_fold::Stop;
+use eos_fold::{Stop, fault_of, is_checked, kind_at_stop, pair_kind};
 use eos_kept::Front;
-use eos_run::{Fault, Run};
-use eos_touch::{PartitionFault, PartitionFaultKind};
+use eos_run::Run;
+use eos_touch::PartitionFault;
 use std::alloc::Global;
-
-/// Whether the sequences of a topic are checked: not those of the internal topics.
-fn is_checked(topic: &[u8]) -> bool
-    ensures { result ≡ not (is_internal topic.now) }
-{
-    topic != b"__consumer_offsets".as_slice() && topic != b"__transaction_state".as_slice()
-}
 
 /// An empty front, begun at 0, that ends for this reason.
 fn nothing(alloc: Global, topic: &[u8], stop: Stop) -> Front
@@ -36,6 +25,7 @@ fn nothing(alloc: Global, topic: &[u8], stop: Stop) -> Front
     ensures stop { result.stop ≡ stop }
     ensures sequenced { IsChecked topic.now result }
     ensures keeps { KeepsFront [] result }
+    ensures epochs { result.epochs.items ≡ [] }
 {
     Front {
         begin: 0,
@@ -43,6 +33,7 @@ fn nothing(alloc: Global, topic: &[u8], stop: Stop) -> Front
         stop,
         batches: 0,
         markers: Vec::new(alloc),
+        epochs: Vec::new(alloc),
         run: Run::new(alloc, is_checked(topic)),
     }
 }
@@ -65,63 +56,6 @@ pub(crate) fn of_all(alloc: Global, topic: &[u8], front: Option<Front>, kept: &m
     kept.clear();
     let stop = Stop::Elsewhere { found: front.begin };
     nothing(alloc, topic, stop)
-}
-
-/// Whether a front ends where its log was declared to end.
-fn is_declared(next: u64, end: i64) -> bool
-    ensures { result ≡ int_eq (pos next) end }
-{
-    end >= 0 && end.unsigned_abs() == next
-}
-
-/// What stands where a front ends, if its log has no fault before.
-fn kind_at_stop(stop: Stop, next: u64, end: i64, left: Option<i64>) -> Option<PartitionFaultKind>
-    ensures { result ≡ kind_at_stop stop next end left }
-{
-    match stop {
-        Stop::NoBatch {
-            segment,
-            byte,
-            fault,
-        } => Some(PartitionFaultKind::BadBatch {
-            segment,
-            byte,
-            batch: fault,
-        }),
-        Stop::Elsewhere { found } => Some(PartitionFaultKind::Gap { found }),
-        Stop::AtEnd => {
-            if !is_declared(next, end) {
-                let end = end.unsigned_abs();
-                return Some(PartitionFaultKind::End { end });
-            }
-            let producer = left?;
-            Some(PartitionFaultKind::OpenAtEnd { producer })
-        }
-    }
-}
-
-/// A fault of this partition.
-fn fault_of(topic: Bytes, partition: i32, offset: u64, kind: PartitionFaultKind) -> PartitionFault
-    ensures topic { result.topic ≡ topic }
-    ensures partition { result.partition ≡ partition }
-    ensures offset { result.offset ≡ offset }
-    ensures kind { result.kind ≡ kind }
-{
-    PartitionFault {
-        topic,
-        partition,
-        offset,
-        kind,
-    }
-}
-
-fn pair_kind(fault: Fault) -> PartitionFaultKind
-    ensures { result ≡ Pair fault.kind fault.producer }
-{
-    PartitionFaultKind::Pair {
-        fault: fault.kind,
-        producer: fault.producer,
-    }
 }
 
 /// The least fault of a whole log, whose topic is this.

@@ -1,7 +1,6 @@
 //! All faults of a partition's log by itself, as one list.
 
-ghost use Rattle.std.specs.Prelude.{◌≡◌, IfOk, map, not};
-ghost use Rattle.eos_evidence.specs.Topics.{is_internal};
+ghost use Rattle.std.specs.Prelude.{◌≡◌, IfOk, map};
 ghost use Rattle.eos_partition_faults.specs.PartitionPlaces.{named};
 ghost use Rattle.eos_partition_faults.specs.PartitionLists.{AreFaultsOf};
 
@@ -11,15 +10,9 @@ use crate::stops::found_of;
 use bytes::Bytes;
 use eos_evidence::Partition;
 use eos_fault_list::distinct_in_order;
+use eos_fold::is_checked;
 use eos_touch::PartitionFault;
 use std::alloc::{AllocError, Global};
-
-/// Whether the sequences of a topic are checked: not those of the internal topics.
-fn is_checked(topic: &[u8]) -> bool
-    ensures { result ≡ not (is_internal topic.now) }
-{
-    topic != b"__consumer_offsets".as_slice() && topic != b"__transaction_state".as_slice()
-}
 
 /// The same of this partition.
 fn of_partition(

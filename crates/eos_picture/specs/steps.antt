@@ -3,3 +3,4 @@ pub mod Acts
 pub mod Found
 pub mod Kept
 pub mod Spots
+pub mod Standing

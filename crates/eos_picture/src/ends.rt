@@ -4,6 +4,7 @@ ghost use Rattle.std.specs.Prelude.{◌≡◌, ◌≢◌, Some, true, false};
 ghost use Rattle.eos_base.specs.Members.{Has};
 ghost use Rattle.eos_items.specs.declared.item.Item.{Item};
 ghost use Rattle.eos_picture.specs.Ends.{is_kind as is_kind_of, is_end as is_end_of, ends, HasNone};
+ghost use Rattle.eos_picture.specs.Order.{is_writer as is_writer_of};
 
 use crate::mark::Column;
 use eos_batch::{Kind, Marker};
@@ -75,8 +76,10 @@ pub(crate) fn has_no_end(part: &Part, producer: i64, epoch: i16) -> bool
     commits == 0 && aborts == 0
 }
 
-fn is_writer(found: Option<(i64, i16)>, writer: (i64, i16)) -> bool
-    ensures { result ≡ false → found ≢ Some writer }
+/// Whether what is found is this producer id and epoch.
+pub(crate) fn is_writer(found: Option<(i64, i16)>, writer: (i64, i16)) -> bool
+    ensures is { result ≡ is_writer_of found writer }
+    ensures no { result ≡ false → found ≢ Some writer }
 {
     match found {
         None => false,

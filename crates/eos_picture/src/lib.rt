@@ -3,10 +3,13 @@
 #![tactic(auto)]
 
 mod acts;
+mod chosen;
 mod content;
 mod ends;
 mod mark;
 mod marks;
+mod named;
+mod order;
 mod passes;
 mod picture;
 mod rows;

@@ -89,10 +89,10 @@ pub struct Row {
 /// A picture.
 #[derive(Drop)]
 pub struct Picture {
-    /// The transactions that are shown, in the order of their Prepare records; behind them those without one.
+    /// The transactions that are shown: in the order of the partition that they share, or else of all.
     pub columns: Vec<Column>,
-    /// How many transactions stand before those that are shown.
-    pub before: usize,
+    /// Their places among all, which are in the order of their Prepare records, and behind them those without one.
+    pub places: Vec<usize>,
     /// How many transactions there are.
     pub all: usize,
     /// The partitions in which one of them did something.

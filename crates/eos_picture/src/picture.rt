@@ -1,19 +1,21 @@
 //! The picture of an evidence.
 
-ghost use Rattle.std.specs.Prelude.{◌≡◌, [], Some, None, drop, take, IfOk};
+ghost use Rattle.std.specs.Prelude.{◌≡◌, [], Some, None, IfOk};
 ghost use Rattle.std.specs.Option.{option_copied};
 ghost use Rattle.eos_picture.specs.Marks.{HasTrueRows};
 ghost use Rattle.eos_picture.specs.Whole.{HasWholeRows};
 ghost use Rattle.eos_picture.specs.Window.{IsWindow, place_of};
 ghost use Rattle.eos_picture.specs.steps.Spots.{StartsAt};
 
+use crate::chosen::{Wanted, columns_at, places_of};
 use crate::mark::{Column, Picture};
 use crate::marks::Scene;
+use crate::named::name_of_fault;
 use crate::passes::passes_of;
 use crate::rows::rows_of;
 use crate::spots::{Spot, spots_of};
 use crate::transactions::columns_of;
-use crate::window::{middle_of, window_of};
+use crate::window::middle_of;
 use eos_check::Fault;
 use eos_evidence::App;
 use eos_partition::Part;
@@ -35,42 +37,9 @@ fn spots_in(
     }
 }
 
-/// Those of a list behind the first ones, of which there are so many.
-fn without_first(
-    alloc: Global,
-    columns: Vec<Column>,
-    count: usize,
-) -> Result<Vec<Column>, AllocError>
-    ensures { IfOk result (λ kept. kept.items ≡ drop count columns.items) }
-{
-    let mut kept = Vec::new(alloc);
-    let mut left = count;
-    for column in columns {
-        if left > 0 {
-            left -= 1;
-        } else {
-            kept.push(column)?;
-        }
-    }
-    Ok(kept)
-}
-
-/// Those of a list that have their place from the start on, and before the end.
-fn cut(
-    alloc: Global,
-    columns: Vec<Column>,
-    start: usize,
-    end: usize,
-) -> Result<Vec<Column>, AllocError>
-    ensures { IfOk result (λ kept. kept.items ≡ drop start (take end columns.items)) }
-{
-    let mut columns = columns;
-    columns.truncate(end);
-    without_first(alloc, columns, start)
-}
-
 /// The picture around a fault of an evidence whose logs these are: so many transactions on each side of the first one that has to do
-/// with it, or where there is no fault, or none of its places is of a transaction, the first of them, twice so many.
+/// with it, in the order of a partition that they share with it; or where there is no fault, or none of its places is of a transaction, the
+/// first of all, twice so many.
 ///
 /// It never fails for what stands in the logs: of a partition whose log has a fault it shows the front.
 ///
@@ -91,8 +60,13 @@ pub fn picture_of(
     let spots = spots_in(alloc, apps, logs, columns.as_slice(), fault)?;
     let all = columns.len();
     let middle = middle_of(columns.as_slice(), logs, spots.as_slice());
-    let (start, end) = window_of(all, middle, around);
-    let columns = cut(alloc, columns, start, end)?;
+    let name = name_of_fault(alloc, fault)?;
+    let wanted = Wanted {
+        name: name.as_ref(),
+        around,
+    };
+    let places = places_of(alloc, columns.as_slice(), logs, wanted, middle)?;
+    let columns = columns_at(alloc, columns.as_slice(), places.as_slice())?;
     let passes = passes_of(alloc, columns.as_slice(), logs)?;
     let scene = Scene {
         columns: columns.as_slice(),
@@ -103,7 +77,7 @@ pub fn picture_of(
     let rows = rows_of(alloc, scene)?;
     Ok(Picture {
         columns,
-        before: start,
+        places,
         all,
         rows,
     })

@@ -1,6 +1,6 @@
 //! The places of a fault.
 
-ghost use Rattle.std.specs.Prelude.{◌≡◌, ◌++◌, ◌∷◌, [], Option, codes, IfOk, OnOk};
+ghost use Rattle.std.specs.Prelude.{◌≡◌, ◌++◌, ◌∷◌, [], Option, IfOk, OnOk};
 ghost use Rattle.eos_claims.specs.declared.place.Place.{Place};
 ghost use Rattle.eos_fold.specs.Parts.{part_name};
 ghost use Rattle.eos_picture.specs.Window.{place_of};
@@ -8,8 +8,8 @@ ghost use Rattle.eos_picture.specs.steps.Spots.{StartsAt, spot_at};
 
 use crate::ends::{End, count_ends, is_ended_by, marker_at, open_epoch};
 use crate::mark::Column;
+use crate::named::{clone_name, name_in, transaction_log};
 use crate::window::is_named;
-use bytes::Bytes;
 use eos_base::PartitionName;
 use eos_batch::Kind;
 use eos_check::Fault;
@@ -44,21 +44,6 @@ pub(crate) enum At {
     Passing(u64),
     /// What stands before this offset, which is no place of the fault.
     Near(u64),
-}
-
-fn clone_name(name: &PartitionName) -> Result<PartitionName, AllocError>
-    ensures { IfOk result (λ copy. copy ≡ name.now) }
-{
-    name.clone()
-}
-
-fn transaction_log(alloc: Global, partition: i32) -> Result<PartitionName, AllocError>
-    ensures { IfOk result (λ name. name ≡ record { topic = codes "__transaction_state"; partition = partition }) }
-{
-    Ok(PartitionName {
-        topic: Bytes::copy_from_slice(alloc, b"__transaction_state".as_slice())?,
-        partition,
-    })
 }
 
 fn push_offset(spots: &mut Vec<Spot>, name: PartitionName, offset: u64) -> Result<(), AllocError>
@@ -219,16 +204,6 @@ fn end_of(part: &Part, fault: &PartitionFault) -> Option<At> {
     }
 }
 
-/// The name of the fault's partition.
-fn name_in(fault: &PartitionFault) -> Result<PartitionName, AllocError>
-    ensures { IfOk result (λ name. name ≡ record { topic = fault.now.topic; partition = fault.now.partition }) }
-{
-    Ok(PartitionName {
-        topic: fault.topic.clone()?,
-        partition: fault.partition,
-    })
-}
-
 /// The place that the fault names, and what is there.
 fn push_partition(
     spots: &mut Vec<Spot>,
@@ -362,6 +337,16 @@ fn push_named(spots: &mut Vec<Spot>, fault: &OutputFault) -> Result<(), AllocErr
     Ok(())
 }
 
+/// What stands before the place that the fault names.
+fn push_near(spots: &mut Vec<Spot>, fault: &OutputFault) -> Result<(), AllocError>
+    ensures stays { (at : Option Place) → StartsAt spots.old.items at → OnOk result (StartsAt spots.new.items at) }
+{
+    match &fault.at {
+        None => Ok(()),
+        Some(at) => push_at(spots, &at.partition, At::Near(at.offset)),
+    }
+}
+
 /// The places of a fault, that which its line names first. A record that belongs to it twice may stand there twice.
 ///
 /// # Errors
@@ -385,10 +370,12 @@ pub(crate) fn spots_of(
         Fault::Match(fault) => push_match(alloc, &mut spots, logs, columns, fault)?,
         Fault::Lineage(LineageFault::Record(fault)) => {
             push_offset(&mut spots, clone_name(&fault.partition)?, fault.offset)?;
+            push_at(&mut spots, &fault.partition, At::Near(fault.offset))?;
         }
         Fault::Lineage(LineageFault::Output { group, fault }) => {
             push_named(&mut spots, fault)?;
             push_output(alloc, &mut spots, app_of(apps, group), logs, fault)?;
+            push_near(&mut spots, fault)?;
         }
     }
     Ok(spots)

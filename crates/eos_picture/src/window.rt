@@ -1,12 +1,12 @@
-//! Which transactions are shown: those around the fault.
+//! Which transaction a fault is of.
 
-ghost use Rattle.std.specs.Prelude.{◌≡◌, ◌≢◌, ◌<◌, ◌⊎◌, ℤ, List, [], Some, None, true, false, take, length, IfSome};
+ghost use Rattle.std.specs.Prelude.{◌≡◌, ◌≢◌, ◌<◌, ◌⊎◌, ℤ, [], Some, None, true, false, length, IfSome};
 ghost use Rattle.std.specs.Option.{option_or};
 ghost use Rattle.eos_base.specs.Members.{Has};
 ghost use Rattle.eos_items.specs.declared.item.Item.{Item};
 ghost use Rattle.eos_fold.specs.Parts.{part_name};
 ghost use Rattle.eos_claims.specs.declared.place.Place.{Place};
-ghost use Rattle.eos_picture.specs.Window.{IsOfRecordAt, first_shown, end_shown};
+ghost use Rattle.eos_picture.specs.Window.{IsOfRecordAt};
 ghost use Rattle.eos_picture.specs.steps.Found.{IsPlaceOf};
 ghost use Rattle.eos_picture.specs.steps.Spots.{StartsAt, spot_at};
 
@@ -159,19 +159,4 @@ pub(crate) fn middle_of(columns: &[Column], logs: &[Part], spots: &[Spot]) -> Op
         }
     }
     None
-}
-
-/// Of all places below the count those that are shown: from the first on, and before the second.
-pub(crate) fn window_of(count: usize, middle: Option<usize>, around: usize) -> (usize, usize)
-    requires { IfSome middle (λ m. m < count) }
-    ensures first { result.0 ≡ first_shown around middle }
-    ensures end { (xs : List Column) → length xs ≡ count → take result.1 xs ≡ take (end_shown around middle) xs }
-{
-    match middle {
-        Some(middle) => (
-            middle.saturating_sub(around),
-            middle.saturating_add(around).saturating_add(1).min(count),
-        ),
-        None => (0, around.saturating_mul(2).min(count)),
-    }
 }

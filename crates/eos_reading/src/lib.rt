@@ -6,17 +6,21 @@
 #![tactic(auto)]
 
 mod batch;
+mod epoch;
 mod fold;
 mod folded;
 mod log;
 mod nothing;
 mod placed;
 mod reading;
+mod seals;
 
 pub use batch::keep_batches;
+pub use epoch::{EpochEntry, append_entries, is_change};
 pub use fold::Fold;
 pub use folded::Folded;
 pub use log::fold_log;
 pub use nothing::Nothing;
 pub use placed::Placed;
 pub use reading::Reading;
+pub use seals::{Seal, push_entries, read_seals};

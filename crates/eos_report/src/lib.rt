@@ -7,5 +7,5 @@ mod listing;
 mod report;
 
 pub use fault::ReportFault;
-pub use listing::{fault_list, fault_list_json};
-pub use report::{verdict_json, verdict_line, write_verdict};
+pub use listing::fault_list;
+pub use report::{no_json, text_of_fault, verdict_json, verdict_line, write_verdict};

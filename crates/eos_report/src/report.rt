@@ -84,7 +84,7 @@ pub fn verdict_json(alloc: Global, verdict: &Verdict) -> Result<Value, AllocErro
 {
     match verdict {
         Verdict::Yes(counts) => json_of_counts(alloc, *counts),
-        Verdict::No(fault) => json_of_fault(alloc, fault),
+        Verdict::No(fault) => no_json(alloc, fault),
     }
 }
 
@@ -102,7 +102,11 @@ fn json_of_counts(alloc: Global, counts: Counts) -> Result<Value, AllocError>
     })
 }
 
-pub(crate) fn json_of_fault(alloc: Global, fault: &Fault) -> Result<Value, AllocError>
+/// The JSON object of a verdict that names this fault.
+///
+/// # Errors
+/// A growth of memory was refused.
+pub fn no_json(alloc: Global, fault: &Fault) -> Result<Value, AllocError>
     ensures { IfOk result (λ value. view value ≡ verdict_value (Verdict.No fault.now)) }
 {
     let text = text_of_fault(alloc, fault)?;
@@ -113,7 +117,11 @@ pub(crate) fn json_of_fault(alloc: Global, fault: &Fault) -> Result<Value, Alloc
     })
 }
 
-fn text_of_fault(alloc: Global, fault: &Fault) -> Result<String, AllocError>
+/// The text of a fault, as the line of a verdict has it behind `no `.
+///
+/// # Errors
+/// A growth of memory was refused.
+pub fn text_of_fault(alloc: Global, fault: &Fault) -> Result<String, AllocError>
     ensures { IfOk result (λ text. string_bytes text ≡ fault_text fault.now) }
 {
     let mut text = String::new(alloc);

@@ -10,7 +10,7 @@ use Rattle.eos_summary.specs.declared.ends.Ends.{Ends}
 use Rattle.eos_summary.specs.declared.fault.Fault.{Fault}
 use Rattle.eos_summary.specs.Settling.{waiting_in, settled}
 use Rattle.eos_summary.specs.Tables.{Table, ends_at}
-use Rattle.eos_summary.specs.steps.Tables.{IsJoined}
+use Rattle.eos_summary.specs.Taken.{IsJoined}
 use Rattle.eos_summary.specs.steps.Summaries.{only, TakesFault}
 use Rattle.eos_summary.specs.steps.Joins.{Rest, IsTaking, Took}
 use Rattle.eos_summary.proofs.Waiting.{all_below}

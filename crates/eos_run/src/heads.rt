@@ -9,11 +9,9 @@ ghost use Rattle.eos_summary.specs.Settling.{data_in, settled, waiting_in};
 ghost use Rattle.eos_summary.specs.steps.Summaries.{only};
 ghost use Rattle.eos_run.specs.Runs.{heads_of};
 
-use crate::mark::ended;
-use crate::places::Places;
 use eos_batch::BatchHead;
 use eos_items::{DataHead, Ending};
-use eos_summary::EndMark;
+use eos_summary::{EndMark, Places, ended};
 use std::alloc::{AllocError, Global};
 use std::marker::Model;
 

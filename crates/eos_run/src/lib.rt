@@ -5,13 +5,8 @@
 //! for its end marker; a producer id costs some 150.
 #![tactic(auto)]
 
-mod ends;
-mod fault;
 mod heads;
-mod mark;
-mod places;
 mod run;
-mod table;
 mod taking;
 mod whole;
 

@@ -6,18 +6,15 @@ ghost use Rattle.std.specs.BTreeMap.{get};
 ghost use Rattle.eos_batch.specs.declared.batch.Batch.{Batch};
 ghost use Rattle.eos_summary.specs.declared.ends.Ends.{Ends};
 ghost use Rattle.eos_summary.specs.Tables.{ends_at};
-ghost use Rattle.eos_summary.specs.steps.Tables.{IsReadyFor};
+ghost use Rattle.eos_summary.specs.Taken.{IsReadyFor};
 ghost use Rattle.eos_summary.specs.Summaries.{SameEnds};
 ghost use Rattle.eos_run.specs.Runs.{IsRunOf, IsRun, IsHeadOf, SameRun};
 ghost use Rattle.eos_run.specs.steps.Taking.{HavePlaces, BeginsWith, HasTaken};
 
-use crate::ends::ProducerEnds;
-use crate::fault::earlier;
 use crate::heads::{Heads, data_head};
-use crate::table::{make_room, make_room_for};
 use eos_batch::BatchHead;
 use eos_items::DataHead;
-use eos_summary::Fault;
+use eos_summary::{Ends, Fault, earlier, make_room, make_room_for};
 use eos_touch::touch_of;
 use std::alloc::{AllocError, Global};
 use std::collections::BTreeMap;
@@ -29,7 +26,7 @@ pub struct Run {
     pub(crate) sequenced: bool,
     /// Of each data batch its head, with its ending as far as the run says.
     pub(crate) heads: Heads,
-    pub(crate) producers: BTreeMap<i64, ProducerEnds>,
+    pub(crate) producers: BTreeMap<i64, Ends>,
     /// The least fault that the run settles by itself.
     pub(crate) fault: Option<Fault>,
 }
@@ -38,7 +35,7 @@ pub struct Run {
 fn reserve_for(
     alloc: Global,
     heads: &mut Heads,
-    producers: &mut BTreeMap<i64, ProducerEnds>,
+    producers: &mut BTreeMap<i64, Ends>,
     after: &Run,
 ) -> Result<(), AllocError>
     ensures list { heads.new.list ≡ heads.old.list }
@@ -82,7 +79,7 @@ impl Run {
         let Some((producer, touch)) = touch_of(head) else {
             return Ok(());
         };
-        let ends = ProducerEnds::of(alloc, head.offset, !head.is_control, producer, touch)?;
+        let ends = Ends::of(alloc, head.offset, !head.is_control, producer, touch)?;
         make_room_for(alloc, &mut self.producers, producer, ends.waiting().len())?;
         let by = self.heads.len();
         self.take_over(producer, ends, by);

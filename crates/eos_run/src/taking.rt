@@ -7,20 +7,19 @@ ghost use Rattle.eos_batch.specs.declared.batch.Batch.{Batch};
 ghost use Rattle.eos_items.specs.Batches.{DataBatch};
 ghost use Rattle.eos_summary.specs.Settling.{waiting_in, settled};
 ghost use Rattle.eos_summary.specs.Tables.{ends_at};
-ghost use Rattle.eos_summary.specs.steps.Tables.{IsJoined, HasRoom};
+ghost use Rattle.eos_summary.specs.Taken.{IsJoined, HasRoom};
 ghost use Rattle.eos_summary.specs.steps.Joins.{rest_of};
 ghost use Rattle.eos_summary.specs.steps.Summaries.{TakesFault, only};
 ghost use Rattle.eos_run.specs.Runs.{heads_of};
 ghost use Rattle.eos_run.specs.steps.Taking.{CanTake, Begins, HasTaken};
 
-use crate::ends::ProducerEnds;
-use crate::fault::{at_seam, earlier};
 use crate::run::Run;
+use eos_summary::{Ends, at_seam, earlier};
 use std::collections::BTreeMap;
 
 impl Run {
     /// Takes over what a producer id does in what comes after, whose data batches begin after so many.
-    pub(crate) fn take_over(&mut self, producer: i64, after: ProducerEnds, by: usize)
+    pub(crate) fn take_over(&mut self, producer: i64, after: Ends, by: usize)
         requires present { IsSome (get int_cmp self.old.producers producer) }
         requires room { HasRoom (ends_at self.old.producers producer) after }
         requires inside { All (λ place. place < length self.old.heads.list) (ends_at self.old.producers producer).waiting.list }
@@ -44,7 +43,7 @@ impl Run {
     }
 
     /// Takes over all producer ids of what comes after.
-    pub(crate) fn take_all(&mut self, mut after: BTreeMap<i64, ProducerEnds>, by: usize)
+    pub(crate) fn take_all(&mut self, mut after: BTreeMap<i64, Ends>, by: usize)
         requires { CanTake by self.old.producers self.old.heads.list (rest_of after) }
         ensures all { length self.new.heads.list ≡ length self.old.heads.list }
         ensures capacity { self.new.heads.room ≡ self.old.heads.room }

@@ -1,3 +1,4 @@
+mod Counted
 pub mod Drawing
 pub mod MoreDeeds
 pub mod OneAfterAnother

@@ -8,9 +8,10 @@ use Rattle.eos_machine.specs.declared.switches.Switches.{Switches}
 use Rattle.eos_machine.specs.Answers.{Answer}
 use Rattle.eos_cluster.specs.Courses.{Course, IsTakenUnder, IsStepUnder, IsCounted}
 use Rattle.eos_scripts.specs.declared.deed.Deed.{Deed}
-use Rattle.eos_scripts.specs.declared.deed.Deed.TheVariants.{Asked, Set}
+use Rattle.eos_scripts.specs.declared.deed.Deed.TheVariants.{Asked, Set, Noted}
+use Rattle.eos_scripts.specs.declared.deed.Note.{Note}
 use Rattle.eos_scripts.specs.Driven.{is_taken, recorded, after_deed, after, IsAnswered, AreAnswered, Leads, IsKept}
-use Rattle.eos_scripts.specs.steps.Drives.{Origin, Drive, with_deeds, recorded_in, set_in, IsOnCourse}
+use Rattle.eos_scripts.specs.steps.Drives.{Origin, Drive, with_deeds, recorded_in, set_in, noted_in, IsOnCourse}
 
 -- ---- where one more leads
 
@@ -54,6 +55,10 @@ set_is : (k : Option (List Deed)) (u : Switches) → set_in k u ≡ added k (Set
 set_is None u = refl
 set_is (Some b) u = refl
 
+noted_is : (k : Option (List Deed)) (n : Note) → noted_in k n ≡ added k (Noted n)
+noted_is None n = refl
+noted_is (Some b) n = refl
+
 -- ---- a run, after one more
 
 on_more : (b : Course) (before : Option (List Deed)) (s t : Course) (k m : Option (List Deed)) (d : Deed) → IsOnCourse b before s k → t ≡ after_deed s d → IsAnswered s d → m ≡ added k d → IsOnCourse b before t m
@@ -90,6 +95,9 @@ on_asked b before s t k m e Full h a c w = on_same b before s t k m h c.0 (w ∙
 pub on_set : (b : Course) (before : Option (List Deed)) (s t : Course) (k m : Option (List Deed)) (u : Switches) → IsOnCourse b before s k → t ≡ after_deed s (Set u) → m ≡ set_in k u → IsOnCourse b before t m
 on_set b before s t k m u h e w = on_more b before s t k m (Set u) h e tt (w ∙ set_is k u)
 
+pub on_noted : (b : Course) (before : Option (List Deed)) (s : Course) (k m : Option (List Deed)) (n : Note) → IsOnCourse b before s k → m ≡ noted_in k n → IsOnCourse b before s m
+on_noted b before s k m n h w = on_more b before s s k m (Noted n) h refl tt (w ∙ noted_is k n)
+
 -- ---- of a history
 
 none_yet : (s : Course) (k : Option (List Deed)) → IsOnCourse s k s k
@@ -119,3 +127,7 @@ kept_asked s t before now e r a c w =
 pub kept_set : (s t : Course) (before now : List Deed) (u : Switches) → t ≡ after_deed s (Set u) → now ≡ before ++ Set u ∷ [] → IsKept s before t now
 kept_set s t before now u e w =
     kept_of s t (Some before) before now (on_set s (Some before) s t (Some before) (Some now) u (none_yet s (Some before)) e (ap (λ (x : List Deed). Some x) w)) refl
+
+pub kept_noted : (s : Course) (before now : List Deed) (n : Note) → now ≡ before ++ Noted n ∷ [] → IsKept s before s now
+kept_noted s before now n w =
+    kept_of s s (Some before) before now (on_noted s (Some before) s (Some before) (Some now) n (none_yet s (Some before)) (ap (λ (x : List Deed). Some x) w)) refl

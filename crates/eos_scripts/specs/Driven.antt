@@ -7,7 +7,7 @@ use Rattle.eos_machine.specs.Switching.{any_on}
 use Rattle.eos_machine.specs.Machine.{step_under}
 use Rattle.eos_cluster.specs.Courses.{Course}
 use Rattle.eos_scripts.specs.declared.deed.Deed.{Deed}
-use Rattle.eos_scripts.specs.declared.deed.Deed.TheVariants.{Asked, Set}
+use Rattle.eos_scripts.specs.declared.deed.Deed.TheVariants.{Asked, Set, Noted}
 
 -- ---- what is kept
 
@@ -31,10 +31,11 @@ recorded ds e r = if is_taken r then ds ++ Asked e r ∷ [] else ds
 
 -- ---- where it leads
 
--- an event is the machine's step under the switches that are set; once one was on, a cluster isn't honest any more
+-- an event is the machine's step under the switches that are set; once one was on, a cluster isn't honest any more; a note is no deed
 abbrev pub after_deed : Course → Deed → Course
 after_deed s (Asked e r) = record s { world = (step_under s.switches s.config s.world e).0 }
 after_deed s (Set u) = record s { switches = u; honest = s.honest && not (any_on u) }
+after_deed s (Noted n) = s
 
 abbrev pub after : Course → List Deed → Course
 after s [] = s
@@ -44,6 +45,7 @@ after s (d ∷ ds) = after (after_deed s d) ds
 abbrev pub IsAnswered : Course → Deed → Type 0
 IsAnswered s (Asked e r) = (r ≡ (step_under s.switches s.config s.world e).1) × (is_taken r ≡ true)
 IsAnswered s (Set u) = ⊤
+IsAnswered s (Noted n) = ⊤
 
 -- each of them at its place
 abbrev pub AreAnswered : Course → List Deed → Type 0

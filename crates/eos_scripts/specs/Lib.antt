@@ -1,5 +1,6 @@
 pub mod Driven
 pub mod Mishaps
 pub mod Rates
+pub mod Totals
 pub mod Words
 pub mod steps

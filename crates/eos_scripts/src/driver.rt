@@ -4,9 +4,10 @@ ghost use Rattle.std.specs.Prelude.{◌≡◌, List, Some, IsSome};
 ghost use Rattle.std.specs.Result.{OnOk, OnErr};
 ghost use Rattle.eos_cluster.specs.Courses.{IsStepUnder, IsCounted};
 ghost use Rattle.eos_scripts.specs.Driven.{after_deed, IsDriven, IsKept};
-ghost use Rattle.eos_scripts.specs.steps.Drives.{recorded_in, set_in, HasAsked, HasDone};
+ghost use Rattle.eos_scripts.specs.steps.Drives.{recorded_in, set_in, noted_in, HasAsked, HasDone};
 ghost use Rattle.eos_scripts.specs.declared.deed.Deed.{Deed};
 
+use crate::deed::Note;
 use crate::history::History;
 use eos_cluster::Cluster;
 use eos_machine::{Event, Reply, Switches};
@@ -66,6 +67,17 @@ fn set_one(
     }
 }
 
+/// Keeps a note where there is a history.
+fn note_one(history: &mut Option<History>, note: Note) -> Result<(), AllocError>
+    ensures ok { OnOk result (history.new ≡ noted_in history.old note) }
+    ensures err { OnErr result (history.new ≡ history.old) }
+{
+    match history {
+        Some(history) => history.note(note),
+        None => Ok(()),
+    }
+}
+
 impl Driver {
     /// A driver of a cluster as it is now, which goes on with a history, if there is one.
     pub(crate) fn new(cluster: &Cluster, history: Option<History>) -> Driver
@@ -121,22 +133,15 @@ impl Driver {
         Ok(())
     }
 
-    /// A message was lost.
-    pub(crate) fn count_lost(&mut self)
+    /// Keeps what happened beside the cluster, where there is a history.
+    ///
+    /// # Errors
+    /// Where a growth was refused.
+    pub(crate) fn note(&mut self, note: Note) -> Result<(), AllocError>
         ensures { self.new ≡ self.old }
     {
-        if let Some(history) = &mut self.history {
-            history.count_lost();
-        }
-    }
-
-    /// An earlier message arrives again, or late.
-    pub(crate) fn count_repeated(&mut self)
-        ensures { self.new ≡ self.old }
-    {
-        if let Some(history) = &mut self.history {
-            history.count_repeated();
-        }
+        note_one(&mut self.history, note)?;
+        Ok(())
     }
 
     /// The end of a run.

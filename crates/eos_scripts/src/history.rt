@@ -4,21 +4,19 @@ ghost use Rattle.std.specs.Prelude.{◌≡◌, ◌+◌, ◌≤◌, ◌++◌, ◌
 ghost use Rattle.std.specs.Result.{OnOk, OnErr};
 ghost use Rattle.eos_cluster.specs.Courses.{IsStepUnder, IsCounted};
 ghost use Rattle.eos_scripts.specs.Driven.{is_taken, after_deed, recorded, IsKept};
+ghost use Rattle.eos_scripts.specs.Totals.{IsTallyOf};
 
-use crate::deed::Deed;
-use crate::tally::{Tally, decided};
+use crate::deed::{Deed, Note};
+use crate::tally::{Tally, tally_of};
 use eos_cluster::Cluster;
 use eos_machine::{Event, Reply, Switches};
 use std::alloc::{AllocError, Global};
 use std::marker::Model;
 
-/// What was done to a cluster, in order, which contracts see as that list. It knows besides how many messages were lost and
-/// repeated meanwhile.
+/// What was done to a cluster, and what happened beside it, in order, which contracts see as that list.
 #[derive(Debug, Drop)]
 pub struct History {
     deeds: Vec<Deed>,
-    lost: u64,
-    repeated: u64,
 }
 
 impl Model for History {
@@ -90,8 +88,6 @@ impl History {
     {
         History {
             deeds: Vec::new(alloc),
-            lost: 0,
-            repeated: 0,
         }
     }
 
@@ -130,29 +126,25 @@ impl History {
         Ok(())
     }
 
+    /// Keeps what happened beside a cluster.
+    ///
+    /// # Errors
+    /// Where a growth was refused. Everything is as it was.
+    pub fn note(&mut self, note: Note) -> Result<(), AllocError>
+        ensures ok { OnOk result (self.new ≡ self.old ++ Deed.Noted note ∷ []) }
+        ensures err { OnErr result (self.new ≡ self.old) }
+    {
+        self.deeds.push(Deed::Noted(note))?;
+        Ok(())
+    }
+
     /// How often what happened, of a history that began with a new cluster.
     ///
     /// # Errors
     /// Where a growth was refused.
-    pub fn tally(&self, alloc: Global) -> Result<Tally, AllocError> {
-        Ok(Tally {
-            transactions: decided(alloc, self.deeds.as_slice())?,
-            lost: self.lost,
-            repeated: self.repeated,
-        })
-    }
-
-    /// A message was lost.
-    pub(crate) fn count_lost(&mut self)
-        ensures { self.new ≡ self.old }
+    pub fn tally(&self, alloc: Global) -> Result<Tally, AllocError>
+        ensures { IfOk result (IsTallyOf self.now) }
     {
-        self.lost = self.lost.saturating_add(1);
-    }
-
-    /// An earlier message arrives again, or late.
-    pub(crate) fn count_repeated(&mut self)
-        ensures { self.new ≡ self.old }
-    {
-        self.repeated = self.repeated.saturating_add(1);
+        tally_of(alloc, self.deeds.as_slice())
     }
 }

@@ -167,7 +167,7 @@ impl Instance {
         let last = number.checked_sub(1)?;
         let sent = self.sent.get(last)?;
         match self.requests.get(last)? {
-            Request::Delete { .. } if !sent.is_accepted => Some(sent.message),
+            Request::Commit { offset: None, .. } if !sent.is_accepted => Some(sent.message),
             _ => None,
         }
     }

@@ -27,7 +27,7 @@ mod settle;
 mod tail;
 mod tally;
 
-pub use deed::Deed;
+pub use deed::{Deed, Note};
 pub use history::History;
 pub use mishap::{ChosenMishap, Input, Mishap};
 pub use rates::Rates;

@@ -3,6 +3,9 @@
 ghost use Rattle.std.specs.Prelude.{◌≡◌, None, IfSome};
 ghost use Rattle.eos_scripts.specs.Mishaps.{mishap_name, name_in};
 
+use bytes::Bytes;
+use std::alloc::{AllocError, Global};
+
 /// A mistake of an application at one input: the outputs are not those that it should have, or its offset is lost.
 #[derive(Clone, Copy, Debug, PartialEq, Eq)]
 pub enum Mishap {
@@ -152,6 +155,23 @@ impl ChosenMishap {
                 at: None,
             }),
         }
+    }
+
+    /// The word that chooses it.
+    pub(crate) fn word(self, alloc: Global) -> Result<Bytes, AllocError> {
+        let name = self.mishap.name();
+        let text = match self.at {
+            None => String::from_str(alloc, name)?,
+            Some(Input { source, offset }) => {
+                let topic = if self.mishap.is_chained() {
+                    "out"
+                } else {
+                    "in"
+                };
+                format!(in alloc; "{name}@{topic}-{source}:{offset}")?
+            }
+        };
+        Bytes::copy_from_slice(alloc, text.as_bytes())
     }
 
     /// Whether it happens at this input of the first group.

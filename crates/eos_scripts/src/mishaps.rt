@@ -14,6 +14,8 @@ pub(crate) struct Mishaps {
 struct Due {
     chosen: ChosenMishap,
     is_met: bool,
+    /// Whether one has since that was told.
+    is_untold: bool,
 }
 
 impl Mishaps {
@@ -23,6 +25,7 @@ impl Mishaps {
             due.push(Due {
                 chosen: *it,
                 is_met: false,
+                is_untold: false,
             })?;
         }
         Ok(Mishaps { due })
@@ -37,6 +40,7 @@ impl Mishaps {
         if place < self.due.len() {
             self.due[place].chosen.at = Some(input);
             self.due[place].is_met = true;
+            self.due[place].is_untold = true;
         }
         true
     }
@@ -57,6 +61,19 @@ impl Mishaps {
             }
         }
         first
+    }
+
+    pub(crate) fn count(&self) -> usize {
+        self.due.len()
+    }
+
+    /// The one at this place, if a transaction has made it since that was told, which it now is.
+    pub(crate) fn untold(&mut self, place: usize) -> Option<ChosenMishap> {
+        if place >= self.due.len() || !self.due[place].is_untold {
+            return None;
+        }
+        self.due[place].is_untold = false;
+        Some(self.due[place].chosen)
     }
 
     /// The first that no transaction has made.
@@ -149,6 +166,7 @@ impl Mishaps {
             if chosen.is_at(input) {
                 if chosen.mishap.is_ahead() == is_ahead {
                     self.due[place].is_met = true;
+                    self.due[place].is_untold = true;
                 }
                 return Some(chosen.mishap);
             }

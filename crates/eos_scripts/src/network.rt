@@ -49,13 +49,14 @@ impl Network {
         }
     }
 
-    /// The next message is lost, where there is one. Whether there was.
-    pub(crate) fn lose(&mut self) -> bool {
+    /// The next message is lost, where there is one: that one.
+    pub(crate) fn lose(&mut self) -> Option<u64> {
         if self.next >= self.known {
-            return false;
+            return None;
         }
+        let message = self.next;
         self.next += 1;
-        true
+        Some(message)
     }
 
     /// An earlier message, lost or not: one of the last eight, or any.

@@ -3,7 +3,7 @@
 use crate::mishap::{ChosenMishap, Input, Mishap};
 use crate::mishaps::Mishaps;
 use crate::reader::{Fate, Reader};
-use crate::request::Request;
+use crate::request::{Output, Request, Topic};
 use eos_batch::Kind;
 use eos_cluster::Cluster;
 use eos_machine::Config;
@@ -127,6 +127,16 @@ impl Plan {
         self.mishaps.unmet()
     }
 
+    /// How many mishaps there are.
+    pub(crate) fn mishap_count(&self) -> usize {
+        self.mishaps.count()
+    }
+
+    /// The mishap at this place, if a transaction has made it since that was told.
+    pub(crate) fn untold(&mut self, place: usize) -> Option<ChosenMishap> {
+        self.mishaps.untold(place)
+    }
+
     /// Adds what a transaction asks for the inputs of a source from an offset on, at most so many of them: the outputs of each,
     /// and the offset after them.
     ///
@@ -154,7 +164,10 @@ impl Plan {
         }
         if from < to {
             self.add_ahead(requests, Input { source, offset: to })?;
-            requests.push(Request::Commit { source, offset: to })?;
+            requests.push(Request::Commit {
+                source,
+                offset: Some(to),
+            })?;
         }
         Ok(())
     }
@@ -192,7 +205,10 @@ impl Plan {
             }
         }
         if from < to {
-            requests.push(Request::Commit { source, offset: to })?;
+            requests.push(Request::Commit {
+                source,
+                offset: Some(to),
+            })?;
         }
         Ok(())
     }
@@ -217,14 +233,7 @@ impl Plan {
     fn add_all(&self, requests: &mut Vec<Request>, input: Input) -> Result<(), AllocError> {
         let of = input.outputs();
         for output in of.min(1)..of.saturating_add(1) {
-            requests.push(Request::Output {
-                is_chained: true,
-                partition: self.partition_of(input, output),
-                source: input.source,
-                offset: input.offset,
-                output,
-                of,
-            })?;
+            self.add(requests, Topic::Out, input, (output, of))?;
         }
         Ok(())
     }
@@ -237,19 +246,19 @@ impl Plan {
             Some(Mishap::LostOutput) => self.add_from(requests, input, 1, of.saturating_sub(1)),
             Some(Mishap::RepeatedOutput) => {
                 self.add_from(requests, input, 1, of)?;
-                self.add_output(requests, input, 1, of)
+                self.add(requests, Topic::In, input, (1, of))
             }
             Some(Mishap::WrongCount) => {
                 self.add_from(requests, input, 1, of.saturating_sub(1))?;
-                self.add_output(requests, input, of, of.saturating_add(1))
+                self.add(requests, Topic::In, input, (of, of.saturating_add(1)))
             }
             Some(Mishap::WrongNumber) => {
                 self.add_from(requests, input, 1, of)?;
-                self.add_output(requests, input, of.saturating_add(1), of)
+                self.add(requests, Topic::In, input, (of.saturating_add(1), of))
             }
             Some(Mishap::ForeignSource) => {
                 self.add_from(requests, input, 1, of)?;
-                self.add_foreign(requests, input)
+                self.add(requests, Topic::Foreign, input, (1, 1))
             }
             Some(Mishap::NoHeaders) => {
                 self.add_from(requests, input, 1, of)?;
@@ -257,8 +266,9 @@ impl Plan {
             }
             Some(Mishap::OffsetDeleted) => {
                 self.add_from(requests, input, of.min(1), of)?;
-                requests.push(Request::Delete {
+                requests.push(Request::Commit {
                     source: input.source,
+                    offset: None,
                 })?;
                 Ok(())
             }
@@ -285,42 +295,37 @@ impl Plan {
         last: u64,
     ) -> Result<(), AllocError> {
         for output in first..last.saturating_add(1) {
-            self.add_output(requests, input, output, input.outputs())?;
+            self.add(requests, Topic::In, input, (output, input.outputs()))?;
         }
         Ok(())
     }
 
-    /// An output of this number, which says that there are so many.
-    fn add_output(
+    /// An output that names a topic and is the first of these numbers, which says that there are as many as the second.
+    fn add(
         &self,
         requests: &mut Vec<Request>,
+        topic: Topic,
         input: Input,
-        output: u64,
-        of: u64,
+        numbers: (u64, u64),
     ) -> Result<(), AllocError> {
-        requests.push(Request::Output {
-            is_chained: false,
+        let (output, of) = numbers;
+        requests.push(Request::Write {
             partition: self.partition_of(input, output),
-            source: input.source,
-            offset: input.offset,
-            output,
-            of,
-        })?;
-        Ok(())
-    }
-
-    fn add_foreign(&self, requests: &mut Vec<Request>, input: Input) -> Result<(), AllocError> {
-        requests.push(Request::Foreign {
-            partition: self.partition_of(input, 1),
-            source: input.source,
-            offset: input.offset,
+            output: Some(Output {
+                topic,
+                source: input.source,
+                offset: input.offset,
+                output,
+                of,
+            }),
         })?;
         Ok(())
     }
 
     fn add_bare(&self, requests: &mut Vec<Request>, input: Input) -> Result<(), AllocError> {
-        requests.push(Request::Bare {
+        requests.push(Request::Write {
             partition: self.partition_of(input, 1),
+            output: None,
         })?;
         Ok(())
     }

@@ -6,97 +6,82 @@ use eos_machine::{Claim, Event};
 /// What a transaction asks of the cluster.
 #[derive(Clone, Copy)]
 pub(crate) enum Request {
-    /// An output of an input, or the note that it has none.
-    Output {
-        is_chained: bool,
+    /// A record, with headers if it says where it comes from.
+    Write {
         partition: usize,
-        source: usize,
-        offset: u64,
-        output: u64,
-        of: u64,
+        output: Option<Output>,
     },
-    /// An output of an input with this offset of a topic that isn't read.
-    Foreign {
-        partition: usize,
-        source: usize,
-        offset: u64,
-    },
-    /// An output that has no headers.
-    Bare {
-        partition: usize,
-    },
-    /// That the group's offset is deleted.
-    Delete {
-        source: usize,
-    },
-    /// The offset after the inputs that were read.
+    /// The offset after the inputs that were read, or that the group's offset is deleted.
     Commit {
         source: usize,
-        offset: u64,
+        offset: Option<u64>,
     },
+}
+
+/// The topic that an output names.
+#[derive(Clone, Copy)]
+pub(crate) enum Topic {
+    In,
+    Out,
+    /// One that isn't read.
+    Foreign,
+}
+
+/// What an output says of its input; number 0 is the note that an input has none.
+#[derive(Clone, Copy)]
+pub(crate) struct Output {
+    pub(crate) topic: Topic,
+    pub(crate) source: usize,
+    pub(crate) offset: u64,
+    pub(crate) output: u64,
+    pub(crate) of: u64,
 }
 
 impl Request {
     /// The event by which a session asks.
     pub(crate) fn event(self, session: usize) -> Event {
         match self {
-            Request::Output {
-                is_chained,
-                partition,
-                source,
-                offset,
-                output,
-                of,
-            } => Event::Produce {
+            Request::Write { partition, output } => Event::Produce {
                 session,
                 partition,
-                claim: Some(claim(topic_of(is_chained), source, offset, output, of)),
-            },
-            Request::Foreign {
-                partition,
-                source,
-                offset,
-            } => Event::Produce {
-                session,
-                partition,
-                claim: Some(claim(b"foreign".as_slice(), source, offset, 1, 1)),
-            },
-            Request::Bare { partition } => Event::Produce {
-                session,
-                partition,
-                claim: None,
-            },
-            Request::Delete { source } => Event::Commit {
-                session,
-                source,
-                offset: None,
+                claim: claim_of(output),
             },
             Request::Commit { source, offset } => Event::Commit {
                 session,
                 source,
-                offset: Some(as_i64(offset)),
+                offset: offset_of(offset),
             },
         }
     }
 }
 
-/// The topic that a group reads.
-fn topic_of(is_chained: bool) -> &'static [u8] {
-    if is_chained {
-        b"out".as_slice()
-    } else {
-        b"in".as_slice()
+fn claim_of(output: Option<Output>) -> Option<Claim> {
+    match output {
+        Some(output) => Some(Claim {
+            topic: Bytes::from_static(output.topic.name()),
+            partition: as_i32(output.source as u64),
+            offset: as_i64(output.offset),
+            output: as_i32(output.output),
+            of: as_i32(output.of),
+        }),
+        None => None,
     }
 }
 
-/// What an output says of its input.
-fn claim(topic: &'static [u8], source: usize, offset: u64, output: u64, of: u64) -> Claim {
-    Claim {
-        topic: Bytes::from_static(topic),
-        partition: as_i32(source as u64),
-        offset: as_i64(offset),
-        output: as_i32(output),
-        of: as_i32(of),
+fn offset_of(offset: Option<u64>) -> Option<i64> {
+    match offset {
+        Some(offset) => Some(as_i64(offset)),
+        None => None,
+    }
+}
+
+impl Topic {
+    fn name(self) -> &'static [u8] {
+        match self {
+            Topic::In => b"in".as_slice(),
+            Topic::Out => b"out".as_slice(),
+            Topic::Foreign => b"foreign".as_slice(),
+        }
     }
 }
 

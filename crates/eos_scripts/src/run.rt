@@ -3,6 +3,7 @@
 ghost use Rattle.std.specs.Prelude.{◌≡◌};
 ghost use Rattle.eos_scripts.specs.steps.Drives.{HasAsked};
 
+use crate::deed::Note;
 use crate::driver::Driver;
 use crate::instance::{Choice, Instance, Turn};
 use crate::network::Network;
@@ -163,7 +164,8 @@ impl Run {
             Turn::Ask(event) => {
                 let reply = driver.ask(cluster, event)?;
                 self.plan.read_outputs(cluster)?;
-                self.hear(number, choice, reply)
+                self.hear(number, choice, reply)?;
+                self.tell_mishaps(driver)
             }
             Turn::Again(message) => self.deliver(cluster, driver, message),
             Turn::Rest => Ok(()),
@@ -179,6 +181,18 @@ impl Run {
             let queued = self.instances[number].hear(&mut self.plan, choice, reply)?;
             if let Some(message) = queued {
                 self.network.queued(message);
+            }
+        }
+        Ok(())
+    }
+
+    /// Tells which mistakes a transaction has made just now.
+    fn tell_mishaps(&mut self, driver: &mut Driver) -> Result<(), AllocError>
+        ensures { driver.new ≡ driver.old }
+    {
+        for place in 0..self.plan.mishap_count() {
+            if let Some(chosen) = self.plan.untold(place) {
+                driver.note(Note::Erred(chosen.word(self.alloc)?))?;
             }
         }
         Ok(())
@@ -230,10 +244,10 @@ impl Run {
     fn lose(&mut self, driver: &mut Driver) -> Result<(), AllocError>
         ensures { driver.new ≡ driver.old }
     {
-        if self.network.lose() {
-            driver.count_lost();
+        match self.network.lose() {
+            Some(message) => driver.note(Note::Lost(message)),
+            None => Ok(()),
         }
-        Ok(())
     }
 
     /// A message arrives again, or late.
@@ -248,7 +262,7 @@ impl Run {
     {
         match self.network.earlier(choice % 2 == 0, choice / 2) {
             Some(message) => {
-                driver.count_repeated();
+                driver.note(Note::Repeated(message))?;
                 self.deliver(cluster, driver, message)
             }
             None => Ok(()),

@@ -1,12 +1,18 @@
 //! How often what happened to a cluster.
 
-use crate::deed::Deed;
+ghost use Rattle.std.specs.Prelude.{◌≡◌, IfOk};
+ghost use Rattle.std.specs.List.{count_by};
+ghost use Rattle.eos_scripts.specs.Totals.{is_event, notes_loss, notes_repetition, is_loss, is_repetition, IsTallyOf};
+
+use crate::deed::{Deed, Note};
 use eos_machine::{Event, Reply};
 use std::alloc::{AllocError, Global};
 
 /// How often what happened in a run.
 #[derive(Clone, Copy, Debug, PartialEq, Eq)]
 pub struct Tally {
+    /// The events that the cluster took.
+    pub events: u64,
     /// The transactions that were decided, by a commit or an abort.
     pub transactions: u64,
     /// How often a message was lost on its way. One that was may arrive all the same, when it is sent again.
@@ -40,8 +46,93 @@ struct Decisions {
     count: u64,
 }
 
+/// What is counted in a history.
+pub(crate) fn tally_of(alloc: Global, deeds: &[Deed]) -> Result<Tally, AllocError>
+    ensures { IfOk result (IsTallyOf deeds.now) }
+{
+    let transactions = decided(alloc, deeds)?;
+    Ok(Tally {
+        events: events_in(deeds),
+        transactions,
+        lost: losses_in(deeds),
+        repeated: repetitions_in(deeds),
+    })
+}
+
+fn events_in(deeds: &[Deed]) -> u64
+    ensures { result ≡ count_by is_event deeds.now }
+{
+    let mut count = 0u64;
+    for deed in deeds {
+        if is_event(deed) {
+            count += 1;
+        }
+    }
+    count
+}
+
+fn losses_in(deeds: &[Deed]) -> u64
+    ensures { result ≡ count_by is_loss deeds.now }
+{
+    let mut count = 0u64;
+    for deed in deeds {
+        if is_loss(deed) {
+            count += 1;
+        }
+    }
+    count
+}
+
+fn repetitions_in(deeds: &[Deed]) -> u64
+    ensures { result ≡ count_by is_repetition deeds.now }
+{
+    let mut count = 0u64;
+    for deed in deeds {
+        if is_repetition(deed) {
+            count += 1;
+        }
+    }
+    count
+}
+
+fn is_event(deed: &Deed) -> bool
+    ensures { result ≡ is_event deed.now }
+{
+    matches!(deed, Deed::Asked { .. })
+}
+
+fn is_loss(deed: &Deed) -> bool
+    ensures { result ≡ is_loss deed.now }
+{
+    match deed {
+        Deed::Noted(note) => notes_loss(note),
+        Deed::Asked { .. } | Deed::Set(_) => false,
+    }
+}
+
+fn notes_loss(note: &Note) -> bool
+    ensures { result ≡ notes_loss note.now }
+{
+    matches!(note, Note::Lost(_))
+}
+
+fn is_repetition(deed: &Deed) -> bool
+    ensures { result ≡ is_repetition deed.now }
+{
+    match deed {
+        Deed::Noted(note) => notes_repetition(note),
+        Deed::Asked { .. } | Deed::Set(_) => false,
+    }
+}
+
+fn notes_repetition(note: &Note) -> bool
+    ensures { result ≡ notes_repetition note.now }
+{
+    matches!(note, Note::Repeated(_))
+}
+
 /// How many transactions were decided.
-pub(crate) fn decided(alloc: Global, deeds: &[Deed]) -> Result<u64, AllocError> {
+fn decided(alloc: Global, deeds: &[Deed]) -> Result<u64, AllocError> {
     let mut decisions = Decisions {
         clients: Vec::new(alloc),
         requests: Vec::new(alloc),

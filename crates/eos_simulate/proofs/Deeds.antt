@@ -10,16 +10,19 @@ use Rattle.eos_machine.specs.declared.event.Reply.{Reply}
 use Rattle.eos_cluster.specs.Courses.{Course}
 use Rattle.eos_scripts.specs.declared.deed.Deed.{Deed}
 use Rattle.eos_scripts.specs.declared.deed.Deed.TheVariants as done
+use Rattle.eos_scripts.specs.declared.deed.Note.{Note}
 use Rattle.eos_scripts.specs.Driven.{is_taken, recorded, IsKept}
 use Rattle.eos_history_lines.specs.declared.line.Deed.{Deed as SaidDeed}
 use Rattle.eos_history_lines.specs.declared.line.Deed.TheVariants as said
+use Rattle.eos_history_lines.specs.declared.line.Note.{Note as SaidNote}
 use Rattle.eos_history_lines.specs.declared.line.Line.{Line}
 use Rattle.eos_simulate.specs.declared.replaying.ReplayFault.{ReplayFault}
-use Rattle.eos_simulate.specs.declared.replaying.ReplayFault.TheVariants.{NotAtRest, Limit, Otherwise, OutOfMemory}
-use Rattle.eos_simulate.specs.Histories.{act_said, acts_of, acts_said, reply_said, Agrees, IsAsSaid}
+use Rattle.eos_simulate.specs.declared.replaying.ReplayFault.TheVariants.{NotAtRest, Limit, Otherwise, Totals, OutOfMemory}
+use Rattle.eos_simulate.specs.Histories.{note_of, act_said, acts_of, acts_said, reply_said, Agrees, IsAsSaid}
 use Rattle.eos_simulate.specs.Replays.{DiffersFirst, IfOtherwise}
-use Rattle.eos_simulate.specs.steps.Passing.{HavePassed, HasPassed, HasDiffered, DiffersAfter, IsOther}
+use Rattle.eos_simulate.specs.steps.Passing.{HavePassed, HasPassed, IsNoted, HasDiffered, DiffersAfter, IsOther}
 use Rattle.eos_scripts.proofs.OneAfterAnother as deeds
+use Rattle.eos_scripts.proofs.MoreDeeds as more
 
 pub kept_on : (s t u : Course) (before now after : List Deed) → IsKept s before t now → IsKept t now u after → IsKept s before u after
 kept_on = deeds.kept_on
@@ -27,6 +30,16 @@ kept_on = deeds.kept_on
 -- nothing is done
 pub kept_still : (s : Course) (now : List Deed) → IsKept s now s now
 kept_still = deeds.kept_still
+
+pub kept_same : (s : Course) (before now : List Deed) → now ≡ before → IsKept s before s now
+kept_same s before now e = subst (λ (x : List Deed). IsKept s before s x) (sym e) (deeds.kept_still s before)
+
+-- a note more
+pub is_noted : (before now : List Deed) (n : Note) (m : SaidNote) → note_of n ≡ m → now ≡ before ++ done.Noted n ∷ [] → IsNoted before m now
+is_noted before now n m same kept = record { note = n; same = same; kept = kept }
+
+pub kept_note : (s : Course) (before now : List Deed) (m : SaidNote) → IsNoted before m now → IsKept s before s now
+kept_note s before now m h = more.kept_noted s before now h.note h.kept
 
 -- an event more that was taken
 pub taken_deed : (ds now : List Deed) (e f : Event) (r : Reply) → is_taken r ≡ true → now ≡ recorded ds e r → e ≡ f → now ≡ ds ++ done.Asked f r ∷ []
@@ -49,6 +62,13 @@ passed_set before now l u is kept = record {
   says = record { act = sym (ap act_said is); reply = subst (λ (d : SaidDeed). Agrees None (reply_said d)) (sym is) tt };
 }
 
+pub passed_note : (before now : List Deed) (l : Line) (m : SaidNote) → l.deed ≡ said.Noted m → IsNoted before m now → HasPassed before now l
+passed_note before now l m is h = record {
+  deed = done.Noted h.note;
+  kept = h.kept;
+  says = record { act = ap (λ (x : SaidNote). said.Noted x) h.same ∙ sym (ap act_said is); reply = subst (λ (d : SaidDeed). Agrees None (reply_said d)) (sym is) tt };
+}
+
 pub differed : (before now : List Deed) (l told : Line) (e : Event) (s : Option Reply) (met : Reply) → l.deed ≡ said.Asked e s → now ≡ before ++ done.Asked e met ∷ [] → IfSome s (λ r. met ≢ r) → IsSome s
     → told ≡ record { number = l.number; deed = said.Asked e (Some met) } → HasDiffered before now l told
 differed before now l told e None met is kept apart some tells = absurd (false≢true some)
@@ -66,6 +86,7 @@ pub other_fault : (f : ReplayFault) (P : Line → Type 0) → IsOther f → IfOt
 other_fault NotAtRest P h = tt
 other_fault Limit P h = tt
 other_fault (Otherwise told) P h = absurd h
+other_fault (Totals name said_total counted) P h = tt
 other_fault OutOfMemory P h = tt
 
 pub none_passed : (b : List Deed) → HavePassed b b []
@@ -150,6 +171,7 @@ pub first_of_all : (f : ReplayFault) (b now : List Deed) (ls : List Line) → b 
 first_of_all NotAtRest b now ls none h = tt
 first_of_all Limit b now ls none h = tt
 first_of_all (Otherwise told) b now ls none h = differs_first b now ls told none h
+first_of_all (Totals name said_total counted) b now ls none h = tt
 first_of_all OutOfMemory b now ls none h = tt
 
 -- at this line a fault
@@ -157,4 +179,5 @@ pub fault_differs : (f : ReplayFault) (ls : List Line) (i : ℕ) (l : Line) (b n
 fault_differs NotAtRest ls i l b now new lt is h s = tt
 fault_differs Limit ls i l b now new lt is h s = tt
 fault_differs (Otherwise told) ls i l b now new lt is h s = line_differs ls i l told b now new lt is h s
+fault_differs (Totals name said_total counted) ls i l b now new lt is h s = tt
 fault_differs OutOfMemory ls i l b now new lt is h s = tt

@@ -8,7 +8,7 @@ use Rattle.eos_scripts.specs.declared.deed.Deed.TheVariants as done
 use Rattle.eos_history_lines.specs.declared.line.Deed.TheVariants as said
 use Rattle.eos_history_lines.specs.declared.line.Line.{Line}
 use Rattle.eos_simulate.specs.declared.replaying.ReplayFault.{ReplayFault}
-use Rattle.eos_simulate.specs.declared.replaying.ReplayFault.TheVariants.{NotAtRest, Limit, Otherwise, OutOfMemory}
+use Rattle.eos_simulate.specs.declared.replaying.ReplayFault.TheVariants.{NotAtRest, Limit, Otherwise, Totals, OutOfMemory}
 use Rattle.eos_simulate.specs.Histories.{IsAsSaid}
 
 -- the first line whose event is answered otherwise, and what is told of it: its number, its event, and the answer
@@ -32,4 +32,5 @@ abbrev pub IfOtherwise : ReplayFault → (Line → Type 0) → Type 0
 IfOtherwise NotAtRest P = ⊤
 IfOtherwise Limit P = ⊤
 IfOtherwise (Otherwise told) P = P told
+IfOtherwise (Totals name said_total counted) P = ⊤
 IfOtherwise OutOfMemory P = ⊤

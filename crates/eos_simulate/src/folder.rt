@@ -9,10 +9,11 @@ use crate::schedule_file::{end_unreplayed, read_schedule};
 use eos_disk::{ChangeFault, DiskMut, HostDisk, HostFile};
 use eos_ending::{Ending, STANDARD, end, end_unchanged, leave_file, make_file};
 use eos_evidence::Evidence;
-use eos_folder::{Cause, WritingFault, Written, make_folder, write_evidence};
+use eos_folder::{Cause, WritingFault, Written, make_folder};
 use eos_history_lines::Schedule;
 use eos_scripts::History;
 use eos_words::Simulation;
+use eos_written::write_whole;
 use std::io;
 
 /// What a cluster left: the evidence, and the text of its history, if that was asked for.
@@ -24,6 +25,7 @@ struct Made {
 
 /// Writes what a simulated cluster leaves as a new folder, and its history to a new file, if that is asked for; and then on standard
 /// output that it did. Gives the exit status.
+#[inline(never)]
 pub fn simulate_folder(rt: &HostRuntime, words: &Simulation<'_>) -> u8 {
     let Some(path) = words.history else {
         return leave_folder(rt, words, None);
@@ -79,7 +81,7 @@ fn make(rt: &HostRuntime, words: &Simulation<'_>, written: &mut Written) -> Resu
             begin_folder(rt, words.folder, written)?;
             match make_by_schedule(rt, &schedule, words.history.is_some()) {
                 Ok(made) => Ok(made),
-                Err(fault) => Err(end_unreplayed(rt, path, fault)),
+                Err(fault) => Err(end_unreplayed(rt, path, &schedule, fault)),
             }
         }
     }
@@ -148,7 +150,7 @@ fn write_made(
     evidence: &Evidence,
 ) -> u8 {
     let mut disk = HostDisk { rt };
-    if let Err(fault) = write_evidence(rt.alloc(), &mut disk, written, words.folder, evidence) {
+    if let Err(fault) = write_whole(rt.alloc(), &mut disk, written, words.folder, evidence) {
         written.remove(rt.alloc(), &mut disk);
         if let Some(path) = words.history {
             let _ = disk.remove(rt.alloc(), path);

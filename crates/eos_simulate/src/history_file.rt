@@ -1,6 +1,10 @@
 //! The text of a history's file.
 
-use eos_history_lines::{Deed, Head, Line, Tail, head_text, line_text, tail_text};
+ghost use Rattle.std.specs.Prelude.{◌≡◌, IfOk};
+ghost use Rattle.eos_simulate.specs.Histories.{act_of, note_of, reply_of, act_said, reply_said, FitsTotals};
+
+use bytes::Bytes;
+use eos_history_lines::{Deed, Head, Line, Note, Tail, head_text, line_text, tail_text};
 use eos_scripts::History;
 use std::alloc::{AllocError, Global};
 
@@ -12,36 +16,70 @@ pub(crate) fn history_text(
 ) -> Result<String, AllocError> {
     let mut text = head_text(alloc, head)?;
     let mut number = 0u64;
-    let mut events = 0u64;
     for deed in history.deeds() {
         number = number.saturating_add(1);
-        if matches!(deed, eos_scripts::Deed::Asked { .. }) {
-            events = events.saturating_add(1);
-        }
         let line = Line {
             number,
             deed: said(deed)?,
         };
         text.push_str(line_text(alloc, &line)?.as_str())?;
     }
-    let tally = history.tally(alloc)?;
-    let tail = Tail {
-        events,
-        transactions: tally.transactions,
-        lost: tally.lost,
-        repeated: tally.repeated,
-    };
+    let tail = totals(alloc, history)?;
     text.push_str(tail_text(alloc, &tail)?.as_str())?;
     Ok(text)
 }
 
+/// The totals of a history.
+pub(crate) fn totals(alloc: Global, history: &History) -> Result<Tail, AllocError>
+    ensures { IfOk result (FitsTotals history.now) }
+{
+    let tally = history.tally(alloc)?;
+    Ok(Tail {
+        events: tally.events,
+        transactions: tally.transactions,
+        lost: tally.lost,
+        repeated: tally.repeated,
+    })
+}
+
 /// What a line says of what was done.
-fn said(deed: &eos_scripts::Deed) -> Result<Deed, AllocError> {
+fn said(deed: &eos_scripts::Deed) -> Result<Deed, AllocError>
+    ensures act { IfOk result (λ said. act_said said ≡ act_of deed.now) }
+    ensures reply { IfOk result (λ said. reply_said said ≡ reply_of deed.now) }
+{
     match deed {
         eos_scripts::Deed::Asked { event, reply } => Ok(Deed::Asked {
             event: event.clone()?,
             reply: Some(*reply),
         }),
         eos_scripts::Deed::Set(switches) => Ok(Deed::Set(*switches)),
+        eos_scripts::Deed::Noted(note) => Ok(Deed::Noted(said_note(note)?)),
     }
+}
+
+fn said_note(note: &eos_scripts::Note) -> Result<Note, AllocError>
+    ensures { IfOk result (λ said. said ≡ note_of note.now) }
+{
+    match note {
+        eos_scripts::Note::Lost(message) => Ok(Note::Lost(*message)),
+        eos_scripts::Note::Repeated(message) => Ok(Note::Repeated(*message)),
+        eos_scripts::Note::Erred(mishap) => Ok(Note::Erred(copy(mishap)?)),
+    }
+}
+
+/// What is noted where a line says so.
+pub(crate) fn noted_of(note: &Note) -> Result<eos_scripts::Note, AllocError>
+    ensures { IfOk result (λ noted. note_of noted ≡ note.now) }
+{
+    match note {
+        Note::Lost(message) => Ok(eos_scripts::Note::Lost(*message)),
+        Note::Repeated(message) => Ok(eos_scripts::Note::Repeated(*message)),
+        Note::Erred(mishap) => Ok(eos_scripts::Note::Erred(copy(mishap)?)),
+    }
+}
+
+fn copy(bytes: &Bytes) -> Result<Bytes, AllocError>
+    ensures { IfOk result (λ copied. copied ≡ bytes.now) }
+{
+    bytes.clone()
 }

@@ -1,19 +1,20 @@
 //! A schedule that is run again: what its lines say is done to a new cluster.
 
-ghost use Rattle.std.specs.Prelude.{◌≡◌, ◌≢◌, ◌++◌, ◌∷◌, [], true, false, Some, IfOk, IfErr, IfSome, IsSome, OnOk};
+ghost use Rattle.std.specs.Prelude.{◌≡◌, ◌≢◌, ◌++◌, ◌∷◌, [], true, false, Some, IfOk, IfErr, IfSome, IsSome, OnOk, OnErr};
 ghost use Rattle.std.specs.List.{AllZip};
 ghost use Rattle.eos_history_lines.specs.declared.line.Deed.TheVariants.{Asked};
 ghost use Rattle.eos_scripts.specs.declared.deed.Deed.TheVariants as deeds;
 ghost use Rattle.eos_scripts.specs.Driven.{is_taken, IsKept};
 ghost use Rattle.eos_simulate.specs.declared.replaying.ReplayFault.TheVariants.{OutOfMemory};
-ghost use Rattle.eos_simulate.specs.Histories.{new_course, acts_of, acts_said, IsLeftBy, Agrees, IsAsSaid};
+ghost use Rattle.eos_simulate.specs.Histories.{new_course, acts_of, acts_said, IsLeftBy, Agrees, IsAsSaid, FitsTotals};
 ghost use Rattle.eos_simulate.specs.Replays.{IfOtherwise, DiffersFirst};
-ghost use Rattle.eos_simulate.specs.steps.Passing.{HavePassed, DiffersAfter, HasPassed, HasDiffered, IsOther};
+ghost use Rattle.eos_simulate.specs.steps.Passing.{HavePassed, DiffersAfter, HasPassed, HasDiffered, IsNoted, IsOther};
 
+use crate::history_file::{noted_of, totals};
 use crate::making::{SimulationFault, evidence_of, new_cluster};
 use eos_cluster::Cluster;
 use eos_evidence::Evidence;
-use eos_history_lines::{Deed, Line, Schedule};
+use eos_history_lines::{Deed, Line, Note, Schedule, Tail};
 use eos_machine::{Event, Reply};
 use eos_scripts::History;
 use std::alloc::{AllocError, AllocFailed, Global};
@@ -28,6 +29,8 @@ pub enum ReplayFault {
     Limit,
     /// Its line is answered otherwise than it says: as this one does.
     Otherwise(Line),
+    /// Its last line says this total otherwise than its other lines come to: what it says, and what they do.
+    Totals(&'static str, u64, u64),
     /// A growth of memory was refused.
     OutOfMemory,
 }
@@ -63,7 +66,8 @@ fn refused(fault: SimulationFault) -> ReplayFault
 /// that is left.
 ///
 /// # Errors
-/// The first line that is answered otherwise than it says, where it says it; `NotAtRest`; `Limit`; want of memory.
+/// The first line that is answered otherwise than it says, where it says it; totals that aren't those of the lines; `NotAtRest`; `Limit`;
+/// want of memory.
 #[tactic(auto, using(crate::proofs::Deeds::passed_each, crate::proofs::Deeds::passed_acts, crate::proofs::Deeds::first_of_all, crate::proofs::Deeds::other_fault))]
 pub fn replay(
     alloc: Global,
@@ -73,12 +77,16 @@ pub fn replay(
     ensures kept { history.old ≡ [] → IfOk result (IsLeftBy schedule.now.head.config history.new) }
     ensures done { history.old ≡ [] → OnOk result (acts_of history.new ≡ acts_said schedule.now.lines) }
     ensures answered { history.old ≡ [] → OnOk result (AllZip IsAsSaid history.new schedule.now.lines) }
+    ensures totals { history.old ≡ [] → OnOk result (IfSome schedule.now.tail (FitsTotals history.new)) }
     ensures otherwise { history.old ≡ [] → IfErr result (λ fault. IfOtherwise fault (DiffersFirst schedule.now.lines history.new)) }
 {
     let cluster = match replayed(alloc, schedule, history) {
         Ok(cluster) => cluster,
         Err(fault) => return Err(fault),
     };
+    if let Err(fault) = compare_totals(alloc, schedule.tail, history) {
+        return Err(fault);
+    }
     match evidence_of(&cluster) {
         Ok(evidence) => Ok(evidence),
         Err(fault) => Err(refused(fault)),
@@ -123,7 +131,7 @@ fn take_lines(
     Ok(())
 }
 
-#[tactic(auto, using(crate::proofs::Deeds::passed_set, crate::proofs::Deeds::passed_asked, crate::proofs::Deeds::differed, crate::proofs::Deeds::other_fault))]
+#[tactic(auto, using(crate::proofs::Deeds::passed_set, crate::proofs::Deeds::passed_note, crate::proofs::Deeds::kept_note, crate::proofs::Deeds::kept_same, crate::proofs::Deeds::passed_asked, crate::proofs::Deeds::differed, crate::proofs::Deeds::other_fault))]
 fn take_line(cluster: &mut Cluster, history: &mut History, line: &Line) -> Result<(), ReplayFault>
     ensures kept { IsKept cluster.old history.old cluster.new history.new }
     ensures passed { OnOk result (HasPassed history.old history.new line.now) }
@@ -131,6 +139,10 @@ fn take_line(cluster: &mut Cluster, history: &mut History, line: &Line) -> Resul
 {
     match &line.deed {
         Deed::Set(switches) => match history.set(cluster, *switches) {
+            Ok(()) => Ok(()),
+            Err(_) => Err(ReplayFault::OutOfMemory),
+        },
+        Deed::Noted(note) => match keep_note(history, note) {
             Ok(()) => Ok(()),
             Err(_) => Err(ReplayFault::OutOfMemory),
         },
@@ -148,6 +160,42 @@ fn take_line(cluster: &mut Cluster, history: &mut History, line: &Line) -> Resul
             }
         }
     }
+}
+
+/// Keeps what a line says of what happened beside the cluster.
+#[tactic(auto, using(crate::proofs::Deeds::is_noted))]
+fn keep_note(history: &mut History, note: &Note) -> Result<(), AllocError>
+    ensures ok { OnOk result (IsNoted history.old note.now history.new) }
+    ensures err { OnErr result (history.new ≡ history.old) }
+{
+    let own = noted_of(note)?;
+    history.note(own)
+}
+
+/// Compares the totals that a schedule says, if it does, with those of what was done.
+fn compare_totals(alloc: Global, tail: Option<Tail>, history: &History) -> Result<(), ReplayFault>
+    ensures ok { OnOk result (IfSome tail (FitsTotals history.now)) }
+    ensures other { IfErr result IsOther }
+{
+    let Some(said) = tail else {
+        return Ok(());
+    };
+    let Ok(counted) = totals(alloc, history) else {
+        return Err(ReplayFault::OutOfMemory);
+    };
+    if said.events != counted.events {
+        return Err(ReplayFault::Totals("events", said.events, counted.events));
+    }
+    if said.lost != counted.lost {
+        return Err(ReplayFault::Totals("lost", said.lost, counted.lost));
+    }
+    if said.repeated != counted.repeated {
+        return Err(ReplayFault::Totals("repeated", said.repeated, counted.repeated));
+    }
+    if said.transactions != counted.transactions {
+        return Err(ReplayFault::Totals("transactions", said.transactions, counted.transactions));
+    }
+    Ok(())
 }
 
 /// Whether an event was answered as is said, where that is said.

@@ -63,11 +63,23 @@ fn end_refused(rt: &HostRuntime, path: &str, fault: ScheduleFault) -> u8 {
 }
 
 /// Says why a schedule leaves no evidence.
-pub(crate) fn end_unreplayed(rt: &HostRuntime, path: &str, fault: ReplayFault) -> u8 {
+pub(crate) fn end_unreplayed(
+    rt: &HostRuntime,
+    path: &str,
+    schedule: &Schedule,
+    fault: ReplayFault,
+) -> u8 {
     match fault {
         ReplayFault::NotAtRest => end(rt, Ending::NotAtRest),
         ReplayFault::Limit => end(rt, Ending::Limit(&Cause::Unknown)),
         ReplayFault::OutOfMemory => end(rt, Ending::OutOfMemory),
+        ReplayFault::Totals(name, said, counted) => {
+            let line = schedule.lines.len().saturating_add(2);
+            let _ = eprint!(rt;
+                "eoscheck: {path}: line {line}: {name} is {said}, and the lines come to {counted}\n"
+            );
+            2
+        }
         ReplayFault::Otherwise(line) => match tell_otherwise(rt, path, &line) {
             Ok(()) => 1,
             Err(_) => end(rt, Ending::OutOfMemory),

@@ -2,13 +2,14 @@
 use Rattle.std.proofs.Common.{◌≡◌, Option, None, Bool, true, false, ◌&&◌, refl, sym, ap, ◌∙◌}
 use Rattle.eos_txnlog.specs.declared.value.TxnValue.{TxnValue}
 use Rattle.eos_sought.specs.declared.sought.Sought.{Sought}
-use Rattle.eos_sought.specs.declared.sought.Sought.TheVariants.{At, Claiming, Hidden, OfId, Before, OfProducer, Within, Deciding, OfGroup, Passing, UpTo, Passed}
+use Rattle.eos_sought.specs.declared.sought.Sought.TheVariants.{At, Claiming, Hidden, Alike, OfId, Before, OfProducer, Within, Deciding, OfGroup, Passing, UpTo, Passed}
 use Rattle.eos_sought.specs.steps.Such.{is_such}
 
 none_such : (sought : Sought) → is_such sought None ≡ false
 none_such (At place) = refl
 none_such (Claiming place) = refl
 none_such (Hidden place) = refl
+none_such (Alike place output) = refl
 none_such (OfId id) = refl
 none_such (Before id place) = refl
 none_such (OfProducer producer) = refl

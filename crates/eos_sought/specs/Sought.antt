@@ -13,7 +13,8 @@ use Rattle.eos_txnlog.specs.declared.value.TxnValue.{TxnValue}
 use Rattle.eos_txnlog.specs.Status.{is_prepare}
 use Rattle.eos_sought.specs.declared.sought.Epochs.{Epochs}
 use Rattle.eos_sought.specs.declared.sought.Sought.{Sought}
-use Rattle.eos_sought.specs.declared.sought.Sought.TheVariants.{At, Claiming, Hidden, OfId, Before, OfProducer, Within, Deciding, OfGroup, Passing, UpTo, Passed}
+use Rattle.eos_sought.specs.declared.sought.Sought.TheVariants.{At, Claiming, Hidden, Alike, OfId, Before, OfProducer, Within, Deciding, OfGroup, Passing, UpTo, Passed}
+use Rattle.eos_sought.specs.Alike.{is_alike}
 use Rattle.eos_sought.specs.Passing.{is_of_group, is_passed, passes, is_up_to}
 use Rattle.eos_sought.specs.States.{id_in, state_in}
 
@@ -67,6 +68,7 @@ abbrev pub meets : Sought → PartLog → Item → Bool
 meets (At place) p x = is_at place p x
 meets (Claiming place) p x = is_visible x.fate && claims place (claim_of x.headers)
 meets (Hidden place) p x = not (is_visible x.fate) && claims place (claim_of x.headers)
+meets (Alike place output) p x = is_visible x.fate && is_alike place output (claim_of x.headers)
 meets (OfId id) p x = is_state p && is_id id (id_in x.key)
 meets (Before id place) p x = is_before place p x && (is_state p && is_id id (id_in x.key))
 meets (OfProducer producer) p x = is_state p && is_by producer (state_in x.value)

@@ -2,6 +2,7 @@
 //! a producer id, and the commits of a source partition.
 #![tactic(auto)]
 
+mod alike;
 mod commits;
 mod finding;
 mod reading;

@@ -7,9 +7,11 @@ ghost use Rattle.eos_claims.specs.Headers.{claim_of};
 ghost use Rattle.eos_commits.specs.Visible.{is_visible as is_visible_fate};
 ghost use Rattle.eos_sought.specs.States.{id_in, state_in};
 ghost use Rattle.eos_sought.specs.Sought.{is_at, is_before, is_state, is_id, is_one_of, is_marked, claims, meets as is_met};
+ghost use Rattle.eos_sought.specs.Alike.{is_alike as is_alike_to};
 ghost use Rattle.eos_sought.specs.steps.Such.{is_such};
 ghost use Rattle.eos_sought.specs.Passing.{is_of_group, passes, is_passed};
 
+use crate::alike::is_alike;
 use crate::commits::{is_of_group, is_passed, is_up_to, passes};
 use crate::reading::{id_of, is_named, is_of, is_same, state_of};
 use bytes::Bytes;
@@ -36,6 +38,9 @@ pub enum Sought {
     Claiming(Place),
     /// Those whose headers claim this input, and that no reader of committed records is given.
     Hidden(Place),
+    /// The visible ones whose headers claim this output of this input, but in another layout: a number with its bytes in the other
+    /// order, or the topic with a NUL behind it or in quotes.
+    Alike { place: Place, output: u32 },
     /// The states of this transactional id.
     OfId(Bytes),
     /// The states of this transactional id that stand before this place in its partition.
@@ -85,6 +90,12 @@ fn is_claiming(place: &Place, item: ItemRef<'_>) -> bool
     ensures { result ≡ (is_visible_fate item.entry.fate && claims place.now (claim_of item.entry.headers)) }
 {
     is_visible(item.fate()) && claims(place, item.into_claim())
+}
+
+fn is_like_claim(place: &Place, output: u32, item: ItemRef<'_>) -> bool
+    ensures { result ≡ (is_visible_fate item.entry.fate && is_alike_to place.now output (claim_of item.entry.headers)) }
+{
+    is_visible(item.fate()) && is_alike(place, output, item.into_claim())
 }
 
 fn is_hidden(place: &Place, item: ItemRef<'_>) -> bool
@@ -186,6 +197,7 @@ pub(crate) fn meets(
         Sought::At(place) => Ok(is_at(place, part, &item)),
         Sought::Claiming(place) => Ok(is_claiming(place, item)),
         Sought::Hidden(place) => Ok(is_hidden(place, item)),
+        Sought::Alike { place, output } => Ok(is_like_claim(place, *output, item)),
         Sought::OfId(id) => is_of_id(alloc, id.as_slice(), part, &item),
         Sought::Before { id, place } => is_of_id_before(alloc, id.as_slice(), place, part, &item),
         Sought::OfProducer(_) => is_of_state(alloc, sought, part, &item),

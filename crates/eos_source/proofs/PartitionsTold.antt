@@ -120,14 +120,14 @@ nothing_told : (said : ℕ → Said) (apps : List App) (ps : List Partition) →
 nothing_told said apps [] h = tt
 nothing_told said apps (p ∷ ps) h = absurd h
 
-pub none_told : (known : ℕ → Known) (said : ℕ → Said) (apps : List App) (logs : KeptLogs) → logs.parts.items ≡ [] → logs.faults.items ≡ [] → logs.tallies.items ≡ [] → AreToldOf known said apps [] logs
-none_told known said apps logs p f t = record { as_known = from_none known said 0; told = []; each = nothing_told said apps; columns = record { parts = p; faults = f; tallies = t } }
+pub none_told : (known : ℕ → Known) (said : ℕ → Said) (apps : List App) (logs : KeptLogs) → logs.parts.items ≡ [] → logs.faults.items ≡ [] → logs.tallies.items ≡ [] → logs.epochs.items ≡ [] → AreToldOf known said apps [] logs
+none_told known said apps logs p f t e = record { as_known = from_none known said 0; told = []; each = nothing_told said apps; columns = record { parts = p; faults = f; tallies = t; epochs = e } }
 
 one_more : (known : ℕ → Known) (said : ℕ → Said) (apps : List App) (shapes : List Partition) (shape : Partition) (old new : KeptLogs) (t : Told) → AreToldOf known said apps shapes old
     → IsToldOf known said apps (length (segments_of shapes)) shape t
-    → new.parts.items ≡ old.parts.items ++ t.part ∷ [] → new.faults.items ≡ old.faults.items ++ t.fault ∷ [] → new.tallies.items ≡ old.tallies.items ++ tally_of t ∷ []
+    → new.parts.items ≡ old.parts.items ++ t.part ∷ [] → new.faults.items ≡ old.faults.items ++ t.fault ∷ [] → new.tallies.items ≡ old.tallies.items ++ tally_of t ∷ [] → new.epochs.items ≡ old.epochs.items ++ t.epochs ∷ []
     → AreToldOf known said apps (shapes ++ shape ∷ []) new
-one_more known said apps shapes shape old new t h k p f y =
+one_more known said apps shapes shape old new t h k p f y ep =
     let none : length (segments_of shapes) ≡ 0 + length (segments_of shapes) = omega arith in
     record {
       as_known = subst (AreFrom known said 0) (sym (last_count shapes shape))
@@ -142,6 +142,7 @@ one_more known said apps shapes shape old new t h k p f y =
         parts = column (λ (u : Told). u.part) old.parts.items new.parts.items h.told t h.columns.parts p;
         faults = column (λ (u : Told). u.fault) old.faults.items new.faults.items h.told t h.columns.faults f;
         tallies = column tally_of old.tallies.items new.tallies.items h.told t h.columns.tallies y;
+        epochs = column (λ (u : Told). u.epochs) old.epochs.items new.epochs.items h.told t h.columns.epochs ep;
       };
     }
 
@@ -172,10 +173,10 @@ pieces_taken shapes i shape h = ap (λ (xs : List Partition). length (segments_o
 
 pub told_next : (known : ℕ → Known) (said : ℕ → Said) (apps : List App) (shapes : List Partition) (i : ℕ) (shape : Partition) (old new : KeptLogs) (t : Told) → Here shapes i shape
     → AreToldOf known said apps (take i shapes) old → IsToldOf known said apps (length (segments_of (take i shapes))) shape t
-    → new.parts.items ≡ old.parts.items ++ t.part ∷ [] → new.faults.items ≡ old.faults.items ++ t.fault ∷ [] → new.tallies.items ≡ old.tallies.items ++ tally_of t ∷ []
+    → new.parts.items ≡ old.parts.items ++ t.part ∷ [] → new.faults.items ≡ old.faults.items ++ t.fault ∷ [] → new.tallies.items ≡ old.tallies.items ++ tally_of t ∷ [] → new.epochs.items ≡ old.epochs.items ++ t.epochs ∷ []
     → AreToldOf known said apps (take (i + 1) shapes) new
-told_next known said apps shapes i shape old new t at h k p f y =
-    subst (λ (xs : List Partition). AreToldOf known said apps xs new) (sym at.taken) (one_more known said apps (take i shapes) shape old new t h k p f y)
+told_next known said apps shapes i shape old new t at h k p f y ep =
+    subst (λ (xs : List Partition). AreToldOf known said apps xs new) (sym at.taken) (one_more known said apps (take i shapes) shape old new t h k p f y ep)
 
 -- ---- all of them
 

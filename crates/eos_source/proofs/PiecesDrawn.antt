@@ -7,7 +7,7 @@ use Rattle.std.specs.Prelude.{All, Any, IsOk, IfOk}
 use Rattle.std.specs.List.{count_by}
 use Rattle.eos_source.specs.declared.seats.Stint.{Stint}
 use Rattle.eos_source.specs.steps.Seats.{numbers_in, all_numbers, LeavesNone}
-use Rattle.eos_tickets.specs.Places.{Counter, Place, AreBelow, drawn_of_all, once_below}
+use Rattle.eos_board.specs.Places.{Counter, Place, AreBelow, drawn_of_all, once_below}
 
 -- ---- lists that grow by one
 

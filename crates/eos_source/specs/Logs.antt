@@ -13,7 +13,8 @@ use Rattle.eos_source.specs.declared.logs.Tally.{Tally}
 use Rattle.eos_source.specs.Said.{Known}
 use Rattle.eos_source.specs.Shapes.{HoldsAsSaid}
 
--- of each of these partitions what these applications want of its log, its least fault, and how much there is of it
+-- of each of these partitions what these applications want of its log, its least fault, how much there is of it, and where its leader
+-- epoch changes
 abbrev pub AreTold : List App → List Partition → List Told → Type 0
 AreTold apps [] [] = ⊤
 AreTold apps [] (t ∷ ts) = ⊥
@@ -28,6 +29,7 @@ pub record AreColumns (told : List Told) (logs : KeptLogs) : Type 0 where
   pub parts : logs.parts.items ≡ map (λ t. t.part) told
   pub faults : logs.faults.items ≡ map (λ t. t.fault) told
   pub tallies : logs.tallies.items ≡ map tally_of told
+  pub epochs : logs.epochs.items ≡ map (λ t. t.epochs) told
 
 -- the logs of this evidence, as they are kept for its applications
 pub record AreLogsKept (logs : KeptLogs) (evidence : EvidenceParts) : Type 0 where

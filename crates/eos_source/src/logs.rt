@@ -10,7 +10,7 @@ ghost use Rattle.eos_source.specs.Refusals.{IsRefusal};
 ghost use Rattle.eos_source.specs.Said.{Said, known_by};
 ghost use Rattle.eos_source.specs.steps.Partitions.{IsToldOf, AreToldOf};
 ghost use Rattle.eos_source.specs.steps.Runs.{AreSlots, AreSlotsOf, IsFirstRefused, ArePassed};
-ghost use Rattle.eos_tickets.specs.Places.{AreBelow};
+ghost use Rattle.eos_board.specs.Places.{AreBelow};
 
 use crate::joined::next_run;
 use crate::plan::Plan;
@@ -18,10 +18,12 @@ use crate::slots::read_all;
 use crate::source::Source;
 use crate::told::told_of;
 use crate::topics::source_topics;
+use eos_base::Listed;
+use eos_board::Drawn;
 use eos_evidence::{Evidence, Partition};
 use eos_kept::Sizes;
 use eos_part::{KeptRun, Part, Told};
-use eos_tickets::Drawn;
+use eos_reading::EpochEntry;
 use eos_touch::PartitionFault;
 use eos_wanted::Wants;
 use eos_workers::Workers;
@@ -44,6 +46,8 @@ pub struct KeptLogs {
     /// The least fault of each one's bytes.
     pub faults: Vec<Option<PartitionFault>>,
     pub tallies: Vec<Tally>,
+    /// The leader epochs of each one's batches, each with the offset at which it begins.
+    pub epochs: Vec<Listed<EpochEntry>>,
     /// The numbers of the pieces that were drawn and read for them, thread after thread.
     pub drawn: Drawn,
 }
@@ -53,12 +57,14 @@ impl KeptLogs {
         ensures parts { result.parts.items ≡ [] }
         ensures faults { result.faults.items ≡ [] }
         ensures tallies { result.tallies.items ≡ [] }
+        ensures epochs { result.epochs.items ≡ [] }
         ensures drawn { result.drawn ≡ drawn }
     {
         KeptLogs {
             parts: Vec::new(alloc),
             faults: Vec::new(alloc),
             tallies: Vec::new(alloc),
+            epochs: Vec::new(alloc),
             drawn,
         }
     }
@@ -68,6 +74,7 @@ impl KeptLogs {
         ensures parts { OnOk result (self.new.parts.items ≡ self.old.parts.items ++ told.part ∷ []) }
         ensures faults { OnOk result (self.new.faults.items ≡ self.old.faults.items ++ told.fault ∷ []) }
         ensures tallies { OnOk result (self.new.tallies.items ≡ self.old.tallies.items ++ tally_of told ∷ []) }
+        ensures epochs { OnOk result (self.new.epochs.items ≡ self.old.epochs.items ++ told.epochs ∷ []) }
         ensures drawn { self.new.drawn ≡ self.old.drawn }
     {
         let tally = Tally {
@@ -77,6 +84,7 @@ impl KeptLogs {
         self.parts.push(told.part)?;
         self.faults.push(told.fault)?;
         self.tallies.push(tally)?;
+        self.epochs.push(told.epochs)?;
         Ok(())
     }
 }

@@ -7,12 +7,12 @@ ghost use Rattle.eos_evidence.specs.Parts.{outputs_of};
 ghost use Rattle.eos_source.specs.Said.{known_by};
 ghost use Rattle.eos_source.specs.steps.Seats.{IsReading, IsDesk, IsStint, numbers_in, all_numbers};
 ghost use Rattle.eos_source.specs.steps.Slots.{AreSlotsSoFar, AreFilledAsWell, IsFilled};
-ghost use Rattle.eos_tickets.specs.Places.{IsFresh, AreBelow};
+ghost use Rattle.eos_board.specs.Places.{IsFresh, AreBelow};
 
 use crate::plan::Plan;
 use crate::source::Source;
+use eos_board::{Drawn, Seat, Tickets};
 use eos_part::KeptRun;
-use eos_tickets::{Drawn, Seat, Tickets};
 use eos_workers::Workers;
 use std::alloc::{AllocError, Global};
 use std::thread;

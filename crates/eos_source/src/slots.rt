@@ -5,13 +5,13 @@ ghost use Rattle.eos_evidence.specs.Evidence.{segments_of};
 ghost use Rattle.eos_evidence.specs.Parts.{outputs_of};
 ghost use Rattle.eos_source.specs.Said.{known_by};
 ghost use Rattle.eos_source.specs.steps.Runs.{AreSlots};
-ghost use Rattle.eos_tickets.specs.Places.{AreBelow};
+ghost use Rattle.eos_board.specs.Places.{AreBelow};
 
 use crate::plan::Plan;
 use crate::seats::{place, read_by_threads};
 use crate::source::Source;
+use eos_board::Drawn;
 use eos_part::KeptRun;
-use eos_tickets::Drawn;
 use eos_workers::Workers;
 use std::alloc::{AllocError, Global};
 use std::thread::Threads;

@@ -5,6 +5,7 @@ use Rattle.eos_evidence.specs.declared.partition.Partition.{Partition}
 use Rattle.eos_fold.specs.Parts.{PartLog}
 use Rattle.eos_lineage.specs.EvidenceLogs.{AreLogsOf}
 use Rattle.eos_part.specs.declared.part.Told.{Told}
+use Rattle.eos_part.specs.Parts.{HaveEpochs}
 use Rattle.eos_partitions.specs.Faults.{AreFaultsIn}
 use Rattle.eos_tallies.specs.Counts.{AreCounted}
 use Rattle.eos_tallies.specs.PartitionTallies.{HasBatches}
@@ -18,9 +19,10 @@ pub record AreKept (apps : List App) (ps : List Partition) (ts : List Told) : Ty
   pub parts : map (λ t. t.part) ts ≡ wanted_logs apps whole
   pub faults : AreFaultsIn ps (map (λ t. t.fault) ts)
   pub counted : AreCounted ps (map counted_as (map tally_of ts))
+  pub epochs : HaveEpochs ps (map (λ t. t.epochs) ts)
 
 pub kept_told : (apps : List App) (ps : List Partition) (ts : List Told) → AreTold apps ps ts → AreKept apps ps ts
-kept_told apps [] [] h = record { whole = []; of = tt; parts = refl; faults = tt; counted = tt }
+kept_told apps [] [] h = record { whole = []; of = tt; parts = refl; faults = tt; counted = tt; epochs = tt }
 kept_told apps [] (t ∷ ts) h = absurd h
 kept_told apps (p ∷ ps) [] h = absurd h
 kept_told apps (p ∷ ps) (t ∷ ts) h =
@@ -35,4 +37,5 @@ kept_told apps (p ∷ ps) (t ∷ ts) h =
       parts = λ i. kept i ∷ rest.parts i;
       faults = (one.least, rest.faults);
       counted = (record { batches = batches; segments_are = h.0.sizes.counted; bytes_are = h.0.sizes.bytes_are }, rest.counted);
+      epochs = (h.0.epochs, rest.epochs);
     }

@@ -4,6 +4,7 @@ use Rattle.eos_evidence.specs.Evidence.{EvidenceParts}
 use Rattle.eos_evidence.specs.Parts.{Parts}
 use Rattle.eos_fold.specs.Parts.{PartLog}
 use Rattle.eos_check.specs.Judged.{IsJudged}
+use Rattle.eos_part.specs.Parts.{HaveEpochs}
 use Rattle.eos_partitions.specs.Faults.{AreFaultsIn, first_of}
 use Rattle.eos_wanted.specs.Wanted.{wanted_logs}
 use Rattle.eos_wanted_verdict.proofs.KeptAnswers.{judged}
@@ -16,9 +17,9 @@ use Rattle.eos_source_check.specs.steps.Apart.{counted_as, IsApart}
 use Rattle.eos_tallies.specs.Counts.{AreCounted}
 use Rattle.eos_source_check.proofs.KeptTold.{AreKept, kept_told}
 
-judged_for : (kept : KeptLogs) (j : Judged) (shape e : EvidenceParts) → e.spec ≡ shape.spec → AreLogsKept kept e → IsApart kept j.logs j.counted.items
+judged_for : (kept : KeptLogs) (j : Judged) (shape e : EvidenceParts) → e.spec ≡ shape.spec → AreLogsKept kept e → IsApart kept j.logs j.counted.items → j.epochs.items ≡ kept.epochs.items
     → IsJudged shape.spec.apps j.logs.parts.items (first_of j.logs.faults.items) j.verdict → IsJudgedFor j e
-judged_for kept j shape e spec k w answer =
+judged_for kept j shape e spec k w epochs answer =
     let t : AreKept e.spec.apps e.partitions k.told = kept_told e.spec.apps e.partitions k.told k.each in
     let parts : j.logs.parts.items ≡ wanted_logs e.spec.apps t.whole = w.parts ∙ (k.columns.parts ∙ t.parts) in
     let faults : AreFaultsIn e.partitions j.logs.faults.items = subst (AreFaultsIn e.partitions) (sym (w.faults ∙ k.columns.faults)) t.faults in
@@ -29,11 +30,12 @@ judged_for kept j shape e spec k w answer =
     record {
       is_evidence = k.is_evidence;
       counted = subst (AreCounted e.partitions) (sym (w.counted_are ∙ ap (map counted_as) k.columns.tallies)) t.counted;
+      epochs = subst (HaveEpochs e.partitions) (sym (epochs ∙ k.columns.epochs)) t.epochs;
       logs = record { whole = t.whole; of = t.of; parts = parts; faults = faults };
       verdict = (t.whole, t.of, judged e t.whole t.of j.logs.faults.items j.verdict k.is_evidence faults over_kept);
     }
 
-pub judged_of : (known : ℕ → Known) (shape : EvidenceParts) (kept : KeptLogs) (j : Judged) → AreKeptLogs known shape kept → IsApart kept j.logs j.counted.items
+pub judged_of : (known : ℕ → Known) (shape : EvidenceParts) (kept : KeptLogs) (j : Judged) → AreKeptLogs known shape kept → IsApart kept j.logs j.counted.items → j.epochs.items ≡ kept.epochs.items
     → IsJudged shape.spec.apps j.logs.parts.items (first_of j.logs.faults.items) j.verdict → IsJudgedOf known shape j
-judged_of known shape kept j k w answer =
-    record { said = k.said; as_known = k.as_known; holds = λ e of. judged_for kept j shape e of.spec (k.holds e of) w answer }
+judged_of known shape kept j k w epochs answer =
+    record { said = k.said; as_known = k.as_known; holds = λ e of. judged_for kept j shape e of.spec (k.holds e of) w epochs answer }

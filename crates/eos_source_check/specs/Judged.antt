@@ -1,10 +1,12 @@
 -- The verdict that is worked out of kept logs: there is what each piece said, and it is the verdict of each evidence of this shape
--- whose segments are such; these are what is wanted of its logs, and this is what is counted of its segments.
+-- whose segments are such; these are what is wanted of its logs, this is what is counted of its segments, and these are the offsets at
+-- which their leader epochs change.
 use Rattle.std.specs.Prelude.{◌≡◌, ℕ, List}
 use Rattle.eos_evidence.specs.Evidence.{EvidenceParts, IsEvidence}
 use Rattle.eos_fold.specs.Parts.{PartLog}
 use Rattle.eos_lineage.specs.EvidenceLogs.{AreLogsOf}
 use Rattle.eos_check.specs.Verdicts.{IsVerdict}
+use Rattle.eos_part.specs.Parts.{HaveEpochs}
 use Rattle.eos_partitions.specs.Faults.{AreFaultsIn}
 use Rattle.eos_partitions.specs.declared.logs.Logs.{Logs}
 use Rattle.eos_wanted.specs.Wanted.{wanted_logs}
@@ -20,11 +22,12 @@ pub record AreKeptOf (e : EvidenceParts) (logs : Logs) : Type 0 where
   pub parts : logs.parts.items ≡ wanted_logs e.spec.apps whole
   pub faults : AreFaultsIn e.partitions logs.faults.items
 
--- this is the verdict of this evidence, with what is wanted of its logs and what is counted of its segments
+-- this is the verdict of this evidence, with what is wanted of its logs, what is counted of its segments, and their leader epochs
 pub record IsJudgedFor (judged : Judged) (evidence : EvidenceParts) : Type 0 where
   pub is_evidence : IsEvidence evidence
   pub logs : AreKeptOf evidence judged.logs
   pub counted : AreCounted evidence.partitions judged.counted.items
+  pub epochs : HaveEpochs evidence.partitions judged.epochs.items
   pub verdict : IsVerdict evidence judged.verdict
 
 -- so it is with each evidence of this shape whose segments are such as the pieces said

@@ -7,20 +7,24 @@ ghost use Rattle.eos_source.specs.Said.{known_by};
 ghost use Rattle.eos_source_check.specs.Judged.{IsJudgedOf};
 
 use crate::kept::apart;
+use eos_base::Listed;
 use eos_check::{Verdict, judge};
 use eos_evidence::Evidence;
 use eos_partitions::Logs;
+use eos_reading::EpochEntry;
 use eos_source::{Source, kept_logs};
 use eos_tallies::Counted;
 use eos_workers::Workers;
 use std::alloc::Global;
 use std::thread::Threads;
 
-/// A verdict, what is kept of the logs that it is about, and what was counted of each partition's segments.
+/// A verdict, what is kept of the logs that it is about, what was counted of each partition's segments, and the leader epochs of its
+/// batches, each with the offset at which it begins.
 #[derive(Drop)]
 pub struct Judged {
     pub logs: Logs,
     pub counted: Vec<Counted>,
+    pub epochs: Vec<Listed<EpochEntry>>,
     pub verdict: Verdict,
 }
 
@@ -41,11 +45,12 @@ pub fn judge_source<S: Source, R: Threads + Sync>(
     ensures refused { IfErr result (IsRefusal (S.outcomes source.now) (S.Fault.from_gives alloc_error) (length (segments_of shape.now.partitions))) }
 {
     let kept = kept_logs(alloc, rt, source, shape, workers)?;
-    let (logs, counted) = apart(alloc, kept)?;
+    let (logs, counted, epochs) = apart(alloc, kept)?;
     let verdict = judge(alloc, rt, shape.spec(), &logs, workers)?;
     Ok(Judged {
         logs,
         counted,
+        epochs,
         verdict,
     })
 }

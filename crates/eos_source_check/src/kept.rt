@@ -3,8 +3,10 @@
 ghost use Rattle.std.specs.Prelude.{◌≡◌, IfOk, map};
 ghost use Rattle.eos_source_check.specs.steps.Apart.{counted_as, IsApart};
 
+use eos_base::Listed;
 use eos_partition::Part;
 use eos_partitions::Logs;
+use eos_reading::EpochEntry;
 use eos_source::{KeptLogs, Tally};
 use eos_tallies::Counted;
 use std::alloc::{AllocError, Global};
@@ -35,17 +37,22 @@ fn counted_in(alloc: Global, tallies: &[Tally]) -> Result<Vec<Counted>, AllocErr
     Ok(all)
 }
 
-/// What is kept of an evidence's logs, each with its least fault, and what was counted of their segments.
-pub(crate) fn apart(alloc: Global, kept: KeptLogs) -> Result<(Logs, Vec<Counted>), AllocError>
-    ensures { IfOk result (λ r. IsApart kept r.0 r.1.items) }
+/// What is kept of an evidence's logs, each with its least fault, what was counted of their segments, and their leader epochs.
+pub(crate) fn apart(
+    alloc: Global,
+    kept: KeptLogs,
+) -> Result<(Logs, Vec<Counted>, Vec<Listed<EpochEntry>>), AllocError>
+    ensures logs { IfOk result (λ r. IsApart kept r.0 r.1.items) }
+    ensures epochs { IfOk result (λ r. r.2.items ≡ kept.epochs.items) }
 {
     let KeptLogs {
         parts,
         faults,
         tallies,
+        epochs,
         ..
     } = kept;
     let counted = counted_in(alloc, tallies.as_slice())?;
     let parts = wrapped(alloc, parts)?;
-    Ok((Logs { parts, faults }, counted))
+    Ok((Logs { parts, faults }, counted, epochs))
 }

@@ -8,7 +8,8 @@ use Rattle.eos_fold.specs.Parts.{PartLog}
 use Rattle.eos_places.specs.declared.partition.Placed.{Placed}
 use Rattle.eos_places.specs.declared.wanted.Wanted.TheVariants.{Of, Ending, Open}
 use Rattle.eos_places.specs.Partitions.{AreBatchesOf}
-use Rattle.eos_sought.specs.declared.sought.Sought.TheVariants.{OfProducer, Passing, Passed}
+use Rattle.eos_sought.specs.declared.sought.Sought.{Sought}
+use Rattle.eos_sought.specs.declared.sought.Sought.TheVariants.{OfProducer, Passed}
 use Rattle.eos_sought.specs.Finds.{all_of}
 use Rattle.eos_story.specs.Listings.{epoch_after}
 use Rattle.eos_story.specs.Answers.{count_below, AnswersEach}
@@ -56,8 +57,8 @@ open_some {scene} {a} {b} {c} producer epoch first p is e h k =
     let logs = scene.logs.now in
     each_as (of_open logs producer first) (sym (ap (of_open logs producer) is)) (then (each_as (markers_of logs producer (epoch_after p.standing.head.epoch)) (ap (markers_of logs producer) e) h) k)
 
-pub none_past : (logs : List PartLog) (group : List ℕ) (place : Place) (n : ℕ) → n ≡ length (all_of (Passing group place) logs) → n ≢ 0 → others_past logs group place ≡ []
-none_past logs group place n e ne = rw (ne_eqb (length (all_of (Passing group place) logs)) 0 (λ z. ne (e ∙ z))) refl
+pub none_past : (logs : List PartLog) (passing : Sought) (place : Place) (n : ℕ) → n ≡ length (all_of passing logs) → n ≢ 0 → others_past logs passing place ≡ []
+none_past logs passing place n e ne = rw (ne_eqb (length (all_of passing logs)) 0 (λ z. ne (e ∙ z))) refl
 
-pub some_past : (logs : List PartLog) (group : List ℕ) (place : Place) (n : ℕ) → n ≡ length (all_of (Passing group place) logs) → n ≡ 0 → others_past logs group place ≡ Records (Passed place) 3 ∷ []
-some_past logs group place n e z = rw (sym e ∙ z) refl
+pub some_past : (logs : List PartLog) (passing : Sought) (place : Place) (n : ℕ) → n ≡ length (all_of passing logs) → n ≡ 0 → others_past logs passing place ≡ Records (Passed place) 3 ∷ []
+some_past logs passing place n e z = rw (sym e ∙ z) refl

@@ -1,9 +1,13 @@
 -- What the story of a fault is asked, by the fault's kind.
 use Rattle.std.specs.Prelude.{ℕ, ℤ, ◌+◌, ◌-◌, ◌^◌, min, List, [], ◌∷◌, ◌++◌, ◌==◌, Bool, codes, length, map, take, nat_le, Option, Some, None, slice_get, if◌then◌else◌}
+use Rattle.std.specs.List.{filter}
 use Rattle.eos_base.specs.declared.partition_name.PartitionName.{PartitionName}
 use Rattle.eos_batch.specs.declared.head.BatchHead.{BatchHead}
+use Rattle.eos_claims.specs.declared.fault.OutputFault.{OutputFault}
+use Rattle.eos_claims.specs.declared.fault.OutputKind.{OutputKind}
+use Rattle.eos_claims.specs.declared.fault.OutputKind.TheVariants.{ForeignSource, NoSuchInput, Early, CountDisagrees, NumberRange, Repeated, Missing, OtherTransaction}
 use Rattle.eos_claims.specs.declared.place.Place.{Place}
-use Rattle.eos_commits.specs.Commits.{Group}
+use Rattle.eos_commits.specs.Commits.{Group, is_same}
 use Rattle.eos_commits.specs.declared.fault.VisibleFault.{VisibleFault}
 use Rattle.eos_commits.specs.declared.fault.VisibleFaultKind.{VisibleFaultKind}
 use Rattle.eos_commits.specs.declared.fault.VisibleFaultKind.TheVariants.{BadLineage, BadOffset, SplitGroup, OffsetDeleted}
@@ -17,7 +21,7 @@ use Rattle.eos_places.specs.declared.wanted.Wanted.TheVariants.{Between, Of, Mar
 use Rattle.eos_sought.specs.declared.finding.Find.{Find}
 use Rattle.eos_sought.specs.declared.sought.Epochs.{Epochs}
 use Rattle.eos_sought.specs.declared.sought.Sought.{Sought}
-use Rattle.eos_sought.specs.declared.sought.Sought.TheVariants.{At, Claiming, Hidden, OfId, Before, OfProducer, Within, Deciding, OfGroup, Passing, UpTo, Passed}
+use Rattle.eos_sought.specs.declared.sought.Sought.TheVariants.{At, Claiming, Hidden, Alike, OfId, Before, OfProducer, Within, Deciding, OfGroup, Passing, UpTo, Passed}
 use Rattle.eos_sought.specs.Finds.{all_of}
 use Rattle.eos_sought.specs.Passing.{group_in}
 use Rattle.eos_sought.specs.States.{state_in}
@@ -242,21 +246,62 @@ group_meant apps (Some group) = Some group
 
 -- the commits that go past an input: those of the group, or where it has none those of others; and the last of the group, of the
 -- input's partition, that doesn't go past it
-abbrev pub others_past : List PartLog → List ℕ → Place → List Question
-others_past logs group place = if is_none_of (Passing group place) logs then Records (Passed place) 3 ∷ [] else []
+abbrev pub others_past : List PartLog → Sought → Place → List Question
+others_past logs passing place = if is_none_of passing logs then Records (Passed place) 3 ∷ [] else []
 
 abbrev pub commits_past : List PartLog → Option (List ℕ) → Place → List Question
 commits_past logs None place = []
-commits_past logs (Some group) place = Records (Passing group place) 3 ∷ (others_past logs group place ++ Latest (UpTo group place) 1 ∷ [])
+commits_past logs (Some group) place = Records (Passing group place) 3 ∷ (others_past logs (Passing group place) place ++ Latest (UpTo group place) 1 ∷ [])
 
 -- the claims that no reader of committed records is given, if there are any
 abbrev pub unseen : List PartLog → Place → List Question
 unseen logs place = if is_none_of (Hidden place) logs then [] else Claims (Hidden place) 2 ∷ []
 
-abbrev pub of_output : List App → List PartLog → Option Group → Place → List Question
-of_output apps logs group input =
-    Records (At input) 1 ∷ (Claims (Claiming input) 3 ∷ (commits_past logs (group_meant apps group) input ++ unseen logs input))
+-- the partitions of the offsets log among these
+abbrev pub is_of_offsets : PartitionName → Bool
+is_of_offsets name = is_same name.topic (codes "__consumer_offsets")
+
+abbrev pub offsets_among : List PartitionName → List PartitionName
+offsets_among names = filter is_of_offsets names
+
+-- of the transaction of this producer id and epoch: in each partition of the offsets log that its decision lists, six at most, its
+-- first data, which is a commit
+abbrev pub owed_of : List PartLog → ℤ → ℤ → List Question
+owed_of logs producer epoch = map (λ (name : PartitionName). FirstBatch name (Data producer epoch)) (take 6 (offsets_among (listed_by (decision producer (epoch_after epoch) logs))))
+
+abbrev pub owed_by : List PartLog → Option (ℤ × ℤ) → List Question
+owed_by logs None = []
+owed_by logs (Some writer) = owed_of logs writer.0 writer.1
+
+-- who wrote a record, in a transaction
+abbrev pub writer_of : Option Find → Option (ℤ × ℤ)
+writer_of None = None
+writer_of (Some find) = find.item.writer
+
+-- of the transaction of the record of this place
+abbrev pub owed_at : List PartLog → Option Place → List Question
+owed_at logs None = []
+owed_at logs (Some place) = owed_by logs (writer_of (slice_get (all_of (At place) logs) 0))
+
+-- the records that are sought, if there are any
+abbrev pub any_of : List PartLog → Sought → ℕ → List Question
+any_of logs sought most = if is_none_of sought logs then [] else Records sought most ∷ []
+
+-- of an output that is there, whether its transaction's commits are there; of one that is missing, whether it is there in another layout
+abbrev pub beside : List PartLog → OutputFault → OutputKind → List Question
+beside logs f ForeignSource = []
+beside logs f NoSuchInput = []
+beside logs f Early = owed_at logs f.at
+beside logs f CountDisagrees = []
+beside logs f NumberRange = []
+beside logs f Repeated = []
+beside logs f Missing = any_of logs (Alike f.source f.output) 2
+beside logs f OtherTransaction = owed_at logs f.at
+
+abbrev pub of_output : List App → List PartLog → Option Group → OutputFault → List Question
+of_output apps logs group f =
+    Records (At f.source) 1 ∷ (Claims (Claiming f.source) 3 ∷ (beside logs f f.kind ++ (commits_past logs (group_meant apps group) f.source ++ unseen logs f.source)))
 
 abbrev pub of_lineage : List App → List PartLog → LineageFault → List Question
 of_lineage apps logs (Record f) = of_record logs f
-of_lineage apps logs (Output group f) = of_output apps logs group f.source
+of_lineage apps logs (Output group f) = of_output apps logs group f

@@ -62,6 +62,10 @@ pub(crate) fn copy_sought(sought: &Sought) -> Result<Sought, AllocError>
         Sought::At(place) => Ok(Sought::At(copy_place(place)?)),
         Sought::Claiming(place) => Ok(Sought::Claiming(copy_place(place)?)),
         Sought::Hidden(place) => Ok(Sought::Hidden(copy_place(place)?)),
+        Sought::Alike { place, output } => Ok(Sought::Alike {
+            place: copy_place(place)?,
+            output: *output,
+        }),
         Sought::OfId(id) => Ok(Sought::OfId(id.clone()?)),
         Sought::Before { id, place } => Ok(Sought::Before {
             id: id.clone()?,

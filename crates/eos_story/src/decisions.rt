@@ -73,7 +73,7 @@ pub(crate) fn bytes_of(value: &Option<Bytes>) -> Option<&[u8]>
     }
 }
 
-fn listed_by(alloc: Global, find: &Find) -> Result<Vec<PartitionName>, AllocError>
+pub(crate) fn listed_by(alloc: Global, find: &Find) -> Result<Vec<PartitionName>, AllocError>
     ensures { IfOk result (λ names. names.items ≡ listed_by (Some find.now)) }
 {
     match state_of(alloc, bytes_of(&find.item.value))? {
@@ -83,7 +83,7 @@ fn listed_by(alloc: Global, find: &Find) -> Result<Vec<PartitionName>, AllocErro
 }
 
 /// The partitions that the first of these records lists.
-fn listed(alloc: Global, finds: &[Find]) -> Result<Vec<PartitionName>, AllocError>
+pub(crate) fn listed(alloc: Global, finds: &[Find]) -> Result<Vec<PartitionName>, AllocError>
     ensures { IfOk result (λ names. names.items ≡ listed_by (slice_get finds.now 0)) }
 {
     if finds.is_empty() {
@@ -93,7 +93,7 @@ fn listed(alloc: Global, finds: &[Find]) -> Result<Vec<PartitionName>, AllocErro
 }
 
 /// Of each of these partitions, six at most, the first batch that is wanted.
-fn push_each(
+pub(crate) fn push_each(
     scene: &Scene<'_>,
     rows: &mut Vec<Row>,
     names: &[PartitionName],
@@ -165,7 +165,11 @@ fn push_listed_by(
 }
 
 /// The decision whose markers have this producer id and epoch, if there is one; and the partitions that it lists.
-fn decision_of(scene: &Scene<'_>, producer: i64, epoch: i16) -> Result<Vec<Find>, AllocError>
+pub(crate) fn decision_of(
+    scene: &Scene<'_>,
+    producer: i64,
+    epoch: i16,
+) -> Result<Vec<Find>, AllocError>
     ensures { IfOk result (λ found. slice_get found.items 0 ≡ decision producer epoch scene.now.logs.now) }
 {
     first_found(scene, Sought::Deciding { producer, epoch })

@@ -4,6 +4,7 @@
 #![tactic(auto)]
 
 mod batches;
+mod beside;
 mod claims;
 mod copies;
 mod decisions;
@@ -19,6 +20,7 @@ mod scene;
 mod slices;
 mod states;
 
+pub use beside::{is_of_offsets, lists};
 pub use decisions::epoch_after;
 pub use headers::HeaderName;
 pub use kinds::rows_of;

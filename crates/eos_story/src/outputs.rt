@@ -1,17 +1,18 @@
 //! Which rows a fault of single records has, and one of an application's outputs.
 
-ghost use Rattle.std.specs.Prelude.{◌≡◌, ◌∷◌, [], IfOk, OnOk, length, slice_get};
+ghost use Rattle.std.specs.Prelude.{◌≡◌, ◌∷◌, [], IfOk, OnOk, slice_get};
 ghost use Rattle.eos_sought.specs.Finds.{all_of};
-ghost use Rattle.eos_sought.specs.declared.sought.Sought.TheVariants.{At, Passing};
-ghost use Rattle.eos_story.specs.Questions.{group_of as group_of_find, commits_of, of_group, of_kind, of_record, first_group, group_meant, others_past, commits_past, of_output, of_lineage};
+ghost use Rattle.eos_sought.specs.declared.sought.Sought.TheVariants.{At};
+ghost use Rattle.eos_story.specs.Questions.{Records, group_of as group_of_find, commits_of, of_group, of_kind, of_record, first_group, group_meant, others_past, commits_past, of_output, of_lineage};
 ghost use Rattle.eos_story.specs.steps.Telling.{TellsEach};
 ghost use Rattle.std.specs.Prelude.{Some};
 
+use crate::beside::push_beside;
 use crate::claims::{push_claims, push_unseen};
 use crate::copies::{copy_bytes, copy_name, copy_place};
 use crate::decisions::bytes_of;
 use crate::headers::push_headers;
-use crate::records::{count_sought, first_found, push_last_of, push_records};
+use crate::records::{first_found, push_counted, push_last_of, push_records};
 use crate::row::Row;
 use crate::scene::Scene;
 use bytes::Bytes;
@@ -118,30 +119,33 @@ fn group_bytes(scene: &Scene<'_>, group: &Option<GroupId>) -> Result<Option<Byte
     }
 }
 
-/// How many commits of a group go past an input.
-fn count_past(scene: &Scene<'_>, group: &Bytes, place: &Place) -> Result<u64, AllocError>
-    ensures { IfOk result (λ count. count ≡ length (all_of (Passing group.now place.now) scene.now.logs.now)) }
-{
-    let group = copy_bytes(group)?;
-    let place = copy_place(place)?;
-    count_sought(scene, Sought::Passing { group, place })
-}
-
-/// The commits of others that go past an input, where the group has none.
-fn push_others(
+/// The commits that go past an input, those that are sought or, where there are none, those of others.
+fn push_past(
     scene: &Scene<'_>,
     rows: &mut Vec<Row>,
-    group: &Bytes,
+    passing: &Sought,
     place: &Place,
 ) -> Result<(), AllocError>
-    ensures { OnOk result (TellsEach scene.now rows.old.items rows.new.items (others_past scene.now.logs.now group.now place.now)) }
+    ensures { OnOk result (TellsEach scene.now rows.old.items rows.new.items (Records passing.now 3 ∷ others_past scene.now.logs.now passing.now place.now)) }
 {
-    if count_past(scene, group, place)? != 0 {
+    if push_counted(scene, rows, passing, 3)? != 0 {
         return Ok(());
     }
     let passed = copy_place(place)?;
     push_records(scene, rows, Sought::Passed(passed), 3)?;
     Ok(())
+}
+
+/// The same, of the commits of a group.
+fn push_past_of(
+    scene: &Scene<'_>,
+    rows: &mut Vec<Row>,
+    passing: Sought,
+    place: &Place,
+) -> Result<(), AllocError>
+    ensures { OnOk result (TellsEach scene.now rows.old.items rows.new.items (Records passing 3 ∷ others_past scene.now.logs.now passing place.now)) }
+{
+    push_past(scene, rows, &passing, place)
 }
 
 /// The commits that go past an input, those of the group or else those of others; and the last of the group that doesn't.
@@ -169,16 +173,11 @@ fn push_passing(
 {
     let by = copy_bytes(group)?;
     let past = copy_place(place)?;
-    push_records(
-        scene,
-        rows,
-        Sought::Passing {
-            group: by,
-            place: past,
-        },
-        3,
-    )?;
-    push_others(scene, rows, group, place)?;
+    let passing = Sought::Passing {
+        group: by,
+        place: past,
+    };
+    push_past_of(scene, rows, passing, place)?;
     let named = copy_bytes(group)?;
     let end = copy_place(place)?;
     push_last_of(
@@ -199,13 +198,14 @@ fn output_rows(
     group: &Option<GroupId>,
     fault: &OutputFault,
 ) -> Result<(), AllocError>
-    ensures { OnOk result (TellsEach scene.now rows.old.items rows.new.items (of_output scene.now.evidence.now.spec.apps scene.now.logs.now group.now fault.now.source)) }
+    ensures { OnOk result (TellsEach scene.now rows.old.items rows.new.items (of_output scene.now.evidence.now.spec.apps scene.now.logs.now group.now fault.now)) }
 {
     let input = &fault.source;
     let at = copy_place(input)?;
     push_records(scene, rows, Sought::At(at), 1)?;
     let claimed = copy_place(input)?;
     push_claims(scene, rows, Sought::Claiming(claimed), 3)?;
+    push_beside(scene, rows, fault)?;
     let meant = group_bytes(scene, group)?;
     push_commits(scene, rows, meant, input)?;
     let hidden = copy_place(input)?;

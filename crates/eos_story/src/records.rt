@@ -114,8 +114,24 @@ fn push_finds(
     Ok(())
 }
 
-/// Adds the first data records that are sought, so many at most, and how many more there are, or that there is none.
-pub(crate) fn push_sought(
+/// Adds the first data records that are sought, so many at most, and how many more there are, or that there is none; and counts all.
+pub(crate) fn push_counted(
+    scene: &Scene<'_>,
+    rows: &mut Vec<Row>,
+    sought: &Sought,
+    most: u64,
+) -> Result<u64, AllocError>
+    ensures count { IfOk result (λ count. count ≡ length (all_of sought.now scene.now.logs.now)) }
+    ensures told { OnOk result (TellsEach scene.now rows.old.items rows.new.items (Records sought.now most ∷ [])) }
+{
+    let finds = find_records(scene.alloc, scene.logs, sought, most)?;
+    push_finds(scene, rows, sought, finds.first.as_slice())?;
+    push_rest(scene, rows, sought, most, finds.count)?;
+    Ok(finds.count)
+}
+
+/// The same, of what is sought for this alone, without the count.
+fn push_sought(
     scene: &Scene<'_>,
     rows: &mut Vec<Row>,
     sought: &Sought,
@@ -123,9 +139,7 @@ pub(crate) fn push_sought(
 ) -> Result<(), AllocError>
     ensures { OnOk result (TellsEach scene.now rows.old.items rows.new.items (Records sought.now most ∷ [])) }
 {
-    let finds = find_records(scene.alloc, scene.logs, sought, most)?;
-    push_finds(scene, rows, sought, finds.first.as_slice())?;
-    push_rest(scene, rows, sought, most, finds.count)?;
+    push_counted(scene, rows, sought, most)?;
     Ok(())
 }
 

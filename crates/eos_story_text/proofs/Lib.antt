@@ -1,3 +1,4 @@
 mod LinesOnce
 mod LinesShown
 mod PartsTold
+mod BothHold

@@ -6,6 +6,7 @@ pub mod Counts
 pub mod Times
 pub mod Lines
 pub mod Told
+pub mod GroupCommits
 pub mod Signs
 pub mod Sentences
 pub mod Commands

@@ -1,6 +1,6 @@
 -- The lines of data records.
 use Rattle.std.specs.Prelude.{ℕ, ℤ, pos, List, [], ◌++◌, Option, Some, None, codes, if◌then◌else◌}
-use Rattle.std.specs.Fmt.{signed_decimal}
+use Rattle.std.specs.Fmt.{decimal, signed_decimal}
 use Rattle.std.specs.Bool.{nat_eq}
 use Rattle.std.specs.Cmp.Lexicographic.{pointwise}
 use Rattle.eos_batch.specs.declared.record.Record.{Record}
@@ -14,7 +14,7 @@ use Rattle.eos_items.specs.declared.item.Item.{Item}
 use Rattle.eos_places.specs.declared.partition.Placed.{Placed}
 use Rattle.eos_sought.specs.declared.finding.Find.{Find}
 use Rattle.eos_sought.specs.declared.sought.Sought.{Sought}
-use Rattle.eos_sought.specs.declared.sought.Sought.TheVariants.{At, Claiming, Hidden, OfId, Before, OfProducer, Within, Deciding, OfGroup, Passing, UpTo, Passed}
+use Rattle.eos_sought.specs.declared.sought.Sought.TheVariants.{At, Claiming, Hidden, Alike, OfId, Before, OfProducer, Within, Deciding, OfGroup, Passing, UpTo, Passed}
 use Rattle.eos_text.specs.Escaping.{escaped}
 use Rattle.eos_story_text.specs.Places.{at_text, spot_text, is_there, mark_of}
 
@@ -22,6 +22,7 @@ abbrev pub role_of : Sought → List ℕ
 role_of (At place) = codes " record   "
 role_of (Claiming place) = codes " claim    "
 role_of (Hidden place) = codes " unseen   "
+role_of (Alike place output) = codes " alike    "
 role_of (OfId id) = codes " state    "
 role_of (Before id place) = codes " state    "
 role_of (OfProducer producer) = codes " state    "
@@ -40,6 +41,7 @@ abbrev pub reading_of : Sought → List ℕ → Option Reading
 reading_of (At place) topic = reading_at topic
 reading_of (Claiming place) topic = Some Outputs
 reading_of (Hidden place) topic = Some Outputs
+reading_of (Alike place output) topic = Some Outputs
 reading_of (OfId id) topic = Some Transactions
 reading_of (Before id place) topic = Some Transactions
 reading_of (OfProducer producer) topic = Some Transactions
@@ -80,6 +82,7 @@ abbrev pub absent_text : Sought → List ℕ
 absent_text (At place) = codes "none at " ++ at_text place.partition place.offset
 absent_text (Claiming place) = codes "none that is visible names " ++ at_text place.partition place.offset
 absent_text (Hidden place) = codes "none names " ++ at_text place.partition place.offset
+absent_text (Alike place output) = (codes "none is like " ++ at_text place.partition place.offset) ++ (codes " output " ++ decimal output)
 absent_text (OfId id) = codes "none of id " ++ escaped id
 absent_text (Before id place) = (codes "none of id " ++ escaped id) ++ (codes " before " ++ at_text place.partition place.offset)
 absent_text (OfProducer producer) = codes "none of producer " ++ signed_decimal producer

@@ -1,8 +1,8 @@
 -- What the rows of a story show together, and which row bears it.
-use Rattle.std.specs.Prelude.{ℕ, ℤ, pos, List, [], ◌∷◌, Option, Some, None, Result, Ok, Err, Bool, true, false, ◌&&◌, ◌==◌, not, nat_lt, int_lt, codes, if◌then◌else◌}
+use Rattle.std.specs.Prelude.{ℕ, ℤ, pos, List, [], ◌∷◌, Option, Some, None, Bool, true, false, ◌&&◌, ◌==◌, not, nat_lt, int_lt, codes, if◌then◌else◌}
 use Rattle.std.specs.List.{list_any}
 use Rattle.std.specs.Ordering.{int_eq}
-use Rattle.eos_base.specs.declared.record_fault.RecordFault.{RecordFault}
+use Rattle.eos_base.specs.declared.partition_name.PartitionName.{PartitionName}
 use Rattle.eos_batch.specs.declared.head.BatchHead.{BatchHead}
 use Rattle.eos_catalogue.specs.declared.case.Sign.{Sign}
 use Rattle.eos_catalogue.specs.declared.case.Sign.TheVariants as signs
@@ -11,13 +11,12 @@ use Rattle.eos_claims.specs.declared.place.Place.{Place}
 use Rattle.eos_claims.specs.Headers.{claim_of}
 use Rattle.eos_commits.specs.Commits.{is_same}
 use Rattle.eos_commits.specs.Visible.{is_visible}
-use Rattle.eos_offsets.specs.Reading.{read_value}
 use Rattle.eos_places.specs.declared.partition.Placed.{Placed}
 use Rattle.eos_places.specs.declared.wanted.Wanted.{Wanted}
 use Rattle.eos_places.specs.declared.wanted.Wanted.TheVariants.{Holding, Between, Of, Ending, Marking, Data, Open}
 use Rattle.eos_sought.specs.declared.finding.Find.{Find}
 use Rattle.eos_sought.specs.declared.sought.Sought.{Sought}
-use Rattle.eos_sought.specs.declared.sought.Sought.TheVariants.{At, Claiming, Hidden, OfId, Before, OfProducer, Within, Deciding, OfGroup, Passing, UpTo, Passed}
+use Rattle.eos_sought.specs.declared.sought.Sought.TheVariants.{At, Claiming, Hidden, Alike, OfId, Before, OfProducer, Within, Deciding, OfGroup, Passing, UpTo, Passed}
 use Rattle.eos_sought.specs.States.{state_in}
 use Rattle.eos_story.specs.Listings.{epoch_after}
 use Rattle.eos_story.specs.declared.row.Row.{Row}
@@ -26,6 +25,7 @@ use Rattle.eos_txnlog.specs.declared.status.Status.{Status}
 use Rattle.eos_txnlog.specs.declared.status.Status.TheVariants as statuses
 use Rattle.eos_txnlog.specs.declared.value.TxnValue.{TxnValue}
 use Rattle.eos_story_text.specs.Places.{is_there}
+use Rattle.eos_story_text.specs.GroupCommits.{input_of, is_back, is_last_for_next, is_owed, is_passed, is_passing, is_same_writer, lacks_passing}
 
 -- ---- claims
 
@@ -33,12 +33,6 @@ abbrev pub is_same_claim : Option Claim → Option Claim → Bool
 is_same_claim None b = false
 is_same_claim (Some a) None = false
 is_same_claim (Some a) (Some b) = is_same a.topic b.topic && int_eq a.partition b.partition && a.offset == b.offset && a.output == b.output
-
--- written in one transaction
-abbrev pub is_same_writer : Option (ℤ × ℤ) → Option (ℤ × ℤ) → Bool
-is_same_writer None b = false
-is_same_writer (Some a) None = false
-is_same_writer (Some a) (Some b) = int_eq a.0 b.0 && int_eq a.1 b.1
 
 abbrev pub is_same_place : Find → Find → Bool
 is_same_place a b = is_same a.partition.topic b.partition.topic && int_eq a.partition.partition b.partition.partition && a.item.offset == b.item.offset
@@ -61,116 +55,22 @@ is_twin find (rows.MoreSegments name shown all) = false
 is_twin find (rows.End name end) = false
 is_twin find (rows.Header place name values) = false
 
--- ---- commits
+-- ---- layouts
 
--- a commit of any group that goes past the input
-abbrev pub is_passed : Sought → Bool
-is_passed (At place) = false
-is_passed (Claiming place) = false
-is_passed (Hidden place) = false
-is_passed (OfId id) = false
-is_passed (Before id place) = false
-is_passed (OfProducer producer) = false
-is_passed (Within epochs) = false
-is_passed (Deciding producer epoch) = false
-is_passed (OfGroup group) = false
-is_passed (Passing group place) = false
-is_passed (UpTo group place) = false
-is_passed (Passed place) = true
-
-abbrev pub is_passing : Sought → Bool
-is_passing (At place) = false
-is_passing (Claiming place) = false
-is_passing (Hidden place) = false
-is_passing (OfId id) = false
-is_passing (Before id place) = false
-is_passing (OfProducer producer) = false
-is_passing (Within epochs) = false
-is_passing (Deciding producer epoch) = false
-is_passing (OfGroup group) = false
-is_passing (Passing group place) = true
-is_passing (UpTo group place) = false
-is_passing (Passed place) = false
-
--- no commit of the group goes past the input
-abbrev pub lacks_passing : Row → Bool
-lacks_passing (rows.Record sought find spot) = false
-lacks_passing (rows.NoRecord sought) = is_passing sought
-lacks_passing (rows.MoreRecords shown all sought) = false
-lacks_passing (rows.Batch name wanted placed) = false
-lacks_passing (rows.First name wanted placed) = false
-lacks_passing (rows.MoreBatches name wanted shown all) = false
-lacks_passing (rows.MorePartitions shown all sought) = false
-lacks_passing (rows.Segment name base size) = false
-lacks_passing (rows.MoreSegments name shown all) = false
-lacks_passing (rows.End name end) = false
-lacks_passing (rows.Header place name values) = false
-
--- a commit of the group that doesn't go past the input: the input that it would have to pass
-abbrev pub input_of : Sought → Option Place
-input_of (At place) = None
-input_of (Claiming place) = None
-input_of (Hidden place) = None
-input_of (OfId id) = None
-input_of (Before id place) = None
-input_of (OfProducer producer) = None
-input_of (Within epochs) = None
-input_of (Deciding producer epoch) = None
-input_of (OfGroup group) = None
-input_of (Passing group place) = None
-input_of (UpTo group place) = Some place
-input_of (Passed place) = None
-
--- a visible commit of the group stands before this one and goes past the input
-abbrev pub passes_before : Sought → Find → Find → Bool
-passes_before sought first find =
-    is_passing sought && is_visible first.item.fate && is_same first.partition.topic find.partition.topic && int_eq first.partition.partition find.partition.partition
-    && nat_lt first.item.offset find.item.offset
-
-abbrev pub was_past : Find → Row → Bool
-was_past find (rows.Record sought first spot) = passes_before sought first find
-was_past find (rows.NoRecord sought) = false
-was_past find (rows.MoreRecords shown all sought) = false
-was_past find (rows.Batch name wanted placed) = false
-was_past find (rows.First name wanted placed) = false
-was_past find (rows.MoreBatches name wanted shown all) = false
-was_past find (rows.MorePartitions shown all sought) = false
-was_past find (rows.Segment name base size) = false
-was_past find (rows.MoreSegments name shown all) = false
-was_past find (rows.End name end) = false
-was_past find (rows.Header at name values) = false
-
--- a visible commit behind one that goes past the input, that doesn't
-abbrev pub is_back : Option Place → Find → List Row → Bool
-is_back None find all = false
-is_back (Some input) find all = is_visible find.item.fate && list_any (was_past find) all
-
--- the commit is exactly the input's offset
-abbrev pub is_at_read : ℕ → Result ℤ RecordFault → Bool
-is_at_read offset (Ok committed) = int_eq committed (pos offset)
-is_at_read offset (Err fault) = false
-
-abbrev pub commits_at : ℕ → Option (List ℕ) → Bool
-commits_at offset None = false
-commits_at offset (Some value) = is_at_read offset (read_value value)
-
--- the record at the fault's place is of the transaction of this writer
-abbrev pub is_by_writer : Option Place → Find → Row → Bool
-is_by_writer place find (rows.Record sought output spot) = is_there place output.partition output.item.offset && is_same_writer output.item.writer find.item.writer
-is_by_writer place find (rows.NoRecord sought) = false
-is_by_writer place find (rows.MoreRecords shown all sought) = false
-is_by_writer place find (rows.Batch name wanted placed) = false
-is_by_writer place find (rows.First name wanted placed) = false
-is_by_writer place find (rows.MoreBatches name wanted shown all) = false
-is_by_writer place find (rows.MorePartitions shown all sought) = false
-is_by_writer place find (rows.Segment name base size) = false
-is_by_writer place find (rows.MoreSegments name shown all) = false
-is_by_writer place find (rows.End name end) = false
-is_by_writer place find (rows.Header at name values) = false
-
-abbrev pub is_last_for_next : Option Place → Option Place → Find → List Row → Bool
-is_last_for_next place None find all = false
-is_last_for_next place (Some input) find all = commits_at input.offset find.item.value && list_any (is_by_writer place find) all
+abbrev pub is_of_layout : Sought → Bool
+is_of_layout (At place) = false
+is_of_layout (Claiming place) = false
+is_of_layout (Hidden place) = false
+is_of_layout (Alike place output) = true
+is_of_layout (OfId id) = false
+is_of_layout (Before id place) = false
+is_of_layout (OfProducer producer) = false
+is_of_layout (Within epochs) = false
+is_of_layout (Deciding producer epoch) = false
+is_of_layout (OfGroup group) = false
+is_of_layout (Passing group place) = false
+is_of_layout (UpTo group place) = false
+is_of_layout (Passed place) = false
 
 -- ---- records
 
@@ -189,6 +89,8 @@ by_record signs.NoProducer place all sought find spot = is_there place find.part
 by_record signs.OtherGroup place all sought find spot = is_passed sought && list_any lacks_passing all
 by_record signs.MovedBack place all sought find spot = is_back (input_of sought) find all
 by_record signs.LastForNext place all sought find spot = is_last_for_next place (input_of sought) find all
+by_record signs.LostCommit place all sought find spot = false
+by_record signs.OtherLayout place all sought find spot = is_of_layout sought
 by_record signs.PlainCommit place all sought find spot = is_passing sought && is_of_none find.item.writer
 by_record signs.AnothersMarker place all sought find spot = false
 by_record signs.LostMarker place all sought find spot = false
@@ -245,25 +147,29 @@ is_due (Marking producer epoch) all = list_any (says_complete producer epoch) al
 is_due (Data producer epoch) all = false
 is_due (Open producer from) all = false
 
-abbrev pub is_lost : Sign → List Row → Wanted → Bool
-is_lost signs.OneTransaction all wanted = false
-is_lost signs.OutsideTransactions all wanted = false
-is_lost signs.NoProducer all wanted = false
-is_lost signs.OtherGroup all wanted = false
-is_lost signs.MovedBack all wanted = false
-is_lost signs.LastForNext all wanted = false
-is_lost signs.PlainCommit all wanted = false
-is_lost signs.AnothersMarker all wanted = false
-is_lost signs.LostMarker all wanted = is_due wanted all
-is_lost signs.EndsLater all wanted = false
-is_lost signs.EndsEarlier all wanted = false
-is_lost signs.NoSegment all wanted = false
-is_lost signs.Renamed all wanted = false
-is_lost signs.BeginsLater all wanted = false
+-- ---- what isn't there
 
-abbrev pub by_first : Sign → List Row → Wanted → Option Placed → Bool
-by_first sign all wanted None = is_lost sign all wanted
-by_first sign all wanted (Some placed) = false
+abbrev pub is_lost : Sign → Option Place → List Row → PartitionName → Wanted → Bool
+is_lost signs.OneTransaction place all name wanted = false
+is_lost signs.OutsideTransactions place all name wanted = false
+is_lost signs.NoProducer place all name wanted = false
+is_lost signs.OtherGroup place all name wanted = false
+is_lost signs.MovedBack place all name wanted = false
+is_lost signs.LastForNext place all name wanted = false
+is_lost signs.LostCommit place all name wanted = is_owed place all name wanted
+is_lost signs.OtherLayout place all name wanted = false
+is_lost signs.PlainCommit place all name wanted = false
+is_lost signs.AnothersMarker place all name wanted = false
+is_lost signs.LostMarker place all name wanted = is_due wanted all
+is_lost signs.EndsLater place all name wanted = false
+is_lost signs.EndsEarlier place all name wanted = false
+is_lost signs.NoSegment place all name wanted = false
+is_lost signs.Renamed place all name wanted = false
+is_lost signs.BeginsLater place all name wanted = false
+
+abbrev pub by_first : Sign → Option Place → List Row → PartitionName → Wanted → Option Placed → Bool
+by_first sign place all name wanted None = is_lost sign place all name wanted
+by_first sign place all name wanted (Some placed) = false
 
 -- one of all batches of a producer id
 abbrev pub is_touch : Wanted → Bool
@@ -303,6 +209,8 @@ by_batch signs.NoProducer before wanted placed = false
 by_batch signs.OtherGroup before wanted placed = false
 by_batch signs.MovedBack before wanted placed = false
 by_batch signs.LastForNext before wanted placed = false
+by_batch signs.LostCommit before wanted placed = false
+by_batch signs.OtherLayout before wanted placed = false
 by_batch signs.PlainCommit before wanted placed = false
 by_batch signs.AnothersMarker before wanted placed = is_touch wanted && is_behind before placed.standing.head
 by_batch signs.LostMarker before wanted placed = false
@@ -349,6 +257,8 @@ by_segment signs.NoProducer (Some place) all base size = false
 by_segment signs.OtherGroup (Some place) all base size = false
 by_segment signs.MovedBack (Some place) all base size = false
 by_segment signs.LastForNext (Some place) all base size = false
+by_segment signs.LostCommit (Some place) all base size = false
+by_segment signs.OtherLayout (Some place) all base size = false
 by_segment signs.PlainCommit (Some place) all base size = false
 by_segment signs.AnothersMarker (Some place) all base size = false
 by_segment signs.LostMarker (Some place) all base size = false
@@ -366,6 +276,8 @@ by_end signs.NoProducer (Some place) all end = false
 by_end signs.OtherGroup (Some place) all end = false
 by_end signs.MovedBack (Some place) all end = false
 by_end signs.LastForNext (Some place) all end = false
+by_end signs.LostCommit (Some place) all end = false
+by_end signs.OtherLayout (Some place) all end = false
 by_end signs.PlainCommit (Some place) all end = false
 by_end signs.AnothersMarker (Some place) all end = false
 by_end signs.LostMarker (Some place) all end = false
@@ -383,7 +295,7 @@ bears sign place all before (rows.Record sought find spot) = by_record sign plac
 bears sign place all before (rows.NoRecord sought) = false
 bears sign place all before (rows.MoreRecords shown count sought) = false
 bears sign place all before (rows.Batch name wanted placed) = by_batch sign before wanted placed
-bears sign place all before (rows.First name wanted placed) = by_first sign all wanted placed
+bears sign place all before (rows.First name wanted placed) = by_first sign place all name wanted placed
 bears sign place all before (rows.MoreBatches name wanted shown count) = false
 bears sign place all before (rows.MorePartitions shown count sought) = false
 bears sign place all before (rows.Segment name base size) = by_segment sign place all base size

@@ -1,13 +1,12 @@
-//! The command to run next: the dump of the place that a story rests on.
+//! The command to run next: the dump of the place that a story rests on, or of a segment, or the listing of a folder.
 
-ghost use Rattle.std.specs.Prelude.{◌≡◌, ◌++◌, IfOk, OnOk, codes, string_bytes};
-ghost use Rattle.std.specs.Fmt.{decimal};
-ghost use Rattle.std.specs.List.{list_any};
+ghost use Rattle.std.specs.Prelude.{◌≡◌, OnOk, string_bytes};
 ghost use Rattle.std.specs.Option.{option_copied};
 ghost use Rattle.eos_text.specs.Adding.{Adds};
-ghost use Rattle.eos_story_text.specs.Commands.{is_odd, is_unsaid, folder_quote, folder_text, zeros_before, number_text, path_text, offset_after, span_text, place_command, spot_command, first_command, row_command, is_spotted, is_fault_row, spotted, fault_row, command_of, fault_command, command_line};
+ghost use Rattle.eos_story_text.specs.Commands.{offset_after, span_text, place_command, spot_command, first_command, segment_command, folder_command, row_command, is_spotted, is_fault_row, spotted, fault_row, is_end_row, ended, command_of, known_command, fault_command, command_line};
 
-use crate::names::{is_there, push_name};
+use crate::names::is_there;
+use crate::paths::{push_partition_path, push_path};
 use crate::signs::Told;
 use eos_base::PartitionName;
 use eos_claims::Place;
@@ -15,140 +14,6 @@ use eos_places::Placed;
 use eos_story::Row;
 use eos_text::{push_text, push_value};
 use std::alloc::{AllocError, Global};
-
-// ---- the path
-
-/// Whether a shell may read this byte otherwise than as itself.
-fn is_odd(byte: u8) -> bool
-    ensures { result ≡ is_odd byte }
-{
-    !(byte.is_ascii_alphanumeric()
-        || byte == b'/'
-        || byte == b'.'
-        || byte == b'_'
-        || byte == b'-'
-        || byte >= 128)
-}
-
-/// Whether quotes don't help with this byte: it is a quote, or a control character.
-fn is_unsaid(byte: u8) -> bool
-    ensures { result ≡ is_unsaid byte }
-{
-    byte == b'\'' || byte < 32 || byte == 127
-}
-
-fn has_odd(bytes: &[u8]) -> bool
-    ensures { result ≡ list_any is_odd bytes.now }
-{
-    for byte in bytes {
-        if is_odd(*byte) {
-            return true;
-        }
-    }
-    false
-}
-
-fn has_unsaid(bytes: &[u8]) -> bool
-    ensures { result ≡ list_any is_unsaid bytes.now }
-{
-    for byte in bytes {
-        if is_unsaid(*byte) {
-            return true;
-        }
-    }
-    false
-}
-
-/// What stands around the path of a folder in a command, so that a shell reads it as it is.
-fn folder_quote(folder: &str) -> &'static str
-    ensures { result.now ≡ folder_quote folder.now }
-{
-    if has_odd(folder.as_bytes()) && !has_unsaid(folder.as_bytes()) {
-        "'"
-    } else {
-        ""
-    }
-}
-
-/// The path of a folder in a command; `FOLDER` where no quotes help.
-fn folder_text<'a>(folder: &'a str) -> &'a str
-    ensures { result.now ≡ folder_text folder.now }
-{
-    if has_unsaid(folder.as_bytes()) {
-        "FOLDER"
-    } else {
-        folder
-    }
-}
-
-/// The zeros before so many digits, of twenty.
-fn zeros_before(digits: usize) -> &'static str
-    ensures { result.now ≡ zeros_before digits }
-{
-    match digits {
-        1 => "0000000000000000000",
-        2 => "000000000000000000",
-        3 => "00000000000000000",
-        4 => "0000000000000000",
-        5 => "000000000000000",
-        6 => "00000000000000",
-        7 => "0000000000000",
-        8 => "000000000000",
-        9 => "00000000000",
-        10 => "0000000000",
-        11 => "000000000",
-        12 => "00000000",
-        13 => "0000000",
-        14 => "000000",
-        15 => "00000",
-        16 => "0000",
-        17 => "000",
-        18 => "00",
-        19 => "0",
-        _ => "",
-    }
-}
-
-/// A number in decimal digits.
-fn digits_of(alloc: Global, base: u64) -> Result<String, AllocError>
-    ensures { IfOk result (λ digits. string_bytes digits ≡ decimal base) }
-{
-    format!(in alloc; "{base}")
-}
-
-/// Adds a segment's name: 20 digits.
-#[tactic(auto, unfolding(crate::specs::Commands::number_text))]
-fn push_number(alloc: Global, out: &mut String, base: u64) -> Result<(), AllocError>
-    ensures { OnOk result (Adds (string_bytes out.old) (string_bytes out.new) (number_text base)) }
-{
-    let digits = digits_of(alloc, base)?;
-    push_text(out, zeros_before(digits.len()))?;
-    push_text(out, digits.as_str())?;
-    Ok(())
-}
-
-#[tactic(auto, unfolding(crate::specs::Commands::path_text))]
-fn push_path(
-    alloc: Global,
-    out: &mut String,
-    folder: &str,
-    name: &PartitionName,
-    segment: i64,
-) -> Result<(), AllocError>
-    ensures { OnOk result (Adds (string_bytes out.old) (string_bytes out.new) (path_text folder.now name.now segment)) }
-{
-    let quote = folder_quote(folder);
-    push_text(out, quote)?;
-    push_text(out, folder_text(folder))?;
-    push_name(alloc, out, "/", name)?;
-    push_text(out, "/")?;
-    push_number(alloc, out, segment.unsigned_abs())?;
-    push_text(out, ".log")?;
-    push_text(out, quote)?;
-    Ok(())
-}
-
-// ---- the row
 
 fn offset_after(offset: u64) -> u64
     ensures { result ≡ offset_after offset }
@@ -178,7 +43,7 @@ fn push_place_command(
 {
     let (name, offset) = at;
     push_span(out, &offset, &offset_after(offset))?;
-    push_path(alloc, out, folder, name, segment)?;
+    push_path(alloc, out, folder, name, segment.unsigned_abs())?;
     push_text(out, "\n")?;
     Ok(())
 }
@@ -216,6 +81,39 @@ fn push_first_command(
     }
 }
 
+/// Adds the dump of a whole segment.
+#[tactic(auto, unfolding(crate::specs::Commands::segment_command))]
+fn push_segment_command(
+    alloc: Global,
+    out: &mut String,
+    folder: &str,
+    name: &PartitionName,
+    base: u64,
+) -> Result<(), AllocError>
+    ensures { OnOk result (Adds (string_bytes out.old) (string_bytes out.new) (segment_command folder.now name.now base)) }
+{
+    push_text(out, "Run: eoscheck dump ")?;
+    push_path(alloc, out, folder, name, base)?;
+    push_text(out, "\n")?;
+    Ok(())
+}
+
+/// Adds the listing of a partition's folder.
+#[tactic(auto, unfolding(crate::specs::Commands::folder_command))]
+fn push_folder_command(
+    alloc: Global,
+    out: &mut String,
+    folder: &str,
+    name: &PartitionName,
+) -> Result<(), AllocError>
+    ensures { OnOk result (Adds (string_bytes out.old) (string_bytes out.new) (folder_command folder.now name.now)) }
+{
+    push_text(out, "Run: ls -l ")?;
+    push_partition_path(alloc, out, folder, name)?;
+    push_text(out, "\n")?;
+    Ok(())
+}
+
 /// Whether the segment is known that holds what a row is of.
 fn is_spotted(row: &Row) -> bool
     ensures { result ≡ is_spotted row.now }
@@ -224,6 +122,7 @@ fn is_spotted(row: &Row) -> bool
         Row::Record { spot, .. } => spot.is_some(),
         Row::Batch { .. } => true,
         Row::First { placed, .. } => placed.is_some(),
+        Row::Segment { .. } => true,
         _ => false,
     }
 }
@@ -268,6 +167,24 @@ fn fault_row<'a>(place: Option<&Place>, rows: &'a [Row]) -> Option<&'a Row>
     None
 }
 
+fn is_end_row(row: &Row) -> bool
+    ensures { result ≡ is_end_row row.now }
+{
+    matches!(row, Row::End { .. })
+}
+
+/// The first end of a partition.
+fn ended<'a>(rows: &'a [Row]) -> Option<&'a Row>
+    ensures { option_copied result ≡ ended rows.now }
+{
+    for row in rows {
+        if is_end_row(row) {
+            return Some(row);
+        }
+    }
+    None
+}
+
 fn push_row_command(
     alloc: Global,
     out: &mut String,
@@ -294,6 +211,12 @@ fn push_row_command(
             placed,
             ..
         } => push_first_command(alloc, out, folder, partition, *placed),
+        Row::Segment {
+            partition,
+            base,
+            ..
+        } => push_segment_command(alloc, out, folder, partition, *base),
+        Row::End { partition, .. } => push_folder_command(alloc, out, folder, partition),
         _ => push_text(out, ""),
     }
 }
@@ -334,7 +257,22 @@ pub(crate) fn push_command(
     }
 }
 
-/// Adds the dump of the fault's place, or else of the first place that is known; nothing where none is.
+/// Adds what the first place gives that is known, or else the end of a partition of which none is.
+fn push_known_command(
+    alloc: Global,
+    out: &mut String,
+    folder: &str,
+    rows: &[Row],
+) -> Result<(), AllocError>
+    ensures { OnOk result (Adds (string_bytes out.old) (string_bytes out.new) (known_command folder.now (spotted rows.now) rows.now)) }
+{
+    match spotted(rows) {
+        Some(row) => push_row_command(alloc, out, folder, row),
+        None => push_command_of(alloc, out, folder, ended(rows)),
+    }
+}
+
+/// Adds the dump of the fault's place, or else what is known.
 fn push_fault_command(
     alloc: Global,
     out: &mut String,
@@ -345,6 +283,6 @@ fn push_fault_command(
 {
     match fault_row(told.place, told.rows) {
         Some(row) => push_row_command(alloc, out, folder, row),
-        None => push_command_of(alloc, out, folder, spotted(told.rows)),
+        None => push_known_command(alloc, out, folder, told.rows),
     }
 }

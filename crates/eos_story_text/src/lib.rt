@@ -8,6 +8,7 @@ mod counts;
 mod lines;
 mod moves;
 mod names;
+mod paths;
 mod records;
 mod rows;
 mod sentences;

@@ -3,7 +3,7 @@
 ghost use Rattle.std.specs.Prelude.{◌≡◌, ◌++◌, OnOk, IfOk, string_bytes};
 ghost use Rattle.std.specs.Option.{option_copied};
 ghost use Rattle.eos_decoded.specs.Decoding.{decoded_line};
-ghost use Rattle.eos_sought.specs.declared.sought.Sought.TheVariants.{Before, Within, Passing, UpTo, Deciding};
+ghost use Rattle.eos_sought.specs.declared.sought.Sought.TheVariants.{Alike, Before, Within, Passing, UpTo, Deciding};
 ghost use Rattle.eos_text.specs.Adding.{Adds};
 ghost use Rattle.eos_story_text.specs.Records.{role_of, reading_at, reading_of, writer_text, fate_text, said_text, record_of, record_line, absent_text, no_record_line};
 
@@ -25,6 +25,7 @@ pub(crate) fn role_of(sought: &Sought) -> &'static str
         Sought::At(_) => " record   ",
         Sought::Claiming(_) => " claim    ",
         Sought::Hidden(_) => " unseen   ",
+        Sought::Alike { .. } => " alike    ",
         Sought::OfId(_) | Sought::Before { .. } | Sought::OfProducer(_) | Sought::Within(_) =>
             " state    ",
         Sought::Deciding { .. } => " decided  ",
@@ -51,7 +52,7 @@ fn reading_of(sought: &Sought, topic: &[u8]) -> Option<Reading>
 {
     match sought {
         Sought::At(_) => reading_at(topic),
-        Sought::Claiming(_) | Sought::Hidden(_) => Some(Reading::Outputs),
+        Sought::Claiming(_) | Sought::Hidden(_) | Sought::Alike { .. } => Some(Reading::Outputs),
         Sought::OfId(_)
         | Sought::Before { .. }
         | Sought::OfProducer(_)
@@ -184,6 +185,19 @@ fn push_none_before(
     Ok(())
 }
 
+fn push_none_alike(
+    alloc: Global,
+    out: &mut String,
+    place: &Place,
+    output: &u32,
+) -> Result<(), AllocError>
+    ensures { OnOk result (Adds (string_bytes out.old) (string_bytes out.new) (absent_text (Alike place.now output.now))) }
+{
+    push_at(alloc, out, "none is like ", &place.partition, &place.offset)?;
+    push_value(out, " output ", output)?;
+    Ok(())
+}
+
 fn push_none_within(out: &mut String, epochs: &Epochs) -> Result<(), AllocError>
     ensures { OnOk result (Adds (string_bytes out.old) (string_bytes out.new) (absent_text (Within epochs.now))) }
 {
@@ -214,6 +228,7 @@ fn push_absent(alloc: Global, out: &mut String, sought: &Sought) -> Result<(), A
             &place.partition,
             &place.offset,
         ),
+        Sought::Alike { place, output } => push_none_alike(alloc, out, place, output),
         Sought::OfId(id) => push_escaped(alloc, out, "none of id ", id.as_slice()),
         Sought::Before { id, place } => push_none_before(alloc, out, id.as_slice(), place),
         Sought::OfProducer(producer) => push_value(out, "none of producer ", producer),

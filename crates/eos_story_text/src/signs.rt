@@ -3,34 +3,13 @@
 ghost use Rattle.std.specs.Prelude.{◌≡◌, IfOk, None};
 ghost use Rattle.std.specs.List.{list_any};
 ghost use Rattle.std.specs.Option.{option_copied};
-ghost use Rattle.eos_story_text.specs.Signs.{
-  is_twin,
-  is_passed,
-  lacks_passing,
-  is_of_none,
-  lacks_producer,
-  by_record,
-  says_complete,
-  is_due,
-  is_lost,
-  by_first,
-  is_touch,
-  ends_older,
-  is_behind_older,
-  is_behind,
-  by_batch,
-  is_segment,
-  is_segment_below,
-  by_segment,
-  by_end,
-  bears,
-  bearer_in,
-  bearer,
-};
+ghost use Rattle.eos_story_text.specs.GroupCommits.{is_passed, lacks_passing};
+ghost use Rattle.eos_story_text.specs.Signs.{is_twin, is_of_layout, is_of_none, lacks_producer, by_record, says_complete, is_due, is_lost, by_first, is_touch, ends_older, is_behind_older, is_behind, by_batch, is_segment, is_segment_below, by_segment, by_end, bears, bearer_in, bearer};
 
-use crate::moves::{is_back, is_last_for_next, is_passing};
+use crate::moves::{is_back, is_last_for_next, is_owed, is_passing};
 use crate::names::is_there;
 use crate::twins::{completes, is_twin_of};
+use eos_base::PartitionName;
 use eos_batch::BatchHead;
 use eos_catalogue::Sign;
 use eos_claims::Place;
@@ -72,6 +51,12 @@ fn is_passed(sought: &Sought) -> bool
     ensures { result ≡ is_passed sought.now }
 {
     matches!(sought, Sought::Passed(_))
+}
+
+fn is_of_layout(sought: &Sought) -> bool
+    ensures { result ≡ is_of_layout sought.now }
+{
+    matches!(sought, Sought::Alike { .. })
 }
 
 fn lacks_passing(row: &Row) -> bool
@@ -137,6 +122,7 @@ fn by_record(
         Sign::MovedBack => Ok(is_back(sought, find, told.rows)),
         Sign::LastForNext => Ok(is_last_for_next(told.place, sought, find, told.rows)),
         Sign::PlainCommit => Ok(is_passing(sought) && is_of_none(find.item.writer)),
+        Sign::OtherLayout => Ok(is_of_layout(sought)),
         _ => Ok(false),
     }
 }
@@ -177,26 +163,34 @@ fn is_due(alloc: Global, wanted: Wanted, rows: &[Row]) -> Result<bool, AllocErro
     }
 }
 
-fn is_lost(alloc: Global, sign: Sign, rows: &[Row], wanted: Wanted) -> Result<bool, AllocError>
-    ensures { IfOk result (λ is. is ≡ is_lost sign rows.now wanted) }
+fn is_lost(
+    alloc: Global,
+    told: &Told<'_>,
+    sign: Sign,
+    name: &PartitionName,
+    wanted: Wanted,
+) -> Result<bool, AllocError>
+    ensures { IfOk result (λ is. is ≡ is_lost sign (option_copied told.now.place) told.now.rows.now name.now wanted) }
 {
     match sign {
-        Sign::LostMarker => is_due(alloc, wanted, rows),
+        Sign::LostCommit => is_owed(alloc, told, name, wanted),
+        Sign::LostMarker => is_due(alloc, wanted, told.rows),
         _ => Ok(false),
     }
 }
 
 fn by_first(
     alloc: Global,
+    told: &Told<'_>,
     sign: Sign,
-    rows: &[Row],
-    wanted: Wanted,
-    placed: Option<Placed>,
+    name: &PartitionName,
+    first: (Wanted, Option<Placed>),
 ) -> Result<bool, AllocError>
-    ensures { IfOk result (λ is. is ≡ by_first sign rows.now wanted placed) }
+    ensures { IfOk result (λ is. is ≡ by_first sign (option_copied told.now.place) told.now.rows.now name.now first.0 first.1) }
 {
+    let (wanted, placed) = first;
     match placed {
-        None => is_lost(alloc, sign, rows, wanted),
+        None => is_lost(alloc, told, sign, name, wanted),
         Some(_) => Ok(false),
     }
 }
@@ -327,7 +321,11 @@ fn bears(
     match row {
         Row::Record { sought, find, spot } => by_record(alloc, told, sign, sought, (find, *spot)),
         Row::Batch { wanted, placed, .. } => Ok(by_batch(sign, before, *wanted, *placed)),
-        Row::First { wanted, placed, .. } => by_first(alloc, sign, told.rows, *wanted, *placed),
+        Row::First {
+            partition,
+            wanted,
+            placed,
+        } => by_first(alloc, told, sign, partition, (*wanted, *placed)),
         Row::Segment { base, size, .. } => Ok(by_segment(told, sign, *base, *size)),
         Row::End { end, .. } => Ok(by_end(told, sign, *end)),
         _ => Ok(false),

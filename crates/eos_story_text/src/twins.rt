@@ -3,7 +3,8 @@
 ghost use Rattle.std.specs.Prelude.{◌≡◌, IfOk};
 ghost use Rattle.eos_claims.specs.Headers.{claim_of};
 ghost use Rattle.eos_sought.specs.States.{state_in};
-ghost use Rattle.eos_story_text.specs.Signs.{is_same_claim, is_same_writer, is_same_place, is_twin_of, is_complete, is_completed, is_of_states, completes};
+ghost use Rattle.eos_story_text.specs.GroupCommits.{is_same_writer};
+ghost use Rattle.eos_story_text.specs.Signs.{is_same_claim, is_same_place, is_twin_of, is_complete, is_completed, is_of_states, completes};
 ghost use Rattle.std.specs.Prelude.{Some};
 
 use crate::names::is_same;

@@ -12,7 +12,7 @@ use Rattle.eos_summary.specs.declared.ends.Ends.{Ends}
 use Rattle.eos_summary.specs.Ends.{is_data, placed, mark_for, mark_of, first_placed, last_placed, first_marker, marks_of}
 use Rattle.eos_summary.specs.Settling.{ending_by, resolved, settled, data_after, data_in}
 use Rattle.eos_summary.specs.Tables.{AreEnds}
-use Rattle.eos_summary.specs.steps.Tables.{IsJoined}
+use Rattle.eos_summary.specs.Taken.{IsJoined}
 use Rattle.eos_summary.specs.steps.Summaries.{only}
 use Rattle.eos_summary.proofs.TableWrites.{same_id}
 

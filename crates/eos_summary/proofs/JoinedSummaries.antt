@@ -10,9 +10,9 @@ use Rattle.eos_summary.specs.declared.fault.Fault.{Fault}
 use Rattle.eos_summary.specs.declared.summary.BatchSummary.{BatchSummary}
 use Rattle.eos_summary.specs.Settling.{data_in, waiting_in}
 use Rattle.eos_summary.specs.Tables.{Table, ends_in, ends_at, AreEnds, KeepsPlaces}
-use Rattle.eos_summary.specs.steps.Tables.{IsReadyFor}
+use Rattle.eos_summary.specs.Taken.{IsReadyFor}
 use Rattle.eos_summary.specs.Faults.{IsSettled, IsLeastOf}
-use Rattle.eos_summary.specs.steps.Faults.{earlier}
+use Rattle.eos_summary.specs.Earlier.{earlier}
 use Rattle.eos_summary.specs.Summaries.{IsSummary, SameEnds, SameSummary}
 use Rattle.eos_summary.specs.steps.Joins.{rest_of, Starts, IsTaking, IsTaken}
 use Rattle.eos_summary.proofs.Waiting.{all_below}

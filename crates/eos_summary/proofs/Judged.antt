@@ -15,7 +15,8 @@ use Rattle.eos_summary.specs.declared.ends.Ends.{Ends}
 use Rattle.eos_summary.specs.declared.fault.Fault.{Fault}
 use Rattle.eos_summary.specs.Tables.{Table, ends_in, ends_at, HasEnds}
 use Rattle.eos_summary.specs.Faults.{IsSettled, IsLeastOf}
-use Rattle.eos_summary.specs.steps.Faults.{Claims, earlier_of, earlier}
+use Rattle.eos_summary.specs.Earlier.{earlier_of, earlier}
+use Rattle.eos_summary.specs.steps.Alone.{Claims}
 use Rattle.eos_summary.specs.Whole.{StandsFirst, StandsInWhole, IsLeftOpen, IsLeastId, IsLeastOpen}
 use Rattle.eos_summary.proofs.SettledFaults.{Below, Chosen, chosen, below_trans}
 use Rattle.eos_summary.proofs.TableWrites.{same_id}

@@ -27,7 +27,8 @@ use Rattle.eos_summary.specs.declared.fault.Fault.{Fault}
 use Rattle.eos_summary.specs.Ends.{is_data, placed_in, mark_in, mark_for}
 use Rattle.eos_summary.specs.Settling.{resolved, data_in, waiting_in, waits}
 use Rattle.eos_summary.specs.Tables.{Table, ends_in, ends_at, AreEnds, KeepsPlaces}
-use Rattle.eos_summary.specs.steps.Tables.{AreEndsOf, rest_alone, waiting_alone, IsReadyFor}
+use Rattle.eos_summary.specs.Taken.{AreEndsOf, waiting_alone, IsReadyFor}
+use Rattle.eos_summary.specs.steps.Alone.{rest_alone}
 use Rattle.eos_summary.specs.Faults.{IsSettled, IsLeastOf}
 use Rattle.eos_summary.specs.steps.Joins.{Starts, IsTaking, IsTaken, TakesFrom}
 use Rattle.eos_summary.proofs.TableWrites.{same_id, id_same}

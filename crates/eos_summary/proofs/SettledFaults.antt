@@ -10,7 +10,7 @@ use Rattle.eos_batch.specs.declared.batch.Batch.{Batch}
 use Rattle.eos_summary.specs.declared.fault.Fault.{Fault}
 use Rattle.eos_summary.specs.Ends.{placed, first_placed, last_placed}
 use Rattle.eos_summary.specs.Faults.{StandsAt, StandsAfter, IsSettled, IsLeastOf}
-use Rattle.eos_summary.specs.steps.Faults.{earlier_of, earlier}
+use Rattle.eos_summary.specs.Earlier.{earlier_of, earlier}
 
 or-assoc : {X : Type 0} (a b c : Option X) → option_or (option_or a b) c ≡ option_or a (option_or b c)
 or-assoc None b c = refl

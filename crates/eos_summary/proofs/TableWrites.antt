@@ -9,7 +9,7 @@ use Rattle.eos_summary.specs.declared.ends.Ends.{Ends}
 use Rattle.eos_summary.specs.Place.{PlacesView}
 use Rattle.std.specs.Map.{lookup}
 use Rattle.eos_summary.specs.Tables.{Table, ends_in, ends_at}
-use Rattle.eos_summary.specs.steps.Tables.{IsReadyFor}
+use Rattle.eos_summary.specs.Taken.{IsReadyFor}
 use Rattle.eos_summary.specs.Summaries.{SameEnds}
 
 pub record Writes (m : Table) (p : ℤ) (w : Ends) (n : Table) : Type 0 where

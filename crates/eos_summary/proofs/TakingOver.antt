@@ -14,9 +14,9 @@ use Rattle.eos_summary.specs.declared.fault.Fault.{Fault}
 use Rattle.eos_summary.specs.Ends.{first_placed, last_placed, first_marker}
 use Rattle.eos_summary.specs.Settling.{data_in, waiting_in, settled}
 use Rattle.eos_summary.specs.Tables.{Table, ends_in, ends_at, AreEnds, HasEnds, KeepsPlaces}
-use Rattle.eos_summary.specs.steps.Tables.{IsJoined, HasRoom, waiting_after}
+use Rattle.eos_summary.specs.Taken.{IsJoined, HasRoom, waiting_after}
 use Rattle.eos_summary.specs.Faults.{IsSettled, IsLeastOf, StandsAt}
-use Rattle.eos_summary.specs.steps.Faults.{earlier}
+use Rattle.eos_summary.specs.Earlier.{earlier}
 use Rattle.eos_summary.specs.steps.Summaries.{only, TakesFault}
 use Rattle.eos_summary.specs.steps.Joins.{Rest, Starts, IsTaking, closed, Pending, Done, Claims, IsTaken, Took}
 use Rattle.eos_summary.proofs.Waiting.{waiting_from-append, waiting_from-shift, waiting_from-settled}

@@ -7,4 +7,6 @@ pub mod Summaries
 pub mod NextMarker
 pub mod Pushes
 pub mod Whole
+pub mod Taken
+pub mod Earlier
 pub mod steps

@@ -2,7 +2,7 @@
 
 ghost use Rattle.std.specs.Prelude.{◌≡◌, ◌+◌, ◌<◌, ◌^◌, [], None, All, IfOk};
 ghost use Rattle.eos_summary.specs.Tables.{ends_in};
-ghost use Rattle.eos_summary.specs.steps.Tables.{IsJoined, HasRoom, AreEndsOf};
+ghost use Rattle.eos_summary.specs.Taken.{IsJoined, HasRoom, AreEndsOf};
 
 use crate::mark::{EndMark, mark_in};
 use crate::places::Places;
@@ -18,13 +18,13 @@ pub struct Ends {
     pub(crate) last: Option<(u64, Touch)>,
     /// Its first end marker.
     pub(crate) marker: Option<EndMark>,
-    /// The places of the run's items that wait for a marker of this id.
+    /// The places of the run's data batches that wait for a marker of this id.
     pub(crate) waiting: Places,
 }
 
 impl Ends {
     /// Of an id that has no touch.
-    pub(crate) fn blank(alloc: Global) -> Ends
+    pub fn blank(alloc: Global) -> Ends
         ensures first { result.first ≡ None }
         ensures last { result.last ≡ None }
         ensures marker { result.marker ≡ None }
@@ -39,7 +39,10 @@ impl Ends {
     }
 
     /// Of the id that a batch at this offset is of, in that batch alone.
-    pub(crate) fn of(
+    ///
+    /// # Errors
+    /// Only want of memory.
+    pub fn of(
         alloc: Global,
         offset: u64,
         is_data: bool,
@@ -65,8 +68,36 @@ impl Ends {
         })
     }
 
-    /// Takes over what comes after, in a run whose items begin after so many.
-    pub(crate) fn take_over(&mut self, after: Ends, by: usize)
+    /// The first touch, with its offset.
+    pub fn first(&self) -> Option<(u64, Touch)>
+        ensures { result ≡ self.now.first }
+    {
+        self.first
+    }
+
+    /// The last touch, with its offset.
+    pub fn last(&self) -> Option<(u64, Touch)>
+        ensures { result ≡ self.now.last }
+    {
+        self.last
+    }
+
+    /// The first end marker.
+    pub fn marker(&self) -> Option<EndMark>
+        ensures { result ≡ self.now.marker }
+    {
+        self.marker
+    }
+
+    /// The places of the run's data batches that wait for a marker of this id.
+    pub fn waiting(&self) -> &Places
+        ensures { result.now ≡ self.now.waiting }
+    {
+        &self.waiting
+    }
+
+    /// Takes over what comes after, in a run whose data batches begin after so many.
+    pub fn take_over(&mut self, after: Ends, by: usize)
         requires room { HasRoom self.old after }
         requires fits { All (λ p. p + by < 2 ^ 64) after.waiting.list }
         ensures { IsJoined by self.old after self.new }

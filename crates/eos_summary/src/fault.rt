@@ -3,7 +3,7 @@
 ghost use Rattle.std.specs.Prelude.{◌≡◌};
 ghost use Rattle.eos_touch.specs.Pair.{number_of};
 ghost use Rattle.eos_summary.specs.Faults.{IsLeastOf, StandsAt};
-ghost use Rattle.eos_summary.specs.steps.Faults.{earlier, earlier_of};
+ghost use Rattle.eos_summary.specs.Earlier.{earlier, earlier_of};
 
 use eos_touch::{PairFault, Touch, pair_ok};
 
@@ -32,7 +32,7 @@ fn earlier_of(a: Fault, b: Fault) -> Fault
 }
 
 /// The lesser one, by offset and then by kind.
-pub(crate) fn earlier(a: Option<Fault>, b: Option<Fault>) -> Option<Fault>
+pub fn earlier(a: Option<Fault>, b: Option<Fault>) -> Option<Fault>
     ensures { result ≡ earlier a b }
 {
     match (a, b) {
@@ -43,7 +43,7 @@ pub(crate) fn earlier(a: Option<Fault>, b: Option<Fault>) -> Option<Fault>
 }
 
 /// The fault at the first touch of an id in a run, after its last one in the run before.
-pub(crate) fn at_seam(
+pub fn at_seam(
     last: Option<(u64, Touch)>,
     first: Option<(u64, Touch)>,
     producer: i64,

@@ -33,7 +33,7 @@ pub(crate) fn mark_in(offset: u64, producer: i64, touch: Touch) -> Option<EndMar
 }
 
 /// The ending that a marker gives.
-pub(crate) fn ended(mark: EndMark) -> Ending
+pub fn ended(mark: EndMark) -> Ending
     ensures { result ≡ ended mark }
 {
     Ending::Ended {

@@ -39,13 +39,15 @@ impl Places {
         Ok(Places { items })
     }
 
-    pub(crate) fn len(&self) -> usize
+    /// How many there are.
+    pub fn len(&self) -> usize
         ensures { result ≡ length self.now.list }
     {
         self.items.len()
     }
 
-    pub(crate) fn as_slice(&self) -> &[usize]
+    /// The places, in ascending order.
+    pub fn as_slice(&self) -> &[usize]
         ensures { result.now ≡ self.now.list }
     {
         self.items.as_slice()

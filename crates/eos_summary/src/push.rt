@@ -15,7 +15,8 @@ ghost use Rattle.eos_batch.specs.Heads.{head_of};
 ghost use Rattle.eos_batch.specs.Rules.{IsProducerRight};
 
 use crate::ends::Ends;
-use crate::summary::{BatchSummary, make_room_for};
+use crate::summary::BatchSummary;
+use crate::table::make_room_for;
 use bytes::Bytes;
 use eos_batch::BatchFault;
 use eos_items::BatchHead;

@@ -12,7 +12,7 @@ use eos_items::LogIndex;
 use eos_touch::{Touch, pair_ok};
 
 /// The fault at the first touch of an id.
-fn at_first(first: Option<(u64, Touch)>, producer: i64, sequenced: bool) -> Option<Fault>
+pub fn at_first(first: Option<(u64, Touch)>, producer: i64, sequenced: bool) -> Option<Fault>
     ensures { IsLeastOf (λ offset id kind. (id ≡ producer) × StandsFirst sequenced first offset kind) result }
 {
     let (offset, next) = first?;
@@ -38,7 +38,7 @@ fn is_left_open(last: Option<(u64, Touch)>) -> bool
 }
 
 /// The least so far, or this id if it is less and its last touch is data of a transaction.
-fn lesser_open(least: Option<i64>, id: i64, last: Option<(u64, Touch)>) -> Option<i64>
+pub fn lesser_open(least: Option<i64>, id: i64, last: Option<(u64, Touch)>) -> Option<i64>
     ensures { IsLeastId (λ i. (least ≡ Some i) ⊎ ((i ≡ id) × IsLeftOpen last)) result }
 {
     if !is_left_open(last) {

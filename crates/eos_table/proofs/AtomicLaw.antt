@@ -109,7 +109,7 @@ has_one : {X : Type 0} (xs : List X) (x : X) → Has xs x → 1 ≤ length xs
 has_one [] x h = absurd h
 has_one (y ∷ ys) x h = omega arith
 
-once_from : (ds : List Decision) → ((producer epoch : ℤ) → 2 ≤ length (deciders ds producer epoch) → ⊥) → NoTwo AreOfOne ds
+pub once_from : (ds : List Decision) → ((producer epoch : ℤ) → 2 ≤ length (deciders ds producer epoch) → ⊥) → NoTwo AreOfOne ds
 once_from [] none = tt
 once_from (d ∷ ds) none = (first, once_from ds later)
   where

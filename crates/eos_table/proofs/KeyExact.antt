@@ -34,13 +34,13 @@ pair_exact x y e =
     joined : ℤ → ℤ → ℤ × ℤ
     joined a b = (a, b)
 
-close_total : IsTotalOrder close_cmp
+pub close_total : IsTotalOrder close_cmp
 close_total = then_total (on_total (λ c. c.producer) int_cmp_total) (then_total (on_total (λ c. c.epoch) int_cmp_total) (then_total (on_total (λ c. c.marker_epoch) int_cmp_total) (on_total (λ c. rank_of c.kind) nat_cmp_total)))
 
 abbrev close_from : ℤ → ℤ → ℤ → Kind → Close
 close_from p e m k = record { producer = p; epoch = e; marker_epoch = m; kind = k }
 
-close_exact : IsExact close_cmp
+pub close_exact : IsExact close_cmp
 close_exact x y e =
     let r = then_parts (int_cmp x.producer y.producer) _ e in
     let s = then_parts (int_cmp x.epoch y.epoch) _ r.1 in

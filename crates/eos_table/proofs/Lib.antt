@@ -20,3 +20,6 @@ pub mod MarksMore
 pub mod LogOrderly
 pub mod LogDoubled
 pub mod LogGathered
+pub mod WantedLists
+pub mod QuickLaw
+pub mod CloseWalks

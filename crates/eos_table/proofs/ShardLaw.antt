@@ -11,7 +11,7 @@ use Rattle.eos_table.specs.Shards.{InShard, StandsIn, IsAnswer, AreAnswers}
 use Rattle.eos_table.proofs.MatchOrder.{fault_total}
 
 -- each number has a shard
-shard_of : (n : ℕ) (z : ℤ) → 0 < n → (s : ℕ) × (s < n) × (int_rem_euclid z (pos n) ≡ pos s)
+pub shard_of : (n : ℕ) (z : ℤ) → 0 < n → (s : ℕ) × (s < n) × (int_rem_euclid z (pos n) ≡ pos s)
 shard_of n (pos a) l = (a % n, omega arith, refl)
 shard_of n (negsuc a) l = (n - 1 - a % n, omega arith, refl)
 

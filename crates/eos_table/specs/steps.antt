@@ -3,3 +3,4 @@ pub mod Candidates
 pub mod Keys
 pub mod LogCandidates
 pub mod OneShard
+pub mod Wanted

@@ -18,7 +18,7 @@ use eos_txnlog::Decision;
 use std::alloc::{AllocError, Global};
 
 /// The least that was decided twice.
-fn twice_found<'a>(keys: &[(i64, i16)]) -> Option<Found<'a>>
+pub(crate) fn twice_found<'a>(keys: &[(i64, i16)]) -> Option<Found<'a>>
     ensures { IsTwice keys.now (option_map plain result) }
 {
     match first_twice(keys) {

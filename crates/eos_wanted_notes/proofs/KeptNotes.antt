@@ -1,5 +1,6 @@
 -- Notes see of logs their applications, the partitions' names and ends, and commits, which are kept.
-use Rattle.std.proofs.Common.{◌≡◌, ℕ, Bool, true, false, List, [], ◌∷◌, ◌++◌, flat_map, Option, is_some, refl, ap, subst, ◌∙◌, inl, inr}
+use Rattle.std.proofs.Common.{◌≡◌, ℕ, Bool, true, false, List, [], ◌∷◌, ◌++◌, map, flat_map, Option, is_some, refl, ap, subst, ◌∙◌, inl, inr}
+use Rattle.eos_base.specs.declared.partition_name.PartitionName.{PartitionName}
 use Rattle.eos_base.specs.Members.{Has}
 use Rattle.eos_claims.specs.Outputs.{Application, Commit, committed_offset}
 use Rattle.eos_commits.specs.Faults.{AreInOrder}
@@ -14,9 +15,12 @@ use Rattle.eos_lineage.proofs.LogsInOrder.{in_order}
 use Rattle.eos_notes.specs.declared.note.Note.{Note}
 use Rattle.eos_notes.specs.CommitNotes.{AreUnlisted, AreUnlistedNotes, past_end_at, past_end_of, past_ends_in, past_ends, nothing_by, nothing_in, nothing_committed, behind_of, behind_in, behind}
 use Rattle.eos_notes.specs.ManifestNotes.{no_application, absent_topics, gaps, absent_internals}
-use Rattle.eos_notes.specs.Notes.{of_all, AreNotesBy, AreNotes}
-use Rattle.eos_notes.specs.Lines.{IsNotesTextBy, IsNotesText}
-use Rattle.eos_notes.proofs.Whole.{notes_are}
+use Rattle.eos_notes.specs.ReplicaNotes.{falls}
+use Rattle.eos_notes.specs.Notes.{of_all, AreNotesBy, AreNotes, AreAllNotesBy, AreAllNotes}
+use Rattle.eos_notes.specs.Lines.{IsNotesTextBy, IsNotesText, IsAllNotesTextBy, IsAllNotesText}
+use Rattle.eos_notes.proofs.Whole.{notes_are, all_are}
+use Rattle.eos_part.specs.Parts.{HaveEpochs}
+use Rattle.eos_reading.specs.declared.epoch.EpochEntry.{EpochEntry}
 use Rattle.eos_partitions.specs.Faults.{AreFaultsIn, first_of}
 use Rattle.eos_touch.specs.declared.fault.PartitionFault.{PartitionFault}
 use Rattle.eos_wanted.specs.Wanted.{kept_log, wanted_logs}
@@ -76,6 +80,23 @@ pub whole_text : (e : EvidenceParts) (ls : List PartLog) (fs : List (Option Part
     → IsNotesTextBy e.spec (wanted_logs e.spec.apps ls) (is_some (first_of fs)) quiet text → IsNotesText e quiet text
 whole_text e ls fs true text of named by = by
 whole_text e ls fs false text of named by = (by.0, whole_notes e ls fs by.0 of named by.1, by.2)
+
+-- ---- with those of replicas
+
+names_kept : (apps : List App) (ps : List PartLog) → map part_name (wanted_logs apps ps) ≡ map part_name ps
+names_kept apps [] = refl
+names_kept apps (p ∷ ps) = ap (λ (ns : List PartitionName). part_name p ∷ ns) (names_kept apps ps)
+
+pub whole_all : (e : EvidenceParts) (ls : List PartLog) (fs : List (Option PartitionFault)) (epochs : List (List EpochEntry)) (notes : List Note) → AreLogsOf e.partitions ls → AreFaultsIn e.partitions fs → HaveEpochs e.partitions epochs
+    → AreAllNotesBy e.spec (wanted_logs e.spec.apps ls) epochs (is_some (first_of fs)) notes → AreAllNotes e notes
+whole_all e ls fs epochs notes of named have by =
+    all_are e ls fs epochs notes of named have
+    (by.0, notes_kept e.spec ls (is_some (first_of fs)) by.0 by.1, by.2 ∙ ap (λ (names : List PartitionName). by.0 ++ falls names epochs) (names_kept e.spec.apps ls))
+
+pub whole_all_text : (e : EvidenceParts) (ls : List PartLog) (fs : List (Option PartitionFault)) (epochs : List (List EpochEntry)) (quiet : Bool) (text : List ℕ) → AreLogsOf e.partitions ls → AreFaultsIn e.partitions fs
+    → HaveEpochs e.partitions epochs → IsAllNotesTextBy e.spec (wanted_logs e.spec.apps ls) epochs (is_some (first_of fs)) quiet text → IsAllNotesText e quiet text
+whole_all_text e ls fs epochs true text of named have by = by
+whole_all_text e ls fs epochs false text of named have by = (by.0, whole_all e ls fs epochs by.0 of named have by.1, by.2)
 
 pub kept_in_order : (e : EvidenceParts) (ls : List PartLog) → IsEvidence e → AreLogsOf e.partitions ls → AreInOrder (wanted_logs e.spec.apps ls)
 kept_in_order e ls is of = (all_kept e.spec.apps ls).1 (in_order e ls is of)

@@ -9,10 +9,12 @@ ghost use Rattle.eos_evidence.specs.Parts.{Parts};
 ghost use Rattle.eos_evidence.specs.declared.application.App.{App};
 ghost use Rattle.eos_fold.specs.Parts.{PartLog};
 ghost use Rattle.eos_lineage.specs.EvidenceLogs.{AreLogsOf};
-ghost use Rattle.eos_notes.specs.Lines.{IsNotesTextBy, IsNotesText};
-ghost use Rattle.eos_notes.specs.Notes.{AreNotesBy, AreNotes};
+ghost use Rattle.eos_notes.specs.Lines.{IsNotesTextBy, IsNotesText, IsAllNotesTextBy, IsAllNotesText};
+ghost use Rattle.eos_notes.specs.Notes.{AreNotesBy, AreNotes, AreAllNotesBy, AreAllNotes};
 ghost use Rattle.eos_notes.specs.declared.note.Note.{Note};
+ghost use Rattle.eos_part.specs.Parts.{HaveEpochs};
 ghost use Rattle.eos_partitions.specs.Faults.{AreFaultsIn, first_of};
+ghost use Rattle.eos_reading.specs.declared.epoch.EpochEntry.{EpochEntry};
 ghost use Rattle.eos_tallies.specs.Counts.{AreCounted};
 ghost use Rattle.eos_tallies.specs.Tallies.{AreTallies};
 ghost use Rattle.eos_tallies.specs.TalliesByLogs.{tallies_by};
@@ -21,7 +23,7 @@ ghost use Rattle.eos_touch.specs.declared.fault.PartitionFault.{PartitionFault};
 ghost use Rattle.eos_wanted.specs.Wanted.{wanted_logs};
 
 /// Notes by kept logs are those by the logs, and with the faults of an evidence's partitions they are the evidence's; so is their
-/// text.
+/// text. So it is of all notes, with the entries of its partitions' leader epochs.
 pub fn notes()
     ensures logs { (spec : Parts) (logs : List PartLog) (faulty : Bool) (notes : List Note)
         → AreNotesBy spec (wanted_logs spec.apps logs) faulty notes → AreNotesBy spec logs faulty notes }
@@ -31,6 +33,12 @@ pub fn notes()
     ensures text { (e : EvidenceParts) (logs : List PartLog) (faults : List (Option PartitionFault)) (quiet : Bool) (text : List ℕ)
         → AreLogsOf e.partitions logs → AreFaultsIn e.partitions faults
         → IsNotesTextBy e.spec (wanted_logs e.spec.apps logs) (is_some (first_of faults)) quiet text → IsNotesText e quiet text }
+    ensures all { (e : EvidenceParts) (logs : List PartLog) (faults : List (Option PartitionFault)) (epochs : List (List EpochEntry)) (notes : List Note)
+        → AreLogsOf e.partitions logs → AreFaultsIn e.partitions faults → HaveEpochs e.partitions epochs
+        → AreAllNotesBy e.spec (wanted_logs e.spec.apps logs) epochs (is_some (first_of faults)) notes → AreAllNotes e notes }
+    ensures all_text { (e : EvidenceParts) (logs : List PartLog) (faults : List (Option PartitionFault)) (epochs : List (List EpochEntry)) (quiet : Bool) (text : List ℕ)
+        → AreLogsOf e.partitions logs → AreFaultsIn e.partitions faults → HaveEpochs e.partitions epochs
+        → IsAllNotesTextBy e.spec (wanted_logs e.spec.apps logs) epochs (is_some (first_of faults)) quiet text → IsAllNotesText e quiet text }
     ensures order { (e : EvidenceParts) (logs : List PartLog) → IsEvidence e → AreLogsOf e.partitions logs → AreInOrder (wanted_logs e.spec.apps logs) }
 {}
 

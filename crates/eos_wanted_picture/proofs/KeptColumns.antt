@@ -11,10 +11,11 @@ use Rattle.eos_table.specs.TransactionLog.{State, Unskipped, nothing, content_of
 use Rattle.eos_picture.specs.declared.mark.Column.{Column}
 use Rattle.eos_picture.specs.declared.mark.Picture.{Picture}
 use Rattle.eos_picture.specs.Transactions.{column_at, decided_in, undecided_column, AreColumns}
-use Rattle.eos_picture.specs.Window.{IsOnly, IsOfRecordAt, IsWindow}
+use Rattle.eos_picture.specs.Window.{named_by, IsOnly, IsOfRecordAt, IsWindow}
 use Rattle.eos_wanted.specs.Wanted.{wanted_item, wanted_of, kept_log, wanted_logs}
 use Rattle.eos_wanted.specs.declared.wanted.Wanted.TheVariants.{Texts}
 use Rattle.eos_wanted_picture.proofs.SeenSame.{flat_seen}
+use Rattle.eos_wanted_picture.proofs.KeptStandings.{shown_kept}
 use Rattle.eos_wanted_picture.proofs.KeptTexts.{offset_kept, writer_kept, transactions_kept}
 
 -- ---- the transactions
@@ -73,6 +74,6 @@ window_kept apps ps fault around picture h = record {
     of = λ f at is place. record_kept apps ps h.every h.middle at (h.of_fault.of f at is place);
     none = h.of_fault.none;
   };
-  before = h.before;
+  places = shown_kept apps ps h.every (named_by fault) h.middle around picture.places.items h.places;
   shown = h.shown;
 }

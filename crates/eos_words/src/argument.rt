@@ -17,8 +17,6 @@ pub(crate) struct Argument {
 pub(crate) enum Presence {
     Required,
     Optional,
-    /// Not this one; but where it stands, this other one has to.
-    With(&'static str),
     /// Not this one; and beside it none of these may stand, of which one that has to be there may then be left out.
     Without(&'static [&'static str]),
 }

@@ -8,6 +8,9 @@ const READINGS: &[&str] = &["outputs", "transactions", "offsets"];
 /// What goes with a folder, and not with a code.
 const EXPLAINED: &[&str] = &["fault", "workers", "folder"];
 
+/// What goes with segments that are folded, and not with folds that are compared.
+const FOLDED: &[&str] = &["manifest", "out"];
+
 const WORKERS: Argument = Argument {
     name: "workers",
     help: "How many threads work at most, 1 to 64, or 4; same answer",
@@ -36,7 +39,7 @@ const ONE_FOLDER: Argument = Argument {
     form: Form::Alone("FOLDER"),
 };
 
-static CHECK_ARGUMENTS: [Argument; 10] = [
+static CHECK_ARGUMENTS: [Argument; 11] = [
     WORKERS,
     Argument {
         name: "json",
@@ -69,9 +72,15 @@ static CHECK_ARGUMENTS: [Argument; 10] = [
         form: Form::Valued("FILE", ValueParser::NonEmptyString),
     },
     Argument {
+        name: "page",
+        help: "Writes what was found to this new file, for people; one FOLDER",
+        presence: Presence::Optional,
+        form: Form::Valued("FILE", ValueParser::NonEmptyString),
+    },
+    Argument {
         name: "force",
-        help: "Writes the report over a file that is there",
-        presence: Presence::With("report"),
+        help: "Writes the report or the page over a file that is there",
+        presence: Presence::Optional,
         form: Form::Flag,
     },
     Argument {
@@ -216,7 +225,13 @@ pub(crate) fn init_arguments() -> &'static [Argument] {
     INIT_ARGUMENTS.as_slice()
 }
 
-static FOLD_ARGUMENTS: [Argument; 3] = [
+static FOLD_ARGUMENTS: [Argument; 4] = [
+    Argument {
+        name: "verify",
+        help: "Compares the folds in FOLDER with logs, and writes none",
+        presence: Presence::Without(FOLDED),
+        form: Form::Valued("FOLDER", ValueParser::NonEmptyString),
+    },
     Argument {
         name: "manifest",
         help: "The manifest by which `check` will read the folds",
@@ -231,7 +246,7 @@ static FOLD_ARGUMENTS: [Argument; 3] = [
     },
     Argument {
         name: "folder",
-        help: "The folder of a partition, or several",
+        help: "The folder of a partition, or of logs; or several",
         presence: Presence::Required,
         form: Form::Several("TOPIC-N"),
     },

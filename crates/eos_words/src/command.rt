@@ -6,7 +6,7 @@ use crate::demands::read_demands;
 use crate::help::{ABOUT, CHECK_ANSWERS, STATUSES};
 use crate::request::{
     Answer, Check, Coordinator, Draw, Explain, Fold, Init, Listing, NoRequest, Request, Simulation,
-    Sizes, Thousandths,
+    Sizes, Thousandths, Verify,
 };
 use crate::subcommands::Subcommand;
 use clap::builder::ValueParser;
@@ -145,7 +145,6 @@ fn make_argument<'a>(alloc: Global, it: &Argument) -> Result<Arg<'a>, AllocError
     match it.presence {
         Presence::Required => Ok(argument.required(true)),
         Presence::Optional => Ok(argument),
-        Presence::With(other) => argument.requires_arg(other),
         Presence::Without(others) => argument.conflicts_with_all(others),
     }
 }
@@ -231,6 +230,7 @@ fn read_check<'a>(
         quiet: inner.get_flag("quiet"),
         progress: inner.get_flag("progress"),
         report: inner.get_str("report"),
+        page: inner.get_str("page"),
         force: inner.get_flag("force"),
         demands: read_demands(inner.get_flag("strict"), expected.as_slice()),
         folders: folders.to_vec(alloc)?,
@@ -302,6 +302,12 @@ fn read_coordinator<'a>(
 }
 
 fn read_fold<'a>(alloc: Global, inner: &ArgMatches<'a>) -> Result<Option<Request<'a>>, AllocError> {
+    if let Some(folder) = inner.get_str("verify") {
+        return Ok(Some(Request::Verify(Verify {
+            folder,
+            logs: read_all(alloc, inner, "folder")?,
+        })));
+    }
     let Some(manifest) = inner.get_str("manifest") else {
         return Ok(None);
     };

@@ -33,7 +33,8 @@ it is told there, at most four times a second, how many segments and bytes were
 read and summarised, and at the end how many seconds each stage took.
 
 `no PHASE.KIND NAME ..` (status 1) names the first fault; a phase counts only
-where those before it have none. With --json the same stands in an object.
+where those before it have none. With --json the same stands in an object, and
+as `fields` what the fault is, by the members that it has in a report.
 `eoscheck explain FOLDER` tells where it comes from in the logs, and
 `eoscheck explain --code PHASE.KIND` what makes it happen.
 
@@ -61,10 +62,18 @@ not where there is no verdict. With --report - the report is all that stands on
 standard output, and the lines of the verdict are on standard error. --report
 goes with one FOLDER.
 
+With --page FILE the same is written to FILE for people, as one page of HTML
+that needs nothing else and has no script, to attach to what is said of an
+incident: the verdict in words, the notes, how many faults there are of each
+kind, the first ten of them, and how much each partition holds and how far each
+group has got. With --all it counts all faults, else it has the first alone. A
+byte of a name that is no letter of ASCII stands in it as %XX. FILE is treated
+as that of --report, may not be the same, and may not be -.
+
 With --force the report is written as FILE.whole, then what stands at FILE is
-taken away and the report gets its name. A run that is killed between these two
-leaves FILE.whole, which the next one doesn't touch. A folder, a pipe, a device
-and what lies in /dev are not written over.
+taken away and the report gets its name; likewise the page. A run that is killed
+between these two leaves FILE.whole, which the next one doesn't touch. A folder,
+a pipe, a device and what lies in /dev are not written over.
 
 Examples:
   eoscheck check FOLDER
@@ -73,6 +82,7 @@ Examples:
   eoscheck check --quiet --strict --expect inputs=100000 FOLDER || exit
   eoscheck check --progress --report report.json --force FOLDER
   eoscheck check --report - FOLDER 2> lines | jq .counts
+  eoscheck check --all --page incident.html FOLDER
 ";
 
 pub(crate) const STATUSES: &str = "Exit status:
@@ -233,10 +243,11 @@ pub(crate) const DRAW: &str =
     "Draws the transactions around a fault of an evidence, as an SVG file";
 
 pub(crate) const DRAW_SHOWS: &str =
-    "A column is a transaction, in the order of the Prepare records; a row is a
-partition; a cell has the transaction's records by offset and its end marker,
-and in the rows of its inputs the offsets that its commit passed. The places of
-the fault are in red. Without a fault the first transactions are drawn.
+    "A column is a transaction, a row a partition; a cell has the transaction's
+records by offset and its end marker, and in the rows of its inputs the offsets
+that its commit passed. The places of the fault are in red. Beside the fault's
+transaction stand those that share a partition with it, in the order of that
+partition's log. Without a fault the first transactions are drawn.
 
 FILE.svg must not be there; it is written whole or not at all. The program
 prints `drew columns=N rows=M`; the exit status is that of `check`: 0 yes, 1 a
@@ -299,6 +310,9 @@ Examples:
 pub(crate) const FOLD: &str =
     "Folds segments where they lie, so that `check` needs no copies of them";
 
+pub(crate) const FOLD_USAGE: &str = "eoscheck fold [OPTIONS] --manifest <FILE> <TOPIC-N>...
+       eoscheck fold --verify <FOLDER> <LOGS>...";
+
 pub(crate) const FOLD_WRITES: &str =
     "The path TOPIC-N ends with the name of a partition, which FILE has in its
 `ends`. Each segment in it, a file of 20 digits and `.log`, is read once, and
@@ -324,7 +338,23 @@ source topics than those of its manifest. `explain` and `init` read records,
 which a fold doesn't have: they need the logs; and to list all faults of a
 partition by itself, so does `check --all`.
 
+With --verify FOLDER nothing is written. Each fold in FOLDER, which has its
+evidence.json, is compared with the log TOPIC-N/BASE.log in the first of the
+folders LOGS that has it: by the same manifest that log is folded again, and the
+bytes have to be the same. Of each fold that differs stands a line, and behind
+them their numbers:
+
+  stale PATH   it is the fold of a front of the log, which was written on since
+  forged PATH  it is neither the log's fold nor one of a front of it
+  compared right=R stale=S forged=F unmatched=U
+               the log of U folds is in none of LOGS
+
+The status is 0 where R is not 0 and S and F are, 1 where a fold differs, and 2
+where none was compared or a file cannot be read. So a few partitions' logs are
+enough for a sample; of the folds without a log nothing is said.
+
 Examples:
   eoscheck fold --manifest evidence.json --out folds logs/in-0 logs/out-0
   cp evidence.json folds
-  eoscheck check folds";
+  eoscheck check folds
+  eoscheck fold --verify folds logs";

@@ -22,6 +22,8 @@ pub enum Request<'a> {
     Init(Init<'a>),
     /// Write the folds of segments.
     Fold(Fold<'a>),
+    /// Compare folds with logs.
+    Verify(Verify<'a>),
     /// Print which partition of Kafka's own two topics names have.
     Coordinator(Coordinator<'a>),
 }
@@ -73,7 +75,9 @@ pub struct Check<'a> {
     pub progress: bool,
     /// The file that is made of the report, if one is wanted.
     pub report: Option<&'a str>,
-    /// Whether that file may be there, and is then written over.
+    /// The file that is made of the page, if one is wanted.
+    pub page: Option<&'a str>,
+    /// Whether these files may be there, and are then written over.
     pub force: bool,
     /// What has to hold of a yes; or the word that says no such thing.
     pub demands: Result<Demands, &'a str>,
@@ -173,6 +177,15 @@ pub struct Fold<'a> {
     pub out: &'a str,
     /// The folders of the partitions in the order given, at least one, none of them the empty text.
     pub folders: Vec<&'a str>,
+}
+
+/// Which folds are compared with which logs.
+#[derive(Drop)]
+pub struct Verify<'a> {
+    /// The folder of the folds, which has their manifest.
+    pub folder: &'a str,
+    /// The folders of the logs in the order given, at least one, none of them the empty text.
+    pub logs: Vec<&'a str>,
 }
 
 /// Of which groups or transactional ids the partition is asked, and of how many partitions the topic is.

@@ -7,7 +7,8 @@ use crate::arguments::{
 };
 use crate::help::{
     CHAIN, CHAIN_ANSWERS, CHECK, COORDINATOR, COORDINATOR_PRINTS, DRAW, DRAW_SHOWS, DUMP,
-    DUMP_COLUMNS, EXPLAIN, EXPLAIN_SAYS, EXPLAIN_USAGE, FOLD, FOLD_WRITES, INIT, INIT_WRITES,
+    DUMP_COLUMNS, EXPLAIN, EXPLAIN_SAYS, EXPLAIN_USAGE, FOLD, FOLD_USAGE, FOLD_WRITES, INIT,
+    INIT_WRITES,
 };
 use crate::naming::coordinator_arguments;
 use crate::simulating::{SIMULATE, SIMULATE_WRITES, simulate_arguments};
@@ -60,6 +61,7 @@ impl Subcommand {
     pub(crate) fn usage<'a>(self) -> Option<&'a str> {
         match self {
             Subcommand::Explain => Some(EXPLAIN_USAGE),
+            Subcommand::Fold => Some(FOLD_USAGE),
             _ => None,
         }
     }

@@ -3,6 +3,7 @@
 use eos_checking::check_words;
 use eos_commands::{
     answer_segment, explain_code, fold_partitions, init_folder, print_coordinators,
+    verify_partitions,
 };
 use eos_drawing::draw_folder;
 use eos_ending::{Ending, STANDARD, end};
@@ -65,6 +66,7 @@ fn act(rt: &HostRuntime, threads: &(impl Threads + Wait + Sync), request: Reques
         Request::Story(words) => explain_folder(rt, threads, &words),
         Request::Simulate(words) => simulate_folder(rt, &words),
         Request::Fold(words) => fold_partitions(rt, &words),
+        Request::Verify(words) => verify_partitions(rt, words.folder, words.logs.as_slice()),
         Request::Init(words) => init_folder(rt, &words),
         Request::Coordinator(words) => print_coordinators(rt, &words),
     }

@@ -1,5 +1,5 @@
 -- What is told of a verdict and of logs, whole or kept ones, whatever evidence they are of.
-use Rattle.std.specs.Prelude.{◌≡◌, ℕ, List, [], ◌∷◌, length, ◌==◌, Bool, true, not, Option, None, Some, is_some, string_bytes, option_map}
+use Rattle.std.specs.Prelude.{◌≡◌, ℕ, List, [], ◌∷◌, length, ◌==◌, Bool, true, not, Option, None, Some, is_some, string_bytes}
 use Rattle.eos_ending.specs.declared.subject.Subject.{Subject}
 use Rattle.eos_ending.specs.Subjects.{subject_text}
 use Rattle.eos_check.specs.declared.verdict.Fault.{Fault}
@@ -8,29 +8,30 @@ use Rattle.eos_check.specs.declared.verdict.Verdict.TheVariants.{Yes, No}
 use Rattle.eos_commits.specs.Faults.{AreInOrder}
 use Rattle.eos_evidence.specs.Evidence.{EvidenceParts}
 use Rattle.eos_evidence.specs.Parts.{Parts}
-use Rattle.eos_json_report.specs.declared.about.About.{About}
-use Rattle.eos_json_report.specs.Reports.{IsReportText}
 use Rattle.eos_notes.specs.declared.note.Note.{Note}
-use Rattle.eos_notes.specs.Lines.{IsNotesTextBy}
-use Rattle.eos_notes.specs.Notes.{AreNotesBy}
+use Rattle.eos_notes.specs.Lines.{IsAllNotesTextBy}
+use Rattle.eos_notes.specs.Notes.{AreAllNotesBy}
 use Rattle.eos_partitions.specs.Faults.{first_of}
 use Rattle.eos_source_check.specs.declared.judged.Judged.{Judged}
 use Rattle.eos_tallies.specs.TalliesByLogs.{tallies_by}
 use Rattle.eos_source.specs.Said.{Known}
 use Rattle.eos_source_faults.specs.Listed.{IsListOf}
 use Rattle.eos_fold.specs.Parts.{PartLog}
+use Rattle.eos_reading.specs.declared.epoch.EpochEntry.{EpochEntry}
 use Rattle.eos_words.specs.declared.demands.Demands.{Demands}
-use Rattle.eos_checking.specs.Checking.{answer_text}
+use Rattle.eos_checking.specs.Checking.{AreMade, answer_text}
 use Rattle.eos_checking.specs.Demands.{exit_status, unmet_text}
+use Rattle.eos_checking.specs.declared.check.Made.{Made}
+use Rattle.eos_checking.specs.declared.check.Wanted.{Wanted}
 use Rattle.eos_checking.specs.declared.terms.Terms.{Terms}
 use Rattle.eos_checking.specs.declared.report.Told.{Told}
 use Rattle.eos_checking.specs.declared.source.SourceAnswer.{SourceAnswer}
 
--- the report of these, by the notes and the tables over the logs
-pub record IsReportBy (told : Told) (about : About) (text : List ℕ) : Type 0 where
+-- the report and the page of these, by the notes and the tables over the logs
+pub record IsReportBy (told : Told) (wanted : Wanted) (made : Made) : Type 0 where
   pub notes : List Note
-  pub by : AreNotesBy told.spec.now told.logs.now.parts.items (is_some (first_of told.logs.now.faults.items)) notes
-  pub says : IsReportText about told.verdict.now told.faults.now notes (tallies_by told.spec.now.apps told.logs.now.parts.items told.logs.now.faults.items told.counted.now) text
+  pub by : AreAllNotesBy told.spec.now told.logs.now.parts.items told.epochs.now (is_some (first_of told.logs.now.faults.items)) notes
+  pub says : AreMade wanted told.verdict.now told.faults.now notes (tallies_by told.spec.now.apps told.logs.now.parts.items told.logs.now.faults.items told.counted.now) made
 
 -- the fault that a verdict names
 abbrev pub first_alone : Verdict → List Fault
@@ -42,30 +43,30 @@ abbrev pub AreListed : (ℕ → Known) → EvidenceParts → Judged → Verdict 
 AreListed known shape judged (Yes counts) faults = faults ≡ []
 AreListed known shape judged (No first) faults = IsListOf known shape judged.logs faults
 
--- whether a note stands, by the manifest, the logs, and whether one of these has a fault
-pub record IsNotedBy (spec : Parts) (logs : List PartLog) (faulty : Bool) (noted : Bool) : Type 0 where
+-- whether a note stands, by the manifest, the logs, the entries of their leader epochs, and whether one of them has a fault
+pub record IsNotedBy (spec : Parts) (logs : List PartLog) (epochs : List (List EpochEntry)) (faulty : Bool) (noted : Bool) : Type 0 where
   pub notes : List Note
-  pub by : AreNotesBy spec logs faulty notes
+  pub by : AreAllNotesBy spec logs epochs faulty notes
   pub is : noted ≡ not (length notes == 0)
 
 -- the exit status of what was judged, of whose yes this is demanded
 pub record ExitsBy (spec : Parts) (judged : Judged) (demands : Demands) (status : ℕ) : Type 0 where
   pub noted : Bool
-  pub notes : demands.strict ≡ true → IsNotedBy spec judged.logs.parts.items (is_some (first_of judged.logs.faults.items)) noted
+  pub notes : demands.strict ≡ true → IsNotedBy spec judged.logs.parts.items judged.epochs.items (is_some (first_of judged.logs.faults.items)) noted
   pub is : status ≡ exit_status demands judged.verdict noted
 
--- the report of what was judged, with these faults, or none where none is wanted
-abbrev pub ReportsOf : Parts → Judged → List Fault → Option About → Option (List ℕ) → Type 0
-ReportsOf spec judged faults None text = text ≡ None
-ReportsOf spec judged faults (Some about) None = ⊥
-ReportsOf spec judged faults (Some about) (Some text) =
+-- the report and the page of what was judged, with these faults, or none where none is wanted
+abbrev pub ReportsOf : Parts → Judged → List Fault → Option Wanted → Option Made → Type 0
+ReportsOf spec judged faults None made = made ≡ None
+ReportsOf spec judged faults (Some wanted) None = ⊥
+ReportsOf spec judged faults (Some wanted) (Some made) =
     (told : Told) × (told.spec.now ≡ spec) × (told.logs.now ≡ judged.logs) × (told.counted.now ≡ judged.counted.items)
-    × (told.verdict.now ≡ judged.verdict) × (told.faults.now ≡ faults) × IsReportBy told about text
+    × (told.epochs.now ≡ judged.epochs.items) × (told.verdict.now ≡ judged.verdict) × (told.faults.now ≡ faults) × IsReportBy told wanted made
 
 -- what is told of what was judged, with these faults, which are all or the first alone
-pub record TellsOf (spec : Parts) (judged : Judged) (faults : List Fault) (subject : Subject) (json all quiet : Bool) (terms : Terms) (about : Option About) (answer : SourceAnswer) : Type 0 where
+pub record TellsOf (spec : Parts) (judged : Judged) (faults : List Fault) (subject : Subject) (json all quiet : Bool) (terms : Terms) (about : Option Wanted) (answer : SourceAnswer) : Type 0 where
   pub lines : string_bytes answer.lines ≡ answer_text (subject_text subject) json all judged.verdict faults
   pub status : AreInOrder judged.logs.parts.items → ExitsBy spec judged terms.demands answer.status
   pub unmet : string_bytes answer.unmet ≡ unmet_text terms judged.verdict
-  pub notes : AreInOrder judged.logs.parts.items → IsNotesTextBy spec judged.logs.parts.items (is_some (first_of judged.logs.faults.items)) quiet (string_bytes answer.notes)
-  pub report : AreInOrder judged.logs.parts.items → ReportsOf spec judged faults about (option_map string_bytes answer.report)
+  pub notes : AreInOrder judged.logs.parts.items → IsAllNotesTextBy spec judged.logs.parts.items judged.epochs.items (is_some (first_of judged.logs.faults.items)) quiet (string_bytes answer.notes)
+  pub report : AreInOrder judged.logs.parts.items → ReportsOf spec judged faults about answer.report

@@ -1,6 +1,6 @@
 -- Going along a front's heads beside the entries of its leader epochs.
 use Rattle.std.specs.Prelude.{ℕ, ℤ, List, [], ◌∷◌, Option, Some, None, ◌==◌, if◌then◌else◌}
-use Rattle.eos_fold_file.specs.declared.epoch.EpochEntry.{EpochEntry}
+use Rattle.eos_reading.specs.declared.epoch.EpochEntry.{EpochEntry}
 
 -- the epoch of the next entry, where it begins here
 abbrev pub begun : ℕ → List EpochEntry → Option ℤ

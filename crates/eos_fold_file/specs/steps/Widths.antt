@@ -3,7 +3,7 @@ use Rattle.std.specs.Prelude.{List, FitsSigned, length, ⊤}
 use Rattle.std.specs.Int.{w16, w32, w64}
 use Rattle.eos_fold.specs.declared.stop.Stop.{Stop}
 use Rattle.eos_fold.specs.declared.stop.Stop.TheVariants.{AtEnd, NoBatch, Elsewhere}
-use Rattle.eos_fold_file.specs.declared.epoch.EpochEntry.{EpochEntry}
+use Rattle.eos_reading.specs.declared.epoch.EpochEntry.{EpochEntry}
 use Rattle.eos_fold_file.specs.declared.file.FoldFile.{FoldFile}
 use Rattle.eos_fold_file.specs.declared.file.FoldKept.{FoldKept}
 use Rattle.eos_fold_file.specs.declared.file.FoldKept.TheVariants.{Presence, Claims, Texts}

@@ -6,7 +6,7 @@ use Rattle.eos_touch.specs.Front.{records_in, ContinuesFrom}
 use Rattle.eos_fold.specs.declared.stop.Stop.{Stop}
 use Rattle.eos_fold.specs.declared.stop.Stop.TheVariants.{AtEnd, NoBatch, Elsewhere}
 use Rattle.eos_fold.specs.Fronts.{StopsAt}
-use Rattle.eos_fold_file.specs.Epochs.{epoch_entries}
+use Rattle.eos_reading.specs.Epochs.{epoch_entries}
 use Rattle.eos_fold_file.specs.Folds.{HasFoldHeads, checksums_in}
 use Rattle.eos_fold_file.specs.Legal.{IsRightStop}
 use Rattle.eos_wire.specs.Crc.{crc32c_of}

@@ -2,8 +2,8 @@
 use Rattle.std.specs.Prelude.{ℕ, List}
 use Rattle.eos_batch.specs.declared.record.Record.{Record}
 use Rattle.eos_reading.specs.Folds.{FoldView, IsFold, FoldedView, IsFolded}
-use Rattle.eos_folding.specs.declared.seals.Seal.{Seal}
-use Rattle.eos_folding.specs.steps.Seals.{AreSeals}
+use Rattle.eos_reading.specs.declared.seals.Seal.{Seal}
+use Rattle.eos_reading.specs.Seals.{AreSeals}
 
 pub record SealingView (K : Type 0) : Type 0 where
   pub fold : FoldView K

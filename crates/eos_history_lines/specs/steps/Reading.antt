@@ -15,7 +15,9 @@ use Rattle.eos_machine.specs.Switching.{switch_name}
 use Rattle.eos_machine.specs.declared.config.Config.{Config}
 use Rattle.eos_history_lines.specs.declared.line.Head.{Head}
 use Rattle.eos_history_lines.specs.declared.line.Deed.{Deed}
-use Rattle.eos_history_lines.specs.declared.line.Deed.TheVariants.{Asked, Set}
+use Rattle.eos_history_lines.specs.declared.line.Deed.TheVariants.{Asked, Set, Noted}
+use Rattle.eos_history_lines.specs.declared.line.Note.{Note}
+use Rattle.eos_history_lines.specs.declared.line.Note.TheVariants as notes
 use Rattle.eos_history_lines.specs.declared.line.Line.{Line}
 use Rattle.eos_history_lines.specs.declared.line.Tail.{Tail}
 use Rattle.eos_history_lines.specs.declared.line.Row.{Row}
@@ -194,12 +196,25 @@ head_in d =
 abbrev pub asked_in : Data → Option Deed
 asked_in d = option_and_then (λ reply. option_map (λ event. Asked event reply) (event_in d)) (reply_in d)
 
+abbrev pub note_called : List ℕ → Data → Option Note
+note_called word d =
+    if bytes_eq word (codes "lost") then option_map (λ m. notes.Lost m) (count_in (codes "message") d)
+    else (if bytes_eq word (codes "repeated") then option_map (λ m. notes.Repeated m) (count_in (codes "message") d)
+    else (if bytes_eq word (codes "mishap") then option_map (λ t. notes.Erred t) (text_in (codes "mishap") d) else None))
+
+abbrev pub note_said : Data → Data → Option Note
+note_said said d = option_and_then (λ word. note_called word d) (as_str said)
+
 abbrev pub deed_from : Option Data → Data → Option Deed
 deed_from None d = asked_in d
 deed_from (Some said) d = option_map (λ ds. Set (switches_in ds)) (as_array said)
 
+abbrev pub deed_of : Option Data → Data → Option Deed
+deed_of None d = deed_from (get (codes "set") d) d
+deed_of (Some said) d = option_map (λ n. Noted n) (note_said said d)
+
 abbrev pub deed_in : Data → Option Deed
-deed_in d = deed_from (get (codes "set") d) d
+deed_in d = deed_of (get (codes "note") d) d
 
 abbrev pub line_in : Data → Option Line
 line_in d = option_and_then (λ n. option_map (λ deed. record { number = n; deed = deed }) (deed_in d)) (count_in (codes "number") d)

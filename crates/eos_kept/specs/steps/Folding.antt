@@ -1,5 +1,5 @@
 -- A segment's front as far as its bytes were fed.
-use Rattle.std.specs.Prelude.{◌≡◌, ◌≢◌, ◌⊎◌, ℕ, ◌+◌, Bool, List, length, Err}
+use Rattle.std.specs.Prelude.{◌≡◌, ◌≢◌, ◌⊎◌, ℕ, ◌+◌, Bool, List, length, None, Err}
 use Rattle.eos_batch.specs.declared.batch.Batch.{Batch}
 use Rattle.eos_batch.specs.declared.record.Record.{Record}
 use Rattle.eos_batch.specs.declared.fault.BatchFault.TheVariants as faults
@@ -9,13 +9,17 @@ use Rattle.eos_batch.specs.Segment.{Splits}
 use Rattle.eos_fold.specs.declared.stop.Stop.{Stop}
 use Rattle.eos_fold.specs.declared.stop.Stop.TheVariants.{AtEnd, NoBatch, Elsewhere}
 use Rattle.eos_fold.specs.Fronts.{StopsAt}
+use Rattle.eos_reading.specs.declared.epoch.EpochEntry.{EpochEntry}
+use Rattle.eos_reading.specs.Epochs.{epoch_entries}
 use Rattle.eos_reading.specs.Kept.{kept_of}
 use Rattle.eos_kept.specs.declared.front.Front.{Front}
 use Rattle.eos_kept.specs.Passing.{GoesAlong}
 
--- the front, what is kept of its data records, and how many bytes were taken: up to its last batch, or behind its end all
+-- the front, the leader epochs of its batches, what is kept of their data records, and how many bytes were taken: up to the last
+-- batch, or behind the front's end all
 pub record FoldView (K : Type 0) : Type 0 where
   pub front : Front
+  pub epochs : List EpochEntry
   pub kept : List K
   pub place : ℕ
 
@@ -33,6 +37,7 @@ pub record IsFolding {K : Type 0} (keep : ℕ → Record → K) (begin : ℕ) (s
   pub rest : List ℕ
   pub texts : Splits fed batches rest
   pub along : GoesAlong batches v.front
+  pub epochs_are : v.epochs ≡ epoch_entries None batches
   pub kept_is : v.kept ≡ kept_of keep batches
   pub taken : v.place + length waiting ≡ length fed
   pub ends : IsOpenAt v.front.stop v.front v.place fed rest waiting

@@ -10,6 +10,7 @@ use Rattle.eos_evidence.specs.Topics.{is_internal}
 use Rattle.eos_summary.specs.Settling.{data_in}
 use Rattle.eos_fold.specs.Fronts.{IsFront}
 use Rattle.eos_fold.specs.Standing.{AreOf}
+use Rattle.eos_reading.specs.Epochs.{epoch_entries}
 use Rattle.eos_kept.specs.declared.front.Front.{Front}
 use Rattle.eos_kept.specs.declared.sizes.Sizes.{Sizes}
 use Rattle.eos_kept.specs.Kept.{KeptView, KeepsFront, IsFrontOf}
@@ -45,6 +46,7 @@ pub record IsWholeFront (segments : List Segment) (batches : List Batch) (f : Fr
   pub begin : f.begin ≡ 0
   pub front : IsFront 0 segments batches f.stop
   pub keeps : KeepsFront batches f
+  pub epochs : f.epochs.items ≡ epoch_entries None batches
 
 -- the same with its records
 pub record AreWhole (w : Wanted) (segments : List Segment) (f : Front) (kept : Records) : Type 0 where

@@ -5,7 +5,8 @@ use Rattle.eos_machine.specs.declared.event.Reply.{Reply}
 use Rattle.eos_machine.specs.declared.switches.Switches.{Switches}
 use Rattle.eos_cluster.specs.Courses.{Course}
 use Rattle.eos_scripts.specs.declared.deed.Deed.{Deed}
-use Rattle.eos_scripts.specs.declared.deed.Deed.TheVariants.{Set}
+use Rattle.eos_scripts.specs.declared.deed.Deed.TheVariants.{Set, Noted}
+use Rattle.eos_scripts.specs.declared.deed.Note.{Note}
 use Rattle.eos_scripts.specs.Driven.{recorded, Leads}
 
 -- where it began, and what was kept before
@@ -18,7 +19,7 @@ pub record Drive : Type 0 where
   pub origin : Origin
   pub course : Course
 
--- a history, where there is one, after further deeds, an event more, and switches that were set
+-- a history, where there is one, after further deeds, an event more, switches that were set, and a note
 abbrev pub with_deeds : Option (List Deed) → List Deed → Option (List Deed)
 with_deeds None ds = None
 with_deeds (Some b) ds = Some (b ++ ds)
@@ -30,6 +31,10 @@ recorded_in (Some b) e r = Some (recorded b e r)
 abbrev pub set_in : Option (List Deed) → Switches → Option (List Deed)
 set_in None u = None
 set_in (Some b) u = Some (b ++ Set u ∷ [])
+
+abbrev pub noted_in : Option (List Deed) → Note → Option (List Deed)
+noted_in None n = None
+noted_in (Some b) n = Some (b ++ Noted n ∷ [])
 
 -- some deeds led from the beginning to here, and the history is what was kept before, and they
 pub record IsOnCourse (s : Course) (before : Option (List Deed)) (t : Course) (now : Option (List Deed)) : Type 0 where

@@ -11,7 +11,7 @@ use Rattle.eos_summary.specs.declared.fault.Fault.{Fault}
 use Rattle.eos_summary.specs.Ends.{first_placed, last_placed, first_marker}
 use Rattle.eos_summary.specs.Settling.{data_in, waiting_in, settled}
 use Rattle.eos_summary.specs.Tables.{Table, ends_in, ends_at, AreEnds, HasEnds, KeepsPlaces}
-use Rattle.eos_summary.specs.steps.Tables.{IsJoined, IsReadyFor}
+use Rattle.eos_summary.specs.Taken.{IsJoined, IsReadyFor}
 use Rattle.eos_summary.specs.Faults.{IsSettled, IsLeastOf, StandsAt}
 use Rattle.eos_summary.specs.steps.Summaries.{only, TakesFault}
 

@@ -6,7 +6,7 @@ use Rattle.eos_summary.specs.declared.mark.EndMark.{EndMark}
 use Rattle.eos_summary.specs.declared.fault.Fault.{Fault}
 use Rattle.eos_summary.specs.declared.summary.BatchSummary.{BatchSummary}
 use Rattle.eos_summary.specs.Faults.{IsLeastOf, StandsAt}
-use Rattle.eos_summary.specs.steps.Faults.{earlier}
+use Rattle.eos_summary.specs.Earlier.{earlier}
 
 -- one marker, of one id
 abbrev pub only : ℤ → Option EndMark → ℤ → Option EndMark

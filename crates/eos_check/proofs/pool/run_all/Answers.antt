@@ -1,5 +1,5 @@
 use Rattle.std.proofs.Common.{◌≡◌, ◌≤◌, true, length, All, ap, arith, rules}
-use Rattle.eos_tickets.specs.Places.{Counter}
+use Rattle.eos_board.specs.Places.{Counter}
 use Rattle.eos_check.proofs.PiecesDrawn.{each_once}
 use Rattle.eos_check.proofs.pool.run_all.Goals as goal
 

@@ -55,7 +55,8 @@ returns-clause-ok c = λ segment is.
     let from = segment_from segment fold c.unsigned_abs-begin.result c.as_slice-2.result.now is begin heads in
     let passed = c.in_ok-front.ensures in
     let along = same_along is.batches c.in_ok-front.front _ refl refl refl refl refl (passed.along is.batches from) in
-    let front = front_told segment fold _ is (passed.begin ∙ begin) checked refl along in
+    let epochs = c.into_vec.ensures in
+    let front = front_told segment fold _ is (passed.begin ∙ begin) checked refl epochs along in
     let taken = c.in_ok-run.ensures in
     run_asked topics (topics_in fold.kept) (segment ∷ []) c.in_ok-run.run' (λ claims. same_topics c.args.asked.wanted topics fold.kept asked (sym taken.wanted ∙ claims))
     (taken.ok (segment ∷ []) is.batches front (sizes_told segment fold _ is refl refl) (passed.counted is.batches from) is.kept)

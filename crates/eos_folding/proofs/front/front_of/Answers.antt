@@ -2,7 +2,8 @@ use Rattle.std.proofs.Common.{◌≡◌, take, None, flat_map, refl, rules}
 use Rattle.eos_wire.specs.Crc.{crc32c_of}
 use Rattle.eos_folding.specs.steps.Fronts.{stop_of}
 use Rattle.eos_folding.specs.steps.Passing.{Passes}
-use Rattle.eos_folding.specs.steps.Seals.{entries_of, checksum_text}
+use Rattle.eos_folding.specs.steps.Seals.{checksum_text}
+use Rattle.eos_reading.specs.Seals.{entries_of}
 use Rattle.eos_folding.proofs.FrontSteps.{front_is}
 use Rattle.eos_folding.proofs.front.front_of.Goals as goal
 

@@ -1,5 +1,5 @@
 use Rattle.eos_lineage.proofs.LogsInOrder.{in_order}
-use Rattle.eos_notes.proofs.Whole.{notes_are, text_is}
+use Rattle.eos_notes.proofs.Whole.{notes_are, text_is, all_are, all_text_is}
 use Rattle.eos_notes.proofs.laws.whole.Goals as goal
 
 pub returns-clause-order : goal.returns-clause-order
@@ -10,3 +10,9 @@ returns-clause-notes c = notes_are
 
 pub returns-clause-text : goal.returns-clause-text
 returns-clause-text c = text_is
+
+pub returns-clause-all : goal.returns-clause-all
+returns-clause-all c = all_are
+
+pub returns-clause-all_text : goal.returns-clause-all_text
+returns-clause-all_text c = all_text_is

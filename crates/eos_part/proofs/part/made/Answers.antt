@@ -1,14 +1,13 @@
 use Rattle.std.proofs.Common.{◌≡◌, ℕ, List, [], refl, sym, subst}
-use Rattle.eos_fold.specs.Parts.{PartLog, Rises}
+use Rattle.eos_fold.specs.Parts.{PartLog, Rises, AreCloses}
 use Rattle.eos_fold.specs.Standing.{IsPartitionFault, AreOf}
-use Rattle.eos_fold.specs.steps.Whole.{AreCloses}
 use Rattle.eos_items.specs.declared.head.DataHead.{DataHead}
 use Rattle.eos_part.specs.steps.Closes.{closes_under}
 use Rattle.eos_part.specs.steps.Fronts.{IsChecked}
 use Rattle.eos_items.specs.declared.item.Item.{Item}
 use Rattle.eos_part.specs.Parts.{IsWantedPart}
 use Rattle.eos_part.proofs.HeldRecords.{items_rise_so, heads_fit_so, whole_so}
-use Rattle.eos_part.proofs.PartsMade.{part_made, batches_told}
+use Rattle.eos_part.proofs.PartsMade.{part_made, batches_told, epochs_told}
 use Rattle.eos_part.proofs.part.made.Goals as goal
 
 pub new-requires-clause-fits : goal.new-requires-clause-fits
@@ -41,4 +40,4 @@ returns c = λ w segments read sized of.
     let wanted = subst (λ (items : List Item). IsWantedPart w end segments (part items) c.least_fault-fault.result) (sym c.new.ensures)
     (part_made w segments f kept m heads c.into_heads-heads.ensures end c.in_ok-closes.closes.items f.markers.items c.least_fault-fault.result closes refl
     (subst (λ (t : List ℕ). IsPartitionFault t end.partition end.end m.batches f.stop c.least_fault-fault.result) cloned least)) in
-    record { part = wanted; batches = batches_told w segments f kept m heads c.into_heads-heads.ensures f.batches refl; sizes = sized }
+    record { part = wanted; batches = batches_told w segments f kept m heads c.into_heads-heads.ensures f.batches refl; sizes = sized; epochs = epochs_told w segments f kept m heads c.into_heads-heads.ensures _ c.new-2.ensures }

@@ -1,7 +1,7 @@
 use Rattle.std.proofs.Common.{rules, sym, ap, ◌∙◌, ℤ, w32, w64}
 use Rattle.std.proofs.lemmas.Int.{to_z-of_z}
 use mir.Val.{SFits}
-use Rattle.eos_fold.specs.steps.Whole.{kind_at_stop}
+use Rattle.eos_fold.specs.Stops.{kind_at_stop}
 use Rattle.eos_part.proofs.PartsMade.{pair_told, kind_told, none_told}
 use Rattle.eos_part.proofs.whole.least_fault.Goals as goal
 

@@ -22,7 +22,7 @@ loop-i-init g c =
     let w = were_said known outcomes topics apps (segments_of c.args.plan.now.shape.now.partitions) slots given in (
       (
         w.0,
-        none_told known w.0 apps c.new-logs.result c.new-logs.ensures.parts c.new-logs.ensures.faults c.new-logs.ensures.tallies,
+        none_told known w.0 apps c.new-logs.result c.new-logs.ensures.parts c.new-logs.ensures.faults c.new-logs.ensures.tallies c.new-logs.ensures.epochs,
         subst (λ (ps : List Partition). AreSlotsOf known w.0 topics apps 0 (segments_of ps) slots) (sym c.partitions-partitions.ensures.value) w.1,
       ),
       c.new-logs.ensures.drawn,
@@ -46,7 +46,7 @@ loop-i-preserved g c =
       (
         said,
         told_next known said apps shapes i shape c.loop-i.logs c.push.new.self c.in_ok-next_told.field-0 at c.loop-i.invariant.0.1 next.0
-            c.in_ok-push.ensures.parts c.in_ok-push.ensures.faults c.in_ok-push.ensures.tallies,
+            c.in_ok-push.ensures.parts c.in_ok-push.ensures.faults c.in_ok-push.ensures.tallies c.in_ok-push.ensures.epochs,
         subst (λ (n : ℕ). AreSlotsOf known said topics apps n later (into_iter_items c.next_told.new.slots)) (sym (pieces_taken shapes i shape at)) next.1,
       ),
       c.push.ensures.drawn ∙ c.loop-i.invariant.1,

@@ -4,7 +4,7 @@ use Rattle.eos_evidence.specs.Evidence.{segments_of}
 use Rattle.eos_source.specs.Said.{known_by}
 use Rattle.eos_source.specs.steps.Seats.{IsReading, all_numbers}
 use Rattle.eos_source.proofs.PiecesDrawn.{all_map, numbers_drawn, leaves_none, each_once}
-use Rattle.eos_tickets.specs.Places.{Place, AreBelow, drawn_of_all}
+use Rattle.eos_board.specs.Places.{Place, AreBelow, drawn_of_all}
 use Rattle.eos_source.proofs.seats.gathered.Goals as goal
 
 pub gather-requires-clause-made : goal.gather-requires-clause-made

@@ -9,4 +9,4 @@ pub returns-clause-judged : goal.returns-clause-judged
 returns-clause-judged g c =
     let logs = c.in_ok-logs.logs in
     let answer = subst (λ (s : Parts). IsJudged s.apps logs.parts.items (first_of logs.faults.items) c.in_ok-verdict.verdict) c.spec.ensures.value c.in_ok-verdict.ensures in
-    judged_of _ c.args.shape.now c.in_ok-kept.kept _ c.in_ok-kept.ensures.logs c.in_ok-logs.ensures answer
+    judged_of _ c.args.shape.now c.in_ok-kept.kept _ c.in_ok-kept.ensures.logs c.in_ok-logs.ensures.logs c.in_ok-logs.ensures.epochs answer

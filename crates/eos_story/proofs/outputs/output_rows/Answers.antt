@@ -14,4 +14,4 @@ returns c =
     let claims = each_as (Claims (Claiming input) 3 ∷ []) (ap (λ (p : Place). Claims (Claiming p) 3 ∷ []) c.in_ok-claimed.ensures) c.in_ok-push_claims.ensures in
     let commits = each_as (commits_past logs meant input) (ap (λ (g : Option (List ℕ)). commits_past logs g input) c.in_ok-meant.ensures) c.in_ok-push_commits.ensures in
     let hidden = each_as (unseen logs input) (ap (unseen logs) c.in_ok-hidden.ensures) c.in_ok-push_unseen.ensures in
-    then at (then claims (then commits hidden))
+    then at (then claims (then c.in_ok-push_beside.ensures (then commits hidden)))

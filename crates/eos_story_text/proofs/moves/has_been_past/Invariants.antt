@@ -1,6 +1,6 @@
 use Rattle.std.proofs.Common.{◌≡◌, drop}
 use Rattle.std.specs.List.{list_any}
-use Rattle.eos_story_text.specs.Signs.{was_past}
+use Rattle.eos_story_text.specs.GroupCommits.{was_past}
 use Rattle.eos_story_text.proofs.moves.has_been_past.Given as goal
 
 abbrev pub invariant-loop-row : goal.invariant-loop-row

@@ -1,6 +1,6 @@
 use Rattle.std.proofs.Common.{◌≡◌, drop}
 use Rattle.std.specs.List.{list_any}
-use Rattle.eos_story_text.specs.Signs.{lacks_passing}
+use Rattle.eos_story_text.specs.GroupCommits.{lacks_passing}
 use Rattle.eos_story_text.proofs.signs.has_none_passing.Given as goal
 
 abbrev pub invariant-loop-row : goal.invariant-loop-row

@@ -1,4 +1,4 @@
-use Rattle.eos_wanted_notes.proofs.KeptNotes.{notes_kept, whole_notes, whole_text, kept_in_order}
+use Rattle.eos_wanted_notes.proofs.KeptNotes.{notes_kept, whole_notes, whole_text, whole_all, whole_all_text, kept_in_order}
 use Rattle.eos_wanted_notes.proofs.laws.notes.Goals as goal
 
 pub returns-clause-logs : goal.returns-clause-logs
@@ -12,3 +12,9 @@ returns-clause-text c = whole_text
 
 pub returns-clause-order : goal.returns-clause-order
 returns-clause-order c = kept_in_order
+
+pub returns-clause-all : goal.returns-clause-all
+returns-clause-all c = whole_all
+
+pub returns-clause-all_text : goal.returns-clause-all_text
+returns-clause-all_text c = whole_all_text

@@ -6,7 +6,7 @@ use Rattle.eos_items.specs.Items.{items_of}
 use Rattle.eos_items.specs.Views.{LogView}
 use Rattle.eos_fold.specs.Closes.{closes_in}
 use Rattle.eos_fold.specs.Whole.{segments_in}
-use Rattle.eos_fold.specs.steps.Whole.{AreCloses}
+use Rattle.eos_fold.specs.Parts.{AreCloses}
 use Rattle.eos_fold.proofs.part.Part.new.Goals as goal
 
 pub of_all-segments-requires : goal.of_all-segments-requires

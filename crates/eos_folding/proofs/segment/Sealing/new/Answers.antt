@@ -1,6 +1,6 @@
 use Rattle.std.proofs.Common.{refl}
 use Rattle.eos_reading.proofs.FoldSteps.{fold_none}
-use Rattle.eos_folding.proofs.SealSteps.{no_seals}
+use Rattle.eos_reading.proofs.SealSteps.{no_seals}
 use Rattle.eos_folding.proofs.segment.Sealing.new.Goals as goal
 
 pub returns : goal.returns

@@ -11,8 +11,10 @@ use Rattle.eos_kept.proofs.fold.SegmentFold.finish.Goals as goal
 pub returns : goal.returns
 returns g c = λ keep segment rest len f.
     let v = c.self.inside in
+    let e = c.cut_at.ensures in
     finished keep segment rest c.args.waiting _ c.new.result len (subst (λ v. IsFolding keep (base_of segment) (is_checked segment) segment.bytes rest v) (sym c.self.view_is) f)
-    (subst (λ (x : Front). CutsAt v.place c.args.waiting v.front x) (sym c.new.ensures.front) c.cut_at.ensures) c.new.ensures.kept (ap (λ (s : Sizes). s.segments) c.new.ensures.sizes) (ap (λ (s : Sizes). s.bytes) c.new.ensures.sizes)
+    (subst (λ (x : Front). CutsAt v.place c.args.waiting v.front x) (sym c.new.ensures.front)
+    (record { begin = e.begin; next = e.next; batches = e.batches; markers = e.markers; run = e.run; stop = e.stop })) (ap (λ (x : Front). x.epochs.items) c.new.ensures.front) c.new.ensures.kept (ap (λ (s : Sizes). s.segments) c.new.ensures.sizes) (ap (λ (s : Sizes). s.bytes) c.new.ensures.sizes)
 
 pub new-requires : goal.new-requires
 new-requires g c =

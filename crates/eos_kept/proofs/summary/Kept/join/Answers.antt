@@ -12,7 +12,7 @@ returns-then-not-is_at_end-clause-ok g c = λ keep xs ys h k.
 pub returns-then-found-before-clause-ok : goal.returns-then-found-before-clause-ok
 returns-then-found-before-clause-ok g c = λ keep xs ys h k.
     let end : c.before-2.inside.front.stop ≡ AtEnd = search rules in
-    kept_between keep xs ys _ _ _ end c.if-found-before.true refl refl refl refl refl refl refl (c.in-Some.ensures xs ys) (subst (λ v. IsKept keep xs v) (sym c.before-2.view_is) h) (subst (λ v. IsKept keep ys v) (sym c.after.view_is) k)
+    kept_between keep xs ys _ _ _ end c.if-found-before.true refl refl refl refl refl refl refl refl (c.in-Some.ensures xs ys) (subst (λ v. IsKept keep xs v) (sym c.before-2.view_is) h) (subst (λ v. IsKept keep ys v) (sym c.after.view_is) k)
 
 pub invariant_of-before-in-Err : goal.invariant_of-before-in-Err
 invariant_of-before-in-Err g c = each_still c.before-2.inside.front _ c.before-2.inside.kept.items _ c.in-Err.ensures.err.0 c.reserve.ensures.items c.before-2.invariant

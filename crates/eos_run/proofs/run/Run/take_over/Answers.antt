@@ -9,7 +9,7 @@ use Rattle.eos_touch.specs.declared.touch.Touch.{Touch}
 use Rattle.eos_summary.specs.declared.mark.EndMark.{EndMark}
 use Rattle.eos_summary.specs.Place.{PlacesView}
 use Rattle.eos_summary.specs.Tables.{ends_in}
-use Rattle.eos_summary.specs.steps.Tables.{HasRoom}
+use Rattle.eos_summary.specs.Taken.{HasRoom}
 use Rattle.eos_run.specs.Runs.{heads_of}
 use Rattle.eos_summary.specs.Settling.{waiting_in, settled}
 use Rattle.eos_summary.specs.Faults.{IsLeastOf, StandsAt}

@@ -8,7 +8,8 @@ use mir.Val.{SFits}
 use Rattle.eos_batch.specs.declared.head.BatchHead.{BatchHead}
 use Rattle.eos_summary.specs.Place.{PlacesView}
 use Rattle.eos_summary.specs.Tables.{KeepsPlaces, ends_at}
-use Rattle.eos_summary.specs.steps.Tables.{rest_alone, IsReadyFor}
+use Rattle.eos_summary.specs.Taken.{IsReadyFor}
+use Rattle.eos_summary.specs.steps.Alone.{rest_alone}
 use Rattle.eos_summary.specs.steps.Joins.{IsTaking}
 use Rattle.eos_touch.specs.Touches as spec
 use Rattle.eos_summary.proofs.OneBatch.{silent, says, was_alone, left_alone, alone_taking, takes_same, are_of, short_fits, ready_alone}

@@ -10,7 +10,7 @@ use mir.Val.{SFits, to_z, of_z}
 use Rattle.eos_summary.specs.declared.ends.Ends.{Ends}
 use Rattle.std.specs.Prelude.{IsSome}
 use Rattle.eos_summary.specs.Tables.{ends_at}
-use Rattle.eos_summary.specs.steps.Tables.{HasRoom}
+use Rattle.eos_summary.specs.Taken.{HasRoom}
 use Rattle.eos_summary.specs.Settling.{waiting_in}
 use Rattle.eos_summary.specs.steps.Summaries.{TakesFault}
 use Rattle.eos_summary.specs.steps.Joins.{Rest, Took, IsTaken, rest_of}

@@ -11,7 +11,8 @@ use Rattle.eos_items.specs.Batches.{DataBatch}
 use Rattle.eos_summary.specs.Settling.{waiting_in, settled}
 use Rattle.eos_summary.specs.steps.Summaries.{only}
 use Rattle.eos_summary.specs.Tables.{KeepsPlaces, ends_at}
-use Rattle.eos_summary.specs.steps.Tables.{rest_alone, IsReadyFor}
+use Rattle.eos_summary.specs.Taken.{IsReadyFor}
+use Rattle.eos_summary.specs.steps.Alone.{rest_alone}
 use Rattle.eos_summary.specs.steps.Joins.{Took, IsTaking}
 use Rattle.eos_touch.specs.Touches as spec
 use Rattle.eos_summary.proofs.Waiting.{all_below}

@@ -6,7 +6,7 @@ use Rattle.std.proofs.lemmas.Int.{to_z-of_z}
 use mir.Val.{SFits}
 use Rattle.eos_summary.specs.declared.ends.Ends.{Ends}
 use Rattle.eos_summary.specs.Tables.{ends_in}
-use Rattle.eos_summary.specs.steps.Tables.{HasRoom}
+use Rattle.eos_summary.specs.Taken.{HasRoom}
 use Rattle.eos_summary.specs.Settling.{waiting_in}
 use Rattle.eos_summary.specs.Faults.{IsLeastOf, StandsAt}
 use Rattle.eos_summary.specs.steps.Summaries.{TakesFault}

@@ -1,0 +1,7 @@
+pub mod TicketRule
+pub mod Places
+pub mod steps
+pub mod Runs
+pub mod Ties
+pub mod PoolState
+pub mod PoolEvents

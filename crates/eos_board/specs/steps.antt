@@ -1,0 +1,5 @@
+pub mod Places
+pub mod ReachTree
+pub mod RunPlaces
+pub mod Receipts
+pub mod PoolReady

@@ -1,3 +1,0 @@
-pub mod Runs
-pub mod Ties
-pub mod steps

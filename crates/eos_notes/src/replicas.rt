@@ -1,0 +1,95 @@
+//! The notes of partitions whose segments are of two replicas, and all notes with these.
+
+ghost use Rattle.std.specs.Prelude.{◌≡◌, ◌++◌, None, is_some, map, IfOk, OnOk};
+ghost use Rattle.eos_commits.specs.Faults.{AreInOrder};
+ghost use Rattle.eos_fold.specs.Parts.{part_name};
+ghost use Rattle.eos_notes.specs.Notes.{AreAllNotesBy};
+ghost use Rattle.eos_notes.specs.ReplicaNotes.{is_fall, falls_at, fall_note, falls};
+ghost use Rattle.eos_partitions.specs.Faults.{first_of};
+
+use crate::evidence_notes::notes;
+use crate::note::Note;
+use eos_base::{Listed, PartitionName};
+use eos_evidence::Spec;
+use eos_partition::Part;
+use eos_partitions::Logs;
+use eos_reading::EpochEntry;
+use std::alloc::{AllocError, Global};
+
+/// Whether an entry has a lesser epoch than the one before.
+fn is_fall(last: Option<i32>, epoch: i32) -> bool
+    ensures { result ≡ is_fall last epoch }
+{
+    match last {
+        None => false,
+        Some(last) => epoch < last,
+    }
+}
+
+/// Where the first of these entries begins that has a lesser epoch than the one before.
+#[tactic(auto, using(crate::proofs::EpochFalls::falls_here, crate::proofs::EpochFalls::falls_later, crate::proofs::EpochFalls::falls_never))]
+fn falls_at(entries: &[EpochEntry]) -> Option<u64>
+    ensures { result ≡ falls_at None entries.now }
+{
+    let mut last = None;
+    for entry in entries {
+        if is_fall(last, entry.epoch) {
+            return Some(entry.start_offset);
+        }
+        last = Some(entry.epoch);
+    }
+    None
+}
+
+/// Puts a note at the end where the partition's leader epoch falls.
+fn push_fall(all: &mut Vec<Note>, part: &Part, entries: &[EpochEntry]) -> Result<(), AllocError>
+    ensures { OnOk result (all.new.items ≡ all.old.items ++ fall_note (part_name part.now) (falls_at None entries.now)) }
+{
+    if let Some(offset) = falls_at(entries) {
+        all.push(Note::EpochFalls {
+            partition: PartitionName {
+                topic: part.topic().clone()?,
+                partition: part.partition(),
+            },
+            offset,
+        })?;
+    }
+    Ok(())
+}
+
+/// Puts a note at the end for each of these partitions whose leader epoch falls.
+#[tactic(auto, using(crate::proofs::EpochFalls::falls_on, crate::proofs::EpochFalls::falls_out, crate::proofs::EpochFalls::falls_done))]
+fn push_falls(
+    all: &mut Vec<Note>,
+    parts: &[Part],
+    epochs: &[Listed<EpochEntry>],
+) -> Result<(), AllocError>
+    ensures { OnOk result (all.new.items ≡ all.old.items ++ falls (map part_name parts.now) epochs.now) }
+{
+    for i in 0..parts.len() {
+        if i >= epochs.len() {
+            return Ok(());
+        }
+        push_fall(all, &parts[i], epochs[i].as_slice())?;
+    }
+    Ok(())
+}
+
+/// The notes of an evidence as `notes` gives them, and behind them where the leader epochs of its partitions fall, by the entries at
+/// which they change: of each partition the first such offset, also where a log has a fault.
+///
+/// # Errors
+/// Only want of memory.
+pub fn all_notes(
+    alloc: Global,
+    spec: &Spec,
+    logs: &Logs,
+    epochs: &[Listed<EpochEntry>],
+) -> Result<Vec<Note>, AllocError>
+    ensures { AreInOrder logs.now.parts.items
+        → IfOk result (λ notes. AreAllNotesBy spec.now logs.now.parts.items epochs.now (is_some (first_of logs.now.faults.items)) notes.items) }
+{
+    let mut all = notes(alloc, spec, logs)?;
+    push_falls(&mut all, logs.parts.as_slice(), epochs)?;
+    Ok(all)
+}

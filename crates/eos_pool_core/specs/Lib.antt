@@ -1,3 +1,0 @@
-pub mod PoolState
-pub mod PoolEvents
-pub mod steps

@@ -1,0 +1,170 @@
+//! The quick walk of the matching: a comparison of numbers in order, which finds that nothing is wrong or says nothing.
+
+ghost use Rattle.std.specs.Prelude.{◌≡◌, ◌<◌, ◌%◌, ℕ, Bool, true, length, slice_index_or, IfOk};
+ghost use Rattle.eos_base.specs.Least.{NoneStands};
+ghost use Rattle.eos_table.specs.MatchFaults.{Stands};
+ghost use Rattle.eos_table.specs.steps.Wanted.{IsOnce, AgreesAt, AgreeAt, IsGood};
+
+use crate::agree::agrees;
+use crate::key::decided_keys;
+use crate::one_shard::Shard;
+use crate::shard::twice_found;
+use crate::table::TxnTable;
+use crate::wanted::wanted_of;
+use eos_base::Sorted;
+use eos_fold::Close;
+use eos_partition::Part;
+use eos_txnlog::Decision;
+use eos_workers::Workers;
+use std::alloc::{AllocError, Global};
+use std::thread;
+use std::thread::Threads;
+
+/// What threads walk over: the decisions, and for each part the closes that they want there.
+#[derive(Clone, Copy)]
+struct Ground<'d, 'p, 'l> {
+    decisions: &'d [Decision],
+    parts: &'p [Part],
+    lists: &'l [Vec<Close>],
+}
+
+/// Whether no two decisions of the shard have one producer id and epoch.
+fn is_once(alloc: Global, decisions: &[Decision], shard: Shard) -> Result<bool, AllocError>
+    ensures { IfOk result (λ yes. yes ≡ true → IsOnce shard.of shard.number decisions.now) }
+{
+    let pairs = decided_keys(alloc, decisions, shard)?;
+    let keys = Sorted::of(pairs);
+    match twice_found(keys.as_slice()) {
+        None => Ok(true),
+        Some(_) => Ok(false),
+    }
+}
+
+/// Whether the log of the part at this place is as is wanted there; or the place leaves another rest after a division by the number
+/// of threads, so that the part is another thread's.
+fn agrees_at(
+    alloc: Global,
+    ground: &Ground<'_, '_, '_>,
+    threads: usize,
+    rest: usize,
+    i: usize,
+) -> Result<bool, AllocError>
+    requires { (0 < threads) × (i < length ground.now.parts.now) }
+    ensures { IfOk result (λ yes. yes ≡ true → i % threads ≡ rest → AgreesAt ground.now.lists.now ground.now.parts.now i) }
+{
+    if i % threads != rest {
+        return Ok(true);
+    }
+    if i >= ground.lists.len() {
+        return Ok(false);
+    }
+    let agree = agrees(alloc, ground.lists[i].as_slice(), &ground.parts[i])?;
+    Ok(agree)
+}
+
+/// Whether the logs of all parts with this rest are as is wanted there.
+fn agree_at(
+    alloc: Global,
+    ground: &Ground<'_, '_, '_>,
+    threads: usize,
+    rest: usize,
+) -> Result<bool, AllocError>
+    requires { 0 < threads }
+    ensures { IfOk result (λ yes. yes ≡ true → AgreeAt threads rest ground.now.lists.now ground.now.parts.now) }
+{
+    for i in 0..ground.parts.len() {
+        let agree = agrees_at(alloc, ground, threads, rest, i)?;
+        if !agree {
+            return Ok(false);
+        }
+    }
+    Ok(true)
+}
+
+/// What one thread looks at: the decisions of its shard, and its parts.
+fn is_good(
+    alloc: Global,
+    ground: &Ground<'_, '_, '_>,
+    threads: u32,
+    rest: u32,
+) -> Result<bool, AllocError>
+    requires { rest < threads }
+    ensures { IfOk result (λ yes. yes ≡ true → IsGood threads rest ground.now.decisions.now ground.now.lists.now ground.now.parts.now) }
+{
+    let once = is_once(alloc, ground.decisions, Shard::new(rest, threads))?;
+    if !once {
+        return Ok(false);
+    }
+    let agree = agree_at(alloc, ground, threads as usize, rest as usize)?;
+    Ok(agree)
+}
+
+/// The same; no where memory is short.
+fn answer_at(alloc: Global, ground: &Ground<'_, '_, '_>, threads: u32, rest: u32) -> bool
+    requires { rest < threads }
+    ensures { result ≡ true → IsGood threads rest ground.now.decisions.now ground.now.lists.now ground.now.parts.now }
+{
+    match is_good(alloc, ground, threads, rest) {
+        Ok(good) => good,
+        Err(_) => false,
+    }
+}
+
+fn are_all(answers: &[bool]) -> bool
+    ensures { result ≡ true → (i : ℕ) (d : Bool) → i < length answers.now → slice_index_or answers.now i d ≡ true }
+{
+    for answer in answers {
+        if !*answer {
+            return false;
+        }
+    }
+    true
+}
+
+fn are_good<R: Threads + Sync>(
+    alloc: Global,
+    rt: &R,
+    workers: Workers,
+    ground: &Ground<'_, '_, '_>,
+) -> Result<bool, AllocError>
+    ensures { IfOk result (λ yes. yes ≡ true → (threads : ℕ) × (0 < threads) × ((rest : ℕ) → rest < threads
+        → IsGood threads rest ground.now.decisions.now ground.now.lists.now ground.now.parts.now)) }
+{
+    let threads = workers.get() as u32;
+    let answers = thread::map_indices(
+        rt,
+        alloc,
+        threads as usize,
+        &|rest| { answer_at(alloc, ground, threads, rest as u32) },
+    )?;
+    Ok(are_all(answers.as_slice()))
+}
+
+/// Whether the decisions and the partitions' logs agree, found by so many threads at most, of which the caller's is one.
+///
+/// Yes says that no fault stands between them. No says nothing, and `match_shard` has to answer: there may be a fault, or the parts
+/// don't stand by name.
+///
+/// # Errors
+/// Only want of memory.
+pub fn are_matched<R: Threads + Sync>(
+    alloc: Global,
+    rt: &R,
+    workers: Workers,
+    table: &TxnTable,
+    parts: &[Part],
+) -> Result<bool, AllocError>
+    ensures { IfOk result (λ yes. yes ≡ true → NoneStands (Stands table.now parts.now)) }
+{
+    let decisions = table.decisions();
+    let wanted = wanted_of(alloc, decisions, parts)?;
+    let Some(lists) = wanted else {
+        return Ok(false);
+    };
+    let ground = Ground {
+        decisions,
+        parts,
+        lists: lists.as_slice(),
+    };
+    are_good(alloc, rt, workers, &ground)
+}

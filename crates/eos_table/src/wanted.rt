@@ -1,0 +1,151 @@
+//! The closes that decisions want in each partition, for the quick walk.
+
+ghost use Rattle.std.specs.Prelude.{◌≡◌, true, [], ◌∷◌, IfOk, IfSome};
+ghost use Rattle.eos_txnlog.specs.PartitionSets.{name_of, names_in_topic};
+ghost use Rattle.eos_fold.specs.Parts.{part_name};
+ghost use Rattle.eos_table.specs.steps.Wanted.{wanted_close, wish, wishes_in, wishes_of, wishes, IsAt, IsPut, Have, Take};
+
+use crate::key::{NameRef, name_of_part};
+use bytes::Bytes;
+use eos_fold::Close;
+use eos_partition::Part;
+use eos_txnlog::{Decision, TopicPartitions};
+use std::alloc::{AllocError, Global};
+
+/// The first place whose name is not less, where the parts stand by name.
+fn first_from(parts: &[Part], name: NameRef<'_>) -> usize {
+    let mut low = 0;
+    let mut high = parts.len();
+    while low < high {
+        let middle = low + (high - low) / 2;
+        if name_of_part(&parts[middle]) < name {
+            low = middle + 1;
+        } else {
+            high = middle;
+        }
+    }
+    low
+}
+
+fn is_named(part: &Part, topic: &[u8], partition: &i32) -> bool
+    ensures { result ≡ true → part_name part.now ≡ name_of topic.now partition.now }
+{
+    part.partition() == *partition && part.topic().as_slice() == topic
+}
+
+/// The place of the part of this name, where the parts stand by name.
+fn place_of(parts: &[Part], topic: &Bytes, partition: &i32) -> Option<usize>
+    ensures { IfSome result (λ place. IsAt parts.now place (name_of topic.now partition.now)) }
+{
+    let name = NameRef {
+        topic,
+        partition: *partition,
+    };
+    let place = first_from(parts, name);
+    let part = parts.get(place)?;
+    if is_named(part, topic.as_slice(), partition) {
+        Some(place)
+    } else {
+        None
+    }
+}
+
+/// Puts the close at the end of the list at this place, if there is one.
+fn put(lists: &mut Vec<Vec<Close>>, place: usize, close: Close) -> Result<bool, AllocError>
+    ensures { IfOk result (λ yes. yes ≡ true → IsPut lists.old.items place close lists.new.items) }
+{
+    if place >= lists.len() {
+        return Ok(false);
+    }
+    lists[place].push(close)?;
+    Ok(true)
+}
+
+/// Takes up that the close is wanted in a partition, if that is found.
+fn want(
+    lists: &mut Vec<Vec<Close>>,
+    parts: &[Part],
+    close: Close,
+    topic: &Bytes,
+    partition: &i32,
+) -> Result<bool, AllocError>
+    ensures { IfOk result (λ yes. yes ≡ true → Take parts.now (wish close (name_of topic.now partition.now) ∷ []) lists.old.items lists.new.items) }
+{
+    match place_of(parts, topic, partition) {
+        None => Ok(false),
+        Some(place) => put(lists, place, close),
+    }
+}
+
+fn want_topic(
+    lists: &mut Vec<Vec<Close>>,
+    parts: &[Part],
+    close: Close,
+    topic: &TopicPartitions,
+) -> Result<bool, AllocError>
+    ensures { IfOk result (λ yes. yes ≡ true → Take parts.now (wishes_in close (names_in_topic topic.now)) lists.old.items lists.new.items) }
+{
+    for partition in topic.numbers.as_slice() {
+        if !want(lists, parts, close, &topic.topic, partition)? {
+            return Ok(false);
+        }
+    }
+    Ok(true)
+}
+
+/// The close that a decision wants in each partition that it lists.
+fn close_of(decision: &Decision) -> Close
+    ensures { result ≡ wanted_close decision.now }
+{
+    Close {
+        producer: decision.producer,
+        epoch: decision.epoch,
+        marker_epoch: decision.marker_epoch,
+        kind: decision.kind,
+    }
+}
+
+fn want_decision(
+    lists: &mut Vec<Vec<Close>>,
+    parts: &[Part],
+    decision: &Decision,
+) -> Result<bool, AllocError>
+    ensures { IfOk result (λ yes. yes ≡ true → Take parts.now (wishes_of decision.now) lists.old.items lists.new.items) }
+{
+    let close = close_of(decision);
+    for topic in decision.partitions.as_slice() {
+        if !want_topic(lists, parts, close, topic)? {
+            return Ok(false);
+        }
+    }
+    Ok(true)
+}
+
+/// A list for each part, with nothing in it.
+fn no_lists(alloc: Global, parts: &[Part]) -> Result<Vec<Vec<Close>>, AllocError>
+    ensures { IfOk result (λ lists. Have parts.now [] lists.items) }
+{
+    let mut lists = Vec::new(alloc);
+    for i in 0..parts.len() {
+        lists.push(Vec::new(alloc))?;
+    }
+    Ok(lists)
+}
+
+/// For each part the closes that decisions want there. None says nothing: the parts may not stand by name, or one that is listed
+/// isn't there.
+pub(crate) fn wanted_of(
+    alloc: Global,
+    decisions: &[Decision],
+    parts: &[Part],
+) -> Result<Option<Vec<Vec<Close>>>, AllocError>
+    ensures { IfOk result (λ answer. IfSome answer (λ lists. Have parts.now (wishes decisions.now) lists.items)) }
+{
+    let mut lists = no_lists(alloc, parts)?;
+    for decision in decisions {
+        if !want_decision(&mut lists, parts, decision)? {
+            return Ok(None);
+        }
+    }
+    Ok(Some(lists))
+}

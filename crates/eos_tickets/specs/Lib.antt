@@ -1,3 +1,0 @@
-pub mod TicketRule
-pub mod Places
-pub mod steps
