@@ -25,8 +25,8 @@ use Rattle.eos_lineage.proofs.LogsInOrder.{sorted}
 use Rattle.eos_check.specs.declared.verdict.Fault.TheVariants.{Partition as InPartition, Log, Match}
 use Rattle.eos_check.specs.Verdicts.{StandsInPartitions, StandsInLog, StandsInMatching, partition_cmp}
 use Rattle.eos_check.proofs.FirstFault.{least_of_first}
-use Rattle.eos_fault_list.specs.AllOf.{IsAllOf}
-use Rattle.eos_fault_list.proofs.WholeList.{none_listed, plain_rises}
+use Rattle.eos_base.specs.AllOf.{IsAllOf}
+use Rattle.eos_base.proofs.WholeList.{none_listed, plain_rises}
 use Rattle.eos_output_faults.specs.LineageFaults.{IsLaterOf, AreLineageFaults}
 use Rattle.eos_all_faults.specs.AllFaults.{AreAllFaults}
 use Rattle.eos_all_faults.specs.LaterFaults.{AreLaterFaults}

@@ -5,3 +5,5 @@ pub mod Membership
 pub mod NamesInOrder
 pub mod SortedSearch
 pub mod RecordFaults
+pub mod TiedKept
+pub mod WholeList

@@ -5,3 +5,4 @@ pub mod FaultNames
 pub mod Fallible
 pub mod Records
 pub mod steps
+pub mod AllOf

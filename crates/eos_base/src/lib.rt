@@ -2,14 +2,18 @@
 //! least of what is found, the names of partitions, and the faults of the internal logs' records.
 #![tactic(auto)]
 
+mod distinct;
 mod least;
 mod listed;
 mod partition_name;
 mod record_fault;
 mod sorted;
+mod workers;
 
+pub use distinct::distinct_in_order;
 pub use least::{lesser, offer};
 pub use listed::Listed;
 pub use partition_name::PartitionName;
 pub use record_fault::RecordFault;
 pub use sorted::{Sorted, holds, in_order};
+pub use workers::Workers;

@@ -13,7 +13,7 @@ use crate::verdict::{Counts, Fault, Verdict};
 use eos_evidence::Spec;
 use eos_lineage::{LineageCounts, LineageFault, check_lineage_by};
 use eos_partitions::Logs;
-use eos_workers::Workers;
+use eos_base::Workers;
 use std::alloc::{AllocError, Global};
 use std::thread::Threads;
 

@@ -10,7 +10,7 @@ use eos_fold::PartitionFault;
 use eos_partition::Part;
 use eos_table::{TxnTable, txn_log};
 use eos_txnlog::Decision;
-use eos_workers::Workers;
+use eos_base::Workers;
 use std::alloc::{AllocError, Global};
 use std::thread::Threads;
 

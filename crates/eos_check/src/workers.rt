@@ -13,7 +13,7 @@ use crate::verdict::Verdict;
 use eos_board::{Gate, Pieces};
 use eos_evidence::Evidence;
 use eos_partitions::Logs;
-use eos_workers::Workers;
+use eos_base::Workers;
 use std::alloc::{AllocError, Global};
 use std::marker::{Brand, PhantomData};
 use std::sync::Wait;

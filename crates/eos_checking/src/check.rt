@@ -10,7 +10,7 @@ use eos_ending::Subject;
 use eos_json_report::{About, fault_list_json, json_line};
 use eos_report::{fault_list, verdict_line};
 use eos_text::{push_text, push_value};
-use eos_workers::Workers;
+use eos_base::Workers;
 use std::alloc::{AllocError, Global};
 
 /// What is asked of a check: by how many workers, and how the outside is told of it.

@@ -14,11 +14,10 @@ use crate::homes::Homes;
 use crate::roles::Roles;
 use crate::settled::are_settled;
 use crate::visible::{is_of_offsets, is_visible};
-use eos_base::{PartitionName, RecordFault};
+use eos_base::{PartitionName, RecordFault, Workers};
 use eos_evidence::App;
 use eos_offsets::{view_key, view_value};
 use eos_partition::{ItemRef, Part};
-use eos_workers::Workers;
 use std::alloc::{AllocError, Global};
 use std::thread::Threads;
 

@@ -13,7 +13,7 @@ use crate::judge::{is_unclaimed, role_of};
 use crate::roles::Roles;
 use crate::visible::is_visible;
 use eos_partition::{KeptBatch, KeptBatches, Look, Part};
-use eos_workers::Workers;
+use eos_base::Workers;
 use std::alloc::{AllocError, Global};
 use std::thread;
 use std::thread::Threads;

@@ -21,7 +21,7 @@ use eos_source::Source;
 use eos_source_check::{Judged, judge_source};
 use eos_source_faults::{Unlisted, all_source_faults};
 use eos_svg::svg_text;
-use eos_workers::Workers;
+use eos_base::Workers;
 use std::alloc::{AllocError, Global};
 use std::thread::Threads;
 

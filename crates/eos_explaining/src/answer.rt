@@ -17,7 +17,7 @@ use eos_notes::{Note, lines_of, notes};
 use eos_partitions::Logs;
 use eos_report::verdict_line;
 use eos_story::Scene;
-use eos_workers::Workers;
+use eos_base::Workers;
 use std::alloc::{AllocError, Global};
 use std::sync::Wait;
 use std::thread::Threads;

@@ -18,7 +18,7 @@ use eos_ending::{Ending, Meter, Progress, STANDARD, Subject, end, end_unread, sa
 use eos_folder::{FolderFault, Reading, Watch, read_folder};
 use eos_text::{WriteFault, finish};
 use eos_words::Explain;
-use eos_workers::Workers;
+use eos_base::Workers;
 use std::alloc::Global;
 use std::io;
 use std::io::Write;

@@ -13,7 +13,7 @@ use Rattle.eos_evidence.specs.declared.segment.Segment.{Segment}
 use Rattle.eos_evidence.specs.Evidence.{EvidenceParts}
 use Rattle.eos_evidence.specs.Manifest.{spec_said_by}
 use Rattle.eos_evidence.specs.Parts.{Parts}
-use Rattle.eos_fault_list.proofs.WholeList.{same_list}
+use Rattle.eos_base.proofs.WholeList.{same_list}
 use Rattle.eos_folder.specs.declared.names.FileName.{FileName}
 use Rattle.eos_folder.specs.declared.names.Form.{Form}
 use Rattle.eos_folder.specs.Paths.{path_of_end}

@@ -11,7 +11,7 @@ use Rattle.eos_evidence.specs.declared.partition.Partition.{Partition}
 use Rattle.eos_evidence.specs.declared.segment.Segment.{Segment}
 use Rattle.eos_evidence.specs.Evidence.{EvidenceParts, IsEvidence}
 use Rattle.eos_evidence.specs.Manifest.{spec_said_by}
-use Rattle.eos_fault_list.specs.AllOf.{IsAllOf}
+use Rattle.eos_base.specs.AllOf.{IsAllOf}
 use Rattle.eos_folder.specs.declared.names.FileName.{FileName}
 use Rattle.eos_folder.specs.declared.names.Form.{Form}
 use Rattle.eos_folder.specs.declared.names.Form.TheVariants.{Log, Fold}

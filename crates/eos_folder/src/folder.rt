@@ -26,7 +26,7 @@ use bytes::Bytes;
 use eos_disk::Disk;
 use eos_evidence::{Evidence, EvidenceBuilder, Segment, Spec, SpecFault, parse_spec};
 use eos_manifest_cause::{SpecCause, explain_spec};
-use eos_workers::Workers;
+use eos_base::Workers;
 use std::alloc::{AllocError, AllocFailed, Global};
 use std::thread;
 use std::thread::Threads;

@@ -13,11 +13,10 @@ use crate::claims::{Output, take_outputs};
 use crate::sorting::sorted;
 use crate::tables::{Tables, is_committed, source_of};
 use bytes::Bytes;
-use eos_base::PartitionName;
+use eos_base::{PartitionName, Workers};
 use eos_claims::{
     Found, NumberedClaim, OutputFault, Place, PlaceRef, SourceRef, least_of_input, least_of_runs,
 };
-use eos_workers::Workers;
 use std::alloc::{AllocError, Global};
 use std::thread::Threads;
 

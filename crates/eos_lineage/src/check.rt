@@ -26,7 +26,7 @@ use crate::tables::Tables;
 use eos_commits::{CommitTable, least_visible_fault_by};
 use eos_evidence::{App, GroupId, Spec};
 use eos_partition::Part;
-use eos_workers::Workers;
+use eos_base::Workers;
 use std::alloc::{AllocError, Global};
 use std::thread::Threads;
 

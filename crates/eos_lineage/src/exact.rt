@@ -21,7 +21,7 @@ use crate::sorting::sorted;
 use eos_commits::is_visible;
 use eos_items::Fate;
 use eos_partition::{KeptBatch, KeptBatches, Part};
-use eos_workers::Workers;
+use eos_base::Workers;
 use std::alloc::Global;
 use std::thread;
 use std::thread::Threads;

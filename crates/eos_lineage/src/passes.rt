@@ -9,7 +9,7 @@ ghost use Rattle.eos_lineage.specs.steps.Tables.{plain_key, plain_pass, by_pass,
 use crate::sorting::sorted;
 use eos_claims::SourceRef;
 use eos_commits::CommitRef;
-use eos_workers::Workers;
+use eos_base::Workers;
 use std::alloc::{AllocError, Global};
 use std::marker::Model;
 use std::thread::Threads;

@@ -3,7 +3,7 @@
 ghost use Rattle.std.specs.Prelude.{◌≤◌, [], length, IfOk, IfSome};
 ghost use Rattle.eos_lineage.specs.steps.Shares.{Follow};
 
-use eos_workers::Workers;
+use eos_base::Workers;
 use std::alloc::{AllocError, Global};
 
 /// What one thread takes: the partitions from one place up to another one, and the keys that should be those of their

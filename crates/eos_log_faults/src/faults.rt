@@ -3,12 +3,12 @@
 ghost use Rattle.std.specs.Prelude.{◌≡◌, IfOk};
 ghost use Rattle.eos_table.specs.TransactionLog.{transaction_parts, AreInOrder};
 ghost use Rattle.eos_table.specs.LogFaults.{log_cmp, Stands as StandsInLog};
-ghost use Rattle.eos_fault_list.specs.AllOf.{IsAllOf};
+ghost use Rattle.eos_base.specs.AllOf.{IsAllOf};
 ghost use Rattle.eos_log_faults.specs.steps.Gathered.{gathered};
 
 use crate::doubled::push_doubled;
 use crate::reading::{Reading, read_log};
-use eos_fault_list::distinct_in_order;
+use eos_base::distinct_in_order;
 use eos_partition::Part;
 use eos_table::LogFault;
 use std::alloc::{AllocError, Global};

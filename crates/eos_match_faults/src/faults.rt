@@ -4,14 +4,14 @@ ghost use Rattle.std.specs.Prelude.{◌≡◌, ◌++◌, OnOk, IfOk};
 ghost use Rattle.std.specs.List.{flat_map};
 ghost use Rattle.eos_table.specs.TransactionLog.{transaction_parts, decisions_of};
 ghost use Rattle.eos_table.specs.MatchFaults.{fault_cmp, Stands};
-ghost use Rattle.eos_fault_list.specs.AllOf.{IsAllOf};
+ghost use Rattle.eos_base.specs.AllOf.{IsAllOf};
 ghost use Rattle.eos_match_faults.specs.MatchPlaces.{at_decision, at_closes, at_markers, at_names, gathered};
 
 use crate::decided::deciders_of;
 use crate::key::{ended_in_order, listed_in_order, marked_in_order, names_in_order};
 use crate::places::{push_closes, push_decisions, push_markers, push_names};
 use crate::reading::read_decisions;
-use eos_fault_list::distinct_in_order;
+use eos_base::distinct_in_order;
 use eos_partition::Part;
 use eos_table::MatchFault;
 use eos_txnlog::Decision;

@@ -8,7 +8,7 @@ ghost use Rattle.eos_txnlog.specs.declared.decision.Decision.{Decision};
 ghost use Rattle.eos_fold.specs.Parts.{PartLog};
 ghost use Rattle.eos_table.specs.declared.match_fault.MatchFault.{MatchFault};
 ghost use Rattle.eos_table.specs.MatchFaults.{fault_cmp, Stands};
-ghost use Rattle.eos_fault_list.specs.AllOf.{IsAllOf};
+ghost use Rattle.eos_base.specs.AllOf.{IsAllOf};
 ghost use Rattle.eos_match_faults.specs.MatchPlaces.{gathered};
 
 /// What is gathered at the places is exactly what stands between decisions and logs.

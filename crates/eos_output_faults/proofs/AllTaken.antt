@@ -16,7 +16,7 @@ use Rattle.eos_evidence.specs.declared.application.App.{App}
 use Rattle.eos_evidence.specs.Parts.{groups_of}
 use Rattle.eos_evidence.specs.Topics.{are_unequal}
 use Rattle.eos_fold.specs.Parts.{PartLog}
-use Rattle.eos_fault_list.proofs.WholeList.{plain_rises}
+use Rattle.eos_base.proofs.WholeList.{plain_rises}
 use Rattle.eos_claims.specs.declared.fault.OutputFault.{OutputFault}
 use Rattle.eos_claims.specs.Faults as outputs
 use Rattle.eos_claims.proofs.ClaimOrder.{nat_less, nat_tied, then_equal}

@@ -12,7 +12,7 @@ use Rattle.eos_claims.specs.Outputs.{Application, ReadsSources}
 use Rattle.eos_claims.specs.Candidates.{AreApart}
 use Rattle.eos_claims.specs.Faults.{fault_cmp}
 use Rattle.eos_claims.proofs.FaultOrder.{fault_exact}
-use Rattle.eos_fault_list.proofs.TiedKept.{contained_has, has_contained}
+use Rattle.eos_base.proofs.TiedKept.{contained_has, has_contained}
 use Rattle.eos_output_faults.specs.declared.lent.LentPlace.{LentPlace}
 use Rattle.eos_output_faults.specs.steps.Gathered.{shown_at, lacking, gathered_by, gathered, AreOutputFaults}
 use Rattle.eos_output_faults.specs.steps.Plain.{place_at}

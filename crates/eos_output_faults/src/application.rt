@@ -13,10 +13,9 @@ use crate::firsts::{firsts_of, places_of};
 use crate::lent::{LentPlace, VisibleClaim};
 use crate::shown::found;
 use crate::tables::Tables;
-use eos_base::Sorted;
+use eos_base::{Sorted, distinct_in_order};
 use eos_claims::OutputFault;
 use eos_commits::{CommitRef, TopicSet};
-use eos_fault_list::distinct_in_order;
 use std::alloc::{AllocError, Global};
 
 fn tables_of<'a>(

@@ -17,8 +17,8 @@ use Rattle.eos_evidence.specs.Topics.{is_internal}
 use Rattle.eos_fold.specs.declared.stop.Stop.{Stop}
 use Rattle.eos_fold.specs.declared.stop.Stop.TheVariants.{AtEnd, NoBatch, Elsewhere}
 use Rattle.eos_fold.specs.Standing.{IsOpen, IsStanding, fault_cmp}
-use Rattle.eos_fault_list.specs.AllOf.{IsAllOf}
-use Rattle.eos_fault_list.proofs.WholeList.{all_by_keys}
+use Rattle.eos_base.specs.AllOf.{IsAllOf}
+use Rattle.eos_base.proofs.WholeList.{all_by_keys}
 use Rattle.eos_partition_faults.specs.declared.walk.Walk.{Walk}
 use Rattle.eos_partition_faults.specs.PartitionPlaces.{Placed, at_batches, is_left_open, left_open, at_stop, placed, named, gathered}
 use Rattle.eos_partition_faults.specs.steps.Found.{placed_cmp, end_at, open_of, found_at}

@@ -6,7 +6,7 @@ use Rattle.eos_touch.specs.declared.fault.PartitionFault.{PartitionFault}
 use Rattle.eos_fold.specs.declared.stop.Stop.{Stop}
 use Rattle.eos_fold.specs.Fronts.{IsFront}
 use Rattle.eos_fold.specs.Standing.{fault_cmp, IsStanding}
-use Rattle.eos_fault_list.specs.AllOf.{IsAllOf}
+use Rattle.eos_base.specs.AllOf.{IsAllOf}
 
 pub record AreFaultsOf (p : Partition) (list : List PartitionFault) : Type 0 where
   pub batches : List Batch

@@ -9,7 +9,7 @@ use crate::shown::Shown;
 use crate::stops::found_of;
 use bytes::Bytes;
 use eos_evidence::Partition;
-use eos_fault_list::distinct_in_order;
+use eos_base::distinct_in_order;
 use eos_fold::is_checked;
 use eos_touch::PartitionFault;
 use std::alloc::{AllocError, Global};

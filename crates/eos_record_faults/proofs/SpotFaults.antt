@@ -16,7 +16,7 @@ use Rattle.eos_commits.specs.declared.fault.VisibleFaultKind.TheVariants.{BadLin
 use Rattle.eos_commits.specs.Faults.{visible_cmp}
 use Rattle.eos_commits.proofs.Spots.{Spot, fault_of}
 use Rattle.eos_commits.proofs.VisibleOrder.{kind_cmp}
-use Rattle.eos_fault_list.proofs.WholeList.{first_less}
+use Rattle.eos_base.proofs.WholeList.{first_less}
 use Rattle.eos_record_faults.specs.declared.shown.Shown.{Shown}
 use Rattle.eos_record_faults.specs.steps.Gathered.{tested, refusal_at, shown_at}
 use Rattle.eos_record_faults.proofs.SpotFold.{listed}

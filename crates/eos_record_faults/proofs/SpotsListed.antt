@@ -26,7 +26,7 @@ use Rattle.eos_commits.proofs.RecordsLaw.{int_order}
 use Rattle.eos_commits.proofs.Spots.{Spot, spots, Before, Up, in_order, IsCommit, ShowsAs, fault_of, to_stands, from_stands}
 use Rattle.eos_commits.proofs.JudgedSpot.{AreRoles, one_group}
 use Rattle.eos_commits.proofs.FirstFault.{roles}
-use Rattle.eos_fault_list.specs.AllOf.{IsAllOf}
+use Rattle.eos_base.specs.AllOf.{IsAllOf}
 use Rattle.eos_record_faults.specs.steps.Gathered.{Homes, nowhere, first_home, met, gathered}
 use Rattle.eos_record_faults.proofs.HomesMet.{same}
 use Rattle.eos_record_faults.proofs.SpotFold.{unclaimed_at, commit_at, next_homes, at_spot, after, gathered_is}

@@ -2,7 +2,7 @@
 
 ghost use Rattle.std.specs.Prelude.{◌≡◌, IfOk};
 ghost use Rattle.eos_commits.specs.Faults.{visible_cmp, Stands, AreInOrder};
-ghost use Rattle.eos_fault_list.specs.AllOf.{IsAllOf};
+ghost use Rattle.eos_base.specs.AllOf.{IsAllOf};
 
 use crate::gathering::gather;
 use crate::sources::{Sources, all_outputs};

@@ -6,7 +6,7 @@ ghost use Rattle.eos_evidence.specs.declared.application.App.{App};
 ghost use Rattle.eos_fold.specs.Parts.{PartLog};
 ghost use Rattle.eos_commits.specs.declared.fault.VisibleFault.{VisibleFault};
 ghost use Rattle.eos_commits.specs.Faults.{visible_cmp, Stands};
-ghost use Rattle.eos_fault_list.specs.AllOf.{IsAllOf};
+ghost use Rattle.eos_base.specs.AllOf.{IsAllOf};
 
 /// The first of all faults of visible records is the least.
 pub fn first_record_fault()

@@ -5,7 +5,7 @@ use Rattle.std.specs.Ordering.{nat_cmp, is_eq}
 use Rattle.std.specs.Cmp.Lexicographic.{slice_cmp}
 use Rattle.eos_base.specs.Members.{Has}
 use Rattle.eos_base.proofs.Exact.{bytes_exact, is_tied}
-use Rattle.eos_fault_list.specs.AllOf.{IsAllOf}
+use Rattle.eos_base.specs.AllOf.{IsAllOf}
 
 pub each_once : (all once : List (List ℕ)) → IsStrictlySortedBy (slice_cmp nat_cmp) once → ((x : List ℕ) → Has once x → Has all x)
     → ((x : List ℕ) → Has all x → (y : List ℕ) × Has once y × (is_eq (slice_cmp nat_cmp x y) ≡ true)) → IsAllOf (slice_cmp nat_cmp) (Has all) once

@@ -13,7 +13,7 @@ use crate::plan::Plan;
 use crate::source::Source;
 use eos_board::{Drawn, Seat, Tickets};
 use eos_part::KeptRun;
-use eos_workers::Workers;
+use eos_base::Workers;
 use std::alloc::{AllocError, Global};
 use std::thread;
 use std::thread::Threads;

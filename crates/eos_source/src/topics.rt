@@ -5,7 +5,7 @@ ghost use Rattle.eos_source.specs.Topics.{sources_of, AreSourceTopics};
 
 use bytes::Bytes;
 use eos_evidence::App;
-use eos_fault_list::distinct_in_order;
+use eos_base::distinct_in_order;
 use std::alloc::{AllocError, Global};
 
 /// Puts equal names at the end, which share their bytes.

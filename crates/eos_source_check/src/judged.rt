@@ -7,14 +7,13 @@ ghost use Rattle.eos_source.specs.Said.{known_by};
 ghost use Rattle.eos_source_check.specs.Judged.{IsJudgedOf};
 
 use crate::kept::apart;
-use eos_base::Listed;
+use eos_base::{Listed, Workers};
 use eos_check::{Verdict, judge};
 use eos_evidence::Evidence;
 use eos_partitions::Logs;
 use eos_reading::EpochEntry;
 use eos_source::{Source, kept_logs};
 use eos_tallies::Counted;
-use eos_workers::Workers;
 use std::alloc::Global;
 use std::thread::Threads;
 

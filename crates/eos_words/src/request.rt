@@ -1,7 +1,7 @@
 //! What a run is asked to do.
 
 use crate::demands::Demands;
-use eos_workers::Workers;
+use eos_base::Workers;
 
 /// What a run is asked to do.
 #[derive(Drop)]

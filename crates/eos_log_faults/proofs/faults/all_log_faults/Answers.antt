@@ -3,7 +3,7 @@ use Rattle.eos_base.specs.Members.{Has}
 use Rattle.eos_table.specs.TransactionLog.{transaction_parts}
 use Rattle.eos_table.specs.LogFaults.{Stands, log_cmp}
 use Rattle.eos_table.proofs.LogOrder.{log_exact}
-use Rattle.eos_fault_list.proofs.WholeList.{all_by_order}
+use Rattle.eos_base.proofs.WholeList.{all_by_order}
 use Rattle.eos_log_faults.proofs.AllGathered.{sound, all_whole}
 use Rattle.eos_log_faults.proofs.faults.all_log_faults.Goals as goal
 

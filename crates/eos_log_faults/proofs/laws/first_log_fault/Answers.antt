@@ -1,6 +1,6 @@
 use Rattle.eos_table.specs.LogFaults.{Stands}
 use Rattle.eos_table.proofs.LogOrder.{log_total}
-use Rattle.eos_fault_list.proofs.WholeList.{first_least}
+use Rattle.eos_base.proofs.WholeList.{first_least}
 use Rattle.eos_log_faults.proofs.laws.first_log_fault.Goals as goal
 
 pub returns : goal.returns

@@ -1,5 +1,5 @@
 use Rattle.eos_table.specs.LogFaults.{Stands, log_cmp}
-use Rattle.eos_fault_list.proofs.WholeList.{none_listed}
+use Rattle.eos_base.proofs.WholeList.{none_listed}
 use Rattle.eos_log_faults.proofs.laws.no_log_fault.Goals as goal
 
 pub returns : goal.returns

@@ -3,7 +3,7 @@ use Rattle.eos_base.specs.Members.{Has}
 use Rattle.eos_table.specs.TransactionLog.{transaction_parts, decisions_of}
 use Rattle.eos_table.specs.MatchFaults.{Stands, fault_cmp}
 use Rattle.eos_table.proofs.MatchOrder.{fault_exact}
-use Rattle.eos_fault_list.proofs.WholeList.{all_by_order}
+use Rattle.eos_base.proofs.WholeList.{all_by_order}
 use Rattle.eos_match_faults.specs.MatchPlaces.{gathered}
 use Rattle.eos_match_faults.proofs.RecordedDecisions.{in_parts}
 use Rattle.eos_match_faults.proofs.PlacesSound.{sound}

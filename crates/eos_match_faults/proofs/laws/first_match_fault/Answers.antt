@@ -1,6 +1,6 @@
 use Rattle.eos_table.specs.MatchFaults.{Stands}
 use Rattle.eos_table.proofs.MatchOrder.{fault_total}
-use Rattle.eos_fault_list.proofs.WholeList.{first_least}
+use Rattle.eos_base.proofs.WholeList.{first_least}
 use Rattle.eos_match_faults.proofs.laws.first_match_fault.Goals as goal
 
 pub returns : goal.returns

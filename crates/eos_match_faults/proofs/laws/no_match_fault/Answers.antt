@@ -1,5 +1,5 @@
 use Rattle.eos_table.specs.MatchFaults.{Stands, fault_cmp}
-use Rattle.eos_fault_list.proofs.WholeList.{none_listed}
+use Rattle.eos_base.proofs.WholeList.{none_listed}
 use Rattle.eos_match_faults.proofs.laws.no_match_fault.Goals as goal
 
 pub returns : goal.returns

@@ -3,7 +3,7 @@ use Rattle.std.proofs.lemmas.Int.{to_z-of_z}
 use mir.Val.{SFits}
 use Rattle.eos_evidence.specs.Topics.{is_internal}
 use Rattle.eos_fold.specs.Standing.{IsStanding, fault_cmp}
-use Rattle.eos_fault_list.specs.AllOf.{IsAllOf}
+use Rattle.eos_base.specs.AllOf.{IsAllOf}
 use Rattle.eos_partition_faults.specs.steps.Walks.{HasWalked}
 use Rattle.eos_partition_faults.proofs.AllFound.{found_sound, found_whole, listed}
 use Rattle.eos_partition_faults.proofs.faults.faults_of_partition.Goals as goal

@@ -1,7 +1,7 @@
 use Rattle.std.proofs.Common.{List, IsPermutation, sym, subst, ◌∙◌}
 use Rattle.eos_commits.specs.Commits.{Topic}
 use Rattle.eos_commits.specs.Faults.{Stands, visible_cmp}
-use Rattle.eos_fault_list.specs.AllOf.{IsAllOf}
+use Rattle.eos_base.specs.AllOf.{IsAllOf}
 use Rattle.eos_record_faults.proofs.SpotsListed.{law}
 use Rattle.eos_record_faults.proofs.faults.all_record_faults.Goals as goal
 

@@ -1,5 +1,5 @@
 use Rattle.eos_commits.specs.Faults.{visible_cmp, Stands}
-use Rattle.eos_fault_list.proofs.WholeList.{none_listed}
+use Rattle.eos_base.proofs.WholeList.{none_listed}
 use Rattle.eos_record_faults.proofs.laws.no_record_fault.Goals as goal
 
 pub returns : goal.returns

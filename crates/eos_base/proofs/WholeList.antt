@@ -11,7 +11,7 @@ use Rattle.eos_base.specs.Least.{UpTo, NoneStands, IsLeast}
 use Rattle.eos_base.proofs.Exact.{is_tied}
 use Rattle.eos_base.proofs.LeastOf.{upto_same}
 use Rattle.eos_base.proofs.Membership.{map_has, has_map}
-use Rattle.eos_fault_list.specs.AllOf.{IsAllOf}
+use Rattle.eos_base.specs.AllOf.{IsAllOf}
 
 all_at : {X : Type 0} (P : X → Type 0) (xs : List X) → AllByRecursion P xs → (y : X) → Has xs y → P y
 all_at P [] h y k = absurd k

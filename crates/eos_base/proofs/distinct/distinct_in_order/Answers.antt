@@ -1,8 +1,8 @@
 use Rattle.std.proofs.lemmas.List.Filters.{dedup_is}
 use Rattle.std.proofs.lemmas.List.Kept.{IsStrictlySortedBy-dedup, Contains-from_dedup, Any-dedup}
 use Rattle.std.proofs.lemmas.List.Sorted.{Contains-permutation, IsPermutation-sym}
-use Rattle.eos_fault_list.proofs.TiedKept.{contained_has, has_contained, tied_kept}
-use Rattle.eos_fault_list.proofs.distinct.distinct_in_order.Goals as goal
+use Rattle.eos_base.proofs.TiedKept.{contained_has, has_contained, tied_kept}
+use Rattle.eos_base.proofs.distinct.distinct_in_order.Goals as goal
 
 pub returns-clause-rises : goal.returns-clause-rises
 returns-clause-rises g c = rw (dedup_is _ _ _ c.dedup.ensures.filtered) (IsStrictlySortedBy-dedup g.met.T.Ord.total g.met.T.Ord.matches_eq _ c.sort_unstable.ensures.sorted)

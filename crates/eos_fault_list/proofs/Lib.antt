@@ -1,2 +1,0 @@
-pub mod TiedKept
-pub mod WholeList
