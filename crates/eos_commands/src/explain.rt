@@ -2,15 +2,14 @@
 
 ghost use Rattle.std.specs.Prelude.{◌≡◌, Err, OnOk, OnErr};
 ghost use Rattle.std.specs.Io.KnownBytes.{Appends, Keeps};
-ghost use Rattle.eos_catalogue.specs.Pages.{page_text};
+ghost use Rattle.eos_text.specs.Pages.{page_text};
 ghost use Rattle.eos_text.specs.Writing.{WritesFront};
 ghost use Rattle.eos_segment.specs.Running.{IsOfReading};
 
-use eos_catalogue::{Page, page_of, page_text};
+use eos_text::{Page, finish, page_of, page_text};
 use eos_ending::{Ending, STANDARD, end};
 use eos_folder::Cause;
 use eos_segment::RunFault;
-use eos_text::finish;
 use std::alloc::Global;
 use std::io;
 use std::io::Write;

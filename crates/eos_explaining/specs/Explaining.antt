@@ -2,8 +2,8 @@
 use Rattle.std.specs.Prelude.{◌≡◌, ◌<◌, ◌⊎◌, ◌++◌, ⊤, ℕ, suc, List, All, map, length, Option, Some, None, slice_get, codes, string_bytes, false}
 use Rattle.std.specs.Fmt.{decimal}
 use Rattle.std.specs.Option.{option_copied}
-use Rattle.eos_catalogue.specs.Catalogue.{IsPageOf}
-use Rattle.eos_catalogue.specs.declared.page.Page.{Page}
+use Rattle.eos_text.specs.Catalogue.{IsPageOf}
+use Rattle.eos_text.specs.declared.page.Page.{Page}
 use Rattle.eos_check.specs.declared.verdict.Fault.{Fault}
 use Rattle.eos_check.specs.declared.verdict.Verdict.{Verdict}
 use Rattle.eos_check.specs.declared.verdict.Verdict.TheVariants.{Yes, No}

@@ -2,7 +2,7 @@
 
 ghost use Rattle.std.specs.Prelude.{◌≡◌, ◌<◌, length, map, List, IfOk, Some, slice_get, string_bytes};
 ghost use Rattle.std.specs.Option.{option_copied};
-ghost use Rattle.eos_catalogue.specs.Catalogue.{IsPageOf};
+ghost use Rattle.eos_text.specs.Catalogue.{IsPageOf};
 ghost use Rattle.eos_check.specs.declared.verdict.Fault.{Fault as AFault};
 ghost use Rattle.eos_check.specs.declared.verdict.Verdict.{Verdict as Named};
 ghost use Rattle.eos_check.specs.declared.verdict.Verdict.TheVariants.{No};
@@ -10,7 +10,7 @@ ghost use Rattle.eos_lineage.specs.EvidenceLogs.{AreLogsOf};
 ghost use Rattle.eos_notes.specs.Notes.{AreNotes};
 ghost use Rattle.eos_explaining.specs.Explaining.{IsStoryOf, code_of};
 
-use eos_catalogue::{Page, page_of};
+use eos_text::{Page, page_of};
 use eos_check::{Fault, Verdict};
 use eos_notes::Note;
 use eos_story::{Scene, place_of, rows_of};

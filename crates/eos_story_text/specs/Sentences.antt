@@ -3,8 +3,8 @@
 use Rattle.std.specs.Prelude.{ℕ, List, [], ◌∷◌, ◌++◌, Option, Some, None, codes}
 use Rattle.std.specs.Fmt.{decimal}
 use Rattle.eos_base.specs.declared.partition_name.PartitionName.{PartitionName}
-use Rattle.eos_catalogue.specs.declared.case.Case.{Case}
-use Rattle.eos_catalogue.specs.declared.page.Page.{Page}
+use Rattle.eos_text.specs.declared.case.Case.{Case}
+use Rattle.eos_text.specs.declared.page.Page.{Page}
 use Rattle.eos_claims.specs.declared.place.Place.{Place}
 use Rattle.eos_places.specs.declared.partition.Placed.{Placed}
 use Rattle.eos_report.specs.FaultTexts.{name_text}

@@ -4,8 +4,8 @@ use Rattle.std.specs.List.{list_any}
 use Rattle.std.specs.Ordering.{int_eq}
 use Rattle.eos_base.specs.declared.partition_name.PartitionName.{PartitionName}
 use Rattle.eos_batch.specs.declared.head.BatchHead.{BatchHead}
-use Rattle.eos_catalogue.specs.declared.case.Sign.{Sign}
-use Rattle.eos_catalogue.specs.declared.case.Sign.TheVariants as signs
+use Rattle.eos_text.specs.declared.case.Sign.{Sign}
+use Rattle.eos_text.specs.declared.case.Sign.TheVariants as signs
 use Rattle.eos_claims.specs.declared.claim.Claim.{Claim}
 use Rattle.eos_claims.specs.declared.place.Place.{Place}
 use Rattle.eos_claims.specs.Headers.{claim_of}

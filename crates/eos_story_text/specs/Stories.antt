@@ -1,7 +1,7 @@
 -- The text of a story.
 use Rattle.std.specs.Prelude.{ℕ, List, [], ◌++◌, Option, Some, None, length, map, take, nat_le, if◌then◌else◌}
 use Rattle.std.specs.Option.{option_copied}
-use Rattle.eos_catalogue.specs.declared.page.Page.{Page}
+use Rattle.eos_text.specs.declared.page.Page.{Page}
 use Rattle.eos_claims.specs.declared.place.Place.{Place}
 use Rattle.eos_notes.specs.declared.note.Note.{Note}
 use Rattle.eos_notes.specs.Texts.{note_lines}

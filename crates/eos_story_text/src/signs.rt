@@ -11,7 +11,7 @@ use crate::names::is_there;
 use crate::twins::{completes, is_twin_of};
 use eos_base::PartitionName;
 use eos_batch::BatchHead;
-use eos_catalogue::Sign;
+use eos_text::Sign;
 use eos_claims::Place;
 use eos_places::{Placed, Wanted};
 use eos_sought::{Find, Sought};

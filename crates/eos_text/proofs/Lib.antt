@@ -1,2 +1,4 @@
 pub mod Appended
 pub mod Fronts
+pub mod PagesFound
+pub mod KindsListed

@@ -1,6 +1,6 @@
 //! The codes of kinds of faults, by their names.
 
-use eos_catalogue::{Page, page_of};
+use eos_text::{Page, page_of};
 use std::alloc::{AllocError, Global};
 
 /// How many phases there are at most, and of how many kinds each.

@@ -1,2 +1,0 @@
-pub mod PagesFound
-pub mod KindsListed

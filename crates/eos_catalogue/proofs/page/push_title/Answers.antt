@@ -1,5 +1,0 @@
-use Rattle.eos_text.proofs.Appended.{then}
-use Rattle.eos_catalogue.proofs.page.push_title.Goals as goal
-
-pub returns : goal.returns
-returns c = then c.in_ok-push_text.ensures (then c.in_ok-push_text-2.ensures (then c.in_ok-push_text-3.ensures c.in_ok-push_text-4.ensures))

@@ -1,8 +1,0 @@
-use Rattle.std.proofs.Common.{ap}
-use Rattle.eos_catalogue.specs.Catalogue.{record_codes}
-use Rattle.eos_catalogue.specs.Kinds.{codes_of, have_briefs}
-use Rattle.eos_catalogue.proofs.phases.of_records.Goals as goal
-
-pub returns : goal.returns
-unfolding record_codes
-returns c = record { named = ap codes_of c.as_slice.ensures; briefs = ap have_briefs c.as_slice.ensures }

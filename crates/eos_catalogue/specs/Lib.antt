@@ -1,4 +1,0 @@
-pub mod Catalogue
-pub mod Kinds
-pub mod Pages
-pub mod steps

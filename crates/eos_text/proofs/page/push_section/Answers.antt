@@ -1,0 +1,5 @@
+use Rattle.eos_text.proofs.Appended.{then}
+use Rattle.eos_text.proofs.page.push_section.Goals as goal
+
+pub returns : goal.returns
+returns c = then c.in_ok-push_text.ensures (then c.in_ok-push_text-2.ensures (then c.in_ok-push_text-3.ensures (then c.in_ok-push_text-4.ensures c.in_ok-push_text-5.ensures)))

@@ -1,0 +1,8 @@
+use Rattle.std.proofs.Common.{ap}
+use Rattle.eos_text.specs.Catalogue.{decision_codes}
+use Rattle.eos_text.specs.Kinds.{codes_of, have_briefs}
+use Rattle.eos_text.proofs.phases.of_decisions.Goals as goal
+
+pub returns : goal.returns
+unfolding decision_codes
+returns c = record { named = ap codes_of c.as_slice.ensures; briefs = ap have_briefs c.as_slice.ensures }
