@@ -8,8 +8,8 @@ use Rattle.std.proofs.lemmas.List.Elements.{All-take}
 use Rattle.std.specs.Int.{w64, cast_signed, cast_unsigned, to_be_bytes}
 use Rattle.std.proofs.lemmas.Int.{of_z-to_z, ints}
 use Rattle.eos_wire.specs.Numbers.{i16_text, i64_text}
-use Rattle.eos_fields.specs.declared.form.Form.TheVariants.{Plain}
-use Rattle.eos_fields.specs.Writing.{string_text}
+use Rattle.eos_wire.specs.declared.form.Form.TheVariants.{Plain}
+use Rattle.eos_wire.specs.FieldWriting.{string_text}
 use Rattle.eos_offsets.specs.declared.key.OffsetKey.{OffsetKey}
 use Rattle.eos_offsets.specs.Writing as offsets
 use Rattle.eos_txnlog.specs.declared.status.Status.{Status as TxnStatus}

@@ -10,9 +10,9 @@ use Rattle.eos_wire.proofs.NumberTexts.{IsBytes-append_right, i16_sound, i16_who
 use Rattle.eos_base.specs.declared.record_fault.RecordFault.{RecordFault}
 use Rattle.eos_base.specs.declared.record_fault.RecordFault.TheVariants as faults
 use Rattle.eos_offsets.specs.Text.{IsMetadata, IfPresent, IsInt32, IsInt64}
-use Rattle.eos_fields.specs.declared.form.Form.TheVariants.{Plain}
-use Rattle.eos_fields.specs.Texts.{IsStringText}
-use Rattle.eos_fields.proofs.Takes.{ok_is, glue, Taken, Cut, cut_sound, cut_whole}
+use Rattle.eos_wire.specs.declared.form.Form.TheVariants.{Plain}
+use Rattle.eos_wire.specs.Texts.{IsStringText}
+use Rattle.eos_wire.proofs.Takes.{ok_is, glue, Taken, Cut, cut_sound, cut_whole}
 use Rattle.eos_base.specs.Fallible.{◌>>=◌, must}
 use Rattle.eos_base.specs.Records.{present, ended, Settles}
 use Rattle.eos_offsets.specs.Reading.{after_metadata_from, after_metadata, after_field}

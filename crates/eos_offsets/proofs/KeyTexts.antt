@@ -8,11 +8,11 @@ use Rattle.std.proofs.lemmas.Int.{ints}
 use Rattle.eos_wire.specs.Numbers.{IsBytes, i16_text, i32_text, i16_at, i32_at}
 use Rattle.eos_wire.proofs.NumberTexts.{i16_sound, i16_whole, i32_sound, i32_whole}
 use Rattle.eos_base.specs.declared.record_fault.RecordFault.{RecordFault}
-use Rattle.eos_fields.specs.declared.form.Form.TheVariants.{Plain}
-use Rattle.eos_fields.specs.Texts.{IsStringText}
-use Rattle.eos_fields.specs.Reading.{string_from}
-use Rattle.eos_fields.proofs.Takes.{bind_ok, ok_is}
-use Rattle.eos_fields.proofs.FieldTexts.{string_sound, string_whole}
+use Rattle.eos_wire.specs.declared.form.Form.TheVariants.{Plain}
+use Rattle.eos_wire.specs.Texts.{IsStringText}
+use Rattle.eos_wire.specs.Reading.{string_from}
+use Rattle.eos_wire.proofs.Takes.{bind_ok, ok_is}
+use Rattle.eos_wire.proofs.FieldTexts.{string_sound, string_whole}
 use Rattle.eos_offsets.specs.declared.key.OffsetKey.{OffsetKey}
 use Rattle.eos_offsets.specs.Text.{IsKeyText, IsOtherKeyText}
 use Rattle.eos_offsets.specs.Reading.{key_fields_of, is_key_version, some_of, read_key}

@@ -8,7 +8,7 @@ use Rattle.eos_wire.specs.Numbers.{IsBytes, i16_text, i64_text, i16_at, i32_at, 
 use Rattle.eos_wire.proofs.NumberTexts.{i16_sound, i16_whole, i64_sound, i64_whole}
 use Rattle.eos_base.specs.declared.record_fault.RecordFault.{RecordFault}
 use Rattle.eos_base.specs.declared.record_fault.RecordFault.TheVariants as faults
-use Rattle.eos_fields.proofs.Takes.{bind_ok}
+use Rattle.eos_wire.proofs.Takes.{bind_ok}
 use Rattle.eos_offsets.specs.Text.{IsMetadata, IfPresent, IsInt32, IsInt64, IsValueText}
 use Rattle.eos_offsets.specs.Reading.{after_metadata, after_field, is_value_version, value_fields_of, read_value}
 use Rattle.eos_offsets.proofs.FieldTexts.{field_ok, followed, used_up, metadata_sound, metadata_whole, leader_epoch_sound, leader_epoch_whole, expire_timestamp_sound, expire_timestamp_whole, ended_ok}

@@ -7,8 +7,8 @@ use Rattle.eos_base.specs.Fallible.{◌>>=◌}
 use Rattle.eos_base.specs.Records.{present, ended}
 use Rattle.eos_base.specs.declared.record_fault.RecordFault.{RecordFault}
 use Rattle.eos_base.specs.declared.record_fault.RecordFault.TheVariants as faults
-use Rattle.eos_fields.specs.declared.form.Form.TheVariants.{Plain}
-use Rattle.eos_fields.specs.Reading.{string_from}
+use Rattle.eos_wire.specs.declared.form.Form.TheVariants.{Plain}
+use Rattle.eos_wire.specs.Reading.{string_from}
 use Rattle.eos_offsets.specs.declared.key.OffsetKey.{OffsetKey}
 
 -- a fault that bytes can have: not want of memory, and no record has a status

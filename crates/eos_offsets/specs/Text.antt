@@ -5,8 +5,8 @@ use Rattle.std.specs.Prelude.{◌≡◌, ◌≢◌, ◌⊎◌, ℕ, ℤ, pos, ne
 use Rattle.std.specs.Ordering.{int_eq}
 use Rattle.std.specs.Int.{w16, w32, w64}
 use Rattle.eos_wire.specs.Numbers.{i16_text, i32_text, i64_text}
-use Rattle.eos_fields.specs.declared.form.Form.TheVariants.{Plain}
-use Rattle.eos_fields.specs.Texts.{IsStringText}
+use Rattle.eos_wire.specs.declared.form.Form.TheVariants.{Plain}
+use Rattle.eos_wire.specs.Texts.{IsStringText}
 use Rattle.eos_offsets.specs.declared.key.OffsetKey.{OffsetKey}
 
 -- the metadata: a string, or the length -1, which stands for an empty one

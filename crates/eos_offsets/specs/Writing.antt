@@ -6,8 +6,8 @@ use Rattle.std.specs.Ordering.{int_eq}
 use Rattle.eos_wire.specs.Numbers.{i16_text, i32_text, i64_text}
 use Rattle.eos_base.specs.declared.record_fault.RecordFault.{RecordFault}
 use Rattle.eos_base.specs.declared.record_fault.RecordFault.TheVariants as faults
-use Rattle.eos_fields.specs.declared.form.Form.TheVariants.{Plain}
-use Rattle.eos_fields.specs.Writing.{string_text}
+use Rattle.eos_wire.specs.declared.form.Form.TheVariants.{Plain}
+use Rattle.eos_wire.specs.FieldWriting.{string_text}
 use Rattle.eos_offsets.specs.declared.key.OffsetKey.{OffsetKey}
 use Rattle.eos_offsets.specs.declared.value.Commit.{Commit}
 use Rattle.eos_offsets.specs.Reading.{is_value_version}

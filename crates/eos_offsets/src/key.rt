@@ -12,16 +12,15 @@
 
 ghost use Rattle.std.specs.Prelude.{◌≡◌, true, length, Ok, None, Some, IfOk, IfErr};
 ghost use Rattle.eos_base.specs.Records.{Settles};
-ghost use Rattle.eos_fields.specs.declared.form.Form.TheVariants.{Plain};
-ghost use Rattle.eos_fields.specs.Writing.{fits_length};
+ghost use Rattle.eos_wire.specs.declared.form.Form.TheVariants.{Plain};
+ghost use Rattle.eos_wire.specs.FieldWriting.{fits_length};
 ghost use Rattle.eos_offsets.specs.Text.{IsKeyText, IsOtherKeyText};
 ghost use Rattle.eos_offsets.specs.Reading.{IsNotStatus, key_fields_of, read_key};
 ghost use Rattle.eos_offsets.specs.Writing.{key_bytes, write_key};
 
 use bytes::Bytes;
 use eos_base::RecordFault;
-use eos_fields::{Form, fits_length, read_text, write_text};
-use eos_wire::{Cursor, are_bytes, write_i16, write_i32};
+use eos_wire::{Cursor, Form, are_bytes, fits_length, read_text, write_i16, write_i32, write_text};
 use std::alloc::{AllocError, Global};
 
 /// The version that is written.

@@ -1,8 +1,8 @@
 //! Keys and values that are read where they stand. Nothing is shared or copied, and no memory is taken.
 
 ghost use Rattle.std.specs.Prelude.{◌≡◌, IfErr};
-ghost use Rattle.eos_fields.specs.declared.form.Form.TheVariants.{Plain};
-ghost use Rattle.eos_fields.specs.Reading.{string_from};
+ghost use Rattle.eos_wire.specs.declared.form.Form.TheVariants.{Plain};
+ghost use Rattle.eos_wire.specs.Reading.{string_from};
 ghost use Rattle.eos_offsets.specs.Reading.{IsOfBytes, key_fields_of, read_key, read_value};
 ghost use Rattle.eos_offsets.specs.Views.{LendsAnyKey};
 ghost use Rattle.eos_offsets.specs.steps.Views.{Lends, LendsKey};
@@ -20,7 +20,7 @@ pub struct KeyRef<'a> {
 }
 
 /// A STRING, as a part of the input.
-#[tactic(auto, unfolding(eos_fields::specs::Reading::string_from, eos_fields::specs::Reading::length_from))]
+#[tactic(auto, unfolding(eos_wire::specs::Reading::string_from, eos_wire::specs::Reading::length_from))]
 fn view_string<'a>(fields: &mut Fields<'a>) -> Result<&'a [u8], RecordFault>
     ensures reading { Lends result fields.new (string_from Plain fields.old) }
     ensures faults { IfErr result IsOfBytes }

@@ -14,8 +14,8 @@ use Rattle.eos_batch.specs.Encoding.{batch_text_of}
 use Rattle.eos_batch.specs.Text.{IsBatchText}
 use Rattle.eos_batch.specs.steps.Writing.{HasRecordWidths}
 use Rattle.eos_txnlog.specs.Writing.{write_key}
-use Rattle.eos_fields.specs.declared.form.Form.TheVariants.{Plain}
-use Rattle.eos_fields.specs.Writing.{string_text}
+use Rattle.eos_wire.specs.declared.form.Form.TheVariants.{Plain}
+use Rattle.eos_wire.specs.FieldWriting.{string_text}
 use Rattle.eos_offsets.specs.declared.key.OffsetKey.{OffsetKey}
 use Rattle.eos_offsets.specs.Writing as offsets
 use Rattle.eos_machine.specs.declared.config.Config.{Config}

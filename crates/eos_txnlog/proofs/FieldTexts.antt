@@ -3,11 +3,11 @@ use Rattle.std.proofs.Common.{◌≡◌, ℕ, List, ◌++◌, length, Option, So
 use Rattle.std.specs.Int.{w32}
 use Rattle.eos_wire.specs.Numbers.{i32_text, i32_at}
 use Rattle.eos_wire.proofs.NumberTexts.{i32_sound, i32_whole}
-use Rattle.eos_fields.specs.declared.form.Form.{Form}
-use Rattle.eos_fields.specs.Texts.{IsCountText, IsListText}
-use Rattle.eos_fields.specs.Reading.{count_from}
-use Rattle.eos_fields.proofs.Takes.{bind_ok, ok_is, glue, Taken, IsSound, IsWhole, many_sound, many_whole}
-use Rattle.eos_fields.proofs.FieldTexts.{signed_sound, signed_whole, IsCountOrNull, count_sound, count_whole}
+use Rattle.eos_wire.specs.declared.form.Form.{Form}
+use Rattle.eos_wire.specs.Texts.{IsCountText, IsListText}
+use Rattle.eos_wire.specs.Reading.{count_from}
+use Rattle.eos_wire.proofs.Takes.{bind_ok, ok_is, glue, Taken, IsSound, IsWhole, many_sound, many_whole}
+use Rattle.eos_wire.proofs.FieldTexts.{signed_sound, signed_whole, IsCountOrNull, count_sound, count_whole}
 use Rattle.eos_txnlog.specs.Text.{IsNumberText}
 use Rattle.eos_txnlog.specs.Reading.{number_from, not_null, not_null_count_from, numbers_from}
 

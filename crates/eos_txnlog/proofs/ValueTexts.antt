@@ -10,21 +10,21 @@ use Rattle.eos_wire.specs.Numbers.{IsBytes, i8_text, i16_text, i32_text, i64_tex
 use Rattle.eos_wire.proofs.NumberTexts.{i8_sound, i8_whole, i16_sound, i16_whole, i32_sound, i32_whole, i64_sound, i64_whole}
 use Rattle.eos_base.specs.declared.record_fault.RecordFault.{RecordFault}
 use Rattle.eos_base.specs.declared.record_fault.RecordFault.TheVariants as faults
-use Rattle.eos_fields.specs.declared.form.Form.{Form}
-use Rattle.eos_fields.specs.declared.form.Form.TheVariants.{Plain, Flexible}
+use Rattle.eos_wire.specs.declared.form.Form.{Form}
+use Rattle.eos_wire.specs.declared.form.Form.TheVariants.{Plain, Flexible}
 use Rattle.eos_txnlog.specs.declared.status.Status.{Status}
 use Rattle.eos_txnlog.specs.declared.status.Status.TheVariants as statuses
 use Rattle.eos_txnlog.specs.declared.partitions.TopicPartitions.{TopicPartitions}
 use Rattle.eos_txnlog.specs.declared.value.TxnValue.{TxnValue}
 use Rattle.eos_txnlog.specs.Status.{status_number, all_statuses, status_of}
-use Rattle.eos_fields.specs.Texts.{IsCountText, IsNullText, IsStringText, AreTexts, IsListText}
+use Rattle.eos_wire.specs.Texts.{IsCountText, IsNullText, IsStringText, AreTexts, IsListText}
 use Rattle.eos_txnlog.specs.Text.{form_of, IsKeyText, IsTopicText, IsPartitionsText, IsBodyText, IsValueText, IsNumberText}
 use Rattle.eos_base.specs.Fallible.{must}
 use Rattle.eos_base.specs.Records.{present, ended, Settles}
-use Rattle.eos_fields.specs.Reading.{count_from, string_from, section_from}
+use Rattle.eos_wire.specs.Reading.{count_from, string_from, section_from}
 use Rattle.eos_txnlog.specs.Reading.{known_status, status_from, numbers_from, topic_from, partitions_from, body_from, known_form, read_value, id_from, read_key}
-use Rattle.eos_fields.proofs.Takes.{bind_ok, done, ok_is, glue, Taken, IsSound, IsWhole, many_sound, many_whole}
-use Rattle.eos_fields.proofs.FieldTexts.{IsSigned, signed_sound, signed_whole, IsCountOrNull, count_sound, count_whole, string_sound, string_whole, IsSection, section_sound, section_whole}
+use Rattle.eos_wire.proofs.Takes.{bind_ok, done, ok_is, glue, Taken, IsSound, IsWhole, many_sound, many_whole}
+use Rattle.eos_wire.proofs.FieldTexts.{IsSigned, signed_sound, signed_whole, IsCountOrNull, count_sound, count_whole, string_sound, string_whole, IsSection, section_sound, section_whole}
 use Rattle.eos_txnlog.proofs.FieldTexts.{numbers_sound, numbers_whole}
 
 -- ---- the status

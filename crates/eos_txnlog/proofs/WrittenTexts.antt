@@ -9,15 +9,15 @@ use Rattle.eos_wire.specs.Numbers.{i32_text}
 use Rattle.eos_wire.specs.Writing.{uvarint_of}
 use Rattle.eos_wire.proofs.Spellings.{uvarint_shortest}
 use Rattle.eos_base.specs.declared.record_fault.RecordFault.{RecordFault}
-use Rattle.eos_fields.specs.declared.form.Form.{Form}
-use Rattle.eos_fields.specs.declared.form.Form.TheVariants.{Plain, Flexible}
+use Rattle.eos_wire.specs.declared.form.Form.{Form}
+use Rattle.eos_wire.specs.declared.form.Form.TheVariants.{Plain, Flexible}
 use Rattle.eos_txnlog.specs.declared.partitions.TopicPartitions.{TopicPartitions}
 use Rattle.eos_txnlog.specs.declared.value.TxnValue.{TxnValue}
-use Rattle.eos_fields.specs.Texts.{IsLengthText, IsCountText, IsStringText, AreTexts, IsListText, IsSectionText}
+use Rattle.eos_wire.specs.Texts.{IsLengthText, IsCountText, IsStringText, AreTexts, IsListText, IsSectionText}
 use Rattle.eos_txnlog.specs.Text.{form_of, IsNumberText, IsKeyText, IsTopicText, IsBodyText, IsValueText}
 use Rattle.eos_txnlog.specs.steps.Text.{FitNumbers, IsInRange}
 use Rattle.eos_txnlog.specs.Reading.{read_value, read_key}
-use Rattle.eos_fields.specs.Writing.{fits_length, fits_count, length_text, count_text, section_text, string_text}
+use Rattle.eos_wire.specs.FieldWriting.{fits_length, fits_count, length_text, count_text, section_text, string_text}
 use Rattle.eos_txnlog.specs.Writing.{numbers_text, fits_topic, topic_text, fits_partitions, partitions_text, body_text, value_text, key_text}
 use Rattle.eos_txnlog.proofs.ValueTexts.{value_whole, key_whole}
 

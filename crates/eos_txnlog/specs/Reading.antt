@@ -7,9 +7,9 @@ use Rattle.eos_base.specs.Fallible.{◌>>=◌, or_fault}
 use Rattle.eos_base.specs.Records.{present, ended}
 use Rattle.eos_base.specs.declared.record_fault.RecordFault.{RecordFault}
 use Rattle.eos_base.specs.declared.record_fault.RecordFault.TheVariants as faults
-use Rattle.eos_fields.specs.declared.form.Form.{Form}
-use Rattle.eos_fields.specs.declared.form.Form.TheVariants.{Plain}
-use Rattle.eos_fields.specs.Reading.{count_from, string_from, many_from, section_from}
+use Rattle.eos_wire.specs.declared.form.Form.{Form}
+use Rattle.eos_wire.specs.declared.form.Form.TheVariants.{Plain}
+use Rattle.eos_wire.specs.Reading.{count_from, string_from, many_from, section_from}
 use Rattle.eos_txnlog.specs.declared.status.Status.{Status}
 use Rattle.eos_txnlog.specs.declared.partitions.TopicPartitions.{TopicPartitions}
 use Rattle.eos_txnlog.specs.declared.value.TxnValue.{TxnValue}

@@ -7,9 +7,9 @@ use Rattle.eos_wire.specs.Numbers.{i8_text, i16_text, i32_text, i64_text}
 use Rattle.eos_base.specs.Fallible.{◌>>=◌, must}
 use Rattle.eos_base.specs.declared.record_fault.RecordFault.{RecordFault}
 use Rattle.eos_base.specs.declared.record_fault.RecordFault.TheVariants as faults
-use Rattle.eos_fields.specs.declared.form.Form.{Form}
-use Rattle.eos_fields.specs.declared.form.Form.TheVariants.{Plain}
-use Rattle.eos_fields.specs.Writing.{fits_length, fits_count, count_text, section_text, string_text}
+use Rattle.eos_wire.specs.declared.form.Form.{Form}
+use Rattle.eos_wire.specs.declared.form.Form.TheVariants.{Plain}
+use Rattle.eos_wire.specs.FieldWriting.{fits_length, fits_count, count_text, section_text, string_text}
 use Rattle.eos_txnlog.specs.declared.partitions.TopicPartitions.{TopicPartitions}
 use Rattle.eos_txnlog.specs.declared.value.TxnValue.{TxnValue}
 use Rattle.eos_txnlog.specs.Status.{status_number}

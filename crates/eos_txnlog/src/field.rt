@@ -8,13 +8,12 @@
 //! None of these takes memory. After a fault nothing is said of what is left.
 
 ghost use Rattle.eos_base.specs.Records.{Parses, skipped};
-ghost use Rattle.eos_fields.specs.Reading.{many_from};
+ghost use Rattle.eos_wire.specs.Reading.{many_from};
 ghost use Rattle.eos_txnlog.specs.Reading.{status_from, number_from, not_null_count_from, numbers_from};
 
 use crate::status::Status;
 use eos_base::RecordFault;
-use eos_fields::{Form, read_count};
-use eos_wire::Cursor;
+use eos_wire::{Cursor, Form, read_count};
 
 #[tactic(auto, unfolding(crate::specs::Reading::status_from))]
 pub(crate) fn read_status(rest: &mut Cursor<'_>) -> Result<Status, RecordFault>

@@ -3,7 +3,7 @@
 ghost use Rattle.std.specs.Prelude.{◌≡◌};
 ghost use Rattle.eos_txnlog.specs.Text.{form_of};
 
-use eos_fields::Form;
+use eos_wire::Form;
 
 /// The form of a version, where it is known: version 0 is plain, version 1 flexible.
 pub(crate) fn form_of(version: i16) -> Option<Form>

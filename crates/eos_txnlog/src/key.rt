@@ -9,16 +9,15 @@
 
 ghost use Rattle.std.specs.Prelude.{◌≡◌, ℕ, List, true, length, Some, Ok, IfSome, IfOk};
 ghost use Rattle.eos_base.specs.Records.{Settles};
-ghost use Rattle.eos_fields.specs.declared.form.Form.TheVariants.{Plain};
+ghost use Rattle.eos_wire.specs.declared.form.Form.TheVariants.{Plain};
 ghost use Rattle.eos_txnlog.specs.Text.{IsKeyText};
 ghost use Rattle.eos_txnlog.specs.Reading.{read_key};
-ghost use Rattle.eos_fields.specs.Writing.{fits_length};
+ghost use Rattle.eos_wire.specs.FieldWriting.{fits_length};
 ghost use Rattle.eos_txnlog.specs.Writing.{key_text, write_key};
 
 use bytes::Bytes;
 use eos_base::RecordFault;
-use eos_fields::{Form, fits_length, read_text, write_text};
-use eos_wire::{Cursor, are_bytes, write_i16};
+use eos_wire::{Cursor, Form, are_bytes, fits_length, read_text, write_i16, write_text};
 use std::alloc::{AllocError, Global};
 
 #[tactic(auto, unfolding(crate::specs::Reading::read_key))]

@@ -21,7 +21,7 @@ ghost use Rattle.eos_base.specs.Records.{Parses, Settles, skipped};
 ghost use Rattle.eos_base.specs.steps.Records.{Gives};
 ghost use Rattle.eos_txnlog.specs.declared.value.TxnValue.{TxnValue};
 ghost use Rattle.eos_txnlog.specs.Text.{IsValueText};
-ghost use Rattle.eos_fields.specs.Reading.{many_from};
+ghost use Rattle.eos_wire.specs.Reading.{many_from};
 ghost use Rattle.eos_txnlog.specs.Reading.{number_from, numbers_from, topic_from, partitions_from, body_from, whole_body, read_value};
 
 use crate::field::{read_number, read_numbers_count, read_status, skip_numbers};
@@ -30,8 +30,7 @@ use crate::partitions::{Numbers, Partitions, TopicPartitions};
 use crate::value::TxnValue;
 use bytes::Bytes;
 use eos_base::{Listed, RecordFault};
-use eos_fields::{Form, read_count, read_text, skip_section};
-use eos_wire::{Cursor, are_bytes};
+use eos_wire::{Cursor, Form, are_bytes, read_count, read_text, skip_section};
 use std::alloc::Global;
 
 // ---- the partitions, without memory

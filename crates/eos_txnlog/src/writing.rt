@@ -12,7 +12,7 @@ ghost use Rattle.eos_base.specs.Records.{Settles};
 ghost use Rattle.eos_txnlog.specs.Text.{FitsHead, FitsTail, IsValueText};
 ghost use Rattle.eos_txnlog.specs.steps.Text.{FitNumbers, IsInRange};
 ghost use Rattle.eos_txnlog.specs.Reading.{read_value};
-ghost use Rattle.eos_fields.specs.Writing.{fits_length, length_text, fits_count, count_text, section_text, string_text};
+ghost use Rattle.eos_wire.specs.FieldWriting.{fits_length, length_text, fits_count, count_text, section_text, string_text};
 ghost use Rattle.eos_txnlog.specs.Writing.{numbers_text, fits_topic, topic_text, partitions_text, fits_partitions, head_text, tail_text, body_text, value_text, write_value};
 
 use crate::form::form_of;
@@ -20,8 +20,7 @@ use crate::partitions::TopicPartitions;
 use crate::value::TxnValue;
 use bytes::Bytes;
 use eos_base::RecordFault;
-use eos_fields::{Form, fits_count, fits_length, write_count, write_section, write_text};
-use eos_wire::{write_i8, write_i16, write_i32, write_i64};
+use eos_wire::{Form, fits_count, fits_length, write_count, write_i16, write_i32, write_i64, write_i8, write_section, write_text};
 use std::alloc::{AllocError, Global};
 
 // ---- what fits its length field

@@ -5,3 +5,6 @@ pub mod SmallVarints
 pub mod Spellings
 pub mod VarintTexts
 pub mod CursorParts
+pub mod Takes
+pub mod Loop
+pub mod FieldTexts

@@ -4,3 +4,6 @@ pub mod Numbers
 pub mod Varint
 pub mod Writing
 pub mod steps
+pub mod Texts
+pub mod Reading
+pub mod FieldWriting

@@ -4,8 +4,8 @@ use Rattle.std.proofs.lemmas.Bool.{ltb-true}
 use Rattle.std.specs.Prelude.{FitsSigned}
 use Rattle.eos_wire.specs.Numbers.{i16_text, i32_text}
 use Rattle.eos_offsets.specs.Text.{IsKeyText}
-use Rattle.eos_fields.specs.declared.form.Form.TheVariants.{Plain}
-use Rattle.eos_fields.specs.Writing.{string_text}
+use Rattle.eos_wire.specs.declared.form.Form.TheVariants.{Plain}
+use Rattle.eos_wire.specs.FieldWriting.{string_text}
 use Rattle.eos_offsets.proofs.WrittenTexts.{key_written, key_is_text}
 use Rattle.eos_offsets.proofs.key.write_key.Goals as goal
 

@@ -1,8 +1,8 @@
 -- Each field is written after the one before.
 use Rattle.std.proofs.Common.{◌≡◌, ◌++◌, [], rules, ◌∙◌, pos}
 use Rattle.eos_wire.specs.Numbers.{i16_text, i64_text}
-use Rattle.eos_fields.specs.declared.form.Form.TheVariants.{Plain}
-use Rattle.eos_fields.specs.Writing.{string_text}
+use Rattle.eos_wire.specs.declared.form.Form.TheVariants.{Plain}
+use Rattle.eos_wire.specs.FieldWriting.{string_text}
 use Rattle.eos_offsets.specs.Writing.{leader_epoch_text, expire_timestamp_text}
 use Rattle.eos_offsets.proofs.WrittenTexts.{value_written}
 use Rattle.eos_offsets.proofs.value.write_value.Goals as goal

@@ -1,9 +1,9 @@
 use Rattle.std.proofs.Common.{[], ap}
 use Rattle.std.proofs.lemmas.Result.{err_from_is_err_and}
 use Rattle.eos_base.specs.Records.{skipped}
-use Rattle.eos_fields.specs.Reading.{many_from}
+use Rattle.eos_wire.specs.Reading.{many_from}
 use Rattle.eos_txnlog.specs.Reading.{number_from}
-use Rattle.eos_fields.proofs.Loop.{skips_on, skips_end, is_done, refuses_through}
+use Rattle.eos_wire.proofs.Loop.{skips_on, skips_end, is_done, refuses_through}
 use Rattle.eos_txnlog.proofs.field.skip_many_numbers.Goals as goal
 
 pub returns-in_err-read_number : goal.returns-in_err-read_number

@@ -1,7 +1,7 @@
 use Rattle.std.proofs.Common.{◌≡◌, ℕ, List, true, length, sym, subst, rules}
-use Rattle.eos_fields.specs.declared.form.Form.TheVariants.{Plain}
+use Rattle.eos_wire.specs.declared.form.Form.TheVariants.{Plain}
 use Rattle.eos_txnlog.specs.Text.{IsKeyText}
-use Rattle.eos_fields.specs.Writing.{fits_length}
+use Rattle.eos_wire.specs.FieldWriting.{fits_length}
 use Rattle.eos_txnlog.specs.Writing.{key_text}
 use Rattle.eos_txnlog.proofs.ValueTexts.{key_whole}
 use Rattle.eos_txnlog.proofs.WrittenTexts.{key_written}

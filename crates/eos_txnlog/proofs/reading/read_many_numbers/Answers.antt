@@ -1,8 +1,8 @@
 use Rattle.std.proofs.Common.{◌≡◌, [], ◌∷◌, ◌++◌, rules}
 use Rattle.std.proofs.lemmas.Result.{err_from_is_err_and}
-use Rattle.eos_fields.specs.Reading.{many_from}
+use Rattle.eos_wire.specs.Reading.{many_from}
 use Rattle.eos_txnlog.specs.Reading.{number_from}
-use Rattle.eos_fields.proofs.Loop.{goes_on, ends, is_done, fails_as_refused}
+use Rattle.eos_wire.proofs.Loop.{goes_on, ends, is_done, fails_as_refused}
 use Rattle.eos_txnlog.proofs.reading.read_many_numbers.Goals as goal
 
 pub returns-in_err-number : goal.returns-in_err-number

@@ -1,7 +1,7 @@
 use Rattle.std.proofs.Common.{◌≡◌, ◌-◌}
-use Rattle.eos_fields.specs.Reading.{many_from}
+use Rattle.eos_wire.specs.Reading.{many_from}
 use Rattle.eos_txnlog.specs.Reading.{number_from}
-use Rattle.eos_fields.proofs.Loop.{with_front}
+use Rattle.eos_wire.proofs.Loop.{with_front}
 use Rattle.eos_txnlog.proofs.reading.read_many_numbers.Given as goal
 
 abbrev pub invariant-loop : goal.invariant-loop

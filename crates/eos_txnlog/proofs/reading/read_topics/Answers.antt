@@ -1,7 +1,7 @@
 use Rattle.std.proofs.lemmas.Result.{err_from_is_err_and}
-use Rattle.eos_fields.specs.Reading.{many_from}
+use Rattle.eos_wire.specs.Reading.{many_from}
 use Rattle.eos_txnlog.specs.Reading.{topic_from}
-use Rattle.eos_fields.proofs.Loop.{goes_on, ends, is_done}
+use Rattle.eos_wire.proofs.Loop.{goes_on, ends, is_done}
 use Rattle.eos_txnlog.proofs.reading.read_topics.Goals as goal
 
 pub returns-in_err-topic : goal.returns-in_err-topic

@@ -1,9 +1,9 @@
 use Rattle.std.proofs.Common.{[]}
 use Rattle.std.proofs.lemmas.Result.{err_from_is_err_and}
 use Rattle.eos_base.specs.Records.{skipped}
-use Rattle.eos_fields.specs.Reading.{many_from}
+use Rattle.eos_wire.specs.Reading.{many_from}
 use Rattle.eos_txnlog.specs.Reading.{topic_from}
-use Rattle.eos_fields.proofs.Loop.{skips_on, skips_end, is_done}
+use Rattle.eos_wire.proofs.Loop.{skips_on, skips_end, is_done}
 use Rattle.eos_txnlog.proofs.reading.skip_topics.Goals as goal
 
 pub returns-in_err-skip_topic : goal.returns-in_err-skip_topic

@@ -1,6 +1,6 @@
 use Rattle.std.proofs.Common.{◌≡◌, ◌-◌}
 use Rattle.eos_base.specs.Records.{skipped}
-use Rattle.eos_fields.specs.Reading.{many_from}
+use Rattle.eos_wire.specs.Reading.{many_from}
 use Rattle.eos_txnlog.specs.Reading.{topic_from}
 use Rattle.eos_txnlog.proofs.reading.skip_topics.Given as goal
 

@@ -1,7 +1,7 @@
 use Rattle.std.proofs.Common.{◌≡◌, ◌++◌, rules}
 use Rattle.std.proofs.lemmas.Result.{on_ok_weaker}
 use Rattle.eos_wire.specs.Numbers.{i64_text}
-use Rattle.eos_fields.specs.Writing.{section_text}
+use Rattle.eos_wire.specs.FieldWriting.{section_text}
 use Rattle.eos_txnlog.proofs.Appended.{three_pieces}
 use Rattle.eos_txnlog.proofs.writing.write_tail.Goals as goal
 

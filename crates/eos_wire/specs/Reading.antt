@@ -8,8 +8,8 @@ use Rattle.eos_base.specs.Fallible.{◌>>=◌}
 use Rattle.eos_base.specs.Records.{present, skipped}
 use Rattle.eos_base.specs.declared.record_fault.RecordFault.{RecordFault}
 use Rattle.eos_base.specs.declared.record_fault.RecordFault.TheVariants as faults
-use Rattle.eos_fields.specs.declared.form.Form.{Form}
-use Rattle.eos_fields.specs.declared.form.Form.TheVariants.{Plain, Flexible}
+use Rattle.eos_wire.specs.declared.form.Form.{Form}
+use Rattle.eos_wire.specs.declared.form.Form.TheVariants.{Plain, Flexible}
 
 -- a fault that a field can have
 abbrev pub IsOfField : RecordFault → Type 0

@@ -3,8 +3,8 @@
 use Rattle.std.specs.Prelude.{ℕ, ◌+◌, ◌^◌, pos, Bool, List, [], ◌++◌, length, nat_lt}
 use Rattle.eos_wire.specs.Numbers.{i16_text, i32_text}
 use Rattle.eos_wire.specs.Writing.{uvarint_of}
-use Rattle.eos_fields.specs.declared.form.Form.{Form}
-use Rattle.eos_fields.specs.declared.form.Form.TheVariants.{Plain, Flexible}
+use Rattle.eos_wire.specs.declared.form.Form.{Form}
+use Rattle.eos_wire.specs.declared.form.Form.TheVariants.{Plain, Flexible}
 
 -- ---- lengths
 

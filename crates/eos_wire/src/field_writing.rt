@@ -3,11 +3,11 @@
 
 ghost use Rattle.std.specs.Prelude.{◌≡◌, ◌+◌, ◌++◌, true, length, OnOk};
 ghost use Rattle.eos_wire.specs.Writing.{uvarint_of};
-ghost use Rattle.eos_fields.specs.Writing.{fits_length, length_text, fits_count, count_text, section_text, string_text};
+ghost use Rattle.eos_wire.specs.FieldWriting.{fits_length, length_text, fits_count, count_text, section_text, string_text};
 
 use crate::form::Form;
 use bytes::Bytes;
-use eos_wire::{write_i16, write_i32, write_uvarint};
+use crate::{write_i16, write_i32, write_uvarint};
 use std::alloc::AllocError;
 
 /// Whether a text of so many bytes fits its length field.

@@ -1,9 +1,9 @@
 use Rattle.std.proofs.Common.{[]}
 use Rattle.std.proofs.lemmas.Result.{err_from_is_err_and}
 use Rattle.eos_base.specs.Records.{skipped}
-use Rattle.eos_fields.specs.Reading.{tagged_from, many_from}
-use Rattle.eos_fields.proofs.Loop.{skips_on, skips_end, is_done}
-use Rattle.eos_fields.proofs.reading.skip_many_tagged.Goals as goal
+use Rattle.eos_wire.specs.Reading.{tagged_from, many_from}
+use Rattle.eos_wire.proofs.Loop.{skips_on, skips_end, is_done}
+use Rattle.eos_wire.proofs.reading.skip_many_tagged.Goals as goal
 
 pub returns-in_err-skip_tagged : goal.returns-in_err-skip_tagged
 returns-in_err-skip_tagged c =

@@ -6,8 +6,8 @@ use Rattle.eos_base.specs.declared.record_fault.RecordFault.TheVariants as fault
 use Rattle.eos_base.specs.Fallible.{◌>>=◌}
 use Rattle.eos_base.specs.Records.{Refuses, skipped}
 use Rattle.eos_base.specs.steps.Records.{Fails}
-use Rattle.eos_fields.specs.Reading.{many_from}
-use Rattle.eos_fields.proofs.Takes.{done}
+use Rattle.eos_wire.specs.Reading.{many_from}
+use Rattle.eos_wire.proofs.Takes.{done}
 
 -- what fails is passed on
 pub fails_through : {A B : Type 0} (e : RecordFault) (r : Result A RecordFault) (s : Result B RecordFault) → ((f : RecordFault) → r ≡ Err f → s ≡ Err f) → Fails e r → Fails e s

@@ -8,12 +8,12 @@ use Rattle.eos_wire.specs.Varint.{IsUvarint, uvarint_at}
 use Rattle.eos_wire.specs.Fields.{with_rest}
 use Rattle.eos_wire.proofs.NumberTexts.{TakesNumber, IsBytes-append_right, i16_sound, i16_whole, i32_sound, i32_whole}
 use Rattle.eos_wire.proofs.VarintTexts.{front-drop, uvarint_sound, uvarint_whole}
-use Rattle.eos_fields.specs.declared.form.Form.{Form}
-use Rattle.eos_fields.specs.declared.form.Form.TheVariants.{Plain, Flexible}
-use Rattle.eos_fields.specs.Texts.{IsLengthText, IsCountText, IsNullText, IsStringText, IsTaggedText, IsSectionText}
+use Rattle.eos_wire.specs.declared.form.Form.{Form}
+use Rattle.eos_wire.specs.declared.form.Form.TheVariants.{Plain, Flexible}
+use Rattle.eos_wire.specs.Texts.{IsLengthText, IsCountText, IsNullText, IsStringText, IsTaggedText, IsSectionText}
 use Rattle.eos_base.specs.Records.{present}
-use Rattle.eos_fields.specs.Reading.{finished, uvarint_from, length_from_signed, length_from_unsigned, length_from, count_from_signed, count_from_unsigned, count_from, string_from, many_from, tagged_from, section_from}
-use Rattle.eos_fields.proofs.Takes.{bind_ok, ok_is, present_ok, glue, Taken, IsSound, IsWhole, cut_sound, cut_whole, many_sound, many_whole}
+use Rattle.eos_wire.specs.Reading.{finished, uvarint_from, length_from_signed, length_from_unsigned, length_from, count_from_signed, count_from_unsigned, count_from, string_from, many_from, tagged_from, section_from}
+use Rattle.eos_wire.proofs.Takes.{bind_ok, ok_is, present_ok, glue, Taken, IsSound, IsWhole, cut_sound, cut_whole, many_sound, many_whole}
 
 -- ---- numbers
 

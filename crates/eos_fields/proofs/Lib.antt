@@ -1,3 +1,0 @@
-pub mod Takes
-pub mod Loop
-pub mod FieldTexts
