@@ -2,14 +2,14 @@
 
 ghost use Rattle.std.specs.Prelude.{◌≡◌, ◌<◌, Err, OnOk, OnErr, map};
 ghost use Rattle.std.specs.Io.KnownBytes.{Appends, Keeps};
-ghost use Rattle.eos_init.specs.Coordinators.{coordinator_lines};
+ghost use Rattle.eos_manifest.specs.Coordinators.{coordinator_lines};
 ghost use Rattle.eos_text.specs.Writing.{WritesFront};
 ghost use Rattle.eos_segment.specs.Running.{IsOfReading};
 
 use crate::init::refuse;
 use eos_ending::{Ending, STANDARD, end};
 use eos_folder::Cause;
-use eos_init::coordinator_lines;
+use eos_manifest::coordinator_lines;
 use eos_segment::RunFault;
 use eos_text::finish;
 use eos_words::Coordinator;

@@ -25,7 +25,7 @@ use crate::watch::Watch;
 use bytes::Bytes;
 use eos_disk::Disk;
 use eos_evidence::{Evidence, EvidenceBuilder, Segment, Spec, SpecFault, parse_spec};
-use eos_manifest_cause::{SpecCause, explain_spec};
+use eos_manifest::{SpecCause, explain_spec};
 use eos_base::Workers;
 use std::alloc::{AllocError, AllocFailed, Global};
 use std::thread;

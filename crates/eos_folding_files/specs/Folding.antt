@@ -16,7 +16,7 @@ use Rattle.eos_fold_file.specs.Reading.{read_fold}
 use Rattle.eos_folder.specs.declared.names.Form.TheVariants.{Log, Fold}
 use Rattle.eos_folder.specs.Paths.{file_path, partition_path}
 use Rattle.eos_folder.specs.Shapes.{AreLogsAt}
-use Rattle.eos_init.specs.Manifests.{has_end}
+use Rattle.eos_manifest.specs.Manifests.{has_end}
 use Rattle.eos_wanted.specs.declared.wanted.Wanted.{Wanted}
 use Rattle.eos_wanted.specs.Wanted.{wanted_of}
 use Rattle.eos_folding_files.specs.Paths.{partition_at}

@@ -3,7 +3,7 @@
 use Rattle.std.specs.Prelude.{ℕ, List, Option, option_map, option_and_then}
 use Rattle.std.specs.Path.{path_file_name}
 use Rattle.eos_base.specs.declared.partition_name.PartitionName.{PartitionName}
-use Rattle.eos_init.specs.Lines.{partition_in_name}
+use Rattle.eos_manifest.specs.Lines.{partition_in_name}
 
 -- the one that the last part of the path names
 abbrev pub partition_at : List ℕ → Option PartitionName

@@ -2,7 +2,7 @@
 
 ghost use Rattle.std.specs.Prelude.{◌≡◌, ◌&&◌, [], map, bytes_eq, IfOk};
 ghost use Rattle.std.specs.Ordering.{int_eq};
-ghost use Rattle.eos_init.specs.Manifests.{has_end};
+ghost use Rattle.eos_manifest.specs.Manifests.{has_end};
 ghost use Rattle.eos_folding_files.specs.Folding.{IsFolderAt, AreFoldersAt};
 ghost use Rattle.eos_folding_files.specs.Paths.{partition_at};
 
@@ -12,7 +12,7 @@ use eos_base::PartitionName;
 use eos_disk::{ChangeFault, Disk, DiskMut};
 use eos_evidence::{End, Segment};
 use eos_folder::{Form, bases_in, segment_path};
-use eos_init::read_folder_name;
+use eos_manifest::read_folder_name;
 use std::alloc::{AllocError, Global};
 use std::collections::BTreeSet;
 use std::path::Path;

@@ -11,8 +11,8 @@ use Rattle.eos_evidence.specs.declared.ends.End.{End}
 use Rattle.eos_folder.specs.declared.names.Form.TheVariants.{Log}
 use Rattle.eos_folder.specs.Paths.{partition_path, file_path, path_of_end}
 use Rattle.eos_folder.specs.Shapes.{AreLogsAt}
-use Rattle.eos_init.specs.Listing.{IsListing}
-use Rattle.eos_init.specs.Manifests.{is_judged}
+use Rattle.eos_manifest.specs.Listing.{IsListing}
+use Rattle.eos_manifest.specs.Manifests.{is_judged}
 use Rattle.eos_init_files.specs.Copies.{names_in, AreFoldersAt, path_of_name, AreListedBy, AreListedAt, is_states, own_name, AreAsked, AreRequired}
 use Rattle.eos_init_files.specs.steps.Names.{Gains}
 use Rattle.eos_init_files.proofs.NameSets.{gains_nothing, gains_one, row_found, empty_lacks}

@@ -10,7 +10,7 @@ use Rattle.eos_evidence.specs.declared.ends.End.{End}
 use Rattle.eos_folder.specs.declared.names.Form.TheVariants.{Log}
 use Rattle.eos_folder.specs.Paths.{file_path, path_of_end}
 use Rattle.eos_folder.specs.Shapes.{AreLogsAt}
-use Rattle.eos_init.specs.Front.{IsFrontTo}
+use Rattle.eos_manifest.specs.Front.{IsFrontTo}
 use Rattle.eos_init_files.specs.Copies.{EndsAt, IsEndOfCopy, IsCopied, AreEndsOfCopies}
 use Rattle.eos_init_files.proofs.Asked.{path_same}
 

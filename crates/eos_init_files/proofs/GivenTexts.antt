@@ -5,7 +5,7 @@ use Rattle.std.specs.Io.KnownBytes.{Consumes, IsAtEnd}
 use Rattle.eos_disk.specs.Entries.{Entry, HasBytes, Leaves}
 use Rattle.eos_evidence.specs.declared.application.App.{App}
 use Rattle.eos_folder.proofs.WholeFiles as whole
-use Rattle.eos_init.specs.AppWords.{app_in_word}
+use Rattle.eos_manifest.specs.AppWords.{app_in_word}
 use Rattle.eos_init_files.specs.Making.{apps_in_words, is_standard, IsTextOf}
 
 pub left_stands : (e : Entry) (left : Option (List ℕ)) (bytes : List ℕ) → Leaves e left → IfSome left (λ xs. bytes ≡ xs) → HasBytes e bytes

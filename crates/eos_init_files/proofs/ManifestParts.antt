@@ -5,7 +5,7 @@ use Rattle.eos_disk.specs.Entries.{Entry}
 use Rattle.eos_evidence.specs.declared.application.App.{App}
 use Rattle.eos_evidence.specs.declared.ends.End.{End}
 use Rattle.eos_evidence.specs.Parts.{Parts, accepted}
-use Rattle.eos_init.specs.Manifests.{first_without, parts_for}
+use Rattle.eos_manifest.specs.Manifests.{first_without, parts_for}
 use Rattle.eos_init_files.specs.Copies.{AreFoldersAt, AreRequired}
 use Rattle.eos_init_files.specs.Making.{apps_in_words, AreEndsGiven, IsManifestFor}
 use Rattle.eos_init_files.specs.declared.given.Given.{Given}

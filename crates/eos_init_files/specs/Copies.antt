@@ -11,10 +11,10 @@ use Rattle.eos_evidence.specs.declared.ends.End.{End}
 use Rattle.eos_folder.specs.declared.names.Form.TheVariants.{Log}
 use Rattle.eos_folder.specs.Paths.{partition_path, file_path}
 use Rattle.eos_folder.specs.Shapes.{AreLogsAt}
-use Rattle.eos_init.specs.Front.{IsFrontTo}
-use Rattle.eos_init.specs.Lines.{partition_in_name}
-use Rattle.eos_init.specs.Listing.{IsListing}
-use Rattle.eos_init.specs.Manifests.{is_judged}
+use Rattle.eos_manifest.specs.Front.{IsFrontTo}
+use Rattle.eos_manifest.specs.Lines.{partition_in_name}
+use Rattle.eos_manifest.specs.Listing.{IsListing}
+use Rattle.eos_manifest.specs.Manifests.{is_judged}
 
 -- ---- folders
 

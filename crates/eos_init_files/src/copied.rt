@@ -18,7 +18,7 @@ use eos_base::{PartitionName, Sorted};
 use eos_disk::Disk;
 use eos_evidence::{App, End};
 use eos_folder::{bases_of, read_segment_file};
-use eos_init::{front_end, is_judged, listed_in, read_folder_name};
+use eos_manifest::{front_end, is_judged, listed_in, read_folder_name};
 use std::alloc::{AllocError, Global};
 use std::collections::BTreeSet;
 

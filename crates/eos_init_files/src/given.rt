@@ -4,8 +4,8 @@ ghost use Rattle.std.specs.Prelude.{◌≡◌, ℕ, List, map, option_map, None,
 ghost use Rattle.eos_base.specs.PartitionNames.{name_cmp};
 ghost use Rattle.eos_disk.specs.Entries.{HasBytes};
 ghost use Rattle.eos_evidence.specs.Parts.{accepted};
-ghost use Rattle.eos_init.specs.Lines.{ends_said_by};
-ghost use Rattle.eos_init.specs.Manifests.{first_without, parts_for};
+ghost use Rattle.eos_manifest.specs.Lines.{ends_said_by};
+ghost use Rattle.eos_manifest.specs.Manifests.{first_without, parts_for};
 ghost use Rattle.eos_init_files.specs.Making.{apps_in_words, is_standard, IsTextOf, AreEndsGiven};
 
 use crate::copied::Logs;
@@ -16,7 +16,7 @@ use eos_base::{Listed, PartitionName, Sorted};
 use eos_disk::Disk;
 use eos_evidence::{Apps, End, Spec, read_segment};
 use eos_folder::{open_file, refusal_of};
-use eos_init::{EndsFault, ManifestFault, manifest_for, read_app_word, read_ends};
+use eos_manifest::{EndsFault, ManifestFault, manifest_for, read_app_word, read_ends};
 use std::alloc::Global;
 use std::io::Read;
 

@@ -5,7 +5,7 @@ use crate::note::{Note, OfLines};
 use bytes::Bytes;
 use eos_base::{PartitionName, Sorted};
 use eos_evidence::{App, End};
-use eos_init::{coordinator_of, partitions_of};
+use eos_manifest::{coordinator_of, partitions_of};
 use std::alloc::Global;
 use std::collections::BTreeSet;
 

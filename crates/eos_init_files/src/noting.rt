@@ -7,7 +7,7 @@ use crate::note::Note;
 use eos_base::{PartitionName, Sorted};
 use eos_disk::Disk;
 use eos_evidence::{End, Spec};
-use eos_init::is_compressed_at_head;
+use eos_manifest::is_compressed_at_head;
 
 /// What is told where the ends are those of this file, or of the copied logs.
 pub(crate) fn notes_on<D: Disk>(

@@ -1,0 +1,35 @@
+//! Why a manifest is refused, in words for its writer: which place of the file, what stands there and what is wanted. It is asked
+//! after a refusal, reads the text again and finds the first of the tests that fails, in the order of `parse_spec`.
+#![tactic(auto)]
+
+mod app_word;
+mod apps;
+mod cause;
+mod coordinator;
+mod divided;
+mod folder_name;
+mod front;
+mod head;
+mod json_place;
+mod listing;
+mod manifest;
+mod names;
+mod number;
+mod offset_line;
+mod place;
+mod position;
+mod repeats;
+mod search;
+mod topic_name;
+mod types;
+mod words;
+
+pub use app_word::read_app_word;
+pub use cause::{SpecCause, explain_spec};
+pub use coordinator::{coordinator_lines, coordinator_of, partitions_of};
+pub use folder_name::read_folder_name;
+pub use front::front_end;
+pub use head::is_compressed_at_head;
+pub use listing::listed_in;
+pub use manifest::{ManifestFault, is_judged, manifest_for};
+pub use offset_line::{EndsFault, read_ends};
