@@ -5,11 +5,11 @@ use Rattle.eos_disk.specs.Entries.{Entry}
 use Rattle.eos_ending.specs.declared.subject.Subject.{Subject}
 use Rattle.eos_ending.specs.Subjects.{subject_text}
 use Rattle.eos_evidence.specs.Evidence.{EvidenceParts, segments_of}
-use Rattle.eos_folder.specs.declared.names.Form.{Form}
-use Rattle.eos_folder.specs.Shapes.{IsShapeAt, AreKnown}
+use Rattle.eos_disk.specs.declared.names.Form.{Form}
+use Rattle.eos_disk.specs.Shapes.{IsShapeAt, AreKnown}
 use Rattle.eos_folder_source.specs.Logs.{is_log_at}
 use Rattle.eos_folder_source.specs.Saying.{said_at, known_at, StandsAt}
-use Rattle.eos_folder.proofs.OneShape.{one_shape}
+use Rattle.eos_disk.proofs.OneShape.{one_shape}
 use Rattle.eos_folder_source.proofs.SameShape.{holds_of_known}
 use Rattle.eos_notes.specs.Lines.{IsAllNotesText}
 use Rattle.eos_source.specs.Said.{Said, Known, known_by}

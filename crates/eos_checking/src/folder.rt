@@ -4,7 +4,7 @@ ghost use Rattle.std.specs.Prelude.{◌≡◌, ◌≢◌, Err, IfOk, IfErr, OnEr
 ghost use Rattle.std.specs.Io.KnownBytes.{Appends, Keeps};
 ghost use Rattle.eos_ending.specs.Subjects.{subject_text};
 ghost use Rattle.eos_evidence.specs.Evidence.{EvidenceParts, segments_of};
-ghost use Rattle.eos_folder.specs.Shapes.{AreKnown};
+ghost use Rattle.eos_disk.specs.Shapes.{AreKnown};
 ghost use Rattle.eos_folder_source.specs.Saying.{known_at, StandsAt};
 ghost use Rattle.eos_source.specs.Said.{known_by};
 ghost use Rattle.eos_text.specs.Writing.{WritesFront, WritesFrontOf};
@@ -16,8 +16,7 @@ ghost use Rattle.eos_checking.specs.declared.folder.Unchecked.TheVariants.{Canno
 use crate::check::{Asked, Said};
 use crate::report::Timed;
 use crate::source::{Pieces, SourceAnswer, answer_all, answer_source};
-use eos_disk::Disk;
-use eos_folder::{FolderFault, Shape, Watch, read_shape};
+use eos_disk::{Disk, FolderFault, Shape, Watch, read_shape};
 use eos_folder_source::FolderSource;
 use eos_source::Source;
 use eos_source_faults::Unlisted;

@@ -8,7 +8,7 @@ ghost use Rattle.eos_segment.specs.Running.{IsOfReading};
 
 use eos_text::{Page, finish, page_of, page_text};
 use eos_ending::{Ending, STANDARD, end};
-use eos_folder::Cause;
+use eos_disk::Cause;
 use eos_segment::RunFault;
 use std::alloc::Global;
 use std::io;

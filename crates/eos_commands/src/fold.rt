@@ -1,8 +1,7 @@
 //! `fold`: the folds of segments where they lie.
 
-use eos_disk::HostDisk;
+use eos_disk::{FolderFault, HostDisk};
 use eos_ending::{Ending, STANDARD, Subject, end, end_unchanged, end_unread};
-use eos_folder::FolderFault;
 use eos_folding_files::{Folded, FoldingFault, Given, fold_folders};
 use eos_words::Fold;
 

@@ -1,9 +1,8 @@
 //! `init`: the manifest of a folder of copied logs.
 
-use eos_disk::HostDisk;
+use eos_disk::{Cause, HostDisk};
 use eos_ending::{Ending, STANDARD, Subject, end, end_unread};
 use eos_evidence::SpecFault;
-use eos_folder::Cause;
 use eos_init_files::{Given, InitFault, Made, init, name_text};
 use eos_words::Init;
 use std::alloc::AllocError;

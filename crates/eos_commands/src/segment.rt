@@ -1,9 +1,8 @@
 //! The listing of a segment, and the check of its producers.
 
 use crate::decoding::options_of;
-use eos_disk::HostDisk;
+use eos_disk::{Cause, HostDisk};
 use eos_ending::{Ending, STANDARD, end};
-use eos_folder::Cause;
 use eos_segment::{RunFault, chain_file, chain_to, dump_file, dump_to};
 use eos_words::Answer;
 use std::io;

@@ -6,9 +6,8 @@ ghost use Rattle.eos_folding_files.specs.VerifyingLines.{found_text, status_of};
 ghost use Rattle.eos_text.specs.Writing.{WritesFront};
 ghost use Rattle.eos_segment.specs.Running.{IsOfReading};
 
-use eos_disk::HostDisk;
+use eos_disk::{Cause, HostDisk};
 use eos_ending::{Ending, STANDARD, Subject, end, end_unread};
-use eos_folder::Cause;
 use eos_folding_files::{Compared, Found, found_text, status_of, verify_folds};
 use eos_segment::RunFault;
 use eos_text::finish;

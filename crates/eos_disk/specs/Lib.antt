@@ -3,3 +3,12 @@ pub mod Entries
 pub mod Memory
 pub mod Putting
 pub mod steps
+pub mod Causes
+pub mod Names
+pub mod Paths
+pub mod Reading
+pub mod Refusals
+pub mod Shapes
+pub mod Stopped
+pub mod Writing
+pub mod Written

@@ -1,2 +1,4 @@
 -- What only private functions promise: steps towards what the public calls say.
 pub mod Found
+pub mod Filling
+pub mod Listing

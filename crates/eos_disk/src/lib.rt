@@ -2,17 +2,39 @@
 //! contracts above can speak of the bytes of files.
 #![tactic(auto)]
 
+mod cause;
 mod change;
 mod disk;
 mod fault;
+mod files;
+mod folder;
 mod host;
+pub mod laws;
+mod listing;
 mod memory;
 mod memory_changes;
+mod names;
+mod paths;
 mod putting;
+mod refusal;
+mod watch;
+mod writing;
+pub mod written_laws;
+mod written_writing;
 
+pub use cause::Cause;
 pub use change::{ChangeFault, DiskMut};
 pub use disk::Disk;
 pub use fault::DiskFault;
+pub use files::{NamedFile, open_file, open_log, open_segment, read_segment_file, refusal_of};
+pub use folder::{FolderFault, Reading, Shape, read_folder, read_manifest, read_shape};
 pub use host::HostDisk;
+pub use listing::{bases_in, bases_of};
 pub use memory::{Change, MemoryDisk, MemoryReader, Standing};
+pub use names::Form;
+pub use paths::{manifest_path, partition_path, segment_path};
 pub use putting::{HostFile, NewFile, begin_file, drop_file, end_file, put_file};
+pub use refusal::{FoldRefusal, refused_at, refused_fold};
+pub use watch::Watch;
+pub use writing::{WritingFault, Written, make_folder, write_evidence};
+pub use written_writing::write_whole;

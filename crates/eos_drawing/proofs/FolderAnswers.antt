@@ -4,9 +4,9 @@ use Rattle.std.specs.Io.KnownBytes.{Appends}
 use Rattle.eos_disk.specs.Entries.{Entry}
 use Rattle.eos_disk.specs.Putting.{IsBegun, IsPlaced}
 use Rattle.eos_evidence.specs.Evidence.{EvidenceParts, segments_of}
-use Rattle.eos_folder.specs.declared.names.Form.{Form}
-use Rattle.eos_folder.specs.Shapes.{IsShapeAt, AreKnown}
-use Rattle.eos_folder.proofs.OneShape.{one_shape}
+use Rattle.eos_disk.specs.declared.names.Form.{Form}
+use Rattle.eos_disk.specs.Shapes.{IsShapeAt, AreKnown}
+use Rattle.eos_disk.proofs.OneShape.{one_shape}
 use Rattle.eos_folder_source.specs.Logs.{is_log_at}
 use Rattle.eos_folder_source.specs.Saying.{said_at, known_at, StandsAt}
 use Rattle.eos_folder_source.proofs.SameShape.{holds_of_known}

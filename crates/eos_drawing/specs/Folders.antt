@@ -6,8 +6,8 @@ use Rattle.eos_disk.specs.Entries.{Entry}
 use Rattle.eos_disk.specs.Putting.{ChangesOnly, IsPlaced, beside}
 use Rattle.eos_evidence.specs.declared.partition.Partition.{Partition}
 use Rattle.eos_evidence.specs.Evidence.{EvidenceParts, segments_of}
-use Rattle.eos_folder.specs.declared.names.Form.{Form}
-use Rattle.eos_folder.specs.Shapes.{IsShapeAt}
+use Rattle.eos_disk.specs.declared.names.Form.{Form}
+use Rattle.eos_disk.specs.Shapes.{IsShapeAt}
 use Rattle.eos_folder_source.specs.Saying.{known_at}
 use Rattle.eos_source.specs.Said.{Known}
 use Rattle.eos_source.specs.Shapes.{HoldsAsSaid}

@@ -1,8 +1,8 @@
 -- How a run of the program ends: the exit status, and what is said on standard error.
 use Rattle.std.specs.Prelude.{ℕ, List, [], ◌++◌, codes, Bool, true, false, if◌then◌else◌, Option, None, Some, Result, Ok, Err}
 use Rattle.eos_evidence.specs.Names.{spec_fault_name}
-use Rattle.eos_folder.specs.declared.cause.Cause.{Cause}
-use Rattle.eos_folder.specs.Causes.{cause_text, is_unknown}
+use Rattle.eos_disk.specs.declared.cause.Cause.{Cause}
+use Rattle.eos_disk.specs.Causes.{cause_text, is_unknown}
 use Rattle.eos_segment.specs.declared.fault.RunFault.{RunFault}
 use Rattle.eos_segment.specs.declared.fault.RunFault.TheVariants as faults
 use Rattle.eos_ending.specs.declared.ending.Ending.{Ending}

@@ -6,7 +6,7 @@ ghost use Rattle.eos_ending.specs.Subjects.{subject_text};
 
 use crate::subject::Subject;
 use eos_evidence::SpecFault;
-use eos_folder::Cause;
+use eos_disk::Cause;
 use eos_segment::RunFault;
 use std::fmt::{Display, Formatter, Write};
 

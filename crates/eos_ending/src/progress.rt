@@ -3,7 +3,7 @@
 use crate::subject::Subject;
 use eos_board::Gate;
 use eos_fold::Named;
-use eos_folder::Watch;
+use eos_disk::Watch;
 use std::sync::atomic::{AtomicU64, Ordering};
 use std::time::Instant;
 

@@ -3,7 +3,7 @@
 use crate::ending::Ending;
 use crate::saying::end_about;
 use crate::subject::Subject;
-use eos_folder::FolderFault;
+use eos_disk::FolderFault;
 
 /// Says why a folder isn't read, and gives the exit status.
 pub fn end_unread(rt: &HostRuntime, subject: Subject<'_>, fault: &FolderFault) -> u8 {

@@ -2,8 +2,8 @@
 use Rattle.std.proofs.Common.{ℕ, List, Option, subst}
 use Rattle.eos_disk.specs.Entries.{Entry}
 use Rattle.eos_evidence.specs.Evidence.{EvidenceParts}
-use Rattle.eos_folder.specs.Reading.{IsReadWhole}
-use Rattle.eos_folder.specs.Shapes.{AreKnown}
+use Rattle.eos_disk.specs.Reading.{IsReadWhole}
+use Rattle.eos_disk.specs.Shapes.{AreKnown}
 use Rattle.eos_folder_source.specs.Saying.{StandsAt}
 use Rattle.eos_explaining.specs.declared.answer.Answer.{Answer}
 use Rattle.eos_explaining.specs.declared.folder.Explained.{Explained}

@@ -10,12 +10,12 @@ use Rattle.eos_evidence.specs.declared.ends.End.{End}
 use Rattle.eos_evidence.specs.declared.partition.Partition.{Partition}
 use Rattle.eos_evidence.specs.declared.segment.Segment.{Segment}
 use Rattle.eos_evidence.specs.Evidence.{EvidenceParts, IsPartition, IsOwn, segments_of}
-use Rattle.eos_folder.specs.declared.names.Form.{Form}
-use Rattle.eos_folder.specs.declared.names.Form.TheVariants as in_form
-use Rattle.eos_folder.specs.Paths.{padded_base, ending_of, segment_path}
-use Rattle.eos_folder.specs.Reading.{name_of, names_only, shape_of, AreAllLogs, HasItsBytes, IsReadWhole}
-use Rattle.eos_folder.specs.Shapes.{AreListed, AreKnown, segment_of}
-use Rattle.eos_folder.proofs.ReadWhole.{named_segments}
+use Rattle.eos_disk.specs.declared.names.Form.{Form}
+use Rattle.eos_disk.specs.declared.names.Form.TheVariants as in_form
+use Rattle.eos_disk.specs.Paths.{padded_base, ending_of, segment_path}
+use Rattle.eos_disk.specs.Reading.{name_of, names_only, shape_of, AreAllLogs, HasItsBytes, IsReadWhole}
+use Rattle.eos_disk.specs.Shapes.{AreListed, AreKnown, segment_of}
+use Rattle.eos_disk.proofs.ReadWhole.{named_segments}
 use Rattle.eos_folder_source.specs.Logs.{is_log}
 use Rattle.eos_folder_source.specs.Saying.{said_by, said_at, StandsAs, StandsAt}
 use Rattle.eos_folder_source.proofs.OneEvidence.{one_evidence}

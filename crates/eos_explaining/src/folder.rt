@@ -3,8 +3,8 @@
 ghost use Rattle.std.specs.Prelude.{◌≡◌, ◌≢◌, IfOk, IfErr, Err};
 ghost use Rattle.std.specs.Io.KnownBytes.{Keeps};
 ghost use Rattle.eos_evidence.specs.Evidence.{EvidenceParts};
-ghost use Rattle.eos_folder.specs.Reading.{IsReadWhole};
-ghost use Rattle.eos_folder.specs.Shapes.{AreKnown};
+ghost use Rattle.eos_disk.specs.Reading.{IsReadWhole};
+ghost use Rattle.eos_disk.specs.Shapes.{AreKnown};
 ghost use Rattle.eos_folder_source.specs.Saying.{StandsAt};
 ghost use Rattle.eos_explaining.specs.Explaining.{IsAnswer};
 ghost use Rattle.eos_explaining.specs.Folders.{number_of, IsExplained, IsFrontOfExplained};
@@ -13,9 +13,8 @@ ghost use Rattle.eos_explaining.specs.declared.folder.Unexplained.TheVariants.{C
 
 use crate::answer::{Answer, Asked, explain};
 use eos_board::Gate;
-use eos_disk::{Disk, HostDisk};
+use eos_disk::{Disk, FolderFault, HostDisk, Reading, Watch, read_folder};
 use eos_ending::{Ending, Meter, Progress, STANDARD, Subject, end, end_unread, say_notes};
-use eos_folder::{FolderFault, Reading, Watch, read_folder};
 use eos_text::{WriteFault, finish};
 use eos_words::Explain;
 use eos_base::Workers;

@@ -6,11 +6,11 @@ use Rattle.eos_disk.specs.Entries.{Entry, Unknown, Absent, File, Folder}
 use Rattle.eos_evidence.specs.declared.partition.Partition.{Partition}
 use Rattle.eos_evidence.specs.declared.segment.Segment.{Segment}
 use Rattle.eos_evidence.specs.Evidence.{EvidenceParts, segments_of}
-use Rattle.eos_folder.specs.declared.names.Form.{Form}
-use Rattle.eos_folder.specs.declared.names.Form.TheVariants as in_form
-use Rattle.eos_folder.specs.Paths.{segment_path}
-use Rattle.eos_folder.specs.Shapes.{AreKnown}
-use Rattle.eos_folder.proofs.OneShape.{one_shape}
+use Rattle.eos_disk.specs.declared.names.Form.{Form}
+use Rattle.eos_disk.specs.declared.names.Form.TheVariants as in_form
+use Rattle.eos_disk.specs.Paths.{segment_path}
+use Rattle.eos_disk.specs.Shapes.{AreKnown}
+use Rattle.eos_disk.proofs.OneShape.{one_shape}
 use Rattle.eos_source.specs.Said.{Said, Log}
 use Rattle.eos_source.specs.Shapes.{IsPiece, ArePieces, ArePartitions}
 use Rattle.eos_folder_source.specs.Logs.{is_log, is_log_at}

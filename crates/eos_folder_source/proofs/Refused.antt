@@ -6,14 +6,14 @@ use Rattle.eos_disk.specs.Entries.{Entry, Unknown, Absent, File, Folder, Leaves,
 use Rattle.eos_disk.specs.declared.fault.DiskFault.{DiskFault}
 use Rattle.eos_disk.specs.declared.fault.DiskFault.TheVariants.{NotThere}
 use Rattle.eos_evidence.specs.declared.segment.Segment.{Segment}
-use Rattle.eos_folder.specs.declared.folder.FolderFault.{FolderFault}
-use Rattle.eos_folder.specs.declared.folder.FolderFault.TheVariants.{CannotRead, Manifest, Limit, Fold, OutOfMemory}
-use Rattle.eos_folder.specs.declared.cause.Cause.{Cause}
-use Rattle.eos_folder.specs.declared.cause.Cause.TheVariants as causes
-use Rattle.eos_folder.specs.declared.names.Form.{Form}
-use Rattle.eos_folder.specs.declared.names.Form.TheVariants as in_form
-use Rattle.eos_folder.specs.Paths.{segment_path}
-use Rattle.eos_folder.specs.Refusals.{IsLong, IsLongPiece, IsSoAt, MayRefuse, RefusesFile, RefusesFold, RefusesPiece}
+use Rattle.eos_disk.specs.declared.folder.FolderFault.{FolderFault}
+use Rattle.eos_disk.specs.declared.folder.FolderFault.TheVariants.{CannotRead, Manifest, Limit, Fold, OutOfMemory}
+use Rattle.eos_disk.specs.declared.cause.Cause.{Cause}
+use Rattle.eos_disk.specs.declared.cause.Cause.TheVariants as causes
+use Rattle.eos_disk.specs.declared.names.Form.{Form}
+use Rattle.eos_disk.specs.declared.names.Form.TheVariants as in_form
+use Rattle.eos_disk.specs.Paths.{segment_path}
+use Rattle.eos_disk.specs.Refusals.{IsLong, IsLongPiece, IsSoAt, MayRefuse, RefusesFile, RefusesFold, RefusesPiece}
 use Rattle.eos_folder_source.specs.Refusals.{MayBeFile, OutcomeOf, OutcomeAt, IsOfAny}
 
 -- ---- the refusals of a file

@@ -6,9 +6,9 @@ use Rattle.eos_evidence.specs.declared.segment.Segment.{Segment}
 use Rattle.eos_fold_file.specs.declared.fault.FoldFault.{FoldFault}
 use Rattle.eos_fold_file.specs.declared.file.FoldFile.{FoldFile}
 use Rattle.eos_fold_file.specs.Reading.{read_fold}
-use Rattle.eos_folder.specs.declared.names.Form.{Form}
-use Rattle.eos_folder.specs.declared.names.Form.TheVariants.{Log, Fold}
-use Rattle.eos_folder.specs.Paths.{segment_path}
+use Rattle.eos_disk.specs.declared.names.Form.{Form}
+use Rattle.eos_disk.specs.declared.names.Form.TheVariants.{Log, Fold}
+use Rattle.eos_disk.specs.Paths.{segment_path}
 use Rattle.eos_source.specs.Said.{Said, WillSay}
 use Rattle.eos_source.specs.declared.source.Piece.TheVariants as pieces
 use Rattle.eos_folder_source.specs.Saying.{said_in, said_by, said_at}

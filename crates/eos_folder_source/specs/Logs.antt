@@ -1,7 +1,7 @@
 -- Which pieces of a folder are logs, by the names of their files.
 use Rattle.std.specs.Prelude.{ℕ, List, Bool, true, false, Option, None, Some, slice_get}
-use Rattle.eos_folder.specs.declared.names.Form.{Form}
-use Rattle.eos_folder.specs.declared.names.Form.TheVariants.{Log, Fold}
+use Rattle.eos_disk.specs.declared.names.Form.{Form}
+use Rattle.eos_disk.specs.declared.names.Form.TheVariants.{Log, Fold}
 
 abbrev pub is_log : Option Form → Bool
 is_log None = false

@@ -2,12 +2,12 @@
 use Rattle.std.specs.Prelude.{◌≡◌, ◌<◌, ℕ, List, ◌⊎◌, Option, None, Some, slice_get, ⊤}
 use Rattle.eos_disk.specs.Entries.{Entry, Unknown, Absent, File, Folder}
 use Rattle.eos_evidence.specs.declared.segment.Segment.{Segment}
-use Rattle.eos_folder.specs.declared.cause.Cause.TheVariants as causes
-use Rattle.eos_folder.specs.declared.folder.FolderFault.{FolderFault}
-use Rattle.eos_folder.specs.declared.folder.FolderFault.TheVariants.{Limit}
-use Rattle.eos_folder.specs.declared.names.Form.{Form}
-use Rattle.eos_folder.specs.Paths.{segment_path}
-use Rattle.eos_folder.specs.Refusals.{MayRefuse, RefusesPiece}
+use Rattle.eos_disk.specs.declared.cause.Cause.TheVariants as causes
+use Rattle.eos_disk.specs.declared.folder.FolderFault.{FolderFault}
+use Rattle.eos_disk.specs.declared.folder.FolderFault.TheVariants.{Limit}
+use Rattle.eos_disk.specs.declared.names.Form.{Form}
+use Rattle.eos_disk.specs.Paths.{segment_path}
+use Rattle.eos_disk.specs.Refusals.{MayRefuse, RefusesPiece}
 
 -- a file stands there, as far as it is known
 abbrev pub MayBeFile : Entry → Type 0

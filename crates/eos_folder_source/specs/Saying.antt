@@ -6,10 +6,10 @@ use Rattle.eos_evidence.specs.Evidence.{EvidenceParts, segments_of}
 use Rattle.eos_fold_file.specs.declared.fault.FoldFault.{FoldFault}
 use Rattle.eos_fold_file.specs.declared.file.FoldFile.{FoldFile}
 use Rattle.eos_fold_file.specs.Reading.{read_fold}
-use Rattle.eos_folder.specs.declared.names.Form.{Form}
-use Rattle.eos_folder.specs.declared.names.Form.TheVariants.{Log, Fold}
-use Rattle.eos_folder.specs.Paths.{segment_path}
-use Rattle.eos_folder.specs.Shapes.{IsShapeAt}
+use Rattle.eos_disk.specs.declared.names.Form.{Form}
+use Rattle.eos_disk.specs.declared.names.Form.TheVariants.{Log, Fold}
+use Rattle.eos_disk.specs.Paths.{segment_path}
+use Rattle.eos_disk.specs.Shapes.{IsShapeAt}
 use Rattle.eos_source.specs.Said.{Said, Known, known_by}
 use Rattle.eos_source.specs.Said as say
 use Rattle.eos_source.specs.Shapes.{IsOfShape}

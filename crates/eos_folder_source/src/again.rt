@@ -5,8 +5,7 @@ ghost use Rattle.eos_evidence.specs.Evidence.{segments_of};
 ghost use Rattle.eos_folder_source.specs.Refusals.{IsOfAny, OutcomeAt};
 
 use crate::source::{FolderSource, piece_of};
-use eos_disk::Disk;
-use eos_folder::{Cause, FoldRefusal, FolderFault, Watch, refused_at, segment_path};
+use eos_disk::{Cause, Disk, FoldRefusal, FolderFault, Watch, refused_at, segment_path};
 use std::alloc::Global;
 
 /// The fold stands where the log is wanted.

@@ -5,16 +5,16 @@ ghost use Rattle.eos_disk.specs.Entries.{Entry};
 ghost use Rattle.eos_fold_file.specs.Files.{record_count};
 ghost use Rattle.eos_fold_file.specs.Legal.{IsLegal};
 ghost use Rattle.eos_fold_file.specs.Reading.{read_fold};
-ghost use Rattle.eos_folder.specs.Paths.{segment_path};
-ghost use Rattle.eos_folder.specs.Refusals.{MayRefuse, RefusesFold, RefusesPiece};
-ghost use Rattle.eos_folder.specs.declared.names.Form.TheVariants.{Fold};
+ghost use Rattle.eos_disk.specs.Paths.{segment_path};
+ghost use Rattle.eos_disk.specs.Refusals.{MayRefuse, RefusesFold, RefusesPiece};
+ghost use Rattle.eos_disk.specs.declared.names.Form.TheVariants.{Fold};
 ghost use Rattle.eos_folder_source.specs.steps.Folds.{IsForName};
 
 use bytes::Bytes;
 use eos_evidence::{MAX_SEGMENT_BYTES, Segment};
 use eos_fold_file::{FoldFault, FoldFile, decode_fold};
 use eos_fold_run::Unfit;
-use eos_folder::{Cause, FoldRefusal, FolderFault, Form, refused_at, refused_fold, segment_path};
+use eos_disk::{Cause, FoldRefusal, FolderFault, Form, refused_at, refused_fold, segment_path};
 use std::alloc::{AllocError, Global};
 
 /// Why a fold isn't one of the segment by whose name its file lies there.

@@ -2,10 +2,10 @@
 
 ghost use Rattle.std.specs.Prelude.{◌≡◌, string_bytes};
 ghost use Rattle.eos_disk.specs.Entries.{Entry};
-ghost use Rattle.eos_folder.specs.Refusals.{MayRefuse, RefusesFile};
+ghost use Rattle.eos_disk.specs.Refusals.{MayRefuse, RefusesFile};
 
 use eos_evidence::ReadFault;
-use eos_folder::{FolderFault, Watch, refusal_of};
+use eos_disk::{FolderFault, Watch, refusal_of};
 use std::alloc::Global;
 use std::io;
 use std::io::Read;

@@ -5,10 +5,9 @@ ghost use Rattle.eos_evidence.specs.Evidence.{segments_of};
 
 use crate::fold::{read_fold, refused_unfit};
 use crate::reader::SegmentReader;
-use eos_disk::Disk;
+use eos_disk::{Cause, Disk, FolderFault, Form, NamedFile, Shape, Watch, segment_path};
 use eos_evidence::{Evidence, ReadFault, Segment};
 use eos_fold_run::Unfit;
-use eos_folder::{Cause, FolderFault, Form, NamedFile, Shape, Watch, segment_path};
 use eos_source::{Piece, Source};
 use std::alloc::Global;
 

@@ -6,9 +6,9 @@ use Rattle.eos_base.specs.Members.{Has}
 use Rattle.eos_disk.specs.Entries.{Entry, MayLackFile}
 use Rattle.eos_evidence.specs.declared.application.App.{App}
 use Rattle.eos_evidence.specs.declared.segment.Segment.{Segment}
-use Rattle.eos_folder.specs.declared.names.Form.{Form}
-use Rattle.eos_folder.specs.declared.names.Form.TheVariants.{Log, Fold}
-use Rattle.eos_folder.specs.Paths.{segment_path}
+use Rattle.eos_disk.specs.declared.names.Form.{Form}
+use Rattle.eos_disk.specs.declared.names.Form.TheVariants.{Log, Fold}
+use Rattle.eos_disk.specs.Paths.{segment_path}
 use Rattle.eos_source.specs.Topics.{AreSourceTopics}
 use Rattle.eos_wanted.specs.declared.wanted.Wanted.{Wanted}
 use Rattle.eos_wanted.specs.Wanted.{wanted_of}

@@ -13,9 +13,9 @@ use Rattle.eos_fold_file.specs.declared.file.FoldFile.{FoldFile}
 use Rattle.eos_fold_file.specs.Files.{fold_text}
 use Rattle.eos_fold_file.specs.Folds.{IsFoldOf, IsAskedAs}
 use Rattle.eos_fold_file.specs.Reading.{read_fold}
-use Rattle.eos_folder.specs.declared.names.Form.TheVariants.{Log, Fold}
-use Rattle.eos_folder.specs.Paths.{file_path, partition_path}
-use Rattle.eos_folder.specs.Shapes.{AreLogsAt}
+use Rattle.eos_disk.specs.declared.names.Form.TheVariants.{Log, Fold}
+use Rattle.eos_disk.specs.Paths.{file_path, partition_path}
+use Rattle.eos_disk.specs.Shapes.{AreLogsAt}
 use Rattle.eos_manifest.specs.Manifests.{has_end}
 use Rattle.eos_wanted.specs.declared.wanted.Wanted.{Wanted}
 use Rattle.eos_wanted.specs.Wanted.{wanted_of}

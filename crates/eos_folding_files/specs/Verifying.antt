@@ -10,10 +10,10 @@ use Rattle.eos_evidence.specs.Evidence.{EvidenceParts, segments_of}
 use Rattle.eos_fold_file.specs.declared.file.FoldFile.{FoldFile}
 use Rattle.eos_fold_file.specs.Files.{fold_text}
 use Rattle.eos_fold_file.specs.Folds.{IsFoldOf, IsAskedAs}
-use Rattle.eos_folder.specs.declared.names.Form.{Form}
-use Rattle.eos_folder.specs.declared.names.Form.TheVariants.{Log, Fold}
-use Rattle.eos_folder.specs.Paths.{segment_path}
-use Rattle.eos_folder.specs.Shapes.{IsShapeAt}
+use Rattle.eos_disk.specs.declared.names.Form.{Form}
+use Rattle.eos_disk.specs.declared.names.Form.TheVariants.{Log, Fold}
+use Rattle.eos_disk.specs.Paths.{segment_path}
+use Rattle.eos_disk.specs.Shapes.{IsShapeAt}
 use Rattle.eos_source.specs.Topics.{AreSourceTopics}
 use Rattle.eos_wanted.specs.declared.wanted.Wanted.{Wanted}
 use Rattle.eos_wanted.specs.Wanted.{wanted_of}

@@ -3,8 +3,7 @@
 ghost use Rattle.std.specs.Prelude.{◌≡◌};
 ghost use Rattle.eos_folding_files.specs.declared.fault.FoldingFault.TheVariants.{Unread, OutOfMemory};
 
-use eos_disk::ChangeFault;
-use eos_folder::FolderFault;
+use eos_disk::{ChangeFault, FolderFault};
 use std::alloc::{AllocError, AllocFailed};
 
 /// Why not all segments were folded: the first of what stands against it.

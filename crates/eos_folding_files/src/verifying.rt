@@ -5,8 +5,8 @@ ghost use Rattle.std.specs.Io.KnownBytes.{Consumes, IsAtEnd};
 ghost use Rattle.eos_base.specs.Members.{Has};
 ghost use Rattle.eos_disk.specs.Entries.{HasBytes, MayLackFile};
 ghost use Rattle.eos_evidence.specs.Evidence.{segments_of};
-ghost use Rattle.eos_folder.specs.Paths.{segment_path};
-ghost use Rattle.eos_folder.specs.declared.names.Form.TheVariants.{Log, Fold};
+ghost use Rattle.eos_disk.specs.Paths.{segment_path};
+ghost use Rattle.eos_disk.specs.declared.names.Form.TheVariants.{Log, Fold};
 ghost use Rattle.eos_source.specs.Topics.{AreSourceTopics};
 ghost use Rattle.eos_folding_files.specs.Verifying.{IsFoldText, HasFold, IsOfFront, IsLike, HaveNone, IsFound, AreOfOne, AreFound, AreVerified};
 ghost use Rattle.eos_folding_files.specs.declared.found.Found.{Found};
@@ -14,12 +14,9 @@ ghost use Rattle.eos_folding_files.specs.declared.found.Found.{Found};
 use crate::folding::refused;
 use crate::found::{Found, Likeness};
 use bytes::Bytes;
-use eos_disk::{Disk, DiskFault};
+use eos_disk::{Disk, DiskFault, FolderFault, Form, NamedFile, Shape, Watch, bases_in, open_segment, read_shape, segment_path};
 use eos_evidence::{ReadFault, Segment};
 use eos_fold_file::{FoldFault, decode_fold, encode_fold};
-use eos_folder::{
-    FolderFault, Form, NamedFile, Shape, Watch, bases_in, open_segment, read_shape, segment_path,
-};
 use eos_folding::fold_of;
 use eos_source::source_topics;
 use eos_wanted::{Wanted, Wants};

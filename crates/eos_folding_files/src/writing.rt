@@ -4,13 +4,12 @@ ghost use Rattle.std.specs.Prelude.{List, ℕ, OnOk, OnErr};
 ghost use Rattle.eos_disk.specs.Changes.{AreMade, AreMadeTo};
 ghost use Rattle.eos_disk.specs.Entries.{Entry};
 ghost use Rattle.eos_disk.specs.Putting.{IsPlaced, IsLeft};
-ghost use Rattle.eos_folder.specs.Paths.{partition_path, segment_path};
-ghost use Rattle.eos_folder.specs.declared.names.Form.TheVariants.{Fold};
+ghost use Rattle.eos_disk.specs.Paths.{partition_path, segment_path};
+ghost use Rattle.eos_disk.specs.declared.names.Form.TheVariants.{Fold};
 
 use crate::fault::{FoldingFault, unwritten};
-use eos_disk::{DiskMut, put_file};
+use eos_disk::{DiskMut, Form, partition_path, put_file, segment_path};
 use eos_evidence::Segment;
-use eos_folder::{Form, partition_path, segment_path};
 use std::alloc::Global;
 
 /// Writes the fold of the segment of this name to its place in a folder of folds, at which nothing may be. Folders that aren't there

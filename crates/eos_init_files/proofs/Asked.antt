@@ -8,9 +8,9 @@ use Rattle.eos_base.specs.declared.partition_name.PartitionName.{PartitionName}
 use Rattle.eos_disk.specs.Entries.{Entry, HasBytes, HasNames}
 use Rattle.eos_evidence.specs.declared.application.App.{App}
 use Rattle.eos_evidence.specs.declared.ends.End.{End}
-use Rattle.eos_folder.specs.declared.names.Form.TheVariants.{Log}
-use Rattle.eos_folder.specs.Paths.{partition_path, file_path, path_of_end}
-use Rattle.eos_folder.specs.Shapes.{AreLogsAt}
+use Rattle.eos_disk.specs.declared.names.Form.TheVariants.{Log}
+use Rattle.eos_disk.specs.Paths.{partition_path, file_path, path_of_end}
+use Rattle.eos_disk.specs.Shapes.{AreLogsAt}
 use Rattle.eos_manifest.specs.Listing.{IsListing}
 use Rattle.eos_manifest.specs.Manifests.{is_judged}
 use Rattle.eos_init_files.specs.Copies.{names_in, AreFoldersAt, path_of_name, AreListedBy, AreListedAt, is_states, own_name, AreAsked, AreRequired}

@@ -7,9 +7,9 @@ use Rattle.eos_base.specs.PartitionNames.{name_cmp}
 use Rattle.eos_base.specs.declared.partition_name.PartitionName.{PartitionName}
 use Rattle.eos_disk.specs.Entries.{Entry, HasBytes}
 use Rattle.eos_evidence.specs.declared.ends.End.{End}
-use Rattle.eos_folder.specs.declared.names.Form.TheVariants.{Log}
-use Rattle.eos_folder.specs.Paths.{file_path, path_of_end}
-use Rattle.eos_folder.specs.Shapes.{AreLogsAt}
+use Rattle.eos_disk.specs.declared.names.Form.TheVariants.{Log}
+use Rattle.eos_disk.specs.Paths.{file_path, path_of_end}
+use Rattle.eos_disk.specs.Shapes.{AreLogsAt}
 use Rattle.eos_manifest.specs.Front.{IsFrontTo}
 use Rattle.eos_init_files.specs.Copies.{EndsAt, IsEndOfCopy, IsCopied, AreEndsOfCopies}
 use Rattle.eos_init_files.proofs.Asked.{path_same}

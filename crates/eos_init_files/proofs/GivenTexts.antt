@@ -4,7 +4,7 @@ use Rattle.std.proofs.lemmas.List.{drop_all}
 use Rattle.std.specs.Io.KnownBytes.{Consumes, IsAtEnd}
 use Rattle.eos_disk.specs.Entries.{Entry, HasBytes, Leaves}
 use Rattle.eos_evidence.specs.declared.application.App.{App}
-use Rattle.eos_folder.proofs.WholeFiles as whole
+use Rattle.eos_disk.proofs.WholeFiles as whole
 use Rattle.eos_manifest.specs.AppWords.{app_in_word}
 use Rattle.eos_init_files.specs.Making.{apps_in_words, is_standard, IsTextOf}
 

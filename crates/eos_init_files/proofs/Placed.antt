@@ -5,7 +5,7 @@ use Rattle.eos_disk.specs.Putting.{IsPlaced, IsLeft}
 use Rattle.eos_disk.proofs.Kept.{known_same}
 use Rattle.eos_evidence.specs.Manifest.{spec_said_by}
 use Rattle.eos_evidence.specs.Parts.{Parts}
-use Rattle.eos_folder.specs.Paths.{manifest_path}
+use Rattle.eos_disk.specs.Paths.{manifest_path}
 use Rattle.eos_init_files.specs.Making.{IsManifestFor, IsManifestPlaced, wrote_line}
 use Rattle.eos_init_files.specs.declared.given.Given.{Given}
 

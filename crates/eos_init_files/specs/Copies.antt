@@ -8,9 +8,9 @@ use Rattle.eos_base.specs.declared.partition_name.PartitionName.{PartitionName}
 use Rattle.eos_disk.specs.Entries.{Entry, HasBytes, HasNames}
 use Rattle.eos_evidence.specs.declared.application.App.{App}
 use Rattle.eos_evidence.specs.declared.ends.End.{End}
-use Rattle.eos_folder.specs.declared.names.Form.TheVariants.{Log}
-use Rattle.eos_folder.specs.Paths.{partition_path, file_path}
-use Rattle.eos_folder.specs.Shapes.{AreLogsAt}
+use Rattle.eos_disk.specs.declared.names.Form.TheVariants.{Log}
+use Rattle.eos_disk.specs.Paths.{partition_path, file_path}
+use Rattle.eos_disk.specs.Shapes.{AreLogsAt}
 use Rattle.eos_manifest.specs.Front.{IsFrontTo}
 use Rattle.eos_manifest.specs.Lines.{partition_in_name}
 use Rattle.eos_manifest.specs.Listing.{IsListing}

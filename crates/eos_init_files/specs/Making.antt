@@ -9,7 +9,7 @@ use Rattle.eos_evidence.specs.declared.application.App.{App}
 use Rattle.eos_evidence.specs.declared.ends.End.{End}
 use Rattle.eos_evidence.specs.Manifest.{spec_said_by}
 use Rattle.eos_evidence.specs.Parts.{Parts, accepted}
-use Rattle.eos_folder.specs.Paths.{manifest_path}
+use Rattle.eos_disk.specs.Paths.{manifest_path}
 use Rattle.eos_manifest.specs.AppWords.{app_in_word}
 use Rattle.eos_manifest.specs.Lines.{ends_said_by}
 use Rattle.eos_manifest.specs.Manifests.{first_without, parts_for}

@@ -4,9 +4,8 @@ ghost use Rattle.std.specs.Prelude.{◌≡◌};
 ghost use Rattle.eos_init_files.specs.declared.fault.InitFault.TheVariants.{Unread, OutOfMemory};
 
 use eos_base::PartitionName;
-use eos_disk::DiskFault;
+use eos_disk::{DiskFault, FolderFault, NamedFile};
 use eos_evidence::SpecFault;
-use eos_folder::{FolderFault, NamedFile};
 use std::alloc::{AllocError, AllocFailed};
 use std::io::Read;
 

@@ -4,7 +4,7 @@ ghost use Rattle.std.specs.Prelude.{◌≡◌, ℕ, List, Err, IfOk, OnOk, OnErr
 ghost use Rattle.std.specs.Io.KnownBytes.{Appends};
 ghost use Rattle.eos_disk.specs.Putting.{IsLeft};
 ghost use Rattle.eos_evidence.specs.Parts.{Parts};
-ghost use Rattle.eos_folder.specs.Paths.{manifest_path};
+ghost use Rattle.eos_disk.specs.Paths.{manifest_path};
 ghost use Rattle.eos_init_files.specs.Making.{IsManifestFor, IsManifestPlaced, wrote_line};
 ghost use Rattle.eos_text.specs.Writing.{WritesFront};
 
@@ -14,9 +14,8 @@ use crate::given::{Given, ends_given, read_apps, spec_of};
 use crate::note::note_texts;
 use crate::noting::notes_on;
 use crate::writing::write_manifest;
-use eos_disk::{Disk, DiskMut};
+use eos_disk::{Disk, DiskMut, manifest_path};
 use eos_evidence::{Spec, spec_text};
-use eos_folder::manifest_path;
 use eos_text::{WriteFault, finish, push_text, push_value};
 use std::alloc::{AllocError, Global};
 use std::io::{Read, Write};

@@ -6,14 +6,12 @@ use crate::kept::simulate;
 use crate::making::{SimulationFault, told_to};
 use crate::replaying::{ReplayFault, replay};
 use crate::schedule_file::{end_unreplayed, read_schedule};
-use eos_disk::{ChangeFault, DiskMut, HostDisk, HostFile};
+use eos_disk::{Cause, ChangeFault, DiskMut, HostDisk, HostFile, WritingFault, Written, make_folder, write_whole};
 use eos_ending::{Ending, STANDARD, end, end_unchanged, leave_file, make_file};
 use eos_evidence::Evidence;
-use eos_folder::{Cause, WritingFault, Written, make_folder};
 use eos_history_lines::Schedule;
 use eos_scripts::History;
 use eos_words::Simulation;
-use eos_written::write_whole;
 use std::io;
 
 /// What a cluster left: the evidence, and the text of its history, if that was asked for.

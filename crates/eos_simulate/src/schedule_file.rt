@@ -2,10 +2,9 @@
 
 use crate::replaying::ReplayFault;
 use bytes::Bytes;
-use eos_disk::{Disk, DiskFault, HostDisk};
+use eos_disk::{Cause, Disk, DiskFault, HostDisk};
 use eos_ending::{Ending, STANDARD, end};
 use eos_evidence::{ReadFault, read_segment};
-use eos_folder::Cause;
 use eos_history_lines::{Line, LineFault, Schedule, ScheduleFault, line_text, schedule_of};
 use std::alloc::AllocError;
 

@@ -1,6 +1,6 @@
 use Rattle.std.proofs.Common.{rules}
-use Rattle.eos_folder.specs.Paths.{partition_path, segment_path}
-use Rattle.eos_folder.specs.declared.names.Form.TheVariants.{Fold}
+use Rattle.eos_disk.specs.Paths.{partition_path, segment_path}
+use Rattle.eos_disk.specs.declared.names.Form.TheVariants.{Fold}
 use Rattle.eos_folding_files.proofs.Unmade.{not_left}
 use Rattle.eos_folding_files.proofs.writing.write_fold.Goals as goal
 

@@ -1,5 +1,5 @@
 use Rattle.std.proofs.Common.{ℤ, List, subst, rules}
-use Rattle.eos_folder.specs.Paths.{path_of_end}
+use Rattle.eos_disk.specs.Paths.{path_of_end}
 use Rattle.eos_init_files.specs.Copies.{EndsAt}
 use Rattle.eos_init_files.proofs.CopiedEnds.{end_is}
 use Rattle.eos_init_files.proofs.copied.Logs.end_of_copy.Goals as goal

@@ -1,6 +1,6 @@
 use Rattle.std.proofs.Common.{pos, arith}
 use Rattle.std.proofs.lemmas.Int.{to_z-of_z}
-use Rattle.eos_folder.specs.Paths.{path_of_end}
+use Rattle.eos_disk.specs.Paths.{path_of_end}
 use Rattle.eos_init_files.proofs.CopiedEnds.{gap_segment, cut_segment, next_segment, all_segments}
 use Rattle.eos_init_files.proofs.copied.Logs.end_of_front.Goals as goal
 

@@ -1,6 +1,6 @@
 -- The segments that are left end where all of them end.
 use Rattle.std.proofs.Common.{drop}
-use Rattle.eos_folder.specs.Paths.{path_of_end}
+use Rattle.eos_disk.specs.Paths.{path_of_end}
 use Rattle.eos_init_files.proofs.CopiedEnds.{GoesOn}
 use Rattle.eos_init_files.proofs.copied.Logs.end_of_front.Given as goal
 

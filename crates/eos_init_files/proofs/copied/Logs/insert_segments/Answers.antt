@@ -2,7 +2,7 @@ use Rattle.std.proofs.Common.{◌++◌, [], ℤ, List, pos, get_or, w64, refl, s
 use Rattle.std.proofs.lemmas.Int.{to_z-of_z}
 use Rattle.std.proofs.lemmas.List.{take_all}
 use mir.Val.{to_z, of_z}
-use Rattle.eos_folder.specs.Paths.{path_of_end}
+use Rattle.eos_disk.specs.Paths.{path_of_end}
 use Rattle.eos_init_files.specs.Copies.{AreListedBy}
 use Rattle.eos_init_files.proofs.Asked.{next_listed}
 use Rattle.eos_init_files.proofs.NameSets.{gains_nothing, gains_more}

@@ -1,7 +1,7 @@
 -- The segments so far list these partitions, which the set has gained.
 use Rattle.std.proofs.Common.{List, take}
 use Rattle.eos_base.specs.declared.partition_name.PartitionName.{PartitionName}
-use Rattle.eos_folder.specs.Paths.{path_of_end}
+use Rattle.eos_disk.specs.Paths.{path_of_end}
 use Rattle.eos_init_files.specs.Copies.{AreListedBy}
 use Rattle.eos_init_files.specs.steps.Names.{Gains}
 use Rattle.eos_init_files.proofs.copied.Logs.insert_segments.Given as goal

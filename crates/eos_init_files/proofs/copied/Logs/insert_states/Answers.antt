@@ -1,5 +1,5 @@
 use Rattle.std.proofs.Common.{ℤ, List, subst}
-use Rattle.eos_folder.specs.Paths.{path_of_end}
+use Rattle.eos_disk.specs.Paths.{path_of_end}
 use Rattle.eos_init_files.specs.Copies.{AreListedBy}
 use Rattle.eos_init_files.proofs.Asked.{all_listed}
 use Rattle.eos_init_files.proofs.copied.Logs.insert_states.Goals as goal

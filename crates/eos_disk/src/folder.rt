@@ -1,0 +1,354 @@
+//! Reading a folder of evidence: its manifest, and the segments of the partitions that the manifest names.
+
+ghost use Rattle.std.specs.Prelude.{◌≡◌, ℕ, List, map, Ok, Err, IfOk, IfErr, OnOk, string_bytes};
+ghost use Rattle.eos_disk.specs.Entries.{HasBytes};
+ghost use Rattle.eos_evidence.specs.Evidence.{IsEvidence, with_segment};
+ghost use Rattle.eos_evidence.specs.Manifest.{spec_said_by};
+ghost use Rattle.eos_disk.specs.Paths.{manifest_path, segment_path};
+ghost use Rattle.eos_disk.specs.Reading.{IsReadWhole, name_of};
+ghost use Rattle.eos_disk.specs.Refusals.{RefusesManifest};
+ghost use Rattle.eos_disk.specs.Shapes.{IsShapeAt};
+ghost use Rattle.eos_disk.specs.Stopped.{IsShapeTo};
+ghost use Rattle.eos_disk.specs.steps.Filling.{IsFileRead, AreFilled, IsFilledBy};
+ghost use Rattle.eos_disk.specs.steps.Listing.{AreNamed, AreLogsNamed, IsCut, partitions_with};
+ghost use Rattle.eos_disk.specs.declared.folder.FolderFault.{FolderFault as AFault};
+ghost use Rattle.eos_disk.specs.declared.folder.FolderFault.TheVariants.{OutOfMemory};
+ghost use Rattle.eos_disk.specs.declared.names.Form.TheVariants.{Log};
+
+use crate::cause::Cause;
+use crate::files::{open_segment, read_file};
+use crate::listing::Segments;
+use crate::names::Form;
+use crate::paths::manifest_path;
+use crate::refusal::{NO_RECORDS, refused_fold};
+use crate::watch::Watch;
+use bytes::Bytes;
+use crate::Disk;
+use eos_evidence::{Evidence, EvidenceBuilder, Segment, Spec, SpecFault, parse_spec};
+use eos_manifest::{SpecCause, explain_spec};
+use eos_base::Workers;
+use std::alloc::{AllocError, AllocFailed, Global};
+use std::thread;
+use std::thread::Threads;
+
+/// Why a folder is no evidence. Of several reasons it is the first: those of the manifest, then those of the
+/// partitions in order, each with its segments by base. Want of memory may come before any of them.
+#[derive(Drop)]
+pub enum FolderFault {
+    /// This file or folder can't be read.
+    CannotRead(String, Cause),
+    /// The manifest is refused.
+    Manifest(SpecFault, Cause),
+    /// A file is larger than a segment may be, or there are more segments than evidence may have.
+    Limit(Cause),
+    /// The fold in the file of this path is refused by this name.
+    Fold(String, &'static str, Cause),
+    /// A growth of memory was refused.
+    OutOfMemory,
+}
+
+impl From<AllocError> for FolderFault {
+    ghost from_gives = { λ _ e. e ≡ OutOfMemory };
+
+    fn from(_e: AllocError) -> FolderFault {
+        FolderFault::OutOfMemory
+    }
+}
+
+impl<T: Drop> From<AllocFailed<T>> for FolderFault {
+    ghost from_gives = { λ _ e. e ≡ OutOfMemory };
+
+    fn from(_e: AllocFailed<T>) -> FolderFault {
+        FolderFault::OutOfMemory
+    }
+}
+
+/// Which evidence a folder has, before its segments are read.
+#[derive(Drop)]
+pub struct Shape {
+    /// The evidence with the names of its segments, which have no bytes.
+    pub evidence: Evidence,
+    /// In which form each of these stands in the folder, by its number.
+    pub forms: Vec<Form>,
+    /// Why no more segments than these are listed, if that was refused. What refuses one of these comes before it.
+    pub listed: Result<(), FolderFault>,
+}
+
+/// What a folder lists.
+#[derive(Drop)]
+struct Listing {
+    spec: Spec,
+    segments: Segments,
+}
+
+/// A file that is named as a segment of a partition.
+#[derive(Drop)]
+struct SegmentFile {
+    /// The segment without its bytes.
+    name: Segment,
+    /// What was read of it. Before that it counts as one for which there was no memory.
+    bytes: Result<Bytes, FolderFault>,
+}
+
+/// Reads which evidence a folder has: its manifest, and for each partition of it the names of the segments in the folder
+/// `TOPIC-N`, each with the form in which it stands there. A partition without a folder has no segments. No segment is read.
+pub fn read_shape<D: Disk, W: Watch>(
+    alloc: Global,
+    disk: &D,
+    folder: &str,
+    watch: &W,
+) -> Result<Shape, FolderFault>
+    ensures all { IfOk result (λ shape. shape.listed ≡ Ok tt → IsShapeAt (D.holds disk.now) folder.now shape.evidence shape.forms.items) }
+    ensures front { IfOk result (λ shape. (why : AFault) → shape.listed ≡ Err why → IsShapeTo (D.holds disk.now) folder.now shape.evidence shape.forms.items why) }
+    ensures refused { IfErr result (RefusesManifest (D.holds disk.now) (manifest_path folder.now)) }
+{
+    let mut listed = Ok(());
+    match shape_of(alloc, disk, folder, watch, &mut listed) {
+        Ok((evidence, forms)) => Ok(Shape {
+            evidence,
+            forms,
+            listed,
+        }),
+        Err(fault) => Err(fault),
+    }
+}
+
+fn shape_of<D: Disk, W: Watch>(
+    alloc: Global,
+    disk: &D,
+    folder: &str,
+    watch: &W,
+    listed: &mut Result<(), FolderFault>,
+) -> Result<(Evidence, Vec<Form>), FolderFault>
+    ensures all { IfOk result (λ shape. listed.new ≡ Ok tt → IsShapeAt (D.holds disk.now) folder.now shape.0 shape.1.items) }
+    ensures front { IfOk result (λ shape. (why : AFault) → listed.new ≡ Err why → IsShapeTo (D.holds disk.now) folder.now shape.0 shape.1.items why) }
+    ensures refused { IfErr result (RefusesManifest (D.holds disk.now) (manifest_path folder.now)) }
+{
+    let Listing { spec, segments } = list_folder(alloc, disk, folder, watch, listed)?;
+    let Segments { names, forms } = segments;
+    let evidence = evidence_of(alloc, spec, names)?;
+    Ok((evidence, forms))
+}
+
+/// How a folder is read.
+#[derive(Clone, Copy)]
+pub struct Reading<'a, W> {
+    /// By how many threads at most.
+    pub workers: Workers,
+    pub watch: &'a W,
+}
+
+/// Reads the evidence of a folder: its shape, and the bytes of each segment, by at most as many threads as there are workers. A
+/// folder that has a fold is refused before any segment is read.
+pub fn read_folder<D: Disk, W: Watch>(
+    alloc: Global,
+    threads: &(impl Threads + Sync),
+    disk: &D,
+    folder: &str,
+    asked: Reading<'_, W>,
+) -> Result<Evidence, FolderFault>
+    ensures { IfOk result (IsReadWhole (D.holds disk.now) folder.now) }
+{
+    let Reading { workers, watch } = asked;
+    let mut listed = Ok(());
+    let (spec, mut files) = list_logs(alloc, disk, folder, watch, &mut listed)?;
+    thread::for_each_mut(
+        threads,
+        files.as_mut_slice(),
+        workers.get() as usize,
+        &|_, file: &mut SegmentFile|
+            ensures { IsFileRead (D.holds disk.entry.now) folder.entry.now file.old file.new }
+        { file.read(alloc, disk, folder, watch) },
+    );
+    first_refusal(evidence_of_files(alloc, spec, files), listed)
+}
+
+/// What refuses a segment comes before what refused to list more of them.
+fn first_refusal(
+    evidence: Result<Evidence, FolderFault>,
+    listed: Result<(), FolderFault>,
+) -> Result<Evidence, FolderFault>
+    ensures { IfOk result (λ e. (evidence ≡ Ok e) × (listed ≡ Ok tt)) }
+{
+    let evidence = evidence?;
+    listed?;
+    Ok(evidence)
+}
+
+/// What a folder lists that has no fold: its manifest, and the files of its segments, of which none is read yet.
+fn list_logs<D: Disk, W: Watch>(
+    alloc: Global,
+    disk: &D,
+    folder: &str,
+    watch: &W,
+    listed: &mut Result<(), FolderFault>,
+) -> Result<(Spec, Vec<SegmentFile>), FolderFault>
+    ensures says { IfOk result (λ logs. (text : List ℕ) × HasBytes (D.holds disk.now (manifest_path folder.now)) text × (spec_said_by text ≡ Ok logs.0)) }
+    ensures named { IfOk result (λ logs. listed.new ≡ Ok tt → AreLogsNamed (D.holds disk.now) folder.now logs.0.ends (map (λ f. f.name) logs.1.items)) }
+{
+    let Listing { spec, segments } = list_folder(alloc, disk, folder, watch, listed)?;
+    match segments.first_fold() {
+        Some(name) => return Err(refused_fold(alloc, folder, name, NO_RECORDS)),
+        None => {}
+    }
+    let files = unread_files(alloc, segments.names)?;
+    Ok((spec, files))
+}
+
+/// Lists a folder, and why these aren't all of its segments, if that was refused.
+fn list_folder<D: Disk, W: Watch>(
+    alloc: Global,
+    disk: &D,
+    folder: &str,
+    watch: &W,
+    listed: &mut Result<(), FolderFault>,
+) -> Result<Listing, FolderFault>
+    ensures says { IfOk result (λ listing. (text : List ℕ) × HasBytes (D.holds disk.now (manifest_path folder.now)) text × (spec_said_by text ≡ Ok listing.spec)) }
+    ensures named { IfOk result (λ listing. listed.new ≡ Ok tt → AreNamed (D.holds disk.now) folder.now listing.spec.ends listing.segments.names.items listing.segments.forms.items) }
+    ensures cut { IfOk result (λ listing. (why : AFault) → listed.new ≡ Err why
+        → IsCut (D.holds disk.now) folder.now listing.spec.ends listing.segments.names.items listing.segments.forms.items why) }
+    ensures refused { IfErr result (RefusesManifest (D.holds disk.now) (manifest_path folder.now)) }
+{
+    let spec = read_manifest(alloc, disk, manifest_path(alloc, folder)?)?;
+    let mut segments = Segments::new(alloc);
+    *listed = segments.add_all(alloc, disk, folder, spec.ends().as_slice());
+    watch.found(segments.names.len() as u64);
+    Ok(Listing { spec, segments })
+}
+
+/// Reads the manifest in the file of this path.
+pub fn read_manifest<D: Disk>(alloc: Global, disk: &D, path: String) -> Result<Spec, FolderFault>
+    ensures says { IfOk result (λ spec. (text : List ℕ) × HasBytes (D.holds disk.now (string_bytes path)) text × (spec_said_by text ≡ Ok spec)) }
+    ensures err { IfErr result (RefusesManifest (D.holds disk.now) (string_bytes path)) }
+{
+    let named = String::from_str(alloc, path.as_str())?;
+    let manifest = read_file(alloc, disk, path)?;
+    match parse_spec(alloc, manifest.as_slice()) {
+        Ok(spec) => Ok(spec),
+        Err(SpecFault::OutOfMemory) => Err(FolderFault::OutOfMemory),
+        Err(fault) => {
+            let cause = cause_of_refusal(alloc, named.as_str(), manifest.as_slice(), fault);
+            Err(FolderFault::Manifest(fault, cause))
+        }
+    }
+}
+
+/// The file, the line and the column, as compilers tell them, and what is wrong there.
+fn cause_of_refusal(alloc: Global, path: &str, manifest: &[u8], fault: SpecFault) -> Cause {
+    match explain_spec(alloc, manifest, fault) {
+        Some(cause) => match told_at(alloc, path, &cause) {
+            Ok(words) => Cause::Told(words),
+            Err(_) => Cause::Unknown,
+        },
+        None => Cause::Unknown,
+    }
+}
+
+fn told_at(alloc: Global, path: &str, cause: &SpecCause) -> Result<String, AllocError> {
+    let (line, column) = (cause.line, cause.column);
+    let text = cause.text.as_str();
+    format!(in alloc; "{path}:{line}:{column}: {text}")
+}
+
+/// The evidence of the segments in order.
+fn evidence_of(alloc: Global, spec: Spec, segments: Vec<Segment>) -> Result<Evidence, AllocError>
+    ensures spec { IfOk result (λ evidence. evidence.spec ≡ spec) }
+    ensures partitions { IfOk result (λ evidence. evidence.partitions ≡ partitions_with segments.items spec.ends) }
+    ensures evidence { IfOk result IsEvidence }
+{
+    let mut builder = EvidenceBuilder::new(alloc, spec)?;
+    for segment in segments {
+        add(&mut builder, segment)?;
+    }
+    Ok(builder.finish())
+}
+
+/// Adds a segment of a listing: one of a partition of the manifest, of another base than those before it, and no more than evidence may
+/// have. That a builder takes each of these isn't proved: a refusal counts as want of memory.
+fn add(builder: &mut EvidenceBuilder, segment: Segment) -> Result<(), AllocError>
+    ensures spec { OnOk result (builder.new.spec ≡ builder.old.spec) }
+    ensures partitions { OnOk result (builder.new.partitions ≡ map (with_segment segment) builder.old.partitions) }
+{
+    match builder.add(segment) {
+        Ok(()) => Ok(()),
+        Err(_) => Err(AllocError),
+    }
+}
+
+// ---- what is in them
+
+/// The files of these names, of which none is read yet.
+fn unread_files(alloc: Global, names: Vec<Segment>) -> Result<Vec<SegmentFile>, AllocError>
+    ensures { IfOk result (λ files. map (λ f. f.name) files.items ≡ names.items) }
+{
+    let mut files = Vec::new(alloc);
+    for name in names {
+        files.push(SegmentFile {
+            name,
+            bytes: Err(FolderFault::OutOfMemory),
+        })?;
+    }
+    Ok(files)
+}
+
+impl SegmentFile {
+    /// Reads the file, and says so.
+    fn read<D: Disk, W: Watch>(&mut self, alloc: Global, disk: &D, folder: &str, watch: &W)
+        ensures { IsFileRead (D.holds disk.now) folder.now self.old self.new }
+    {
+        self.bytes = bytes_of(alloc, disk, folder, &self.name);
+        if let Ok(bytes) = &self.bytes {
+            watch.read(bytes.len() as u64);
+        }
+    }
+
+    /// The segment with what was read of it.
+    fn into_segment(self) -> Result<Segment, FolderFault>
+        ensures { IfOk result (λ segment. (name_of segment ≡ name_of self.name) × (Ok segment.bytes ≡ self.bytes)) }
+    {
+        let SegmentFile { name, bytes } = self;
+        match bytes {
+            Ok(bytes) => Ok(Segment {
+                topic: name.topic,
+                partition: name.partition,
+                base: name.base,
+                bytes,
+            }),
+            Err(fault) => Err(fault),
+        }
+    }
+}
+
+fn bytes_of<D: Disk>(
+    alloc: Global,
+    disk: &D,
+    folder: &str,
+    name: &Segment,
+) -> Result<Bytes, FolderFault>
+    ensures { IfOk result (HasBytes (D.holds disk.now (segment_path folder.now name.now Log))) }
+{
+    open_segment(alloc, disk, folder, name, Form::Log)?.read_whole(alloc)
+}
+
+/// The evidence of the files in order, or the first refusal among them.
+fn evidence_of_files(
+    alloc: Global,
+    spec: Spec,
+    files: Vec<SegmentFile>,
+) -> Result<Evidence, FolderFault>
+    ensures filled { IfOk result (IsFilledBy spec files.items) }
+    ensures evidence { IfOk result IsEvidence }
+{
+    let segments = segments_of_files(alloc, files)?;
+    Ok(evidence_of(alloc, spec, segments)?)
+}
+
+fn segments_of_files(alloc: Global, files: Vec<SegmentFile>) -> Result<Vec<Segment>, FolderFault>
+    ensures { IfOk result (λ segments. AreFilled files.items segments.items) }
+{
+    let mut segments = Vec::new(alloc);
+    for file in files {
+        segments.push(file.into_segment()?)?;
+    }
+    Ok(segments)
+}

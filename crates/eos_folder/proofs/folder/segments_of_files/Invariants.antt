@@ -1,6 +1,0 @@
--- The segments so far are those of the files so far.
-use Rattle.eos_folder.specs.steps.Filling.{AreFilled}
-use Rattle.eos_folder.proofs.folder.segments_of_files.Given as goal
-
-abbrev pub invariant-loop-file : goal.invariant-loop-file
-invariant-loop-file l = AreFilled l.yielded l.segments.items

@@ -1,5 +1,0 @@
-use Rattle.eos_folder.proofs.OneShape.{one_shape}
-use Rattle.eos_folder.proofs.laws.one_shape.Goals as goal
-
-pub returns : goal.returns
-returns c = one_shape
