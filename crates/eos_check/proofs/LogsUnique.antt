@@ -8,11 +8,11 @@ use Rattle.eos_base.specs.Members.{Has}
 use Rattle.eos_touch.proofs.AllTouches.{AllPairs-head, AllPairs-tail}
 use Rattle.eos_batch.specs.declared.batch.Batch.{Batch}
 use Rattle.eos_evidence.specs.declared.partition.Partition.{Partition}
-use Rattle.eos_items.specs.Items.{items_of}
+use Rattle.eos_fold.specs.Items.{items_of}
 use Rattle.eos_fold.specs.declared.close.Close.{Close}
 use Rattle.eos_fold.specs.Closes.{close_cmp, closes_of}
 use Rattle.eos_fold.specs.Parts.{PartLog, Ascends}
-use Rattle.eos_summary.specs.Settling.{data_in}
+use Rattle.eos_fold.specs.Settling.{data_in}
 use Rattle.eos_batch.specs.Marker.{markers_of}
 use Rattle.eos_fold.proofs.ClosesOnce.{close_total}
 use Rattle.eos_lineage.specs.EvidenceLogs.{IsLogOf, AreLogsOf}

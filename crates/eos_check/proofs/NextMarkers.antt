@@ -13,8 +13,8 @@ use Rattle.eos_batch.specs.Marker as batch
 use Rattle.eos_touch.specs.declared.touch.Touch.{Touch}
 use Rattle.eos_touch.specs.declared.touch.Touch.TheVariants.{Data, End}
 use Rattle.eos_touch.specs.Touches.{touch_of}
-use Rattle.eos_summary.specs.declared.mark.EndMark.{EndMark}
-use Rattle.eos_summary.specs.Ends.{mark_in, mark_for, first_marker}
+use Rattle.eos_fold.specs.declared.mark.EndMark.{EndMark}
+use Rattle.eos_fold.specs.Ends.{mark_in, mark_for, first_marker}
 use Rattle.eos_batch.specs.Offsets.{offset_of}
 use Rattle.eos_touch.specs.Front.{ContinuesFrom}
 use Rattle.eos_fold.proofs.SteadyFronts.{HaveRecords}

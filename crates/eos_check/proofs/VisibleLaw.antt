@@ -10,16 +10,16 @@ use Rattle.eos_batch.specs.declared.marker.Kind.{Kind}
 use Rattle.eos_batch.specs.declared.marker.Kind.TheVariants.{Commit, Abort}
 use Rattle.eos_batch.specs.Attributes.{is_control, is_transactional}
 use Rattle.eos_evidence.specs.declared.partition.Partition.{Partition}
-use Rattle.eos_items.specs.declared.item.Item.{Item}
-use Rattle.eos_items.specs.declared.entry.Ending.{Ending}
-use Rattle.eos_items.specs.declared.entry.Ending.TheVariants.{Plain, Ended, Waiting}
-use Rattle.eos_items.specs.Batches.{DataBatch, fate_of}
-use Rattle.eos_items.specs.Items.{item_of, items_from, items_in}
-use Rattle.eos_summary.specs.declared.mark.EndMark.{EndMark}
-use Rattle.eos_summary.specs.Ends.{first_marker}
+use Rattle.eos_fold.specs.declared.item.Item.{Item}
+use Rattle.eos_fold.specs.declared.entry.Ending.{Ending}
+use Rattle.eos_fold.specs.declared.entry.Ending.TheVariants.{Plain, Ended, Waiting}
+use Rattle.eos_fold.specs.Batches.{DataBatch, fate_of}
+use Rattle.eos_fold.specs.Items.{item_of, items_from, items_in}
+use Rattle.eos_fold.specs.declared.mark.EndMark.{EndMark}
+use Rattle.eos_fold.specs.Ends.{first_marker}
 use Rattle.eos_batch.specs.Offsets.{offset_of}
 use Rattle.eos_fold.specs.Parts.{PartLog}
-use Rattle.eos_summary.specs.Settling.{ending_by, resolved, data_after, data_in}
+use Rattle.eos_fold.specs.Settling.{ending_by, resolved, data_after, data_in}
 use Rattle.eos_fold.proofs.SteadyFronts.{IsSteady, front_steady}
 use Rattle.eos_commits.specs.Visible.{is_visible}
 use Rattle.eos_lineage.specs.EvidenceLogs.{IsLogOf}

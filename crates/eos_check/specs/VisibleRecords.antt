@@ -8,7 +8,7 @@ use Rattle.eos_batch.specs.declared.marker.Kind.{Kind}
 use Rattle.eos_batch.specs.declared.marker.Kind.TheVariants.{Commit}
 use Rattle.eos_batch.specs.Attributes.{is_transactional, is_control}
 use Rattle.eos_batch.specs.Marker.{marker_of}
-use Rattle.eos_items.specs.declared.item.Item.{Item}
+use Rattle.eos_fold.specs.declared.item.Item.{Item}
 use Rattle.eos_batch.specs.Offsets.{offset_of}
 use Rattle.eos_fold.specs.Parts.{PartLog}
 use Rattle.eos_commits.specs.Visible.{visible}

@@ -1,7 +1,7 @@
 -- The commits record by record are the commits of the log.
 use Rattle.std.proofs.Common.{◌≡◌, ◌∙◌, ◌++◌, List, [], ◌∷◌, flat_map, refl, ap, Bool, true, false, cond, if◌then◌else◌}
 use Rattle.std.specs.Prelude.{filter}
-use Rattle.eos_items.specs.declared.item.Item.{Item}
+use Rattle.eos_fold.specs.declared.item.Item.{Item}
 use Rattle.eos_fold.specs.Parts.{PartLog}
 use Rattle.eos_claims.specs.Outputs.{Commit}
 use Rattle.eos_commits.specs.Visible.{is_visible}

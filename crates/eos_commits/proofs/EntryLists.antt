@@ -13,7 +13,7 @@ use Rattle.eos_base.proofs.Exact.{bytes_exact}
 use Rattle.eos_base.proofs.Membership.{found_has, has_found, has_map}
 use Rattle.eos_evidence.specs.declared.application.App.{App}
 use Rattle.eos_offsets.specs.declared.key.OffsetKey.{OffsetKey}
-use Rattle.eos_items.specs.declared.item.Item.{Item}
+use Rattle.eos_fold.specs.declared.item.Item.{Item}
 use Rattle.eos_fold.specs.Parts.{PartLog}
 use Rattle.eos_claims.specs.Outputs.{Writer, Commit}
 use Rattle.eos_commits.specs.declared.table.Entry.{Entry}

@@ -1,6 +1,6 @@
 -- The walk over a partition that is settled.
 use Rattle.std.proofs.Common.{◌≡◌, List, [], ◌∷◌, Ok, Err, refl, true, false, Bool, not, ◌&&◌, ◌||◌, if◌then◌else◌}
-use Rattle.eos_items.specs.declared.item.Item.{Item}
+use Rattle.eos_fold.specs.declared.item.Item.{Item}
 use Rattle.eos_claims.specs.Headers.{claim_of}
 use Rattle.eos_fold.specs.Parts.{PartLog}
 use Rattle.eos_commits.specs.declared.judge.PartRole.{PartRole}

@@ -10,7 +10,7 @@ use Rattle.eos_base.specs.PartitionNames.{name_cmp}
 use Rattle.eos_base.specs.Fallible.{◌>>=◌}
 use Rattle.eos_base.proofs.Membership.{append_cases, flat_has, has_flat, map_has, has_map, has_filter, filter_has}
 use Rattle.eos_base.proofs.NamesInOrder.{name_total}
-use Rattle.eos_items.specs.declared.item.Item.{Item}
+use Rattle.eos_fold.specs.declared.item.Item.{Item}
 use Rattle.eos_fold.specs.Parts.{part_name, PartLog, Rises}
 use Rattle.eos_claims.specs.Headers.{claim_of}
 use Rattle.eos_claims.proofs.ClaimOrder.{nat_less}

@@ -1,7 +1,7 @@
 -- Nothing is asked of the records of a partition that is neither of an output topic nor of the offsets log.
 use Rattle.std.proofs.Common.{◌≡◌, List, [], ◌∷◌, Bool, true, false, if◌then◌else◌, Ok, refl, ap, ◌∙◌}
 use Rattle.eos_base.specs.Fallible.{◌>>=◌}
-use Rattle.eos_items.specs.declared.item.Item.{Item}
+use Rattle.eos_fold.specs.declared.item.Item.{Item}
 use Rattle.eos_commits.specs.declared.judge.PartRole.{PartRole}
 use Rattle.eos_commits.specs.Visible.{is_visible}
 use Rattle.eos_commits.specs.steps.Roles.{RoleSets}

@@ -10,7 +10,7 @@ use Rattle.eos_base.specs.Members.{Has, is_found}
 use Rattle.eos_offsets.specs.declared.key.OffsetKey.{OffsetKey}
 use Rattle.eos_offsets.specs.Reading.{read_key, read_value}
 use Rattle.eos_evidence.specs.declared.application.App.{App}
-use Rattle.eos_items.specs.declared.item.Item.{Item}
+use Rattle.eos_fold.specs.declared.item.Item.{Item}
 use Rattle.eos_fold.specs.Parts.{PartLog}
 use Rattle.eos_claims.specs.Outputs.{Writer, Commit}
 use Rattle.eos_commits.specs.Visible.{visible}

@@ -7,7 +7,7 @@ use Rattle.eos_base.specs.declared.record_fault.RecordFault.{RecordFault}
 use Rattle.eos_base.specs.PartitionNames.{name_cmp}
 use Rattle.eos_base.specs.Members.{Has}
 use Rattle.eos_evidence.specs.declared.application.App.{App}
-use Rattle.eos_items.specs.declared.item.Item.{Item}
+use Rattle.eos_fold.specs.declared.item.Item.{Item}
 use Rattle.eos_fold.specs.Parts.{part_name, PartLog, Rises}
 use Rattle.eos_claims.specs.Headers.{claim_of}
 use Rattle.eos_commits.specs.declared.fault.VisibleFault.{VisibleFault}

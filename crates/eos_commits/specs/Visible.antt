@@ -1,9 +1,9 @@
 -- Which data records a reader of committed records is given (KIP-98, "Consumer", isolation level `read_committed`).
 use Rattle.std.specs.Prelude.{Bool, true, false, List, filter}
 use Rattle.eos_base.specs.Members.{Has}
-use Rattle.eos_items.specs.declared.item.Item.{Item}
-use Rattle.eos_items.specs.declared.item.Fate.{Fate}
-use Rattle.eos_items.specs.declared.item.Fate.TheVariants.{Plain, Committed, Aborted, Waiting}
+use Rattle.eos_fold.specs.declared.item.Item.{Item}
+use Rattle.eos_fold.specs.declared.item.Fate.{Fate}
+use Rattle.eos_fold.specs.declared.item.Fate.TheVariants.{Plain, Committed, Aborted, Waiting}
 use Rattle.eos_fold.specs.Parts.{PartLog}
 
 -- of no transaction, or of one whose next end marker is COMMIT

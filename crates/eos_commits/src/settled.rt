@@ -2,7 +2,7 @@
 
 ghost use Rattle.std.specs.Prelude.{◌≡◌, ◌<◌, ◌%◌, ◌&&◌, ℕ, Bool, true, length, slice_index_or, IfOk};
 ghost use Rattle.eos_claims.specs.Headers.{claim_of};
-ghost use Rattle.eos_items.specs.declared.item.Item.{Item};
+ghost use Rattle.eos_fold.specs.declared.item.Item.{Item};
 ghost use Rattle.eos_fold.specs.Parts.{PartLog};
 ghost use Rattle.eos_part.specs.Looks.{IsLook};
 ghost use Rattle.eos_commits.specs.Visible.{is_visible as is_visible_fate};

@@ -4,7 +4,7 @@ ghost use Rattle.std.specs.Prelude.{◌≡◌};
 ghost use Rattle.eos_commits.specs.Visible.{is_visible as is_visible_fate};
 ghost use Rattle.eos_commits.specs.Commits.{is_same as is_same_text, is_offsets_part};
 
-use eos_items::Fate;
+use eos_fold::Fate;
 use eos_partition::Part;
 
 /// Whether a reader of committed records is given a record of this fate.

@@ -18,9 +18,9 @@ use Rattle.eos_batch.specs.declared.marker.Kind.{Kind}
 use Rattle.eos_batch.specs.declared.marker.Kind.TheVariants.{Commit, Abort}
 use Rattle.eos_batch.specs.contracts.marker.KindOrd.TheImpl.{ghosts as kind_order}
 use Rattle.eos_batch.specs.contracts.marker.KindPartialEq.TheImpl.{ghosts as kind_test}
-use Rattle.eos_items.specs.Batches.{DataBatch}
-use Rattle.eos_items.specs.Heads.{data_head}
-use Rattle.eos_items.specs.declared.head.DataHead.{DataHead}
+use Rattle.eos_fold.specs.Batches.{DataBatch}
+use Rattle.eos_fold.specs.Heads.{data_head}
+use Rattle.eos_fold.specs.declared.head.DataHead.{DataHead}
 use Rattle.eos_fold.specs.declared.close.Close.{Close}
 use Rattle.eos_fold.specs.Closes.{close_in, closes_in, rank_of, close_cmp}
 use Rattle.eos_fold.specs.contracts.close.CloseOrd.TheImpl.{ghosts as order}

@@ -2,10 +2,10 @@
 use Rattle.std.proofs.Common.{◌≡◌, Bool, true, false, cond, List, [], ◌∷◌, ◌++◌, Option, Some, None, refl, ℤ}
 use Rattle.eos_batch.specs.declared.batch.Batch.{Batch}
 use Rattle.eos_batch.specs.Attributes.{is_transactional}
-use Rattle.eos_items.specs.declared.entry.Ending.TheVariants.{Plain, Waiting}
-use Rattle.eos_summary.specs.declared.mark.EndMark.{EndMark}
-use Rattle.eos_summary.specs.Ends.{is_data, first_marker}
-use Rattle.eos_summary.specs.Settling.{ending_by, resolved, data_after, data_in}
+use Rattle.eos_fold.specs.declared.entry.Ending.TheVariants.{Plain, Waiting}
+use Rattle.eos_fold.specs.declared.mark.EndMark.{EndMark}
+use Rattle.eos_fold.specs.Ends.{is_data, first_marker}
+use Rattle.eos_fold.specs.Settling.{ending_by, resolved, data_after, data_in}
 use Rattle.eos_fold.specs.Closes.{close_by, close_of, closes_of, close_in, closes_in, open_by, open_of, opens_of, open_in, opens_in}
 
 module _ (f : ℤ → Option EndMark) (id epoch : ℤ) where

@@ -5,9 +5,9 @@ use Rattle.eos_batch.specs.declared.batch.Batch.{Batch}
 use Rattle.eos_batch.specs.declared.marker.Marker.{Marker}
 use Rattle.eos_evidence.specs.declared.segment.Segment.{Segment}
 use Rattle.eos_evidence.specs.Topics.{is_internal}
-use Rattle.eos_summary.specs.declared.summary.BatchSummary.{BatchSummary}
-use Rattle.eos_summary.specs.Summaries.{IsSummary}
-use Rattle.eos_summary.proofs.JoinedSummaries.{same_summary}
+use Rattle.eos_fold.specs.declared.batch_summary.BatchSummary.{BatchSummary}
+use Rattle.eos_fold.specs.Summaries.{IsSummary}
+use Rattle.eos_fold.proofs.JoinedSummaries.{same_summary}
 use Rattle.eos_fold.specs.declared.stop.Stop.{Stop}
 use Rattle.eos_fold.specs.declared.stop.Stop.TheVariants.{AtEnd, NoBatch, Elsewhere}
 use Rattle.eos_fold.specs.declared.summary.Summary.{Summary}

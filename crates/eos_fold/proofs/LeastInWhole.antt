@@ -17,10 +17,10 @@ use Rattle.eos_touch.specs.declared.pair.PairFault.{PairFault}
 use Rattle.eos_touch.specs.declared.pair.PairFault.TheVariants.{FirstSequence, Sequence, ZombieEpoch, EpochWhileOpen, NoBump, MixedProducer, MarkerKind}
 use Rattle.eos_touch.specs.Pair as pair
 use Rattle.eos_evidence.specs.declared.segment.Segment.{Segment}
-use Rattle.eos_summary.specs.declared.fault.Fault.{Fault}
-use Rattle.eos_summary.specs.Summaries.{IsSummary}
-use Rattle.eos_summary.specs.Faults.{IsLeastOf}
-use Rattle.eos_summary.specs.Whole.{StandsInWhole, IsLeastOpen}
+use Rattle.eos_fold.specs.declared.fault.Fault.{Fault}
+use Rattle.eos_fold.specs.Summaries.{IsSummary}
+use Rattle.eos_fold.specs.Faults.{IsLeastOf}
+use Rattle.eos_fold.specs.BatchesWhole.{StandsInWhole, IsLeastOpen}
 use Rattle.eos_fold.specs.declared.stop.Stop.{Stop}
 use Rattle.eos_fold.specs.declared.stop.Stop.TheVariants.{AtEnd, NoBatch, Elsewhere}
 use Rattle.eos_touch.specs.declared.fault.PartitionFault.{PartitionFault}

@@ -2,8 +2,8 @@
 use Rattle.std.proofs.Common.{◌≡◌, ◌↔◌, List, [], ◌∷◌, sym, ap, subst, ◌∙◌, arith, ℤ, ℕ, Option}
 use Rattle.eos_base.specs.Members.{Has}
 use Rattle.eos_evidence.specs.declared.segment.Segment.{Segment}
-use Rattle.eos_items.specs.declared.item.Item.{Item}
-use Rattle.eos_items.specs.Items.{items_of}
+use Rattle.eos_fold.specs.declared.item.Item.{Item}
+use Rattle.eos_fold.specs.Items.{items_of}
 use Rattle.eos_fold.specs.declared.close.Close.{Close}
 use Rattle.eos_fold.specs.Closes.{closes_in}
 use Rattle.eos_fold.proofs.ClosesRead.{closes_read}
@@ -12,7 +12,7 @@ use Rattle.eos_fold.specs.declared.summary.Summary.{Summary}
 use Rattle.eos_fold.specs.LeastFaults.{IsFaultIn}
 use Rattle.eos_fold.specs.Parts.{PartLog, Rises, AreCloses}
 use Rattle.eos_fold.specs.Standing.{IsPartitionFault, AreOf}
-use Rattle.eos_summary.specs.Settling.{data_in}
+use Rattle.eos_fold.specs.Settling.{data_in}
 use Rattle.eos_fold.specs.Whole.{IsPartOf}
 use Rattle.eos_fold.specs.steps.Whole.{BeginsIn, IsWhole}
 use Rattle.eos_fold.proofs.RisingItems.{items_rise}

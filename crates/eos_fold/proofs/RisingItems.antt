@@ -7,13 +7,13 @@ use Rattle.std.proofs.lemmas.List.Kept.{AllPairs-cons}
 use Rattle.eos_batch.specs.declared.batch.Batch.{Batch}
 use Rattle.eos_batch.specs.declared.record.Record.{Record}
 use Rattle.eos_batch.specs.Attributes.{is_control}
-use Rattle.eos_items.specs.declared.item.Item.{Item}
-use Rattle.eos_items.specs.Batches.{DataBatch}
-use Rattle.eos_items.specs.Items.{items_from, items_in, items_of}
+use Rattle.eos_fold.specs.declared.item.Item.{Item}
+use Rattle.eos_fold.specs.Batches.{DataBatch}
+use Rattle.eos_fold.specs.Items.{items_from, items_in, items_of}
 use Rattle.eos_batch.specs.Offsets.{offset_of}
 use Rattle.eos_touch.specs.Front.{records_in, ContinuesFrom}
 use Rattle.eos_fold.specs.Parts.{Rises}
-use Rattle.eos_summary.specs.Settling.{data_after, data_in}
+use Rattle.eos_fold.specs.Settling.{data_after, data_in}
 
 -- offsets rise, from the first of these to below the second
 abbrev Within : ℕ → ℕ → List Item → Type 0

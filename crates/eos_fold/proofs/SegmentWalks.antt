@@ -12,10 +12,10 @@ use Rattle.eos_batch.specs.Reading.{batch_at}
 use Rattle.eos_batch.specs.Text.{HasTextAt}
 use Rattle.eos_batch.proofs.BatchTexts.{IsBytes-drop, text_at}
 use Rattle.eos_batch.specs.declared.head.BatchHead.{BatchHead}
-use Rattle.eos_summary.specs.declared.summary.BatchSummary.{BatchSummary}
-use Rattle.eos_summary.specs.Summaries.{IsSummary, SameSummary}
-use Rattle.eos_summary.specs.Pushes.{ReadsNext, Takes}
-use Rattle.eos_summary.proofs.JoinedSummaries.{same_summary}
+use Rattle.eos_fold.specs.declared.batch_summary.BatchSummary.{BatchSummary}
+use Rattle.eos_fold.specs.Summaries.{IsSummary, SameSummary}
+use Rattle.eos_fold.specs.Pushes.{ReadsNext, Takes}
+use Rattle.eos_fold.proofs.JoinedSummaries.{same_summary}
 use Rattle.eos_fold.specs.declared.summary.Summary.{Summary}
 use Rattle.eos_fold.specs.declared.stop.Stop.TheVariants.{NoBatch, Elsewhere}
 use Rattle.eos_batch.specs.Offsets.{offset_of}

@@ -14,7 +14,7 @@ use Rattle.eos_fold.specs.Standing.{StandsAtTouch}
 use Rattle.eos_touch.specs.declared.touch.Touch.{Touch}
 use Rattle.eos_touch.specs.Touches.{touch_of}
 use Rattle.eos_evidence.specs.Topics.{is_internal}
-use Rattle.eos_summary.specs.Summaries.{IsSummary}
+use Rattle.eos_fold.specs.Summaries.{IsSummary}
 use Rattle.eos_fold.specs.declared.summary.Summary.{Summary}
 use Rattle.eos_fold.specs.Sums.{BeginsAt}
 use Rattle.eos_fold.specs.steps.Whole.{IsWhole}

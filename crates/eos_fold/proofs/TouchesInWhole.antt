@@ -7,10 +7,10 @@ use Rattle.eos_batch.specs.declared.batch.Batch.{Batch}
 use Rattle.eos_touch.specs.declared.touch.Touch.{Touch}
 use Rattle.eos_touch.specs.declared.pair.PairFault.{PairFault}
 use Rattle.eos_touch.specs.Pair.{stands}
-use Rattle.eos_summary.specs.Ends.{placed_in, placed, first_placed, last_placed}
-use Rattle.eos_summary.specs.Faults.{StandsAt, StandsAfter}
-use Rattle.eos_summary.specs.Whole.{StandsFirst, StandsInWhole, IsLeftOpen}
-use Rattle.eos_summary.proofs.BatchLists.{last_placed-append}
+use Rattle.eos_fold.specs.Ends.{placed_in, placed, first_placed, last_placed}
+use Rattle.eos_fold.specs.Faults.{StandsAt, StandsAfter}
+use Rattle.eos_fold.specs.BatchesWhole.{StandsFirst, StandsInWhole, IsLeftOpen}
+use Rattle.eos_fold.proofs.BatchLists.{last_placed-append}
 use Rattle.eos_batch.specs.Offsets.{offset_of}
 use Rattle.eos_touch.specs.Touches.{touch_of, touch_in, touches_of, last_of, last_touch}
 use Rattle.eos_fold.specs.Standing.{StandsAtTouch, IsOpen}

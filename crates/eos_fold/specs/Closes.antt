@@ -8,11 +8,11 @@ use Rattle.eos_batch.specs.declared.batch.Batch.{Batch}
 use Rattle.eos_batch.specs.declared.marker.Kind.{Kind}
 use Rattle.eos_batch.specs.declared.marker.Kind.TheVariants.{Commit, Abort}
 use Rattle.eos_batch.specs.Attributes.{is_transactional}
-use Rattle.eos_items.specs.declared.entry.Ending.{Ending}
-use Rattle.eos_items.specs.declared.entry.Ending.TheVariants.{Plain, Ended, Waiting}
-use Rattle.eos_items.specs.Batches.{DataBatch}
-use Rattle.eos_summary.specs.declared.mark.EndMark.{EndMark}
-use Rattle.eos_summary.specs.Ends.{is_data, first_marker}
+use Rattle.eos_fold.specs.declared.entry.Ending.{Ending}
+use Rattle.eos_fold.specs.declared.entry.Ending.TheVariants.{Plain, Ended, Waiting}
+use Rattle.eos_fold.specs.Batches.{DataBatch}
+use Rattle.eos_fold.specs.declared.mark.EndMark.{EndMark}
+use Rattle.eos_fold.specs.Ends.{is_data, first_marker}
 use Rattle.eos_fold.specs.declared.close.Close.{Close}
 
 abbrev pub close_by : ℤ → ℤ → Option EndMark → List Close

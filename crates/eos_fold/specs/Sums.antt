@@ -4,7 +4,7 @@ use Rattle.std.specs.Prelude.{◌≡◌, ℕ, ◌+◌, ◌≤◌, ◌^◌, pos, 
 use Rattle.eos_batch.specs.declared.batch.Batch.{Batch}
 use Rattle.eos_evidence.specs.Topics.{is_internal}
 use Rattle.eos_evidence.specs.declared.segment.Segment.{Segment}
-use Rattle.eos_summary.specs.Summaries.{IsSummary, SameSummary}
+use Rattle.eos_fold.specs.Summaries.{IsSummary, SameSummary}
 use Rattle.eos_fold.specs.declared.summary.Summary.{Summary}
 use Rattle.eos_touch.specs.Front.{records_in}
 use Rattle.eos_batch.specs.Marker.{markers_of}

@@ -6,8 +6,8 @@ use Rattle.std.specs.Prelude.{◌≡◌, ◌↔◌, ℕ, ℤ, List, [], Option, 
 use Rattle.eos_base.specs.Members.{Has}
 use Rattle.eos_batch.specs.declared.batch.Batch.{Batch}
 use Rattle.eos_evidence.specs.declared.segment.Segment.{Segment}
-use Rattle.eos_items.specs.Items.{items_of}
-use Rattle.eos_summary.specs.Settling.{data_in}
+use Rattle.eos_fold.specs.Items.{items_of}
+use Rattle.eos_fold.specs.Settling.{data_in}
 use Rattle.eos_fold.specs.declared.close.Close.{Close}
 use Rattle.eos_fold.specs.Closes.{closes_of}
 use Rattle.eos_fold.specs.declared.stop.Stop.{Stop}

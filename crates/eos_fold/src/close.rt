@@ -6,7 +6,7 @@ ghost use Rattle.eos_fold.specs.Closes.{close_cmp, close_in, closes_in};
 ghost use Rattle.eos_fold.specs.Parts.{AreCloses};
 
 use eos_batch::Kind;
-use eos_items::{DataHead, Ending, LogIndex};
+use crate::{DataHead, Ending, LogIndex};
 use std::alloc::{AllocError, Global};
 
 /// A transactional data batch's producer id and epoch, and the epoch and kind of its next end marker: the one of its

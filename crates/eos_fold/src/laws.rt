@@ -2,7 +2,7 @@
 
 ghost use Rattle.std.specs.Prelude.{◌≡◌, List};
 ghost use Rattle.eos_batch.specs.declared.batch.Batch.{Batch};
-ghost use Rattle.eos_summary.specs.Settling.{data_in};
+ghost use Rattle.eos_fold.specs.Settling.{data_in};
 ghost use Rattle.eos_fold.specs.Closes.{closes_of, closes_in, opens_of, opens_in};
 
 /// The closes, and what is open, are read off the data batches.

@@ -14,7 +14,7 @@ use crate::whole::{least_fault, of_all};
 use bytes::Bytes;
 use eos_batch::Marker;
 use eos_evidence::Segment;
-use eos_items::Items;
+use crate::Items;
 use eos_touch::PartitionFault;
 use std::alloc::{AllocError, Global};
 use std::marker::Model;

@@ -2,12 +2,12 @@
 
 ghost use Rattle.std.specs.Prelude.{◌≡◌, List};
 ghost use Rattle.eos_evidence.specs.declared.segment.Segment.{Segment};
-ghost use Rattle.eos_summary.specs.Ends.{first_placed, last_placed, first_marker};
-ghost use Rattle.eos_summary.specs.Settling.{data_in, waiting_in};
+ghost use Rattle.eos_fold.specs.Ends.{first_placed, last_placed, first_marker};
+ghost use Rattle.eos_fold.specs.Settling.{data_in, waiting_in};
 ghost use Rattle.eos_fold.specs.Sums.{IsSummaryOf};
 
 use crate::summary::Summary;
-use eos_summary::EndMark;
+use crate::EndMark;
 use eos_touch::Touch;
 
 impl Summary {

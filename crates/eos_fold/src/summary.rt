@@ -14,7 +14,7 @@ use crate::stop::Stop;
 use bytes::Bytes;
 use eos_batch::{BatchFault, Marker};
 use eos_evidence::Segment;
-use eos_summary::BatchSummary;
+use crate::BatchSummary;
 use eos_wire::are_bytes;
 use std::alloc::{AllocError, Global};
 

@@ -4,7 +4,7 @@ ghost use Rattle.std.specs.Prelude.{◌≡◌, [], List, pos, not};
 ghost use Rattle.std.specs.Ordering.{int_eq};
 ghost use Rattle.eos_evidence.specs.declared.segment.Segment.{Segment};
 ghost use Rattle.eos_evidence.specs.Topics.{is_internal};
-ghost use Rattle.eos_summary.specs.Summaries.{IsSummary};
+ghost use Rattle.eos_fold.specs.Summaries.{IsSummary};
 ghost use Rattle.eos_touch.specs.declared.fault.PartitionFaultKind.TheVariants.{Pair};
 ghost use Rattle.eos_fold.specs.Standing.{IsPartitionFault};
 ghost use Rattle.eos_fold.specs.Whole.{segments_in};
@@ -16,7 +16,7 @@ use crate::stop::Stop;
 use crate::summary::{Summary, is_checked};
 use bytes::Bytes;
 use eos_evidence::Segment;
-use eos_summary::{BatchSummary, Fault};
+use crate::{BatchSummary, Fault};
 use eos_touch::{PartitionFault, PartitionFaultKind};
 use std::alloc::Global;
 

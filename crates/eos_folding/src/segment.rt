@@ -6,7 +6,7 @@ ghost use Rattle.eos_folding.specs.steps.Sealing.{IsSealing, IsSealed};
 
 use bytes::Bytes;
 use eos_batch::{BatchFault, BatchHead};
-use eos_chunks::ByteFold;
+use eos_fold::ByteFold;
 use eos_reading::{Reading, Seal, keep_batches, read_seals};
 use std::alloc::{AllocError, Global};
 use std::marker::Model;

@@ -10,8 +10,8 @@ use Rattle.eos_batch.specs.declared.fault.BatchFault.TheVariants as faults
 use Rattle.eos_batch.specs.Offsets.{offset_of}
 use Rattle.eos_batch.specs.Reading.{batch_at}
 use Rattle.eos_batch.specs.Segment.{Splits}
-use Rattle.eos_chunks.proofs.MoreBytes.{batch_more, batch_none}
-use Rattle.eos_chunks.proofs.MoreSplits.{splits_more, splits_join}
+use Rattle.eos_fold.proofs.MoreBytes.{batch_more, batch_none}
+use Rattle.eos_fold.proofs.MoreSplits.{splits_more, splits_join}
 use Rattle.eos_evidence.specs.declared.segment.Segment.{Segment}
 use Rattle.eos_touch.specs.Front.{records_in}
 use Rattle.eos_fold.specs.declared.stop.Stop.{Stop}

@@ -12,7 +12,7 @@ use Rattle.eos_base.specs.Members.{Has}
 use Rattle.eos_base.specs.PartitionNames.{name_cmp}
 use Rattle.eos_base.proofs.NamesInOrder.{name_total}
 use Rattle.eos_base.proofs.Membership.{append_cases, flat_has, map_has, has_map, filter_has, only}
-use Rattle.eos_items.specs.declared.item.Item.{Item}
+use Rattle.eos_fold.specs.declared.item.Item.{Item}
 use Rattle.eos_fold.specs.Parts.{part_name, PartLog, Rises}
 use Rattle.eos_evidence.specs.declared.application.App.{App}
 use Rattle.eos_claims.specs.declared.claim.Claim.{Claim}

@@ -4,7 +4,7 @@ use Rattle.std.specs.List.{flat_map, slice_get}
 use Rattle.std.proofs.Math.Seq.{drop-length}
 use Rattle.std.proofs.lemmas.List.{append-nil, append_assoc}
 use Rattle.std.proofs.lemmas.Grind.{flat_map-append}
-use Rattle.eos_items.proofs.ListPlaces.{drop_get}
+use Rattle.eos_fold.proofs.ListPlaces.{drop_get}
 
 -- what was done, of the items before those that are left
 pub record SoFar {X Y : Type 0} (f : X → List Y) (P : List Y → Type 0) (left all : List X) : Type 0 where

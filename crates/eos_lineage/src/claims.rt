@@ -5,7 +5,7 @@ ghost use Rattle.std.specs.Option.{option_to_list};
 ghost use Rattle.eos_claims.specs.Outputs.{Application};
 ghost use Rattle.eos_claims.specs.Plain.{plain_claim, plain_lent};
 ghost use Rattle.eos_fold.specs.Parts.{part_name};
-ghost use Rattle.eos_items.specs.declared.item.Item.{Item};
+ghost use Rattle.eos_fold.specs.declared.item.Item.{Item};
 ghost use Rattle.eos_part.specs.Looks.{IsLook};
 ghost use Rattle.eos_lineage.specs.steps.Walks.{kept_of, counted_ref, AreTables, HasWalked, plain_walk, begun, plain_placed, claim_at, output_claims, claims_of_part};
 

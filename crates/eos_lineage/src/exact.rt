@@ -4,7 +4,7 @@ ghost use Rattle.std.specs.Prelude.{◌≡◌, ◌+◌, ◌<◌, ◌++◌, ◌�
 ghost use Rattle.std.specs.List.{sum};
 ghost use Rattle.eos_base.specs.declared.partition_name.PartitionName.{PartitionName};
 ghost use Rattle.eos_claims.specs.Outputs.{Application, ReadsSources};
-ghost use Rattle.eos_items.specs.declared.item.Item.{Item};
+ghost use Rattle.eos_fold.specs.declared.item.Item.{Item};
 ghost use Rattle.eos_lineage.specs.Lineage.{inputs_below};
 ghost use Rattle.eos_lineage.specs.declared.shares.Share.{Share};
 ghost use Rattle.eos_lineage.specs.steps.Shares.{untaken, inputs_between, IsCounted, AddUp};
@@ -19,7 +19,7 @@ use crate::offsets::is_before;
 use crate::shares::{Share, shares_of};
 use crate::sorting::sorted;
 use eos_commits::is_visible;
-use eos_items::Fate;
+use eos_fold::Fate;
 use eos_partition::{KeptBatch, KeptBatches, Part};
 use eos_base::Workers;
 use std::alloc::Global;

@@ -6,7 +6,7 @@
 ghost use Rattle.std.specs.Prelude.{◌≡◌, ◌≤◌, ◌<◌, ◌+◌, ◌*◌, ◌&&◌, ◌==◌, not, ◌∷◌, [], ℕ, List, flat_map, length, take, drop, IfSome};
 ghost use Rattle.eos_base.specs.declared.partition_name.PartitionName.{PartitionName};
 ghost use Rattle.eos_claims.specs.Outputs.{Application, PlacedClaim};
-ghost use Rattle.eos_items.specs.declared.item.Item.{Item};
+ghost use Rattle.eos_fold.specs.declared.item.Item.{Item};
 ghost use Rattle.eos_part.specs.Looks.{IsLook};
 ghost use Rattle.eos_lineage.specs.steps.Keys.{key_at, plain_keys, no_keys, joined_keys, AreBooks, HasKeyed, EachKeyed, in_turn};
 ghost use Rattle.eos_lineage.specs.steps.Walks.{one_if, plain_placed, claim_at, output_claims};

@@ -7,7 +7,7 @@ use Rattle.eos_base.proofs.Membership.{append_cases, append_left, append_right, 
 use Rattle.eos_txnlog.specs.declared.step.TxnFault.{TxnFault}
 use Rattle.eos_txnlog.specs.Skips.{is_skipped}
 use Rattle.eos_txnlog.specs.Following.{step_verdict, StepResult}
-use Rattle.eos_items.specs.declared.item.Item.{Item}
+use Rattle.eos_fold.specs.declared.item.Item.{Item}
 use Rattle.eos_fold.specs.Parts.{PartLog}
 use Rattle.eos_table.specs.declared.log_fault.LogFault.{LogFault}
 use Rattle.eos_table.specs.declared.log_fault.LogFaultKind.TheVariants.{BadRecord, Step}

@@ -8,7 +8,7 @@ use Rattle.eos_txnlog.specs.declared.value.TxnValue.{TxnValue}
 use Rattle.eos_txnlog.specs.declared.decision.Decision.{Decision}
 use Rattle.eos_txnlog.specs.Reading.{read_key, read_value}
 use Rattle.eos_txnlog.specs.Skips.{is_skipped}
-use Rattle.eos_items.specs.declared.item.Item.{Item}
+use Rattle.eos_fold.specs.declared.item.Item.{Item}
 use Rattle.eos_fold.specs.Parts.{PartLog}
 use Rattle.eos_table.specs.TransactionLog.{Id, State, nothing, flat, content_of, steps_of, decision_between, decision_of, decisions_of, all_steps}
 use Rattle.eos_table.specs.TransactionLog as txn

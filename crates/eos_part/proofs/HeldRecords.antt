@@ -6,11 +6,11 @@ use Rattle.std.proofs.lemmas.List.Elements.{All-nil, All-cons, All-map, All-appe
 use Rattle.eos_batch.specs.declared.batch.Batch.{Batch}
 use Rattle.eos_batch.specs.declared.record.Record.{Record}
 use Rattle.eos_batch.specs.Attributes.{is_control}
-use Rattle.eos_items.specs.declared.head.DataHead.{DataHead}
-use Rattle.eos_items.specs.declared.item.Item.{Item}
-use Rattle.eos_items.specs.Batches.{DataBatch}
-use Rattle.eos_items.specs.Items.{items_of}
-use Rattle.eos_summary.specs.Settling.{data_after, data_in}
+use Rattle.eos_fold.specs.declared.head.DataHead.{DataHead}
+use Rattle.eos_fold.specs.declared.item.Item.{Item}
+use Rattle.eos_fold.specs.Batches.{DataBatch}
+use Rattle.eos_fold.specs.Items.{items_of}
+use Rattle.eos_fold.specs.Settling.{data_after, data_in}
 use Rattle.eos_fold.specs.Parts.{Rises}
 use Rattle.eos_fold.proofs.RisingItems.{items_rise}
 use Rattle.eos_run.specs.Runs.{heads_of}

@@ -3,8 +3,8 @@ use Rattle.std.proofs.Common.{◌≡◌, ℕ, zero, suc, ◌+◌, ◌-◌, ◌<�
 use Rattle.std.specs.List.{slice_get}
 use Rattle.std.proofs.lemmas.List.{drop_all}
 use Rattle.eos_batch.specs.declared.record.Record.{Record}
-use Rattle.eos_items.specs.declared.head.DataHead.{DataHead}
-use Rattle.eos_items.proofs.ListPlaces.{drop_get}
+use Rattle.eos_fold.specs.declared.head.DataHead.{DataHead}
+use Rattle.eos_fold.proofs.ListPlaces.{drop_get}
 use Rattle.eos_part.specs.Items.{item_at, items_at, items_under}
 
 -- no record is left

@@ -3,10 +3,10 @@ use Rattle.std.proofs.Common.{◌≡◌, ℕ, suc, ◌-◌, List, [], ◌∷◌,
 use Rattle.std.proofs.lemmas.List.{map-append, length-map}
 use Rattle.std.proofs.Math.Seq.{take-append_seam, drop-append_seam}
 use Rattle.eos_batch.specs.declared.record.Record.{Record}
-use Rattle.eos_items.specs.declared.item.Item.{Item}
-use Rattle.eos_items.specs.Batches.{DataBatch}
-use Rattle.eos_items.specs.Heads.{data_head}
-use Rattle.eos_items.specs.Items.{item_of, items_from, items_in, items_of}
+use Rattle.eos_fold.specs.declared.item.Item.{Item}
+use Rattle.eos_fold.specs.Batches.{DataBatch}
+use Rattle.eos_fold.specs.Heads.{data_head}
+use Rattle.eos_fold.specs.Items.{item_of, items_from, items_in, items_of}
 use Rattle.eos_run.specs.Runs.{heads_of}
 use Rattle.eos_wanted.specs.declared.wanted.Wanted.{Wanted}
 use Rattle.eos_wanted.specs.declared.wanted.Wanted.TheVariants.{Presence, Claims, Texts}

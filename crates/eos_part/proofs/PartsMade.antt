@@ -12,15 +12,15 @@ use Rattle.eos_touch.specs.declared.fault.PartitionFault.{PartitionFault}
 use Rattle.eos_touch.specs.declared.fault.PartitionFaultKind.{PartitionFaultKind}
 use Rattle.eos_touch.specs.declared.fault.PartitionFaultKind.TheVariants.{Pair}
 use Rattle.eos_touch.specs.Front.{ContinuesFrom}
-use Rattle.eos_items.specs.declared.head.DataHead.{DataHead}
-use Rattle.eos_items.specs.declared.item.Item.{Item}
-use Rattle.eos_items.specs.Batches.{DataBatch}
-use Rattle.eos_items.specs.Items.{items_of}
-use Rattle.eos_summary.specs.declared.fault.Fault.{Fault}
-use Rattle.eos_summary.specs.Faults.{IsLeastOf}
-use Rattle.eos_summary.specs.Settling.{data_in}
-use Rattle.eos_summary.specs.Summaries.{IsSummary}
-use Rattle.eos_summary.specs.Whole.{StandsInWhole, IsLeastOpen}
+use Rattle.eos_fold.specs.declared.head.DataHead.{DataHead}
+use Rattle.eos_fold.specs.declared.item.Item.{Item}
+use Rattle.eos_fold.specs.Batches.{DataBatch}
+use Rattle.eos_fold.specs.Items.{items_of}
+use Rattle.eos_fold.specs.declared.fault.Fault.{Fault}
+use Rattle.eos_fold.specs.Faults.{IsLeastOf}
+use Rattle.eos_fold.specs.Settling.{data_in}
+use Rattle.eos_fold.specs.Summaries.{IsSummary}
+use Rattle.eos_fold.specs.BatchesWhole.{StandsInWhole, IsLeastOpen}
 use Rattle.eos_fold.specs.declared.close.Close.{Close}
 use Rattle.eos_fold.specs.declared.stop.Stop.{Stop}
 use Rattle.eos_fold.specs.declared.stop.Stop.TheVariants.{AtEnd, Elsewhere}

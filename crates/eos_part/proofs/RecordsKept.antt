@@ -8,9 +8,9 @@ use Rattle.eos_batch.specs.declared.record.Record.{Record}
 use Rattle.eos_batch.specs.Attributes.{is_control}
 use Rattle.eos_batch.specs.Offsets.{offset_of}
 use Rattle.eos_touch.specs.Front.{records_in as count_in, ContinuesFrom}
-use Rattle.eos_items.specs.Batches.{DataBatch}
-use Rattle.eos_items.specs.Heads.{data_head}
-use Rattle.eos_summary.specs.Settling.{data_after, data_in}
+use Rattle.eos_fold.specs.Batches.{DataBatch}
+use Rattle.eos_fold.specs.Heads.{data_head}
+use Rattle.eos_fold.specs.Settling.{data_after, data_in}
 use Rattle.eos_fold.specs.declared.close.Close.{Close}
 use Rattle.eos_fold.specs.Closes.{close_in, closes_in}
 use Rattle.eos_reading.specs.Kept.{kept_from, kept_in, kept_of}

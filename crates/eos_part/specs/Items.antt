@@ -1,9 +1,9 @@
 -- The data records under the heads of their batches.
 use Rattle.std.specs.Prelude.{ℕ, suc, ◌+◌, ◌-◌, ◌≤◌, ◌^◌, List, [], ◌∷◌, ◌++◌, take, drop}
 use Rattle.eos_batch.specs.declared.record.Record.{Record}
-use Rattle.eos_items.specs.declared.head.DataHead.{DataHead}
-use Rattle.eos_items.specs.declared.item.Item.{Item}
-use Rattle.eos_items.specs.Batches.{fate_of}
+use Rattle.eos_fold.specs.declared.head.DataHead.{DataHead}
+use Rattle.eos_fold.specs.declared.item.Item.{Item}
+use Rattle.eos_fold.specs.Batches.{fate_of}
 
 -- the record at this place of a batch with this head
 abbrev pub item_at : DataHead → ℕ → Record → Item

@@ -1,6 +1,6 @@
 -- A data record without its key and value.
 use Rattle.std.specs.Prelude.{◌≡◌, option_map}
-use Rattle.eos_items.specs.declared.item.Item.{Item}
+use Rattle.eos_fold.specs.declared.item.Item.{Item}
 use Rattle.eos_claims.specs.Headers.{claim_of}
 use Rattle.eos_claims.specs.Slots.{plain_claim}
 use Rattle.eos_part.specs.declared.batches.Look.{Look}

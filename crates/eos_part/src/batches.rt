@@ -2,15 +2,15 @@
 
 ghost use Rattle.std.specs.Prelude.{◌≡◌, ◌<◌, ◌≤◌, ◌++◌, [], List, All, length, take, drop, slice_get, Some, IfNone, IfSome};
 ghost use Rattle.eos_batch.specs.declared.record.Record.{Record};
-ghost use Rattle.eos_items.specs.declared.head.DataHead.{DataHead};
-ghost use Rattle.eos_items.specs.declared.item.Item.{Item};
+ghost use Rattle.eos_fold.specs.declared.head.DataHead.{DataHead};
+ghost use Rattle.eos_fold.specs.declared.item.Item.{Item};
 ghost use Rattle.eos_part.specs.Items.{items_under, Fits};
 ghost use Rattle.eos_part.specs.Looks.{IsLook};
 ghost use Rattle.eos_part.specs.Records.{records_in, ReadBack};
 
 use crate::records::Records;
 use eos_claims::ClaimRef;
-use eos_items::{DataHead, Fate};
+use eos_fold::{DataHead, Fate};
 use std::marker::Model;
 
 /// A data record as who asks for neither key nor value sees it.
@@ -36,7 +36,7 @@ pub struct KeptBatch<'a> {
 
 impl<'a> Model for KeptBatch<'a> {
     ghost use Rattle.std.specs.Prelude.{◌+◌, ◌≤◌, ◌<◌, ◌^◌, List, length, take, drop};
-    ghost use Rattle.eos_items.specs.declared.item.Item.{Item};
+    ghost use Rattle.eos_fold.specs.declared.item.Item.{Item};
     ghost use Rattle.eos_part.specs.Items.{items_at, Fits};
     ghost use Rattle.eos_part.specs.Records.{records_in, ReadBack};
 
@@ -59,7 +59,7 @@ pub struct KeptBatches<'a> {
 
 impl<'a> Model for KeptBatches<'a> {
     ghost use Rattle.std.specs.Prelude.{◌≤◌, List, All, length, drop};
-    ghost use Rattle.eos_items.specs.declared.item.Item.{Item};
+    ghost use Rattle.eos_fold.specs.declared.item.Item.{Item};
     ghost use Rattle.eos_part.specs.Items.{items_under, Fits};
     ghost use Rattle.eos_part.specs.Records.{records_in, ReadBack};
 

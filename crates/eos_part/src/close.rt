@@ -4,8 +4,7 @@ ghost use Rattle.std.specs.Prelude.{◌≡◌, IfOk};
 ghost use Rattle.eos_fold.specs.Parts.{AreCloses};
 ghost use Rattle.eos_part.specs.steps.Closes.{closes_under};
 
-use eos_fold::{Close, once, push_close};
-use eos_items::DataHead;
+use eos_fold::{Close, DataHead, once, push_close};
 use std::alloc::{AllocError, Global};
 
 /// The closes of a log's data batches, in the order of the log.

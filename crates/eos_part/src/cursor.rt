@@ -2,13 +2,13 @@
 
 ghost use Rattle.std.specs.Prelude.{◌≡◌, ◌<◌, [], ◌∷◌, List, All, drop, slice_get, Some, IfNone, IfSome};
 ghost use Rattle.eos_batch.specs.declared.record.Record.{Record};
-ghost use Rattle.eos_items.specs.declared.head.DataHead.{DataHead};
+ghost use Rattle.eos_fold.specs.declared.head.DataHead.{DataHead};
 ghost use Rattle.eos_part.specs.Items.{items_under, Fits};
 ghost use Rattle.eos_part.specs.Records.{records_in, ReadBack, SayClaims};
 
 use crate::item::KeptItem;
 use crate::records::Records;
-use eos_items::DataHead;
+use eos_fold::DataHead;
 use std::marker::Model;
 
 /// The data records that are left, in order, which contracts see as a list.
@@ -26,7 +26,7 @@ pub struct KeptCursor<'a> {
 
 impl<'a> Model for KeptCursor<'a> {
     ghost use Rattle.std.specs.Prelude.{List, All, drop};
-    ghost use Rattle.eos_items.specs.declared.item.Item.{Item};
+    ghost use Rattle.eos_fold.specs.declared.item.Item.{Item};
     ghost use Rattle.eos_part.specs.Items.{items_under, Fits};
     ghost use Rattle.eos_part.specs.Records.{records_in, ReadBack, SayClaims};
 

@@ -9,7 +9,7 @@ ghost use Rattle.eos_part.specs.Records.{SaysClaim};
 use crate::headers::headers_of;
 use bytes::Bytes;
 use eos_claims::ClaimRef;
-use eos_items::{DataHead, Fate, Item};
+use eos_fold::{DataHead, Fate, Item};
 use eos_keeping::KeptRecord;
 use std::alloc::{AllocError, Global};
 use std::marker::Model;
@@ -24,7 +24,7 @@ pub struct KeptItem<'a> {
 }
 
 impl<'a> Model for KeptItem<'a> {
-    ghost use Rattle.eos_items.specs.declared.item.Item.{Item};
+    ghost use Rattle.eos_fold.specs.declared.item.Item.{Item};
     ghost use Rattle.eos_part.specs.Records.{SaysClaim};
 
     ghost Value = { Item };

@@ -1,7 +1,7 @@
 //! The data records of a partition's log with what is kept of them, as a list.
 
 ghost use Rattle.std.specs.Prelude.{◌≡◌, ◌<◌, ◌+◌, All, length, take, slice_get, Some, IfOk, ◌==◌};
-ghost use Rattle.eos_items.specs.declared.head.DataHead.{DataHead};
+ghost use Rattle.eos_fold.specs.declared.head.DataHead.{DataHead};
 ghost use Rattle.eos_part.specs.Items.{items_under, Fits};
 ghost use Rattle.eos_part.specs.Records.{records_in, ReadBack, SayClaims};
 ghost use Rattle.eos_part.specs.steps.Counts.{count_in};
@@ -10,7 +10,7 @@ use crate::batches::KeptBatches;
 use crate::cursor::KeptCursor;
 use crate::item::KeptItem;
 use crate::records::Records;
-use eos_items::{DataHead, Item};
+use eos_fold::{DataHead, Item};
 use std::alloc::{AllocError, Global};
 use std::marker::Model;
 
@@ -23,7 +23,7 @@ pub struct KeptItems {
 
 impl Model for KeptItems {
     ghost use Rattle.std.specs.Prelude.{◌≡◌, List, All, length};
-    ghost use Rattle.eos_items.specs.declared.item.Item.{Item};
+    ghost use Rattle.eos_fold.specs.declared.item.Item.{Item};
     ghost use Rattle.eos_part.specs.Items.{items_under, Fits};
     ghost use Rattle.eos_part.specs.Records.{records_in, ReadBack, SayClaims};
 

@@ -1,7 +1,7 @@
 -- The two forms in which a partition's log is held, and its records are lent.
 use Rattle.std.specs.Prelude.{List}
 use Rattle.eos_fold.specs.Parts.{PartLog}
-use Rattle.eos_items.specs.declared.item.Item.{Item}
+use Rattle.eos_fold.specs.declared.item.Item.{Item}
 use Rattle.eos_partition.specs.declared.part.Form.{Form}
 use Rattle.eos_partition.specs.declared.part.Form.TheVariants as logs
 use Rattle.eos_partition.specs.declared.items.ItemsForm.{ItemsForm}

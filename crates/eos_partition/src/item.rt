@@ -7,14 +7,14 @@ ghost use Rattle.eos_part.specs.Looks.{IsLook};
 ghost use Rattle.eos_partition.specs.Forms.{item_in};
 
 use eos_claims::{ClaimRef, view_claim};
-use eos_items::Fate;
+use eos_fold::Fate;
 use eos_part::Look;
 use std::marker::Model;
 
 /// In which form a record is lent.
 #[derive(Drop)]
 enum ItemForm<'a> {
-    Whole(eos_items::ItemRef<'a>),
+    Whole(eos_fold::ItemRef<'a>),
     Kept(eos_part::KeptItem<'a>),
 }
 
@@ -25,7 +25,7 @@ pub struct ItemRef<'a> {
 }
 
 impl<'a> Model for ItemRef<'a> {
-    ghost use Rattle.eos_items.specs.declared.item.Item.{Item};
+    ghost use Rattle.eos_fold.specs.declared.item.Item.{Item};
     ghost use Rattle.eos_partition.specs.Forms.{item_in};
 
     ghost Value = { Item };
@@ -34,7 +34,7 @@ impl<'a> Model for ItemRef<'a> {
 }
 
 impl<'a> ItemRef<'a> {
-    pub(crate) fn whole(item: eos_items::ItemRef<'a>) -> ItemRef<'a>
+    pub(crate) fn whole(item: eos_fold::ItemRef<'a>) -> ItemRef<'a>
         ensures { result ≡ item.entry }
     {
         ItemRef {

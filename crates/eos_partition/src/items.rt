@@ -4,7 +4,7 @@ ghost use Rattle.std.specs.Prelude.{◌≡◌, ◌<◌, [], ◌∷◌, length, s
 ghost use Rattle.eos_partition.specs.Forms.{items_in, items_left};
 
 use crate::item::ItemRef;
-use eos_items::{Item, ItemCursor};
+use eos_fold::{Item, ItemCursor};
 use eos_part::{KeptBatches, KeptCursor, KeptItems};
 use std::alloc::{AllocError, Global};
 use std::marker::Model;
@@ -12,7 +12,7 @@ use std::marker::Model;
 /// In which form the records are lent.
 #[derive(Drop)]
 enum ItemsForm<'a> {
-    Whole(&'a eos_items::Items),
+    Whole(&'a eos_fold::Items),
     Kept(&'a KeptItems),
 }
 
@@ -24,7 +24,7 @@ pub struct Items<'a> {
 
 impl<'a> Model for Items<'a> {
     ghost use Rattle.std.specs.Prelude.{List};
-    ghost use Rattle.eos_items.specs.declared.item.Item.{Item};
+    ghost use Rattle.eos_fold.specs.declared.item.Item.{Item};
     ghost use Rattle.eos_partition.specs.Forms.{items_in};
 
     ghost Value = { List Item };
@@ -33,7 +33,7 @@ impl<'a> Model for Items<'a> {
 }
 
 impl<'a> Items<'a> {
-    pub(crate) fn whole(items: &'a eos_items::Items) -> Items<'a>
+    pub(crate) fn whole(items: &'a eos_fold::Items) -> Items<'a>
         ensures { result ≡ items.now }
     {
         Items {
@@ -128,7 +128,7 @@ pub struct Cursor<'a> {
 
 impl<'a> Model for Cursor<'a> {
     ghost use Rattle.std.specs.Prelude.{List};
-    ghost use Rattle.eos_items.specs.declared.item.Item.{Item};
+    ghost use Rattle.eos_fold.specs.declared.item.Item.{Item};
     ghost use Rattle.eos_partition.specs.Forms.{items_left};
 
     ghost Value = { List Item };

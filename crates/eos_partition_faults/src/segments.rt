@@ -12,8 +12,7 @@ use crate::walk::Walk;
 use bytes::Bytes;
 use eos_batch::BatchFault;
 use eos_evidence::Segment;
-use eos_fold::Stop;
-use eos_items::read_head;
+use eos_fold::{Stop, read_head};
 use eos_wire::are_bytes;
 use std::alloc::{AllocError, Global};
 

@@ -17,7 +17,7 @@ use Rattle.eos_base.proofs.Exact.{bytes_exact, int_exact, is_tied}
 use Rattle.eos_base.specs.declared.partition_name.PartitionName.{PartitionName}
 use Rattle.eos_base.specs.Members.{Has}
 use Rattle.eos_fold.specs.Parts.{PartLog, part_name}
-use Rattle.eos_items.specs.declared.item.Item.{Item}
+use Rattle.eos_fold.specs.declared.item.Item.{Item}
 use Rattle.eos_picture.specs.declared.mark.Column.{Column}
 use Rattle.eos_picture.specs.Order.{is_writer, offset_if, last_of, stands_at, standing, standings, IsOrderOf, is_of_name, nearness, near_to}
 use Rattle.eos_picture.specs.Window.{IsAtPlace, around_in, AreAround, listed, at_place}

@@ -5,7 +5,7 @@ use Rattle.std.proofs.lemmas.List.{append-nil}
 use Rattle.std.proofs.lemmas.List.Concat.{flat_map-append}
 use Rattle.eos_txnlog.specs.declared.value.TxnValue.{TxnValue}
 use Rattle.eos_txnlog.specs.Skips.{is_skipped}
-use Rattle.eos_items.specs.declared.item.Item.{Item}
+use Rattle.eos_fold.specs.declared.item.Item.{Item}
 use Rattle.eos_table.specs.TransactionLog.{Id, State, flat, Unskipped}
 use Rattle.eos_table.specs.steps.LogCandidates.{step_of}
 use Rattle.eos_log_faults.specs.steps.Gathered.{said, step_at, steps_after, next_state}

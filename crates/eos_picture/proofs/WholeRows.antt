@@ -11,7 +11,7 @@ use Rattle.eos_batch.specs.declared.marker.Kind.TheVariants.{Commit, Abort}
 use Rattle.eos_batch.specs.declared.marker.Marker.{Marker}
 use Rattle.eos_fold.specs.declared.close.Close.{Close}
 use Rattle.eos_fold.specs.Parts.{PartLog, part_name, Rises}
-use Rattle.eos_items.specs.declared.item.Item.{Item}
+use Rattle.eos_fold.specs.declared.item.Item.{Item}
 use Rattle.eos_picture.specs.declared.mark.Column.{Column}
 use Rattle.eos_picture.specs.declared.mark.Mark.{Mark}
 use Rattle.eos_picture.specs.declared.mark.Row.{Row}

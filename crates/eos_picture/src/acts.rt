@@ -2,7 +2,7 @@
 
 ghost use Rattle.std.specs.Prelude.{◌≡◌, ◌<◌, ℕ, true, length, OnOk};
 ghost use Rattle.eos_base.specs.Members.{Has};
-ghost use Rattle.eos_items.specs.declared.item.Item.{Item};
+ghost use Rattle.eos_fold.specs.declared.item.Item.{Item};
 ghost use Rattle.eos_table.specs.TransactionLog.{is_transaction_part};
 ghost use Rattle.eos_picture.specs.Marks.{AreTrue};
 ghost use Rattle.eos_picture.specs.Whole.{ShowsDecision, ShowsEnds, ShowsMissing, ShowsClose};

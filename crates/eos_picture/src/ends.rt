@@ -2,7 +2,7 @@
 
 ghost use Rattle.std.specs.Prelude.{◌≡◌, ◌≢◌, Some, true, false};
 ghost use Rattle.eos_base.specs.Members.{Has};
-ghost use Rattle.eos_items.specs.declared.item.Item.{Item};
+ghost use Rattle.eos_fold.specs.declared.item.Item.{Item};
 ghost use Rattle.eos_picture.specs.Ends.{is_kind as is_kind_of, is_end as is_end_of, ends, HasNone};
 ghost use Rattle.eos_picture.specs.Order.{is_writer as is_writer_of};
 

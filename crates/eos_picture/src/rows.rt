@@ -2,7 +2,7 @@
 
 ghost use Rattle.std.specs.Prelude.{◌++◌, IfOk, OnOk};
 ghost use Rattle.eos_base.specs.Members.{Has};
-ghost use Rattle.eos_items.specs.declared.item.Item.{Item};
+ghost use Rattle.eos_fold.specs.declared.item.Item.{Item};
 ghost use Rattle.eos_picture.specs.Marks.{AreTrue, IsTrueRow, HasTrueRows};
 ghost use Rattle.eos_picture.specs.Signs.{IsOf};
 ghost use Rattle.eos_picture.specs.Whole.{ShowsRecord, IsWhole, IsCovered, HasWholeRows};

@@ -3,7 +3,7 @@
 ghost use Rattle.std.specs.Prelude.{◌≡◌, ◌≢◌, ◌<◌, ◌⊎◌, ℤ, [], Some, None, true, false, length, IfSome};
 ghost use Rattle.std.specs.Option.{option_or};
 ghost use Rattle.eos_base.specs.Members.{Has};
-ghost use Rattle.eos_items.specs.declared.item.Item.{Item};
+ghost use Rattle.eos_fold.specs.declared.item.Item.{Item};
 ghost use Rattle.eos_fold.specs.Parts.{part_name};
 ghost use Rattle.eos_claims.specs.declared.place.Place.{Place};
 ghost use Rattle.eos_picture.specs.Window.{IsOfRecordAt};

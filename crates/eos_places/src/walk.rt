@@ -11,7 +11,7 @@ use crate::wanted::{Standing, Wanted};
 use bytes::Bytes;
 use eos_batch::BatchFault;
 use eos_evidence::Segment;
-use eos_items::read_head;
+use eos_fold::read_head;
 use eos_wire::are_bytes;
 use std::alloc::{AllocError, Global};
 

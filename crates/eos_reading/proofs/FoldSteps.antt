@@ -10,7 +10,7 @@ use Rattle.eos_batch.specs.declared.batch.Batch.{Batch}
 use Rattle.eos_batch.specs.declared.head.BatchHead.{BatchHead}
 use Rattle.eos_batch.specs.Reading.{batch_at}
 use Rattle.eos_batch.proofs.SegmentTexts.{step_at}
-use Rattle.eos_chunks.proofs.MoreBytes.{batch_more, batch_none}
+use Rattle.eos_fold.proofs.MoreBytes.{batch_more, batch_none}
 use Rattle.eos_reading.specs.Heads.{HasHeads}
 use Rattle.eos_reading.specs.Kept.{kept_in, kept_of}
 use Rattle.eos_reading.specs.Runs.{IsRun}

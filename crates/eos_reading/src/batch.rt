@@ -12,7 +12,7 @@ use crate::placed::Placed;
 use crate::reading::Reading;
 use bytes::Bytes;
 use eos_batch::{Batch, BatchFault, BatchHead, lend_record, open_batch, test_data};
-use eos_items::read_head;
+use eos_fold::read_head;
 use eos_wire::are_bytes;
 use std::alloc::{AllocError, Global};
 

@@ -9,7 +9,7 @@ use crate::folded::Folded;
 use crate::reading::Reading;
 use bytes::Bytes;
 use eos_batch::{BatchFault, BatchHead};
-use eos_chunks::ByteFold;
+use eos_fold::ByteFold;
 use std::alloc::{AllocError, Global};
 use std::marker::Model;
 

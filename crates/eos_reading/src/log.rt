@@ -8,7 +8,7 @@ ghost use Rattle.eos_reading.specs.Folds.{IsFolded};
 use crate::fold::Fold;
 use crate::folded::Folded;
 use crate::reading::Reading;
-use eos_chunks::read_folded;
+use eos_fold::read_folded;
 use eos_evidence::{MAX_SEGMENT_BYTES, ReadFault};
 use std::alloc::Global;
 use std::io::Read;

@@ -1,7 +1,7 @@
 -- Nothing is gathered of a partition that is neither of an output topic nor of the offsets log.
 use Rattle.std.proofs.Common.{◌≡◌, List, [], ◌∷◌, Bool, true, false, fold, refl, ap, ◌∙◌, if◌then◌else◌}
 use Rattle.std.proofs.lemmas.List.{append-nil}
-use Rattle.eos_items.specs.declared.item.Item.{Item}
+use Rattle.eos_fold.specs.declared.item.Item.{Item}
 use Rattle.eos_fold.specs.Parts.{PartLog}
 use Rattle.eos_commits.specs.Visible.{is_visible}
 use Rattle.eos_commits.specs.steps.Roles.{Source}

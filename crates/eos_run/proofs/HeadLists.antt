@@ -1,13 +1,13 @@
 -- The heads of data batches, and what waits among them.
 use Rattle.std.proofs.Common.{◌≡◌, ℕ, zero, suc, ◌+◌, ◌<◌, ◌≤◌, List, [], ◌∷◌, ◌++◌, length, drop, set, slice_index_or, Some, refl, sym, ap, ◌∙◌, ℤ, arith}
 use Rattle.std.specs.List.{slice_get}
-use Rattle.eos_items.specs.declared.entry.Ending.{Ending}
-use Rattle.eos_items.specs.declared.head.DataHead.{DataHead}
-use Rattle.eos_items.specs.Batches.{DataBatch, set_ending}
-use Rattle.eos_items.specs.Heads.{data_head}
-use Rattle.eos_summary.specs.Settling.{waiting_from, waiting_in}
-use Rattle.eos_summary.specs.steps.Endings.{set_endings}
-use Rattle.eos_summary.proofs.FatesSet.{ending_next}
+use Rattle.eos_fold.specs.declared.entry.Ending.{Ending}
+use Rattle.eos_fold.specs.declared.head.DataHead.{DataHead}
+use Rattle.eos_fold.specs.Batches.{DataBatch, set_ending}
+use Rattle.eos_fold.specs.Heads.{data_head}
+use Rattle.eos_fold.specs.Settling.{waiting_from, waiting_in}
+use Rattle.eos_fold.specs.steps.Endings.{set_endings}
+use Rattle.eos_fold.proofs.FatesSet.{ending_next}
 use Rattle.std.proofs.lemmas.List.{drop_all}
 use Rattle.eos_run.specs.Runs.{heads_of}
 

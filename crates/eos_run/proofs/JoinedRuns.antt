@@ -6,21 +6,21 @@ use Rattle.std.specs.Ordering.{int_cmp}
 use Rattle.std.specs.BTreeMap.{get}
 use Rattle.eos_batch.specs.declared.batch.Batch.{Batch}
 use Rattle.eos_batch.specs.Attributes.{is_control}
-use Rattle.eos_items.specs.declared.head.DataHead.{DataHead}
-use Rattle.eos_summary.specs.declared.ends.Ends.{Ends}
-use Rattle.eos_summary.specs.declared.fault.Fault.{Fault}
-use Rattle.eos_summary.specs.declared.summary.BatchSummary.{BatchSummary}
-use Rattle.eos_summary.specs.Settling.{data_in, data_after, waiting_in}
-use Rattle.eos_summary.specs.Tables.{Table, ends_in, ends_at}
-use Rattle.eos_summary.specs.Taken.{IsReadyFor}
-use Rattle.eos_summary.specs.Faults.{IsSettled, IsLeastOf}
-use Rattle.eos_summary.specs.Earlier.{earlier}
-use Rattle.eos_summary.specs.Summaries.{IsSummary, SameEnds}
-use Rattle.eos_summary.specs.steps.Joins.{rest_of, Starts, IsTaking}
-use Rattle.eos_summary.proofs.Waiting.{all_below}
-use Rattle.eos_summary.proofs.TakingOver.{all_ends, all_places, all_items, all_faults}
-use Rattle.eos_summary.proofs.JoinedSummaries.{same_summary, can_take, starts}
-use Rattle.eos_summary.proofs.OneBatch.{nothing_known}
+use Rattle.eos_fold.specs.declared.head.DataHead.{DataHead}
+use Rattle.eos_fold.specs.declared.ends.Ends.{Ends}
+use Rattle.eos_fold.specs.declared.fault.Fault.{Fault}
+use Rattle.eos_fold.specs.declared.batch_summary.BatchSummary.{BatchSummary}
+use Rattle.eos_fold.specs.Settling.{data_in, data_after, waiting_in}
+use Rattle.eos_fold.specs.Tables.{Table, ends_in, ends_at}
+use Rattle.eos_fold.specs.Taken.{IsReadyFor}
+use Rattle.eos_fold.specs.Faults.{IsSettled, IsLeastOf}
+use Rattle.eos_fold.specs.Earlier.{earlier}
+use Rattle.eos_fold.specs.Summaries.{IsSummary, SameEnds}
+use Rattle.eos_fold.specs.steps.Joins.{rest_of, Starts, IsTaking}
+use Rattle.eos_fold.proofs.Waiting.{all_below}
+use Rattle.eos_fold.proofs.TakingOver.{all_ends, all_places, all_items, all_faults}
+use Rattle.eos_fold.proofs.JoinedSummaries.{same_summary, can_take, starts}
+use Rattle.eos_fold.proofs.OneBatch.{nothing_known}
 use Rattle.eos_run.specs.declared.run.Run.{Run}
 use Rattle.eos_run.specs.Runs.{heads_of, summary_with, IsRunOf, IsRun, SameRun}
 use Rattle.eos_run.specs.steps.Taking.{CanTake, HavePlaces, Begins, BeginsWith, HasTaken}

@@ -4,17 +4,17 @@ use Rattle.std.specs.List.{All}
 use Rattle.std.specs.Ordering.{int_eq, int_cmp}
 use Rattle.std.specs.BTreeMap.{get}
 use Rattle.eos_batch.specs.declared.batch.Batch.{Batch}
-use Rattle.eos_items.specs.declared.head.DataHead.{DataHead}
-use Rattle.eos_items.specs.Batches.{DataBatch}
-use Rattle.eos_summary.specs.declared.ends.Ends.{Ends}
-use Rattle.eos_summary.specs.declared.fault.Fault.{Fault}
-use Rattle.eos_summary.specs.Settling.{waiting_in, settled}
-use Rattle.eos_summary.specs.Tables.{Table, ends_at}
-use Rattle.eos_summary.specs.Taken.{IsJoined}
-use Rattle.eos_summary.specs.steps.Summaries.{only, TakesFault}
-use Rattle.eos_summary.specs.steps.Joins.{Rest, IsTaking, Took}
-use Rattle.eos_summary.proofs.Waiting.{all_below}
-use Rattle.eos_summary.proofs.TakingOver.{start, taking_step, taken_step, took}
+use Rattle.eos_fold.specs.declared.head.DataHead.{DataHead}
+use Rattle.eos_fold.specs.Batches.{DataBatch}
+use Rattle.eos_fold.specs.declared.ends.Ends.{Ends}
+use Rattle.eos_fold.specs.declared.fault.Fault.{Fault}
+use Rattle.eos_fold.specs.Settling.{waiting_in, settled}
+use Rattle.eos_fold.specs.Tables.{Table, ends_at}
+use Rattle.eos_fold.specs.Taken.{IsJoined}
+use Rattle.eos_fold.specs.steps.Summaries.{only, TakesFault}
+use Rattle.eos_fold.specs.steps.Joins.{Rest, IsTaking, Took}
+use Rattle.eos_fold.proofs.Waiting.{all_below}
+use Rattle.eos_fold.proofs.TakingOver.{start, taking_step, taken_step, took}
 use Rattle.eos_run.specs.Runs.{heads_of}
 use Rattle.eos_run.specs.steps.Taking.{CanTake, Begins, HasTaken}
 use Rattle.eos_run.proofs.HeadLists.{heads_of-length, waiting-heads}

@@ -5,13 +5,13 @@ use Rattle.eos_batch.specs.declared.batch.Batch.{Batch}
 use Rattle.eos_batch.specs.declared.head.BatchHead.{BatchHead}
 use Rattle.eos_batch.specs.Heads.{head_of}
 use Rattle.eos_batch.specs.Rules.{IsProducerRight}
-use Rattle.eos_items.specs.declared.head.DataHead.{DataHead}
-use Rattle.eos_items.specs.Batches.{DataBatch}
-use Rattle.eos_items.specs.Heads.{data_head}
-use Rattle.eos_summary.specs.declared.summary.BatchSummary.{BatchSummary}
-use Rattle.eos_summary.specs.Settling.{data_in}
-use Rattle.eos_summary.specs.Tables.{ends_at}
-use Rattle.eos_summary.specs.Summaries.{IsSummary, SameEnds}
+use Rattle.eos_fold.specs.declared.head.DataHead.{DataHead}
+use Rattle.eos_fold.specs.Batches.{DataBatch}
+use Rattle.eos_fold.specs.Heads.{data_head}
+use Rattle.eos_fold.specs.declared.batch_summary.BatchSummary.{BatchSummary}
+use Rattle.eos_fold.specs.Settling.{data_in}
+use Rattle.eos_fold.specs.Tables.{ends_at}
+use Rattle.eos_fold.specs.Summaries.{IsSummary, SameEnds}
 use Rattle.eos_run.specs.declared.run.Run.{Run}
 
 abbrev pub heads_of : List DataBatch → List DataHead

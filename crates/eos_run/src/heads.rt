@@ -3,15 +3,14 @@
 ghost use Rattle.std.specs.Prelude.{◌≡◌, ◌+◌, ◌<◌, ◌≤◌, ◌^◌, ◌∷◌, [], ◌++◌, ℕ, ℤ, List, map, length, All, IsSome, OnOk, slice_get, Some, false};
 ghost use Rattle.eos_batch.specs.declared.batch.Batch.{Batch};
 ghost use Rattle.eos_batch.specs.Heads.{head_of};
-ghost use Rattle.eos_items.specs.Batches.{DataBatch, set_ending};
-ghost use Rattle.eos_summary.specs.steps.Endings.{set_endings};
-ghost use Rattle.eos_summary.specs.Settling.{data_in, settled, waiting_in};
-ghost use Rattle.eos_summary.specs.steps.Summaries.{only};
+ghost use Rattle.eos_fold.specs.Batches.{DataBatch, set_ending};
+ghost use Rattle.eos_fold.specs.steps.Endings.{set_endings};
+ghost use Rattle.eos_fold.specs.Settling.{data_in, settled, waiting_in};
+ghost use Rattle.eos_fold.specs.steps.Summaries.{only};
 ghost use Rattle.eos_run.specs.Runs.{heads_of};
 
 use eos_batch::BatchHead;
-use eos_items::{DataHead, Ending};
-use eos_summary::{EndMark, Places, ended};
+use eos_fold::{DataHead, EndMark, Ending, Places, ended};
 use std::alloc::{AllocError, Global};
 use std::marker::Model;
 

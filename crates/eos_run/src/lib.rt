@@ -10,6 +10,6 @@ mod run;
 mod taking;
 mod whole;
 
-pub use eos_items::DataHead;
-pub use eos_summary::{EndMark, Fault};
+pub use eos_fold::DataHead;
+pub use eos_fold::{EndMark, Fault};
 pub use run::Run;

@@ -4,17 +4,16 @@ ghost use Rattle.std.specs.Prelude.{◌≡◌, ◌+◌, ◌≤◌, ◌<◌, ◌^
 ghost use Rattle.std.specs.Ordering.{int_cmp};
 ghost use Rattle.std.specs.BTreeMap.{get};
 ghost use Rattle.eos_batch.specs.declared.batch.Batch.{Batch};
-ghost use Rattle.eos_summary.specs.declared.ends.Ends.{Ends};
-ghost use Rattle.eos_summary.specs.Tables.{ends_at};
-ghost use Rattle.eos_summary.specs.Taken.{IsReadyFor};
-ghost use Rattle.eos_summary.specs.Summaries.{SameEnds};
+ghost use Rattle.eos_fold.specs.declared.ends.Ends.{Ends};
+ghost use Rattle.eos_fold.specs.Tables.{ends_at};
+ghost use Rattle.eos_fold.specs.Taken.{IsReadyFor};
+ghost use Rattle.eos_fold.specs.Summaries.{SameEnds};
 ghost use Rattle.eos_run.specs.Runs.{IsRunOf, IsRun, IsHeadOf, SameRun};
 ghost use Rattle.eos_run.specs.steps.Taking.{HavePlaces, BeginsWith, HasTaken};
 
 use crate::heads::{Heads, data_head};
 use eos_batch::BatchHead;
-use eos_items::DataHead;
-use eos_summary::{Ends, Fault, earlier, make_room, make_room_for};
+use eos_fold::{DataHead, Ends, Fault, earlier, make_room, make_room_for};
 use eos_touch::touch_of;
 use std::alloc::{AllocError, Global};
 use std::collections::BTreeMap;

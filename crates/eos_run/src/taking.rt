@@ -4,17 +4,17 @@ ghost use Rattle.std.specs.Prelude.{◌≡◌, ◌+◌, ◌<◌, ◌^◌, ℤ, L
 ghost use Rattle.std.specs.Ordering.{int_cmp, int_eq};
 ghost use Rattle.std.specs.BTreeMap.{get};
 ghost use Rattle.eos_batch.specs.declared.batch.Batch.{Batch};
-ghost use Rattle.eos_items.specs.Batches.{DataBatch};
-ghost use Rattle.eos_summary.specs.Settling.{waiting_in, settled};
-ghost use Rattle.eos_summary.specs.Tables.{ends_at};
-ghost use Rattle.eos_summary.specs.Taken.{IsJoined, HasRoom};
-ghost use Rattle.eos_summary.specs.steps.Joins.{rest_of};
-ghost use Rattle.eos_summary.specs.steps.Summaries.{TakesFault, only};
+ghost use Rattle.eos_fold.specs.Batches.{DataBatch};
+ghost use Rattle.eos_fold.specs.Settling.{waiting_in, settled};
+ghost use Rattle.eos_fold.specs.Tables.{ends_at};
+ghost use Rattle.eos_fold.specs.Taken.{IsJoined, HasRoom};
+ghost use Rattle.eos_fold.specs.steps.Joins.{rest_of};
+ghost use Rattle.eos_fold.specs.steps.Summaries.{TakesFault, only};
 ghost use Rattle.eos_run.specs.Runs.{heads_of};
 ghost use Rattle.eos_run.specs.steps.Taking.{CanTake, Begins, HasTaken};
 
 use crate::run::Run;
-use eos_summary::{Ends, at_seam, earlier};
+use eos_fold::{Ends, at_seam, earlier};
 use std::collections::BTreeMap;
 
 impl Run {

@@ -2,12 +2,12 @@
 
 ghost use Rattle.std.specs.Prelude.{List};
 ghost use Rattle.eos_batch.specs.declared.batch.Batch.{Batch};
-ghost use Rattle.eos_summary.specs.Faults.{IsLeastOf};
-ghost use Rattle.eos_summary.specs.Whole.{StandsInWhole, IsLeastOpen};
+ghost use Rattle.eos_fold.specs.Faults.{IsLeastOf};
+ghost use Rattle.eos_fold.specs.BatchesWhole.{StandsInWhole, IsLeastOpen};
 ghost use Rattle.eos_run.specs.Runs.{IsRunOf};
 
 use crate::run::Run;
-use eos_summary::{Fault, at_first, earlier, lesser_open};
+use eos_fold::{Fault, at_first, earlier, lesser_open};
 
 impl Run {
     /// The least fault of the pairs of touches, by offset, then by kind.

@@ -17,13 +17,13 @@ use Rattle.eos_touch.specs.Pair.{is_open}
 use Rattle.eos_touch.specs.Front.{records_in, ContinuesFrom}
 use Rattle.eos_touch.specs.Neighbours.{EachAfter, Accepts}
 use Rattle.eos_touch.specs.Touches.{touch_of, touch_in, touches_of, last_of}
-use Rattle.eos_items.specs.declared.entry.Ending.{Ending}
-use Rattle.eos_items.specs.declared.entry.Ending.TheVariants.{Plain, Ended, Waiting}
-use Rattle.eos_items.specs.Batches.{DataBatch, data_batch, fate_of}
-use Rattle.eos_items.specs.Items.{item_of, items_from, items_in, items_of}
-use Rattle.eos_summary.specs.declared.mark.EndMark.{EndMark}
-use Rattle.eos_summary.specs.Ends.{is_data, mark_of, mark_in, mark_for, first_marker}
-use Rattle.eos_summary.specs.Settling.{resolved, ending_by, settled, data_after, data_in}
+use Rattle.eos_fold.specs.declared.entry.Ending.{Ending}
+use Rattle.eos_fold.specs.declared.entry.Ending.TheVariants.{Plain, Ended, Waiting}
+use Rattle.eos_fold.specs.Batches.{DataBatch, data_batch, fate_of}
+use Rattle.eos_fold.specs.Items.{item_of, items_from, items_in, items_of}
+use Rattle.eos_fold.specs.declared.mark.EndMark.{EndMark}
+use Rattle.eos_fold.specs.Ends.{is_data, mark_of, mark_in, mark_for, first_marker}
+use Rattle.eos_fold.specs.Settling.{resolved, ending_by, settled, data_after, data_in}
 use Rattle.eos_fold.specs.declared.close.Close.{Close}
 use Rattle.eos_fold.specs.Closes.{close_by, close_of, closes_of}
 use Rattle.eos_machine.specs.declared.config.Config.{Config}

@@ -16,9 +16,9 @@ use Rattle.eos_batch.specs.declared.marker.Marker.{Marker as EndMarker}
 use Rattle.eos_touch.specs.declared.touch.Touch.{Touch}
 use Rattle.eos_touch.specs.declared.touch.Touch.TheVariants.{Data, End}
 use Rattle.eos_txnlog.specs.declared.decision.Decision.{Decision}
-use Rattle.eos_summary.specs.declared.mark.EndMark.{EndMark}
+use Rattle.eos_fold.specs.declared.mark.EndMark.{EndMark}
 use Rattle.eos_batch.specs.Offsets.{offset_of}
-use Rattle.eos_summary.specs.Ends.{is_data, mark_in, mark_for, first_marker}
+use Rattle.eos_fold.specs.Ends.{is_data, mark_in, mark_for, first_marker}
 use Rattle.eos_fold.specs.declared.close.Close.{Close}
 use Rattle.eos_fold.specs.Closes.{close_by, close_of, closes_of}
 use Rattle.eos_batch.specs.Marker.{markers_of}

@@ -18,7 +18,7 @@ use Rattle.eos_fold.specs.declared.stop.Stop.{Stop}
 use Rattle.eos_fold.specs.declared.stop.Stop.TheVariants.{AtEnd}
 use Rattle.eos_touch.specs.declared.fault.PartitionFaultKind.{PartitionFaultKind}
 use Rattle.eos_touch.specs.declared.fault.PartitionFaultKind.TheVariants.{BadBatch, Gap, Pair, End, OpenAtEnd}
-use Rattle.eos_items.specs.Items.{items_of}
+use Rattle.eos_fold.specs.Items.{items_of}
 use Rattle.eos_fold.specs.Fronts.{IsFront}
 use Rattle.eos_batch.specs.Marker.{markers_of}
 use Rattle.eos_touch.specs.Touches.{touches_of}
@@ -26,7 +26,7 @@ use Rattle.eos_fold.specs.Parts.{PartLog, AreCloses}
 use Rattle.eos_fold.specs.declared.close.Close.{Close}
 use Rattle.eos_fold.specs.Standing.{StandsIn, IsOpen}
 use Rattle.eos_fold.specs.Closes.{closes_of}
-use Rattle.eos_summary.specs.Settling.{data_in}
+use Rattle.eos_fold.specs.Settling.{data_in}
 use Rattle.eos_machine.specs.declared.config.Config.{Config}
 use Rattle.eos_machine.specs.Places.{IsConfig, place_count, topic_of, number_of, is_sequenced}
 use Rattle.eos_machine.specs.declared.item.Item.{Item}

@@ -4,11 +4,11 @@ use Rattle.std.specs.Prelude.{⊤}
 use Rattle.std.proofs.lemmas.Bool.{cases_lt}
 use Rattle.eos_base.specs.Members.{Has}
 use Rattle.eos_batch.specs.declared.batch.Batch.{Batch}
-use Rattle.eos_items.specs.Items.{items_of}
+use Rattle.eos_fold.specs.Items.{items_of}
 use Rattle.eos_batch.specs.Marker.{markers_of}
 use Rattle.eos_fold.specs.Parts.{PartLog, AreCloses}
 use Rattle.eos_fold.specs.Closes.{closes_of}
-use Rattle.eos_summary.specs.Settling.{data_in}
+use Rattle.eos_fold.specs.Settling.{data_in}
 use Rattle.eos_machine.specs.declared.config.Config.{Config}
 use Rattle.eos_machine.specs.Places.{IsConfig, place_count, topic_of, number_of}
 use Rattle.eos_machine.specs.World.{World, log_at}

@@ -11,7 +11,7 @@ use Rattle.eos_base.specs.declared.record_fault.RecordFault.{RecordFault}
 use Rattle.eos_base.proofs.Membership.{flat_has, has_filter, filter_has}
 use Rattle.eos_txnlog.specs.declared.value.TxnValue.{TxnValue}
 use Rattle.eos_txnlog.specs.Following.{step_verdict}
-use Rattle.eos_items.specs.declared.item.Item.{Item as DataRecord}
+use Rattle.eos_fold.specs.declared.item.Item.{Item as DataRecord}
 use Rattle.eos_fold.specs.Parts.{PartLog}
 use Rattle.eos_table.specs.TransactionLog.{content_with, content_of, Unskipped, nothing, flat, steps_after, state_after, steps_of, all_steps, is_unfinished, last_of, ShareProducer, IsTransactionLog, is_transaction_part, transaction_parts}
 use Rattle.eos_machine.specs.declared.config.Config.{Config}

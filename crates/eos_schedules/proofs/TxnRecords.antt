@@ -20,9 +20,9 @@ use Rattle.eos_txnlog.specs.Writing as txnlog
 use Rattle.eos_txnlog.specs.Skips.{is_skipped}
 use Rattle.eos_txnlog.proofs.ValueTexts.{key_whole}
 use Rattle.eos_txnlog.proofs.WrittenTexts.{key_written}
-use Rattle.eos_items.specs.declared.item.Item.{Item as DataRecord}
-use Rattle.eos_items.specs.Items.{items_of}
-use Rattle.eos_summary.specs.Settling.{data_in}
+use Rattle.eos_fold.specs.declared.item.Item.{Item as DataRecord}
+use Rattle.eos_fold.specs.Items.{items_of}
+use Rattle.eos_fold.specs.Settling.{data_in}
 use Rattle.eos_table.specs.TransactionLog.{content_with, content_at, content_of, same_id, Unskipped, State as LastOf, update, flat, next_state, step_at, steps_after, state_after}
 use Rattle.eos_machine.specs.declared.config.Config.{Config}
 use Rattle.eos_machine.specs.Places.{txn_place, offsets_place}

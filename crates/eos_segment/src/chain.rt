@@ -2,16 +2,15 @@
 
 ghost use Rattle.std.specs.Prelude.{◌≡◌, Err, ℕ, List, IfOk, OnOk, MatchResult, string_bytes};
 ghost use Rattle.std.specs.Io.KnownBytes.{Keeps};
-ghost use Rattle.eos_chain.specs.Faults.{IsLeastFault};
-ghost use Rattle.eos_chain.specs.Good.{IsGood};
+ghost use Rattle.eos_fold.specs.ChainFaults.{IsLeastFault};
+ghost use Rattle.eos_fold.specs.Good.{IsGood};
 ghost use Rattle.eos_text.specs.Adding.{Adds};
 ghost use Rattle.eos_segment.specs.Answer.{IsChainAnswer, good_line, fault_line};
 ghost use Rattle.eos_segment.specs.Running.{Ran};
 
 use crate::details::push_details;
 use crate::fault::RunFault;
-use eos_chain::{Chain, chain_from};
-use eos_fold::PartitionFault;
+use eos_fold::{Chain, PartitionFault, chain_from};
 use eos_text::{finish, push_text, push_value};
 use std::alloc::{AllocError, Global};
 use std::io::{Read, Write};

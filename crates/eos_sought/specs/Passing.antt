@@ -6,7 +6,7 @@ use Rattle.eos_base.specs.declared.record_fault.RecordFault.{RecordFault}
 use Rattle.eos_claims.specs.declared.place.Place.{Place}
 use Rattle.eos_commits.specs.Commits.{is_same}
 use Rattle.eos_fold.specs.Parts.{PartLog}
-use Rattle.eos_items.specs.declared.item.Item.{Item}
+use Rattle.eos_fold.specs.declared.item.Item.{Item}
 use Rattle.eos_offsets.specs.declared.key.OffsetKey.{OffsetKey}
 use Rattle.eos_offsets.specs.Reading.{read_key, read_value}
 

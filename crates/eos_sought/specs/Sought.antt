@@ -8,7 +8,7 @@ use Rattle.eos_claims.specs.Headers.{claim_of}
 use Rattle.eos_commits.specs.Commits.{is_same}
 use Rattle.eos_commits.specs.Visible.{is_visible}
 use Rattle.eos_fold.specs.Parts.{PartLog}
-use Rattle.eos_items.specs.declared.item.Item.{Item}
+use Rattle.eos_fold.specs.declared.item.Item.{Item}
 use Rattle.eos_txnlog.specs.declared.value.TxnValue.{TxnValue}
 use Rattle.eos_txnlog.specs.Status.{is_prepare}
 use Rattle.eos_sought.specs.declared.sought.Epochs.{Epochs}

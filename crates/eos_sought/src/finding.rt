@@ -1,7 +1,7 @@
 //! Finding them.
 
 ghost use Rattle.std.specs.Prelude.{◌≡◌, ◌++◌, ◌∷◌, [], ◌<◌, length, List, IfOk, OnOk, Some, slice_get};
-ghost use Rattle.eos_items.specs.declared.item.Item.{Item as Data};
+ghost use Rattle.eos_fold.specs.declared.item.Item.{Item as Data};
 ghost use Rattle.eos_sought.specs.declared.finding.Find.{Find as Record};
 ghost use Rattle.eos_sought.specs.Finds.{find_in, among, all_in, all_of, AreFirst};
 ghost use Rattle.eos_sought.specs.Sought.{meets};

@@ -8,9 +8,9 @@ use Rattle.eos_claims.specs.declared.place.Place.{Place}
 use Rattle.eos_decoded.specs.declared.reading.Reading.{Reading}
 use Rattle.eos_decoded.specs.declared.reading.Reading.TheVariants.{Outputs, Transactions, Offsets}
 use Rattle.eos_decoded.specs.Decoding.{decoded_line}
-use Rattle.eos_items.specs.declared.item.Fate.{Fate}
-use Rattle.eos_items.specs.declared.item.Fate.TheVariants.{Plain, Committed, Aborted, Waiting}
-use Rattle.eos_items.specs.declared.item.Item.{Item}
+use Rattle.eos_fold.specs.declared.item.Fate.{Fate}
+use Rattle.eos_fold.specs.declared.item.Fate.TheVariants.{Plain, Committed, Aborted, Waiting}
+use Rattle.eos_fold.specs.declared.item.Item.{Item}
 use Rattle.eos_places.specs.declared.partition.Placed.{Placed}
 use Rattle.eos_sought.specs.declared.finding.Find.{Find}
 use Rattle.eos_sought.specs.declared.sought.Sought.{Sought}

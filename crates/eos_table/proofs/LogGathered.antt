@@ -10,7 +10,7 @@ use Rattle.eos_base.proofs.LeastOf.{upto_itself, upto_same, least_by_candidates}
 use Rattle.eos_txnlog.specs.declared.step.TxnFault.{TxnFault}
 use Rattle.eos_txnlog.specs.Skips.{is_skipped}
 use Rattle.eos_txnlog.specs.Following.{step_verdict, StepResult}
-use Rattle.eos_items.specs.declared.item.Item.{Item}
+use Rattle.eos_fold.specs.declared.item.Item.{Item}
 use Rattle.eos_fold.specs.Parts.{PartLog}
 use Rattle.eos_table.specs.declared.content.Content.{Content}
 use Rattle.eos_table.specs.declared.content.Content.TheVariants.{Unreadable, Other, Of}

@@ -5,7 +5,7 @@ use Rattle.std.proofs.lemmas.Int.{ints}
 use Rattle.eos_base.specs.Members.{Has}
 use Rattle.eos_base.proofs.Membership.{append_cases, append_left, append_right, flat_has}
 use Rattle.eos_txnlog.specs.Skips.{is_skipped}
-use Rattle.eos_items.specs.declared.item.Item.{Item}
+use Rattle.eos_fold.specs.declared.item.Item.{Item}
 use Rattle.eos_fold.specs.Parts.{PartLog, Rises}
 use Rattle.eos_table.specs.declared.content.Content.{Content}
 use Rattle.eos_table.specs.declared.content.Content.TheVariants.{Unreadable, Other, Of}

@@ -13,7 +13,7 @@ use Rattle.std.proofs.lemmas.List.Sums.{fold-append}
 use Rattle.eos_base.specs.Least.{lesser_of}
 use Rattle.eos_txnlog.specs.declared.value.TxnValue.{TxnValue}
 use Rattle.eos_txnlog.specs.Skips.{is_skipped}
-use Rattle.eos_items.specs.declared.item.Item.{Item}
+use Rattle.eos_fold.specs.declared.item.Item.{Item}
 use Rattle.eos_fold.specs.Parts.{PartLog}
 use Rattle.eos_table.specs.declared.content.Content.TheVariants.{Of}
 use Rattle.eos_table.specs.declared.mark.Mark.{Mark}

@@ -17,7 +17,7 @@ use Rattle.eos_txnlog.specs.Reading.{read_key, read_value}
 use Rattle.eos_txnlog.specs.Skips.{is_skipped}
 use Rattle.eos_txnlog.specs.Status.{is_open}
 use Rattle.eos_txnlog.specs.Following.{step_verdict}
-use Rattle.eos_items.specs.declared.item.Item.{Item}
+use Rattle.eos_fold.specs.declared.item.Item.{Item}
 use Rattle.eos_fold.specs.Parts.{PartLog, Rises}
 use Rattle.eos_table.specs.declared.content.Content.{Content}
 use Rattle.eos_table.specs.declared.content.Content.TheVariants.{Unreadable, Other, Of}

@@ -9,7 +9,7 @@ ghost use Rattle.eos_tallies.specs.steps.Walks.{Fits, Ends, Passes, HasPassedSeg
 use bytes::Bytes;
 use eos_batch::BatchFault;
 use eos_evidence::Segment;
-use eos_items::read_head;
+use eos_fold::read_head;
 use eos_wire::are_bytes;
 use std::alloc::{AllocError, Global};
 

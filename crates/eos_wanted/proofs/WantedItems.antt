@@ -1,7 +1,7 @@
 -- What is wanted of a record, and of a log.
 use Rattle.std.proofs.Common.{◌≡◌, ◌↔◌, ℕ, ◌<◌, List, [], ◌∷◌, map, refl, sym, ap}
 use Rattle.std.specs.Prelude.{None}
-use Rattle.eos_items.specs.declared.item.Item.{Item}
+use Rattle.eos_fold.specs.declared.item.Item.{Item}
 use Rattle.eos_fold.specs.Parts.{PartLog, Rises}
 use Rattle.eos_wanted.specs.Wanted.{wanted_headers, wanted_item, wanted_log}
 use Rattle.eos_wanted.specs.declared.wanted.Wanted.{Wanted}

@@ -6,7 +6,7 @@ ghost use Rattle.eos_batch.specs.declared.record.Header.{Header};
 ghost use Rattle.eos_claims.specs.declared.claim.Claim.{Claim};
 ghost use Rattle.eos_claims.specs.Headers.{values_of, claim_of};
 ghost use Rattle.eos_fold.specs.Parts.{PartLog, Rises};
-ghost use Rattle.eos_items.specs.declared.item.Item.{Item};
+ghost use Rattle.eos_fold.specs.declared.item.Item.{Item};
 ghost use Rattle.eos_wanted.specs.Named.{claim_names, named_headers, AreTexts};
 ghost use Rattle.eos_wanted.specs.Wanted.{claim_headers, wanted_headers, wanted_item, wanted_log};
 ghost use Rattle.eos_wanted.specs.declared.wanted.Wanted.{Wanted};

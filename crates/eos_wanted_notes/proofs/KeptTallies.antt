@@ -12,7 +12,7 @@ use Rattle.eos_commits.specs.Visible.{visible}
 use Rattle.eos_evidence.specs.Evidence.{EvidenceParts}
 use Rattle.eos_evidence.specs.declared.application.App.{App}
 use Rattle.eos_fold.specs.Parts.{PartLog, part_name}
-use Rattle.eos_items.specs.declared.item.Item.{Item}
+use Rattle.eos_fold.specs.declared.item.Item.{Item}
 use Rattle.eos_lineage.specs.EvidenceLogs.{AreLogsOf, commits_for}
 use Rattle.eos_lineage.specs.Lineage.{is_part_of, parts_of}
 use Rattle.eos_lineage.proofs.BelowClaims.{length_mapped}

@@ -5,7 +5,7 @@ use Rattle.eos_base.proofs.Membership.{map_has, has_map}
 use Rattle.eos_check.specs.declared.verdict.Fault.{Fault}
 use Rattle.eos_claims.specs.declared.place.Place.{Place}
 use Rattle.eos_evidence.specs.declared.application.App.{App}
-use Rattle.eos_items.specs.declared.item.Item.{Item}
+use Rattle.eos_fold.specs.declared.item.Item.{Item}
 use Rattle.eos_fold.specs.Parts.{PartLog, part_name}
 use Rattle.eos_table.specs.TransactionLog.{State, Unskipped, nothing, content_of, next_state, step_at, steps_after, steps_of, all_steps, is_transaction_part, transaction_parts}
 use Rattle.eos_picture.specs.declared.mark.Column.{Column}

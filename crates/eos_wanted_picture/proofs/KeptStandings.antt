@@ -5,7 +5,7 @@ use Rattle.std.specs.Option.{option_or}
 use Rattle.eos_base.specs.declared.partition_name.PartitionName.{PartitionName}
 use Rattle.eos_base.proofs.Membership.{map_has, has_map}
 use Rattle.eos_evidence.specs.declared.application.App.{App}
-use Rattle.eos_items.specs.declared.item.Item.{Item}
+use Rattle.eos_fold.specs.declared.item.Item.{Item}
 use Rattle.eos_fold.specs.Parts.{PartLog}
 use Rattle.eos_table.specs.TransactionLog.{is_transaction_part}
 use Rattle.eos_picture.specs.declared.mark.Column.{Column}

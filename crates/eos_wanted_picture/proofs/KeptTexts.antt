@@ -8,7 +8,7 @@ use Rattle.eos_base.proofs.Exact.{bytes_exact, is_tied}
 use Rattle.eos_evidence.specs.declared.application.App.{App}
 use Rattle.eos_evidence.specs.Parts.{outputs_of}
 use Rattle.eos_evidence.specs.Topics.{is_internal}
-use Rattle.eos_items.specs.declared.item.Item.{Item}
+use Rattle.eos_fold.specs.declared.item.Item.{Item}
 use Rattle.eos_fold.specs.Parts.{PartLog}
 use Rattle.eos_table.specs.TransactionLog.{is_transaction_part}
 use Rattle.eos_wanted.specs.Wanted.{wanted_item, wanted_log, kept_log}

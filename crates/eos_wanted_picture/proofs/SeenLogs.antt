@@ -7,8 +7,8 @@ use Rattle.eos_batch.specs.declared.marker.Marker.{Marker}
 use Rattle.eos_evidence.specs.declared.application.App.{App}
 use Rattle.eos_fold.specs.declared.close.Close.{Close}
 use Rattle.eos_fold.specs.Parts.{PartLog, part_name}
-use Rattle.eos_items.specs.declared.item.Fate.{Fate}
-use Rattle.eos_items.specs.declared.item.Item.{Item}
+use Rattle.eos_fold.specs.declared.item.Fate.{Fate}
+use Rattle.eos_fold.specs.declared.item.Item.{Item}
 use Rattle.eos_wanted.specs.Wanted.{wanted_item, wanted_of, kept_log, wanted_logs}
 use Rattle.eos_wanted.specs.declared.wanted.Wanted.{Wanted}
 use Rattle.eos_wanted.specs.declared.wanted.Wanted.TheVariants.{Presence, Claims, Texts}

@@ -11,7 +11,7 @@ use Rattle.eos_claims.specs.Headers.{claim_of}
 use Rattle.eos_claims.specs.declared.fault.OutputFault.{OutputFault}
 use Rattle.eos_claims.specs.Outputs.{Application}
 use Rattle.eos_claims.specs.Faults as outputs
-use Rattle.eos_items.specs.declared.item.Item.{Item}
+use Rattle.eos_fold.specs.declared.item.Item.{Item}
 use Rattle.eos_fold.specs.Parts.{part_name, PartLog}
 use Rattle.eos_commits.specs.Commits.{Group, Topic, is_offsets_part, key_of, is_of, commit_under, commit_in, commits_in, commits_of}
 use Rattle.eos_lineage.specs.Lineage.{is_part_of, parts_of, place_in, inputs_in, claims_with, claims_at, claims_in, application_of, LineageKept, inputs_below, outputs_in, count_inputs, count_outputs}

@@ -5,7 +5,7 @@ use Rattle.eos_base.specs.declared.partition_name.PartitionName.{PartitionName}
 use Rattle.eos_base.specs.PartitionNames.{name_cmp}
 use Rattle.eos_base.specs.Members.{Has}
 use Rattle.eos_evidence.specs.declared.application.App.{App}
-use Rattle.eos_items.specs.declared.item.Item.{Item}
+use Rattle.eos_fold.specs.declared.item.Item.{Item}
 use Rattle.eos_fold.specs.Parts.{part_name, PartLog, Rises}
 use Rattle.eos_commits.specs.Faults as commits
 use Rattle.eos_table.specs.TransactionLog.{is_transaction_part, transaction_parts}

@@ -11,7 +11,7 @@ use Rattle.eos_evidence.specs.declared.application.App.{App}
 use Rattle.eos_evidence.specs.Parts.{outputs_of}
 use Rattle.eos_evidence.specs.Topics.{is_internal}
 use Rattle.eos_claims.specs.Headers.{claim_of}
-use Rattle.eos_items.specs.declared.item.Item.{Item}
+use Rattle.eos_fold.specs.declared.item.Item.{Item}
 use Rattle.eos_fold.specs.Parts.{PartLog}
 use Rattle.eos_commits.specs.Visible.{is_visible, visible}
 use Rattle.eos_commits.specs.Commits.{is_offsets_part}

@@ -1,7 +1,7 @@
 -- The commits, record by record of all records of a log.
 use Rattle.std.specs.Prelude.{Bool, List, [], flat_map, if◌then◌else◌}
 use Rattle.eos_offsets.specs.declared.key.OffsetKey.{OffsetKey}
-use Rattle.eos_items.specs.declared.item.Item.{Item}
+use Rattle.eos_fold.specs.declared.item.Item.{Item}
 use Rattle.eos_fold.specs.Parts.{PartLog}
 use Rattle.eos_claims.specs.Outputs.{Commit}
 use Rattle.eos_commits.specs.Visible.{is_visible}

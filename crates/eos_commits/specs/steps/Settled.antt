@@ -1,6 +1,6 @@
 -- Partitions whose records show no fault, whatever groups were met before.
 use Rattle.std.specs.Prelude.{◌≡◌, ◌<◌, ℕ, ◌&&◌, ◌||◌, not, Bool, true, List, [], ◌∷◌, length, slice_index_or}
-use Rattle.eos_items.specs.declared.item.Item.{Item}
+use Rattle.eos_fold.specs.declared.item.Item.{Item}
 use Rattle.eos_fold.specs.Parts.{PartLog}
 use Rattle.eos_claims.specs.Headers.{claim_of}
 use Rattle.eos_commits.specs.Visible.{is_visible}

@@ -7,7 +7,7 @@ use Rattle.eos_base.specs.declared.record_fault.RecordFault.{RecordFault}
 use Rattle.eos_base.specs.Members.{is_found}
 use Rattle.eos_base.specs.Fallible.{◌>>=◌}
 use Rattle.eos_offsets.specs.declared.key.OffsetKey.{OffsetKey}
-use Rattle.eos_items.specs.declared.item.Item.{Item}
+use Rattle.eos_fold.specs.declared.item.Item.{Item}
 use Rattle.eos_fold.specs.Parts.{part_name, PartLog}
 use Rattle.eos_claims.specs.declared.claim.Claim.{Claim}
 use Rattle.eos_claims.specs.Headers.{claim_of}

@@ -3,11 +3,11 @@ use Rattle.std.specs.Prelude.{◌≡◌, ℕ, not, List, [], map, Option, Some, 
 use Rattle.std.specs.List.{flat_map}
 use Rattle.eos_batch.specs.declared.batch.Batch.{Batch}
 use Rattle.eos_batch.specs.declared.record.Record.{Record}
-use Rattle.eos_items.specs.Batches.{DataBatch}
+use Rattle.eos_fold.specs.Batches.{DataBatch}
 use Rattle.eos_evidence.specs.declared.segment.Segment.{Segment}
 use Rattle.eos_evidence.specs.declared.ends.End.{End}
 use Rattle.eos_evidence.specs.Topics.{is_internal}
-use Rattle.eos_summary.specs.Settling.{data_in}
+use Rattle.eos_fold.specs.Settling.{data_in}
 use Rattle.eos_fold.specs.Fronts.{IsFront}
 use Rattle.eos_fold.specs.Standing.{AreOf}
 use Rattle.eos_reading.specs.Epochs.{epoch_entries}

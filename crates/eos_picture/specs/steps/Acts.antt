@@ -4,7 +4,7 @@ use Rattle.eos_base.specs.Members.{Has}
 use Rattle.eos_batch.specs.declared.marker.Kind.{Kind}
 use Rattle.eos_fold.specs.declared.close.Close.{Close}
 use Rattle.eos_fold.specs.Parts.{PartLog}
-use Rattle.eos_items.specs.declared.item.Item.{Item}
+use Rattle.eos_fold.specs.declared.item.Item.{Item}
 use Rattle.eos_table.specs.TransactionLog.{is_transaction_part}
 use Rattle.eos_picture.specs.declared.mark.Column.{Column}
 use Rattle.eos_picture.specs.declared.mark.Mark.{Mark}

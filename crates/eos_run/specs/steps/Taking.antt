@@ -1,11 +1,11 @@
 -- What is taken over into a run's heads and its table of producer ids.
 use Rattle.std.specs.Prelude.{◌≡◌, ℕ, Bool, List, Option}
 use Rattle.eos_batch.specs.declared.batch.Batch.{Batch}
-use Rattle.eos_items.specs.declared.head.DataHead.{DataHead}
-use Rattle.eos_items.specs.Batches.{DataBatch}
-use Rattle.eos_summary.specs.declared.fault.Fault.{Fault}
-use Rattle.eos_summary.specs.Tables.{Table, KeepsPlaces}
-use Rattle.eos_summary.specs.steps.Joins.{Rest, Starts, IsTaking, IsTaken, TakesFrom}
+use Rattle.eos_fold.specs.declared.head.DataHead.{DataHead}
+use Rattle.eos_fold.specs.Batches.{DataBatch}
+use Rattle.eos_fold.specs.declared.fault.Fault.{Fault}
+use Rattle.eos_fold.specs.Tables.{Table, KeepsPlaces}
+use Rattle.eos_fold.specs.steps.Joins.{Rest, Starts, IsTaking, IsTaken, TakesFrom}
 use Rattle.eos_run.specs.Runs.{heads_of}
 
 -- data batches with these heads can take over what is left

@@ -9,7 +9,7 @@ use Rattle.eos_base.specs.Least.{lesser_of}
 use Rattle.eos_txnlog.specs.declared.value.TxnValue.{TxnValue}
 use Rattle.eos_txnlog.specs.declared.decision.Decision.{Decision}
 use Rattle.eos_txnlog.specs.Following.{step_verdict, StepResult}
-use Rattle.eos_items.specs.declared.item.Item.{Item}
+use Rattle.eos_fold.specs.declared.item.Item.{Item}
 use Rattle.eos_fold.specs.Parts.{PartLog}
 use Rattle.eos_table.specs.declared.content.Content.{Content}
 use Rattle.eos_table.specs.declared.content.Content.TheVariants.{Unreadable, Other, Of}

@@ -1,6 +1,6 @@
 -- What is counted of some records of a partition.
 use Rattle.std.specs.Prelude.{ℕ, ℤ, List, [], ◌∷◌, filter, length, if◌then◌else◌}
-use Rattle.eos_items.specs.declared.item.Item.{Item}
+use Rattle.eos_fold.specs.declared.item.Item.{Item}
 use Rattle.eos_fold.specs.Parts.{PartLog}
 use Rattle.eos_commits.specs.Commits.{Topic}
 use Rattle.eos_commits.specs.Visible.{is_visible}

@@ -1,6 +1,6 @@
 use Rattle.std.proofs.Common.{◌≡◌, ap, ◌∙◌, take, List, arith}
 use Rattle.std.proofs.lemmas.List.{take_all}
-use Rattle.eos_items.specs.Batches.{DataBatch}
+use Rattle.eos_fold.specs.Batches.{DataBatch}
 use Rattle.eos_fold.specs.Closes.{closes_in}
 use Rattle.eos_fold.proofs.ClosesOnce.{close_more}
 use Rattle.eos_fold.proofs.close.list_closes.Goals as goal

@@ -1,8 +1,8 @@
 use Rattle.std.proofs.Common.{◌≡◌, ℕ, ◌∙◌, length, take, slice_index_or, None, ap, arith}
 use Rattle.std.proofs.lemmas.Option.{slice_get-get_or}
 use Rattle.std.proofs.Math.Seq.{take-length}
-use Rattle.eos_items.specs.declared.entry.Ending.TheVariants.{Plain}
-use Rattle.eos_items.specs.declared.head.DataHead.{DataHead}
+use Rattle.eos_fold.specs.declared.entry.Ending.TheVariants.{Plain}
+use Rattle.eos_fold.specs.declared.head.DataHead.{DataHead}
 use Rattle.eos_part.specs.steps.Counts.{count_in}
 use Rattle.eos_part.proofs.HeadPlaces.{count_more}
 use Rattle.eos_part.proofs.items.find_head.Goals as goal

@@ -1,10 +1,10 @@
 use Rattle.std.proofs.Common.{◌≡◌, ℕ, List, [], refl, sym, subst}
 use Rattle.eos_fold.specs.Parts.{PartLog, Rises, AreCloses}
 use Rattle.eos_fold.specs.Standing.{IsPartitionFault, AreOf}
-use Rattle.eos_items.specs.declared.head.DataHead.{DataHead}
+use Rattle.eos_fold.specs.declared.head.DataHead.{DataHead}
 use Rattle.eos_part.specs.steps.Closes.{closes_under}
 use Rattle.eos_part.specs.steps.Fronts.{IsChecked}
-use Rattle.eos_items.specs.declared.item.Item.{Item}
+use Rattle.eos_fold.specs.declared.item.Item.{Item}
 use Rattle.eos_part.specs.Parts.{IsWantedPart}
 use Rattle.eos_part.proofs.HeldRecords.{items_rise_so, heads_fit_so, whole_so}
 use Rattle.eos_part.proofs.PartsMade.{part_made, batches_told, epochs_told}

@@ -1,5 +1,5 @@
 use Rattle.std.proofs.Common.{◌≢◌, Some, ◌∙◌}
-use Rattle.eos_items.specs.declared.item.Item.{Item}
+use Rattle.eos_fold.specs.declared.item.Item.{Item}
 use Rattle.eos_picture.proofs.WholeRows.{left_next, left_none}
 use Rattle.eos_picture.proofs.ends.has_data.Goals as goal
 

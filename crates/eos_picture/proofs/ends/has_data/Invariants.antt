@@ -1,6 +1,6 @@
 use Rattle.std.proofs.Common.{◌≢◌, ◌⊎◌, Some, length}
 use Rattle.eos_base.specs.Members.{Has}
-use Rattle.eos_items.specs.declared.item.Item.{Item}
+use Rattle.eos_fold.specs.declared.item.Item.{Item}
 use Rattle.eos_picture.proofs.ends.has_data.Given as goal
 
 abbrev pub invariant-loop-item : goal.invariant-loop-item

@@ -1,6 +1,6 @@
 use Rattle.std.proofs.Common.{List, inr, sym, subst}
 use Rattle.eos_base.specs.Members.{Has}
-use Rattle.eos_items.specs.declared.item.Item.{Item}
+use Rattle.eos_fold.specs.declared.item.Item.{Item}
 use Rattle.eos_picture.proofs.WholeRows.{keeps_all, records_next, records_all}
 use Rattle.eos_picture.proofs.rows.push_records.Goals as goal
 

@@ -1,6 +1,6 @@
 use Rattle.std.proofs.Common.{◌⊎◌, length}
 use Rattle.eos_base.specs.Members.{Has}
-use Rattle.eos_items.specs.declared.item.Item.{Item}
+use Rattle.eos_fold.specs.declared.item.Item.{Item}
 use Rattle.eos_picture.specs.Marks.{AreTrue}
 use Rattle.eos_picture.specs.Whole.{ShowsRecord}
 use Rattle.eos_picture.specs.steps.Kept.{Keeps}

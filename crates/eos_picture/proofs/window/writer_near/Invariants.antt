@@ -1,7 +1,7 @@
 use Rattle.std.proofs.Common.{◌≡◌, ◌<◌, ◌⊎◌, ℤ, Some, length}
 use Rattle.eos_base.specs.Members.{Has}
 use Rattle.eos_fold.specs.Parts.{Rises}
-use Rattle.eos_items.specs.declared.item.Item.{Item}
+use Rattle.eos_fold.specs.declared.item.Item.{Item}
 use Rattle.eos_picture.proofs.window.writer_near.Given as goal
 
 abbrev pub invariant-loop-item : goal.invariant-loop-item

@@ -3,7 +3,7 @@ use Rattle.std.proofs.lemmas.List.{drop_all}
 use Rattle.eos_wire.specs.Numbers.{IsBytes}
 use Rattle.eos_batch.specs.Reading.{batch_at}
 use Rattle.eos_batch.specs.declared.fault.BatchFault.TheVariants as faults
-use Rattle.eos_chunks.proofs.MoreBytes.{batch_none}
+use Rattle.eos_fold.proofs.MoreBytes.{batch_none}
 use Rattle.eos_reading.proofs.FoldSteps.{walked_none, walked_on, run_ends}
 use Rattle.eos_reading.proofs.batch.keep_batches.Goals as goal
 

@@ -2,8 +2,8 @@ use Rattle.std.proofs.Common.{rules, refl, ap, subst, ◌∙◌, w32, w64}
 use Rattle.std.proofs.lemmas.Int.{to_z-of_z}
 use mir.Val.{SFits}
 use Rattle.eos_fold.proofs.PartsMade.{begins_in, rise, part_of, fault_in}
-use Rattle.eos_items.specs.Items.{items_of}
-use Rattle.eos_items.specs.Views.{LogView}
+use Rattle.eos_fold.specs.Items.{items_of}
+use Rattle.eos_fold.specs.Views.{LogView}
 use Rattle.eos_fold.specs.Closes.{closes_in}
 use Rattle.eos_fold.specs.Whole.{segments_in}
 use Rattle.eos_fold.specs.Parts.{AreCloses}

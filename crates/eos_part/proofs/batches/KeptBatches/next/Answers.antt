@@ -3,7 +3,7 @@ use Rattle.std.proofs.lemmas.List.{length-drop, drop-drop, length-take-le}
 use Rattle.std.proofs.lemmas.List.Elements.{All-head, All-tail, All-drop}
 use Rattle.std.specs.List.{All}
 use Rattle.eos_batch.specs.declared.record.Record.{Record}
-use Rattle.eos_items.specs.declared.head.DataHead.{DataHead}
+use Rattle.eos_fold.specs.declared.head.DataHead.{DataHead}
 use Rattle.eos_part.specs.Items.{items_at, items_under, Fits}
 use Rattle.eos_part.specs.Records.{records_in}
 use Rattle.eos_part.proofs.ItemsUnder.{used_up}

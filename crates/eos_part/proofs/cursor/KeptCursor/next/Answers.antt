@@ -1,8 +1,8 @@
 use Rattle.std.proofs.Common.{◌≡◌, ◌<◌, ◌+◌, [], ◌∷◌, length, drop, slice_index_or, None, sym, ap, ◌∙◌, arith}
 use Rattle.std.proofs.lemmas.Option.{slice_get-get_or}
-use Rattle.eos_items.specs.declared.entry.Ending.TheVariants.{Plain}
-use Rattle.eos_items.specs.declared.head.DataHead.{DataHead}
-use Rattle.eos_items.specs.declared.item.Item.{Item}
+use Rattle.eos_fold.specs.declared.entry.Ending.TheVariants.{Plain}
+use Rattle.eos_fold.specs.declared.head.DataHead.{DataHead}
+use Rattle.eos_fold.specs.declared.item.Item.{Item}
 use Rattle.eos_part.specs.Items.{items_under}
 use Rattle.eos_part.specs.Records.{records_in}
 use Rattle.eos_part.proofs.ItemsUnder.{past, used_up, taken}

@@ -1,6 +1,6 @@
 use Rattle.std.proofs.Common.{◌≡◌, ◌<◌, ◌∙◌, length, refl, sym, ap, subst, List}
 use Rattle.std.proofs.lemmas.Option.{slice_get_read}
-use Rattle.eos_items.specs.declared.head.DataHead.{DataHead}
+use Rattle.eos_fold.specs.declared.head.DataHead.{DataHead}
 use Rattle.eos_run.specs.steps.Heads.{HeadsView}
 use Rattle.eos_run.proofs.HeadLists.{set_heads_in}
 use Rattle.eos_run.proofs.heads.Heads.set_ending.Goals as goal

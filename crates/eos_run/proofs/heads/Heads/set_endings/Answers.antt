@@ -1,5 +1,5 @@
 use Rattle.std.proofs.Common.{◌<◌, ℕ, List, refl, length, sym, ap, subst, ◌∙◌, arith, slice_index_or}
-use Rattle.eos_summary.specs.steps.Endings.{set_endings}
+use Rattle.eos_fold.specs.steps.Endings.{set_endings}
 use Rattle.eos_run.specs.Runs.{heads_of}
 use Rattle.eos_run.proofs.HeadLists.{sets_none, sets_more, sets_all}
 use Rattle.eos_run.proofs.heads.Heads.set_endings.Goals as goal

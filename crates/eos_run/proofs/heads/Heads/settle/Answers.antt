@@ -1,12 +1,12 @@
 use Rattle.std.proofs.Common.{List, ℕ, map, sym, ap, ◌∙◌}
 use Rattle.std.specs.Prelude.{Option}
-use Rattle.eos_items.specs.declared.entry.Ending.{Ending}
-use Rattle.eos_summary.specs.declared.mark.EndMark.{EndMark}
-use Rattle.eos_summary.specs.steps.Endings.{set_endings}
-use Rattle.eos_summary.specs.Settling.{settled}
-use Rattle.eos_summary.specs.Settling as spec
-use Rattle.eos_summary.specs.steps.Summaries.{only}
-use Rattle.eos_summary.proofs.Waiting.{set_endings-settled, settled_none}
+use Rattle.eos_fold.specs.declared.entry.Ending.{Ending}
+use Rattle.eos_fold.specs.declared.mark.EndMark.{EndMark}
+use Rattle.eos_fold.specs.steps.Endings.{set_endings}
+use Rattle.eos_fold.specs.Settling.{settled}
+use Rattle.eos_fold.specs.Settling as spec
+use Rattle.eos_fold.specs.steps.Summaries.{only}
+use Rattle.eos_fold.proofs.Waiting.{set_endings-settled, settled_none}
 use Rattle.eos_run.specs.Runs.{heads_of}
 use Rattle.eos_run.proofs.heads.Heads.settle.Goals as goal
 

@@ -1,5 +1,5 @@
 use Rattle.std.proofs.Common.{sym, ap, length, ◌∙◌, arith}
-use Rattle.eos_summary.proofs.TableWrites.{ok_of}
+use Rattle.eos_fold.proofs.TableWrites.{ok_of}
 use Rattle.eos_run.proofs.JoinedRuns.{can_join, begins_joining, made_joined}
 use Rattle.eos_run.proofs.run.Run.join.Goals as goal
 

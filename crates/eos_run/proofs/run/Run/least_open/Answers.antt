@@ -1,9 +1,9 @@
 use Rattle.std.proofs.Common.{rules, refl, subst, ◌≡◌, ◌⊎◌, ℕ, ℤ, Option, Some, w64}
 use Rattle.eos_touch.specs.declared.touch.Touch.{Touch}
-use Rattle.eos_summary.specs.Whole.{IsLeastId, IsLeftOpen}
+use Rattle.eos_fold.specs.BatchesWhole.{IsLeastId, IsLeftOpen}
 use Rattle.std.proofs.lemmas.Int.{to_z-of_z}
 use mir.Val.{SFits}
-use Rattle.eos_summary.proofs.Judged.{open_start, open_step, open_end, found_more, found_start}
+use Rattle.eos_fold.proofs.Judged.{open_start, open_step, open_end, found_more, found_start}
 use Rattle.eos_run.proofs.run.Run.least_open.Goals as goal
 
 pub loop-producer-init : goal.loop-producer-init

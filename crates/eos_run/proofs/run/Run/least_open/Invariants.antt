@@ -1,7 +1,7 @@
 use Rattle.std.proofs.Common.{List}
 use Rattle.eos_batch.specs.declared.batch.Batch.{Batch}
 use Rattle.eos_run.specs.Runs.{IsRunOf}
-use Rattle.eos_summary.proofs.Judged.{AreFound, OpenSoFar, IsOpenIn, IsIdSoFar}
+use Rattle.eos_fold.proofs.Judged.{AreFound, OpenSoFar, IsOpenIn, IsIdSoFar}
 use Rattle.eos_run.proofs.run.Run.least_open.Given as goal
 
 abbrev pub invariant-loop-producer : goal.invariant-loop-producer

@@ -5,13 +5,13 @@ use Rattle.std.specs.Map.{lookup}
 use Rattle.std.specs.BTreeMap.{get, is_at}
 use Rattle.std.proofs.lemmas.Int.{to_z-of_z}
 use mir.Val.{SFits, to_z, of_z}
-use Rattle.eos_summary.specs.declared.ends.Ends.{Ends}
+use Rattle.eos_fold.specs.declared.ends.Ends.{Ends}
 use Rattle.std.specs.Prelude.{IsSome}
-use Rattle.eos_summary.specs.Tables.{ends_at}
-use Rattle.eos_summary.specs.Taken.{HasRoom}
-use Rattle.eos_summary.specs.steps.Summaries.{TakesFault}
-use Rattle.eos_summary.specs.steps.Joins.{Rest, rest_of}
-use Rattle.eos_summary.proofs.TakingOver.{nothing_left}
+use Rattle.eos_fold.specs.Tables.{ends_at}
+use Rattle.eos_fold.specs.Taken.{HasRoom}
+use Rattle.eos_fold.specs.steps.Summaries.{TakesFault}
+use Rattle.eos_fold.specs.steps.Joins.{Rest, rest_of}
+use Rattle.eos_fold.proofs.TakingOver.{nothing_left}
 use Rattle.eos_run.specs.steps.Taking.{HasTaken}
 use Rattle.eos_run.proofs.Takings.{begun, inside, can_next, taken_next}
 use Rattle.eos_run.proofs.run.Run.take_all.Goals as goal

@@ -1,7 +1,7 @@
 use Rattle.std.proofs.Common.{◌≡◌, List, length}
 use Rattle.std.specs.BTreeMap.{btree_map_len}
 use Rattle.eos_batch.specs.declared.batch.Batch.{Batch}
-use Rattle.eos_summary.specs.steps.Joins.{rest_of}
+use Rattle.eos_fold.specs.steps.Joins.{rest_of}
 use Rattle.eos_run.specs.steps.Taking.{CanTake, Begins, HasTaken}
 use Rattle.eos_run.proofs.run.Run.take_all.Given as goal
 

@@ -4,17 +4,17 @@ use Rattle.std.specs.Ordering.{int_cmp}
 use Rattle.std.specs.BTreeMap.{get}
 use Rattle.std.proofs.lemmas.Int.{to_z-of_z}
 use mir.Val.{SFits}
-use Rattle.eos_summary.specs.declared.ends.Ends.{Ends}
+use Rattle.eos_fold.specs.declared.ends.Ends.{Ends}
 use Rattle.eos_touch.specs.declared.touch.Touch.{Touch}
-use Rattle.eos_summary.specs.declared.mark.EndMark.{EndMark}
-use Rattle.eos_summary.specs.Place.{PlacesView}
-use Rattle.eos_summary.specs.Tables.{ends_in}
-use Rattle.eos_summary.specs.Taken.{HasRoom}
+use Rattle.eos_fold.specs.declared.mark.EndMark.{EndMark}
+use Rattle.eos_fold.specs.Place.{PlacesView}
+use Rattle.eos_fold.specs.Tables.{ends_in}
+use Rattle.eos_fold.specs.Taken.{HasRoom}
 use Rattle.eos_run.specs.Runs.{heads_of}
-use Rattle.eos_summary.specs.Settling.{waiting_in, settled}
-use Rattle.eos_summary.specs.Faults.{IsLeastOf, StandsAt}
-use Rattle.eos_summary.specs.steps.Summaries.{TakesFault, only}
-use Rattle.eos_summary.proofs.TableWrites.{no_entry}
+use Rattle.eos_fold.specs.Settling.{waiting_in, settled}
+use Rattle.eos_fold.specs.Faults.{IsLeastOf, StandsAt}
+use Rattle.eos_fold.specs.steps.Summaries.{TakesFault, only}
+use Rattle.eos_fold.proofs.TableWrites.{no_entry}
 use Rattle.eos_run.proofs.run.Run.take_over.Goals as goal
 
 pub unreachable-requires : goal.unreachable-requires

@@ -6,13 +6,13 @@ use Rattle.std.specs.BTreeMap.{get}
 use Rattle.std.proofs.lemmas.Int.{to_z-of_z}
 use mir.Val.{SFits}
 use Rattle.eos_batch.specs.declared.head.BatchHead.{BatchHead}
-use Rattle.eos_summary.specs.Place.{PlacesView}
-use Rattle.eos_summary.specs.Tables.{KeepsPlaces, ends_at}
-use Rattle.eos_summary.specs.Taken.{IsReadyFor}
-use Rattle.eos_summary.specs.steps.Alone.{rest_alone}
-use Rattle.eos_summary.specs.steps.Joins.{IsTaking}
+use Rattle.eos_fold.specs.Place.{PlacesView}
+use Rattle.eos_fold.specs.Tables.{KeepsPlaces, ends_at}
+use Rattle.eos_fold.specs.Taken.{IsReadyFor}
+use Rattle.eos_fold.specs.steps.Alone.{rest_alone}
+use Rattle.eos_fold.specs.steps.Joins.{IsTaking}
 use Rattle.eos_touch.specs.Touches as spec
-use Rattle.eos_summary.proofs.OneBatch.{silent, says, was_alone, left_alone, alone_taking, takes_same, are_of, short_fits, ready_alone}
+use Rattle.eos_fold.proofs.OneBatch.{silent, says, was_alone, left_alone, alone_taking, takes_same, are_of, short_fits, ready_alone}
 use Rattle.eos_run.specs.steps.Taking.{CanTake, Begins}
 use Rattle.eos_run.proofs.HeadLists.{heads_of-length}
 use Rattle.eos_run.proofs.Takings.{begun, taken_next}

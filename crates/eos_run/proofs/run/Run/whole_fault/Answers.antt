@@ -1,10 +1,10 @@
 use Rattle.std.proofs.Common.{rules, refl, sym, subst, ◌≡◌, ℕ, ℤ, Option, w64}
 use Rattle.eos_touch.specs.declared.touch.Touch.{Touch}
-use Rattle.eos_summary.specs.Faults.{IsLeastOf}
+use Rattle.eos_fold.specs.Faults.{IsLeastOf}
 use Rattle.std.proofs.lemmas.Int.{to_z-of_z}
 use mir.Val.{SFits}
-use Rattle.eos_summary.specs.Whole.{StandsFirst, StandsInWhole}
-use Rattle.eos_summary.proofs.Judged.{Judged, IsLeastSoFar, judged_start, judged_step, judged_end, found_more, found_start}
+use Rattle.eos_fold.specs.BatchesWhole.{StandsFirst, StandsInWhole}
+use Rattle.eos_fold.proofs.Judged.{Judged, IsLeastSoFar, judged_start, judged_step, judged_end, found_more, found_start}
 use Rattle.eos_run.proofs.run.Run.whole_fault.Goals as goal
 
 pub loop-producer-init : goal.loop-producer-init

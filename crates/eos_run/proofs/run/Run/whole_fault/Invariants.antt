@@ -1,8 +1,8 @@
 use Rattle.std.proofs.Common.{List}
 use Rattle.eos_batch.specs.declared.batch.Batch.{Batch}
 use Rattle.eos_run.specs.Runs.{IsRunOf}
-use Rattle.eos_summary.specs.Whole.{StandsInWhole}
-use Rattle.eos_summary.proofs.Judged.{AreFound, Judged, IsLeastSoFar}
+use Rattle.eos_fold.specs.BatchesWhole.{StandsInWhole}
+use Rattle.eos_fold.proofs.Judged.{AreFound, Judged, IsLeastSoFar}
 use Rattle.eos_run.proofs.run.Run.whole_fault.Given as goal
 
 abbrev pub invariant-loop-producer : goal.invariant-loop-producer

@@ -1,5 +1,0 @@
-use Rattle.eos_chain.proofs.FedSteps.{fed_none}
-use Rattle.eos_chain.proofs.fed.FedWalk.new.Goals as goal
-
-pub returns : goal.returns
-returns c = fed_none c.new.result c.new.ensures

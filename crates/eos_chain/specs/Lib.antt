@@ -1,4 +1,0 @@
-pub mod Counts
-pub mod Faults
-pub mod Good
-pub mod steps

@@ -1,2 +1,0 @@
-pub mod MoreBytes
-pub mod MoreSplits

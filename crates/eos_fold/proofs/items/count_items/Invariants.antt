@@ -1,0 +1,10 @@
+use Rattle.std.proofs.Common.{◌≡◌, ◌*◌, ◌≤◌, ◌^◌, length, take}
+use Rattle.eos_fold.specs.Items.{items_of}
+use Rattle.eos_fold.specs.Views.{batches_of}
+use Rattle.eos_fold.proofs.items.count_items.Given as goal
+
+abbrev pub invariant-loop-i : goal.invariant-loop-i
+invariant-loop-i l = record {
+  number : l.count ≡ length (items_of (batches_of (take l.i l.segments.items)));
+  bound : l.count ≤ l.i * 2 ^ 32;
+}

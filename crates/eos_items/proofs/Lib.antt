@@ -1,9 +1,0 @@
-pub mod PushedEntries
-pub mod IndexedBatches
-pub mod ListPlaces
-pub mod SegmentEntries
-pub mod SettledBatches
-pub mod ReadBatches
-pub mod LogPlaces
-pub mod BeginPlaces
-pub mod CursorPlaces

@@ -1,4 +1,0 @@
--- What only private functions promise: steps towards what the public calls say.
-pub mod Begins
-pub mod Entries
-pub mod Indexed

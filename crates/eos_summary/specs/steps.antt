@@ -1,6 +1,0 @@
--- What only private functions promise: steps towards what the public calls say.
-pub mod Alone
-pub mod Endings
-pub mod Joins
-pub mod Pushes
-pub mod Summaries
