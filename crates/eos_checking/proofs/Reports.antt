@@ -13,7 +13,7 @@ use Rattle.eos_partitions.specs.declared.logs.Logs.{Logs}
 use Rattle.eos_tallies.specs.Counts.{AreCounted}
 use Rattle.eos_tallies.specs.Tallies.{AreTallies}
 use Rattle.eos_tallies.specs.TalliesByLogs.{tallies_by}
-use Rattle.eos_wanted.specs.Wanted.{wanted_logs}
+use Rattle.eos_reading.specs.Wanted.{wanted_logs}
 use Rattle.eos_wanted_notes.proofs.KeptNotes.{whole_all}
 use Rattle.eos_wanted_notes.proofs.KeptTallies.{whole_tables}
 use Rattle.eos_source_check.specs.Judged.{AreKeptOf}

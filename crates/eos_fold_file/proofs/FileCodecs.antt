@@ -6,8 +6,8 @@ use Rattle.std.proofs.lemmas.Bool.{eqb-true, eq-eqb}
 use Rattle.std.proofs.lemmas.List.{append-nil, nil_from_length, take_at, length-append}
 use Rattle.eos_base.specs.Fallible.{must}
 use Rattle.eos_fold.specs.declared.stop.Stop.{Stop}
-use Rattle.eos_wanted.specs.declared.wanted.Wanted.{Wanted}
-use Rattle.eos_wanted.specs.declared.wanted.Wanted.TheVariants as wants
+use Rattle.eos_reading.specs.declared.wanted.Wanted.{Wanted}
+use Rattle.eos_reading.specs.declared.wanted.Wanted.TheVariants as wants
 use Rattle.eos_wire.specs.Crc.{crc32c_of}
 use Rattle.eos_wire.specs.Numbers.{IsBytes, i8_text, u32_at, u32_text}
 use Rattle.eos_wire.proofs.NumberTexts.{length-u32_text, u32_sound, u32_whole}

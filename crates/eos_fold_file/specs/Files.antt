@@ -14,8 +14,8 @@ use Rattle.eos_wire.specs.Crc.{crc32c_of}
 use Rattle.eos_wire.specs.Numbers.{i8_text, u32_text}
 use Rattle.eos_wire.specs.Writing.{varlong_of}
 use Rattle.eos_fold.specs.declared.stop.Stop.{Stop}
-use Rattle.eos_wanted.specs.declared.wanted.Wanted.{Wanted}
-use Rattle.eos_wanted.specs.declared.wanted.Wanted.TheVariants as wants
+use Rattle.eos_reading.specs.declared.wanted.Wanted.{Wanted}
+use Rattle.eos_reading.specs.declared.wanted.Wanted.TheVariants as wants
 use Rattle.eos_reading.specs.declared.epoch.EpochEntry.{EpochEntry}
 use Rattle.eos_fold_file.specs.declared.file.FoldFile.{FoldFile}
 use Rattle.eos_fold_file.specs.declared.file.FoldKept.{FoldKept}

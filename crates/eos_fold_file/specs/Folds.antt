@@ -14,9 +14,9 @@ use Rattle.eos_fold.specs.Fronts.{base_of, StopsAt}
 use Rattle.eos_reading.specs.Epochs.{epoch_entries}
 use Rattle.eos_reading.specs.Kept.{kept_of}
 use Rattle.eos_wire.specs.Crc.{crc32c_of}
-use Rattle.eos_keeping.specs.Outputs.{kept_output}
-use Rattle.eos_wanted.specs.declared.wanted.Wanted.{Wanted}
-use Rattle.eos_wanted.specs.declared.wanted.Wanted.TheVariants as wants
+use Rattle.eos_reading.specs.Outputs.{kept_output}
+use Rattle.eos_reading.specs.declared.wanted.Wanted.{Wanted}
+use Rattle.eos_reading.specs.declared.wanted.Wanted.TheVariants as wants
 use Rattle.eos_fold_file.specs.declared.claim.FoldText.{FoldText}
 use Rattle.eos_fold_file.specs.declared.file.FoldFile.{FoldFile}
 use Rattle.eos_fold_file.specs.declared.file.FoldKept.{FoldKept}

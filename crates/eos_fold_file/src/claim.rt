@@ -22,7 +22,7 @@ use crate::number::{
 };
 use bytes::Bytes;
 use eos_claims::{Claim, ClaimRef};
-use eos_keeping::{BoxedClaim, KeptOutput};
+use eos_reading::{BoxedClaim, KeptOutput};
 use eos_wire::{Cursor, write_i8};
 use std::alloc::{AllocError, Global};
 

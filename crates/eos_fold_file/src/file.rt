@@ -8,9 +8,7 @@ use crate::head::FoldHead;
 use bytes::Bytes;
 use eos_base::Listed;
 use eos_fold::Stop;
-use eos_keeping::KeptOutput;
-use eos_reading::EpochEntry;
-use eos_wanted::Wanted;
+use eos_reading::{EpochEntry, KeptOutput, Wanted};
 
 /// What is kept of a front's data records, by what was wanted of them.
 #[derive(Drop)]

@@ -35,9 +35,7 @@ use crate::stop::read_inside;
 use crate::texts::read_texts;
 use bytes::Bytes;
 use eos_base::Listed;
-use eos_keeping::KeptOutput;
-use eos_reading::EpochEntry;
-use eos_wanted::Wanted;
+use eos_reading::{EpochEntry, KeptOutput, Wanted};
 use eos_wire::{Cursor, are_bytes, crc32c};
 use std::alloc::Global;
 

@@ -13,8 +13,7 @@ use crate::head::FoldHead;
 use crate::number::{write_number, write_slice, write_u64};
 use crate::stop::write_stop;
 use crate::texts::write_texts;
-use eos_reading::EpochEntry;
-use eos_wanted::Wanted;
+use eos_reading::{EpochEntry, Wanted};
 use eos_wire::{crc32c, write_i8, write_u32};
 use std::alloc::{AllocError, Global};
 

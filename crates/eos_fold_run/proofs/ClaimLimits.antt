@@ -12,9 +12,9 @@ use Rattle.eos_batch.specs.declared.record.Header.{Header}
 use Rattle.eos_touch.proofs.Continuity.{abs_pos}
 use Rattle.eos_claims.specs.declared.claim.Claim.{Claim}
 use Rattle.eos_claims.specs.Headers.{◌>>=◌, claim_of, natural, int32, int64, the_value}
-use Rattle.eos_wanted.specs.Wanted.{claim_headers}
-use Rattle.eos_wanted.proofs.ClaimHeaders.{bind_some, claim_with}
-use Rattle.eos_keeping.specs.Records.{ReadsBack}
+use Rattle.eos_reading.specs.Wanted.{claim_headers}
+use Rattle.eos_reading.proofs.ClaimHeaders.{bind_some, claim_with}
+use Rattle.eos_reading.specs.Records.{ReadsBack}
 
 -- ---- a number that was read
 

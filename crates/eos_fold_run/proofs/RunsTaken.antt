@@ -14,10 +14,10 @@ use Rattle.eos_fold.specs.declared.stop.Stop.{Stop}
 use Rattle.eos_fold.specs.Fronts.{base_of, StopsAt, IsSegmentFront}
 use Rattle.eos_fold.specs.Sums.{is_checked}
 use Rattle.eos_reading.specs.Kept.{kept_from, kept_in, kept_of}
-use Rattle.eos_wanted.specs.declared.wanted.Wanted.{Wanted}
-use Rattle.eos_wanted.specs.declared.wanted.Wanted.TheVariants as wants
-use Rattle.eos_wanted.specs.Wanted.{wanted_headers}
-use Rattle.eos_keeping.specs.Records.{wanted_record, ReadsBack}
+use Rattle.eos_reading.specs.declared.wanted.Wanted.{Wanted}
+use Rattle.eos_reading.specs.declared.wanted.Wanted.TheVariants as wants
+use Rattle.eos_reading.specs.Wanted.{wanted_headers}
+use Rattle.eos_reading.specs.Records.{wanted_record, ReadsBack}
 use Rattle.eos_fold_file.specs.declared.claim.FoldText.{FoldText}
 use Rattle.eos_fold_file.specs.declared.file.FoldFile.{FoldFile}
 use Rattle.eos_fold_file.specs.declared.file.FoldKept.{FoldKept}

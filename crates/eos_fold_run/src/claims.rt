@@ -2,14 +2,14 @@
 
 ghost use Rattle.std.specs.Prelude.{◌≡◌, All, true, option_map};
 ghost use Rattle.eos_claims.specs.Slots.{plain_claim};
-ghost use Rattle.eos_keeping.specs.Outputs.{claim_kept};
-ghost use Rattle.eos_keeping.specs.Records.{ReadsBack};
+ghost use Rattle.eos_reading.specs.Outputs.{claim_kept};
+ghost use Rattle.eos_reading.specs.Records.{ReadsBack};
 ghost use Rattle.eos_fold_run.specs.steps.Kept.{AreReadBack};
 
 use bytes::Bytes;
 use eos_claims::{Claim, ClaimRef};
 use eos_fold_file::{FoldKept, FoldText};
-use eos_keeping::KeptOutput;
+use eos_reading::KeptOutput;
 
 /// Whether there are headers that say a claim, or say none. Their numbers are signed, and none of a claim is below 0.
 fn is_said(claim: Option<ClaimRef<'_>>) -> bool

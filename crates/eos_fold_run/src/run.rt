@@ -15,7 +15,7 @@ use eos_fold::is_checked;
 use eos_fold_file::{FoldFile, FoldKept, laws};
 use eos_kept::Sizes;
 use eos_part::{Asked, KeptRun};
-use eos_wanted::Wanted;
+use eos_reading::Wanted;
 use std::alloc::Global;
 
 /// Whether a fold keeps what is asked.

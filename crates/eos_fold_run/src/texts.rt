@@ -1,13 +1,13 @@
 //! What a fold keeps of the records of Kafka's own logs, as reading a log keeps it.
 
 ghost use Rattle.std.specs.Prelude.{◌≡◌, All, map, option_map, IfOk};
-ghost use Rattle.eos_keeping.specs.Records.{ReadsBack};
+ghost use Rattle.eos_reading.specs.Records.{ReadsBack};
 ghost use Rattle.eos_fold_run.specs.steps.Kept.{text_record};
 
 use crate::claims::lent;
 use bytes::Bytes;
 use eos_fold_file::FoldText;
-use eos_keeping::KeptText;
+use eos_reading::KeptText;
 use std::alloc::{AllocError, Global};
 
 /// A text's bytes, where it isn't null.

@@ -14,9 +14,7 @@ use bytes::Bytes;
 use eos_base::Listed;
 use eos_evidence::{MAX_SEGMENT_BYTES, ReadFault, Segment};
 use eos_fold_file::{FoldFile, FoldKept};
-use eos_keeping::Outputs;
-use eos_reading::Nothing;
-use eos_wanted::Wanted;
+use eos_reading::{Nothing, Outputs, Wanted};
 use std::alloc::{AllocError, Global};
 use std::io::Read;
 

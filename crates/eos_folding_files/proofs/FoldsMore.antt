@@ -14,8 +14,8 @@ use Rattle.eos_fold_file.specs.Reading.{read_fold}
 use Rattle.eos_disk.proofs.WholeFiles.{all_left, left_stands}
 use Rattle.eos_disk.specs.Paths.{file_path, partition_path, segment_path}
 use Rattle.eos_disk.specs.declared.names.Form.TheVariants.{Log, Fold}
-use Rattle.eos_wanted.specs.declared.wanted.Wanted.{Wanted}
-use Rattle.eos_wanted.specs.Wanted.{wanted_of}
+use Rattle.eos_reading.specs.declared.wanted.Wanted.{Wanted}
+use Rattle.eos_reading.specs.Wanted.{wanted_of}
 use Rattle.eos_folding_files.specs.Folding.{Item, segment_of, folder_of, fold_path, item_of, items_in, items_of, IsFoldAt, IsFoldPut, IsFoldLeft, Folded, FoldedInPart}
 use Rattle.eos_folding_files.specs.declared.folder.PartitionFolder.{PartitionFolder}
 use Rattle.eos_folding_files.proofs.Unmade.{none_made, none_left}

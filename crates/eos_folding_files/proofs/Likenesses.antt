@@ -10,7 +10,7 @@ use Rattle.eos_fold_file.specs.Folds.{IsFoldOf, IsAskedAs}
 use Rattle.eos_disk.proofs.WholeFiles.{all_left, left_stands}
 use Rattle.eos_disk.specs.Paths.{segment_path}
 use Rattle.eos_disk.specs.declared.names.Form.TheVariants.{Log}
-use Rattle.eos_wanted.specs.declared.wanted.Wanted.{Wanted}
+use Rattle.eos_reading.specs.declared.wanted.Wanted.{Wanted}
 use Rattle.eos_folding_files.specs.Verifying.{with_bytes, IsFoldText, HasFold, IsOfFront, Differs, IsLike}
 use Rattle.eos_folding_files.specs.declared.found.Likeness.TheVariants.{Right, Stale, Forged}
 

@@ -17,8 +17,8 @@ use Rattle.eos_disk.specs.declared.names.Form.TheVariants.{Log, Fold}
 use Rattle.eos_disk.specs.Paths.{file_path, partition_path}
 use Rattle.eos_disk.specs.Shapes.{AreLogsAt}
 use Rattle.eos_manifest.specs.Manifests.{has_end}
-use Rattle.eos_wanted.specs.declared.wanted.Wanted.{Wanted}
-use Rattle.eos_wanted.specs.Wanted.{wanted_of}
+use Rattle.eos_reading.specs.declared.wanted.Wanted.{Wanted}
+use Rattle.eos_reading.specs.Wanted.{wanted_of}
 use Rattle.eos_folding_files.specs.Paths.{partition_at}
 use Rattle.eos_folding_files.specs.declared.folder.PartitionFolder.{PartitionFolder}
 

@@ -15,8 +15,8 @@ use Rattle.eos_disk.specs.declared.names.Form.TheVariants.{Log, Fold}
 use Rattle.eos_disk.specs.Paths.{segment_path}
 use Rattle.eos_disk.specs.Shapes.{IsShapeAt}
 use Rattle.eos_source.specs.Topics.{AreSourceTopics}
-use Rattle.eos_wanted.specs.declared.wanted.Wanted.{Wanted}
-use Rattle.eos_wanted.specs.Wanted.{wanted_of}
+use Rattle.eos_reading.specs.declared.wanted.Wanted.{Wanted}
+use Rattle.eos_reading.specs.Wanted.{wanted_of}
 use Rattle.eos_folding_files.specs.declared.found.Likeness.{Likeness}
 use Rattle.eos_folding_files.specs.declared.found.Likeness.TheVariants.{Right, Stale, Forged}
 use Rattle.eos_folding_files.specs.declared.found.Found.{Found}

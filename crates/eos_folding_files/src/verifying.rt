@@ -19,7 +19,7 @@ use eos_evidence::{ReadFault, Segment};
 use eos_fold_file::{FoldFault, decode_fold, encode_fold};
 use eos_folding::fold_of;
 use eos_source::source_topics;
-use eos_wanted::{Wanted, Wants};
+use eos_reading::{Wanted, Wants};
 use std::alloc::{AllocError, Global};
 use std::io::Read;
 

@@ -19,14 +19,14 @@ use Rattle.eos_kept.specs.declared.sizes.Sizes.{Sizes}
 use Rattle.eos_kept.specs.Kept.{KeptView, KeepsFront}
 use Rattle.eos_kept.specs.Passing.{data_count, HoldsEach}
 use Rattle.eos_claims.specs.Headers.{claim_of}
-use Rattle.eos_wanted.specs.declared.wanted.Wanted.TheVariants as wants
-use Rattle.eos_wanted.specs.Wanted.{wanted_item, wanted_headers}
-use Rattle.eos_wanted.proofs.SameThrough.{pairs_same}
-use Rattle.eos_wanted.proofs.WantedItems.{rises_kept}
+use Rattle.eos_reading.specs.declared.wanted.Wanted.TheVariants as wants
+use Rattle.eos_reading.specs.Wanted.{wanted_item, wanted_headers}
+use Rattle.eos_reading.proofs.SameThrough.{pairs_same}
+use Rattle.eos_reading.proofs.WantedItems.{rises_kept}
 use Rattle.eos_claims.specs.declared.claim.Claim.{Claim}
-use Rattle.eos_keeping.specs.declared.output.KeptOutput.{KeptOutput}
-use Rattle.eos_keeping.specs.Outputs.{claim_kept}
-use Rattle.eos_keeping.specs.Records.{record_of, wanted_record, ReadsBack}
+use Rattle.eos_reading.specs.declared.output.KeptOutput.{KeptOutput}
+use Rattle.eos_reading.specs.Outputs.{claim_kept}
+use Rattle.eos_reading.specs.Records.{record_of, wanted_record, ReadsBack}
 use Rattle.eos_part.specs.Items.{items_at, items_under, Fits}
 use Rattle.eos_part.specs.Parts.{AllKept}
 use Rattle.eos_part.specs.Records.{output_record, SaysClaim, SayClaims}

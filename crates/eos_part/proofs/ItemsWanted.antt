@@ -8,10 +8,10 @@ use Rattle.eos_fold.specs.Batches.{DataBatch}
 use Rattle.eos_fold.specs.Heads.{data_head}
 use Rattle.eos_fold.specs.Items.{item_of, items_from, items_in, items_of}
 use Rattle.eos_run.specs.Runs.{heads_of}
-use Rattle.eos_wanted.specs.declared.wanted.Wanted.{Wanted}
-use Rattle.eos_wanted.specs.declared.wanted.Wanted.TheVariants.{Presence, Claims, Texts}
-use Rattle.eos_wanted.specs.Wanted.{wanted_item}
-use Rattle.eos_keeping.specs.Records.{wanted_record}
+use Rattle.eos_reading.specs.declared.wanted.Wanted.{Wanted}
+use Rattle.eos_reading.specs.declared.wanted.Wanted.TheVariants.{Presence, Claims, Texts}
+use Rattle.eos_reading.specs.Wanted.{wanted_item}
+use Rattle.eos_reading.specs.Records.{wanted_record}
 use Rattle.eos_part.specs.Items.{item_at, items_at, items_under}
 use Rattle.eos_part.specs.steps.Fronts.{records_of}
 

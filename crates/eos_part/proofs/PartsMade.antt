@@ -43,14 +43,14 @@ use Rattle.eos_kept.specs.declared.sizes.Sizes.{Sizes}
 use Rattle.eos_kept.specs.Kept.{KeptView, KeepsFront, IsKept}
 use Rattle.eos_kept.specs.Sizes.{AreSized}
 use Rattle.eos_claims.specs.Headers.{claim_of}
-use Rattle.eos_wanted.specs.declared.wanted.Wanted.{Wanted}
-use Rattle.eos_wanted.specs.declared.wanted.Wanted.TheVariants as wants
-use Rattle.eos_wanted.specs.Wanted.{wanted_item}
-use Rattle.eos_keeping.specs.declared.output.KeptOutput.{KeptOutput}
-use Rattle.eos_keeping.specs.Outputs.{kept_output, claim_kept}
-use Rattle.eos_keeping.specs.Records.{record_of, wanted_record, ReadsBack}
-use Rattle.eos_keeping.proofs.ExactClaims.{exact_claim}
-use Rattle.eos_wanted.proofs.ClaimHeaders.{back}
+use Rattle.eos_reading.specs.declared.wanted.Wanted.{Wanted}
+use Rattle.eos_reading.specs.declared.wanted.Wanted.TheVariants as wants
+use Rattle.eos_reading.specs.Wanted.{wanted_item}
+use Rattle.eos_reading.specs.declared.output.KeptOutput.{KeptOutput}
+use Rattle.eos_reading.specs.Outputs.{kept_output, claim_kept}
+use Rattle.eos_reading.specs.Records.{record_of, wanted_record, ReadsBack}
+use Rattle.eos_reading.proofs.ExactClaims.{exact_claim}
+use Rattle.eos_reading.proofs.ClaimHeaders.{back}
 use Rattle.eos_part.specs.declared.records.Records.{Records}
 use Rattle.eos_reading.specs.declared.epoch.EpochEntry.{EpochEntry}
 use Rattle.eos_part.specs.Parts.{AreKept, HasBatches, HasEpochs, IsWantedPart}

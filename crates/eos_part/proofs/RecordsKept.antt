@@ -15,8 +15,8 @@ use Rattle.eos_fold.specs.declared.close.Close.{Close}
 use Rattle.eos_fold.specs.Closes.{close_in, closes_in}
 use Rattle.eos_reading.specs.Kept.{kept_from, kept_in, kept_of}
 use Rattle.eos_run.specs.Runs.{heads_of}
-use Rattle.eos_wanted.specs.declared.wanted.Wanted.{Wanted}
-use Rattle.eos_keeping.specs.Records.{wanted_record}
+use Rattle.eos_reading.specs.declared.wanted.Wanted.{Wanted}
+use Rattle.eos_reading.specs.Records.{wanted_record}
 use Rattle.eos_part.specs.steps.Closes.{closes_under}
 use Rattle.eos_part.specs.Items.{Fits}
 use Rattle.eos_part.specs.steps.Fronts.{records_of}

@@ -9,11 +9,11 @@ use Rattle.eos_batch.specs.declared.record.Record.{Record}
 use Rattle.eos_fold.specs.Batches.{DataBatch}
 use Rattle.eos_fold.specs.Items.{items_from, items_in, items_of}
 use Rattle.eos_claims.specs.Headers.{claim_of}
-use Rattle.eos_wanted.specs.declared.wanted.Wanted.{Wanted}
-use Rattle.eos_wanted.specs.declared.wanted.Wanted.TheVariants.{Presence, Claims, Texts}
-use Rattle.eos_wanted.specs.Wanted.{wanted_headers}
-use Rattle.eos_wanted.proofs.ClaimHeaders.{back}
-use Rattle.eos_keeping.specs.Records.{wanted_record}
+use Rattle.eos_reading.specs.declared.wanted.Wanted.{Wanted}
+use Rattle.eos_reading.specs.declared.wanted.Wanted.TheVariants.{Presence, Claims, Texts}
+use Rattle.eos_reading.specs.Wanted.{wanted_headers}
+use Rattle.eos_reading.proofs.ClaimHeaders.{back}
+use Rattle.eos_reading.specs.Records.{wanted_record}
 use Rattle.eos_part.specs.Records.{SaysClaim, SayClaims}
 use Rattle.eos_part.specs.steps.Fronts.{records_of}
 

@@ -18,8 +18,8 @@ use Rattle.eos_reading.specs.declared.epoch.EpochEntry.{EpochEntry}
 use Rattle.eos_reading.specs.Epochs.{epoch_entries}
 use Rattle.eos_kept.specs.Kept.{KeptView, IsKept}
 use Rattle.eos_kept.specs.Sizes.{AreSized}
-use Rattle.eos_wanted.specs.declared.wanted.Wanted.{Wanted}
-use Rattle.eos_wanted.specs.Wanted.{wanted_log}
+use Rattle.eos_reading.specs.declared.wanted.Wanted.{Wanted}
+use Rattle.eos_reading.specs.Wanted.{wanted_log}
 use Rattle.eos_part.specs.declared.part.Told.{Told}
 
 -- what is kept of these segments, or there are none

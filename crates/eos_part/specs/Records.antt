@@ -2,10 +2,10 @@
 use Rattle.std.specs.Prelude.{◌≡◌, ℕ, List, None, map, All, ⊤}
 use Rattle.eos_batch.specs.declared.record.Record.{Record}
 use Rattle.eos_claims.specs.Headers.{claim_of}
-use Rattle.eos_keeping.specs.declared.output.KeptOutput.{KeptOutput}
-use Rattle.eos_keeping.specs.Outputs.{claim_kept}
-use Rattle.eos_keeping.specs.Records.{record_of, ReadsBack}
-use Rattle.eos_wanted.specs.Wanted.{wanted_headers}
+use Rattle.eos_reading.specs.declared.output.KeptOutput.{KeptOutput}
+use Rattle.eos_reading.specs.Outputs.{claim_kept}
+use Rattle.eos_reading.specs.Records.{record_of, ReadsBack}
+use Rattle.eos_reading.specs.Wanted.{wanted_headers}
 use Rattle.eos_part.specs.declared.records.Records.{Records}
 use Rattle.eos_part.specs.declared.records.Records.TheVariants.{Presence, Claims, Texts}
 

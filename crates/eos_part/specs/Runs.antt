@@ -2,12 +2,12 @@
 use Rattle.std.specs.Prelude.{ℕ, List, All, ⊤}
 use Rattle.eos_claims.specs.Headers.{claim_of}
 use Rattle.eos_evidence.specs.declared.segment.Segment.{Segment}
-use Rattle.eos_keeping.specs.Outputs.{kept_output, claim_kept}
-use Rattle.eos_keeping.specs.Records.{wanted_record, ReadsBack}
+use Rattle.eos_reading.specs.Outputs.{kept_output, claim_kept}
+use Rattle.eos_reading.specs.Records.{wanted_record, ReadsBack}
 use Rattle.eos_kept.specs.declared.front.Front.{Front}
 use Rattle.eos_kept.specs.Kept.{IsKept, SameKept}
-use Rattle.eos_wanted.specs.declared.wanted.Wanted.{Wanted}
-use Rattle.eos_wanted.specs.declared.wanted.Wanted.TheVariants as wants
+use Rattle.eos_reading.specs.declared.wanted.Wanted.{Wanted}
+use Rattle.eos_reading.specs.declared.wanted.Wanted.TheVariants as wants
 use Rattle.eos_part.specs.declared.run.KeptRun.{KeptRun}
 use Rattle.eos_part.specs.declared.run.KeptRun.TheVariants.{Presence, Claims, Texts}
 use Rattle.eos_part.specs.Records.{SaysClaim}

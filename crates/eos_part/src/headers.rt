@@ -2,7 +2,7 @@
 
 ghost use Rattle.std.specs.Prelude.{◌≡◌, pos, IfOk, option_map};
 ghost use Rattle.eos_claims.specs.Slots.{plain_claim};
-ghost use Rattle.eos_wanted.specs.Wanted.{header, claim_headers, wanted_headers};
+ghost use Rattle.eos_reading.specs.Wanted.{header, claim_headers, wanted_headers};
 ghost use Rattle.eos_wire.specs.Numbers.{i32_text, i64_text};
 
 use bytes::Bytes;

@@ -10,7 +10,7 @@ use crate::headers::headers_of;
 use bytes::Bytes;
 use eos_claims::ClaimRef;
 use eos_fold::{DataHead, Fate, Item};
-use eos_keeping::KeptRecord;
+use eos_reading::KeptRecord;
 use std::alloc::{AllocError, Global};
 use std::marker::Model;
 

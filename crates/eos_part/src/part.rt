@@ -3,12 +3,12 @@
 ghost use Rattle.std.specs.Prelude.{◌≡◌, IfOk};
 ghost use Rattle.eos_claims.specs.Headers.{claim_of};
 ghost use Rattle.eos_fold.specs.Parts.{Rises, Ascends};
-ghost use Rattle.eos_keeping.specs.Outputs.{kept_output, claim_kept};
-ghost use Rattle.eos_keeping.specs.Records.{wanted_record, ReadsBack};
+ghost use Rattle.eos_reading.specs.Outputs.{kept_output, claim_kept};
+ghost use Rattle.eos_reading.specs.Records.{wanted_record, ReadsBack};
 ghost use Rattle.eos_part.specs.Parts.{AllKept, IsMade};
 ghost use Rattle.eos_part.specs.steps.Fronts.{AreEach, IsPartFrom};
 ghost use Rattle.eos_part.specs.Records.{records_in, ReadBack, SaysClaim, SayClaims};
-ghost use Rattle.eos_wanted.specs.declared.wanted.Wanted.TheVariants.{Presence, Claims, Texts};
+ghost use Rattle.eos_reading.specs.declared.wanted.Wanted.TheVariants.{Presence, Claims, Texts};
 
 use crate::apart::apart;
 use crate::close::closes_of;
@@ -20,9 +20,8 @@ use eos_base::Listed;
 use eos_batch::Marker;
 use eos_evidence::End;
 use eos_fold::Close;
-use eos_keeping::{KeptOutput, KeptText};
+use eos_reading::{EpochEntry, KeptOutput, KeptText};
 use eos_kept::{Front, Kept, Sizes};
-use eos_reading::EpochEntry;
 use eos_touch::PartitionFault;
 use std::alloc::{AllocError, Global};
 use std::marker::Model;

@@ -4,7 +4,7 @@ ghost use Rattle.std.specs.Prelude.{◌≡◌, ◌<◌, [], length, slice_get, S
 ghost use Rattle.eos_part.specs.Records.{records_in, ReadBack};
 
 use bytes::Bytes;
-use eos_keeping::{KeptOutput, KeptRecord, KeptText};
+use eos_reading::{KeptOutput, KeptRecord, KeptText};
 
 /// What is kept of a log's data records, in order.
 #[derive(Drop)]

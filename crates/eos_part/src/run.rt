@@ -8,10 +8,8 @@ ghost use Rattle.eos_part.specs.Runs.{IsKeptRun, HasClaims, wanted_by, front_of,
 
 use bytes::Bytes;
 use eos_evidence::{MAX_SEGMENT_BYTES, ReadFault};
-use eos_keeping::{KeptOutput, KeptText, Outputs, Texts};
+use eos_reading::{KeptOutput, KeptText, Nothing, Outputs, Texts, Wanted};
 use eos_kept::{Kept, fold_segment};
-use eos_reading::Nothing;
-use eos_wanted::Wanted;
 use std::alloc::Global;
 use std::io::Read;
 

@@ -6,7 +6,7 @@ ghost use Rattle.eos_evidence.specs.declared.segment.Segment.{Segment};
 ghost use Rattle.eos_fold.specs.Standing.{IsPartitionFault, AreOf};
 ghost use Rattle.eos_kept.specs.Kept.{KeepsFront};
 ghost use Rattle.eos_kept.specs.Passing.{HoldsEach};
-ghost use Rattle.eos_wanted.specs.declared.wanted.Wanted.{Wanted};
+ghost use Rattle.eos_reading.specs.declared.wanted.Wanted.{Wanted};
 ghost use Rattle.eos_part.specs.steps.Fronts.{AreRead, AreEach, AreWhole, IsWholeFront, IsChecked};
 ghost use Rattle.eos_part.specs.Records.{records_in, ReadBack, SayClaims};
 

@@ -5,3 +5,10 @@ pub mod SealTexts
 pub mod SealSteps
 pub mod SealLists
 pub mod EpochLists
+pub mod ExactClaims
+pub mod SameThrough
+pub mod ClaimHeaders
+pub mod WantedItems
+pub mod TopicSearch
+pub mod NamedHeaders
+pub mod SaidClaims

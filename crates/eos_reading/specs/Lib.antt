@@ -6,3 +6,8 @@ pub mod Places
 pub mod Runs
 pub mod Seals
 pub mod steps
+pub mod Outputs
+pub mod Records
+pub mod Names
+pub mod Wanted
+pub mod Named

@@ -6,21 +6,39 @@
 #![tactic(auto)]
 
 mod batch;
+mod boxed;
 mod epoch;
 mod fold;
 mod folded;
+pub mod laws;
 mod log;
 mod nothing;
+mod output;
+mod outputs;
 mod placed;
 mod reading;
+mod record;
 mod seals;
+mod text;
+mod texts;
+mod wanted;
+pub mod wanted_laws;
+mod wants;
 
 pub use batch::keep_batches;
+pub use boxed::BoxedClaim;
 pub use epoch::{EpochEntry, append_entries, is_change};
 pub use fold::Fold;
 pub use folded::Folded;
 pub use log::fold_log;
 pub use nothing::Nothing;
+pub use output::KeptOutput;
+pub use outputs::Outputs;
 pub use placed::Placed;
 pub use reading::Reading;
+pub use record::KeptRecord;
 pub use seals::{Seal, push_entries, read_seals};
+pub use text::KeptText;
+pub use texts::Texts;
+pub use wanted::Wanted;
+pub use wants::Wants;

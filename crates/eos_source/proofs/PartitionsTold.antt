@@ -14,8 +14,8 @@ use Rattle.eos_part.specs.declared.part.Told.{Told}
 use Rattle.eos_part.specs.declared.run.KeptRun.{KeptRun}
 use Rattle.eos_kept.specs.Kept.{KeptView}
 use Rattle.eos_part.specs.Parts.{AreKept, IsTold, IsMade}
-use Rattle.eos_wanted.specs.declared.wanted.Wanted.{Wanted}
-use Rattle.eos_wanted.specs.Wanted.{wanted_of}
+use Rattle.eos_reading.specs.declared.wanted.Wanted.{Wanted}
+use Rattle.eos_reading.specs.Wanted.{wanted_of}
 use Rattle.eos_source.specs.declared.logs.KeptLogs.{KeptLogs}
 use Rattle.eos_source.specs.Logs.{AreTold, AreColumns, AreLogsKept, AreKeptLogs, tally_of}
 use Rattle.eos_source.specs.Said.{Said, Known}

@@ -6,14 +6,14 @@ ghost use Rattle.eos_evidence.specs.Parts.{outputs_of};
 ghost use Rattle.eos_evidence.specs.declared.segment.Segment.{Segment};
 ghost use Rattle.eos_source.specs.Said.{known_by};
 ghost use Rattle.eos_source.specs.steps.Runs.{IsSlot};
-ghost use Rattle.eos_wanted.specs.Wanted.{wanted_of};
+ghost use Rattle.eos_reading.specs.Wanted.{wanted_of};
 
 use crate::piece::read_piece;
 use crate::source::Source;
 use bytes::Bytes;
 use eos_evidence::Evidence;
 use eos_part::{Asked, KeptRun};
-use eos_wanted::Wants;
+use eos_reading::Wants;
 use std::alloc::Global;
 
 /// Where the pieces of an evidence of this shape are read from, and what is asked of them.

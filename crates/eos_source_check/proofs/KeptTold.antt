@@ -9,7 +9,7 @@ use Rattle.eos_part.specs.Parts.{HaveEpochs}
 use Rattle.eos_partitions.specs.Faults.{AreFaultsIn}
 use Rattle.eos_tallies.specs.Counts.{AreCounted}
 use Rattle.eos_tallies.specs.PartitionTallies.{HasBatches}
-use Rattle.eos_wanted.specs.Wanted.{wanted_log, wanted_of, kept_log, wanted_logs}
+use Rattle.eos_reading.specs.Wanted.{wanted_log, wanted_of, kept_log, wanted_logs}
 use Rattle.eos_source.specs.Logs.{AreTold, tally_of}
 use Rattle.eos_source_check.specs.steps.Apart.{counted_as}
 

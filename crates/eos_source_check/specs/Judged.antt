@@ -9,7 +9,7 @@ use Rattle.eos_check.specs.Verdicts.{IsVerdict}
 use Rattle.eos_part.specs.Parts.{HaveEpochs}
 use Rattle.eos_partitions.specs.Faults.{AreFaultsIn}
 use Rattle.eos_partitions.specs.declared.logs.Logs.{Logs}
-use Rattle.eos_wanted.specs.Wanted.{wanted_logs}
+use Rattle.eos_reading.specs.Wanted.{wanted_logs}
 use Rattle.eos_source.specs.Said.{Known}
 use Rattle.eos_source.specs.Shapes.{HoldsAsSaid}
 use Rattle.eos_tallies.specs.Counts.{AreCounted}

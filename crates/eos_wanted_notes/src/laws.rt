@@ -20,7 +20,7 @@ ghost use Rattle.eos_tallies.specs.Tallies.{AreTallies};
 ghost use Rattle.eos_tallies.specs.TalliesByLogs.{tallies_by};
 ghost use Rattle.eos_tallies.specs.declared.tally.Counted.{Counted};
 ghost use Rattle.eos_touch.specs.declared.fault.PartitionFault.{PartitionFault};
-ghost use Rattle.eos_wanted.specs.Wanted.{wanted_logs};
+ghost use Rattle.eos_reading.specs.Wanted.{wanted_logs};
 
 /// Notes by kept logs are those by the logs, and with the faults of an evidence's partitions they are the evidence's; so is their
 /// text. So it is of all notes, with the entries of its partitions' leader epochs.

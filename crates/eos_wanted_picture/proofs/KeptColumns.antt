@@ -12,8 +12,8 @@ use Rattle.eos_picture.specs.declared.mark.Column.{Column}
 use Rattle.eos_picture.specs.declared.mark.Picture.{Picture}
 use Rattle.eos_picture.specs.Transactions.{column_at, decided_in, undecided_column, AreColumns}
 use Rattle.eos_picture.specs.Window.{named_by, IsOnly, IsOfRecordAt, IsWindow}
-use Rattle.eos_wanted.specs.Wanted.{wanted_item, wanted_of, kept_log, wanted_logs}
-use Rattle.eos_wanted.specs.declared.wanted.Wanted.TheVariants.{Texts}
+use Rattle.eos_reading.specs.Wanted.{wanted_item, wanted_of, kept_log, wanted_logs}
+use Rattle.eos_reading.specs.declared.wanted.Wanted.TheVariants.{Texts}
 use Rattle.eos_wanted_picture.proofs.SeenSame.{flat_seen}
 use Rattle.eos_wanted_picture.proofs.KeptStandings.{shown_kept}
 use Rattle.eos_wanted_picture.proofs.KeptTexts.{offset_kept, writer_kept, transactions_kept}

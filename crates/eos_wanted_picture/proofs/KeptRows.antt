@@ -20,7 +20,7 @@ use Rattle.eos_picture.specs.Marks.{IsWritten, IsDecided, IsMarked, IsUnraised, 
 use Rattle.eos_picture.specs.Ends.{ends, HasNone}
 use Rattle.eos_picture.specs.Signs.{IsOf}
 use Rattle.eos_picture.specs.Whole.{IsMarkOf, Shows, ShowsDecision, ShowsEnds, ShowsClose, IsWhole, IsCovered, HasWholeRows}
-use Rattle.eos_wanted.specs.Wanted.{wanted_logs}
+use Rattle.eos_reading.specs.Wanted.{wanted_logs}
 use Rattle.eos_wanted_picture.proofs.SeenLogs.{seen, Alike, back, like, like_item, all_seen}
 
 abbrev number_of : PartitionName → ℤ

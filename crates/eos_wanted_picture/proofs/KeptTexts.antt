@@ -11,9 +11,9 @@ use Rattle.eos_evidence.specs.Topics.{is_internal}
 use Rattle.eos_fold.specs.declared.item.Item.{Item}
 use Rattle.eos_fold.specs.Parts.{PartLog}
 use Rattle.eos_table.specs.TransactionLog.{is_transaction_part}
-use Rattle.eos_wanted.specs.Wanted.{wanted_item, wanted_log, kept_log}
-use Rattle.eos_wanted.specs.declared.wanted.Wanted.{Wanted}
-use Rattle.eos_wanted.specs.declared.wanted.Wanted.TheVariants.{Presence, Claims, Texts}
+use Rattle.eos_reading.specs.Wanted.{wanted_item, wanted_log, kept_log}
+use Rattle.eos_reading.specs.declared.wanted.Wanted.{Wanted}
+use Rattle.eos_reading.specs.declared.wanted.Wanted.TheVariants.{Presence, Claims, Texts}
 
 pub offset_kept : (w : Wanted) (x : Item) → (wanted_item w x).offset ≡ x.offset
 offset_kept Presence x = refl

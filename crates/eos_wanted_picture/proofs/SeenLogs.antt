@@ -9,10 +9,10 @@ use Rattle.eos_fold.specs.declared.close.Close.{Close}
 use Rattle.eos_fold.specs.Parts.{PartLog, part_name}
 use Rattle.eos_fold.specs.declared.item.Fate.{Fate}
 use Rattle.eos_fold.specs.declared.item.Item.{Item}
-use Rattle.eos_wanted.specs.Wanted.{wanted_item, wanted_of, kept_log, wanted_logs}
-use Rattle.eos_wanted.specs.declared.wanted.Wanted.{Wanted}
-use Rattle.eos_wanted.specs.declared.wanted.Wanted.TheVariants.{Presence, Claims, Texts}
-use Rattle.eos_wanted.proofs.SameThrough.{has_same}
+use Rattle.eos_reading.specs.Wanted.{wanted_item, wanted_of, kept_log, wanted_logs}
+use Rattle.eos_reading.specs.declared.wanted.Wanted.{Wanted}
+use Rattle.eos_reading.specs.declared.wanted.Wanted.TheVariants.{Presence, Claims, Texts}
+use Rattle.eos_reading.proofs.SameThrough.{has_same}
 use Rattle.eos_wanted_picture.proofs.SeenSame.{map_seen}
 
 abbrev pub SeenItem : Type 0

@@ -13,7 +13,7 @@ ghost use Rattle.eos_picture.specs.Window.{IsWindow};
 ghost use Rattle.eos_picture.specs.declared.mark.Column.{Column};
 ghost use Rattle.eos_picture.specs.declared.mark.Picture.{Picture};
 ghost use Rattle.eos_picture.specs.declared.mark.Row.{Row};
-ghost use Rattle.eos_wanted.specs.Wanted.{wanted_logs};
+ghost use Rattle.eos_reading.specs.Wanted.{wanted_logs};
 
 /// Rows are true of kept logs exactly where they are true of the logs, and leave nothing of them out exactly where they leave nothing
 /// of the logs out.

@@ -18,9 +18,9 @@ use Rattle.eos_lineage.specs.Lineage.{is_part_of, parts_of, place_in, inputs_in,
 use Rattle.eos_lineage.specs.declared.fault.LineageFault.TheVariants.{Record, Output}
 use Rattle.eos_lineage.specs.Faults.{StandsInOutputs, Stands}
 use Rattle.eos_lineage.proofs.LineageLaw.{law as lineage_law}
-use Rattle.eos_wanted.specs.Wanted.{wanted_item, wanted_of, kept_log, wanted_logs}
-use Rattle.eos_wanted.specs.declared.wanted.Wanted.{Wanted}
-use Rattle.eos_wanted.specs.declared.wanted.Wanted.TheVariants.{Texts}
+use Rattle.eos_reading.specs.Wanted.{wanted_item, wanted_of, kept_log, wanted_logs}
+use Rattle.eos_reading.specs.declared.wanted.Wanted.{Wanted}
+use Rattle.eos_reading.specs.declared.wanted.Wanted.TheVariants.{Texts}
 use Rattle.eos_wanted_verdict.specs.KeptVerdicts.{StandAlike}
 use Rattle.eos_wanted_verdict.proofs.SeenSame.{flat_seen}
 use Rattle.eos_wanted_verdict.proofs.StandingAlike.{back, none_from}

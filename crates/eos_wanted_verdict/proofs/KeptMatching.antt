@@ -14,8 +14,8 @@ use Rattle.eos_table.specs.declared.match_fault.MatchFaultKind.TheVariants.{Twic
 use Rattle.eos_table.specs.Atomic.{EndsAs, Ends, Atomic}
 use Rattle.eos_table.specs.MatchFaults.{AtData, AtMarker, StandsAs, Stands}
 use Rattle.eos_table.proofs.AtomicLaw.{law as atomic_law}
-use Rattle.eos_wanted.specs.Wanted.{kept_log, wanted_logs}
-use Rattle.eos_wanted.proofs.SameThrough.{has_same}
+use Rattle.eos_reading.specs.Wanted.{kept_log, wanted_logs}
+use Rattle.eos_reading.proofs.SameThrough.{has_same}
 use Rattle.eos_wanted_verdict.specs.KeptVerdicts.{StandAlike}
 use Rattle.eos_wanted_verdict.proofs.SeenSame.{map_seen}
 

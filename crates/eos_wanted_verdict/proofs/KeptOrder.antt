@@ -10,8 +10,8 @@ use Rattle.eos_fold.specs.Parts.{part_name, PartLog, Rises}
 use Rattle.eos_commits.specs.Faults as commits
 use Rattle.eos_table.specs.TransactionLog.{is_transaction_part, transaction_parts}
 use Rattle.eos_table.specs.TransactionLog as table
-use Rattle.eos_wanted.specs.Wanted.{wanted_item, wanted_of, kept_log, wanted_logs}
-use Rattle.eos_wanted.proofs.SameThrough.{has_same, pairs_same}
+use Rattle.eos_reading.specs.Wanted.{wanted_item, wanted_of, kept_log, wanted_logs}
+use Rattle.eos_reading.proofs.SameThrough.{has_same, pairs_same}
 use Rattle.eos_wanted_verdict.proofs.SeenSame.{map_seen, filter_seen}
 use Rattle.eos_wanted_verdict.proofs.KeptRecords.{offset_kept}
 

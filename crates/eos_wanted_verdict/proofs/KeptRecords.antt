@@ -16,10 +16,10 @@ use Rattle.eos_fold.specs.Parts.{PartLog}
 use Rattle.eos_commits.specs.Visible.{is_visible, visible}
 use Rattle.eos_commits.specs.Commits.{is_offsets_part}
 use Rattle.eos_table.specs.TransactionLog.{is_transaction_part}
-use Rattle.eos_wanted.specs.Wanted.{wanted_item, wanted_log, wanted_of, kept_log}
-use Rattle.eos_wanted.specs.declared.wanted.Wanted.{Wanted}
-use Rattle.eos_wanted.specs.declared.wanted.Wanted.TheVariants.{Presence, Claims, Texts}
-use Rattle.eos_wanted.proofs.ClaimHeaders.{back}
+use Rattle.eos_reading.specs.Wanted.{wanted_item, wanted_log, wanted_of, kept_log}
+use Rattle.eos_reading.specs.declared.wanted.Wanted.{Wanted}
+use Rattle.eos_reading.specs.declared.wanted.Wanted.TheVariants.{Presence, Claims, Texts}
+use Rattle.eos_reading.proofs.ClaimHeaders.{back}
 use Rattle.eos_wanted_verdict.proofs.SeenSame.{filter_seen, flat_seen}
 
 -- ---- records

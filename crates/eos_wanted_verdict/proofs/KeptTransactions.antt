@@ -10,9 +10,9 @@ use Rattle.eos_table.specs.declared.log_fault.LogFaultKind.{LogFaultKind}
 use Rattle.eos_table.specs.declared.log_fault.LogFaultKind.TheVariants.{BadRecord, Step, SplitId, SharedProducer, Unfinished}
 use Rattle.eos_table.specs.LogFaults.{AtStep, StandsAs, Stands}
 use Rattle.eos_table.specs.TransactionLog.{Id, State, Unskipped, nothing, flat, content_at, content_of, next_state, step_at, steps_after, state_after, steps_of, all_steps, last_of, decision_of, decisions_of, is_unfinished, IsTransactionLog, is_transaction_part, transaction_parts}
-use Rattle.eos_wanted.specs.Wanted.{wanted_item, wanted_log, kept_log, wanted_logs}
-use Rattle.eos_wanted.specs.declared.wanted.Wanted.TheVariants.{Texts}
-use Rattle.eos_wanted.proofs.SameThrough.{has_same}
+use Rattle.eos_reading.specs.Wanted.{wanted_item, wanted_log, kept_log, wanted_logs}
+use Rattle.eos_reading.specs.declared.wanted.Wanted.TheVariants.{Texts}
+use Rattle.eos_reading.proofs.SameThrough.{has_same}
 use Rattle.eos_wanted_verdict.specs.KeptVerdicts.{StandAlike}
 use Rattle.eos_wanted_verdict.proofs.SeenSame.{map_seen, filter_seen}
 use Rattle.eos_wanted_verdict.proofs.KeptRecords.{transactions_kept}

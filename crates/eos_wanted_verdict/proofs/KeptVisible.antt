@@ -16,9 +16,9 @@ use Rattle.eos_commits.specs.Visible.{visible, VisibleIn}
 use Rattle.eos_commits.specs.Commits.{Group, is_offsets_part, offsets_parts, key_at, key_of, value_of, IsUnderGroup}
 use Rattle.eos_commits.specs.Kept.{is_output_part, output_parts}
 use Rattle.eos_commits.specs.Faults.{AtRecord, CannotRead, IsSplit, StandsAs, Stands}
-use Rattle.eos_wanted.specs.Wanted.{wanted_item, wanted_log, wanted_of, kept_log, wanted_logs}
-use Rattle.eos_wanted.specs.declared.wanted.Wanted.TheVariants.{Texts}
-use Rattle.eos_wanted.proofs.SameThrough.{has_same}
+use Rattle.eos_reading.specs.Wanted.{wanted_item, wanted_log, wanted_of, kept_log, wanted_logs}
+use Rattle.eos_reading.specs.declared.wanted.Wanted.TheVariants.{Texts}
+use Rattle.eos_reading.proofs.SameThrough.{has_same}
 use Rattle.eos_wanted_verdict.specs.KeptVerdicts.{StandAlike}
 use Rattle.eos_wanted_verdict.proofs.SeenSame.{filter_seen}
 use Rattle.eos_wanted_verdict.proofs.KeptRecords.{offset_kept, visible_seen, offsets_kept, claims_kept}

@@ -11,7 +11,7 @@ use Rattle.eos_check.specs.declared.verdict.Fault.TheVariants.{Partition as InPa
 use Rattle.eos_check.specs.declared.verdict.Verdict.{Verdict}
 use Rattle.eos_check.specs.declared.verdict.Verdict.TheVariants.{Yes, No}
 use Rattle.eos_check.specs.Verdicts.{StandsInPartitions, StandsInLog, StandsInMatching, verdict_cmp, AreCounts}
-use Rattle.eos_wanted.specs.Wanted.{wanted_logs}
+use Rattle.eos_reading.specs.Wanted.{wanted_logs}
 
 -- what stands in the one stands in the other
 abbrev pub StandAlike : {X : Type 0} → (X → Type 0) → (X → Type 0) → Type 0

@@ -1,8 +1,8 @@
 -- What a fold keeps, as reading its segment keeps it.
 use Rattle.std.specs.Prelude.{ℕ, List, [], All, ⊤}
 use Rattle.eos_batch.specs.declared.record.Record.{Record}
-use Rattle.eos_keeping.specs.Outputs.{claim_kept}
-use Rattle.eos_keeping.specs.Records.{record_of, ReadsBack}
+use Rattle.eos_reading.specs.Outputs.{claim_kept}
+use Rattle.eos_reading.specs.Records.{record_of, ReadsBack}
 use Rattle.eos_fold_file.specs.declared.claim.FoldText.{FoldText}
 use Rattle.eos_fold_file.specs.declared.file.FoldKept.{FoldKept}
 use Rattle.eos_fold_file.specs.declared.file.FoldKept.TheVariants.{Presence, Claims, Texts}

@@ -16,8 +16,8 @@ use Rattle.eos_kept.specs.declared.sizes.Sizes.{Sizes}
 use Rattle.eos_kept.specs.Kept.{KeptView, KeepsFront, IsFrontOf}
 use Rattle.eos_kept.specs.Passing.{HoldsEach}
 use Rattle.eos_kept.specs.Sizes.{AreSized}
-use Rattle.eos_wanted.specs.declared.wanted.Wanted.{Wanted}
-use Rattle.eos_keeping.specs.Records.{wanted_record}
+use Rattle.eos_reading.specs.declared.wanted.Wanted.{Wanted}
+use Rattle.eos_reading.specs.Records.{wanted_record}
 use Rattle.eos_part.specs.declared.records.Records.{Records}
 use Rattle.eos_part.specs.declared.part.Told.{Told}
 use Rattle.eos_part.specs.Parts.{IsTold}

@@ -6,7 +6,7 @@ use Rattle.eos_evidence.specs.declared.segment.Segment.{Segment}
 use Rattle.eos_evidence.specs.Evidence.{segments_of}
 use Rattle.eos_part.specs.declared.part.Told.{Told}
 use Rattle.eos_part.specs.Parts.{IsTold}
-use Rattle.eos_wanted.specs.Wanted.{wanted_of}
+use Rattle.eos_reading.specs.Wanted.{wanted_of}
 use Rattle.eos_source.specs.declared.logs.KeptLogs.{KeptLogs}
 use Rattle.eos_source.specs.Logs.{AreTold, AreColumns}
 use Rattle.eos_source.specs.Said.{Said, Known}

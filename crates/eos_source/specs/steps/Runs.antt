@@ -3,8 +3,8 @@ use Rattle.std.specs.Prelude.{◌≡◌, ℕ, suc, ◌+◌, ◌≤◌, ◌<◌, 
 use Rattle.eos_evidence.specs.declared.application.App.{App}
 use Rattle.eos_evidence.specs.declared.segment.Segment.{Segment}
 use Rattle.eos_evidence.specs.Topics.{is_internal}
-use Rattle.eos_wanted.specs.declared.wanted.Wanted.{Wanted}
-use Rattle.eos_wanted.specs.Wanted.{wanted_of}
+use Rattle.eos_reading.specs.declared.wanted.Wanted.{Wanted}
+use Rattle.eos_reading.specs.Wanted.{wanted_of}
 use Rattle.eos_part.specs.declared.run.KeptRun.{KeptRun}
 use Rattle.eos_part.specs.Runs.{IsKeptRun, wanted_by, front_of, HasClaims}
 use Rattle.eos_source.specs.Said.{Said, Known, IsAsKnown}

@@ -1,7 +1,7 @@
 use Rattle.std.proofs.Common.{◌≡◌, true, subst, rules}
-use Rattle.eos_keeping.specs.declared.output.KeptOutput.{KeptOutput}
-use Rattle.eos_keeping.specs.Outputs.{claim_kept}
-use Rattle.eos_keeping.specs.Records.{ReadsBack}
+use Rattle.eos_reading.specs.declared.output.KeptOutput.{KeptOutput}
+use Rattle.eos_reading.specs.Outputs.{claim_kept}
+use Rattle.eos_reading.specs.Records.{ReadsBack}
 use Rattle.eos_fold_run.proofs.EachSoFar.{one_more, at_end}
 use Rattle.eos_fold_run.proofs.claims.are_outputs_said.Goals as goal
 

@@ -1,6 +1,6 @@
 use Rattle.std.proofs.Common.{All, take}
-use Rattle.eos_keeping.specs.Outputs.{claim_kept}
-use Rattle.eos_keeping.specs.Records.{ReadsBack}
+use Rattle.eos_reading.specs.Outputs.{claim_kept}
+use Rattle.eos_reading.specs.Records.{ReadsBack}
 use Rattle.eos_fold_run.proofs.claims.are_outputs_said.Given as goal
 
 abbrev pub invariant-loop-output : goal.invariant-loop-output

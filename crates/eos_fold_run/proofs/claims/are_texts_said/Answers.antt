@@ -1,6 +1,6 @@
 use Rattle.std.proofs.Common.{◌≡◌, true, subst, rules}
 use Rattle.eos_fold_file.specs.declared.claim.FoldText.{FoldText}
-use Rattle.eos_keeping.specs.Records.{ReadsBack}
+use Rattle.eos_reading.specs.Records.{ReadsBack}
 use Rattle.eos_fold_run.proofs.EachSoFar.{one_more, at_end}
 use Rattle.eos_fold_run.proofs.claims.are_texts_said.Goals as goal
 

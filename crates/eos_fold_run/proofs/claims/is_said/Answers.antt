@@ -4,7 +4,7 @@ use Rattle.std.proofs.lemmas.Bool.{ltb-true, lt-ltb}
 use Rattle.std.proofs.lemmas.Int.{ints}
 use Rattle.eos_claims.specs.declared.claim.ClaimRef.{ClaimRef}
 use Rattle.eos_claims.specs.Slots.{plain_claim}
-use Rattle.eos_keeping.specs.Records.{ReadsBack}
+use Rattle.eos_reading.specs.Records.{ReadsBack}
 use Rattle.eos_fold_run.proofs.ClaimLimits.{IsSmall, small_back, said_small, none_back}
 use Rattle.eos_fold_run.proofs.claims.is_said.Goals as goal
 

@@ -2,8 +2,8 @@ use Rattle.std.proofs.Common.{◌≡◌, ℕ, length, sym, subst, ◌∙◌, rul
 use Rattle.std.specs.Prelude.{All}
 use Rattle.eos_batch.specs.declared.record.Record.{Record}
 use Rattle.eos_reading.specs.Kept.{kept_of}
-use Rattle.eos_wanted.specs.declared.wanted.Wanted.TheVariants as wants
-use Rattle.eos_keeping.specs.Records.{wanted_record, ReadsBack}
+use Rattle.eos_reading.specs.declared.wanted.Wanted.TheVariants as wants
+use Rattle.eos_reading.specs.Records.{wanted_record, ReadsBack}
 use Rattle.eos_fold_file.specs.declared.claim.FoldText.{FoldText}
 use Rattle.eos_fold_file.specs.Folds.{fold_text_of, IsKeptOf}
 use Rattle.eos_part.specs.Records.{SaysClaim}

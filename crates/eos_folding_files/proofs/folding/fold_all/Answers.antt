@@ -1,7 +1,7 @@
 use Rattle.std.proofs.Common.{List, take, ap, ◌∙◌, subst}
 use Rattle.std.proofs.lemmas.List.{take_all}
 use Rattle.std.proofs.lemmas.Result.{err_from_is_err_and}
-use Rattle.eos_wanted.specs.Wanted.{wanted_of}
+use Rattle.eos_reading.specs.Wanted.{wanted_of}
 use Rattle.eos_folding_files.specs.Folding.{Folded, items_of}
 use Rattle.eos_folding_files.specs.declared.folder.PartitionFolder.{PartitionFolder}
 use Rattle.eos_folding_files.proofs.FoldsMore.{next_folder, more_in_part}

@@ -1,10 +1,10 @@
 use Rattle.std.proofs.Common.{ℕ, List, sym, subst}
 use Rattle.eos_batch.specs.declared.record.Record.{Record}
 use Rattle.eos_claims.specs.Headers.{claim_of}
-use Rattle.eos_keeping.specs.Outputs.{kept_output}
-use Rattle.eos_keeping.specs.Records.{wanted_record}
+use Rattle.eos_reading.specs.Outputs.{kept_output}
+use Rattle.eos_reading.specs.Records.{wanted_record}
 use Rattle.eos_source.specs.steps.Runs.{AreKeptRun, HaveClaims}
-use Rattle.eos_wanted.specs.declared.wanted.Wanted.TheVariants as wants
+use Rattle.eos_reading.specs.declared.wanted.Wanted.TheVariants as wants
 use Rattle.eos_source.proofs.PartitionsTold.{made_told}
 use Rattle.eos_source.proofs.told.told_of.Goals as goal
 

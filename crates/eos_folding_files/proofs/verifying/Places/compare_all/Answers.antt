@@ -1,6 +1,6 @@
 use Rattle.std.proofs.Common.{◌≡◌, map, length, ap, ◌∙◌, rules}
 use Rattle.eos_evidence.specs.Evidence.{segments_of}
-use Rattle.eos_wanted.specs.Wanted.{wanted_of}
+use Rattle.eos_reading.specs.Wanted.{wanted_of}
 use Rattle.eos_folding_files.proofs.FoundMore.{next_found, all_found, done_by}
 use Rattle.eos_folding_files.proofs.verifying.Places.compare_all.Goals as goal
 

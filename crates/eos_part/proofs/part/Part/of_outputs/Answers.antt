@@ -1,11 +1,11 @@
 use Rattle.std.proofs.Common.{refl}
 use Rattle.std.proofs.lemmas.Result.{IfOk-weaker}
-use Rattle.eos_wanted.specs.declared.wanted.Wanted.TheVariants.{Claims}
+use Rattle.eos_reading.specs.declared.wanted.Wanted.TheVariants.{Claims}
 use Rattle.eos_part.specs.Records.{output_record}
 use Rattle.eos_part.proofs.HeldRecords.{each_map, outputs_back, outputs_say}
 use Rattle.eos_part.proofs.PartsMade.{sized_of, outputs_read}
 use Rattle.eos_claims.specs.Headers.{claim_of}
-use Rattle.eos_keeping.specs.Outputs.{kept_output}
+use Rattle.eos_reading.specs.Outputs.{kept_output}
 use Rattle.eos_part.proofs.part.Part.of_outputs.Goals as goal
 
 pub made-requires-clause-each : goal.made-requires-clause-each

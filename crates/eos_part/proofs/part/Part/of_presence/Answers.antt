@@ -1,7 +1,7 @@
 use Rattle.std.proofs.Common.{refl, None}
 use Rattle.std.proofs.lemmas.Result.{IfOk-weaker}
-use Rattle.eos_wanted.specs.declared.wanted.Wanted.TheVariants.{Presence}
-use Rattle.eos_keeping.specs.Records.{record_of}
+use Rattle.eos_reading.specs.declared.wanted.Wanted.TheVariants.{Presence}
+use Rattle.eos_reading.specs.Records.{record_of}
 use Rattle.eos_part.proofs.HeldRecords.{each_map, presence_says}
 use Rattle.eos_part.proofs.PartsMade.{sized_of, presence_read}
 use Rattle.eos_part.proofs.part.Part.of_presence.Goals as goal

@@ -1,9 +1,9 @@
 use Rattle.std.proofs.Common.{refl}
 use Rattle.std.proofs.lemmas.Result.{IfOk-weaker}
-use Rattle.eos_wanted.specs.declared.wanted.Wanted.TheVariants.{Texts}
+use Rattle.eos_reading.specs.declared.wanted.Wanted.TheVariants.{Texts}
 use Rattle.eos_part.proofs.HeldRecords.{texts_say}
 use Rattle.eos_part.proofs.PartsMade.{sized_of, texts_read}
-use Rattle.eos_keeping.specs.Records.{wanted_record}
+use Rattle.eos_reading.specs.Records.{wanted_record}
 use Rattle.eos_part.proofs.part.Part.of_texts.Goals as goal
 
 pub made-requires-clause-said : goal.made-requires-clause-said

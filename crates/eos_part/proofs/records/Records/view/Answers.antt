@@ -3,8 +3,8 @@ use Rattle.std.specs.List.{slice_get}
 use Rattle.std.proofs.lemmas.List.{length-map}
 use Rattle.std.proofs.lemmas.Option.{slice_get_read}
 use Rattle.eos_batch.specs.declared.record.Record.{Record}
-use Rattle.eos_keeping.specs.Outputs.{claim_kept}
-use Rattle.eos_keeping.specs.Records.{record_of}
+use Rattle.eos_reading.specs.Outputs.{claim_kept}
+use Rattle.eos_reading.specs.Records.{record_of}
 use Rattle.eos_part.specs.Records.{output_record, records_in}
 use Rattle.eos_part.proofs.RecordsLent.{each_same, lent_at}
 use Rattle.eos_part.proofs.records.Records.view.Goals as goal

@@ -1,7 +1,7 @@
 use Rattle.std.proofs.Common.{subst}
-use Rattle.eos_keeping.specs.declared.output.KeptOutput.{KeptOutput}
-use Rattle.eos_keeping.specs.Outputs.{claim_kept}
-use Rattle.eos_keeping.specs.Records.{ReadsBack}
+use Rattle.eos_reading.specs.declared.output.KeptOutput.{KeptOutput}
+use Rattle.eos_reading.specs.Outputs.{claim_kept}
+use Rattle.eos_reading.specs.Records.{ReadsBack}
 use Rattle.eos_part.specs.Records.{SaysClaim}
 use Rattle.eos_part.specs.Runs.{HasClaims}
 use Rattle.eos_part.proofs.HeldRecords.{joined_all}

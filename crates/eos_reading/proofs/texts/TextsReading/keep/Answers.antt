@@ -1,0 +1,7 @@
+use Rattle.std.proofs.Common.{sym, subst}
+use Rattle.eos_reading.specs.Records.{ReadsBack}
+use Rattle.eos_reading.proofs.ClaimHeaders.{back}
+use Rattle.eos_reading.proofs.texts.TextsReading.keep.Goals as goal
+
+pub new-requires : goal.new-requires
+new-requires c = subst ReadsBack (sym c.view_claim.ensures) (back c.into_headers.result)

@@ -1,0 +1,32 @@
+//! The records of Kafka's own logs, of which keys and values are wanted.
+
+use crate::text::KeptText;
+use eos_claims::view_claim;
+use crate::{Placed, Reading};
+use std::alloc::{AllocError, Global};
+
+/// Keeps a record's key and value, and the claim in its headers, where there is one.
+#[derive(Clone, Copy, Debug, PartialEq, Eq)]
+pub struct Texts;
+
+impl Reading for Texts {
+    type Kept = KeptText;
+
+    ghost use Rattle.eos_reading.specs.Records.{wanted_record};
+    ghost use Rattle.eos_reading.specs.declared.wanted.Wanted.{Wanted};
+    ghost use Rattle.eos_reading.specs.declared.wanted.Wanted.TheVariants as wants;
+
+    ghost kept = { λ s offset r. wanted_record wants.Texts r };
+
+    fn keep(
+        &self,
+        alloc: Global,
+        _offset: u64,
+        placed: Placed<'_>,
+    ) -> Result<KeptText, AllocError> {
+        let record = placed.view();
+        let key = record.key();
+        let value = record.value();
+        KeptText::new(alloc, key, value, view_claim(record.into_headers()))
+    }
+}

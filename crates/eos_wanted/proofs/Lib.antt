@@ -1,6 +1,0 @@
-pub mod SameThrough
-pub mod ClaimHeaders
-pub mod WantedItems
-pub mod TopicSearch
-pub mod NamedHeaders
-pub mod SaidClaims
