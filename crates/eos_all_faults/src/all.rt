@@ -3,14 +3,14 @@
 ghost use Rattle.std.specs.Prelude.{◌≡◌, IfOk, map};
 ghost use Rattle.eos_lineage.specs.EvidenceLogs.{AreLogsOf};
 ghost use Rattle.eos_check.specs.declared.verdict.Fault.TheVariants.{Partition as InPartition};
-ghost use Rattle.eos_partitions.specs.Faults.{AreFaultsIn};
+ghost use Rattle.eos_kept.specs.Faults.{AreFaultsIn};
 ghost use Rattle.eos_all_faults.specs.AllFaults.{AreAllFaults};
 
 use crate::later::later_faults;
 use crate::partitions::all_partition_faults;
 use eos_check::Fault;
 use eos_evidence::Evidence;
-use eos_partitions::Logs;
+use eos_kept::Logs;
 use eos_touch::PartitionFault;
 use std::alloc::{AllocError, Global};
 

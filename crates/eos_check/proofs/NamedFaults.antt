@@ -12,7 +12,7 @@ use Rattle.eos_lineage.proofs.LogsInOrder.{sorted}
 use Rattle.eos_check.specs.Verdicts.{StandsInPartitions, partition_cmp}
 use Rattle.eos_check.proofs.FirstFault.{least_of_first}
 use Rattle.eos_check.proofs.RunsMade.{take_next}
-use Rattle.eos_partitions.specs.Faults.{AreFaultsIn, first_of}
+use Rattle.eos_kept.specs.Faults.{AreFaultsIn, first_of}
 
 -- a log's fault is its partition's
 pub fault_of : (p : Partition) (l : PartLog) → IsLogOf p l → (f : Option PartitionFault) → IsFaultIn p.end.topic p.end.partition p.end.end p.segments f → IsFaultOf l f

@@ -15,8 +15,8 @@ use Rattle.eos_commits.specs.Faults.{AreInOrder}
 use Rattle.eos_lineage.specs.declared.counts.LineageCounts.{LineageCounts}
 use Rattle.eos_lineage.specs.declared.fault.LineageFault.{LineageFault}
 use Rattle.eos_lineage.specs.Faults.{IsAnswer}
-use Rattle.eos_partitions.specs.declared.logs.Logs.{Logs}
-use Rattle.eos_partitions.specs.Faults.{first_of}
+use Rattle.eos_kept.specs.declared.logs.Logs.{Logs}
+use Rattle.eos_kept.specs.Faults.{first_of}
 use Rattle.eos_check.specs.declared.verdict.Fault.{Fault}
 use Rattle.eos_check.specs.declared.verdict.Fault.TheVariants.{Partition as InPartition, Log, Match, Lineage}
 use Rattle.eos_check.specs.declared.verdict.Verdict.{Verdict}

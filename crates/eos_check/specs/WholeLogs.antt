@@ -2,8 +2,8 @@
 use Rattle.std.specs.Prelude.{List}
 use Rattle.eos_evidence.specs.declared.partition.Partition.{Partition}
 use Rattle.eos_lineage.specs.EvidenceLogs.{AreLogsOf}
-use Rattle.eos_partitions.specs.declared.logs.Logs.{Logs}
-use Rattle.eos_partitions.specs.Faults.{AreFaultsIn}
+use Rattle.eos_kept.specs.declared.logs.Logs.{Logs}
+use Rattle.eos_kept.specs.Faults.{AreFaultsIn}
 
 pub record AreWholeLogs (partitions : List Partition) (logs : Logs) : Type 0 where
   pub parts : AreLogsOf partitions logs.parts.items

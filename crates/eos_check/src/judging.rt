@@ -6,13 +6,13 @@ ghost use Rattle.eos_check.specs.steps.Phases.{IsTransacted};
 ghost use Rattle.eos_evidence.specs.declared.application.App.{App};
 ghost use Rattle.eos_fold.specs.Parts.{PartLog};
 ghost use Rattle.eos_lineage.specs.Faults.{IsAnswer};
-ghost use Rattle.eos_partitions.specs.Faults.{first_of};
+ghost use Rattle.eos_kept.specs.Faults.{first_of};
 
 use crate::phases::{copied, transactions};
 use crate::verdict::{Counts, Fault, Verdict};
 use eos_evidence::Spec;
 use eos_lineage::{LineageCounts, LineageFault, check_lineage_by};
-use eos_partitions::Logs;
+use eos_kept::Logs;
 use eos_base::Workers;
 use std::alloc::{AllocError, Global};
 use std::thread::Threads;

@@ -11,7 +11,7 @@ use crate::tied_evidence::TiedEvidence;
 use crate::verdict::Verdict;
 use eos_board::Pieces;
 use eos_evidence::Evidence;
-use eos_partitions::Logs;
+use eos_kept::Logs;
 use eos_base::Workers;
 use std::alloc::{AllocError, Global};
 use std::marker::{Brand, PhantomData};

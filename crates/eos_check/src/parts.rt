@@ -16,7 +16,7 @@ use crate::tied_evidence::TiedEvidence;
 use eos_board::{Pieces, Tied};
 use eos_evidence::{Partition, Segment};
 use eos_fold::{Part, PartitionFault};
-use eos_partitions::Logs;
+use eos_kept::Logs;
 use std::alloc::{AllocError, Global};
 
 /// The run of one piece, worked out here.
@@ -172,7 +172,7 @@ pub(crate) fn parts_from<E: Pieces>(
         let partition = &partitions[i];
         let part = part_of(alloc, &mut runs, first, partition)?;
         faults.push(fault_of(&part)?)?;
-        parts.push(eos_partition::Part::whole(part))?;
+        parts.push(eos_kept::Part::whole(part))?;
         first += partition.segments.len() as u64;
     }
     Ok(Logs { parts, faults })

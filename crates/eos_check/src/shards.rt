@@ -6,7 +6,7 @@ ghost use Rattle.eos_table.specs.MatchFaults.{fault_cmp, Stands};
 ghost use Rattle.eos_check.specs.steps.Shards.{lesser_answer, AreSettled};
 
 use eos_base::{Workers, lesser};
-use eos_partition::Part;
+use eos_kept::Part;
 use eos_table::{MatchFault, TxnTable, are_matched, match_shard};
 use std::alloc::{AllocError, Global};
 use std::thread;

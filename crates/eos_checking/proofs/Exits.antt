@@ -5,7 +5,7 @@ use Rattle.eos_fold.specs.Parts.{PartLog}
 use Rattle.eos_notes.specs.declared.note.Note.{Note}
 use Rattle.eos_notes.specs.Notes.{AreAllNotesBy}
 use Rattle.eos_reading.specs.declared.epoch.EpochEntry.{EpochEntry}
-use Rattle.eos_partitions.specs.Faults.{first_of}
+use Rattle.eos_kept.specs.Faults.{first_of}
 use Rattle.eos_source_check.specs.declared.judged.Judged.{Judged}
 use Rattle.eos_words.specs.declared.demands.Demands.{Demands}
 use Rattle.eos_checking.specs.Demands.{exit_status}

@@ -7,9 +7,9 @@ use Rattle.eos_evidence.specs.Evidence.{EvidenceParts}
 use Rattle.eos_evidence.specs.Parts.{Parts}
 use Rattle.eos_fold.specs.Parts.{PartLog}
 use Rattle.eos_notes.specs.Notes.{AreAllNotesBy}
-use Rattle.eos_part.specs.Parts.{HaveEpochs}
-use Rattle.eos_partitions.specs.Faults.{first_of}
-use Rattle.eos_partitions.specs.declared.logs.Logs.{Logs}
+use Rattle.eos_kept.specs.Parts.{HaveEpochs}
+use Rattle.eos_kept.specs.Faults.{first_of}
+use Rattle.eos_kept.specs.declared.logs.Logs.{Logs}
 use Rattle.eos_tallies.specs.Counts.{AreCounted}
 use Rattle.eos_tallies.specs.Tallies.{AreTallies}
 use Rattle.eos_tallies.specs.TalliesByLogs.{tallies_by}
@@ -28,7 +28,7 @@ by_kept : (e : EvidenceParts) (logs : Logs) (told : Told) (all : Bool) (about : 
     → AreCounted e.partitions told.counted.now → HaveEpochs e.partitions told.epochs.now → IsVerdict e told.verdict.now → AreTold e all told.verdict.now told.faults.now → IsReportBy told about text → IsReport e all about text
 by_kept e logs told all about text k spec same counted epochs verdict faults r =
     let named = told.logs.now.faults.items in
-    let is_faults = subst (λ (l : Logs). Rattle.eos_partitions.specs.Faults.AreFaultsIn e.partitions l.faults.items) (sym same) k.faults in
+    let is_faults = subst (λ (l : Logs). Rattle.eos_kept.specs.Faults.AreFaultsIn e.partitions l.faults.items) (sym same) k.faults in
     let parts : told.logs.now.parts.items ≡ wanted_logs e.spec.apps k.whole = (λ i. (same i).parts.items) ∙ k.parts in
     let kept = wanted_logs e.spec.apps k.whole in
     let noted : AreAllNotesBy e.spec kept told.epochs.now (is_some (first_of named)) r.notes =

@@ -11,7 +11,7 @@ use Rattle.eos_evidence.specs.Parts.{Parts}
 use Rattle.eos_fold.specs.Parts.{PartLog}
 use Rattle.eos_notes.specs.Lines.{IsAllNotesTextBy}
 use Rattle.eos_notes.specs.Notes.{AreAllNotesBy}
-use Rattle.eos_partitions.specs.Faults.{first_of}
+use Rattle.eos_kept.specs.Faults.{first_of}
 use Rattle.eos_reading.specs.Wanted.{wanted_logs}
 use Rattle.eos_wanted_notes.proofs.KeptNotes.{whole_all_text, whole_all, kept_in_order}
 use Rattle.eos_source.specs.Said.{Known}

@@ -14,7 +14,7 @@ use eos_ending::Progress;
 use eos_evidence::Spec;
 use eos_json_report::{Findings, Times, page_text, report_text};
 use eos_notes::all_notes;
-use eos_partitions::Logs;
+use eos_kept::Logs;
 use eos_reading::EpochEntry;
 use eos_tallies::{Counted, tallies_of};
 use std::alloc::{AllocError, Global};

@@ -6,7 +6,7 @@ ghost use Rattle.eos_check.specs.declared.verdict.Fault.{Fault};
 ghost use Rattle.eos_commits.specs.Faults.{AreInOrder};
 ghost use Rattle.eos_notes.specs.Lines.{IsAllNotesTextBy};
 ghost use Rattle.eos_notes.specs.Notes.{AreAllNotesBy};
-ghost use Rattle.eos_partitions.specs.Faults.{first_of};
+ghost use Rattle.eos_kept.specs.Faults.{first_of};
 ghost use Rattle.eos_source.specs.Said.{known_by};
 ghost use Rattle.eos_checking.specs.Sources.{IsSourceAnswer, IsListAnswer};
 ghost use Rattle.eos_checking.specs.steps.Tellings.{AreListed, TellsOf, ReportsOf, IsNotedBy, ExitsBy, first_alone};

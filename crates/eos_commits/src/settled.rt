@@ -4,7 +4,7 @@ ghost use Rattle.std.specs.Prelude.{◌≡◌, ◌<◌, ◌%◌, ◌&&◌, ℕ, 
 ghost use Rattle.eos_claims.specs.Headers.{claim_of};
 ghost use Rattle.eos_fold.specs.declared.item.Item.{Item};
 ghost use Rattle.eos_fold.specs.Parts.{PartLog};
-ghost use Rattle.eos_part.specs.Looks.{IsLook};
+ghost use Rattle.eos_kept.specs.Looks.{IsLook};
 ghost use Rattle.eos_commits.specs.Visible.{is_visible as is_visible_fate};
 ghost use Rattle.eos_commits.specs.steps.Walks.{is_none};
 ghost use Rattle.eos_commits.specs.steps.Settled.{are_claimed, is_settled as is_settled_part, AreSettled};
@@ -12,7 +12,7 @@ ghost use Rattle.eos_commits.specs.steps.Settled.{are_claimed, is_settled as is_
 use crate::judge::{is_unclaimed, role_of};
 use crate::roles::Roles;
 use crate::visible::is_visible;
-use eos_partition::{KeptBatch, KeptBatches, Look, Part};
+use eos_kept::{KeptBatch, KeptBatches, Look, Part};
 use eos_base::Workers;
 use std::alloc::{AllocError, Global};
 use std::thread;

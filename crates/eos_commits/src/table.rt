@@ -20,7 +20,7 @@ use crate::visible::{is_of_offsets, is_same, is_visible};
 use bytes::Bytes;
 use eos_evidence::App;
 use eos_offsets::view_key;
-use eos_partition::{ItemRef, Part};
+use eos_kept::{ItemRef, Part};
 use std::alloc::{AllocError, Global};
 use std::marker::Model;
 

@@ -5,7 +5,7 @@ ghost use Rattle.eos_commits.specs.Visible.{is_visible as is_visible_fate};
 ghost use Rattle.eos_commits.specs.Commits.{is_same as is_same_text, is_offsets_part};
 
 use eos_fold::Fate;
-use eos_partition::Part;
+use eos_kept::Part;
 
 /// Whether a reader of committed records is given a record of this fate.
 pub fn is_visible(fate: Fate) -> bool

@@ -14,7 +14,7 @@ use eos_board::Gate;
 use eos_check::{Fault, Verdict, logs_of, verdict_of};
 use eos_evidence::Evidence;
 use eos_notes::{Note, lines_of, notes};
-use eos_partitions::Logs;
+use eos_kept::Logs;
 use eos_report::verdict_line;
 use eos_story::Scene;
 use eos_base::Workers;

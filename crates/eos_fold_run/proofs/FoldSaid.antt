@@ -15,7 +15,7 @@ use Rattle.eos_fold_file.specs.declared.file.FoldFile.{FoldFile}
 use Rattle.eos_fold_file.specs.declared.file.FoldKept.{FoldKept}
 use Rattle.eos_fold_file.specs.declared.file.FoldKept.TheVariants.{Presence, Claims, Texts}
 use Rattle.eos_fold_file.specs.Folds.{fold_text_of, IsKeptOf, IsFoldOf}
-use Rattle.eos_part.proofs.RecordsKept.{kept_all}
+use Rattle.eos_kept.proofs.RecordsKept.{kept_all}
 use Rattle.eos_fold_run.specs.steps.Kept.{AreReadBack}
 
 kept_said : (batches : List Batch) (kept : FoldKept) → IsKeptOf batches kept → AreReadBack kept

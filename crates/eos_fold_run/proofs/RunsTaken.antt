@@ -33,10 +33,10 @@ use Rattle.eos_kept.specs.Passing.{GoesAlong, data_count}
 use Rattle.eos_kept.specs.Sizes.{AreSized}
 use Rattle.eos_kept.proofs.JoinedKept.{of_one}
 use Rattle.eos_kept.proofs.PassedHeads.{kept_of-length}
-use Rattle.eos_part.specs.declared.run.KeptRun.{KeptRun}
-use Rattle.eos_part.specs.declared.run.KeptRun.TheVariants as runs
-use Rattle.eos_part.specs.Records.{SaysClaim}
-use Rattle.eos_part.specs.Runs.{IsKeptRun, HasClaims, wanted_by}
+use Rattle.eos_kept.specs.declared.kept_run.KeptRun.{KeptRun}
+use Rattle.eos_kept.specs.declared.kept_run.KeptRun.TheVariants as runs
+use Rattle.eos_kept.specs.Records.{SaysClaim}
+use Rattle.eos_kept.specs.KeptRuns.{IsKeptRun, HasClaims, wanted_by}
 use Rattle.eos_fold_run.specs.steps.Heads.{AreFrom}
 use Rattle.eos_fold_run.specs.steps.Kept.{topics_in, text_record}
 use Rattle.eos_fold_run.proofs.HeadsPassed.{from_any, from_segment, fold_splits}

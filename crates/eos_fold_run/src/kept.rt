@@ -9,13 +9,12 @@ ghost use Rattle.eos_fold_file.specs.Legal.{IsLegalKept};
 ghost use Rattle.eos_kept.specs.Kept.{IsFrontOf};
 ghost use Rattle.eos_kept.specs.Passing.{GoesAlong, data_count};
 ghost use Rattle.eos_kept.specs.Sizes.{AreSized};
-ghost use Rattle.eos_part.specs.Runs.{IsKeptRun, HasClaims, wanted_by, front_of};
+ghost use Rattle.eos_kept.specs.KeptRuns.{IsKeptRun, HasClaims, wanted_by, front_of};
 ghost use Rattle.eos_fold_run.specs.steps.Kept.{AreReadBack, topics_in};
 
 use crate::texts::copies_of;
 use eos_fold_file::FoldKept;
-use eos_kept::{Front, Kept, Sizes};
-use eos_part::KeptRun;
+use eos_kept::{Front, Kept, KeptRun, Sizes};
 use std::alloc::{AllocError, Global};
 
 /// A run of this front, which has so many data records, with what a fold keeps of them.

@@ -5,7 +5,7 @@ ghost use Rattle.eos_evidence.specs.declared.segment.Segment.{Segment};
 ghost use Rattle.eos_evidence.specs.Topics.{is_internal};
 ghost use Rattle.eos_fold_file.specs.Folds.{IsFoldOf, IsAskedAs};
 ghost use Rattle.eos_fold_file.specs.Legal.{IsLegal};
-ghost use Rattle.eos_part.specs.Runs.{IsKeptRun, HasClaims, wanted_by, front_of};
+ghost use Rattle.eos_kept.specs.KeptRuns.{IsKeptRun, HasClaims, wanted_by, front_of};
 
 use crate::claims::are_said;
 use crate::front::front_of;
@@ -13,8 +13,7 @@ use crate::kept::with_kept;
 use crate::unfit::Unfit;
 use eos_fold::is_checked;
 use eos_fold_file::{FoldFile, FoldKept, laws};
-use eos_kept::Sizes;
-use eos_part::{Asked, KeptRun};
+use eos_kept::{Asked, KeptRun, Sizes};
 use eos_reading::Wanted;
 use std::alloc::Global;
 

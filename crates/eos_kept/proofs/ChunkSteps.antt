@@ -28,7 +28,7 @@ use Rattle.eos_reading.specs.Seals.{AreSeals, entries_of}
 use Rattle.eos_reading.proofs.EpochLists.{entries_on}
 use Rattle.eos_reading.proofs.KeptLists.{taken_back}
 use Rattle.eos_reading.proofs.SealSteps.{seals_taken, entries_are}
-use Rattle.eos_run.specs.declared.run.Run.{Run}
+use Rattle.eos_kept.specs.declared.run.Run.{Run}
 use Rattle.eos_kept.specs.declared.front.Front.{Front}
 use Rattle.eos_kept.specs.Kept.{KeptView, IsKept}
 use Rattle.eos_kept.specs.Sizes.{AreSized}

@@ -18,9 +18,9 @@ use Rattle.eos_fold.proofs.JoinedFronts.{front_goes, front_stops, other_name}
 use Rattle.eos_reading.specs.Epochs.{epoch_entries, epoch_behind, entries_behind}
 use Rattle.eos_reading.specs.Kept.{kept_in, kept_of}
 use Rattle.eos_reading.proofs.EpochLists.{entries_both}
-use Rattle.eos_run.specs.declared.run.Run.{Run}
-use Rattle.eos_run.specs.Runs.{IsRunOf}
-use Rattle.eos_run.proofs.JoinedRuns.{same_run}
+use Rattle.eos_kept.specs.declared.run.Run.{Run}
+use Rattle.eos_kept.specs.Runs.{IsRunOf}
+use Rattle.eos_kept.proofs.JoinedRuns.{same_run}
 use Rattle.eos_kept.specs.declared.front.Front.{Front}
 use Rattle.eos_kept.specs.declared.sizes.Sizes.{Sizes}
 use Rattle.eos_kept.specs.Sizes.{AreSized}

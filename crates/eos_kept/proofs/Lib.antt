@@ -1,3 +1,15 @@
 pub mod PassedHeads
 pub mod JoinedKept
 pub mod ChunkSteps
+pub mod HeadLists
+pub mod Takings
+pub mod JoinedRuns
+pub mod BatchesUnder
+pub mod ItemsUnder
+pub mod HeadPlaces
+pub mod ItemsWanted
+pub mod RecordsKept
+pub mod RecordsLent
+pub mod RecordsSaid
+pub mod HeldRecords
+pub mod PartsMade

@@ -17,7 +17,7 @@ use Rattle.eos_fold.proofs.SegmentWalks.{markers_of-append}
 use Rattle.eos_fold.specs.declared.stop.Stop.TheVariants.{AtEnd, Elsewhere}
 use Rattle.eos_reading.specs.Heads.{HasHeads}
 use Rattle.eos_reading.specs.Kept.{kept_from, kept_in, kept_of}
-use Rattle.eos_run.specs.Runs.{IsRunOf}
+use Rattle.eos_kept.specs.Runs.{IsRunOf}
 use Rattle.eos_kept.specs.declared.front.Front.{Front}
 use Rattle.eos_kept.specs.Passing.{IsRealHead, GoesAlong, data_count}
 use Rattle.eos_kept.specs.steps.Passing.{AreHeads, Passes}

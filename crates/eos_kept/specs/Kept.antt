@@ -11,7 +11,7 @@ use Rattle.eos_fold.specs.Fronts.{IsFront}
 use Rattle.eos_fold.specs.Sums.{BeginsAt, AreChecked}
 use Rattle.eos_reading.specs.Epochs.{epoch_entries}
 use Rattle.eos_reading.specs.Kept.{kept_of}
-use Rattle.eos_run.specs.Runs.{IsRunOf, SameRun}
+use Rattle.eos_kept.specs.Runs.{IsRunOf, SameRun}
 use Rattle.eos_kept.specs.declared.front.Front.{Front}
 use Rattle.eos_kept.specs.declared.sizes.Sizes.{Sizes}
 use Rattle.eos_kept.specs.Sizes.{AreSized}

@@ -2,3 +2,11 @@ pub mod Sizes
 pub mod Kept
 pub mod Passing
 pub mod steps
+pub mod Runs
+pub mod Items
+pub mod Looks
+pub mod Parts
+pub mod Records
+pub mod KeptRuns
+pub mod Forms
+pub mod Faults

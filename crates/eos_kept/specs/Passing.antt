@@ -5,7 +5,7 @@ use Rattle.eos_batch.specs.declared.head.BatchHead.{BatchHead}
 use Rattle.eos_batch.specs.Attributes.{is_control}
 use Rattle.eos_batch.specs.Rules.{IsCounted}
 use Rattle.eos_touch.specs.Front.{ContinuesFrom}
-use Rattle.eos_run.specs.Runs.{IsHeadOf}
+use Rattle.eos_kept.specs.Runs.{IsHeadOf}
 use Rattle.eos_kept.specs.declared.front.Front.{Front}
 use Rattle.eos_kept.specs.Kept.{KeepsFront}
 

@@ -47,7 +47,7 @@ pub(crate) struct SegmentFold<K: Reading> {
 
 impl<K: Reading> Model for SegmentFold<K> {
     ghost use Rattle.std.specs.Coded.{codes};
-    ghost use Rattle.eos_run.specs.Runs.{IsRun};
+    ghost use Rattle.eos_kept.specs.Runs.{IsRun};
     ghost use Rattle.eos_kept.specs.contracts.front.Front as of_front;
     ghost use Rattle.eos_kept.specs.steps.Folding.{FoldView};
 

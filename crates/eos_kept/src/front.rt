@@ -6,14 +6,14 @@ ghost use Rattle.eos_batch.specs.declared.batch.Batch.{Batch};
 ghost use Rattle.eos_evidence.specs.declared.segment.Segment.{Segment};
 ghost use Rattle.eos_fold.specs.declared.stop.Stop.TheVariants.{AtEnd};
 ghost use Rattle.eos_reading.specs.Epochs.{epoch_behind, entries_behind};
-ghost use Rattle.eos_run.specs.Runs.{IsRun};
+ghost use Rattle.eos_kept.specs.Runs.{IsRun};
 ghost use Rattle.eos_kept.specs.Kept.{KeepsFront, IsFrontOf, SameFront};
 ghost use Rattle.eos_kept.specs.Passing.{GoesAlong};
 
 use eos_batch::Marker;
 use eos_fold::Stop;
 use eos_reading::{EpochEntry, append_entries};
-use eos_run::Run;
+use crate::Run;
 use std::alloc::{AllocError, Global};
 
 /// The front of a list of segments.

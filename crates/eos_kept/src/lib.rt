@@ -6,14 +6,47 @@
 //! bytes of a batch that isn't whole yet are held too.
 #![tactic(auto)]
 
+mod apart;
+mod batches;
+mod close;
+mod cursor;
 mod fold;
 mod front;
+mod headers;
+mod heads;
+mod item;
+mod items;
+mod kept_run;
+mod kept_whole;
+mod log_item;
+mod log_items;
+mod log_part;
+mod logs;
+mod part;
 mod pass;
+mod records;
+mod run;
 mod segment;
 mod sizes;
 mod summary;
+mod taking;
+mod whole;
 
+pub use batches::{KeptBatch, KeptBatches, Look};
+pub use cursor::KeptCursor;
+pub use eos_fold::DataHead;
+pub use eos_fold::{EndMark, Fault};
+pub use crate::{KeptBatch, KeptBatches, Look};
 pub use front::Front;
+pub use item::KeptItem;
+pub use items::KeptItems;
+pub use kept_run::{Asked, KeptRun};
+pub use log_item::ItemRef;
+pub use log_items::{Cursor, Items};
+pub use log_part::Part;
+pub use logs::Logs;
+pub use part::{Part, Told};
+pub use run::Run;
 pub use segment::fold_segment;
 pub use sizes::Sizes;
 pub use summary::Kept;

@@ -3,7 +3,7 @@
 ghost use Rattle.std.specs.Prelude.{◌≡◌, ◌≤◌, ◌+◌, ◌^◌, ◌∷◌, [], ◌++◌, List, IfOk, OnOk, if◌then◌else◌};
 ghost use Rattle.eos_batch.specs.declared.batch.Batch.{Batch};
 ghost use Rattle.eos_fold.specs.declared.stop.Stop.TheVariants.{AtEnd};
-ghost use Rattle.eos_run.specs.Runs.{IsRun};
+ghost use Rattle.eos_kept.specs.Runs.{IsRun};
 ghost use Rattle.eos_kept.specs.Passing.{IsRealHead, GoesAlong};
 ghost use Rattle.eos_kept.specs.steps.Passing.{AreHeads, Passes};
 

@@ -10,7 +10,7 @@ use crate::front::{Front, is_at_end};
 use crate::sizes::Sizes;
 use eos_batch::Marker;
 use eos_fold::Stop;
-use eos_run::DataHead;
+use crate::DataHead;
 use std::alloc::Global;
 use std::marker::Model;
 

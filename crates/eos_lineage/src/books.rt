@@ -3,7 +3,7 @@
 use crate::name::Names;
 use crate::passes::PassTable;
 use eos_commits::TopicSet;
-use eos_partition::Part;
+use eos_kept::Part;
 
 /// The logs, and what an application reads and commits there.
 #[derive(Clone, Copy)]

@@ -25,7 +25,7 @@ use crate::pipeline::Pipeline;
 use crate::tables::Tables;
 use eos_commits::{CommitTable, least_visible_fault_by};
 use eos_evidence::{App, GroupId, Spec};
-use eos_partition::Part;
+use eos_kept::Part;
 use eos_base::Workers;
 use std::alloc::{AllocError, Global};
 use std::thread::Threads;

@@ -6,14 +6,14 @@ ghost use Rattle.eos_claims.specs.Outputs.{Application};
 ghost use Rattle.eos_claims.specs.Plain.{plain_claim, plain_lent};
 ghost use Rattle.eos_fold.specs.Parts.{part_name};
 ghost use Rattle.eos_fold.specs.declared.item.Item.{Item};
-ghost use Rattle.eos_part.specs.Looks.{IsLook};
+ghost use Rattle.eos_kept.specs.Looks.{IsLook};
 ghost use Rattle.eos_lineage.specs.steps.Walks.{kept_of, counted_ref, AreTables, HasWalked, plain_walk, begun, plain_placed, claim_at, output_claims, claims_of_part};
 
 use crate::tables::{Known, Tables, known_of, tests_of};
 use eos_base::PartitionName;
 use eos_claims::{ClaimRef, Found, LentClaim, NumberedClaim, PlaceRef, SourceRef, least_of_claim};
 use eos_commits::{TopicSet, is_visible};
-use eos_partition::{ItemRef, Look, Part};
+use eos_kept::{ItemRef, Look, Part};
 use std::alloc::{AllocError, Global};
 
 /// What the walk has met: the least fault that claims show one by one, and the claims of inputs below their committed

@@ -20,7 +20,7 @@ use crate::shares::{Share, shares_of};
 use crate::sorting::sorted;
 use eos_commits::is_visible;
 use eos_fold::Fate;
-use eos_partition::{KeptBatch, KeptBatches, Part};
+use eos_kept::{KeptBatch, KeptBatches, Part};
 use eos_base::Workers;
 use std::alloc::Global;
 use std::thread;

@@ -8,7 +8,7 @@ ghost use Rattle.eos_lineage.specs.steps.Walks.{input_at, inputs_at};
 use eos_base::PartitionName;
 use eos_claims::PlaceRef;
 use eos_commits::{TopicSet, is_visible};
-use eos_partition::{ItemRef, Part};
+use eos_kept::{ItemRef, Part};
 use std::alloc::{AllocError, Global};
 
 /// Puts the place of a record at the end, if it is visible.

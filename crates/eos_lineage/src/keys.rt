@@ -7,7 +7,7 @@ ghost use Rattle.std.specs.Prelude.{◌≡◌, ◌≤◌, ◌<◌, ◌+◌, ◌*
 ghost use Rattle.eos_base.specs.declared.partition_name.PartitionName.{PartitionName};
 ghost use Rattle.eos_claims.specs.Outputs.{Application, PlacedClaim};
 ghost use Rattle.eos_fold.specs.declared.item.Item.{Item};
-ghost use Rattle.eos_part.specs.Looks.{IsLook};
+ghost use Rattle.eos_kept.specs.Looks.{IsLook};
 ghost use Rattle.eos_lineage.specs.steps.Keys.{key_at, plain_keys, no_keys, joined_keys, AreBooks, HasKeyed, EachKeyed, in_turn};
 ghost use Rattle.eos_lineage.specs.steps.Walks.{one_if, plain_placed, claim_at, output_claims};
 ghost use Rattle.eos_lineage.specs.steps.Tables.{is_reached};
@@ -17,7 +17,7 @@ use crate::claims::{Output, PlacedRef, placed_of};
 use crate::passes::PassMarks;
 use eos_base::{PartitionName, Workers};
 use eos_claims::{ClaimRef, SourceRef};
-use eos_partition::{KeptBatch, KeptBatches, Look};
+use eos_kept::{KeptBatch, KeptBatches, Look};
 use std::alloc::Global;
 use std::thread;
 use std::thread::Threads;

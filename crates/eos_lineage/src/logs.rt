@@ -5,7 +5,7 @@ ghost use Rattle.eos_fold.specs.Parts.{part_name};
 
 use crate::name::Names;
 use eos_base::PartitionName;
-use eos_partition::Part;
+use eos_kept::Part;
 use std::alloc::{AllocError, Global};
 use std::marker::Model;
 

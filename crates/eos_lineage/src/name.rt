@@ -6,7 +6,7 @@ ghost use Rattle.eos_fold.specs.Parts.{part_name};
 ghost use Rattle.eos_lineage.specs.steps.Tables.{plain_name, AreAscending};
 
 use eos_base::PartitionName;
-use eos_partition::Part;
+use eos_kept::Part;
 use std::alloc::{AllocError, Global};
 use std::marker::Model;
 

@@ -9,7 +9,7 @@ ghost use Rattle.eos_lineage.specs.steps.Tables.{AreAscending, set_named};
 
 use crate::name::{Names, names_of};
 use eos_commits::CommitRef;
-use eos_partition::Part;
+use eos_kept::Part;
 use std::alloc::{AllocError, Global};
 
 fn set_offset(offsets: &mut Vec<i64>, place: usize, offset: i64)

@@ -9,7 +9,7 @@ ghost use Rattle.eos_log_faults.specs.steps.Gathered.{gathered};
 use crate::doubled::push_doubled;
 use crate::reading::{Reading, read_log};
 use eos_base::distinct_in_order;
-use eos_partition::Part;
+use eos_kept::Part;
 use eos_table::LogFault;
 use std::alloc::{AllocError, Global};
 

@@ -10,7 +10,7 @@ ghost use Rattle.eos_log_faults.specs.steps.Gathered.{said, step_at, steps_after
 use crate::content::read_content;
 use crate::mark::{Mark, Place, producer_of, push_fault};
 use bytes::Bytes;
-use eos_partition::{ItemRef, Part};
+use eos_kept::{ItemRef, Part};
 use eos_table::{LogFault, LogFaultKind};
 use eos_txnlog::{TxnValue, is_skipped, step_ok};
 use std::alloc::{AllocError, Global};

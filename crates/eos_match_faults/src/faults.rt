@@ -12,7 +12,7 @@ use crate::key::{ended_in_order, listed_in_order, marked_in_order, names_in_orde
 use crate::places::{push_closes, push_decisions, push_markers, push_names};
 use crate::reading::read_decisions;
 use eos_base::distinct_in_order;
-use eos_partition::Part;
+use eos_kept::Part;
 use eos_table::MatchFault;
 use eos_txnlog::Decision;
 use std::alloc::{AllocError, Global};

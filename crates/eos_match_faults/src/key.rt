@@ -9,7 +9,7 @@ ghost use Rattle.eos_match_faults.specs.steps.Keys.{plain_name, listed, plain_li
 use bytes::Bytes;
 use eos_base::Sorted;
 use eos_batch::Kind;
-use eos_partition::Part;
+use eos_kept::Part;
 use eos_txnlog::{Decision, TopicPartitions};
 use std::alloc::{AllocError, Global};
 

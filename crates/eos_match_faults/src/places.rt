@@ -15,7 +15,7 @@ use crate::look::{is_ended, is_listed, is_name};
 use eos_base::{PartitionName, Sorted};
 use eos_batch::{Kind, Marker};
 use eos_fold::Close;
-use eos_partition::Part;
+use eos_kept::Part;
 use eos_table::{MatchFault, MatchFaultKind};
 use eos_txnlog::{Decision, TopicPartitions};
 use std::alloc::AllocError;

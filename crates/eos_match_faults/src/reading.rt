@@ -10,7 +10,7 @@ ghost use Rattle.eos_match_faults.specs.steps.Recorded.{said, decided_at, decide
 use crate::content::read_said;
 use bytes::Bytes;
 use eos_batch::Kind;
-use eos_partition::{ItemRef, Part};
+use eos_kept::{ItemRef, Part};
 use eos_txnlog::{Decision, Status, TxnValue, is_skipped};
 use std::alloc::{AllocError, Global};
 use std::collections::BTreeMap;

@@ -6,8 +6,8 @@ use Rattle.eos_evidence.specs.Evidence.{EvidenceParts}
 use Rattle.eos_fold.specs.Parts.{PartLog, part_name}
 use Rattle.eos_lineage.specs.EvidenceLogs.{AreLogsOf}
 use Rattle.eos_lineage.proofs.LogsInOrder.{name_is}
-use Rattle.eos_part.specs.Parts.{HaveEpochs}
-use Rattle.eos_partitions.specs.Faults.{AreFaultsIn, first_of}
+use Rattle.eos_kept.specs.Parts.{HaveEpochs}
+use Rattle.eos_kept.specs.Faults.{AreFaultsIn, first_of}
 use Rattle.eos_touch.specs.declared.fault.PartitionFault.{PartitionFault}
 use Rattle.eos_notes.specs.declared.note.Note.{Note}
 use Rattle.eos_reading.specs.declared.epoch.EpochEntry.{EpochEntry}

@@ -8,7 +8,7 @@ use Rattle.eos_fold.specs.LeastFaults.{IsFirstFault}
 use Rattle.eos_fold.specs.Parts.{PartLog, part_name}
 use Rattle.eos_lineage.specs.EvidenceLogs.{AreLogsOf}
 use Rattle.eos_reading.specs.declared.epoch.EpochEntry.{EpochEntry}
-use Rattle.eos_part.specs.Parts.{HaveEpochs}
+use Rattle.eos_kept.specs.Parts.{HaveEpochs}
 use Rattle.eos_notes.specs.declared.note.Note.{Note}
 use Rattle.eos_notes.specs.ManifestNotes.{no_application, absent_topics, gaps, absent_internals}
 use Rattle.eos_notes.specs.CommitNotes.{end_name, AreUnlistedNotes, past_ends, nothing_committed, behind}

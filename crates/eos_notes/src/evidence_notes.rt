@@ -7,7 +7,7 @@ ghost use Rattle.eos_commits.specs.Faults.{AreInOrder};
 ghost use Rattle.eos_commits.specs.Plain.{plain_commit};
 ghost use Rattle.eos_commits.specs.Tables.{IsTableOf};
 ghost use Rattle.eos_evidence.specs.declared.application.App.{App as AppOf};
-ghost use Rattle.eos_partitions.specs.Faults.{first_of};
+ghost use Rattle.eos_kept.specs.Faults.{first_of};
 ghost use Rattle.eos_notes.specs.CommitNotes.{past_ends_in, nothing_in, behind_in, past_ends, nothing_committed, behind};
 ghost use Rattle.eos_notes.specs.ManifestNotes.{no_application, absent_topics, gaps, absent_internals};
 ghost use Rattle.eos_notes.specs.Notes.{of_manifest, AreNotesBy};
@@ -20,8 +20,7 @@ use crate::unlisted::unlisted_notes;
 use eos_commits::{CommitRef, CommitTable, TopicSet};
 use eos_evidence::{App, End, Spec};
 use eos_lineage::committed_offsets;
-use eos_partition::Part;
-use eos_partitions::Logs;
+use eos_kept::{Logs, Part};
 use std::alloc::{AllocError, Global};
 
 /// What was found of what groups have committed, by the kind of note.

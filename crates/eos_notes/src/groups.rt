@@ -13,7 +13,7 @@ use crate::note::Note;
 use eos_base::PartitionName;
 use eos_commits::{CommitRef, TopicSet, is_visible};
 use eos_evidence::GroupId;
-use eos_partition::{ItemRef, Part};
+use eos_kept::{ItemRef, Part};
 use std::alloc::AllocError;
 
 /// So many visible records, and so many of them below a group's committed offsets.

@@ -8,8 +8,8 @@ ghost use Rattle.eos_lineage.specs.EvidenceLogs.{AreLogsOf};
 ghost use Rattle.eos_notes.specs.Lines.{IsNotesTextBy, IsNotesText, IsAllNotesTextBy, IsAllNotesText};
 ghost use Rattle.eos_notes.specs.Notes.{AreNotesBy, AreNotes, AreAllNotesBy, AreAllNotes};
 ghost use Rattle.eos_notes.specs.declared.note.Note.{Note as NoteOf};
-ghost use Rattle.eos_part.specs.Parts.{HaveEpochs};
-ghost use Rattle.eos_partitions.specs.Faults.{AreFaultsIn, first_of};
+ghost use Rattle.eos_kept.specs.Parts.{HaveEpochs};
+ghost use Rattle.eos_kept.specs.Faults.{AreFaultsIn, first_of};
 ghost use Rattle.eos_reading.specs.declared.epoch.EpochEntry.{EpochEntry};
 ghost use Rattle.eos_touch.specs.declared.fault.PartitionFault.{PartitionFault};
 

@@ -2,7 +2,7 @@
 
 ghost use Rattle.std.specs.Prelude.{false, is_some, IfOk, string_bytes};
 ghost use Rattle.eos_commits.specs.Faults.{AreInOrder};
-ghost use Rattle.eos_partitions.specs.Faults.{first_of};
+ghost use Rattle.eos_kept.specs.Faults.{first_of};
 ghost use Rattle.eos_notes.specs.Lines.{IsNotesTextBy, IsAllNotesTextBy};
 
 use crate::evidence_notes::notes;
@@ -10,7 +10,7 @@ use crate::replicas::all_notes;
 use crate::text::note_lines;
 use eos_base::Listed;
 use eos_evidence::Spec;
-use eos_partitions::Logs;
+use eos_kept::Logs;
 use eos_reading::EpochEntry;
 use std::alloc::{AllocError, Global};
 

@@ -5,14 +5,13 @@ ghost use Rattle.eos_commits.specs.Faults.{AreInOrder};
 ghost use Rattle.eos_fold.specs.Parts.{part_name};
 ghost use Rattle.eos_notes.specs.Notes.{AreAllNotesBy};
 ghost use Rattle.eos_notes.specs.ReplicaNotes.{is_fall, falls_at, fall_note, falls};
-ghost use Rattle.eos_partitions.specs.Faults.{first_of};
+ghost use Rattle.eos_kept.specs.Faults.{first_of};
 
 use crate::evidence_notes::notes;
 use crate::note::Note;
 use eos_base::{Listed, PartitionName};
 use eos_evidence::Spec;
-use eos_partition::Part;
-use eos_partitions::Logs;
+use eos_kept::{Logs, Part};
 use eos_reading::EpochEntry;
 use std::alloc::{AllocError, Global};
 

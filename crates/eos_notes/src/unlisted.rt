@@ -17,7 +17,7 @@ use bytes::Bytes;
 use eos_base::{PartitionName, holds, in_order};
 use eos_commits::{CommitRef, CommitTable};
 use eos_evidence::{App, End, GroupId};
-use eos_partition::Part;
+use eos_kept::Part;
 use std::alloc::{AllocError, Global};
 
 /// A partition's name whose topic is lent.

@@ -18,7 +18,7 @@ use eos_claims::OutputFault;
 use eos_commits::{CommitTable, TopicSet};
 use eos_evidence::{App, GroupId, Spec};
 use eos_lineage::LineageFault;
-use eos_partition::Part;
+use eos_kept::Part;
 use std::alloc::{AllocError, Global};
 
 fn faults_of<'a>(

@@ -9,7 +9,7 @@ ghost use Rattle.eos_output_faults.specs.steps.Plain.{claim_at, name_at, place_a
 use crate::lent::{LentName, LentPlace, VisibleClaim};
 use eos_claims::ClaimRef;
 use eos_commits::{TopicSet, is_visible};
-use eos_partition::{ItemRef, Part};
+use eos_kept::{ItemRef, Part};
 use std::alloc::{AllocError, Global};
 
 fn name_of<'a>(part: &'a Part) -> LentName<'a>

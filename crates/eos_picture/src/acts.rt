@@ -15,7 +15,7 @@ use crate::marks::{Scene, is_missed, push_mark};
 use crate::transactions::is_of_transaction_log;
 use eos_batch::Kind;
 use eos_fold::Close;
-use eos_partition::Part;
+use eos_kept::Part;
 use std::alloc::AllocError;
 
 /// The Prepare record of the transaction at this place, if it is in the partition.

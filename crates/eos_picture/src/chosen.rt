@@ -12,7 +12,7 @@ use crate::order::{order_of, position_of, stand_of};
 use crate::transactions::is_of_transaction_log;
 use crate::window::is_named;
 use eos_base::PartitionName;
-use eos_partition::Part;
+use eos_kept::Part;
 use std::alloc::{AllocError, Global};
 
 /// What is wanted beside the transaction in the middle.

@@ -7,7 +7,7 @@ ghost use Rattle.eos_log_faults.specs.steps.Gathered.{said, said_of};
 
 use bytes::Bytes;
 use eos_base::RecordFault;
-use eos_partition::ItemRef;
+use eos_kept::ItemRef;
 use eos_txnlog::{TxnValue, decode_key, decode_value};
 use std::alloc::{AllocError, Global};
 

@@ -9,7 +9,7 @@ ghost use Rattle.eos_picture.specs.Order.{is_writer as is_writer_of};
 use crate::mark::Column;
 use eos_batch::{Kind, Marker};
 use eos_fold::Fate;
-use eos_partition::Part;
+use eos_kept::Part;
 
 /// What an end marker says.
 #[derive(Clone, Copy)]

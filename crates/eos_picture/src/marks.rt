@@ -12,7 +12,7 @@ use crate::passes::Pass;
 use crate::spots::{At, Spot, is_of};
 use crate::window::{column_of, is_named};
 use eos_commits::is_visible;
-use eos_partition::Part;
+use eos_kept::Part;
 use std::alloc::AllocError;
 
 /// What a row is made of.

@@ -11,7 +11,7 @@ use crate::ends::is_writer;
 use crate::mark::Column;
 use crate::transactions::is_of_transaction_log;
 use eos_base::in_order;
-use eos_partition::{ItemRef, Part};
+use eos_kept::{ItemRef, Part};
 use std::alloc::{AllocError, Global};
 use std::collections::BTreeMap;
 

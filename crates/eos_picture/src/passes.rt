@@ -5,7 +5,7 @@ use crate::window::column_of;
 use eos_commits::is_visible;
 use eos_fold::Fate;
 use eos_offsets::{KeyRef, view_key, view_value};
-use eos_partition::{ItemRef, Part};
+use eos_kept::{ItemRef, Part};
 use std::alloc::{AllocError, Global};
 use std::collections::BTreeMap;
 

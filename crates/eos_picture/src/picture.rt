@@ -18,7 +18,7 @@ use crate::transactions::columns_of;
 use crate::window::middle_of;
 use eos_check::Fault;
 use eos_evidence::App;
-use eos_partition::Part;
+use eos_kept::Part;
 use std::alloc::{AllocError, Global};
 
 fn spots_in(

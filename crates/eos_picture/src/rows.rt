@@ -17,7 +17,7 @@ use crate::transactions::is_of_transaction_log;
 use crate::window::column_of;
 use bytes::Bytes;
 use eos_base::PartitionName;
-use eos_partition::{ItemRef, Part};
+use eos_kept::{ItemRef, Part};
 use std::alloc::{AllocError, Global};
 
 // ---- the signs

@@ -18,7 +18,7 @@ use eos_commits::{TopicSet, is_visible};
 use eos_evidence::{App, GroupId};
 use eos_fold::{PartitionFault, PartitionFaultKind};
 use eos_lineage::LineageFault;
-use eos_partition::{ItemRef, Part};
+use eos_kept::{ItemRef, Part};
 use eos_table::{MatchFault, MatchFaultKind};
 use std::alloc::{AllocError, Global};
 

@@ -14,7 +14,7 @@ use crate::mark::{Column, Decided};
 use bytes::Bytes;
 use eos_base::{holds, in_order};
 use eos_batch::Kind;
-use eos_partition::{ItemRef, Part};
+use eos_kept::{ItemRef, Part};
 use eos_txnlog::{Status, TxnValue, is_skipped};
 use std::alloc::{AllocError, Global};
 use std::collections::BTreeMap;

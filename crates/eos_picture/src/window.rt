@@ -15,7 +15,7 @@ use crate::mark::Column;
 use crate::spots::{At, Spot};
 use crate::transactions::is_of_transaction_log;
 use eos_base::PartitionName;
-use eos_partition::{ItemRef, Part};
+use eos_kept::{ItemRef, Part};
 
 fn is_written_by(column: &Column, writer: (i64, i16)) -> bool
     ensures yes { result ≡ true → writer ≡ (column.now.producer, column.now.epoch) }

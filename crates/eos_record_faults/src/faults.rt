@@ -8,7 +8,7 @@ use crate::gathering::gather;
 use crate::sources::{Sources, all_outputs};
 use eos_commits::{TopicSet, VisibleFault};
 use eos_evidence::App;
-use eos_partition::Part;
+use eos_kept::Part;
 use std::alloc::{AllocError, Global};
 
 /// Every fault of the visible records of these partitions that stands, for these applications, in the order in which the least

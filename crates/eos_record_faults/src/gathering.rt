@@ -9,7 +9,7 @@ use crate::shown::{Role, Shown, by_commit, is_unclaimed};
 use crate::sources::Sources;
 use eos_base::{PartitionName, RecordFault};
 use eos_commits::{TopicSet, VisibleFault, VisibleFaultKind, is_visible};
-use eos_partition::{ItemRef, Part};
+use eos_kept::{ItemRef, Part};
 use std::alloc::{AllocError, Global};
 use std::collections::BTreeMap;
 

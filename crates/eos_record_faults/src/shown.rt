@@ -12,7 +12,7 @@ use crate::homes::{Homes, enter};
 use crate::sources::Sources;
 use eos_base::RecordFault;
 use eos_offsets::{view_key, view_value};
-use eos_partition::ItemRef;
+use eos_kept::ItemRef;
 use std::alloc::AllocError;
 
 /// What is asked of a partition's records.

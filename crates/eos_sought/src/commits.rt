@@ -9,7 +9,7 @@ use crate::reading::{is_of, is_same};
 use bytes::Bytes;
 use eos_claims::Place;
 use eos_offsets::{KeyRef, view_key, view_value};
-use eos_partition::{ItemRef, Part};
+use eos_kept::{ItemRef, Part};
 use std::alloc::{AllocError, Global};
 
 /// The group of a key of a commit, if it is one.

@@ -9,7 +9,7 @@ ghost use Rattle.eos_sought.specs.Sought.{meets};
 use crate::sought::{Sought, meets};
 use eos_base::PartitionName;
 use eos_fold::Item;
-use eos_partition::{ItemRef, Part};
+use eos_kept::{ItemRef, Part};
 use std::alloc::{AllocError, Global};
 
 /// A data record of a partition's log.

@@ -8,7 +8,7 @@ ghost use Rattle.eos_sought.specs.States.{id_in, state_in};
 
 use bytes::Bytes;
 use eos_base::{PartitionName, RecordFault};
-use eos_partition::Part;
+use eos_kept::Part;
 use eos_txnlog::{TxnValue, decode_key, decode_value};
 use std::alloc::{AllocError, Global};
 

@@ -17,7 +17,7 @@ use crate::reading::{id_of, is_named, is_of, is_same, state_of};
 use bytes::Bytes;
 use eos_claims::{ClaimRef, Place};
 use eos_commits::is_visible;
-use eos_partition::{ItemRef, Part};
+use eos_kept::{ItemRef, Part};
 use eos_txnlog::TxnValue;
 use std::alloc::{AllocError, Global};
 

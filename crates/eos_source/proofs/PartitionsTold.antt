@@ -10,10 +10,10 @@ use Rattle.eos_evidence.specs.declared.segment.Segment.{Segment}
 use Rattle.eos_evidence.specs.Parts.{Parts}
 use Rattle.eos_evidence.specs.Evidence.{EvidenceParts, IsEvidence, IsPartition, segments_of}
 use Rattle.eos_fold.specs.Standing.{AreOf}
-use Rattle.eos_part.specs.declared.part.Told.{Told}
-use Rattle.eos_part.specs.declared.run.KeptRun.{KeptRun}
+use Rattle.eos_kept.specs.declared.part.Told.{Told}
+use Rattle.eos_kept.specs.declared.kept_run.KeptRun.{KeptRun}
 use Rattle.eos_kept.specs.Kept.{KeptView}
-use Rattle.eos_part.specs.Parts.{AreKept, IsTold, IsMade}
+use Rattle.eos_kept.specs.Parts.{AreKept, IsTold, IsMade}
 use Rattle.eos_reading.specs.declared.wanted.Wanted.{Wanted}
 use Rattle.eos_reading.specs.Wanted.{wanted_of}
 use Rattle.eos_source.specs.declared.logs.KeptLogs.{KeptLogs}

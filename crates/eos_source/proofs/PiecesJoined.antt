@@ -8,8 +8,8 @@ use Rattle.std.proofs.lemmas.List.{take_all, drop_all, length-take-le, length-ap
 use Rattle.std.proofs.lemmas.List.Elements.{All-get_or}
 use Rattle.eos_evidence.specs.declared.application.App.{App}
 use Rattle.eos_evidence.specs.declared.segment.Segment.{Segment}
-use Rattle.eos_part.specs.declared.run.KeptRun.{KeptRun}
-use Rattle.eos_part.specs.Runs.{IsKeptRun, wanted_by, front_of, HasClaims}
+use Rattle.eos_kept.specs.declared.kept_run.KeptRun.{KeptRun}
+use Rattle.eos_kept.specs.KeptRuns.{IsKeptRun, wanted_by, front_of, HasClaims}
 use Rattle.eos_source.specs.Shapes.{ArePieces}
 use Rattle.eos_source.specs.Said.{Said, Known, IsAsKnown}
 use Rattle.eos_source.specs.steps.Runs.{Asking, asking, AreFrom, IsRead, AreRead, IsTaken, AreSlotsOf}

@@ -7,9 +7,9 @@ use Rattle.eos_evidence.specs.Topics.{is_internal}
 use Rattle.eos_fold_file.specs.declared.file.FoldFile.{FoldFile}
 use Rattle.eos_fold_file.specs.Folds.{IsFoldOf}
 use Rattle.eos_fold_file.specs.Legal.{IsLegal}
-use Rattle.eos_part.specs.declared.run.KeptRun.{KeptRun}
-use Rattle.eos_part.specs.declared.run.KeptRun.TheVariants.{Presence, Claims, Texts}
-use Rattle.eos_part.specs.Runs.{IsKeptRun, wanted_by, front_of, HasClaims}
+use Rattle.eos_kept.specs.declared.kept_run.KeptRun.{KeptRun}
+use Rattle.eos_kept.specs.declared.kept_run.KeptRun.TheVariants.{Presence, Claims, Texts}
+use Rattle.eos_kept.specs.KeptRuns.{IsKeptRun, wanted_by, front_of, HasClaims}
 use Rattle.eos_source.specs.declared.source.Piece.TheVariants as pieces
 use Rattle.eos_source.specs.Said.{Said, Log, Fold, Known, WillSay}
 use Rattle.eos_source.specs.steps.Runs.{Asking, IsAsked, IsTaken}

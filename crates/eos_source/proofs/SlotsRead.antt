@@ -4,7 +4,7 @@ use Rattle.std.proofs.lemmas.Bool.{eq-eqb, ne_eqb, cond-true, cond-false}
 use Rattle.std.specs.Prelude.{slice_get, All, IfSome}
 use Rattle.eos_evidence.specs.declared.application.App.{App}
 use Rattle.eos_evidence.specs.declared.segment.Segment.{Segment}
-use Rattle.eos_part.specs.declared.run.KeptRun.{KeptRun}
+use Rattle.eos_kept.specs.declared.kept_run.KeptRun.{KeptRun}
 use Rattle.eos_source.specs.Said.{Said, Log, Known}
 use Rattle.eos_source.specs.steps.Runs.{IsSlotOf, IsSlot, AreSlots, AreSlotsOf, IsTaken, asking}
 use Rattle.eos_source.specs.steps.Slots.{AreSlotsSoFar}

@@ -3,7 +3,7 @@ use Rattle.std.proofs.Common.{◌≡◌, ℕ, suc, ◌+◌, ◌<◌, ◌≤◌, 
 use Rattle.std.proofs.lemmas.Bool.{cases_lt}
 use Rattle.eos_evidence.specs.declared.application.App.{App}
 use Rattle.eos_evidence.specs.declared.segment.Segment.{Segment}
-use Rattle.eos_part.specs.declared.run.KeptRun.{KeptRun}
+use Rattle.eos_kept.specs.declared.kept_run.KeptRun.{KeptRun}
 use Rattle.eos_source.specs.Refusals.{IsFirstRefusal}
 use Rattle.eos_source.specs.Said.{Known}
 use Rattle.eos_source.specs.steps.Runs.{AreSlots, IsFirstRefused, ArePassed}

@@ -8,7 +8,7 @@ ghost use Rattle.eos_source.specs.Said.{Said, Known};
 ghost use Rattle.eos_source.specs.steps.Runs.{Asking, asking, IsRead, AreRead, AreSlotsOf, IsFirstRefused, ArePassed};
 
 use eos_evidence::Segment;
-use eos_part::KeptRun;
+use eos_kept::KeptRun;
 use std::alloc::{AllocError, Global};
 use std::vec::IntoIter;
 

@@ -4,7 +4,7 @@ ghost use Rattle.std.specs.Prelude.{◌∷◌, [], None, Some, IfOk, IfErr};
 ghost use Rattle.eos_evidence.specs.declared.segment.Segment.{Segment};
 ghost use Rattle.eos_fold_file.specs.Folds.{IsFoldOf};
 ghost use Rattle.eos_fold_file.specs.Legal.{IsLegal};
-ghost use Rattle.eos_part.specs.Runs.{IsKeptRun};
+ghost use Rattle.eos_kept.specs.KeptRuns.{IsKeptRun};
 ghost use Rattle.eos_source.specs.Said.{Said, known_by};
 ghost use Rattle.eos_source.specs.steps.Runs.{IsAsked, IsTaken};
 
@@ -12,7 +12,7 @@ use crate::source::{Piece, Source};
 use eos_evidence::Segment;
 use eos_fold_file::FoldFile;
 use eos_fold_run::{Unfit, run_of};
-use eos_part::{Asked, KeptRun};
+use eos_kept::{Asked, KeptRun};
 use std::alloc::Global;
 
 /// What is asked of a segment of this topic, taken from a fold, which may be that of another segment.

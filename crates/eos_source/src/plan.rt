@@ -12,7 +12,7 @@ use crate::piece::read_piece;
 use crate::source::Source;
 use bytes::Bytes;
 use eos_evidence::Evidence;
-use eos_part::{Asked, KeptRun};
+use eos_kept::{Asked, KeptRun};
 use eos_reading::Wants;
 use std::alloc::Global;
 

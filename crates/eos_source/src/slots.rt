@@ -11,7 +11,7 @@ use crate::plan::Plan;
 use crate::seats::{place, read_by_threads};
 use crate::source::Source;
 use eos_board::Drawn;
-use eos_part::KeptRun;
+use eos_kept::KeptRun;
 use eos_base::Workers;
 use std::alloc::{AllocError, Global};
 use std::thread::Threads;

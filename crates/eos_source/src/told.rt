@@ -6,16 +6,15 @@ ghost use Rattle.eos_evidence.specs.declared.segment.Segment.{Segment};
 ghost use Rattle.eos_fold.specs.Standing.{AreOf};
 ghost use Rattle.eos_reading.specs.Outputs.{kept_output, claim_kept};
 ghost use Rattle.eos_reading.specs.Records.{wanted_record, ReadsBack};
-ghost use Rattle.eos_part.specs.Parts.{AreKept, AllKept, IsTold};
-ghost use Rattle.eos_part.specs.Records.{SaysClaim};
+ghost use Rattle.eos_kept.specs.Parts.{AreKept, AllKept, IsTold};
+ghost use Rattle.eos_kept.specs.Records.{SaysClaim};
 ghost use Rattle.eos_source.specs.steps.Runs.{AreKeptRun, IsWantedBy, HaveClaims};
 ghost use Rattle.eos_reading.specs.declared.wanted.Wanted.TheVariants as wants;
 
 use bytes::Bytes;
 use eos_evidence::End;
 use eos_reading::{KeptOutput, KeptText, Wanted};
-use eos_kept::Kept;
-use eos_part::{Asked, KeptRun, Part, Told};
+use eos_kept::{Asked, Kept, KeptRun, Part, Told};
 use std::alloc::{AllocError, Global};
 
 fn presence_in(run: Option<KeptRun>) -> Option<Kept<()>>

@@ -4,9 +4,9 @@ use Rattle.eos_evidence.specs.declared.application.App.{App}
 use Rattle.eos_evidence.specs.declared.partition.Partition.{Partition}
 use Rattle.eos_fold.specs.Parts.{PartLog}
 use Rattle.eos_lineage.specs.EvidenceLogs.{AreLogsOf}
-use Rattle.eos_part.specs.declared.part.Told.{Told}
-use Rattle.eos_part.specs.Parts.{HaveEpochs}
-use Rattle.eos_partitions.specs.Faults.{AreFaultsIn}
+use Rattle.eos_kept.specs.declared.part.Told.{Told}
+use Rattle.eos_kept.specs.Parts.{HaveEpochs}
+use Rattle.eos_kept.specs.Faults.{AreFaultsIn}
 use Rattle.eos_tallies.specs.Counts.{AreCounted}
 use Rattle.eos_tallies.specs.PartitionTallies.{HasBatches}
 use Rattle.eos_reading.specs.Wanted.{wanted_log, wanted_of, kept_log, wanted_logs}

@@ -4,8 +4,8 @@ use Rattle.eos_evidence.specs.Evidence.{EvidenceParts}
 use Rattle.eos_evidence.specs.Parts.{Parts}
 use Rattle.eos_fold.specs.Parts.{PartLog}
 use Rattle.eos_check.specs.Judged.{IsJudged}
-use Rattle.eos_part.specs.Parts.{HaveEpochs}
-use Rattle.eos_partitions.specs.Faults.{AreFaultsIn, first_of}
+use Rattle.eos_kept.specs.Parts.{HaveEpochs}
+use Rattle.eos_kept.specs.Faults.{AreFaultsIn, first_of}
 use Rattle.eos_reading.specs.Wanted.{wanted_logs}
 use Rattle.eos_wanted_verdict.proofs.KeptAnswers.{judged}
 use Rattle.eos_source.specs.declared.logs.KeptLogs.{KeptLogs}

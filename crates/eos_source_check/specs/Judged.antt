@@ -6,9 +6,9 @@ use Rattle.eos_evidence.specs.Evidence.{EvidenceParts, IsEvidence}
 use Rattle.eos_fold.specs.Parts.{PartLog}
 use Rattle.eos_lineage.specs.EvidenceLogs.{AreLogsOf}
 use Rattle.eos_check.specs.Verdicts.{IsVerdict}
-use Rattle.eos_part.specs.Parts.{HaveEpochs}
-use Rattle.eos_partitions.specs.Faults.{AreFaultsIn}
-use Rattle.eos_partitions.specs.declared.logs.Logs.{Logs}
+use Rattle.eos_kept.specs.Parts.{HaveEpochs}
+use Rattle.eos_kept.specs.Faults.{AreFaultsIn}
+use Rattle.eos_kept.specs.declared.logs.Logs.{Logs}
 use Rattle.eos_reading.specs.Wanted.{wanted_logs}
 use Rattle.eos_source.specs.Said.{Known}
 use Rattle.eos_source.specs.Shapes.{HoldsAsSaid}

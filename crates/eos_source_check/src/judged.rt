@@ -10,7 +10,7 @@ use crate::kept::apart;
 use eos_base::{Listed, Workers};
 use eos_check::{Verdict, judge};
 use eos_evidence::Evidence;
-use eos_partitions::Logs;
+use eos_kept::Logs;
 use eos_reading::EpochEntry;
 use eos_source::{Source, kept_logs};
 use eos_tallies::Counted;

@@ -4,15 +4,14 @@ ghost use Rattle.std.specs.Prelude.{◌≡◌, IfOk, map};
 ghost use Rattle.eos_source_check.specs.steps.Apart.{counted_as, IsApart};
 
 use eos_base::Listed;
-use eos_partition::Part;
-use eos_partitions::Logs;
+use eos_kept::{Logs, Part};
 use eos_reading::EpochEntry;
 use eos_source::{KeptLogs, Tally};
 use eos_tallies::Counted;
 use std::alloc::{AllocError, Global};
 
 /// The same parts, one by one.
-fn wrapped(alloc: Global, parts: Vec<eos_part::Part>) -> Result<Vec<Part>, AllocError>
+fn wrapped(alloc: Global, parts: Vec<eos_kept::Part>) -> Result<Vec<Part>, AllocError>
     ensures { IfOk result (λ all. all.items ≡ parts.items) }
 {
     let mut all = Vec::new(alloc);

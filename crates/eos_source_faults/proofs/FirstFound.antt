@@ -6,8 +6,8 @@ use Rattle.std.proofs.lemmas.List.{take_all}
 use Rattle.eos_evidence.specs.declared.partition.Partition.{Partition}
 use Rattle.eos_evidence.specs.Evidence.{EvidenceParts}
 use Rattle.eos_touch.specs.declared.fault.PartitionFault.{PartitionFault}
-use Rattle.eos_partitions.specs.declared.logs.Logs.{Logs}
-use Rattle.eos_partitions.specs.Faults.{first_of}
+use Rattle.eos_kept.specs.declared.logs.Logs.{Logs}
+use Rattle.eos_kept.specs.Faults.{first_of}
 use Rattle.eos_check.specs.declared.verdict.Fault.{Fault}
 use Rattle.eos_check.specs.declared.verdict.Fault.TheVariants.{Partition as InPartition}
 use Rattle.eos_source.specs.Said.{Known}

@@ -10,8 +10,8 @@ use Rattle.eos_evidence.specs.Parts.{Parts}
 use Rattle.eos_touch.specs.declared.fault.PartitionFault.{PartitionFault}
 use Rattle.eos_fold.specs.LeastFaults.{IsFaultIn, IsFirstFault}
 use Rattle.eos_fold.specs.Parts.{PartLog}
-use Rattle.eos_partitions.specs.declared.logs.Logs.{Logs}
-use Rattle.eos_partitions.specs.Faults as named
+use Rattle.eos_kept.specs.declared.logs.Logs.{Logs}
+use Rattle.eos_kept.specs.Faults as named
 use Rattle.eos_lineage.proofs.LogsInOrder.{sorted, in_order}
 use Rattle.eos_commits.specs.Faults.{AreInOrder}
 use Rattle.eos_check.specs.declared.verdict.Fault.{Fault}

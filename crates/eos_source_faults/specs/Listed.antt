@@ -3,8 +3,8 @@
 use Rattle.std.specs.Prelude.{◌≡◌, ◌≤◌, ℕ, List, length, Option, Some, slice_get, IfSome}
 use Rattle.eos_evidence.specs.declared.partition.Partition.{Partition}
 use Rattle.eos_evidence.specs.Evidence.{EvidenceParts, IsEvidence}
-use Rattle.eos_partitions.specs.declared.logs.Logs.{Logs}
-use Rattle.eos_partitions.specs.Faults.{first_of}
+use Rattle.eos_kept.specs.declared.logs.Logs.{Logs}
+use Rattle.eos_kept.specs.Faults.{first_of}
 use Rattle.eos_check.specs.declared.verdict.Fault.{Fault}
 use Rattle.eos_check.specs.declared.verdict.Fault.TheVariants.{Partition as InPartition}
 use Rattle.eos_all_faults.specs.AllFaults.{AreAllFaults}

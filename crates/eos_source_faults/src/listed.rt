@@ -1,7 +1,7 @@
 //! All faults, of the first phase that has one.
 
 ghost use Rattle.std.specs.Prelude.{◌≡◌, length, take, slice_get, IfOk, IfErr};
-ghost use Rattle.eos_partitions.specs.Faults.{first_of};
+ghost use Rattle.eos_kept.specs.Faults.{first_of};
 ghost use Rattle.eos_source.specs.Said.{known_by};
 ghost use Rattle.eos_source_faults.specs.Listed.{IsListOf, BeginsAsFound};
 ghost use Rattle.eos_source_faults.specs.Refusals.{IsNoLog, IsEarned};
@@ -12,7 +12,7 @@ use crate::fault::Unlisted;
 use eos_all_faults::{later_faults, of_partitions};
 use eos_check::Fault;
 use eos_evidence::Evidence;
-use eos_partitions::Logs;
+use eos_kept::Logs;
 use eos_source::Source;
 use eos_touch::PartitionFault;
 use std::alloc::Global;

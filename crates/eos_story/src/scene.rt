@@ -1,7 +1,7 @@
 //! What a story is told of.
 
 use eos_evidence::Evidence;
-use eos_partition::Part;
+use eos_kept::Part;
 use std::alloc::Global;
 
 /// An evidence and its logs, as the verdict sees them.

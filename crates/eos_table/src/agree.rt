@@ -7,7 +7,7 @@ ghost use Rattle.eos_table.specs.steps.Wanted.{marker_end, close_end, AreWithin,
 use eos_base::in_order;
 use eos_batch::Marker;
 use eos_fold::Close;
-use eos_partition::Part;
+use eos_kept::Part;
 use std::alloc::{AllocError, Global};
 
 /// The first place from this one on whose close is not less, where they stand in order.

@@ -7,7 +7,7 @@ ghost use Rattle.eos_table.specs.TransactionLog.{content_of, content_of_value};
 
 use bytes::Bytes;
 use eos_base::RecordFault;
-use eos_partition::ItemRef;
+use eos_kept::ItemRef;
 use eos_txnlog::{TxnValue, decode_key, decode_value};
 use std::alloc::{AllocError, Global};
 

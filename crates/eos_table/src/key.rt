@@ -10,7 +10,7 @@ use bytes::Bytes;
 use eos_base::Sorted;
 use eos_batch::Kind;
 use eos_fold::Close;
-use eos_partition::Part;
+use eos_kept::Part;
 use eos_txnlog::{Decision, TopicPartitions};
 use std::alloc::{AllocError, Global};
 

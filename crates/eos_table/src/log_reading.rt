@@ -15,7 +15,7 @@ use crate::mark::{Mark, Place, producer_of};
 use bytes::Bytes;
 use eos_base::offer;
 use eos_batch::Kind;
-use eos_partition::{ItemRef, Part};
+use eos_kept::{ItemRef, Part};
 use eos_txnlog::{Decision, Status, TxnValue, is_skipped, step_ok};
 use std::alloc::{AllocError, Global};
 use std::collections::BTreeMap;

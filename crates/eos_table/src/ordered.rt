@@ -9,7 +9,7 @@ use crate::key::{
 use crate::one_shard::Shard;
 use eos_base::Sorted;
 use eos_fold::Close;
-use eos_partition::Part;
+use eos_kept::Part;
 use eos_txnlog::Decision;
 use std::alloc::{AllocError, Global};
 

@@ -17,7 +17,7 @@ use crate::ordered::{DataKeys, PresentKeys};
 use eos_base::{Sorted, lesser};
 use eos_batch::Marker;
 use eos_fold::Close;
-use eos_partition::Part;
+use eos_kept::Part;
 use eos_txnlog::{Decision, TopicPartitions};
 
 /// The least so far, with what one place gives.

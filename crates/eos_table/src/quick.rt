@@ -13,7 +13,7 @@ use crate::table::TxnTable;
 use crate::wanted::wanted_of;
 use eos_base::{Sorted, Workers};
 use eos_fold::Close;
-use eos_partition::Part;
+use eos_kept::Part;
 use eos_txnlog::Decision;
 use std::alloc::{AllocError, Global};
 use std::thread;

@@ -13,7 +13,7 @@ use crate::ordered::{data_keys, present_keys};
 use crate::pass::{closes_of, markers_of, names_of};
 use crate::table::TxnTable;
 use eos_base::PartitionName;
-use eos_partition::Part;
+use eos_kept::Part;
 use eos_txnlog::Decision;
 use std::alloc::{AllocError, Global};
 

@@ -10,7 +10,7 @@ ghost use Rattle.eos_table.specs.steps.LogCandidates.{after, unread, part_faults
 use crate::doubled::least_doubled;
 use crate::log_fault::LogFault;
 use crate::log_reading::LogReading;
-use eos_partition::Part;
+use eos_kept::Part;
 use eos_txnlog::Decision;
 use std::alloc::{AllocError, Global};
 

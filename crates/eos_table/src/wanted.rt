@@ -8,7 +8,7 @@ ghost use Rattle.eos_table.specs.steps.Wanted.{wanted_close, wish, wishes_in, wi
 use crate::key::{NameRef, name_of_part};
 use bytes::Bytes;
 use eos_fold::Close;
-use eos_partition::Part;
+use eos_kept::Part;
 use eos_txnlog::{Decision, TopicPartitions};
 use std::alloc::{AllocError, Global};
 

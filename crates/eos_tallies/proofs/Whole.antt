@@ -6,7 +6,7 @@ use Rattle.eos_fold.specs.Parts.{PartLog}
 use Rattle.eos_touch.specs.declared.fault.PartitionFault.{PartitionFault}
 use Rattle.eos_commits.specs.Commits.{Topic}
 use Rattle.eos_lineage.specs.EvidenceLogs.{AreLogsOf}
-use Rattle.eos_partitions.specs.Faults.{AreFaultsIn, first_of}
+use Rattle.eos_kept.specs.Faults.{AreFaultsIn, first_of}
 use Rattle.eos_tallies.specs.declared.tally.Counted.{Counted}
 use Rattle.eos_tallies.specs.declared.tally.TopicRoles.{TopicRoles}
 use Rattle.eos_tallies.specs.Counts.{AreCounted}

@@ -5,7 +5,7 @@ use Rattle.std.specs.List.{zip}
 use Rattle.eos_evidence.specs.declared.application.App.{App}
 use Rattle.eos_touch.specs.declared.fault.PartitionFault.{PartitionFault}
 use Rattle.eos_fold.specs.Parts.{PartLog}
-use Rattle.eos_partitions.specs.Faults.{first_of}
+use Rattle.eos_kept.specs.Faults.{first_of}
 use Rattle.eos_commits.specs.Commits.{Topic}
 use Rattle.eos_commits.specs.Visible.{visible}
 use Rattle.eos_tallies.specs.declared.tally.Counted.{Counted}

@@ -8,7 +8,7 @@ use crate::groups::group_tallies_of;
 use crate::partitions::partition_tallies_of;
 use crate::tally::{Counted, Tallies};
 use eos_evidence::Spec;
-use eos_partitions::Logs;
+use eos_kept::Logs;
 use std::alloc::{AllocError, Global};
 
 /// The tables of an evidence with this manifest and these logs, whole ones or what is kept of them, of whose segments so much is

@@ -7,7 +7,7 @@ ghost use Rattle.eos_commits.specs.Faults.{AreInOrder};
 ghost use Rattle.eos_fold.specs.Parts.{part_name};
 ghost use Rattle.eos_lineage.specs.Lineage.{is_part_of};
 ghost use Rattle.eos_lineage.specs.EvidenceLogs.{commits_for};
-ghost use Rattle.eos_partitions.specs.Faults.{first_of};
+ghost use Rattle.eos_kept.specs.Faults.{first_of};
 ghost use Rattle.eos_tallies.specs.GroupTallies.{source_tally, group_tally as tally_of_group};
 ghost use Rattle.eos_tallies.specs.TalliesByLogs.{group_tallies};
 ghost use Rattle.eos_tallies.specs.steps.Counted.{source_if};
@@ -18,8 +18,7 @@ use eos_base::Listed;
 use eos_commits::{TopicSet, commits_of};
 use eos_evidence::App;
 use eos_lineage::committed_offsets;
-use eos_partition::Part;
-use eos_partitions::Logs;
+use eos_kept::{Logs, Part};
 use std::alloc::{AllocError, Global};
 
 /// Puts a partition at the end, if it is of one of these topics.

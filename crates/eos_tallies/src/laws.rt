@@ -5,7 +5,7 @@ ghost use Rattle.eos_commits.specs.Faults.{AreInOrder};
 ghost use Rattle.eos_evidence.specs.Evidence.{EvidenceParts, IsEvidence};
 ghost use Rattle.eos_fold.specs.Parts.{PartLog};
 ghost use Rattle.eos_lineage.specs.EvidenceLogs.{AreLogsOf};
-ghost use Rattle.eos_partitions.specs.Faults.{AreFaultsIn};
+ghost use Rattle.eos_kept.specs.Faults.{AreFaultsIn};
 ghost use Rattle.eos_tallies.specs.Counts.{AreCounted};
 ghost use Rattle.eos_tallies.specs.Tallies.{AreTallies};
 ghost use Rattle.eos_tallies.specs.TalliesByLogs.{tallies_by};

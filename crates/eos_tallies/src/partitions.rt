@@ -16,8 +16,7 @@ use bytes::Bytes;
 use eos_base::Listed;
 use eos_commits::TopicSet;
 use eos_evidence::App;
-use eos_partition::Part;
-use eos_partitions::Logs;
+use eos_kept::{Logs, Part};
 use eos_touch::PartitionFault;
 use std::alloc::{AllocError, Global};
 

@@ -6,7 +6,7 @@ ghost use Rattle.eos_tallies.specs.GroupTallies.{visible_below};
 ghost use Rattle.eos_tallies.specs.steps.Counted.{count_visible as visible_among, count_below as below_among};
 
 use eos_commits::is_visible;
-use eos_partition::{ItemRef, Part};
+use eos_kept::{ItemRef, Part};
 use std::alloc::AllocError;
 
 /// The sum of two counts. No machine has memory for as many as 64 bits can't count.

@@ -3,7 +3,7 @@
 ghost use Rattle.std.specs.Prelude.{List};
 ghost use Rattle.eos_evidence.specs.declared.segment.Segment.{Segment};
 ghost use Rattle.eos_kept.specs.Sizes.{AreSized};
-ghost use Rattle.eos_part.specs.Parts.{HasBatches};
+ghost use Rattle.eos_kept.specs.Parts.{HasBatches};
 ghost use Rattle.eos_tallies.specs.Counts.{IsCounted};
 
 use bytes::Bytes;

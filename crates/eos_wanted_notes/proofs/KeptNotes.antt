@@ -19,9 +19,9 @@ use Rattle.eos_notes.specs.ReplicaNotes.{falls}
 use Rattle.eos_notes.specs.Notes.{of_all, AreNotesBy, AreNotes, AreAllNotesBy, AreAllNotes}
 use Rattle.eos_notes.specs.Lines.{IsNotesTextBy, IsNotesText, IsAllNotesTextBy, IsAllNotesText}
 use Rattle.eos_notes.proofs.Whole.{notes_are, all_are}
-use Rattle.eos_part.specs.Parts.{HaveEpochs}
+use Rattle.eos_kept.specs.Parts.{HaveEpochs}
 use Rattle.eos_reading.specs.declared.epoch.EpochEntry.{EpochEntry}
-use Rattle.eos_partitions.specs.Faults.{AreFaultsIn, first_of}
+use Rattle.eos_kept.specs.Faults.{AreFaultsIn, first_of}
 use Rattle.eos_touch.specs.declared.fault.PartitionFault.{PartitionFault}
 use Rattle.eos_reading.specs.Wanted.{kept_log, wanted_logs}
 use Rattle.eos_wanted_verdict.proofs.SeenSame.{flat_seen}

@@ -16,7 +16,7 @@ use Rattle.eos_fold.specs.declared.item.Item.{Item}
 use Rattle.eos_lineage.specs.EvidenceLogs.{AreLogsOf, commits_for}
 use Rattle.eos_lineage.specs.Lineage.{is_part_of, parts_of}
 use Rattle.eos_lineage.proofs.BelowClaims.{length_mapped}
-use Rattle.eos_partitions.specs.Faults.{AreFaultsIn, first_of}
+use Rattle.eos_kept.specs.Faults.{AreFaultsIn, first_of}
 use Rattle.eos_touch.specs.declared.fault.PartitionFault.{PartitionFault}
 use Rattle.eos_tallies.specs.declared.tally.Counted.{Counted}
 use Rattle.eos_tallies.specs.declared.tally.GroupTally.{GroupTally}

@@ -4,7 +4,7 @@ use Rattle.eos_base.specs.Least.{NoneStands, IsLeast, IsLeastOrNone}
 use Rattle.eos_evidence.specs.Evidence.{EvidenceParts, IsEvidence}
 use Rattle.eos_touch.specs.declared.fault.PartitionFault.{PartitionFault}
 use Rattle.eos_fold.specs.Parts.{PartLog}
-use Rattle.eos_partitions.specs.Faults.{AreFaultsIn, first_of}
+use Rattle.eos_kept.specs.Faults.{AreFaultsIn, first_of}
 use Rattle.eos_txnlog.specs.declared.decision.Decision.{Decision}
 use Rattle.eos_table.specs.declared.log_fault.LogFault.{LogFault}
 use Rattle.eos_table.specs.declared.match_fault.MatchFault.{MatchFault}

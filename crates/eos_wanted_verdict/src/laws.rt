@@ -21,7 +21,7 @@ ghost use Rattle.eos_lineage.specs.EvidenceLogs.{IsLogOf, AreLogsOf};
 ghost use Rattle.eos_lineage.specs.Faults as lineage;
 ghost use Rattle.eos_lineage.specs.Lineage.{application_of, count_inputs, count_outputs, LineageKept};
 ghost use Rattle.eos_lineage.specs.declared.fault.LineageFault.{LineageFault};
-ghost use Rattle.eos_partitions.specs.Faults.{AreFaultsIn, first_of};
+ghost use Rattle.eos_kept.specs.Faults.{AreFaultsIn, first_of};
 ghost use Rattle.eos_table.specs.Atomic.{Atomic};
 ghost use Rattle.eos_table.specs.LogFaults as logs;
 ghost use Rattle.eos_table.specs.MatchFaults as matches;

@@ -11,7 +11,7 @@ use Rattle.eos_evidence.specs.Parts.{Parts}
 use Rattle.eos_notes.specs.declared.note.Note.{Note}
 use Rattle.eos_notes.specs.Lines.{IsAllNotesTextBy}
 use Rattle.eos_notes.specs.Notes.{AreAllNotesBy}
-use Rattle.eos_partitions.specs.Faults.{first_of}
+use Rattle.eos_kept.specs.Faults.{first_of}
 use Rattle.eos_source_check.specs.declared.judged.Judged.{Judged}
 use Rattle.eos_tallies.specs.TalliesByLogs.{tallies_by}
 use Rattle.eos_source.specs.Said.{Known}

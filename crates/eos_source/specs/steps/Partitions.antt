@@ -4,8 +4,8 @@ use Rattle.eos_evidence.specs.declared.application.App.{App}
 use Rattle.eos_evidence.specs.declared.partition.Partition.{Partition}
 use Rattle.eos_evidence.specs.declared.segment.Segment.{Segment}
 use Rattle.eos_evidence.specs.Evidence.{segments_of}
-use Rattle.eos_part.specs.declared.part.Told.{Told}
-use Rattle.eos_part.specs.Parts.{IsTold}
+use Rattle.eos_kept.specs.declared.part.Told.{Told}
+use Rattle.eos_kept.specs.Parts.{IsTold}
 use Rattle.eos_reading.specs.Wanted.{wanted_of}
 use Rattle.eos_source.specs.declared.logs.KeptLogs.{KeptLogs}
 use Rattle.eos_source.specs.Logs.{AreTold, AreColumns}

@@ -5,8 +5,8 @@ use Rattle.eos_evidence.specs.declared.segment.Segment.{Segment}
 use Rattle.eos_evidence.specs.Topics.{is_internal}
 use Rattle.eos_reading.specs.declared.wanted.Wanted.{Wanted}
 use Rattle.eos_reading.specs.Wanted.{wanted_of}
-use Rattle.eos_part.specs.declared.run.KeptRun.{KeptRun}
-use Rattle.eos_part.specs.Runs.{IsKeptRun, wanted_by, front_of, HasClaims}
+use Rattle.eos_kept.specs.declared.kept_run.KeptRun.{KeptRun}
+use Rattle.eos_kept.specs.KeptRuns.{IsKeptRun, wanted_by, front_of, HasClaims}
 use Rattle.eos_source.specs.Said.{Said, Known, IsAsKnown}
 use Rattle.eos_source.specs.Shapes.{IsPiece, ArePieces}
 

@@ -2,7 +2,7 @@
 use Rattle.std.specs.Prelude.{ℕ, suc, List, [], ◌∷◌, Option, Result, IfSome, IsSome, slice_get, ⊤}
 use Rattle.eos_evidence.specs.declared.application.App.{App}
 use Rattle.eos_evidence.specs.declared.segment.Segment.{Segment}
-use Rattle.eos_part.specs.declared.run.KeptRun.{KeptRun}
+use Rattle.eos_kept.specs.declared.kept_run.KeptRun.{KeptRun}
 use Rattle.eos_source.specs.Said.{Known}
 use Rattle.eos_source.specs.steps.Runs.{IsSlot}
 

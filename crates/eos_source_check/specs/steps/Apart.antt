@@ -1,6 +1,6 @@
 -- Kept logs, each part in the form that the phases take, and the counts by themselves.
 use Rattle.std.specs.Prelude.{◌≡◌, List, map}
-use Rattle.eos_partitions.specs.declared.logs.Logs.{Logs}
+use Rattle.eos_kept.specs.declared.logs.Logs.{Logs}
 use Rattle.eos_source.specs.declared.logs.KeptLogs.{KeptLogs}
 use Rattle.eos_source.specs.declared.logs.Tally.{Tally}
 use Rattle.eos_tallies.specs.declared.tally.Counted.{Counted}

@@ -1,7 +1,7 @@
 use Rattle.std.proofs.Common.{◌≡◌, Some, None, sym, subst, rules}
 use Rattle.eos_evidence.specs.Parts.{Parts}
 use Rattle.eos_fold.specs.LeastFaults.{IsFirstFault}
-use Rattle.eos_partitions.specs.Faults.{first_of}
+use Rattle.eos_kept.specs.Faults.{first_of}
 use Rattle.eos_lineage.proofs.LogsInOrder.{in_order}
 use Rattle.eos_check.proofs.NamedFaults.{first_named}
 use Rattle.eos_all_faults.specs.AllFaults.{AreAllFaults}

@@ -1,5 +1,5 @@
 use Rattle.std.proofs.Common.{◌≡◌, None, rules}
-use Rattle.eos_partitions.specs.Faults.{first_of}
+use Rattle.eos_kept.specs.Faults.{first_of}
 use Rattle.eos_check.proofs.PhaseAnswers.{refused, answered}
 use Rattle.eos_check.proofs.judging.judge.Goals as goal
 

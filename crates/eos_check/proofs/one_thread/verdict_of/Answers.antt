@@ -1,6 +1,6 @@
 use Rattle.std.proofs.Common.{subst}
 use Rattle.eos_evidence.specs.Parts.{Parts}
-use Rattle.eos_partitions.specs.Faults.{first_of}
+use Rattle.eos_kept.specs.Faults.{first_of}
 use Rattle.eos_check.specs.Judged.{IsJudged}
 use Rattle.eos_check.specs.Verdicts.{IsVerdict}
 use Rattle.eos_check.proofs.PhaseAnswers.{if_ok, judged}

@@ -1,7 +1,7 @@
 use Rattle.std.proofs.Common.{List, is_some, subst, string_bytes}
 use Rattle.std.specs.Prelude.{IfOk}
 use Rattle.eos_notes.specs.Lines.{IsAllNotesTextBy}
-use Rattle.eos_partitions.specs.Faults.{first_of}
+use Rattle.eos_kept.specs.Faults.{first_of}
 use Rattle.eos_reading.specs.declared.epoch.EpochEntry.{EpochEntry}
 use Rattle.eos_checking.proofs.source.note_lines_of.Goals as goal
 

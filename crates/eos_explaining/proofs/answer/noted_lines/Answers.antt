@@ -3,7 +3,7 @@ use Rattle.eos_evidence.specs.Parts.{Parts}
 use Rattle.eos_lineage.proofs.LogsInOrder.{in_order}
 use Rattle.eos_notes.specs.Lines.{IsNotesTextBy}
 use Rattle.eos_notes.proofs.Whole.{text_is}
-use Rattle.eos_partitions.specs.Faults.{first_of}
+use Rattle.eos_kept.specs.Faults.{first_of}
 use Rattle.eos_explaining.proofs.answer.noted_lines.Goals as goal
 
 pub returns : goal.returns

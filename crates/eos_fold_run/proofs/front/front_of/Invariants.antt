@@ -1,6 +1,6 @@
 use Rattle.std.proofs.Common.{◌≡◌, ◌≤◌, List}
 use Rattle.eos_batch.specs.declared.batch.Batch.{Batch}
-use Rattle.eos_run.specs.Runs.{IsRun}
+use Rattle.eos_kept.specs.Runs.{IsRun}
 use Rattle.eos_fold_run.specs.steps.Heads.{AreFrom}
 use Rattle.eos_fold_run.proofs.HeadsPassed.{HasPassed}
 use Rattle.eos_fold_run.proofs.front.front_of.Given as goal

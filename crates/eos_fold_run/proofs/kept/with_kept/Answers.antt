@@ -6,7 +6,7 @@ use Rattle.eos_reading.specs.declared.wanted.Wanted.TheVariants as wants
 use Rattle.eos_reading.specs.Records.{wanted_record, ReadsBack}
 use Rattle.eos_fold_file.specs.declared.claim.FoldText.{FoldText}
 use Rattle.eos_fold_file.specs.Folds.{fold_text_of, IsKeptOf}
-use Rattle.eos_part.specs.Records.{SaysClaim}
+use Rattle.eos_kept.specs.Records.{SaysClaim}
 use Rattle.eos_fold_run.specs.steps.Kept.{AreReadBack}
 use Rattle.eos_fold_run.proofs.RunsTaken.{kept_told, units_told, texts_told, texts_said}
 use Rattle.eos_fold_run.proofs.kept.with_kept.Goals as goal

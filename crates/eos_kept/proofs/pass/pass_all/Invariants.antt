@@ -1,7 +1,7 @@
 use Rattle.std.proofs.Common.{◌≡◌, ◌≤◌, List}
 use Rattle.eos_batch.specs.declared.batch.Batch.{Batch}
 use Rattle.eos_fold.specs.declared.stop.Stop.TheVariants.{AtEnd}
-use Rattle.eos_run.specs.Runs.{IsRun}
+use Rattle.eos_kept.specs.Runs.{IsRun}
 use Rattle.eos_kept.specs.steps.Passing.{AreHeads}
 use Rattle.eos_kept.proofs.PassedHeads.{HasPassed}
 use Rattle.eos_kept.proofs.pass.pass_all.Given as goal

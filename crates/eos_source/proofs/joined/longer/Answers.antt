@@ -1,5 +1,5 @@
 use Rattle.std.proofs.Common.{Option, subst}
-use Rattle.eos_part.specs.declared.run.KeptRun.{KeptRun}
+use Rattle.eos_kept.specs.declared.kept_run.KeptRun.{KeptRun}
 use Rattle.eos_source.specs.steps.Runs.{AreRead}
 use Rattle.eos_source.proofs.PiecesJoined.{joined}
 use Rattle.eos_source.proofs.joined.longer.Goals as goal

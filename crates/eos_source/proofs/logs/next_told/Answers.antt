@@ -4,7 +4,7 @@ use Rattle.std.specs.Vec.Iter.{into_iter_items}
 use Rattle.eos_evidence.specs.declared.ends.End.{End}
 use Rattle.eos_evidence.specs.declared.segment.Segment.{Segment}
 use Rattle.eos_fold.specs.Standing.{AreOf}
-use Rattle.eos_part.specs.Parts.{IsTold}
+use Rattle.eos_kept.specs.Parts.{IsTold}
 use Rattle.eos_reading.specs.declared.wanted.Wanted.{Wanted}
 use Rattle.eos_reading.specs.Wanted.{wanted_of}
 use Rattle.eos_source.specs.Said.{known_by}

@@ -1,7 +1,7 @@
 use Rattle.std.proofs.Common.{subst}
 use Rattle.eos_check.specs.Judged.{IsJudged}
 use Rattle.eos_evidence.specs.Parts.{Parts}
-use Rattle.eos_partitions.specs.Faults.{first_of}
+use Rattle.eos_kept.specs.Faults.{first_of}
 use Rattle.eos_source_check.proofs.VerdictKept.{judged_of}
 use Rattle.eos_source_check.proofs.judged.judge_source.Goals as goal
 

@@ -2,7 +2,7 @@ use Rattle.std.proofs.Common.{◌≡◌, List, length, take, Option, Some, None,
 use Rattle.std.proofs.lemmas.Result.{err_from_is_err_and}
 use Rattle.eos_evidence.specs.Parts.{Parts}
 use Rattle.eos_touch.specs.declared.fault.PartitionFault.{PartitionFault}
-use Rattle.eos_partitions.specs.Faults.{first_of}
+use Rattle.eos_kept.specs.Faults.{first_of}
 use Rattle.eos_all_faults.specs.LaterFaults.{AreLaterFaults}
 use Rattle.eos_source.specs.Said.{known_by}
 use Rattle.eos_source_faults.specs.Refusals.{IsEarned}

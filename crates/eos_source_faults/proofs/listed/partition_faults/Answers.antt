@@ -2,7 +2,7 @@ use Rattle.std.proofs.Common.{◌≡◌, List, length, take, option_map, ap, sub
 use Rattle.std.proofs.lemmas.Result.{err_from_is_err_and}
 use Rattle.std.specs.List.{slice_get}
 use Rattle.eos_evidence.specs.declared.partition.Partition.{Partition}
-use Rattle.eos_partitions.specs.Faults.{first_of as first_found}
+use Rattle.eos_kept.specs.Faults.{first_of as first_found}
 use Rattle.eos_source.specs.Said.{known_by}
 use Rattle.eos_source_faults.specs.Refusals.{IsEarned}
 use Rattle.eos_source_faults.specs.steps.Earned.{IsOfPartition}

@@ -1,6 +1,6 @@
 use Rattle.std.proofs.Common.{◌≡◌, take}
 use Rattle.std.specs.List.{slice_get}
-use Rattle.eos_partitions.specs.Faults.{first_of as first_of_found}
+use Rattle.eos_kept.specs.Faults.{first_of as first_of_found}
 use Rattle.eos_source.specs.Said.{known_by}
 use Rattle.eos_source_faults.proofs.PassedAgain.{first_of, Passed}
 use Rattle.eos_source_faults.proofs.listed.partition_faults.Given as goal

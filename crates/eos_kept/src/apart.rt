@@ -1,0 +1,28 @@
+//! What is kept of a partition's segments, taken apart.
+
+ghost use Rattle.std.specs.Prelude.{◌≡◌};
+ghost use Rattle.eos_kept.specs.steps.Fronts.{AreEach, IsApart};
+
+use crate::{Front, Kept, Sizes};
+use std::alloc::Global;
+
+/// The front, what is kept of its records, and how large the segments are; of no segment no front and no records.
+pub(crate) fn apart<T: Drop>(alloc: Global, run: Option<Kept<T>>) -> (Option<Front>, Vec<T>, Sizes)
+    ensures parts { IsApart run result.0 result.1.items result.2 }
+    ensures each { AreEach result.0 result.1.items }
+{
+    match run {
+        None => {
+            let sizes = Sizes {
+                segments: 0,
+                bytes: 0,
+            };
+            (None, Vec::new(alloc), sizes)
+        }
+        Some(run) => {
+            let sizes = run.sizes();
+            let (front, kept) = run.into_parts();
+            (Some(front), kept, sizes)
+        }
+    }
+}

@@ -1,4 +1,0 @@
--- What only private functions promise: steps towards what the public calls say.
-pub mod Closes
-pub mod Counts
-pub mod Fronts

@@ -1,3 +1,0 @@
-pub mod HeadLists
-pub mod Takings
-pub mod JoinedRuns
