@@ -17,3 +17,15 @@ pub mod LeastTexts
 pub mod RealHeads
 pub mod EpochLists
 pub mod HeadTotals
+pub mod HeadCounts
+pub mod SealSteps
+pub mod SealLists
+pub mod EpochEntries
+pub mod PlacedClaims
+pub mod PassedHeads
+pub mod FrontSteps
+pub mod HeadsPassed
+pub mod ClaimLimits
+pub mod EachSoFar
+pub mod FoldSaid
+pub mod RunsTaken

@@ -3,3 +3,9 @@ pub mod Faults
 pub mod Counts
 pub mod Widths
 pub mod Walks
+pub mod Passing
+pub mod Seals
+pub mod Sealing
+pub mod Fronts
+pub mod Heads
+pub mod Kept

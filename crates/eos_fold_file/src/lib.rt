@@ -4,21 +4,36 @@
 #![tactic(auto)]
 
 mod claim;
+mod claims;
 mod entry;
 mod epoch;
 mod fault;
 mod file;
+mod fold;
+mod folding_texts;
+mod front;
 mod head;
+mod kept;
 pub mod laws;
 mod number;
+mod pass;
 mod read;
+mod run;
+mod run_front;
+mod run_texts;
+mod seals;
+mod segment;
 mod stop;
 mod texts;
+mod unfit;
 mod write;
 
 pub use claim::FoldText;
 pub use fault::FoldFault;
 pub use file::{FoldFile, FoldKept};
+pub use fold::fold_of;
 pub use head::{BatchKind, FoldHead};
 pub use read::decode_fold;
+pub use run::run_of;
+pub use unfit::Unfit;
 pub use write::encode_fold;

@@ -12,8 +12,7 @@ ghost use Rattle.eos_folder_source.specs.steps.Folds.{IsForName};
 
 use bytes::Bytes;
 use eos_evidence::{MAX_SEGMENT_BYTES, Segment};
-use eos_fold_file::{FoldFault, FoldFile, decode_fold};
-use eos_fold_run::Unfit;
+use eos_fold_file::{FoldFault, FoldFile, Unfit, decode_fold};
 use eos_disk::{Cause, FoldRefusal, FolderFault, Form, refused_at, refused_fold, segment_path};
 use std::alloc::{AllocError, Global};
 

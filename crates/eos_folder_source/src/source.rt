@@ -7,7 +7,7 @@ use crate::fold::{read_fold, refused_unfit};
 use crate::reader::SegmentReader;
 use eos_disk::{Cause, Disk, FolderFault, Form, NamedFile, Shape, Watch, segment_path};
 use eos_evidence::{Evidence, ReadFault, Segment};
-use eos_fold_run::Unfit;
+use eos_fold_file::Unfit;
 use eos_source::{Piece, Source};
 use std::alloc::Global;
 

@@ -5,7 +5,7 @@ ghost use Rattle.eos_source.specs.declared.memory.MemoryFault.TheVariants.{OutOf
 
 use crate::source::{Piece, Source};
 use eos_evidence::{Evidence, ReadFault};
-use eos_fold_run::Unfit;
+use eos_fold_file::Unfit;
 use std::alloc::{AllocError, Global};
 
 /// An evidence whose segments hold their bytes.

@@ -10,8 +10,7 @@ ghost use Rattle.eos_source.specs.steps.Runs.{IsAsked, IsTaken};
 
 use crate::source::{Piece, Source};
 use eos_evidence::Segment;
-use eos_fold_file::FoldFile;
-use eos_fold_run::{Unfit, run_of};
+use eos_fold_file::{FoldFile, Unfit, run_of};
 use eos_kept::{Asked, KeptRun};
 use std::alloc::Global;
 

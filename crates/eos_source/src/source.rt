@@ -1,8 +1,7 @@
 //! Where the pieces of an evidence are read from.
 
 use eos_evidence::ReadFault;
-use eos_fold_file::FoldFile;
-use eos_fold_run::Unfit;
+use eos_fold_file::{FoldFile, Unfit};
 use std::alloc::{AllocError, Global};
 use std::io::Read;
 

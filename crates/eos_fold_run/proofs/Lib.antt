@@ -1,5 +1,0 @@
-pub mod HeadsPassed
-pub mod ClaimLimits
-pub mod EachSoFar
-pub mod FoldSaid
-pub mod RunsTaken

@@ -1,6 +1,0 @@
-use Rattle.std.proofs.Common.{◌≡◌, map, take}
-use Rattle.eos_fold_run.specs.steps.Kept.{text_record}
-use Rattle.eos_fold_run.proofs.texts.copies_of.Given as goal
-
-abbrev pub invariant-loop-text : goal.invariant-loop-text
-invariant-loop-text l = l.copies.items ≡ map text_record (take l.text-index l.texts)

@@ -1,6 +1,0 @@
-use Rattle.std.proofs.Common.{◌≡◌, take, flat_map}
-use Rattle.eos_folding.specs.steps.Seals.{checksum_text}
-use Rattle.eos_folding.proofs.seals.checksum_of.Given as goal
-
-abbrev pub invariant-loop-seal : goal.invariant-loop-seal
-invariant-loop-seal l = l.fields.items ≡ flat_map checksum_text (take l.seal-index l.seals)
