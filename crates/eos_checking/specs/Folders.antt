@@ -8,7 +8,7 @@ use Rattle.eos_evidence.specs.Evidence.{EvidenceParts, IsEvidence, segments_of}
 use Rattle.eos_disk.specs.Entries.{Entry}
 use Rattle.eos_disk.specs.declared.names.Form.{Form}
 use Rattle.eos_disk.specs.Shapes.{IsShapeAt}
-use Rattle.eos_folder_source.specs.Saying.{known_at}
+use Rattle.eos_source.specs.Saying.{known_at}
 use Rattle.eos_notes.specs.Lines.{IsAllNotesText}
 use Rattle.eos_source.specs.Said.{Known}
 use Rattle.eos_source.specs.Shapes.{HoldsAsSaid}

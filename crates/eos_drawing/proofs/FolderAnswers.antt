@@ -7,9 +7,9 @@ use Rattle.eos_evidence.specs.Evidence.{EvidenceParts, segments_of}
 use Rattle.eos_disk.specs.declared.names.Form.{Form}
 use Rattle.eos_disk.specs.Shapes.{IsShapeAt, AreKnown}
 use Rattle.eos_disk.proofs.OneShape.{one_shape}
-use Rattle.eos_folder_source.specs.Logs.{is_log_at}
-use Rattle.eos_folder_source.specs.Saying.{said_at, known_at, StandsAt}
-use Rattle.eos_folder_source.proofs.SameShape.{holds_of_known}
+use Rattle.eos_source.specs.FolderLogs.{is_log_at}
+use Rattle.eos_source.specs.Saying.{said_at, known_at, StandsAt}
+use Rattle.eos_source.proofs.SameShape.{holds_of_known}
 use Rattle.eos_source.specs.Said.{Said, known_by}
 use Rattle.eos_source.specs.Shapes.{IsOfShape}
 use Rattle.eos_source_faults.specs.Again.{AreThere}

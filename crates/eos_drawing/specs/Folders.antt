@@ -8,7 +8,7 @@ use Rattle.eos_evidence.specs.declared.partition.Partition.{Partition}
 use Rattle.eos_evidence.specs.Evidence.{EvidenceParts, segments_of}
 use Rattle.eos_disk.specs.declared.names.Form.{Form}
 use Rattle.eos_disk.specs.Shapes.{IsShapeAt}
-use Rattle.eos_folder_source.specs.Saying.{known_at}
+use Rattle.eos_source.specs.Saying.{known_at}
 use Rattle.eos_source.specs.Said.{Known}
 use Rattle.eos_source.specs.Shapes.{HoldsAsSaid}
 use Rattle.eos_source_faults.specs.Again.{AreAgain, AreThere}

@@ -9,11 +9,11 @@ ghost use Rattle.eos_drawing.specs.steps.Answers.{IsAnswer};
 ghost use Rattle.eos_drawing.specs.declared.folder.Undrawn.TheVariants.{CannotPrint, TooFew};
 ghost use Rattle.eos_evidence.specs.Evidence.{EvidenceParts, segments_of};
 ghost use Rattle.eos_disk.specs.Shapes.{AreKnown};
-ghost use Rattle.eos_folder_source.specs.Saying.{known_at, StandsAt};
+ghost use Rattle.eos_source.specs.Saying.{known_at, StandsAt};
 
 use crate::answer::{Answer, Pieces, Wanted, answer_source};
 use eos_disk::{ChangeFault, Disk, DiskMut, FolderFault, NewFile, Shape, Watch, begin_file, drop_file, end_file, read_shape};
-use eos_folder_source::FolderSource;
+use eos_source::FolderSource;
 use eos_source_faults::Unlisted;
 use eos_text::finish;
 use std::alloc::Global;

@@ -4,7 +4,7 @@ use Rattle.eos_disk.specs.Entries.{Entry}
 use Rattle.eos_evidence.specs.Evidence.{EvidenceParts}
 use Rattle.eos_disk.specs.Reading.{IsReadWhole}
 use Rattle.eos_disk.specs.Shapes.{AreKnown}
-use Rattle.eos_folder_source.specs.Saying.{StandsAt}
+use Rattle.eos_source.specs.Saying.{StandsAt}
 use Rattle.eos_explaining.specs.declared.answer.Answer.{Answer}
 use Rattle.eos_explaining.specs.declared.folder.Explained.{Explained}
 use Rattle.eos_explaining.specs.Explaining.{IsAnswer}

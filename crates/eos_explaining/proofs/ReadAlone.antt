@@ -16,9 +16,9 @@ use Rattle.eos_disk.specs.Paths.{padded_base, ending_of, segment_path}
 use Rattle.eos_disk.specs.Reading.{name_of, names_only, shape_of, AreAllLogs, HasItsBytes, IsReadWhole}
 use Rattle.eos_disk.specs.Shapes.{AreListed, AreKnown, segment_of}
 use Rattle.eos_disk.proofs.ReadWhole.{named_segments}
-use Rattle.eos_folder_source.specs.Logs.{is_log}
-use Rattle.eos_folder_source.specs.Saying.{said_by, said_at, StandsAs, StandsAt}
-use Rattle.eos_folder_source.proofs.OneEvidence.{one_evidence}
+use Rattle.eos_source.specs.FolderLogs.{is_log}
+use Rattle.eos_source.specs.Saying.{said_by, said_at, StandsAs, StandsAt}
+use Rattle.eos_source.proofs.OneEvidence.{one_evidence}
 use Rattle.eos_source.specs.Said.{Said, HasSaid, Log}
 use Rattle.eos_source.specs.Shapes.{ArePieces, ArePartitions}
 

@@ -5,7 +5,7 @@ ghost use Rattle.std.specs.Io.KnownBytes.{Keeps};
 ghost use Rattle.eos_evidence.specs.Evidence.{EvidenceParts};
 ghost use Rattle.eos_disk.specs.Reading.{IsReadWhole};
 ghost use Rattle.eos_disk.specs.Shapes.{AreKnown};
-ghost use Rattle.eos_folder_source.specs.Saying.{StandsAt};
+ghost use Rattle.eos_source.specs.Saying.{StandsAt};
 ghost use Rattle.eos_explaining.specs.Explaining.{IsAnswer};
 ghost use Rattle.eos_explaining.specs.Folders.{number_of, IsExplained, IsFrontOfExplained};
 ghost use Rattle.eos_explaining.specs.steps.Tellings.{Tells, TellsFront};

@@ -7,3 +7,8 @@ mod SlotsFilled
 mod SlotsRead
 mod SlotsRefused
 mod TopicsOnce
+pub mod FoldBounds
+pub mod Saying
+pub mod SameShape
+pub mod OneEvidence
+pub mod Refused

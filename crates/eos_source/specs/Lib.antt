@@ -4,3 +4,6 @@ pub mod Said
 pub mod Shapes
 pub mod Topics
 pub mod steps
+pub mod FolderLogs
+pub mod FolderRefusals
+pub mod Saying

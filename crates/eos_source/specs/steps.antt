@@ -3,3 +3,4 @@ pub mod Partitions
 pub mod Runs
 pub mod Seats
 pub mod Slots
+pub mod Folds

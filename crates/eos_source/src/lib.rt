@@ -5,19 +5,26 @@
 //! segments have their names and no bytes. In memory is what is kept, and for each thread what reading one segment takes.
 #![tactic(auto)]
 
+mod again;
+mod fold;
+pub mod folder_laws;
+mod folder_source;
 mod joined;
 pub mod laws;
 mod logs;
 mod memory;
 mod piece;
 mod plan;
+mod reader;
 mod seats;
 mod slots;
 mod source;
 mod told;
 mod topics;
 
+pub use folder_source::FolderSource;
 pub use logs::{KeptLogs, Tally, kept_logs};
 pub use memory::{MemoryFault, MemorySource};
+pub use reader::SegmentReader;
 pub use source::{Piece, Source};
 pub use topics::source_topics;

@@ -2,8 +2,8 @@ use Rattle.std.proofs.Common.{◌≡◌, List, Some, subst}
 use Rattle.std.specs.Prelude.{slice_get}
 use Rattle.eos_evidence.specs.Evidence.{segments_of}
 use Rattle.eos_disk.specs.declared.names.Form.{Form}
-use Rattle.eos_folder_source.proofs.Refused.{fold_at}
-use Rattle.eos_folder_source.proofs.source.FolderSource.needs_log.Goals as goal
+use Rattle.eos_source.proofs.Refused.{fold_at}
+use Rattle.eos_source.proofs.folder_source.FolderSource.needs_log.Goals as goal
 
 pub returns-in-Some : goal.returns-in-Some
 returns-in-Some g c =

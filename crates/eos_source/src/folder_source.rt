@@ -8,7 +8,7 @@ use crate::reader::SegmentReader;
 use eos_disk::{Cause, Disk, FolderFault, Form, NamedFile, Shape, Watch, segment_path};
 use eos_evidence::{Evidence, ReadFault, Segment};
 use eos_fold_file::Unfit;
-use eos_source::{Piece, Source};
+use crate::{Piece, Source};
 use std::alloc::Global;
 
 /// A folder of this shape, as `read_shape` gives it.
@@ -43,9 +43,9 @@ impl<'a, D: Disk, W: Watch> Source for FolderSource<'a, D, W> {
     type Fault = FolderFault;
 
     ghost use Rattle.eos_evidence.specs.Evidence.{segments_of};
-    ghost use Rattle.eos_folder_source.specs.Logs.{is_log_at};
-    ghost use Rattle.eos_folder_source.specs.Refusals.{OutcomeAt};
-    ghost use Rattle.eos_folder_source.specs.Saying.{said_at};
+    ghost use Rattle.eos_source.specs.FolderLogs.{is_log_at};
+    ghost use Rattle.eos_source.specs.FolderRefusals.{OutcomeAt};
+    ghost use Rattle.eos_source.specs.Saying.{said_at};
 
     ghost said = { λ s piece. said_at (D.holds s.disk.now) s.folder.now (segments_of s.shape.now.evidence.partitions) s.shape.now.forms.items piece };
 

@@ -11,8 +11,8 @@ use Rattle.eos_disk.specs.declared.names.Form.TheVariants.{Log, Fold}
 use Rattle.eos_disk.specs.Paths.{segment_path}
 use Rattle.eos_source.specs.Said.{Said, WillSay}
 use Rattle.eos_source.specs.declared.source.Piece.TheVariants as pieces
-use Rattle.eos_folder_source.specs.Saying.{said_in, said_by, said_at}
-use Rattle.eos_folder_source.specs.steps.Folds.{IsFoldIn}
+use Rattle.eos_source.specs.Saying.{said_in, said_by, said_at}
+use Rattle.eos_source.specs.steps.Folds.{IsFoldIn}
 
 said_is : (holds : List ℕ → Entry) (folder : List ℕ) (names : List Segment) (forms : List Form) (piece : ℕ) (name : Segment) (form : Form)
     → slice_get names piece ≡ Some name → slice_get forms piece ≡ Some form → said_at holds folder names forms piece ≡ said_by form (holds (segment_path folder name form))

@@ -2,9 +2,9 @@
 
 ghost use Rattle.std.specs.Prelude.{Some, length};
 ghost use Rattle.eos_evidence.specs.Evidence.{segments_of};
-ghost use Rattle.eos_folder_source.specs.Refusals.{IsOfAny, OutcomeAt};
+ghost use Rattle.eos_source.specs.FolderRefusals.{IsOfAny, OutcomeAt};
 
-use crate::source::{FolderSource, piece_of};
+use crate::folder_source::{FolderSource, piece_of};
 use eos_disk::{Cause, Disk, FoldRefusal, FolderFault, Watch, refused_at, segment_path};
 use std::alloc::Global;
 

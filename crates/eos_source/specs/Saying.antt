@@ -13,7 +13,7 @@ use Rattle.eos_disk.specs.Shapes.{IsShapeAt}
 use Rattle.eos_source.specs.Said.{Said, Known, known_by}
 use Rattle.eos_source.specs.Said as say
 use Rattle.eos_source.specs.Shapes.{IsOfShape}
-use Rattle.eos_folder_source.specs.Logs.{is_log_at}
+use Rattle.eos_source.specs.FolderLogs.{is_log_at}
 
 abbrev pub said_in : Result FoldFile FoldFault → Option Said
 said_in (Ok fold) = Some (say.Fold fold)

@@ -14,7 +14,7 @@ use Rattle.eos_disk.specs.declared.names.Form.{Form}
 use Rattle.eos_disk.specs.declared.names.Form.TheVariants as in_form
 use Rattle.eos_disk.specs.Paths.{segment_path}
 use Rattle.eos_disk.specs.Refusals.{IsLong, IsLongPiece, IsSoAt, MayRefuse, RefusesFile, RefusesFold, RefusesPiece}
-use Rattle.eos_folder_source.specs.Refusals.{MayBeFile, OutcomeOf, OutcomeAt, IsOfAny}
+use Rattle.eos_source.specs.FolderRefusals.{MayBeFile, OutcomeOf, OutcomeAt, IsOfAny}
 
 -- ---- the refusals of a file
 

@@ -4,8 +4,8 @@ use Rattle.std.proofs.lemmas.Result.{err_from_is_err_and}
 use Rattle.std.specs.Prelude.{slice_get}
 use Rattle.eos_evidence.specs.Evidence.{segments_of}
 use Rattle.eos_disk.specs.declared.names.Form.{Form}
-use Rattle.eos_folder_source.proofs.Refused.{file_at, piece_at}
-use Rattle.eos_folder_source.proofs.source.FolderSourceSource.open.Goals as goal
+use Rattle.eos_source.proofs.Refused.{file_at, piece_at}
+use Rattle.eos_source.proofs.folder_source.FolderSourceSource.open.Goals as goal
 
 pub returns-in_err-bytes-in-Fold-clause-refused : goal.returns-in_err-bytes-in-Fold-clause-refused
 returns-in_err-bytes-in-Fold-clause-refused g c =

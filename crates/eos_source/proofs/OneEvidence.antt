@@ -13,8 +13,8 @@ use Rattle.eos_disk.specs.Shapes.{AreKnown}
 use Rattle.eos_disk.proofs.OneShape.{one_shape}
 use Rattle.eos_source.specs.Said.{Said, Log}
 use Rattle.eos_source.specs.Shapes.{IsPiece, ArePieces, ArePartitions}
-use Rattle.eos_folder_source.specs.Logs.{is_log, is_log_at}
-use Rattle.eos_folder_source.specs.Saying.{said_by, said_at, StandsAs, StandsAt}
+use Rattle.eos_source.specs.FolderLogs.{is_log, is_log_at}
+use Rattle.eos_source.specs.Saying.{said_by, said_at, StandsAs, StandsAt}
 
 -- ---- what a log says
 

@@ -5,8 +5,8 @@ ghost use Rattle.eos_disk.specs.Entries.{Entry};
 ghost use Rattle.eos_evidence.specs.Evidence.{EvidenceParts, segments_of};
 ghost use Rattle.eos_disk.specs.Shapes.{AreKnown};
 ghost use Rattle.eos_disk.specs.declared.names.Form.{Form};
-ghost use Rattle.eos_folder_source.specs.Logs.{is_log_at};
-ghost use Rattle.eos_folder_source.specs.Saying.{known_at, StandsAs, StandsAt};
+ghost use Rattle.eos_source.specs.FolderLogs.{is_log_at};
+ghost use Rattle.eos_source.specs.Saying.{known_at, StandsAs, StandsAt};
 ghost use Rattle.eos_source.specs.Logs.{AreKeptLogs, AreLogsKept};
 ghost use Rattle.eos_source.specs.declared.logs.KeptLogs.{KeptLogs};
 

@@ -1,5 +1,0 @@
-pub mod FoldBounds
-pub mod Saying
-pub mod SameShape
-pub mod OneEvidence
-pub mod Refused

@@ -1,4 +1,0 @@
-pub mod Logs
-pub mod Refusals
-pub mod Saying
-pub mod steps
