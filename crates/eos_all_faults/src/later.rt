@@ -13,12 +13,10 @@ use eos_check::Fault;
 use eos_commits::VisibleFault;
 use eos_evidence::Spec;
 use eos_lineage::LineageFault;
-use eos_log_faults::all_log_faults;
-use eos_match_faults::all_match_faults;
+use eos_table::{LogFault, MatchFault, all_log_faults, all_match_faults};
 use eos_output_faults::all_output_faults;
 use eos_kept::{Logs, Part};
 use eos_record_faults::all_record_faults;
-use eos_table::{LogFault, MatchFault};
 use std::alloc::{AllocError, Global};
 
 fn of_log(alloc: Global, faults: Vec<LogFault>) -> Result<Vec<Fault>, AllocError>

@@ -8,7 +8,7 @@ use Rattle.eos_txnlog.specs.Skips.{is_skipped}
 use Rattle.eos_fold.specs.declared.item.Item.{Item}
 use Rattle.eos_table.specs.TransactionLog.{Id, State, flat, Unskipped}
 use Rattle.eos_table.specs.steps.LogCandidates.{step_of}
-use Rattle.eos_log_faults.specs.steps.Gathered.{said, step_at, steps_after, next_state}
+use Rattle.eos_table.specs.steps.Gathered.{said, step_at, steps_after, next_state}
 use Rattle.eos_picture.specs.declared.mark.Column.{Column}
 use Rattle.eos_picture.specs.Transactions.{column_at, column_between}
 

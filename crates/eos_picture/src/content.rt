@@ -3,7 +3,7 @@
 ghost use Rattle.std.specs.Prelude.{◌≡◌, IfOk};
 ghost use Rattle.std.specs.Option.{option_map};
 ghost use Rattle.eos_txnlog.specs.Reading.{read_key, read_value};
-ghost use Rattle.eos_log_faults.specs.steps.Gathered.{said, said_of};
+ghost use Rattle.eos_table.specs.steps.Gathered.{said, said_of};
 
 use bytes::Bytes;
 use eos_base::RecordFault;

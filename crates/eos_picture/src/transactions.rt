@@ -6,7 +6,7 @@ ghost use Rattle.std.specs.Option.{option_copied, option_map};
 ghost use Rattle.eos_table.specs.TransactionLog.{is_transaction_part, transaction_parts, kind_of_status};
 ghost use Rattle.eos_table.specs.steps.Keys.{pair_cmp};
 ghost use Rattle.eos_table.specs.steps.LogCandidates.{state_of};
-ghost use Rattle.eos_log_faults.specs.steps.Gathered.{said, step_at, steps_of, all_steps, next_state};
+ghost use Rattle.eos_table.specs.steps.Gathered.{said, step_at, steps_of, all_steps, next_state};
 ghost use Rattle.eos_picture.specs.Transactions.{column_between, column_at, undecided_column, AreColumns};
 
 use crate::content::read_content;

@@ -4,3 +4,4 @@ pub mod Shards
 pub mod TransactionLog
 pub mod LogFaults
 pub mod steps
+pub mod MatchPlaces

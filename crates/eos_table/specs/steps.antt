@@ -4,3 +4,8 @@ pub mod Keys
 pub mod LogCandidates
 pub mod OneShard
 pub mod Wanted
+pub mod Gathered
+pub mod Deciders
+pub mod MatchKeys
+pub mod Recorded
+pub mod Shown

@@ -1,6 +1,6 @@
 use Rattle.std.proofs.Common.{◌++◌, map, ap, ◌∙◌}
 use Rattle.std.specs.List.{flat_map}
-use Rattle.eos_log_faults.proofs.SaidContent.{same_all}
+use Rattle.eos_table.proofs.SaidContent.{same_all}
 use Rattle.eos_table.specs.TransactionLog.{transaction_parts}
 use Rattle.eos_picture.specs.Transactions.{column_at, undecided_column}
 use Rattle.eos_picture.proofs.transactions.columns_of.Goals as goal

@@ -1,7 +1,7 @@
 use Rattle.std.proofs.Common.{◌≡◌, Ok, Some, sym, subst, ◌∙◌, rules}
 use Rattle.std.specs.Result.{OnOk}
 use Rattle.eos_table.specs.steps.LogCandidates.{state_of}
-use Rattle.eos_log_faults.specs.steps.Gathered.{Said, next_state}
+use Rattle.eos_table.specs.steps.Gathered.{Said, next_state}
 use Rattle.eos_picture.proofs.transactions.take_record.Goals as goal
 
 pub returns-in-Ok-Some-clause-last : goal.returns-in-Ok-Some-clause-last

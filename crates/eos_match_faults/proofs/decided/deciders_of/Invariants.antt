@@ -1,6 +1,0 @@
-use Rattle.std.proofs.Common.{take}
-use Rattle.eos_match_faults.specs.steps.Deciders.{AreDeciders}
-use Rattle.eos_match_faults.proofs.decided.deciders_of.Given as goal
-
-abbrev pub invariant-loop-decision : goal.invariant-loop-decision
-invariant-loop-decision l = AreDeciders l.deciders (take l.decision-index l.decisions)

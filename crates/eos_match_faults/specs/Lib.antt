@@ -1,2 +1,0 @@
-pub mod MatchPlaces
-pub mod steps

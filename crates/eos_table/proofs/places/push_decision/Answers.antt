@@ -1,0 +1,18 @@
+use Rattle.std.proofs.Common.{◌≡◌, ◌++◌, subst, ◌∙◌, w16, w64, rules}
+use Rattle.std.proofs.lemmas.Int.{to_z-of_z}
+use mir.Val.{SFits}
+use Rattle.std.specs.BTreeMap.{get}
+use Rattle.std.specs.Result.{OnOk}
+use Rattle.eos_table.specs.steps.Keys.{pair_cmp}
+use Rattle.eos_table.specs.steps.Shown.{twice_by}
+use Rattle.eos_table.proofs.places.push_decision.Goals as goal
+
+pub returns : goal.returns
+returns c =
+    let d = c.args.decision.now in
+    let producer_fits : SFits w64 d.producer = search rules in
+    let epoch_fits : SFits w16 d.epoch = search rules in
+    let producer = to_z-of_z w64 d.producer producer_fits in
+    let epoch = to_z-of_z w16 d.epoch epoch_fits in
+    subst (λ z. OnOk c.push_twice.result (c.push_twice.new.faults.items ≡ c.args.faults.now.items ++ twice_by z d))
+    (c.decided_of-decided.ensures ∙ (λ i. get pair_cmp c.args.deciders.now (producer i, epoch i))) c.push_twice.ensures

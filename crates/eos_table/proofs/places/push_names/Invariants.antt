@@ -1,0 +1,8 @@
+use Rattle.std.proofs.Common.{◌≡◌, ◌++◌, take, map}
+use Rattle.std.specs.List.{flat_map}
+use Rattle.eos_table.specs.steps.MatchKeys.{plain_name, plain_ended}
+use Rattle.eos_table.specs.steps.Shown.{names_in}
+use Rattle.eos_table.proofs.places.push_names.Given as goal
+
+abbrev pub invariant-loop-decision : goal.invariant-loop-decision
+invariant-loop-decision l = l.faults.items ≡ l.fn.faults.items ++ flat_map (names_in (map plain_name l.there) (map plain_ended l.marked)) (take l.decision-index l.decisions)

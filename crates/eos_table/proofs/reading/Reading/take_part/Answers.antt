@@ -1,0 +1,14 @@
+use Rattle.std.proofs.Common.{ap, ◌∙◌, length}
+use Rattle.eos_table.specs.steps.LogCandidates.{state_of}
+use Rattle.eos_table.proofs.LogSteps.{empty_state}
+use Rattle.eos_table.specs.steps.Gathered.{Gathered}
+use Rattle.eos_table.proofs.ReadSteps.{one_part}
+use Rattle.eos_table.proofs.reading.Reading.take_part.Goals as goal
+
+pub returns : goal.returns
+returns c =
+    let mid : Gathered = record { marks = c.self-2.inside.marks.items; faults = c.self-2.inside.faults.items } in
+    one_part c.args.part.now c.args.self.now mid (state_of c.new-last.result) (state_of c.take_records.new.last) (length c.as_slice-from.result.now) c.end_of.result.offset c.end_of.result.partition c.push_open.new.faults.items c.deref.result.now
+    (empty_state c.new-last.result c.new-last.ensures.empty) (c.self-2.view_is ∙ c.in_ok-take_records.ensures.read) c.in_ok-take_records.ensures.last (ap length c.as_slice-from.ensures.value ∙ ap (λ (z : Gathered). length z.marks) c.self.view_is)
+    c.end_of.ensures.partition c.end_of.ensures.offset c.deref.ensures.value
+    c.in_ok-push_open.ensures

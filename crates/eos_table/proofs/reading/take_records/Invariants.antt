@@ -1,0 +1,16 @@
+use Rattle.std.proofs.Common.{◌≡◌, length}
+use Rattle.eos_table.specs.steps.Gathered.{steps_after, state_after, faults_after}
+use Rattle.eos_table.specs.steps.LogCandidates.{state_of}
+use Rattle.eos_table.specs.steps.Gathered.{after}
+use Rattle.eos_table.proofs.reading.take_records.Given as goal
+
+-- what is left to read
+abbrev pub invariant-loop-item : goal.invariant-loop-item
+invariant-loop-item l = record {
+  read : after l.reading (steps_after (state_of l.last) l.part.number l.items) (faults_after (state_of l.last) l.part.number l.items)
+      ≡ after l.fn.reading (steps_after (state_of l.fn.last) l.part.number l.part.items) (faults_after (state_of l.fn.last) l.part.number l.part.items);
+  last : state_after (state_of l.last) l.items ≡ state_after (state_of l.fn.last) l.part.items;
+}
+
+abbrev pub decreases-loop-item : goal.decreases-loop-item
+decreases-loop-item l = length l.items

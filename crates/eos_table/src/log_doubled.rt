@@ -1,0 +1,151 @@
+//! The unskipped records of the transaction log against those before: an id in two partitions, two ids of one producer id.
+
+ghost use Rattle.std.specs.Prelude.{◌≡◌, List, ◌∷◌, [], ◌++◌, IfOk, OnOk};
+ghost use Rattle.std.specs.Option.{option_copied};
+ghost use Rattle.std.specs.Ordering.{nat_cmp};
+ghost use Rattle.std.specs.Cmp.Lexicographic.{slice_cmp};
+ghost use Rattle.std.specs.BTreeMap.{get};
+ghost use Rattle.eos_table.specs.TransactionLog.{same_id};
+ghost use Rattle.eos_table.specs.declared.log_mark.Mark.{Mark};
+ghost use Rattle.eos_table.specs.steps.Gathered.{AreHomes, AreIds, home_in, lesser_home, with_id, split_at, shared_if, shared_at, doubled_after};
+
+use crate::log_mark::{Mark, Place, push_fault};
+use bytes::Bytes;
+use crate::{LogFault, LogFaultKind};
+use std::alloc::{AllocError, Global};
+use std::collections::BTreeMap;
+
+/// The transactional ids of a producer id.
+#[derive(Drop)]
+pub(crate) struct Ids {
+    pub first: Bytes,
+    /// There was another one.
+    pub is_shared: bool,
+}
+
+/// The least partition of each transactional id.
+type Homes = BTreeMap<Bytes, i32>;
+
+/// The transactional ids of each producer id.
+type Producers = BTreeMap<u64, Ids>;
+
+fn place_of(mark: &Mark) -> Place
+    ensures partition { result.partition ≡ mark.now.partition }
+    ensures offset { result.offset ≡ mark.now.offset }
+{
+    Place {
+        partition: mark.partition,
+        offset: mark.offset,
+    }
+}
+
+fn home_of(homes: &Homes, id: &Bytes) -> Option<i32>
+    ensures { result ≡ get (slice_cmp nat_cmp) homes.now id.now }
+{
+    homes.get(id).copied()
+}
+
+fn lesser_home(home: Option<i32>, partition: i32) -> i32
+    ensures { result ≡ lesser_home home partition }
+{
+    match home {
+        None => partition,
+        Some(home) => { if home < partition { home } else { partition } }
+    }
+}
+
+fn push_split(faults: &mut Vec<LogFault>, mark: &Mark, home: Option<i32>) -> Result<(), AllocError>
+    ensures { OnOk result (faults.new.items ≡ faults.old.items ++ split_at mark.now home) }
+{
+    let Some(home) = home else {
+        return Ok(());
+    };
+    if home < mark.partition {
+        let kind = LogFaultKind::SplitId {
+            id: mark.id.clone()?,
+        };
+        return push_fault(faults, place_of(mark), kind);
+    }
+    Ok(())
+}
+
+/// The record's id in a lesser partition.
+fn take_home(faults: &mut Vec<LogFault>, homes: &mut Homes, mark: &Mark) -> Result<(), AllocError>
+    ensures faults { (before : List Mark) → AreHomes homes.old before → OnOk result (faults.new.items ≡ faults.old.items ++ split_at mark.now (home_in before mark.now.id)) }
+    ensures homes { (before : List Mark) → AreHomes homes.old before → OnOk result (AreHomes homes.new (before ++ mark.now ∷ [])) }
+{
+    let home = home_of(homes, &mark.id);
+    push_split(faults, mark, home)?;
+    let key = mark.id.clone()?;
+    homes.insert(key, lesser_home(home, mark.partition))?;
+    Ok(())
+}
+
+fn is_same(id: &Bytes, other: &Bytes) -> bool
+    ensures { result ≡ same_id id.now other.now }
+{
+    *id == *other
+}
+
+fn with_id(known: Option<&Ids>, id: &Bytes) -> Result<Ids, AllocError>
+    ensures { IfOk result (λ ids. ids ≡ with_id (option_copied known.entry) id.now) }
+{
+    match known {
+        None => Ok(Ids {
+            first: id.clone()?,
+            is_shared: false,
+        }),
+        Some(ids) => Ok(Ids {
+            first: ids.first.clone()?,
+            is_shared: ids.is_shared || !is_same(&ids.first, id),
+        }),
+    }
+}
+
+fn push_shared(faults: &mut Vec<LogFault>, mark: &Mark, is_shared: bool) -> Result<(), AllocError>
+    ensures { OnOk result (faults.new.items ≡ faults.old.items ++ shared_if mark.now is_shared) }
+{
+    if is_shared {
+        let kind = LogFaultKind::SharedProducer {
+            id: mark.id.clone()?,
+        };
+        return push_fault(faults, place_of(mark), kind);
+    }
+    Ok(())
+}
+
+/// The record's producer id under another id.
+fn take_producer(
+    faults: &mut Vec<LogFault>,
+    producers: &mut Producers,
+    mark: &Mark,
+) -> Result<(), AllocError>
+    ensures faults { (before : List Mark) → AreIds producers.old before → OnOk result (faults.new.items ≡ faults.old.items ++ shared_at before mark.now mark.now.producer) }
+    ensures producers { (before : List Mark) → AreIds producers.old before → OnOk result (AreIds producers.new (before ++ mark.now ∷ [])) }
+{
+    let Some(producer) = mark.producer else {
+        return Ok(());
+    };
+    let ids = with_id(producers.get(&producer), &mark.id)?;
+    let is_shared = ids.is_shared;
+    producers.insert(producer, ids)?;
+    push_shared(faults, mark, is_shared)?;
+    Ok(())
+}
+
+/// Puts what the records show against those before them at the end of the list.
+pub(crate) fn push_doubled(
+    alloc: Global,
+    faults: &mut Vec<LogFault>,
+    marks: &[Mark],
+) -> Result<(), AllocError>
+    ensures { OnOk result (faults.new.items ≡ faults.old.items ++ doubled_after [] marks.now) }
+{
+    let mut homes = BTreeMap::new(alloc);
+    let mut producers = BTreeMap::new(alloc);
+    for mark in marks {
+        take_home(faults, &mut homes, mark)?;
+        take_producer(faults, &mut producers, mark)?;
+    }
+    Ok(())
+}

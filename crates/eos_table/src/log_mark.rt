@@ -1,0 +1,64 @@
+//! What is kept of the unskipped records of the transaction log, and where faults stand.
+
+ghost use Rattle.std.specs.Prelude.{◌≡◌, ◌++◌, ◌∷◌, [], OnOk};
+ghost use Rattle.std.specs.Option.{option_copied};
+ghost use Rattle.eos_table.specs.steps.LogCandidates.{fault_at, natural, producer_of};
+
+use bytes::Bytes;
+use crate::{LogFault, LogFaultKind};
+use eos_txnlog::TxnValue;
+use std::alloc::AllocError;
+
+/// A place in the log.
+#[derive(Clone, Copy)]
+pub(crate) struct Place {
+    pub partition: i32,
+    pub offset: u64,
+}
+
+/// An unskipped record, as later ones are held against it.
+#[derive(Drop)]
+pub(crate) struct Mark {
+    /// The number of its partition.
+    pub partition: i32,
+    pub offset: u64,
+    /// Its transactional id.
+    pub id: Bytes,
+    /// Its producer id, where it has one of 0 or more.
+    pub producer: Option<u64>,
+}
+
+fn natural(producer: i64) -> Option<u64>
+    ensures { result ≡ natural producer }
+{
+    if producer < 0 {
+        return None;
+    }
+    Some(producer.unsigned_abs())
+}
+
+/// The producer id of a record, where it has one of 0 or more.
+pub(crate) fn producer_of(value: Option<&TxnValue>) -> Option<u64>
+    ensures { result ≡ producer_of (option_copied value.entry) }
+{
+    match value {
+        None => None,
+        Some(value) => natural(value.producer),
+    }
+}
+
+/// Puts a fault at the end of the list.
+pub(crate) fn push_fault(
+    faults: &mut Vec<LogFault>,
+    place: Place,
+    kind: LogFaultKind,
+) -> Result<(), AllocError>
+    ensures { OnOk result (faults.new.items ≡ faults.old.items ++ fault_at place.partition place.offset kind ∷ []) }
+{
+    faults.push(LogFault {
+        partition: place.partition,
+        offset: place.offset,
+        kind,
+    })?;
+    Ok(())
+}
