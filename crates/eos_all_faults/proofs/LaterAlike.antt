@@ -9,9 +9,9 @@ use Rattle.eos_lineage.specs.EvidenceLogs.{AreLogsOf}
 use Rattle.eos_check.specs.declared.verdict.Fault.{Fault}
 use Rattle.eos_check.specs.declared.verdict.Fault.TheVariants.{Partition as InPartition, Log, Match, Lineage}
 use Rattle.eos_check.specs.Verdicts.{StandsInPartitions, Stands}
-use Rattle.eos_wanted_verdict.specs.KeptVerdicts.{StandAlike, kept_of}
-use Rattle.eos_wanted_verdict.proofs.KeptAnswers as kept
-use Rattle.eos_wanted_verdict.proofs.StandingAlike.{back}
+use Rattle.eos_check.specs.KeptVerdicts.{StandAlike, kept_of}
+use Rattle.eos_check.proofs.KeptAnswers as kept
+use Rattle.eos_check.proofs.StandingAlike.{back}
 use Rattle.eos_all_faults.specs.AllFaults.{AreAllOf, AreAllFaults}
 use Rattle.eos_all_faults.specs.LaterFaults.{StandsLater, AreLaterFaults}
 

@@ -19,3 +19,12 @@ pub mod WholeTexts
 pub mod VerdictsUnique
 pub mod LogsUnique
 pub mod OneVerdict
+pub mod SeenSame
+pub mod StandingAlike
+pub mod KeptRecords
+pub mod KeptOrder
+pub mod KeptTransactions
+pub mod KeptMatching
+pub mod KeptVisible
+pub mod KeptLineage
+pub mod KeptAnswers

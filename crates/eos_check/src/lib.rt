@@ -10,6 +10,7 @@ mod pool;
 mod shards;
 mod tied_evidence;
 mod verdict;
+pub mod wanted_verdict_laws;
 mod workers;
 
 pub use judging::judge;

@@ -7,7 +7,7 @@ use Rattle.eos_check.specs.Judged.{IsJudged}
 use Rattle.eos_kept.specs.Parts.{HaveEpochs}
 use Rattle.eos_kept.specs.Faults.{AreFaultsIn, first_of}
 use Rattle.eos_reading.specs.Wanted.{wanted_logs}
-use Rattle.eos_wanted_verdict.proofs.KeptAnswers.{judged}
+use Rattle.eos_check.proofs.KeptAnswers.{judged}
 use Rattle.eos_source.specs.declared.logs.KeptLogs.{KeptLogs}
 use Rattle.eos_source.specs.Logs.{AreLogsKept, AreKeptLogs}
 use Rattle.eos_source.specs.Said.{Known}

@@ -21,7 +21,7 @@ use Rattle.eos_check.proofs.NamedFaults.{first_named}
 use Rattle.eos_base.specs.AllOf.{IsAllOf}
 use Rattle.eos_partition_faults.specs.PartitionLists.{AreFaultsOf}
 use Rattle.eos_reading.specs.Wanted.{wanted_logs}
-use Rattle.eos_wanted_verdict.proofs.KeptOrder.{all_kept}
+use Rattle.eos_check.proofs.KeptOrder.{all_kept}
 use Rattle.eos_all_faults.specs.AllFaults.{AreAllFaults}
 use Rattle.eos_all_faults.specs.LaterFaults.{AreLaterFaults}
 use Rattle.eos_all_faults.specs.steps.InPartitions as lists

@@ -24,9 +24,9 @@ use Rattle.eos_reading.specs.declared.epoch.EpochEntry.{EpochEntry}
 use Rattle.eos_kept.specs.Faults.{AreFaultsIn, first_of}
 use Rattle.eos_touch.specs.declared.fault.PartitionFault.{PartitionFault}
 use Rattle.eos_reading.specs.Wanted.{kept_log, wanted_logs}
-use Rattle.eos_wanted_verdict.proofs.SeenSame.{flat_seen}
-use Rattle.eos_wanted_verdict.proofs.KeptLineage.{application_kept}
-use Rattle.eos_wanted_verdict.proofs.KeptOrder.{all_kept}
+use Rattle.eos_check.proofs.SeenSame.{flat_seen}
+use Rattle.eos_check.proofs.KeptLineage.{application_kept}
+use Rattle.eos_check.proofs.KeptOrder.{all_kept}
 use Rattle.eos_wanted_notes.proofs.Among.{flat_same}
 
 -- ---- of an application

@@ -31,8 +31,8 @@ use Rattle.eos_tallies.specs.Tallies.{AreTallies}
 use Rattle.eos_tallies.specs.TalliesByLogs.{beside, partition_tally, group_tallies, tallies_by}
 use Rattle.eos_tallies.proofs.Whole.{tallies_are}
 use Rattle.eos_reading.specs.Wanted.{wanted_item, wanted_of, kept_log, wanted_logs}
-use Rattle.eos_wanted_verdict.proofs.SeenSame.{filter_seen}
-use Rattle.eos_wanted_verdict.proofs.KeptRecords.{offset_kept, visible_seen}
+use Rattle.eos_check.proofs.SeenSame.{filter_seen}
+use Rattle.eos_check.proofs.KeptRecords.{offset_kept, visible_seen}
 use Rattle.eos_wanted_notes.proofs.Among.{map_same}
 use Rattle.eos_wanted_notes.proofs.KeptNotes.{commits_kept}
 

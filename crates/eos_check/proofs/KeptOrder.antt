@@ -12,8 +12,8 @@ use Rattle.eos_table.specs.TransactionLog.{is_transaction_part, transaction_part
 use Rattle.eos_table.specs.TransactionLog as table
 use Rattle.eos_reading.specs.Wanted.{wanted_item, wanted_of, kept_log, wanted_logs}
 use Rattle.eos_reading.proofs.SameThrough.{has_same, pairs_same}
-use Rattle.eos_wanted_verdict.proofs.SeenSame.{map_seen, filter_seen}
-use Rattle.eos_wanted_verdict.proofs.KeptRecords.{offset_kept}
+use Rattle.eos_check.proofs.SeenSame.{map_seen, filter_seen}
+use Rattle.eos_check.proofs.KeptRecords.{offset_kept}
 
 abbrev offset_in : Item → ℕ
 offset_in x = x.offset

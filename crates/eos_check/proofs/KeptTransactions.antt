@@ -13,9 +13,9 @@ use Rattle.eos_table.specs.TransactionLog.{Id, State, Unskipped, nothing, flat, 
 use Rattle.eos_reading.specs.Wanted.{wanted_item, wanted_log, kept_log, wanted_logs}
 use Rattle.eos_reading.specs.declared.wanted.Wanted.TheVariants.{Texts}
 use Rattle.eos_reading.proofs.SameThrough.{has_same}
-use Rattle.eos_wanted_verdict.specs.KeptVerdicts.{StandAlike}
-use Rattle.eos_wanted_verdict.proofs.SeenSame.{map_seen, filter_seen}
-use Rattle.eos_wanted_verdict.proofs.KeptRecords.{transactions_kept}
+use Rattle.eos_check.specs.KeptVerdicts.{StandAlike}
+use Rattle.eos_check.proofs.SeenSame.{map_seen, filter_seen}
+use Rattle.eos_check.proofs.KeptRecords.{transactions_kept}
 
 -- the offset, the key and the value
 abbrev SeenItem : Type 0

@@ -1,5 +1,5 @@
-use Rattle.eos_wanted_verdict.proofs.KeptMatching.{faults_kept, rule_kept}
-use Rattle.eos_wanted_verdict.proofs.laws.matching.Goals as goal
+use Rattle.eos_check.proofs.KeptMatching.{faults_kept, rule_kept}
+use Rattle.eos_check.proofs.wanted_verdict_laws.matching.Goals as goal
 
 pub returns-clause-faults : goal.returns-clause-faults
 returns-clause-faults c = faults_kept

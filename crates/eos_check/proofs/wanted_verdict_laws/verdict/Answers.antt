@@ -1,5 +1,5 @@
-use Rattle.eos_wanted_verdict.proofs.KeptAnswers.{faults, verdicts}
-use Rattle.eos_wanted_verdict.proofs.laws.verdict.Goals as goal
+use Rattle.eos_check.proofs.KeptAnswers.{faults, verdicts}
+use Rattle.eos_check.proofs.wanted_verdict_laws.verdict.Goals as goal
 
 pub returns-clause-faults : goal.returns-clause-faults
 returns-clause-faults c = faults

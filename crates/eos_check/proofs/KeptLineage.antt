@@ -21,11 +21,11 @@ use Rattle.eos_lineage.proofs.LineageLaw.{law as lineage_law}
 use Rattle.eos_reading.specs.Wanted.{wanted_item, wanted_of, kept_log, wanted_logs}
 use Rattle.eos_reading.specs.declared.wanted.Wanted.{Wanted}
 use Rattle.eos_reading.specs.declared.wanted.Wanted.TheVariants.{Texts}
-use Rattle.eos_wanted_verdict.specs.KeptVerdicts.{StandAlike}
-use Rattle.eos_wanted_verdict.proofs.SeenSame.{flat_seen}
-use Rattle.eos_wanted_verdict.proofs.StandingAlike.{back, none_from}
-use Rattle.eos_wanted_verdict.proofs.KeptRecords.{offset_kept, writer_kept, visible_seen, visible_flat, offsets_kept, claims_kept, found_in_all}
-use Rattle.eos_wanted_verdict.proofs.KeptVisible as visibles
+use Rattle.eos_check.specs.KeptVerdicts.{StandAlike}
+use Rattle.eos_check.proofs.SeenSame.{flat_seen}
+use Rattle.eos_check.proofs.StandingAlike.{back, none_from}
+use Rattle.eos_check.proofs.KeptRecords.{offset_kept, writer_kept, visible_seen, visible_flat, offsets_kept, claims_kept, found_in_all}
+use Rattle.eos_check.proofs.KeptVisible as visibles
 
 -- ---- inputs
 

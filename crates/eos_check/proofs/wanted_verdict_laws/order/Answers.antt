@@ -1,5 +1,5 @@
-use Rattle.eos_wanted_verdict.proofs.KeptOrder.{all_kept, log_kept}
-use Rattle.eos_wanted_verdict.proofs.laws.order.Goals as goal
+use Rattle.eos_check.proofs.KeptOrder.{all_kept, log_kept}
+use Rattle.eos_check.proofs.wanted_verdict_laws.order.Goals as goal
 
 pub returns-clause-all : goal.returns-clause-all
 returns-clause-all c = all_kept

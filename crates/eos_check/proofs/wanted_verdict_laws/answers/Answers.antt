@@ -1,6 +1,6 @@
 use Rattle.eos_check.proofs.VerdictsMade.{no_partition}
-use Rattle.eos_wanted_verdict.proofs.KeptAnswers.{log_answers, matching_answers, lineage_answers, yes_answers}
-use Rattle.eos_wanted_verdict.proofs.laws.answers.Goals as goal
+use Rattle.eos_check.proofs.KeptAnswers.{log_answers, matching_answers, lineage_answers, yes_answers}
+use Rattle.eos_check.proofs.wanted_verdict_laws.answers.Goals as goal
 
 pub returns-clause-partition : goal.returns-clause-partition
 returns-clause-partition c = no_partition

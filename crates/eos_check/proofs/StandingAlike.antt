@@ -1,7 +1,7 @@
 -- What stands in the one stands in the other.
 use Rattle.eos_base.specs.Least.{NoneStands, IsLeast}
 use Rattle.std.specs.declared.cmp.Ordering.{Ordering}
-use Rattle.eos_wanted_verdict.specs.KeptVerdicts.{StandAlike}
+use Rattle.eos_check.specs.KeptVerdicts.{StandAlike}
 
 pub back : {X : Type 0} {P Q : X → Type 0} → StandAlike P Q → StandAlike Q P
 back alike x = ((alike x).1, (alike x).0)

@@ -1,5 +1,5 @@
 use Rattle.eos_check.proofs.NamedFaults.{fault_of, first_named}
-use Rattle.eos_wanted_verdict.proofs.laws.named.Goals as goal
+use Rattle.eos_check.proofs.wanted_verdict_laws.named.Goals as goal
 
 pub returns-clause-log : goal.returns-clause-log
 returns-clause-log c = fault_of

@@ -24,12 +24,12 @@ use Rattle.eos_lineage.proofs.LogsInOrder.{in_order}
 use Rattle.eos_check.proofs.GoodLaw.{law as good_law}
 use Rattle.eos_check.proofs.NamedFaults.{least_named}
 use Rattle.eos_check.proofs.VerdictsMade.{no_partition, no_log, no_match, no_lineage, yes}
-use Rattle.eos_wanted_verdict.specs.KeptVerdicts.{StandAlike, kept_of, StandsKept, IsKeptVerdict}
-use Rattle.eos_wanted_verdict.proofs.KeptOrder.{all_kept}
-use Rattle.eos_wanted_verdict.proofs.StandingAlike.{back, none_from, least_from}
-use Rattle.eos_wanted_verdict.proofs.KeptTransactions as transactions
-use Rattle.eos_wanted_verdict.proofs.KeptMatching as matching
-use Rattle.eos_wanted_verdict.proofs.KeptLineage as lineages
+use Rattle.eos_check.specs.KeptVerdicts.{StandAlike, kept_of, StandsKept, IsKeptVerdict}
+use Rattle.eos_check.proofs.KeptOrder.{all_kept}
+use Rattle.eos_check.proofs.StandingAlike.{back, none_from, least_from}
+use Rattle.eos_check.proofs.KeptTransactions as transactions
+use Rattle.eos_check.proofs.KeptMatching as matching
+use Rattle.eos_check.proofs.KeptLineage as lineages
 
 module _ (e : EvidenceParts) (ls : List PartLog) (of : AreLogsOf e.partitions ls) where
   in_log : StandAlike (StandsInLog (kept_of e ls)) (StandsInLog ls)

@@ -1,5 +1,5 @@
-use Rattle.eos_wanted_verdict.proofs.KeptTransactions.{decisions_kept, faults_kept, rule_kept}
-use Rattle.eos_wanted_verdict.proofs.laws.transaction_log.Goals as goal
+use Rattle.eos_check.proofs.KeptTransactions.{decisions_kept, faults_kept, rule_kept}
+use Rattle.eos_check.proofs.wanted_verdict_laws.transaction_log.Goals as goal
 
 pub returns-clause-decisions : goal.returns-clause-decisions
 returns-clause-decisions c = decisions_kept

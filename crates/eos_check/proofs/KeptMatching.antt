@@ -16,8 +16,8 @@ use Rattle.eos_table.specs.MatchFaults.{AtData, AtMarker, StandsAs, Stands}
 use Rattle.eos_table.proofs.AtomicLaw.{law as atomic_law}
 use Rattle.eos_reading.specs.Wanted.{kept_log, wanted_logs}
 use Rattle.eos_reading.proofs.SameThrough.{has_same}
-use Rattle.eos_wanted_verdict.specs.KeptVerdicts.{StandAlike}
-use Rattle.eos_wanted_verdict.proofs.SeenSame.{map_seen}
+use Rattle.eos_check.specs.KeptVerdicts.{StandAlike}
+use Rattle.eos_check.proofs.SeenSame.{map_seen}
 
 abbrev Seen : Type 0
 Seen = PartitionName × List Close × List Marker

@@ -19,9 +19,9 @@ use Rattle.eos_commits.specs.Faults.{AtRecord, CannotRead, IsSplit, StandsAs, St
 use Rattle.eos_reading.specs.Wanted.{wanted_item, wanted_log, wanted_of, kept_log, wanted_logs}
 use Rattle.eos_reading.specs.declared.wanted.Wanted.TheVariants.{Texts}
 use Rattle.eos_reading.proofs.SameThrough.{has_same}
-use Rattle.eos_wanted_verdict.specs.KeptVerdicts.{StandAlike}
-use Rattle.eos_wanted_verdict.proofs.SeenSame.{filter_seen}
-use Rattle.eos_wanted_verdict.proofs.KeptRecords.{offset_kept, visible_seen, offsets_kept, claims_kept}
+use Rattle.eos_check.specs.KeptVerdicts.{StandAlike}
+use Rattle.eos_check.proofs.SeenSame.{filter_seen}
+use Rattle.eos_check.proofs.KeptRecords.{offset_kept, visible_seen, offsets_kept, claims_kept}
 
 -- ---- what is seen of the visible records of a partition
 

@@ -32,7 +32,7 @@ ghost use Rattle.eos_table.specs.declared.match_fault.MatchFault.{MatchFault};
 ghost use Rattle.eos_touch.specs.declared.fault.PartitionFault.{PartitionFault};
 ghost use Rattle.eos_txnlog.specs.declared.decision.Decision.{Decision};
 ghost use Rattle.eos_reading.specs.Wanted.{wanted_logs};
-ghost use Rattle.eos_wanted_verdict.specs.KeptVerdicts.{StandAlike, kept_of, StandsKept, IsKeptVerdict};
+ghost use Rattle.eos_check.specs.KeptVerdicts.{StandAlike, kept_of, StandsKept, IsKeptVerdict};
 
 /// Of the partitions' least faults, each of which was named when its segments were read, the first is the least that stands in the
 /// logs; and none stands where none was named.

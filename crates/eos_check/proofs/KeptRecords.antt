@@ -20,7 +20,7 @@ use Rattle.eos_reading.specs.Wanted.{wanted_item, wanted_log, wanted_of, kept_lo
 use Rattle.eos_reading.specs.declared.wanted.Wanted.{Wanted}
 use Rattle.eos_reading.specs.declared.wanted.Wanted.TheVariants.{Presence, Claims, Texts}
 use Rattle.eos_reading.proofs.ClaimHeaders.{back}
-use Rattle.eos_wanted_verdict.proofs.SeenSame.{filter_seen, flat_seen}
+use Rattle.eos_check.proofs.SeenSame.{filter_seen, flat_seen}
 
 -- ---- records
 

@@ -1,5 +1,5 @@
-use Rattle.eos_wanted_verdict.proofs.KeptLineage.{application_kept, faults_kept, rule_kept, count_inputs_kept, count_outputs_kept}
-use Rattle.eos_wanted_verdict.proofs.laws.lineage.Goals as goal
+use Rattle.eos_check.proofs.KeptLineage.{application_kept, faults_kept, rule_kept, count_inputs_kept, count_outputs_kept}
+use Rattle.eos_check.proofs.wanted_verdict_laws.lineage.Goals as goal
 
 pub returns-clause-applications : goal.returns-clause-applications
 returns-clause-applications c = application_kept

@@ -1,9 +1,0 @@
-pub mod SeenSame
-pub mod StandingAlike
-pub mod KeptRecords
-pub mod KeptOrder
-pub mod KeptTransactions
-pub mod KeptMatching
-pub mod KeptVisible
-pub mod KeptLineage
-pub mod KeptAnswers
