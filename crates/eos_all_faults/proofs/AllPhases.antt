@@ -27,7 +27,7 @@ use Rattle.eos_check.specs.Verdicts.{StandsInPartitions, StandsInLog, StandsInMa
 use Rattle.eos_check.proofs.FirstFault.{least_of_first}
 use Rattle.eos_base.specs.AllOf.{IsAllOf}
 use Rattle.eos_base.proofs.WholeList.{none_listed, plain_rises}
-use Rattle.eos_output_faults.specs.LineageFaults.{IsLaterOf, AreLineageFaults}
+use Rattle.eos_faults.specs.LineageFaults.{IsLaterOf, AreLineageFaults}
 use Rattle.eos_all_faults.specs.AllFaults.{AreAllFaults}
 use Rattle.eos_all_faults.specs.LaterFaults.{AreLaterFaults}
 use Rattle.eos_all_faults.proofs.PhaseLists.{partition_list, log_list, match_list}

@@ -34,7 +34,7 @@ use Rattle.eos_check.specs.declared.verdict.Fault.TheVariants.{Partition as InPa
 use Rattle.eos_check.specs.declared.verdict.Verdict.TheVariants.{No}
 use Rattle.eos_check.specs.Verdicts.{Stands, partition_cmp, name_in, verdict_cmp, IsVerdictOf}
 use Rattle.eos_base.proofs.WholeList.{first_less, less_upto, same_list}
-use Rattle.eos_output_faults.specs.OneInput.{OfOneInput}
+use Rattle.eos_faults.specs.OneInput.{OfOneInput}
 use Rattle.eos_all_faults.specs.AllFaults.{IsLaterMissing, AreAllFaults}
 
 partition_total : IsTotalOrder partition_cmp

@@ -23,7 +23,7 @@ use Rattle.eos_check.specs.Verdicts.{StandsInPartitions, partition_cmp, name_in}
 use Rattle.eos_check.proofs.FirstFault.{of_partition, later}
 use Rattle.eos_check.proofs.FrontsUnique.{one_front}
 use Rattle.eos_base.specs.AllOf.{IsAllOf}
-use Rattle.eos_partition_faults.specs.PartitionLists.{AreFaultsOf}
+use Rattle.eos_faults.specs.PartitionLists.{AreFaultsOf}
 use Rattle.eos_all_faults.specs.steps.InPartitions.{AreFaultsIn}
 use Rattle.eos_all_faults.proofs.RisingLists.{rises_joined, rises_in}
 

@@ -19,7 +19,7 @@ use Rattle.eos_check.specs.declared.verdict.Fault.TheVariants.{Partition as InPa
 use Rattle.eos_check.specs.Verdicts.{StandsInPartitions, StandsInLog, StandsInMatching, Stands, partition_cmp, verdict_cmp}
 use Rattle.eos_base.specs.AllOf.{IsAllOf}
 use Rattle.eos_base.proofs.WholeList.{plain_rises}
-use Rattle.eos_output_faults.specs.LineageFaults.{IsLaterOf, AreLineageFaults}
+use Rattle.eos_faults.specs.LineageFaults.{IsLaterOf, AreLineageFaults}
 use Rattle.eos_all_faults.specs.AllFaults.{IsLaterMissing, AreAllFaults}
 use Rattle.eos_all_faults.specs.LaterFaults.{StandsLater, AreLaterFaults}
 

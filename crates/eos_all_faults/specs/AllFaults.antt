@@ -11,7 +11,7 @@ use Rattle.eos_commits.specs.Commits.{Group}
 use Rattle.eos_lineage.specs.declared.fault.LineageFault.{LineageFault}
 use Rattle.eos_lineage.specs.declared.fault.LineageFault.TheVariants.{Record, Output}
 use Rattle.eos_lineage.specs.EvidenceLogs.{AreLogsOf}
-use Rattle.eos_output_faults.specs.OneInput.{OfOneInput}
+use Rattle.eos_faults.specs.OneInput.{OfOneInput}
 use Rattle.eos_check.specs.declared.verdict.Fault.{Fault}
 use Rattle.eos_check.specs.declared.verdict.Fault.TheVariants.{Partition as InPartition, Log, Match, Lineage}
 use Rattle.eos_check.specs.Verdicts.{Stands, verdict_cmp}

@@ -6,7 +6,7 @@ ghost use Rattle.eos_commits.specs.Faults.{AreInOrder};
 ghost use Rattle.eos_lineage.specs.declared.fault.LineageFault.TheVariants.{Record};
 ghost use Rattle.eos_check.specs.declared.verdict.Fault.TheVariants.{Log, Match, Lineage};
 ghost use Rattle.eos_check.specs.Verdicts.{StandsInLog, StandsInMatching};
-ghost use Rattle.eos_output_faults.specs.LineageFaults.{AreLineageFaults};
+ghost use Rattle.eos_faults.specs.LineageFaults.{AreLineageFaults};
 ghost use Rattle.eos_all_faults.specs.LaterFaults.{AreLaterFaults};
 
 use eos_check::Fault;
@@ -14,9 +14,8 @@ use eos_commits::VisibleFault;
 use eos_evidence::Spec;
 use eos_lineage::LineageFault;
 use eos_table::{LogFault, MatchFault, all_log_faults, all_match_faults};
-use eos_output_faults::all_output_faults;
+use eos_faults::{all_output_faults, all_record_faults};
 use eos_kept::{Logs, Part};
-use eos_record_faults::all_record_faults;
 use std::alloc::{AllocError, Global};
 
 fn of_log(alloc: Global, faults: Vec<LogFault>) -> Result<Vec<Fault>, AllocError>

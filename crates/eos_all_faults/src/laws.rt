@@ -17,7 +17,7 @@ ghost use Rattle.eos_check.specs.declared.verdict.Fault.TheVariants.{Partition a
 ghost use Rattle.eos_check.specs.declared.verdict.Verdict.TheVariants.{No};
 ghost use Rattle.eos_check.specs.Verdicts.{StandsInPartitions, StandsInLog, StandsInMatching, Stands, partition_cmp, IsVerdictOf};
 ghost use Rattle.eos_base.specs.AllOf.{IsAllOf};
-ghost use Rattle.eos_output_faults.specs.LineageFaults.{AreLineageFaults};
+ghost use Rattle.eos_faults.specs.LineageFaults.{AreLineageFaults};
 ghost use Rattle.eos_check.specs.KeptVerdicts.{kept_of};
 ghost use Rattle.eos_all_faults.specs.AllFaults.{AreAllFaults};
 ghost use Rattle.eos_all_faults.specs.LaterFaults.{AreLaterFaults};

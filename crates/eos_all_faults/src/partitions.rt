@@ -8,7 +8,7 @@ ghost use Rattle.eos_base.specs.AllOf.{IsAllOf};
 ghost use Rattle.eos_all_faults.specs.steps.InPartitions.{AreFaultsIn};
 
 use eos_evidence::{Evidence, Partition};
-use eos_partition_faults::faults_of_partition;
+use eos_faults::faults_of_partition;
 use eos_touch::PartitionFault;
 use std::alloc::{AllocError, Global};
 

@@ -19,7 +19,7 @@ use Rattle.eos_check.specs.declared.verdict.Fault.TheVariants.{Partition as InPa
 use Rattle.eos_check.specs.Verdicts.{StandsInPartitions, partition_cmp}
 use Rattle.eos_check.proofs.NamedFaults.{first_named}
 use Rattle.eos_base.specs.AllOf.{IsAllOf}
-use Rattle.eos_partition_faults.specs.PartitionLists.{AreFaultsOf}
+use Rattle.eos_faults.specs.PartitionLists.{AreFaultsOf}
 use Rattle.eos_reading.specs.Wanted.{wanted_logs}
 use Rattle.eos_check.proofs.KeptOrder.{all_kept}
 use Rattle.eos_all_faults.specs.AllFaults.{AreAllFaults}

@@ -3,7 +3,7 @@ use Rattle.std.specs.Prelude.{◌≡◌, ◌≢◌, ℕ, ◌<◌, Bool, false, L
 use Rattle.eos_evidence.specs.declared.partition.Partition.{Partition}
 use Rattle.eos_evidence.specs.Evidence.{segments_of}
 use Rattle.eos_touch.specs.declared.fault.PartitionFault.{PartitionFault}
-use Rattle.eos_partition_faults.specs.PartitionLists.{AreFaultsOf}
+use Rattle.eos_faults.specs.PartitionLists.{AreFaultsOf}
 use Rattle.eos_source.specs.Said.{Known}
 use Rattle.eos_source_faults.specs.Again.{IsAgain}
 use Rattle.eos_source_faults.specs.declared.fault.Unlisted.{Unlisted}

@@ -11,7 +11,7 @@ use crate::fault::Unlisted;
 use bytes::Bytes;
 use eos_base::Listed;
 use eos_evidence::{Partition, Segment, read_segment};
-use eos_partition_faults::faults_of_partition;
+use eos_faults::faults_of_partition;
 use eos_source::{Piece, Source};
 use eos_touch::PartitionFault;
 use std::alloc::Global;

@@ -2,7 +2,7 @@
 use Rattle.std.specs.Prelude.{◌≡◌, ◌≤◌, ◌^◌, ℕ, ◌+◌, List, [], ◌∷◌, ◌++◌, length, Option, None, Some, slice_get, ⊤}
 use Rattle.eos_evidence.specs.declared.partition.Partition.{Partition}
 use Rattle.eos_touch.specs.declared.fault.PartitionFault.{PartitionFault}
-use Rattle.eos_partition_faults.specs.PartitionLists.{AreFaultsOf}
+use Rattle.eos_faults.specs.PartitionLists.{AreFaultsOf}
 use Rattle.eos_source.specs.Said.{Log, Known, IsAsKnown}
 use Rattle.eos_source_faults.specs.Again.{IsAgain}
 

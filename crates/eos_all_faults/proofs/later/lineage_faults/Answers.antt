@@ -2,7 +2,7 @@ use Rattle.std.proofs.Common.{◌≡◌, List, length, sym, subst, arith, ◌∙
 use Rattle.eos_evidence.specs.declared.application.App.{App}
 use Rattle.eos_commits.specs.Faults.{visible_cmp, Stands}
 use Rattle.eos_base.specs.AllOf.{IsAllOf}
-use Rattle.eos_output_faults.specs.LineageFaults.{AreLineageFaults}
+use Rattle.eos_faults.specs.LineageFaults.{AreLineageFaults}
 use Rattle.eos_all_faults.proofs.AllPhases.{none_there, found_in_records}
 use Rattle.eos_all_faults.proofs.later.lineage_faults.Goals as goal
 

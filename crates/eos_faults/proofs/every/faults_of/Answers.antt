@@ -1,0 +1,21 @@
+use Rattle.std.proofs.Common.{◌∙◌, ap, subst, map, List, IsPermutation}
+use Rattle.eos_commits.specs.declared.commits.CommitRef.{CommitRef}
+use Rattle.eos_commits.specs.Plain.{plain_commit}
+use Rattle.eos_lineage.specs.Lineage.{application_of}
+use Rattle.eos_lineage.proofs.LineageLaw.{reads}
+use Rattle.eos_lineage.proofs.PartsLineage.{claims_same, inputs_same, apart}
+use Rattle.eos_faults.specs.declared.lent.VisibleClaim.{VisibleClaim}
+use Rattle.eos_faults.specs.steps.Plain.{claim_at}
+use Rattle.eos_faults.proofs.every.faults_of.Goals as goal
+
+pub returns : goal.returns
+returns c = λ are.
+    let app = c.args.app.now in
+    let parts = c.args.parts.now in
+    let table = c.requires in
+    let sources = subst (λ ts. IsPermutation ts c.in_ok-sources.sources) c.as_slice.ensures c.in_ok-sources.ensures in
+    let outputs = subst (λ ts. IsPermutation ts c.in_ok-outputs.outputs) c.as_slice-2.ensures c.in_ok-outputs.ensures in
+    let commits = c.in_ok-commits.ensures table.0 parts table.1 table.2 in
+    c.output_faults.ensures (application_of app parts) (reads app parts) (apart app parts are) sources (c.in_ok-inputs.ensures ∙ inputs_same app.sources c.in_ok-sources.sources parts sources)
+    (ap (λ (cs : List CommitRef). map plain_commit cs) c.as_slice-3.ensures.value ∙ commits)
+    (ap (λ (cs : List VisibleClaim). map claim_at cs) c.as_slice-4.ensures.value ∙ (c.in_ok-claims.ensures ∙ claims_same app.outputs c.in_ok-outputs.outputs parts outputs))

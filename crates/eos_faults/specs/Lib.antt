@@ -1,0 +1,5 @@
+pub mod steps
+pub mod LineageFaults
+pub mod OneInput
+pub mod PartitionPlaces
+pub mod PartitionLists

@@ -1,0 +1,9 @@
+pub mod Gathered
+pub mod Lent
+pub mod Claimed
+pub mod OutputFaultsGathered
+pub mod Plain
+pub mod Tables
+pub mod Taken
+pub mod Found
+pub mod Walks

@@ -1,0 +1,33 @@
+-- The faults of applications one after the other.
+use Rattle.std.specs.Prelude.{◌≡◌, Option, List, map, flat_map}
+use Rattle.eos_base.specs.Members.{Has}
+use Rattle.eos_evidence.specs.declared.application.App.{App}
+use Rattle.eos_fold.specs.Parts.{PartLog}
+use Rattle.eos_claims.specs.declared.fault.OutputFault.{OutputFault}
+use Rattle.eos_commits.specs.Commits.{Group}
+use Rattle.eos_lineage.specs.declared.fault.LineageFault.{LineageFault}
+use Rattle.eos_lineage.specs.declared.fault.LineageFault.TheVariants.{Output}
+use Rattle.eos_lineage.specs.Lineage.{application_of}
+use Rattle.eos_lineage.specs.Faults.{named_group}
+use Rattle.eos_faults.specs.steps.OutputFaultsGathered.{AreOutputFaults}
+
+abbrev pub in_group : Option Group → OutputFault → LineageFault
+in_group group f = Output group f
+
+-- an application, and the list of its faults
+pub record AppFaults : Type 0 where
+  pub app : App
+  pub faults : List OutputFault
+
+abbrev pub app_of : AppFaults → App
+app_of t = t.app
+
+abbrev pub faults_in : List App → AppFaults → List LineageFault
+faults_in apps t = map (in_group (named_group apps t.app)) t.faults
+
+-- the list has the faults of these of the applications
+pub record AreTaken (apps : List App) (ps : List PartLog) (done : List App) (list : List LineageFault) : Type 0 where
+  pub taken : List AppFaults
+  pub are : map app_of taken ≡ done
+  pub each : (t : AppFaults) → Has taken t → AreOutputFaults (application_of t.app ps) t.faults
+  pub all : list ≡ flat_map (faults_in apps) taken

@@ -1,0 +1,31 @@
+//! All faults of visible records, in the order that makes the first of them least.
+//!
+//! One walk over the records, in the order of their partitions: each shows its faults of all kinds by itself, but for a split
+//! group, which it shows against the records before it.
+#![tactic(auto)]
+
+mod application;
+mod commits;
+mod every;
+mod faults;
+mod firsts;
+mod gathering;
+mod homes;
+mod kinds;
+pub mod laws;
+mod lent;
+mod output_faults_shown;
+pub mod partition_faults_laws;
+mod partition_faults_shown;
+mod partition_faults_whole;
+mod reading;
+mod segments;
+mod shown;
+mod sources;
+mod stops;
+mod tables;
+mod walk;
+
+pub use every::all_output_faults;
+pub use faults::all_record_faults;
+pub use partition_faults_whole::faults_of_partition;

@@ -1,0 +1,201 @@
+//! What each claim shows, and what each input lacks.
+
+ghost use Rattle.std.specs.Prelude.{◌≡◌, ◌++◌, map, flat_map, IfOk, OnOk};
+ghost use Rattle.eos_claims.specs.Outputs.{Application};
+ghost use Rattle.eos_claims.specs.Candidates.{counted, fault_at, is_out_of_range as is_out, when};
+ghost use Rattle.eos_faults.specs.steps.OutputFaultsGathered.{placed_at, numbered_at, shown_at, missing_at, lacking, gathered_by};
+ghost use Rattle.eos_faults.specs.steps.Plain.{claim_at, place_at};
+ghost use Rattle.eos_faults.specs.steps.Tables.{AreTables};
+
+use crate::lent::{LentPlace, VisibleClaim};
+use crate::tables::{
+    Tables, disagrees, first_absent, is_committed, is_input, is_passed, is_repeated, is_source,
+};
+use bytes::Bytes;
+use eos_base::PartitionName;
+use eos_claims::{OutputFault, OutputKind, Place};
+use std::alloc::{AllocError, Global};
+
+/// The place with a name of its own.
+fn own_place(alloc: Global, place: &LentPlace<'_>) -> Result<Place, AllocError>
+    ensures { IfOk result (λ p. p ≡ place_at place.now) }
+{
+    Ok(Place {
+        partition: PartitionName {
+            topic: Bytes::copy_from_slice(alloc, place.partition.topic)?,
+            partition: place.partition.partition,
+        },
+        offset: place.offset,
+    })
+}
+
+/// Puts the claim's fault of this kind at the end, where it stands.
+fn push_when(
+    alloc: Global,
+    faults: &mut Vec<OutputFault>,
+    stands: bool,
+    kind: OutputKind,
+    claim: &VisibleClaim<'_>,
+) -> Result<(), AllocError>
+    ensures { OnOk result (faults.new.items ≡ faults.old.items ++ when stands (fault_at kind (counted (claim_at claim.now)))) }
+{
+    if !stands {
+        return Ok(());
+    }
+    let source = own_place(alloc, &claim.source)?;
+    let at = own_place(alloc, &claim.at)?;
+    faults.push(OutputFault {
+        source,
+        output: claim.output,
+        kind,
+        at: Some(at),
+    })?;
+    Ok(())
+}
+
+/// What a claim shows by the place that it names.
+fn push_placed<'a>(
+    alloc: Global,
+    faults: &mut Vec<OutputFault>,
+    tables: &Tables<'a>,
+    claim: &VisibleClaim<'a>,
+) -> Result<(), AllocError>
+    ensures { (a : Application) → AreTables a tables.now → OnOk result (faults.new.items ≡ faults.old.items ++ placed_at a (claim_at claim.now)) }
+{
+    let source = is_source(tables, &claim.source);
+    let input = is_input(tables, &claim.source);
+    let committed = is_committed(tables, &claim.source);
+    let passed = is_passed(tables, claim);
+    push_when(alloc, faults, !source, OutputKind::ForeignSource, claim)?;
+    push_when(
+        alloc,
+        faults,
+        source && !input,
+        OutputKind::NoSuchInput,
+        claim,
+    )?;
+    push_when(alloc, faults, input && !committed, OutputKind::Early, claim)?;
+    let other = input && (committed && !passed);
+    push_when(alloc, faults, other, OutputKind::OtherTransaction, claim)?;
+    Ok(())
+}
+
+/// Neither in 1 to the count, nor the note 0 of 0.
+fn is_out_of_range(claim: &VisibleClaim<'_>) -> bool
+    ensures { result ≡ is_out claim.now.of claim.now.output }
+{
+    if claim.of == 0 {
+        claim.output > 0
+    } else {
+        claim.output == 0 || claim.output > claim.of
+    }
+}
+
+/// What a claim shows by its number and its count.
+fn push_numbered<'a>(
+    alloc: Global,
+    faults: &mut Vec<OutputFault>,
+    tables: &Tables<'a>,
+    claim: &VisibleClaim<'a>,
+) -> Result<(), AllocError>
+    ensures { (a : Application) → AreTables a tables.now → OnOk result (faults.new.items ≡ faults.old.items ++ numbered_at a (claim_at claim.now)) }
+{
+    let out = is_out_of_range(claim);
+    let disagrees = disagrees(tables, claim);
+    let repeated = is_repeated(tables, claim);
+    push_when(alloc, faults, out, OutputKind::NumberRange, claim)?;
+    push_when(alloc, faults, disagrees, OutputKind::CountDisagrees, claim)?;
+    push_when(alloc, faults, repeated, OutputKind::Repeated, claim)?;
+    Ok(())
+}
+
+fn push_claim<'a>(
+    alloc: Global,
+    faults: &mut Vec<OutputFault>,
+    tables: &Tables<'a>,
+    claim: &VisibleClaim<'a>,
+) -> Result<(), AllocError>
+    ensures { (a : Application) → AreTables a tables.now → OnOk result (faults.new.items ≡ faults.old.items ++ shown_at a (claim_at claim.now)) }
+{
+    push_placed(alloc, faults, tables, claim)?;
+    push_numbered(alloc, faults, tables, claim)?;
+    Ok(())
+}
+
+/// Puts an output that an input lacks at the end, if there is one.
+fn push_missing(
+    alloc: Global,
+    faults: &mut Vec<OutputFault>,
+    input: &LentPlace<'_>,
+    output: Option<u32>,
+) -> Result<(), AllocError>
+    ensures { OnOk result (faults.new.items ≡ faults.old.items ++ missing_at (place_at input.now) output) }
+{
+    let Some(output) = output else {
+        return Ok(());
+    };
+    let source = own_place(alloc, input)?;
+    faults.push(OutputFault {
+        source,
+        output,
+        kind: OutputKind::Missing,
+        at: None,
+    })?;
+    Ok(())
+}
+
+fn push_input<'a>(
+    alloc: Global,
+    faults: &mut Vec<OutputFault>,
+    tables: &Tables<'a>,
+    input: &LentPlace<'a>,
+) -> Result<(), AllocError>
+    ensures { (a : Application) → AreTables a tables.now → OnOk result (faults.new.items ≡ faults.old.items ++ lacking a (place_at input.now)) }
+{
+    if is_committed(tables, input) {
+        push_missing(alloc, faults, input, first_absent(tables, input))?;
+    }
+    Ok(())
+}
+
+fn push_claims<'a>(
+    alloc: Global,
+    faults: &mut Vec<OutputFault>,
+    tables: &Tables<'a>,
+    claims: &[VisibleClaim<'a>],
+) -> Result<(), AllocError>
+    ensures { (a : Application) → AreTables a tables.now → OnOk result (faults.new.items ≡ faults.old.items ++ flat_map (shown_at a) (map claim_at claims.now)) }
+{
+    for claim in claims {
+        push_claim(alloc, faults, tables, claim)?;
+    }
+    Ok(())
+}
+
+fn push_inputs<'a>(
+    alloc: Global,
+    faults: &mut Vec<OutputFault>,
+    tables: &Tables<'a>,
+    inputs: &[LentPlace<'a>],
+) -> Result<(), AllocError>
+    ensures { (a : Application) → AreTables a tables.now → OnOk result (faults.new.items ≡ faults.old.items ++ flat_map (lacking a) (map place_at inputs.now)) }
+{
+    for input in inputs {
+        push_input(alloc, faults, tables, input)?;
+    }
+    Ok(())
+}
+
+/// The faults of one application's outputs as they are found.
+pub(crate) fn found<'a>(
+    alloc: Global,
+    tables: &Tables<'a>,
+    claims: &[VisibleClaim<'a>],
+) -> Result<Vec<OutputFault>, AllocError>
+    ensures { (a : Application) → AreTables a tables.now → map claim_at claims.now ≡ a.claims → IfOk result (λ faults. faults.items ≡ gathered_by a (map place_at tables.now.inputs)) }
+{
+    let mut faults = Vec::new(alloc);
+    push_claims(alloc, &mut faults, tables, claims)?;
+    push_inputs(alloc, &mut faults, tables, tables.inputs.as_slice())?;
+    Ok(faults)
+}

@@ -1,6 +1,0 @@
-use Rattle.eos_output_faults.proofs.TableSteps.{firsts_more}
-use Rattle.eos_output_faults.proofs.firsts.take_first.Goals as goal
-
-pub returns : goal.returns
-returns c = λ before are.
-    firsts_more c.args.firsts.now c.insert.new.self before c.args.claim.now c.first_in-known.result c.lesser_first.result are c.first_in-known.ensures c.lesser_first.ensures c.in_ok-insert.ensures.updates.0

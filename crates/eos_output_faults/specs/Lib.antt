@@ -1,3 +1,0 @@
-pub mod LineageFaults
-pub mod OneInput
-pub mod steps

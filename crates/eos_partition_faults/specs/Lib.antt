@@ -1,3 +1,0 @@
-pub mod PartitionPlaces
-pub mod PartitionLists
-pub mod steps
