@@ -10,9 +10,9 @@ use Rattle.eos_notes.specs.Notes.{AreAllNotesBy}
 use Rattle.eos_kept.specs.Parts.{HaveEpochs}
 use Rattle.eos_kept.specs.Faults.{first_of}
 use Rattle.eos_kept.specs.declared.logs.Logs.{Logs}
-use Rattle.eos_tallies.specs.Counts.{AreCounted}
-use Rattle.eos_tallies.specs.Tallies.{AreTallies}
-use Rattle.eos_tallies.specs.TalliesByLogs.{tallies_by}
+use Rattle.eos_notes.specs.Counts.{AreCounted}
+use Rattle.eos_notes.specs.Tallies.{AreTallies}
+use Rattle.eos_notes.specs.TalliesByLogs.{tallies_by}
 use Rattle.eos_reading.specs.Wanted.{wanted_logs}
 use Rattle.eos_wanted_notes.proofs.KeptNotes.{whole_all}
 use Rattle.eos_wanted_notes.proofs.KeptTallies.{whole_tables}

@@ -15,8 +15,8 @@ use Rattle.eos_notes.specs.declared.note.Note.{Note}
 use Rattle.eos_notes.specs.Notes.{AreAllNotes}
 use Rattle.eos_report.specs.VerdictTexts.{verdict_line}
 use Rattle.eos_report.specs.FaultLists.{list_text}
-use Rattle.eos_tallies.specs.declared.tally.Tallies.{Tallies}
-use Rattle.eos_tallies.specs.Tallies.{AreTallies}
+use Rattle.eos_notes.specs.declared.tally.Tallies.{Tallies}
+use Rattle.eos_notes.specs.Tallies.{AreTallies}
 use Rattle.eos_words.specs.declared.demands.Demands.{Demands}
 use Rattle.eos_checking.specs.Demands.{IsNoted, exit_status}
 use Rattle.eos_checking.specs.declared.check.Made.{Made}

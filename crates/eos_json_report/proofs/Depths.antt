@@ -29,11 +29,11 @@ use Rattle.eos_check.specs.Verdicts.{phase_of, name_of}
 use Rattle.eos_json_report.specs.Values.{count, text_value, with_partition, with_place, place_value}
 use Rattle.eos_json_report.specs.FaultValues.{with_details, with_partition_fault, with_id, with_refusal, with_log_fault, with_found, with_match_fault, with_visible_details, with_visible_fault, with_claim, with_group, with_output_fault, with_where, code_of, fault_value}
 use Rattle.eos_json_report.specs.NoteValues.{with_note, note_value}
-use Rattle.eos_tallies.specs.declared.tally.TopicRoles.{TopicRoles}
-use Rattle.eos_tallies.specs.declared.tally.PartitionTally.{PartitionTally}
-use Rattle.eos_tallies.specs.declared.tally.SourceTally.{SourceTally}
-use Rattle.eos_tallies.specs.declared.tally.GroupTally.{GroupTally}
-use Rattle.eos_tallies.specs.declared.tally.Tallies.{Tallies}
+use Rattle.eos_notes.specs.declared.tally.TopicRoles.{TopicRoles}
+use Rattle.eos_notes.specs.declared.tally.PartitionTally.{PartitionTally}
+use Rattle.eos_notes.specs.declared.tally.SourceTally.{SourceTally}
+use Rattle.eos_notes.specs.declared.tally.GroupTally.{GroupTally}
+use Rattle.eos_notes.specs.declared.tally.Tallies.{Tallies}
 use Rattle.eos_json_report.specs.TallyValues.{with_roles, roles_value, visible_value, with_sizes, with_tally, partition_value, partition_items, with_source, source_value, source_items, with_group_tally, group_value, group_items, groups_value, with_tallies}
 use Rattle.eos_json_report.specs.Reports.{note_items, fault_items, counts_value, with_verdict, program_value, with_about, report_value, AreSeconds, AreTimes}
 

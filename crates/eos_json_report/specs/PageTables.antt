@@ -2,11 +2,11 @@
 use Rattle.std.specs.Prelude.{ℕ, ℤ, List, [], ◌++◌, Bool, codes, Option, None, Some, if◌then◌else◌}
 use Rattle.std.specs.List.{flat_map}
 use Rattle.std.specs.Fmt.{decimal, signed_decimal}
-use Rattle.eos_tallies.specs.declared.tally.TopicRoles.{TopicRoles}
-use Rattle.eos_tallies.specs.declared.tally.PartitionTally.{PartitionTally}
-use Rattle.eos_tallies.specs.declared.tally.SourceTally.{SourceTally}
-use Rattle.eos_tallies.specs.declared.tally.GroupTally.{GroupTally}
-use Rattle.eos_tallies.specs.declared.tally.Tallies.{Tallies}
+use Rattle.eos_notes.specs.declared.tally.TopicRoles.{TopicRoles}
+use Rattle.eos_notes.specs.declared.tally.PartitionTally.{PartitionTally}
+use Rattle.eos_notes.specs.declared.tally.SourceTally.{SourceTally}
+use Rattle.eos_notes.specs.declared.tally.GroupTally.{GroupTally}
+use Rattle.eos_notes.specs.declared.tally.Tallies.{Tallies}
 use Rattle.eos_text.specs.Escaping.{escaped}
 
 -- ---- cells

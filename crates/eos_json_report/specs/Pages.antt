@@ -12,7 +12,7 @@ use Rattle.eos_notes.specs.declared.note.Note.{Note}
 use Rattle.eos_notes.specs.Texts.{note_lines}
 use Rattle.eos_report.specs.FaultTexts.{fault_text}
 use Rattle.eos_report.specs.VerdictTexts.{verdict_line}
-use Rattle.eos_tallies.specs.declared.tally.Tallies.{Tallies}
+use Rattle.eos_notes.specs.declared.tally.Tallies.{Tallies}
 use Rattle.eos_json_report.specs.declared.about.About.{About}
 use Rattle.eos_json_report.specs.Html.{html}
 use Rattle.eos_json_report.specs.PageTables.{partitions_text, groups_text}

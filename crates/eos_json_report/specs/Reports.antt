@@ -16,7 +16,7 @@ use Rattle.eos_json_report.specs.declared.about.About.{About}
 use Rattle.eos_json_report.specs.declared.about.Times.{Times}
 use Rattle.eos_json_report.specs.Values.{count}
 use Rattle.eos_json_report.specs.FaultValues.{fault_value}
-use Rattle.eos_tallies.specs.declared.tally.Tallies.{Tallies}
+use Rattle.eos_notes.specs.declared.tally.Tallies.{Tallies}
 use Rattle.eos_json_report.specs.NoteValues.{note_value}
 use Rattle.eos_json_report.specs.TallyValues.{with_tallies}
 

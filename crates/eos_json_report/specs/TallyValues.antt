@@ -2,11 +2,11 @@
 use Rattle.std.specs.Prelude.{ℕ, List, codes, map, Option, None, Some}
 use Rattle.serde_json.specs.Data.{Data, Members, no_members, Items, null, boolean, object, array, put}
 use Rattle.serde_json.specs.View.{items_of}
-use Rattle.eos_tallies.specs.declared.tally.TopicRoles.{TopicRoles}
-use Rattle.eos_tallies.specs.declared.tally.PartitionTally.{PartitionTally}
-use Rattle.eos_tallies.specs.declared.tally.SourceTally.{SourceTally}
-use Rattle.eos_tallies.specs.declared.tally.GroupTally.{GroupTally}
-use Rattle.eos_tallies.specs.declared.tally.Tallies.{Tallies}
+use Rattle.eos_notes.specs.declared.tally.TopicRoles.{TopicRoles}
+use Rattle.eos_notes.specs.declared.tally.PartitionTally.{PartitionTally}
+use Rattle.eos_notes.specs.declared.tally.SourceTally.{SourceTally}
+use Rattle.eos_notes.specs.declared.tally.GroupTally.{GroupTally}
+use Rattle.eos_notes.specs.declared.tally.Tallies.{Tallies}
 use Rattle.eos_json_report.specs.Values.{text_value, count, integer, with_partition}
 
 -- what the topic is

@@ -7,7 +7,7 @@ ghost use Rattle.eos_json_report.specs.PageTables.{name_cell, count_cell, offset
 
 use eos_base::Listed;
 use eos_evidence::GroupId;
-use eos_tallies::{GroupTally, PartitionTally, SourceTally, Tallies, TopicRoles};
+use eos_notes::{GroupTally, PartitionTally, SourceTally, Tallies, TopicRoles};
 use eos_text::{push_escaped, push_text, push_value};
 use std::alloc::{AllocError, Global};
 

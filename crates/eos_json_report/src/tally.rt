@@ -8,7 +8,7 @@ ghost use Rattle.eos_json_report.specs.TallyValues.{with_roles, roles_value, vis
 
 use crate::object::Object;
 use eos_base::Listed;
-use eos_tallies::{GroupTally, PartitionTally, SourceTally, Tallies, TopicRoles};
+use eos_notes::{GroupTally, PartitionTally, SourceTally, Tallies, TopicRoles};
 use serde_json::Value;
 use std::alloc::{AllocError, Global};
 

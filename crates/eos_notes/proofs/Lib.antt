@@ -7,3 +7,10 @@ pub mod PartTables
 pub mod FirstNamed
 pub mod Whole
 pub mod EpochFalls
+pub mod SegmentWalks
+pub mod SegmentsPassed
+pub mod PartitionRows
+pub mod SourceRows
+pub mod CountedRows
+pub mod TalliesFirstNamed
+pub mod TalliesWhole

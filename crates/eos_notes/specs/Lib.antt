@@ -5,3 +5,8 @@ pub mod Notes
 pub mod Texts
 pub mod Lines
 pub mod steps
+pub mod PartitionTallies
+pub mod GroupTallies
+pub mod Tallies
+pub mod Counts
+pub mod TalliesByLogs

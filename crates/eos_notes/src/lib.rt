@@ -4,18 +4,29 @@
 //! group that it misspells no offset is found. A note changes no verdict.
 #![tactic(auto)]
 
+mod counts;
 mod evidence_notes;
+mod evidence_tallies;
+mod fronts;
 mod groups;
 pub mod laws;
 mod lines;
 mod manifest;
 mod note;
+mod partitions;
+mod records;
 mod replicas;
+mod tallies_groups;
+pub mod tallies_laws;
+mod tally;
 mod text;
 mod unlisted;
 
+pub use counts::counted_of;
 pub use evidence_notes::notes;
+pub use evidence_tallies::tallies_of;
 pub use lines::{all_lines, lines_of};
 pub use note::{InternalTopic, Note};
 pub use replicas::all_notes;
+pub use tally::{Counted, GroupTally, PartitionTally, SourceTally, Tallies, TopicRoles};
 pub use text::note_lines;

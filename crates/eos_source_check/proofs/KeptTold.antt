@@ -7,8 +7,8 @@ use Rattle.eos_lineage.specs.EvidenceLogs.{AreLogsOf}
 use Rattle.eos_kept.specs.declared.part.Told.{Told}
 use Rattle.eos_kept.specs.Parts.{HaveEpochs}
 use Rattle.eos_kept.specs.Faults.{AreFaultsIn}
-use Rattle.eos_tallies.specs.Counts.{AreCounted}
-use Rattle.eos_tallies.specs.PartitionTallies.{HasBatches}
+use Rattle.eos_notes.specs.Counts.{AreCounted}
+use Rattle.eos_notes.specs.PartitionTallies.{HasBatches}
 use Rattle.eos_reading.specs.Wanted.{wanted_log, wanted_of, kept_log, wanted_logs}
 use Rattle.eos_source.specs.Logs.{AreTold, tally_of}
 use Rattle.eos_source_check.specs.steps.Apart.{counted_as}

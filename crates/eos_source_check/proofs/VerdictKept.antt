@@ -14,7 +14,7 @@ use Rattle.eos_source.specs.Said.{Known}
 use Rattle.eos_source_check.specs.Judged.{IsJudgedFor, IsJudgedOf}
 use Rattle.eos_source_check.specs.declared.judged.Judged.{Judged}
 use Rattle.eos_source_check.specs.steps.Apart.{counted_as, IsApart}
-use Rattle.eos_tallies.specs.Counts.{AreCounted}
+use Rattle.eos_notes.specs.Counts.{AreCounted}
 use Rattle.eos_source_check.proofs.KeptTold.{AreKept, kept_told}
 
 judged_for : (kept : KeptLogs) (j : Judged) (shape e : EvidenceParts) → e.spec ≡ shape.spec → AreLogsKept kept e → IsApart kept j.logs j.counted.items → j.epochs.items ≡ kept.epochs.items

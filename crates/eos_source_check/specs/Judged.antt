@@ -12,7 +12,7 @@ use Rattle.eos_kept.specs.declared.logs.Logs.{Logs}
 use Rattle.eos_reading.specs.Wanted.{wanted_logs}
 use Rattle.eos_source.specs.Said.{Known}
 use Rattle.eos_source.specs.Shapes.{HoldsAsSaid}
-use Rattle.eos_tallies.specs.Counts.{AreCounted}
+use Rattle.eos_notes.specs.Counts.{AreCounted}
 use Rattle.eos_source_check.specs.declared.judged.Judged.{Judged}
 
 -- what is wanted of the logs of this evidence, each with its least fault

@@ -13,7 +13,7 @@ use eos_evidence::Evidence;
 use eos_kept::Logs;
 use eos_reading::EpochEntry;
 use eos_source::{Source, kept_logs};
-use eos_tallies::Counted;
+use eos_notes::Counted;
 use std::alloc::Global;
 use std::thread::Threads;
 

@@ -7,7 +7,7 @@ use eos_base::Listed;
 use eos_kept::{Logs, Part};
 use eos_reading::EpochEntry;
 use eos_source::{KeptLogs, Tally};
-use eos_tallies::Counted;
+use eos_notes::Counted;
 use std::alloc::{AllocError, Global};
 
 /// The same parts, one by one.

@@ -18,18 +18,18 @@ use Rattle.eos_lineage.specs.Lineage.{is_part_of, parts_of}
 use Rattle.eos_lineage.proofs.BelowClaims.{length_mapped}
 use Rattle.eos_kept.specs.Faults.{AreFaultsIn, first_of}
 use Rattle.eos_touch.specs.declared.fault.PartitionFault.{PartitionFault}
-use Rattle.eos_tallies.specs.declared.tally.Counted.{Counted}
-use Rattle.eos_tallies.specs.declared.tally.GroupTally.{GroupTally}
-use Rattle.eos_tallies.specs.declared.tally.PartitionTally.{PartitionTally}
-use Rattle.eos_tallies.specs.declared.tally.SourceTally.{SourceTally}
-use Rattle.eos_tallies.specs.declared.tally.Tallies.{Tallies}
-use Rattle.eos_tallies.specs.declared.tally.TopicRoles.{TopicRoles}
-use Rattle.eos_tallies.specs.Counts.{AreCounted}
-use Rattle.eos_tallies.specs.GroupTallies.{visible_below, source_tally, group_tally}
-use Rattle.eos_tallies.specs.PartitionTallies.{roles_of}
-use Rattle.eos_tallies.specs.Tallies.{AreTallies}
-use Rattle.eos_tallies.specs.TalliesByLogs.{beside, partition_tally, group_tallies, tallies_by}
-use Rattle.eos_tallies.proofs.Whole.{tallies_are}
+use Rattle.eos_notes.specs.declared.tally.Counted.{Counted}
+use Rattle.eos_notes.specs.declared.tally.GroupTally.{GroupTally}
+use Rattle.eos_notes.specs.declared.tally.PartitionTally.{PartitionTally}
+use Rattle.eos_notes.specs.declared.tally.SourceTally.{SourceTally}
+use Rattle.eos_notes.specs.declared.tally.Tallies.{Tallies}
+use Rattle.eos_notes.specs.declared.tally.TopicRoles.{TopicRoles}
+use Rattle.eos_notes.specs.Counts.{AreCounted}
+use Rattle.eos_notes.specs.GroupTallies.{visible_below, source_tally, group_tally}
+use Rattle.eos_notes.specs.PartitionTallies.{roles_of}
+use Rattle.eos_notes.specs.Tallies.{AreTallies}
+use Rattle.eos_notes.specs.TalliesByLogs.{beside, partition_tally, group_tallies, tallies_by}
+use Rattle.eos_notes.proofs.TalliesWhole.{tallies_are}
 use Rattle.eos_reading.specs.Wanted.{wanted_item, wanted_of, kept_log, wanted_logs}
 use Rattle.eos_check.proofs.SeenSame.{filter_seen}
 use Rattle.eos_check.proofs.KeptRecords.{offset_kept, visible_seen}

@@ -15,10 +15,10 @@ ghost use Rattle.eos_notes.specs.declared.note.Note.{Note};
 ghost use Rattle.eos_kept.specs.Parts.{HaveEpochs};
 ghost use Rattle.eos_kept.specs.Faults.{AreFaultsIn, first_of};
 ghost use Rattle.eos_reading.specs.declared.epoch.EpochEntry.{EpochEntry};
-ghost use Rattle.eos_tallies.specs.Counts.{AreCounted};
-ghost use Rattle.eos_tallies.specs.Tallies.{AreTallies};
-ghost use Rattle.eos_tallies.specs.TalliesByLogs.{tallies_by};
-ghost use Rattle.eos_tallies.specs.declared.tally.Counted.{Counted};
+ghost use Rattle.eos_notes.specs.Counts.{AreCounted};
+ghost use Rattle.eos_notes.specs.Tallies.{AreTallies};
+ghost use Rattle.eos_notes.specs.TalliesByLogs.{tallies_by};
+ghost use Rattle.eos_notes.specs.declared.tally.Counted.{Counted};
 ghost use Rattle.eos_touch.specs.declared.fault.PartitionFault.{PartitionFault};
 ghost use Rattle.eos_reading.specs.Wanted.{wanted_logs};
 

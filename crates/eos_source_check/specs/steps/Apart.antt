@@ -3,7 +3,7 @@ use Rattle.std.specs.Prelude.{◌≡◌, List, map}
 use Rattle.eos_kept.specs.declared.logs.Logs.{Logs}
 use Rattle.eos_source.specs.declared.logs.KeptLogs.{KeptLogs}
 use Rattle.eos_source.specs.declared.logs.Tally.{Tally}
-use Rattle.eos_tallies.specs.declared.tally.Counted.{Counted}
+use Rattle.eos_notes.specs.declared.tally.Counted.{Counted}
 
 abbrev pub counted_as : Tally → Counted
 counted_as t = record { batches = t.batches; segments = t.sizes.segments; bytes = t.sizes.bytes }

@@ -1,5 +1,5 @@
 use Rattle.std.proofs.Common.{subst}
-use Rattle.eos_tallies.specs.declared.tally.Tallies.{Tallies}
+use Rattle.eos_notes.specs.declared.tally.Tallies.{Tallies}
 use Rattle.eos_checking.specs.Checking.{AreMade}
 use Rattle.eos_checking.specs.declared.check.Made.{Made}
 use Rattle.eos_checking.proofs.report.made_of.Goals as goal

@@ -1,5 +1,0 @@
-use Rattle.eos_tallies.specs.steps.Walks.{HasPassedAll}
-use Rattle.eos_tallies.proofs.fronts.count_batches.Given as goal
-
-abbrev pub invariant-loop-segment : goal.invariant-loop-segment
-invariant-loop-segment l = HasPassedAll l.segments l.segment-index l.front

@@ -1,6 +1,0 @@
-pub mod PartitionTallies
-pub mod GroupTallies
-pub mod Tallies
-pub mod Counts
-pub mod TalliesByLogs
-pub mod steps
