@@ -14,8 +14,8 @@ use Rattle.eos_source.proofs.SameShape.{holds_of_known}
 use Rattle.eos_notes.specs.Lines.{IsAllNotesText}
 use Rattle.eos_source.specs.Said.{Said, Known, known_by}
 use Rattle.eos_source.specs.Shapes.{IsOfShape}
-use Rattle.eos_source_faults.specs.Again.{AreThere}
-use Rattle.eos_source_faults.proofs.KnownAgain.{there}
+use Rattle.eos_source_check.specs.Again.{AreThere}
+use Rattle.eos_source_check.proofs.KnownAgain.{there}
 use Rattle.eos_text.specs.Writing.{WritesFront, WritesFrontOf}
 use Rattle.eos_checking.specs.Checking.{IsCheckAnswer, IsReportAsked}
 use Rattle.eos_checking.specs.Demands.{IsUnmetText}

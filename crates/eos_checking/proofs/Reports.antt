@@ -14,8 +14,8 @@ use Rattle.eos_notes.specs.Counts.{AreCounted}
 use Rattle.eos_notes.specs.Tallies.{AreTallies}
 use Rattle.eos_notes.specs.TalliesByLogs.{tallies_by}
 use Rattle.eos_reading.specs.Wanted.{wanted_logs}
-use Rattle.eos_wanted_notes.proofs.KeptNotes.{whole_all}
-use Rattle.eos_wanted_notes.proofs.KeptTallies.{whole_tables}
+use Rattle.eos_source_check.proofs.KeptNotes.{whole_all}
+use Rattle.eos_source_check.proofs.KeptTallies.{whole_tables}
 use Rattle.eos_source_check.specs.Judged.{AreKeptOf}
 use Rattle.eos_source_check.specs.declared.judged.Judged.{Judged}
 use Rattle.eos_checking.specs.Checking.{AreTold, IsReport, IsReportAsked}

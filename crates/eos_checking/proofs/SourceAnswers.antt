@@ -13,9 +13,9 @@ use Rattle.eos_notes.specs.Lines.{IsAllNotesTextBy}
 use Rattle.eos_notes.specs.Notes.{AreAllNotesBy}
 use Rattle.eos_kept.specs.Faults.{first_of}
 use Rattle.eos_reading.specs.Wanted.{wanted_logs}
-use Rattle.eos_wanted_notes.proofs.KeptNotes.{whole_all_text, whole_all, kept_in_order}
+use Rattle.eos_source_check.proofs.KeptNotes.{whole_all_text, whole_all, kept_in_order}
 use Rattle.eos_source.specs.Said.{Known}
-use Rattle.eos_source_faults.specs.Again.{AreAgain, AreThere}
+use Rattle.eos_source_check.specs.Again.{AreAgain, AreThere}
 use Rattle.eos_source_check.specs.declared.judged.Judged.{Judged}
 use Rattle.eos_source_check.specs.Judged.{IsJudgedFor, IsJudgedOf}
 use Rattle.eos_checking.specs.Checking.{AreTold}

@@ -12,7 +12,7 @@ use Rattle.eos_source.specs.Saying.{known_at}
 use Rattle.eos_notes.specs.Lines.{IsAllNotesText}
 use Rattle.eos_source.specs.Said.{Known}
 use Rattle.eos_source.specs.Shapes.{HoldsAsSaid}
-use Rattle.eos_source_faults.specs.Again.{AreAgain, AreThere}
+use Rattle.eos_source_check.specs.Again.{AreAgain, AreThere}
 use Rattle.eos_text.specs.Writing.{Writes}
 use Rattle.eos_checking.specs.Checking.{IsCheckAnswer, IsReportAsked}
 use Rattle.eos_checking.specs.Demands.{IsUnmetText}

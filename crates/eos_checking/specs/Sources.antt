@@ -9,7 +9,7 @@ use Rattle.eos_evidence.specs.Evidence.{EvidenceParts, IsEvidence}
 use Rattle.eos_notes.specs.Lines.{IsAllNotesText}
 use Rattle.eos_source.specs.Said.{Known}
 use Rattle.eos_source.specs.Shapes.{HoldsAsSaid}
-use Rattle.eos_source_faults.specs.Again.{AreAgain, AreThere}
+use Rattle.eos_source_check.specs.Again.{AreAgain, AreThere}
 use Rattle.eos_checking.specs.Checking.{IsCheckAnswer, IsReportAsked}
 use Rattle.eos_checking.specs.Demands.{IsUnmetText}
 use Rattle.eos_checking.specs.declared.check.Wanted.{Wanted}

@@ -18,7 +18,7 @@ use crate::report::Timed;
 use crate::source::{Pieces, SourceAnswer, answer_all, answer_source};
 use eos_disk::{Disk, FolderFault, Shape, Watch, read_shape};
 use eos_source::{FolderSource, Source};
-use eos_source_faults::Unlisted;
+use eos_source_check::Unlisted;
 use eos_text::{WriteFault, finish};
 use std::alloc::Global;
 use std::io::Write;

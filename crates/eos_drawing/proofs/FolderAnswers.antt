@@ -12,8 +12,8 @@ use Rattle.eos_source.specs.Saying.{said_at, known_at, StandsAt}
 use Rattle.eos_source.proofs.SameShape.{holds_of_known}
 use Rattle.eos_source.specs.Said.{Said, known_by}
 use Rattle.eos_source.specs.Shapes.{IsOfShape}
-use Rattle.eos_source_faults.specs.Again.{AreThere}
-use Rattle.eos_source_faults.proofs.KnownAgain.{there}
+use Rattle.eos_source_check.specs.Again.{AreThere}
+use Rattle.eos_source_check.proofs.KnownAgain.{there}
 use Rattle.eos_text.specs.Writing.{WritesFront}
 use Rattle.eos_drawing.specs.declared.answer.Answer.TheVariants as answers
 use Rattle.eos_drawing.specs.declared.answer.Drawn.{Drawn}

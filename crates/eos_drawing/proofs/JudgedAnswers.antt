@@ -13,8 +13,8 @@ use Rattle.eos_picture.specs.declared.mark.Picture.{Picture}
 use Rattle.eos_source.specs.Said.{Known}
 use Rattle.eos_source_check.specs.Judged.{IsJudgedFor, IsJudgedOf}
 use Rattle.eos_source_check.specs.declared.judged.Judged.{Judged}
-use Rattle.eos_source_faults.specs.Again.{AreThere}
-use Rattle.eos_source_faults.specs.Listed.{IsListOf}
+use Rattle.eos_source_check.specs.Again.{AreThere}
+use Rattle.eos_source_check.specs.Listed.{IsListOf}
 use Rattle.eos_drawing.specs.declared.answer.Answer.{Answer}
 use Rattle.eos_drawing.specs.declared.answer.Answer.TheVariants as answers
 use Rattle.eos_drawing.specs.declared.answer.Drawn.{Drawn}

@@ -11,7 +11,7 @@ use Rattle.eos_disk.specs.Shapes.{IsShapeAt}
 use Rattle.eos_source.specs.Saying.{known_at}
 use Rattle.eos_source.specs.Said.{Known}
 use Rattle.eos_source.specs.Shapes.{HoldsAsSaid}
-use Rattle.eos_source_faults.specs.Again.{AreAgain, AreThere}
+use Rattle.eos_source_check.specs.Again.{AreAgain, AreThere}
 use Rattle.eos_text.specs.Writing.{WritesFront}
 use Rattle.eos_drawing.specs.Drawings.{IsDrawing}
 

@@ -12,7 +12,7 @@ use Rattle.eos_check.specs.declared.verdict.Counts.{Counts}
 use Rattle.eos_evidence.specs.Evidence.{EvidenceParts}
 use Rattle.eos_fold.specs.Parts.{PartLog}
 use Rattle.eos_lineage.specs.EvidenceLogs.{AreLogsOf}
-use Rattle.eos_all_faults.specs.AllFaults.{AreAllFaults}
+use Rattle.eos_source_check.specs.AllFaults.{AreAllFaults}
 use Rattle.eos_notes.specs.Lines.{IsNotesText}
 use Rattle.eos_notes.specs.Notes.{AreNotes}
 use Rattle.eos_report.specs.VerdictTexts.{verdict_line}

@@ -9,7 +9,7 @@ ghost use Rattle.eos_notes.specs.Notes.{AreNotes};
 ghost use Rattle.eos_explaining.specs.Explaining.{IsAnswer};
 
 use crate::story::{About, story_at};
-use eos_all_faults::all_faults;
+use eos_source_check::all_faults;
 use eos_board::Gate;
 use eos_check::{Fault, Verdict, logs_of, verdict_of};
 use eos_evidence::Evidence;

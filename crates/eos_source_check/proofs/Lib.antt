@@ -1,3 +1,19 @@
 pub mod KeptTold
 mod SameShape
 pub mod VerdictKept
+pub mod FirstOfAll
+pub mod PhaseLists
+pub mod LaterAlike
+pub mod RisingLists
+pub mod PartitionsListed
+pub mod AllPhases
+pub mod EarnedAgain
+pub mod FaultsSame
+pub mod FirstFound
+pub mod LogsAgain
+pub mod PassedAgain
+pub mod ListedAgain
+pub mod KnownAgain
+pub mod Among
+pub mod KeptNotes
+pub mod KeptTallies

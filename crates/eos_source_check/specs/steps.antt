@@ -1,2 +1,5 @@
 -- What only private functions promise: steps towards what the public calls say.
 pub mod Apart
+pub mod InPartitions
+pub mod Earned
+pub mod FaultsAgain

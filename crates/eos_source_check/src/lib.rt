@@ -5,8 +5,22 @@
 //! it is the verdict of each evidence whose segment has this fold: that there is one is for who made the fold to know.
 #![tactic(auto)]
 
+mod again;
+mod all;
+pub mod all_faults_laws;
+mod fault;
 mod judged;
 mod kept;
+mod later;
 pub mod laws;
+mod listed;
+mod partitions;
+pub mod source_faults_laws;
+pub mod wanted_notes_laws;
 
+pub use all::{all_faults, of_partitions};
+pub use fault::Unlisted;
 pub use judged::{Judged, judge_source};
+pub use later::later_faults;
+pub use listed::all_source_faults;
+pub use partitions::all_partition_faults;

@@ -15,7 +15,7 @@ use Rattle.eos_kept.specs.Faults.{first_of}
 use Rattle.eos_source_check.specs.declared.judged.Judged.{Judged}
 use Rattle.eos_notes.specs.TalliesByLogs.{tallies_by}
 use Rattle.eos_source.specs.Said.{Known}
-use Rattle.eos_source_faults.specs.Listed.{IsListOf}
+use Rattle.eos_source_check.specs.Listed.{IsListOf}
 use Rattle.eos_fold.specs.Parts.{PartLog}
 use Rattle.eos_reading.specs.declared.epoch.EpochEntry.{EpochEntry}
 use Rattle.eos_words.specs.declared.demands.Demands.{Demands}

@@ -1,6 +1,0 @@
-use Rattle.eos_all_faults.proofs.later.later_faults.Goals as goal
-
-pub returns : goal.returns
-returns c =
-    let listed = rw c.as_slice.ensures.value at c.in_ok-list.ensures in
-    listed

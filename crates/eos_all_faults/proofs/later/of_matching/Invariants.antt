@@ -1,6 +1,0 @@
-use Rattle.std.proofs.Common.{◌≡◌, map}
-use Rattle.eos_check.specs.declared.verdict.Fault.TheVariants.{Match}
-use Rattle.eos_all_faults.proofs.later.of_matching.Given as goal
-
-abbrev pub invariant-loop-fault : goal.invariant-loop-fault
-invariant-loop-fault l = l.list.items ≡ map Match l.yielded

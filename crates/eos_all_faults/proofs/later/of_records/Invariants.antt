@@ -1,6 +1,0 @@
-use Rattle.std.proofs.Common.{◌≡◌, map}
-use Rattle.eos_lineage.specs.declared.fault.LineageFault.TheVariants.{Record}
-use Rattle.eos_all_faults.proofs.later.of_records.Given as goal
-
-abbrev pub invariant-loop-fault : goal.invariant-loop-fault
-invariant-loop-fault l = l.list.items ≡ map Record l.yielded

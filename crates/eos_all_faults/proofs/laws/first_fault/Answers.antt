@@ -1,5 +1,0 @@
-use Rattle.eos_all_faults.proofs.FirstOfAll.{first_of_all}
-use Rattle.eos_all_faults.proofs.laws.first_fault.Goals as goal
-
-pub returns : goal.returns
-returns c = λ e ls of first others all. first_of_all e ls of first others all

@@ -1,3 +1,0 @@
-pub mod AllFaults
-pub mod LaterFaults
-pub mod steps

@@ -1,0 +1,119 @@
+//! A partition that is read again, whole.
+
+ghost use Rattle.std.specs.Prelude.{◌≡◌, ◌↔◌, ◌+◌, ◌≤◌, true, Some, length, option_map, slice_get, IfOk, IfErr};
+ghost use Rattle.eos_source.specs.Said.{known_by};
+ghost use Rattle.eos_source_check.specs.Again.{IsAgain};
+ghost use Rattle.eos_source_check.specs.Refusals.{IsNoLog};
+ghost use Rattle.eos_source_check.specs.steps.Earned.{IsOfPiece, IsOfPieces, IsOfPartition};
+ghost use Rattle.eos_source_check.specs.steps.FaultsAgain.{IsLogOf, HasFaultsAgain, HasFaultsIfFound, BeginsIfFound};
+
+use crate::fault::Unlisted;
+use bytes::Bytes;
+use eos_base::Listed;
+use eos_evidence::{Partition, Segment, read_segment};
+use eos_faults::faults_of_partition;
+use eos_source::{Piece, Source};
+use eos_touch::PartitionFault;
+use std::alloc::Global;
+
+/// The bytes of the piece of this number, if it is a log.
+fn bytes_of<S: Source>(alloc: Global, source: &S, piece: u64) -> Result<Bytes, Unlisted<S::Fault>>
+    ensures ok { IfOk result (IsLogOf (known_by (S.said source.now) (S.is_log source.now) piece)) }
+    ensures fold { IfErr result (λ why. IsNoLog (S.is_log source.now) why) }
+    ensures earned { IfErr result (IsOfPiece (S.outcomes source.now) piece) }
+{
+    match source.open(alloc, piece) {
+        Ok(Piece::Log(mut reader)) => match read_segment(alloc, &mut reader) {
+            Ok(bytes) => Ok(bytes),
+            Err(why) => {
+                let fault = source.refusal(alloc, piece, &mut reader, why);
+                Err(Unlisted::Refused(fault))
+            }
+        },
+        Ok(Piece::Fold(_)) => Err(Unlisted::Fold(piece)),
+        Err(fault) => Err(Unlisted::Refused(fault)),
+    }
+}
+
+/// The partition of this shape, whose first segment is the piece of this number, as it is read now.
+fn read_again<S: Source>(
+    alloc: Global,
+    source: &S,
+    shape: &Partition,
+    first: u64,
+) -> Result<Partition, Unlisted<S::Fault>>
+    requires { first + length shape.now.segments ≤ 65536 }
+    ensures ok { IfOk result (IsAgain (known_by (S.said source.now) (S.is_log source.now)) first shape.now) }
+    ensures fold { IfErr result (λ why. IsNoLog (S.is_log source.now) why) }
+    ensures earned { IfErr result (IsOfPieces (S.outcomes source.now) first (length shape.now.segments)) }
+{
+    let names = shape.segments.as_slice();
+    let mut segments = Vec::new(alloc);
+    for i in 0..names.len() {
+        let name = &names[i];
+        let bytes = bytes_of(alloc, source, first + i as u64)?;
+        segments.push(Segment {
+            topic: name.topic.clone()?,
+            partition: name.partition,
+            base: name.base,
+            bytes,
+        })?;
+    }
+    Ok(Partition {
+        end: shape.end.clone()?,
+        segments: Listed::new(segments),
+    })
+}
+
+/// Whether the first of these faults is this one.
+fn begins_with(faults: &[PartitionFault], fault: &PartitionFault) -> bool
+    ensures { result ≡ true ↔ (slice_get faults.now 0 ≡ Some fault.now) }
+{
+    match faults.first() {
+        Some(first) => first == fault,
+        None => false,
+    }
+}
+
+/// All faults of a partition that is read again, in which this one was the least when it was read first.
+fn faults_again<S: Source>(
+    alloc: Global,
+    source: &S,
+    shape: &Partition,
+    first: u64,
+    fault: &PartitionFault,
+) -> Result<Vec<PartitionFault>, Unlisted<S::Fault>>
+    requires { first + length shape.now.segments ≤ 65536 }
+    ensures ok { IfOk result (λ faults. HasFaultsAgain (known_by (S.said source.now) (S.is_log source.now)) first shape.now faults.items) }
+    ensures first { IfOk result (λ faults. slice_get faults.items 0 ≡ Some fault.now) }
+    ensures fold { IfErr result (λ why. IsNoLog (S.is_log source.now) why) }
+    ensures earned { IfErr result (IsOfPartition (known_by (S.said source.now) (S.is_log source.now)) (S.outcomes source.now) first shape.now (Some (Some fault.now))) }
+{
+    let partition = read_again(alloc, source, shape, first)?;
+    let faults = faults_of_partition(alloc, &partition)?;
+    if begins_with(faults.as_slice(), fault) {
+        Ok(faults)
+    } else {
+        Err(Unlisted::Changed(first))
+    }
+}
+
+/// All faults of a partition, read again if one was found in it; else none.
+pub(crate) fn faults_if_found<S: Source>(
+    alloc: Global,
+    source: &S,
+    shape: &Partition,
+    first: u64,
+    found: Option<&Option<PartitionFault>>,
+) -> Result<Vec<PartitionFault>, Unlisted<S::Fault>>
+    requires { first + length shape.now.segments ≤ 65536 }
+    ensures ok { IfOk result (λ faults. HasFaultsIfFound (known_by (S.said source.now) (S.is_log source.now)) first shape.now (option_map (λ f. f.now) found.entry) faults.items) }
+    ensures first { IfOk result (λ faults. BeginsIfFound (option_map (λ f. f.now) found.entry) faults.items) }
+    ensures fold { IfErr result (λ why. IsNoLog (S.is_log source.now) why) }
+    ensures earned { IfErr result (IsOfPartition (known_by (S.said source.now) (S.is_log source.now)) (S.outcomes source.now) first shape.now (option_map (λ f. f.now) found.entry)) }
+{
+    match found {
+        Some(Some(fault)) => faults_again(alloc, source, shape, first, fault),
+        Some(None) | None => Ok(Vec::new(alloc)),
+    }
+}

@@ -1,0 +1,73 @@
+//! All faults, of the first phase that has one.
+
+ghost use Rattle.std.specs.Prelude.{◌≡◌, length, take, slice_get, IfOk, IfErr};
+ghost use Rattle.eos_kept.specs.Faults.{first_of};
+ghost use Rattle.eos_source.specs.Said.{known_by};
+ghost use Rattle.eos_source_check.specs.Listed.{IsListOf, BeginsAsFound};
+ghost use Rattle.eos_source_check.specs.Refusals.{IsNoLog, IsEarned};
+ghost use Rattle.eos_source_check.specs.steps.FaultsAgain.{AreListedAgain};
+
+use crate::again::faults_if_found;
+use crate::fault::Unlisted;
+use crate::{later_faults, of_partitions};
+use eos_check::Fault;
+use eos_evidence::Evidence;
+use eos_kept::Logs;
+use eos_source::Source;
+use eos_touch::PartitionFault;
+use std::alloc::Global;
+
+/// All faults of the partitions by themselves, of which one was found in these.
+fn partition_faults<S: Source>(
+    alloc: Global,
+    source: &S,
+    shape: &Evidence,
+    found: &[Option<PartitionFault>],
+) -> Result<Vec<PartitionFault>, Unlisted<S::Fault>>
+    ensures ok { IfOk result (λ list. AreListedAgain (known_by (S.said source.now) (S.is_log source.now)) shape.now.partitions found.now list.items) }
+    ensures first { IfOk result (λ list. slice_get list.items 0 ≡ first_of (take (length shape.now.partitions) found.now)) }
+    ensures fold { IfErr result (λ why. IsNoLog (S.is_log source.now) why) }
+    ensures earned { IfErr result (IsEarned (known_by (S.said source.now) (S.is_log source.now)) (S.outcomes source.now) shape.now.partitions found.now) }
+{
+    let partitions = shape.partitions();
+    let mut list = Vec::new(alloc);
+    let mut first = 0u64;
+    for i in 0..partitions.len() {
+        let partition = &partitions[i];
+        let mut more = faults_if_found(alloc, source, partition, first, found.get(i))?;
+        list.append(&mut more)?;
+        first += partition.segments.len() as u64;
+    }
+    Ok(list)
+}
+
+/// Every fault of the evidence of this shape of whose logs these are kept, as `judge_source` keeps them, in the verdict's order, each
+/// once; but of the outputs that one input lacks the first alone. Where a partition has a fault by itself, these are of the
+/// partitions, and each one that has is read again from the source: it is true of an evidence that has these partitions as they
+/// were read again.
+///
+/// Beside what is kept and the faults, memory is that of one such partition, whole.
+///
+/// # Errors
+/// Of a partition that is read again: a piece that isn't there or is a fold, or that its least fault is another than the one that was
+/// found; or want of memory.
+pub fn all_source_faults<S: Source>(
+    alloc: Global,
+    source: &S,
+    shape: &Evidence,
+    logs: &Logs,
+) -> Result<Vec<Fault>, Unlisted<S::Fault>>
+    ensures ok { IfOk result (λ faults. IsListOf (known_by (S.said source.now) (S.is_log source.now)) shape.now logs.now faults.items) }
+    ensures first { IfOk result (λ faults. BeginsAsFound shape.now logs.now faults.items) }
+    ensures fold { IfErr result (λ why. IsNoLog (S.is_log source.now) why) }
+    ensures earned { IfErr result (IsEarned (known_by (S.said source.now) (S.is_log source.now)) (S.outcomes source.now) shape.now.partitions logs.now.faults.items) }
+{
+    let spec = shape.spec();
+    if let Some(_fault) = logs.first_fault() {
+        let faults = partition_faults(alloc, source, shape, logs.faults.as_slice())?;
+        let list = of_partitions(alloc, faults)?;
+        return Ok(list);
+    }
+    let list = later_faults(alloc, spec, logs)?;
+    Ok(list)
+}

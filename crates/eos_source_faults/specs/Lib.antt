@@ -1,4 +1,0 @@
-pub mod Again
-pub mod Listed
-pub mod Refusals
-pub mod steps
