@@ -3,3 +3,4 @@ pub mod Files
 pub mod Listings
 pub mod PlainListings
 pub mod Runs
+pub mod NameRuns

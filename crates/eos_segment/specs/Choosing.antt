@@ -4,8 +4,8 @@ use Rattle.std.specs.Prelude.{ℕ, ◌-◌, ◌^◌, ℤ, pos, negsuc, ◌+ℤ�
 use Rattle.eos_batch.specs.Attributes.{is_control}
 use Rattle.eos_batch.specs.declared.batch.Batch.{Batch}
 use Rattle.eos_batch.specs.declared.record.Record.{Record}
-use Rattle.eos_decoded.specs.declared.reading.Reading.{Reading}
-use Rattle.eos_decoded.specs.Decoding.{decoded_line}
+use Rattle.eos_segment.specs.declared.reading.Reading.{Reading}
+use Rattle.eos_segment.specs.Decoding.{decoded_line}
 use Rattle.eos_segment.specs.declared.options.ListingOptions.{ListingOptions}
 use Rattle.eos_segment.specs.HeaderLines.{header_lines}
 use Rattle.eos_segment.specs.Lines.{record_line, batch_line}

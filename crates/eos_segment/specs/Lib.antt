@@ -8,3 +8,6 @@ pub mod Lines
 pub mod Listing
 pub mod Running
 pub mod steps
+pub mod Decoding
+pub mod DecodedLines
+pub mod Names

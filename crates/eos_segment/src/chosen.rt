@@ -10,7 +10,7 @@ use crate::headers::push_headers;
 use crate::lines::{kind_word, push_head, push_record};
 use crate::options::ListingOptions;
 use eos_batch::{Batch, Record};
-use eos_decoded::{Reading, push_decoded};
+use crate::{Reading, push_decoded};
 use std::alloc::{AllocError, Global};
 
 fn push_its_headers(

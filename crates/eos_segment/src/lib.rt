@@ -3,19 +3,26 @@
 
 mod chain;
 mod chosen;
+mod claim;
+mod commit;
 mod details;
 mod dump;
 mod fault;
 mod file;
 mod headers;
+mod line;
 mod lines;
+mod name;
 mod options;
+mod reading;
 mod text;
+mod transaction;
 
 pub use chain::chain_to;
 pub use details::push_details;
 pub use dump::dump_to;
-pub use eos_decoded::Reading;
 pub use fault::RunFault;
 pub use file::{chain_file, dump_file};
+pub use line::push_decoded;
 pub use options::ListingOptions;
+pub use reading::Reading;

@@ -2,7 +2,7 @@
 
 ghost use Rattle.std.specs.Prelude.{◌≡◌, ◌≤ℤ◌, pos};
 
-use eos_decoded::Reading;
+use crate::Reading;
 
 /// Which records are listed, and what of them.
 #[derive(Clone, Copy)]

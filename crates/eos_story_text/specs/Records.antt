@@ -5,9 +5,9 @@ use Rattle.std.specs.Bool.{nat_eq}
 use Rattle.std.specs.Cmp.Lexicographic.{pointwise}
 use Rattle.eos_batch.specs.declared.record.Record.{Record}
 use Rattle.eos_claims.specs.declared.place.Place.{Place}
-use Rattle.eos_decoded.specs.declared.reading.Reading.{Reading}
-use Rattle.eos_decoded.specs.declared.reading.Reading.TheVariants.{Outputs, Transactions, Offsets}
-use Rattle.eos_decoded.specs.Decoding.{decoded_line}
+use Rattle.eos_segment.specs.declared.reading.Reading.{Reading}
+use Rattle.eos_segment.specs.declared.reading.Reading.TheVariants.{Outputs, Transactions, Offsets}
+use Rattle.eos_segment.specs.Decoding.{decoded_line}
 use Rattle.eos_fold.specs.declared.item.Fate.{Fate}
 use Rattle.eos_fold.specs.declared.item.Fate.TheVariants.{Plain, Committed, Aborted, Waiting}
 use Rattle.eos_fold.specs.declared.item.Item.{Item}

@@ -2,7 +2,7 @@
 
 ghost use Rattle.std.specs.Prelude.{◌≡◌, ◌++◌, OnOk, IfOk, string_bytes};
 ghost use Rattle.std.specs.Option.{option_copied};
-ghost use Rattle.eos_decoded.specs.Decoding.{decoded_line};
+ghost use Rattle.eos_segment.specs.Decoding.{decoded_line};
 ghost use Rattle.eos_sought.specs.declared.sought.Sought.TheVariants.{Alike, Before, Within, Passing, UpTo, Deciding};
 ghost use Rattle.eos_text.specs.Adding.{Adds};
 ghost use Rattle.eos_story_text.specs.Records.{role_of, reading_at, reading_of, writer_text, fate_text, said_text, record_of, record_line, absent_text, no_record_line};
@@ -10,7 +10,7 @@ ghost use Rattle.eos_story_text.specs.Records.{role_of, reading_at, reading_of, 
 use crate::names::{is_there, mark, push_at, push_spot};
 use eos_batch::Record;
 use eos_claims::Place;
-use eos_decoded::{Reading, push_decoded};
+use eos_segment::{Reading, push_decoded};
 use eos_fold::{Fate, Item};
 use eos_places::Placed;
 use eos_sought::{Epochs, Find, Sought};

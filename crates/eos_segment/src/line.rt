@@ -2,7 +2,7 @@
 
 ghost use Rattle.std.specs.Prelude.{◌≡◌, OnOk, string_bytes};
 ghost use Rattle.eos_text.specs.Adding.{Adds};
-ghost use Rattle.eos_decoded.specs.Decoding.{decoded_line};
+ghost use Rattle.eos_segment.specs.Decoding.{decoded_line};
 
 use crate::claim::push_output;
 use crate::commit::push_commit;

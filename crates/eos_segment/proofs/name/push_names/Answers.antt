@@ -1,8 +1,8 @@
 use Rattle.std.proofs.Common.{◌≡◌, ◌+◌, ◌<◌, ◌∷◌, List, length, drop, ap, sym, ◌∙◌}
 use Rattle.std.proofs.lemmas.List.{at_drop_more}
 use Rattle.eos_txnlog.specs.declared.partitions.TopicPartitions.{TopicPartitions}
-use Rattle.eos_decoded.proofs.NameRuns.{one_topic_more}
-use Rattle.eos_decoded.proofs.name.push_names.Goals as goal
+use Rattle.eos_segment.proofs.NameRuns.{one_topic_more}
+use Rattle.eos_segment.proofs.name.push_names.Goals as goal
 
 pub loop-topic-preserved : goal.loop-topic-preserved
 loop-topic-preserved c =

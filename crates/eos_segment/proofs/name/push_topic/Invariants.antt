@@ -1,7 +1,7 @@
 use Rattle.std.proofs.Common.{◌≡◌, ◌++◌, drop, map, string_bytes}
 use Rattle.eos_txnlog.specs.PartitionSets.{name_of}
-use Rattle.eos_decoded.specs.Names.{names_text}
-use Rattle.eos_decoded.proofs.name.push_topic.Given as goal
+use Rattle.eos_segment.specs.Names.{names_text}
+use Rattle.eos_segment.proofs.name.push_topic.Given as goal
 
 abbrev pub invariant-loop-number : goal.invariant-loop-number
 invariant-loop-number l =

@@ -1,6 +1,6 @@
-use Rattle.eos_decoded.specs.Lines.{deleted_line}
+use Rattle.eos_segment.specs.DecodedLines.{deleted_line}
 use Rattle.eos_text.proofs.Appended.{then}
-use Rattle.eos_decoded.proofs.commit.push_deleted.Goals as goal
+use Rattle.eos_segment.proofs.commit.push_deleted.Goals as goal
 
 pub returns : goal.returns
 unfolding deleted_line

@@ -3,8 +3,8 @@
 ghost use Rattle.std.specs.Prelude.{◌≡◌, ◌++◌, ◌&&◌, ◌==◌, length, true, OnOk, string_bytes};
 ghost use Rattle.eos_text.specs.Adding.{Adds};
 ghost use Rattle.eos_txnlog.specs.PartitionSets.{names_in_topic, names_of};
-ghost use Rattle.eos_decoded.specs.Lines.{unread_line};
-ghost use Rattle.eos_decoded.specs.Names.{name_text, names_text, separator as separator_of};
+ghost use Rattle.eos_segment.specs.DecodedLines.{unread_line};
+ghost use Rattle.eos_segment.specs.Names.{name_text, names_text, separator as separator_of};
 
 use eos_text::{push_escaped, push_value};
 use eos_txnlog::TopicPartitions;
@@ -78,7 +78,7 @@ pub(crate) fn push_names(
 }
 
 /// Adds the line of a record that doesn't read.
-#[tactic(auto, unfolding(crate::specs::Lines::unread_line))]
+#[tactic(auto, unfolding(crate::specs::DecodedLines::unread_line))]
 pub(crate) fn push_unread(out: &mut String, name: &str) -> Result<(), AllocError>
     ensures { OnOk result (Adds (string_bytes out.old) (string_bytes out.new) (unread_line name.now)) }
 {

@@ -1,6 +1,6 @@
-use Rattle.eos_decoded.specs.Lines.{commit_head}
+use Rattle.eos_segment.specs.DecodedLines.{commit_head}
 use Rattle.eos_text.proofs.Appended.{then}
-use Rattle.eos_decoded.proofs.commit.push_head.Goals as goal
+use Rattle.eos_segment.proofs.commit.push_head.Goals as goal
 
 pub returns : goal.returns
 unfolding commit_head

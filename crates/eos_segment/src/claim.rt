@@ -3,15 +3,15 @@
 ghost use Rattle.std.specs.Prelude.{◌≡◌, ◌++◌, OnOk, string_bytes};
 ghost use Rattle.eos_claims.specs.Headers.{claim_of};
 ghost use Rattle.eos_text.specs.Adding.{Adds};
-ghost use Rattle.eos_decoded.specs.Decoding.{said_by_claim};
-ghost use Rattle.eos_decoded.specs.Lines.{claim_line};
+ghost use Rattle.eos_segment.specs.Decoding.{said_by_claim};
+ghost use Rattle.eos_segment.specs.DecodedLines.{claim_line};
 
 use crate::name::{push_name, push_unread};
 use eos_batch::Header;
 use eos_claims::{Claim, read_claim};
 use std::alloc::{AllocError, Global};
 
-#[tactic(auto, unfolding(crate::specs::Lines::claim_line))]
+#[tactic(auto, unfolding(crate::specs::DecodedLines::claim_line))]
 fn push_claim(alloc: Global, out: &mut String, claim: &Claim) -> Result<(), AllocError>
     ensures { OnOk result (Adds (string_bytes out.old) (string_bytes out.new) (claim_line claim.now)) }
 {

@@ -3,8 +3,8 @@
 ghost use Rattle.std.specs.Prelude.{◌≡◌, ◌++◌, OnOk, string_bytes};
 ghost use Rattle.eos_offsets.specs.Views.{plain_key};
 ghost use Rattle.eos_text.specs.Adding.{Adds};
-ghost use Rattle.eos_decoded.specs.Decoding.{said_of_key, said_under_key, commit_key_under};
-ghost use Rattle.eos_decoded.specs.Lines.{commit_head, commit_line, deleted_line};
+ghost use Rattle.eos_segment.specs.Decoding.{said_of_key, said_under_key, commit_key_under};
+ghost use Rattle.eos_segment.specs.DecodedLines.{commit_head, commit_line, deleted_line};
 
 use crate::name::{push_name, push_unread};
 use bytes::Bytes;
@@ -21,7 +21,7 @@ fn push_head(alloc: Global, out: &mut String, key: &KeyRef<'_>) -> Result<(), Al
     Ok(())
 }
 
-#[tactic(auto, unfolding(crate::specs::Lines::commit_line))]
+#[tactic(auto, unfolding(crate::specs::DecodedLines::commit_line))]
 fn push_committed(
     alloc: Global,
     out: &mut String,

@@ -4,9 +4,9 @@ ghost use Rattle.std.specs.Prelude.{◌≡◌, ◌++◌, IfOk, OnOk, string_byte
 ghost use Rattle.eos_text.specs.Adding.{Adds};
 ghost use Rattle.eos_text.specs.Escaping.{escaped};
 ghost use Rattle.eos_txnlog.specs.Reading.{read_key, read_value};
-ghost use Rattle.eos_decoded.specs.Decoding.{said_of_id, said_under_id, id_under};
-ghost use Rattle.eos_decoded.specs.Lines.{transaction_line, forgotten_line};
-ghost use Rattle.eos_decoded.specs.Names.{status_name as status_text};
+ghost use Rattle.eos_segment.specs.Decoding.{said_of_id, said_under_id, id_under};
+ghost use Rattle.eos_segment.specs.DecodedLines.{transaction_line, forgotten_line};
+ghost use Rattle.eos_segment.specs.Names.{status_name as status_text};
 
 use crate::name::{push_names, push_unread};
 use bytes::Bytes;

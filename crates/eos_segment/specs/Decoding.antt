@@ -12,9 +12,9 @@ use Rattle.eos_offsets.specs.declared.key.OffsetKey.{OffsetKey}
 use Rattle.eos_offsets.specs.Reading as offsets
 use Rattle.eos_txnlog.specs.declared.value.TxnValue.{TxnValue}
 use Rattle.eos_txnlog.specs.Reading as transactions
-use Rattle.eos_decoded.specs.declared.reading.Reading.{Reading}
-use Rattle.eos_decoded.specs.declared.reading.Reading.TheVariants.{Outputs, Transactions, Offsets}
-use Rattle.eos_decoded.specs.Lines.{claim_line, transaction_line, forgotten_line, commit_line, deleted_line, skipped_line, unread_line}
+use Rattle.eos_segment.specs.declared.reading.Reading.{Reading}
+use Rattle.eos_segment.specs.declared.reading.Reading.TheVariants.{Outputs, Transactions, Offsets}
+use Rattle.eos_segment.specs.DecodedLines.{claim_line, transaction_line, forgotten_line, commit_line, deleted_line, skipped_line, unread_line}
 
 -- headers that are no claim have the name under which a verdict refuses them
 abbrev pub said_by_claim : Option Claim → List ℕ

@@ -1,6 +1,6 @@
-use Rattle.eos_decoded.specs.Lines.{transaction_line}
+use Rattle.eos_segment.specs.DecodedLines.{transaction_line}
 use Rattle.eos_text.proofs.Appended.{then}
-use Rattle.eos_decoded.proofs.transaction.push_state.Goals as goal
+use Rattle.eos_segment.proofs.transaction.push_state.Goals as goal
 
 pub returns : goal.returns
 unfolding transaction_line
