@@ -8,9 +8,9 @@ use Rattle.eos_evidence.specs.Evidence.{EvidenceParts}
 use Rattle.eos_fold.specs.Parts.{PartLog}
 use Rattle.eos_lineage.specs.EvidenceLogs.{AreLogsOf}
 use Rattle.eos_source_check.specs.AllFaults.{AreAllFaults}
-use Rattle.eos_json_report.specs.Lines.{json_line, list_json}
-use Rattle.eos_json_report.specs.Pages.{IsPageText}
-use Rattle.eos_json_report.specs.Reports.{IsReportText}
+use Rattle.eos_report.specs.Lines.{json_line, list_json}
+use Rattle.eos_report.specs.Pages.{IsPageText}
+use Rattle.eos_report.specs.Reports.{IsReportText}
 use Rattle.eos_notes.specs.declared.note.Note.{Note}
 use Rattle.eos_notes.specs.Notes.{AreAllNotes}
 use Rattle.eos_report.specs.VerdictTexts.{verdict_line}

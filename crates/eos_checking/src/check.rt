@@ -7,8 +7,7 @@ ghost use Rattle.eos_checking.specs.Checking.{verdict_answer, list_answer, answe
 use crate::terms::Terms;
 use eos_check::{Fault, Verdict};
 use eos_ending::Subject;
-use eos_json_report::{About, fault_list_json, json_line};
-use eos_report::{fault_list, verdict_line};
+use eos_report::{About, fault_list, fault_list_json, json_line, verdict_line};
 use eos_text::{push_text, push_value};
 use eos_base::Workers;
 use std::alloc::{AllocError, Global};

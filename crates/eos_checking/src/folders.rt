@@ -8,7 +8,7 @@ use eos_disk::HostDisk;
 use eos_ending::{
     Ending, Meter, Progress, STANDARD, Subject, end, end_about, end_unread, say_notes,
 };
-use eos_json_report::About;
+use eos_report::About;
 use eos_words::{Check, Demands, VERSION};
 use std::io;
 use std::io::IsTerminal;

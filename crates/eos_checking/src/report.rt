@@ -2,8 +2,8 @@
 
 ghost use Rattle.std.specs.Prelude.{IfOk, option_map, string_bytes};
 ghost use Rattle.eos_commits.specs.Faults.{AreInOrder};
-ghost use Rattle.eos_json_report.specs.Pages.{IsPageText};
-ghost use Rattle.eos_json_report.specs.Reports.{IsReportText};
+ghost use Rattle.eos_report.specs.Pages.{IsPageText};
+ghost use Rattle.eos_report.specs.Reports.{IsReportText};
 ghost use Rattle.eos_checking.specs.Checking.{IsMadeIf};
 ghost use Rattle.eos_checking.specs.steps.Tellings.{IsReportBy};
 
@@ -12,7 +12,7 @@ use eos_base::Listed;
 use eos_check::{Fault, Verdict};
 use eos_ending::Progress;
 use eos_evidence::Spec;
-use eos_json_report::{Findings, Times, page_text, report_text};
+use eos_report::{Findings, Times, page_text, report_text};
 use eos_notes::{Counted, all_notes, tallies_of};
 use eos_kept::Logs;
 use eos_reading::EpochEntry;

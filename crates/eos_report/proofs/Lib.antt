@@ -1,1 +1,2 @@
 pub mod Labelled
+pub mod Depths

@@ -2,3 +2,13 @@ pub mod Faults
 pub mod FaultTexts
 pub mod VerdictTexts
 pub mod FaultLists
+pub mod Values
+pub mod FaultValues
+pub mod NoteValues
+pub mod TallyValues
+pub mod Reports
+pub mod Lines
+pub mod Html
+pub mod PageTables
+pub mod Pages
+pub mod steps

@@ -1,0 +1,158 @@
+//! The report of a check, as a text.
+
+ghost use Rattle.std.specs.Prelude.{◌≡◌, IfOk, OnOk, string_bytes};
+ghost use Rattle.serde_json.specs.Data.{Data, put as with_member};
+ghost use Rattle.serde_json.specs.View.{view, items_view};
+ghost use Rattle.eos_report.specs.steps.Held.{held};
+ghost use Rattle.eos_report.specs.Reports.{counts_value, fault_items, with_verdict, program_value, with_about, report_value, AreSeconds, AreTimes, IsReportText, IsTimedReportText};
+
+use crate::about::{About, Times};
+use crate::json_fault::value_of_fault;
+use crate::note::values_of_notes;
+use crate::object::Object;
+use crate::tally::put_tallies;
+use eos_check::{Counts, Fault, Verdict};
+use eos_notes::{Note, Tallies};
+use serde_json::Value;
+use std::alloc::{AllocError, Global};
+use std::time::Duration;
+
+/// What a check has found.
+#[derive(Clone, Copy)]
+pub struct Findings<'a> {
+    pub verdict: &'a Verdict,
+    /// At no, the faults that are told: the first alone, or all. At yes they aren't looked at.
+    pub faults: &'a [Fault],
+    pub notes: &'a [Note],
+    pub tallies: &'a Tallies,
+}
+
+/// The report of a check as one line of JSON, with its line feed: an object whose members stand in the order of their names.
+///
+/// # Errors
+/// Only want of memory.
+pub fn report_text(
+    alloc: Global,
+    about: About<'_>,
+    found: Findings<'_>,
+    times: Times,
+) -> Result<String, AllocError>
+    ensures says { IfOk result (λ text. IsReportText about.entry found.entry.verdict.now found.entry.faults.now found.entry.notes.now found.entry.tallies.now (string_bytes text)) }
+    ensures timed { IfOk result (λ text. IsTimedReportText about.entry found.entry.verdict.now found.entry.faults.now found.entry.notes.now found.entry.tallies.now times (string_bytes text)) }
+{
+    let seconds = value_of_times(alloc, times)?;
+    let value = value_of_report(alloc, about, found, seconds)?;
+    let mut text = value.to_string(alloc)?;
+    text.push_str("\n")?;
+    Ok(text)
+}
+
+#[tactic(auto, unfolding(crate::specs::Reports::report_value))]
+fn value_of_report(
+    alloc: Global,
+    about: About<'_>,
+    found: Findings<'_>,
+    seconds: Value,
+) -> Result<Value, AllocError>
+    ensures { IfOk result (λ value. view value ≡ report_value about.entry found.entry.verdict.now found.entry.faults.now found.entry.notes.now found.entry.tallies.now (view seconds)) }
+{
+    let mut made = Object::new(alloc);
+    put_about(alloc, &mut made, about)?;
+    put_verdict(alloc, &mut made, found.verdict, found.faults)?;
+    let notes = values_of_notes(alloc, found.notes)?;
+    made.put("notes", Value::Array(notes))?;
+    put_tallies(alloc, &mut made, found.tallies)?;
+    made.put("seconds", seconds)?;
+    Ok(made.into_value())
+}
+
+#[tactic(auto, unfolding(crate::specs::Reports::with_about))]
+fn put_about(alloc: Global, out: &mut Object, about: About<'_>) -> Result<(), AllocError>
+    ensures { OnOk result (held out.new ≡ with_about about.entry (held out.old)) }
+{
+    out.put_count("schema", 1)?;
+    let program = value_of_program(alloc, about)?;
+    out.put("program", program)?;
+    out.put_str("folder", about.folder)?;
+    out.put_count("workers", about.workers)
+}
+
+#[tactic(auto, unfolding(crate::specs::Reports::program_value))]
+fn value_of_program(alloc: Global, about: About<'_>) -> Result<Value, AllocError>
+    ensures { IfOk result (λ value. view value ≡ program_value about.entry) }
+{
+    let mut made = Object::new(alloc);
+    made.put_str("name", "eoscheck")?;
+    made.put_str("version", about.version)?;
+    Ok(made.into_value())
+}
+
+#[tactic(auto, unfolding(crate::specs::Reports::with_verdict))]
+fn put_verdict(
+    alloc: Global,
+    out: &mut Object,
+    verdict: &Verdict,
+    faults: &[Fault],
+) -> Result<(), AllocError>
+    ensures { OnOk result (held out.new ≡ with_verdict verdict.now faults.now (held out.old)) }
+{
+    match verdict {
+        Verdict::Yes(counts) => {
+            out.put_str("answer", "yes")?;
+            let counts = value_of_counts(alloc, *counts)?;
+            out.put("counts", counts)
+        }
+        Verdict::No(_) => {
+            out.put_str("answer", "no")?;
+            let faults = values_of_faults(alloc, faults)?;
+            out.put("faults", Value::Array(faults))
+        }
+    }
+}
+
+#[tactic(auto, unfolding(crate::specs::Reports::counts_value))]
+fn value_of_counts(alloc: Global, counts: Counts) -> Result<Value, AllocError>
+    ensures { IfOk result (λ value. view value ≡ counts_value counts) }
+{
+    let mut made = Object::new(alloc);
+    made.put_count("inputs", counts.inputs)?;
+    made.put_count("outputs", counts.outputs)?;
+    made.put_count("transactions", counts.transactions)?;
+    Ok(made.into_value())
+}
+
+fn values_of_faults(alloc: Global, faults: &[Fault]) -> Result<Vec<Value>, AllocError>
+    ensures { IfOk result (λ values. items_view values.items ≡ fault_items faults.now) }
+{
+    let mut values = Vec::new(alloc);
+    for fault in faults {
+        values.push(value_of_fault(alloc, fault)?)?;
+    }
+    Ok(values)
+}
+
+/// The seconds of each stage.
+fn value_of_times(alloc: Global, times: Times) -> Result<Value, AllocError>
+    ensures { IfOk result (λ value. AreTimes times (view value)) }
+{
+    let mut made = Object::new(alloc);
+    put_seconds(&mut made, "read", times.read)?;
+    put_seconds(&mut made, "folded", times.folded)?;
+    put_seconds(&mut made, "judged", times.judged)?;
+    Ok(made.into_value())
+}
+
+fn put_seconds(out: &mut Object, name: &str, milliseconds: u64) -> Result<(), AllocError>
+    ensures { OnOk result ((value : Data) × AreSeconds milliseconds value × (held out.new ≡ with_member name.now value (held out.old))) }
+{
+    let seconds = value_of_seconds(milliseconds);
+    out.put(name, seconds)?;
+    Ok(())
+}
+
+fn value_of_seconds(milliseconds: u64) -> Value
+    ensures { AreSeconds milliseconds (view result) }
+{
+    let seconds = Duration::from_millis(milliseconds).as_secs_f64();
+    Value::from(seconds)
+}
