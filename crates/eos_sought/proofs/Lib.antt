@@ -1,2 +1,4 @@
 pub mod Keeping
 pub mod NoState
+pub mod BatchWalks
+pub mod PartitionWalks

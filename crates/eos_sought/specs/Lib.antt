@@ -4,3 +4,7 @@ pub mod Alike
 pub mod Sought
 pub mod Finds
 pub mod steps
+pub mod Wanted
+pub mod Places
+pub mod Partitions
+pub mod Times

@@ -5,10 +5,18 @@
 mod alike;
 mod commits;
 mod finding;
+mod partition;
 mod reading;
 mod sought;
+mod times;
+mod walk;
+mod wanted;
 
 pub use commits::group_of;
 pub use finding::{Find, Finds, find_records};
+pub use partition::{Placed, batches_of, partition_named};
 pub use reading::{id_of, state_of};
 pub use sought::{Epochs, Sought};
+pub use times::time_of;
+pub use walk::batches_in;
+pub use wanted::{Standing, Wanted};

@@ -5,9 +5,9 @@ use Rattle.std.proofs.lemmas.List.{map-append, take_min, take_all}
 use Rattle.eos_base.specs.declared.partition_name.PartitionName.{PartitionName}
 use Rattle.eos_base.specs.Members.{Has}
 use Rattle.eos_evidence.specs.declared.partition.Partition.{Partition as Log}
-use Rattle.eos_places.specs.declared.partition.Placed.{Placed}
-use Rattle.eos_places.specs.declared.wanted.Wanted.{Wanted}
-use Rattle.eos_places.specs.Partitions.{AreBatchesOf}
+use Rattle.eos_sought.specs.declared.partition.Placed.{Placed}
+use Rattle.eos_sought.specs.declared.wanted.Wanted.{Wanted}
+use Rattle.eos_sought.specs.Partitions.{AreBatchesOf}
 use Rattle.eos_claims.specs.declared.place.Place.{Place}
 use Rattle.eos_sought.specs.declared.finding.Find.{Find}
 use Rattle.eos_story.specs.declared.headers.HeaderName.TheVariants.{Topic, Partition as Number, Offset, Output, Of as OfHeader}

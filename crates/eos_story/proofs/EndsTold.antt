@@ -4,8 +4,8 @@ use Rattle.eos_base.specs.declared.partition_name.PartitionName.{PartitionName}
 use Rattle.eos_base.specs.Members.{Has}
 use Rattle.eos_evidence.specs.declared.partition.Partition.{Partition}
 use Rattle.eos_evidence.specs.declared.segment.Segment.{Segment}
-use Rattle.eos_places.specs.declared.wanted.Wanted.TheVariants.{Holding}
-use Rattle.eos_places.specs.Partitions.{partition_named}
+use Rattle.eos_sought.specs.declared.wanted.Wanted.TheVariants.{Holding}
+use Rattle.eos_sought.specs.Partitions.{partition_named}
 use Rattle.eos_story.specs.Answers.{StandInOrder, IsFirstShown, IsSegmentRow, AreSegmentsAround, AreSegmentsShown, segments_around}
 use Rattle.eos_story.specs.declared.row.Row.{Row}
 use Rattle.eos_story.specs.declared.row.Row.TheVariants as rows

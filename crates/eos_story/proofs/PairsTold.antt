@@ -5,9 +5,9 @@ use Rattle.std.proofs.lemmas.Bool.{ne_eqb}
 use Rattle.eos_base.specs.Members.{Has}
 use Rattle.eos_claims.specs.declared.place.Place.{Place}
 use Rattle.eos_fold.specs.Parts.{PartLog}
-use Rattle.eos_places.specs.declared.partition.Placed.{Placed}
-use Rattle.eos_places.specs.declared.wanted.Wanted.TheVariants.{Of, Ending, Open}
-use Rattle.eos_places.specs.Partitions.{AreBatchesOf}
+use Rattle.eos_sought.specs.declared.partition.Placed.{Placed}
+use Rattle.eos_sought.specs.declared.wanted.Wanted.TheVariants.{Of, Ending, Open}
+use Rattle.eos_sought.specs.Partitions.{AreBatchesOf}
 use Rattle.eos_sought.specs.declared.sought.Sought.{Sought}
 use Rattle.eos_sought.specs.declared.sought.Sought.TheVariants.{OfProducer, Passed}
 use Rattle.eos_sought.specs.Finds.{all_of}

@@ -6,10 +6,10 @@ use Rattle.eos_claims.specs.declared.place.Place.{Place}
 use Rattle.eos_evidence.specs.declared.partition.Partition.{Partition as Log}
 use Rattle.eos_evidence.specs.declared.segment.Segment.{Segment}
 use Rattle.eos_fold.specs.Parts.{PartLog}
-use Rattle.eos_places.specs.declared.partition.Placed.{Placed}
-use Rattle.eos_places.specs.declared.wanted.Wanted.{Wanted}
-use Rattle.eos_places.specs.declared.wanted.Wanted.TheVariants.{Holding, Ending}
-use Rattle.eos_places.specs.Partitions.{partition_named}
+use Rattle.eos_sought.specs.declared.partition.Placed.{Placed}
+use Rattle.eos_sought.specs.declared.wanted.Wanted.{Wanted}
+use Rattle.eos_sought.specs.declared.wanted.Wanted.TheVariants.{Holding, Ending}
+use Rattle.eos_sought.specs.Partitions.{partition_named}
 use Rattle.eos_sought.specs.declared.finding.Find.{Find}
 use Rattle.eos_sought.specs.declared.sought.Sought.{Sought}
 use Rattle.eos_sought.specs.declared.sought.Sought.TheVariants.{At, Deciding}

@@ -8,10 +8,10 @@ use Rattle.eos_evidence.specs.declared.partition.Partition.{Partition}
 use Rattle.eos_evidence.specs.declared.segment.Segment.{Segment}
 use Rattle.eos_fold.specs.Fronts.{base_of}
 use Rattle.eos_fold.specs.Parts.{PartLog}
-use Rattle.eos_places.specs.declared.partition.Placed.{Placed}
-use Rattle.eos_places.specs.declared.wanted.Wanted.{Wanted}
-use Rattle.eos_places.specs.declared.wanted.Wanted.TheVariants.{Holding, Ending}
-use Rattle.eos_places.specs.Partitions.{partition_named, AreBatchesOf}
+use Rattle.eos_sought.specs.declared.partition.Placed.{Placed}
+use Rattle.eos_sought.specs.declared.wanted.Wanted.{Wanted}
+use Rattle.eos_sought.specs.declared.wanted.Wanted.TheVariants.{Holding, Ending}
+use Rattle.eos_sought.specs.Partitions.{partition_named, AreBatchesOf}
 use Rattle.eos_sought.specs.declared.finding.Find.{Find}
 use Rattle.eos_sought.specs.declared.sought.Sought.{Sought}
 use Rattle.eos_sought.specs.declared.sought.Sought.TheVariants.{At, Deciding}

@@ -15,9 +15,9 @@ use Rattle.eos_evidence.specs.declared.application.App.{App}
 use Rattle.eos_fold.specs.Parts.{PartLog}
 use Rattle.eos_lineage.specs.declared.fault.LineageFault.{LineageFault}
 use Rattle.eos_lineage.specs.declared.fault.LineageFault.TheVariants.{Record, Output}
-use Rattle.eos_places.specs.declared.partition.Placed.{Placed}
-use Rattle.eos_places.specs.declared.wanted.Wanted.{Wanted}
-use Rattle.eos_places.specs.declared.wanted.Wanted.TheVariants.{Between, Of, Marking, Data}
+use Rattle.eos_sought.specs.declared.partition.Placed.{Placed}
+use Rattle.eos_sought.specs.declared.wanted.Wanted.{Wanted}
+use Rattle.eos_sought.specs.declared.wanted.Wanted.TheVariants.{Between, Of, Marking, Data}
 use Rattle.eos_sought.specs.declared.finding.Find.{Find}
 use Rattle.eos_sought.specs.declared.sought.Epochs.{Epochs}
 use Rattle.eos_sought.specs.declared.sought.Sought.{Sought}

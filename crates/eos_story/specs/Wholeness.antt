@@ -7,9 +7,9 @@ use Rattle.eos_check.specs.declared.verdict.Fault.TheVariants as faults
 use Rattle.eos_evidence.specs.declared.partition.Partition.{Partition}
 use Rattle.eos_evidence.specs.Evidence.{EvidenceParts}
 use Rattle.eos_fold.specs.Parts.{PartLog}
-use Rattle.eos_places.specs.declared.partition.Placed.{Placed}
-use Rattle.eos_places.specs.declared.wanted.Wanted.TheVariants.{Of, Ending, Open}
-use Rattle.eos_places.specs.Partitions.{AreBatchesOf}
+use Rattle.eos_sought.specs.declared.partition.Placed.{Placed}
+use Rattle.eos_sought.specs.declared.wanted.Wanted.TheVariants.{Of, Ending, Open}
+use Rattle.eos_sought.specs.Partitions.{AreBatchesOf}
 use Rattle.eos_story.specs.declared.row.Row.{Row}
 use Rattle.eos_story.specs.declared.row.Row.TheVariants as rows
 use Rattle.eos_story.specs.Answers.{count_below, AnswersEach}

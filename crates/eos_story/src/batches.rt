@@ -2,9 +2,9 @@
 
 ghost use Rattle.std.specs.Prelude.{◌≡◌, ◌≤◌, ◌-◌, ◌∷◌, [], List, IfOk, OnOk, All, length, slice_get};
 ghost use Rattle.eos_base.specs.Members.{Has};
-ghost use Rattle.eos_places.specs.declared.partition.Placed.{Placed as Batch};
-ghost use Rattle.eos_places.specs.declared.wanted.Wanted.TheVariants.{Of};
-ghost use Rattle.eos_places.specs.Partitions.{AreBatchesOf};
+ghost use Rattle.eos_sought.specs.declared.partition.Placed.{Placed as Batch};
+ghost use Rattle.eos_sought.specs.declared.wanted.Wanted.TheVariants.{Of};
+ghost use Rattle.eos_sought.specs.Partitions.{AreBatchesOf};
 ghost use Rattle.eos_story.specs.Answers.{StandInOrder, IsBatchRow, count_below};
 ghost use Rattle.eos_story.specs.declared.row.Row.TheVariants.{Batch as BatchRow, First as FirstRow};
 ghost use Rattle.eos_story.specs.Questions.{Around, Batches, FirstBatch};
@@ -17,7 +17,7 @@ use crate::row::{Row, add_row};
 use crate::scene::Scene;
 use crate::slices::around;
 use eos_base::PartitionName;
-use eos_places::{Placed, Wanted, batches_of};
+use eos_sought::{Placed, Wanted, batches_of};
 use std::alloc::AllocError;
 
 /// How many touches of a producer id are shown before a place, and how many from it on.

@@ -16,8 +16,7 @@ use crate::row::Row;
 use crate::scene::Scene;
 use eos_base::PartitionName;
 use eos_claims::{OutputFault, OutputKind, Place};
-use eos_places::Wanted;
-use eos_sought::{Find, Sought};
+use eos_sought::{Find, Sought, Wanted};
 use std::alloc::{AllocError, Global};
 
 // ---- the commits of an output's transaction

@@ -16,8 +16,7 @@ use crate::row::Row;
 use crate::scene::Scene;
 use eos_base::PartitionName;
 use eos_claims::Place;
-use eos_places::{Placed, Wanted};
-use eos_sought::{Find, Sought, find_records};
+use eos_sought::{Find, Placed, Sought, Wanted, find_records};
 use std::alloc::AllocError;
 
 /// Adds the decision of an end marker, if there is one.

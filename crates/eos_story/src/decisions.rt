@@ -18,8 +18,7 @@ use crate::scene::Scene;
 use crate::slices::from_on;
 use bytes::Bytes;
 use eos_base::PartitionName;
-use eos_places::Wanted;
-use eos_sought::{Find, Sought, find_records, state_of};
+use eos_sought::{Find, Sought, Wanted, find_records, state_of};
 use eos_txnlog::{TopicPartitions, TxnValue};
 use std::alloc::{AllocError, Global};
 

@@ -3,8 +3,8 @@
 ghost use Rattle.std.specs.Prelude.{◌≡◌, ◌≢◌, ◌≤◌, ◌<◌, ◌-◌, ◌∷◌, [], OnOk, Some, All, length};
 ghost use Rattle.eos_base.specs.Members.{Has};
 ghost use Rattle.eos_fold.specs.Fronts.{base_of};
-ghost use Rattle.eos_places.specs.Partitions.{partition_named};
-ghost use Rattle.eos_places.specs.declared.wanted.Wanted.TheVariants.{Holding};
+ghost use Rattle.eos_sought.specs.Partitions.{partition_named};
+ghost use Rattle.eos_sought.specs.declared.wanted.Wanted.TheVariants.{Holding};
 ghost use Rattle.eos_story.specs.Answers.{StandInOrder, IsFirstShown, IsSegmentRow, AreSegmentsAround, AreSegmentsShown, count_begun};
 ghost use Rattle.eos_story.specs.declared.row.Row.TheVariants.{Segment as SegmentRow, MoreSegments, End as EndRow};
 ghost use Rattle.eos_story.specs.Questions.{Ends};
@@ -17,7 +17,7 @@ use crate::scene::Scene;
 use crate::slices::around;
 use eos_base::PartitionName;
 use eos_evidence::{Partition, Segment};
-use eos_places::{Wanted, partition_named};
+use eos_sought::{Wanted, partition_named};
 use std::alloc::AllocError;
 
 /// How many of these segments begin at an offset or before it.

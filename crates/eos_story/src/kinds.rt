@@ -19,8 +19,7 @@ use bytes::Bytes;
 use eos_base::PartitionName;
 use eos_check::Fault;
 use eos_claims::Place;
-use eos_places::Wanted;
-use eos_sought::Sought;
+use eos_sought::{Sought, Wanted};
 use eos_table::{LogFault, MatchFault, MatchFaultKind};
 use std::alloc::AllocError;
 

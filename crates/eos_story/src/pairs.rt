@@ -4,9 +4,9 @@ ghost use Rattle.std.specs.Prelude.{◌≡◌, OnOk};
 ghost use Rattle.eos_story.specs.Questions.{ending, ending_epoch, between, of_open};
 ghost use Rattle.eos_story.specs.Wholeness.{IsPairTold, IsOpenTold, IsPartitionTold, last_end};
 ghost use Rattle.eos_story.specs.steps.Telling.{Tells, TellsEach};
-ghost use Rattle.eos_places.specs.declared.wanted.Wanted.TheVariants.{Ending};
-ghost use Rattle.eos_places.specs.declared.partition.Placed.{Placed as Batch};
-ghost use Rattle.eos_places.specs.Partitions.{AreBatchesOf};
+ghost use Rattle.eos_sought.specs.declared.wanted.Wanted.TheVariants.{Ending};
+ghost use Rattle.eos_sought.specs.declared.partition.Placed.{Placed as Batch};
+ghost use Rattle.eos_sought.specs.Partitions.{AreBatchesOf};
 ghost use Rattle.std.specs.Prelude.{IfOk, List};
 
 use crate::batches::{push_first, push_some, push_touches};
@@ -17,7 +17,7 @@ use crate::scene::Scene;
 use crate::states::{push_last, push_near};
 use eos_base::PartitionName;
 use eos_batch::BatchHead;
-use eos_places::{Placed, Wanted, batches_of};
+use eos_sought::{Placed, Wanted, batches_of};
 use eos_touch::{PartitionFault, PartitionFaultKind};
 use std::alloc::AllocError;
 

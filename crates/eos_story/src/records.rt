@@ -2,7 +2,7 @@
 
 ghost use Rattle.std.specs.Prelude.{◌≡◌, ◌∷◌, [], IfOk, OnOk, All, length, slice_get};
 ghost use Rattle.eos_base.specs.Members.{Has};
-ghost use Rattle.eos_places.specs.declared.wanted.Wanted.TheVariants.{Holding};
+ghost use Rattle.eos_sought.specs.declared.wanted.Wanted.TheVariants.{Holding};
 ghost use Rattle.eos_sought.specs.Finds.{all_of};
 ghost use Rattle.eos_story.specs.Answers.{StandInOrder, IsRecordRow};
 ghost use Rattle.eos_story.specs.Questions.{Records, Latest as LatestOf};
@@ -12,8 +12,7 @@ use crate::copies::{copy_find, copy_sought};
 use crate::row::{Row, add_row};
 use crate::scene::Scene;
 use crate::slices::from_on;
-use eos_places::{Placed, Wanted, batches_of};
-use eos_sought::{Find, Sought, find_records};
+use eos_sought::{Find, Placed, Sought, Wanted, batches_of, find_records};
 use std::alloc::AllocError;
 
 /// The first of these, if there is one.

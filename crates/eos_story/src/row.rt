@@ -9,8 +9,7 @@ use crate::scene::Scene;
 use bytes::Bytes;
 use eos_base::{Listed, PartitionName};
 use eos_claims::Place;
-use eos_places::{Placed, Wanted};
-use eos_sought::{Find, Sought};
+use eos_sought::{Find, Placed, Sought, Wanted};
 use std::alloc::AllocError;
 
 /// A place in the logs and its role, or that nothing has it.

@@ -1,7 +1,7 @@
 //! Rows of the states of a transactional id or a producer id.
 
 ghost use Rattle.std.specs.Prelude.{◌≡◌, ◌∷◌, [], IfOk, OnOk, slice_get};
-ghost use Rattle.eos_places.specs.declared.partition.Placed.{Placed as Batch};
+ghost use Rattle.eos_sought.specs.declared.partition.Placed.{Placed as Batch};
 ghost use Rattle.eos_sought.specs.declared.sought.Sought.TheVariants.{OfId, OfProducer, Before as IsBefore};
 ghost use Rattle.eos_story.specs.Questions.{Latest, states_from, states_near, state_said, last_of, markers_epoch, of_state, by_producer, by_holder, states_of};
 ghost use Rattle.eos_story.specs.steps.Telling.{TellsEach};
@@ -15,8 +15,7 @@ use crate::scene::Scene;
 use crate::slices::from_on;
 use bytes::Bytes;
 use eos_claims::Place;
-use eos_places::Placed;
-use eos_sought::{Epochs, Find, Sought, find_records, state_of};
+use eos_sought::{Epochs, Find, Placed, Sought, find_records, state_of};
 use eos_table::LogFaultKind;
 use eos_txnlog::TxnValue;
 use std::alloc::{AllocError, Global};

@@ -7,9 +7,9 @@ use Rattle.eos_batch.specs.declared.marker.Kind.{Kind}
 use Rattle.eos_batch.specs.declared.marker.Kind.TheVariants.{Commit, Abort}
 use Rattle.eos_batch.specs.declared.marker.Marker.{Marker}
 use Rattle.eos_claims.specs.declared.place.Place.{Place}
-use Rattle.eos_places.specs.declared.partition.Placed.{Placed}
-use Rattle.eos_places.specs.declared.wanted.Wanted.{Wanted}
-use Rattle.eos_places.specs.declared.wanted.Wanted.TheVariants.{Holding, Between, Of, Ending, Marking, Data, Open}
+use Rattle.eos_sought.specs.declared.partition.Placed.{Placed}
+use Rattle.eos_sought.specs.declared.wanted.Wanted.{Wanted}
+use Rattle.eos_sought.specs.declared.wanted.Wanted.TheVariants.{Holding, Between, Of, Ending, Marking, Data, Open}
 use Rattle.eos_report.specs.FaultTexts.{name_text}
 use Rattle.eos_story_text.specs.Places.{at_text, spot_text, is_there, mark_of}
 

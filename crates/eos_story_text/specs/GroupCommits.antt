@@ -8,8 +8,8 @@ use Rattle.eos_claims.specs.declared.place.Place.{Place}
 use Rattle.eos_commits.specs.Commits.{is_same}
 use Rattle.eos_commits.specs.Visible.{is_visible}
 use Rattle.eos_offsets.specs.Reading.{read_value}
-use Rattle.eos_places.specs.declared.wanted.Wanted.{Wanted}
-use Rattle.eos_places.specs.declared.wanted.Wanted.TheVariants.{Holding, Between, Of, Ending, Marking, Data, Open}
+use Rattle.eos_sought.specs.declared.wanted.Wanted.{Wanted}
+use Rattle.eos_sought.specs.declared.wanted.Wanted.TheVariants.{Holding, Between, Of, Ending, Marking, Data, Open}
 use Rattle.eos_sought.specs.declared.finding.Find.{Find}
 use Rattle.eos_sought.specs.declared.sought.Sought.{Sought}
 use Rattle.eos_sought.specs.declared.sought.Sought.TheVariants.{At, Claiming, Hidden, Alike, OfId, Before, OfProducer, Within, Deciding, OfGroup, Passing, UpTo, Passed}

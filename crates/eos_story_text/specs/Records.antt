@@ -11,7 +11,7 @@ use Rattle.eos_segment.specs.Decoding.{decoded_line}
 use Rattle.eos_fold.specs.declared.item.Fate.{Fate}
 use Rattle.eos_fold.specs.declared.item.Fate.TheVariants.{Plain, Committed, Aborted, Waiting}
 use Rattle.eos_fold.specs.declared.item.Item.{Item}
-use Rattle.eos_places.specs.declared.partition.Placed.{Placed}
+use Rattle.eos_sought.specs.declared.partition.Placed.{Placed}
 use Rattle.eos_sought.specs.declared.finding.Find.{Find}
 use Rattle.eos_sought.specs.declared.sought.Sought.{Sought}
 use Rattle.eos_sought.specs.declared.sought.Sought.TheVariants.{At, Claiming, Hidden, Alike, OfId, Before, OfProducer, Within, Deciding, OfGroup, Passing, UpTo, Passed}

@@ -3,8 +3,8 @@ use Rattle.std.specs.Prelude.{ℕ, ℤ, ◌-◌, List, [], ◌∷◌, ◌++◌, 
 use Rattle.std.specs.Fmt.{decimal, signed_decimal}
 use Rattle.eos_base.specs.declared.partition_name.PartitionName.{PartitionName}
 use Rattle.eos_claims.specs.declared.place.Place.{Place}
-use Rattle.eos_places.specs.declared.partition.Placed.{Placed}
-use Rattle.eos_places.specs.declared.wanted.Wanted.{Wanted}
+use Rattle.eos_sought.specs.declared.partition.Placed.{Placed}
+use Rattle.eos_sought.specs.declared.wanted.Wanted.{Wanted}
 use Rattle.eos_report.specs.FaultTexts.{name_text}
 use Rattle.eos_story.specs.declared.headers.HeaderName.{HeaderName}
 use Rattle.eos_story.specs.declared.headers.HeaderName.TheVariants.{Topic, Partition, Offset, Output, Of}

@@ -4,9 +4,9 @@ use Rattle.std.specs.List.{before_first}
 use Rattle.eos_base.specs.declared.partition_name.PartitionName.{PartitionName}
 use Rattle.eos_claims.specs.declared.place.Place.{Place}
 use Rattle.eos_evidence.specs.declared.partition.Partition.{Partition}
-use Rattle.eos_places.specs.declared.partition.Placed.{Placed}
-use Rattle.eos_places.specs.Partitions.{partition_named}
-use Rattle.eos_places.specs.Times.{time_in}
+use Rattle.eos_sought.specs.declared.partition.Placed.{Placed}
+use Rattle.eos_sought.specs.Partitions.{partition_named}
+use Rattle.eos_sought.specs.Times.{time_in}
 use Rattle.eos_sought.specs.declared.finding.Find.{Find}
 use Rattle.eos_story.specs.declared.row.Row.{Row}
 use Rattle.eos_story.specs.declared.row.Row.TheVariants as rows

@@ -10,7 +10,7 @@ use crate::names::{is_there, mark, push_at, push_name, push_spot};
 use eos_base::PartitionName;
 use eos_batch::{BatchHead, Kind, Marker};
 use eos_claims::Place;
-use eos_places::{Placed, Wanted};
+use eos_sought::{Placed, Wanted};
 use eos_text::{push_text, push_value};
 use std::alloc::{AllocError, Global};
 

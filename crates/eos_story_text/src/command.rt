@@ -10,7 +10,7 @@ use crate::paths::{push_partition_path, push_path};
 use crate::signs::Told;
 use eos_base::PartitionName;
 use eos_claims::Place;
-use eos_places::Placed;
+use eos_sought::Placed;
 use eos_story::Row;
 use eos_text::{push_text, push_value};
 use std::alloc::{AllocError, Global};

@@ -13,8 +13,7 @@ use eos_base::PartitionName;
 use eos_claims::Place;
 use eos_commits::is_visible;
 use eos_offsets::view_value;
-use eos_places::Wanted;
-use eos_sought::{Find, Sought};
+use eos_sought::{Find, Sought, Wanted};
 use eos_story::{Row, epoch_after, is_of_offsets, lists};
 use std::alloc::{AllocError, Global};
 

@@ -9,7 +9,7 @@ ghost use Rattle.eos_story_text.specs.Places.{at_text, spot_text, is_there, mark
 
 use eos_base::PartitionName;
 use eos_claims::Place;
-use eos_places::Placed;
+use eos_sought::Placed;
 use eos_text::{push_escaped, push_text, push_value};
 use std::alloc::{AllocError, Global};
 

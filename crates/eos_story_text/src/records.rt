@@ -12,8 +12,7 @@ use eos_batch::Record;
 use eos_claims::Place;
 use eos_segment::{Reading, push_decoded};
 use eos_fold::{Fate, Item};
-use eos_places::Placed;
-use eos_sought::{Epochs, Find, Sought};
+use eos_sought::{Epochs, Find, Placed, Sought};
 use eos_text::{push_escaped, push_text, push_value};
 use std::alloc::{AllocError, Global};
 

@@ -12,7 +12,7 @@ use crate::records::{push_no_record, push_record, role_of};
 use bytes::Bytes;
 use eos_base::PartitionName;
 use eos_claims::Place;
-use eos_places::{Placed, Wanted};
+use eos_sought::{Placed, Wanted};
 use eos_story::{HeaderName, Row};
 use eos_text::{push_text, push_value};
 use std::alloc::{AllocError, Global};

@@ -9,7 +9,7 @@ use crate::names::{push_at, push_name};
 use crate::signs::{Told, bearer};
 use eos_base::PartitionName;
 use eos_text::{Case, Page, push_text, push_value};
-use eos_places::Placed;
+use eos_sought::Placed;
 use eos_story::Row;
 use std::alloc::{AllocError, Global};
 

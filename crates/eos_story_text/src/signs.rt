@@ -13,8 +13,7 @@ use eos_base::PartitionName;
 use eos_batch::BatchHead;
 use eos_text::Sign;
 use eos_claims::Place;
-use eos_places::{Placed, Wanted};
-use eos_sought::{Find, Sought};
+use eos_sought::{Find, Placed, Sought, Wanted};
 use eos_story::{Row, epoch_after};
 use std::alloc::{AllocError, Global};
 

@@ -1,7 +1,7 @@
 -- Batches of a partition that were found.
 use Rattle.std.specs.Prelude.{◌<◌, ℕ, List, length}
 use Rattle.eos_base.specs.Members.{Has}
-use Rattle.eos_places.specs.Partitions.{AreBatchesOf}
+use Rattle.eos_sought.specs.Partitions.{AreBatchesOf}
 use Rattle.eos_story.specs.declared.batches.Found.{Found}
 use Rattle.eos_story.specs.declared.row.Row.{Row}
 use Rattle.eos_story.specs.declared.row.Row.TheVariants as rows

@@ -1,7 +1,7 @@
 -- Rows that are put at the end of others.
 use Rattle.std.specs.Prelude.{◌≡◌, ◌<◌, ℕ, List, [], ◌∷◌, ◌++◌, Option}
 use Rattle.eos_base.specs.Members.{Has}
-use Rattle.eos_places.specs.declared.partition.Placed.{Placed}
+use Rattle.eos_sought.specs.declared.partition.Placed.{Placed}
 use Rattle.eos_sought.specs.declared.finding.Find.{Find}
 use Rattle.eos_sought.specs.declared.sought.Sought.{Sought}
 use Rattle.eos_story.specs.Answers.{AnswersEach}

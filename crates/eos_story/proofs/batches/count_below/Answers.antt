@@ -1,6 +1,6 @@
 use Rattle.std.proofs.Common.{take, length-take, nat_lt, arith}
 use Rattle.std.proofs.lemmas.List.Sums.{count_by-le-length}
-use Rattle.eos_places.specs.declared.partition.Placed.{Placed}
+use Rattle.eos_sought.specs.declared.partition.Placed.{Placed}
 use Rattle.eos_story.proofs.batches.count_below.Goals as goal
 
 pub overflow_add-count : goal.overflow_add-count

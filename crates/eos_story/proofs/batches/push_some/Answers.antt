@@ -1,8 +1,8 @@
 use Rattle.std.proofs.Common.{◌≡◌, List, ap, sym, subst, ◌∙◌, take}
 use Rattle.std.proofs.lemmas.List.{take_min}
 use Rattle.eos_evidence.specs.declared.partition.Partition.{Partition}
-use Rattle.eos_places.specs.declared.partition.Placed.{Placed}
-use Rattle.eos_places.specs.Partitions.{AreBatchesOf}
+use Rattle.eos_sought.specs.declared.partition.Placed.{Placed}
+use Rattle.eos_sought.specs.Partitions.{AreBatchesOf}
 use Rattle.eos_story.proofs.BatchesTold.{all_taken, batches_told}
 use Rattle.eos_story.proofs.batches.push_some.Goals as goal
 

@@ -1,9 +1,9 @@
 use Rattle.std.proofs.lemmas.Int.{to_z-of_z}
 use Rattle.std.proofs.Common.{◌≡◌, List, ap, sym, subst, ◌∙◌, drop, take, slice_get, ◌+◌, ◌-◌}
 use Rattle.eos_evidence.specs.declared.partition.Partition.{Partition}
-use Rattle.eos_places.specs.declared.partition.Placed.{Placed}
-use Rattle.eos_places.specs.declared.wanted.Wanted.TheVariants.{Of}
-use Rattle.eos_places.specs.Partitions.{AreBatchesOf}
+use Rattle.eos_sought.specs.declared.partition.Placed.{Placed}
+use Rattle.eos_sought.specs.declared.wanted.Wanted.TheVariants.{Of}
+use Rattle.eos_sought.specs.Partitions.{AreBatchesOf}
 use Rattle.eos_story.specs.Answers.{around}
 use Rattle.eos_story.proofs.BatchesTold.{all_around, around_told}
 use Rattle.eos_story.proofs.batches.push_touches.Goals as goal

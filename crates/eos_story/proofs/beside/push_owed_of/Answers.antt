@@ -1,7 +1,7 @@
 use Rattle.std.proofs.lemmas.Int.{to_z-of_z}
 use Rattle.std.proofs.Common.{List, map, take, ap, ◌∙◌}
 use Rattle.eos_base.specs.declared.partition_name.PartitionName.{PartitionName}
-use Rattle.eos_places.specs.declared.wanted.Wanted.TheVariants.{Data}
+use Rattle.eos_sought.specs.declared.wanted.Wanted.TheVariants.{Data}
 use Rattle.eos_story.specs.Questions.{FirstBatch, owed_of}
 use Rattle.eos_story.proofs.RowsTold.{each_as}
 use Rattle.eos_story.proofs.beside.push_owed_of.Goals as goal

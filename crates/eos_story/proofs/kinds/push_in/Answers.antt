@@ -1,6 +1,6 @@
 use Rattle.std.proofs.lemmas.Int.{to_z-of_z}
 use Rattle.std.proofs.Common.{[], ◌∷◌, ap, w16, FitsSigned, rules}
-use Rattle.eos_places.specs.declared.wanted.Wanted.TheVariants.{Data}
+use Rattle.eos_sought.specs.declared.wanted.Wanted.TheVariants.{Data}
 use Rattle.eos_story.specs.Listings.{epoch_before}
 use Rattle.eos_story.specs.Questions.{FirstBatch}
 use Rattle.eos_story.proofs.RowsTold.{then, each_as}

@@ -1,7 +1,7 @@
 use Rattle.std.proofs.Common.{List, subst}
 use Rattle.eos_evidence.specs.declared.partition.Partition.{Partition}
-use Rattle.eos_places.specs.declared.wanted.Wanted.TheVariants.{Holding}
-use Rattle.eos_places.specs.Partitions.{AreBatchesOf}
+use Rattle.eos_sought.specs.declared.wanted.Wanted.TheVariants.{Holding}
+use Rattle.eos_sought.specs.Partitions.{AreBatchesOf}
 use Rattle.eos_story.proofs.RowsPushed.{record_at}
 use Rattle.eos_story.proofs.records.push_find.Goals as goal
 

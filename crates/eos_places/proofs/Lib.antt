@@ -1,2 +1,0 @@
-pub mod BatchWalks
-pub mod PartitionWalks

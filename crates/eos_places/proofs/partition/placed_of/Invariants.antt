@@ -1,6 +1,0 @@
-use Rattle.std.proofs.Common.{take}
-use Rattle.eos_places.specs.Partitions.{ArePlacedIn}
-use Rattle.eos_places.proofs.partition.placed_of.Given as goal
-
-abbrev pub invariant-loop-segment : goal.invariant-loop-segment
-invariant-loop-segment l = ArePlacedIn (take l.segment-index l.segments) l.wanted l.all.items

@@ -1,0 +1,98 @@
+//! The walk over a segment.
+
+ghost use Rattle.std.specs.Prelude.{◌≡◌, ◌≢◌, ◌<◌, ◌++◌, ◌∷◌, [], length, filter, IfOk, OnOk, MatchOption};
+ghost use Rattle.eos_batch.specs.declared.fault.BatchFault.TheVariants.{OutOfMemory as WantOfMemory};
+ghost use Rattle.eos_fold.specs.Fronts.{base_of};
+ghost use Rattle.eos_sought.specs.Wanted.{is_wanted};
+ghost use Rattle.eos_sought.specs.Places.{IsEnd, AreWantedIn};
+ghost use Rattle.eos_sought.specs.steps.Walks.{GoesOn};
+
+use crate::wanted::{Standing, Wanted};
+use bytes::Bytes;
+use eos_batch::BatchFault;
+use eos_evidence::Segment;
+use eos_fold::read_head;
+use eos_wire::are_bytes;
+use std::alloc::{AllocError, Global};
+
+/// Whether reading was refused for the bytes, and not for want of memory.
+fn of_the_bytes(fault: BatchFault) -> Result<(), AllocError>
+    ensures { OnOk result (fault ≢ WantOfMemory) }
+{
+    match fault {
+        BatchFault::OutOfMemory => Err(AllocError),
+        _ => Ok(()),
+    }
+}
+
+/// The batch at this byte, where it begins at this offset; None where the segment's batches end there.
+fn next_standing(
+    alloc: Global,
+    bytes: &Bytes,
+    at: usize,
+    next: u64,
+) -> Result<Option<Standing>, AllocError>
+    requires { at < length bytes.now }
+    ensures { IfOk result (λ found. MatchOption found (IsEnd bytes.now at next) (GoesOn bytes.now at next)) }
+{
+    are_bytes(bytes.as_slice());
+    match read_head(alloc, bytes, at) {
+        Ok(head) => {
+            if head.offset != next {
+                return Ok(None);
+            }
+            Ok(Some(Standing { byte: at, head }))
+        }
+        Err(fault) => {
+            of_the_bytes(fault)?;
+            Ok(None)
+        }
+    }
+}
+
+fn push_wanted(
+    found: &mut Vec<Standing>,
+    wanted: Wanted,
+    standing: Standing,
+) -> Result<(), AllocError>
+    ensures { OnOk result (found.new.items ≡ found.old.items ++ filter (λ s. is_wanted wanted s.head) (standing ∷ [])) }
+{
+    if wanted.is_met(standing.head) {
+        found.push(standing)?;
+    }
+    Ok(())
+}
+
+/// A segment's name, the offset of its first record.
+fn begin_of(segment: &Segment) -> u64
+    ensures { result ≡ base_of segment.now }
+{
+    segment.base.unsigned_abs()
+}
+
+/// The batches of a segment that are wanted, in order, as far as each text is a batch and each begins where the one before
+/// ends. All these bytes are read and tested, and nothing else is kept.
+///
+/// # Errors
+/// Only want of memory.
+pub fn batches_in(
+    alloc: Global,
+    segment: &Segment,
+    wanted: Wanted,
+) -> Result<Vec<Standing>, AllocError>
+    ensures { IfOk result (λ found. AreWantedIn segment.now wanted found.items) }
+{
+    let bytes = &segment.bytes;
+    let mut found = Vec::new(alloc);
+    let mut at = 0;
+    let mut next = begin_of(segment);
+    while at < bytes.len() {
+        let Some(standing) = next_standing(alloc, bytes, at, next)? else {
+            return Ok(found);
+        };
+        push_wanted(&mut found, wanted, standing)?;
+        at += standing.head.size;
+        next += u64::from(standing.head.count);
+    }
+    Ok(found)
+}
