@@ -2,8 +2,24 @@
 #![tactic(auto)]
 
 mod answer;
+mod batches;
+mod command;
+mod counts;
 mod folder;
+mod lines;
+mod moves;
+mod names;
+mod paths;
+mod records;
+mod rows;
+mod sentences;
+mod signs;
 mod story;
+mod story_text;
+mod times;
+mod told;
+mod twins;
 
 pub use answer::{Answer, Asked, explain};
 pub use folder::{Explained, Folder, Unexplained, Which, explain_folder, explain_folder_to};
+pub use story_text::{Story, story_text};

@@ -14,7 +14,7 @@ use eos_text::{Page, page_of};
 use eos_check::{Fault, Verdict};
 use eos_notes::Note;
 use eos_story::{Scene, place_of, rows_of};
-use eos_story_text::{Story, story_text};
+use crate::{Story, story_text};
 use std::alloc::{AllocError, Global};
 
 /// The catalogue's page of a kind of fault.

@@ -1,4 +1,0 @@
-mod LinesOnce
-mod LinesShown
-mod PartsTold
-mod BothHold

@@ -1,5 +1,0 @@
-use Rattle.eos_text.proofs.Appended.{then}
-use Rattle.eos_story_text.proofs.records.push_none_alike.Goals as goal
-
-pub returns : goal.returns
-returns c = then c.in_ok-push_at.ensures c.in_ok-push_value.ensures
