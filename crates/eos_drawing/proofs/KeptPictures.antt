@@ -9,8 +9,8 @@ use Rattle.eos_picture.specs.Window.{IsWindow}
 use Rattle.eos_picture.specs.declared.mark.Picture.{Picture}
 use Rattle.eos_source_check.specs.Judged.{IsJudgedFor}
 use Rattle.eos_source_check.specs.declared.judged.Judged.{Judged}
-use Rattle.eos_wanted_picture.proofs.KeptRows.{true_kept, whole_kept}
-use Rattle.eos_wanted_picture.proofs.KeptColumns.{window_kept}
+use Rattle.eos_picture.proofs.KeptRows.{true_kept, whole_kept}
+use Rattle.eos_picture.proofs.KeptColumns.{window_kept}
 use Rattle.eos_drawing.specs.Pictures.{IsPictureOf}
 
 pub picture_kept : (e : EvidenceParts) (j : Judged) (fault : Option Fault) (around : ℕ) (picture : Picture) → IsJudgedFor j e

@@ -6,6 +6,7 @@ mod acts;
 mod chosen;
 mod content;
 mod ends;
+pub mod laws;
 mod mark;
 mod marks;
 mod named;

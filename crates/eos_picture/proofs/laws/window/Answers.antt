@@ -1,5 +1,5 @@
-use Rattle.eos_wanted_picture.proofs.KeptColumns.{columns_kept, window_kept}
-use Rattle.eos_wanted_picture.proofs.laws.window.Goals as goal
+use Rattle.eos_picture.proofs.KeptColumns.{columns_kept, window_kept}
+use Rattle.eos_picture.proofs.laws.window.Goals as goal
 
 pub returns-clause-columns : goal.returns-clause-columns
 returns-clause-columns c = columns_kept

@@ -21,7 +21,7 @@ use Rattle.eos_picture.specs.Ends.{ends, HasNone}
 use Rattle.eos_picture.specs.Signs.{IsOf}
 use Rattle.eos_picture.specs.Whole.{IsMarkOf, Shows, ShowsDecision, ShowsEnds, ShowsClose, IsWhole, IsCovered, HasWholeRows}
 use Rattle.eos_reading.specs.Wanted.{wanted_logs}
-use Rattle.eos_wanted_picture.proofs.SeenLogs.{seen, Alike, back, like, like_item, all_seen}
+use Rattle.eos_picture.proofs.SeenLogs.{seen, Alike, back, like, like_item, all_seen}
 
 abbrev number_of : PartitionName → ℤ
 number_of n = n.partition

@@ -1,5 +1,5 @@
-use Rattle.eos_wanted_picture.proofs.KeptRows.{true_kept, whole_kept}
-use Rattle.eos_wanted_picture.proofs.laws.rows.Goals as goal
+use Rattle.eos_picture.proofs.KeptRows.{true_kept, whole_kept}
+use Rattle.eos_picture.proofs.laws.rows.Goals as goal
 
 pub returns-clause-so : goal.returns-clause-so
 returns-clause-so c = true_kept

@@ -13,7 +13,7 @@ use Rattle.eos_reading.specs.Wanted.{wanted_item, wanted_of, kept_log, wanted_lo
 use Rattle.eos_reading.specs.declared.wanted.Wanted.{Wanted}
 use Rattle.eos_reading.specs.declared.wanted.Wanted.TheVariants.{Presence, Claims, Texts}
 use Rattle.eos_reading.proofs.SameThrough.{has_same}
-use Rattle.eos_wanted_picture.proofs.SeenSame.{map_seen}
+use Rattle.eos_picture.proofs.SeenSame.{map_seen}
 
 abbrev pub SeenItem : Type 0
 SeenItem = ℕ × Option (ℤ × ℤ) × Fate

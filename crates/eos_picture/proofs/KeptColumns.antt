@@ -14,9 +14,9 @@ use Rattle.eos_picture.specs.Transactions.{column_at, decided_in, undecided_colu
 use Rattle.eos_picture.specs.Window.{named_by, IsOnly, IsOfRecordAt, IsWindow}
 use Rattle.eos_reading.specs.Wanted.{wanted_item, wanted_of, kept_log, wanted_logs}
 use Rattle.eos_reading.specs.declared.wanted.Wanted.TheVariants.{Texts}
-use Rattle.eos_wanted_picture.proofs.SeenSame.{flat_seen}
-use Rattle.eos_wanted_picture.proofs.KeptStandings.{shown_kept}
-use Rattle.eos_wanted_picture.proofs.KeptTexts.{offset_kept, writer_kept, transactions_kept}
+use Rattle.eos_picture.proofs.SeenSame.{flat_seen}
+use Rattle.eos_picture.proofs.KeptStandings.{shown_kept}
+use Rattle.eos_picture.proofs.KeptTexts.{offset_kept, writer_kept, transactions_kept}
 
 -- ---- the transactions
 

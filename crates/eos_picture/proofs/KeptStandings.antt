@@ -13,7 +13,7 @@ use Rattle.eos_picture.specs.Order.{is_writer, offset_if, last_of, prepared_in, 
 use Rattle.eos_picture.specs.Window.{AreBeside, IsAlone, AreAround, AreShown}
 use Rattle.eos_reading.specs.Wanted.{wanted_item, wanted_of, kept_log, wanted_logs}
 use Rattle.eos_reading.specs.declared.wanted.Wanted.{Wanted}
-use Rattle.eos_wanted_picture.proofs.KeptTexts.{offset_kept, writer_kept}
+use Rattle.eos_picture.proofs.KeptTexts.{offset_kept, writer_kept}
 
 last_kept : (wanted : Wanted) (w : ℤ × ℤ) (xs : List Item) → last_of (map (wanted_item wanted) xs) w ≡ last_of xs w
 last_kept wanted w [] = refl
