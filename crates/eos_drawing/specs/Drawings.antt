@@ -13,8 +13,8 @@ use Rattle.eos_fold.specs.Parts.{PartLog}
 use Rattle.eos_lineage.specs.EvidenceLogs.{AreLogsOf}
 use Rattle.eos_picture.specs.declared.mark.Picture.{Picture}
 use Rattle.eos_report.specs.VerdictTexts.{verdict_line, status_of}
-use Rattle.eos_svg.specs.declared.drawing.Drawing.{Drawing}
-use Rattle.eos_svg.specs.Shapes.{svg_text}
+use Rattle.eos_drawing.specs.declared.drawing.Drawing.{Drawing}
+use Rattle.eos_drawing.specs.Shapes.{svg_text}
 use Rattle.eos_drawing.specs.Pictures.{IsPictureOf}
 
 -- the fault that a verdict names

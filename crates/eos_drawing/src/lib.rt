@@ -2,10 +2,28 @@
 #![tactic(auto)]
 
 mod answer;
+mod canvas;
+mod cells;
 mod command;
+mod drawing;
+mod escaping;
 mod folder;
+mod headings;
+mod labels;
+pub mod laws;
+mod layout;
+mod legend;
+mod look;
 mod picture;
+mod plan;
+mod rows;
+mod shape;
+mod told;
 
 pub use command::draw_folder;
+pub use drawing::{Drawing, svg_text};
 pub use folder::{Asked, Undrawn, draw_folder_to};
+pub use layout::drawing_of;
+pub use look::Look;
 pub use picture::judged_picture;
+pub use shape::{Line, Point, Shape, Size};

@@ -10,8 +10,8 @@ use Rattle.eos_source.specs.Said.{Known}
 use Rattle.eos_source_check.specs.Judged.{IsJudgedFor}
 use Rattle.eos_source_check.specs.declared.judged.Judged.{Judged}
 use Rattle.eos_source_check.specs.Again.{AreAgain, AreThere}
-use Rattle.eos_svg.specs.declared.drawing.Drawing.{Drawing}
-use Rattle.eos_svg.specs.Shapes.{svg_text}
+use Rattle.eos_drawing.specs.declared.drawing.Drawing.{Drawing}
+use Rattle.eos_drawing.specs.Shapes.{svg_text}
 use Rattle.eos_drawing.specs.declared.answer.Answer.{Answer}
 use Rattle.eos_drawing.specs.declared.answer.Answer.TheVariants as answers
 use Rattle.eos_drawing.specs.declared.answer.Drawn.{Drawn}

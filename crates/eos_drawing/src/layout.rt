@@ -1,0 +1,175 @@
+//! The drawing of a picture.
+
+ghost use Rattle.std.specs.Prelude.{◌≡◌, IfOk, string_bytes};
+
+use crate::canvas::Canvas;
+use crate::headings::{draw_heading, draw_other_heading, heading_of, place_of};
+use crate::legend::{ROOM, draw_legend};
+use crate::plan::{GAP, Plan, plan_of};
+use crate::rows::draw_row;
+use eos_base::Listed;
+use eos_picture::Picture;
+use crate::{Drawing, Look, Point, Shape, Size};
+use std::alloc::{AllocError, Global};
+
+/// The width of a character of the title, and more.
+const TITLE_CHARACTER: u64 = 8;
+
+/// The height of a line of the title.
+const TITLE_LINE: u64 = 17;
+
+/// The height of the headings.
+const HEADINGS: u64 = 50;
+
+/// What a picture can't say.
+const NO_CLOCK: &str =
+    "a column is a transaction, T1 the one of the first Prepare record; partitions have no clock in common";
+
+/// Draws a text in lines of at most so many characters, and gives the height where they end.
+fn draw_title(canvas: &mut Canvas, title: &str, most: u64) -> Result<u64, AllocError> {
+    let most = most.max(1);
+    let mut line = String::new(canvas.alloc);
+    let mut count = 0u64;
+    let mut y = GAP.saturating_add(12);
+    for byte in title.as_bytes() {
+        if count == most {
+            canvas.text(Point { x: GAP, y }, line, Look::Title)?;
+            line = String::new(canvas.alloc);
+            count = 0;
+            y = y.saturating_add(TITLE_LINE);
+        }
+        line.push(char::from(*byte))?;
+        count = count.saturating_add(1);
+    }
+    canvas.text(Point { x: GAP, y }, line, Look::Title)?;
+    Ok(y.saturating_add(TITLE_LINE))
+}
+
+/// Draws what stands above the columns in a drawing of this width, and gives the height where that ends.
+fn draw_head(canvas: &mut Canvas, title: &str, width: u64) -> Result<u64, AllocError> {
+    let most = width.saturating_sub(2 * GAP) / TITLE_CHARACTER;
+    let below = draw_title(canvas, title, most)?;
+    canvas.words(Point { x: GAP, y: below }, NO_CLOCK, Look::Remark)?;
+    Ok(below.saturating_add(12))
+}
+
+/// Draws the headings of the columns from this height on.
+fn draw_headings(
+    canvas: &mut Canvas,
+    plan: &Plan,
+    picture: &Picture,
+    top: u64,
+) -> Result<(), AllocError> {
+    for i in 0..picture.columns.len() {
+        let heading = heading_of(canvas.alloc, place_of(picture, i), &picture.columns[i])?;
+        let at = Point {
+            x: plan.x_of(i as u64),
+            y: top,
+        };
+        draw_heading(canvas, at, heading)?;
+    }
+    if plan.columns > picture.columns.len() {
+        let at = Point {
+            x: plan.x_of(picture.columns.len() as u64),
+            y: top,
+        };
+        draw_other_heading(canvas, at)?;
+    }
+    Ok(())
+}
+
+/// Draws the rows from this height on, and gives the height where they end.
+fn draw_rows(
+    canvas: &mut Canvas,
+    plan: &Plan,
+    picture: &Picture,
+    top: u64,
+) -> Result<u64, AllocError> {
+    let mut bottom = top;
+    for row in picture.rows.as_slice() {
+        bottom = draw_row(canvas, plan, bottom, row, picture)?;
+    }
+    Ok(bottom)
+}
+
+/// How high the columns stand.
+#[derive(Clone, Copy)]
+struct Heights {
+    top: u64,
+    bottom: u64,
+}
+
+/// The ground of each column.
+fn draw_grounds(
+    canvas: &mut Canvas,
+    plan: &Plan,
+    columns: usize,
+    heights: Heights,
+) -> Result<(), AllocError> {
+    for i in 0..columns {
+        let at = Point {
+            x: plan.x_of(i as u64),
+            y: heights.top,
+        };
+        let size = Size {
+            width: plan.column,
+            height: heights.bottom.saturating_sub(heights.top),
+        };
+        canvas.rectangle(at, size, Look::Column)?;
+    }
+    Ok(())
+}
+
+/// What lies below all that is drawn: the page, the columns, and the arcs between the fault's places.
+fn draw_ground(
+    ground: &mut Canvas,
+    plan: &Plan,
+    columns: usize,
+    size: Size,
+    heights: Heights,
+) -> Result<(), AllocError> {
+    ground.rectangle(Point { x: 0, y: 0 }, size, Look::Page)?;
+    draw_grounds(ground, plan, columns, heights)
+}
+
+/// These shapes, and on them those of the canvas.
+fn laid_upon(ground: Canvas, canvas: Canvas) -> Result<Vec<Shape>, AllocError> {
+    let mut ground = ground;
+    let mut canvas = canvas;
+    ground.arcs(canvas.spots.as_slice())?;
+    let mut shapes = ground.shapes;
+    shapes.append(&mut canvas.shapes)?;
+    Ok(shapes)
+}
+
+/// The drawing of a picture under a title, which is in ASCII.
+///
+/// # Errors
+/// Only want of memory.
+pub fn drawing_of(alloc: Global, picture: &Picture, title: String) -> Result<Drawing, AllocError>
+    ensures { IfOk result (λ drawing. string_bytes drawing.title ≡ string_bytes title) }
+{
+    let plan = plan_of(alloc, picture)?;
+    let width = plan.right().max(ROOM.width).saturating_add(GAP);
+    let mut canvas = Canvas::new(alloc);
+    let top = draw_head(&mut canvas, title.as_str(), width)?;
+    draw_headings(&mut canvas, &plan, picture, top)?;
+    let bottom = draw_rows(&mut canvas, &plan, picture, top.saturating_add(HEADINGS))?;
+    let legend = Point {
+        x: GAP,
+        y: bottom.saturating_add(16),
+    };
+    draw_legend(&mut canvas, legend)?;
+    let size = Size {
+        width,
+        height: legend.y.saturating_add(ROOM.height),
+    };
+    let mut ground = Canvas::new(alloc);
+    let heights = Heights { top, bottom };
+    draw_ground(&mut ground, &plan, picture.columns.len(), size, heights)?;
+    Ok(Drawing {
+        size,
+        title,
+        shapes: Listed::new(laid_upon(ground, canvas)?),
+    })
+}

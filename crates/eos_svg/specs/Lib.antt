@@ -1,4 +1,0 @@
-pub mod Escaping
-pub mod CharacterData
-pub mod Looks
-pub mod Shapes
