@@ -2,7 +2,7 @@
 
 use eos_disk::{FolderFault, HostDisk};
 use eos_ending::{Ending, STANDARD, Subject, end, end_unchanged, end_unread};
-use eos_folding_files::{Folded, FoldingFault, Given, fold_folders};
+use crate::{Folded, FoldingFault, Given, fold_folders};
 use eos_words::Fold;
 
 /// Folds the segments of the folders that the words name, says on standard output how many, and gives the exit status.

@@ -3,7 +3,7 @@
 use eos_disk::{Cause, HostDisk};
 use eos_ending::{Ending, STANDARD, Subject, end, end_unread};
 use eos_evidence::SpecFault;
-use eos_init_files::{Given, InitFault, Made, init, name_text};
+use crate::{Given, InitFault, Made, init, name_text};
 use eos_words::Init;
 use std::alloc::AllocError;
 use std::io;

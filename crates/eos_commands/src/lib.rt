@@ -4,17 +4,41 @@
 #![tactic(auto)]
 
 mod coordinator;
+mod copied;
 mod decoding;
 mod explain;
+mod fault;
 mod fold;
+mod folder;
+mod folding;
+mod folding_files_fault;
+mod folding_files_lines;
+mod folding_files_writing;
+mod found;
+mod given;
 mod init;
+mod lines;
+mod making;
+mod note;
+mod noting;
 mod segment;
 mod verify;
+mod verifying;
+mod writing;
 
 pub use coordinator::{coordinators_to, print_coordinators};
 pub use decoding::options_of;
 pub use explain::{explain_code, page_to};
+pub use fault::InitFault;
 pub use fold::fold_partitions;
+pub use folding::{Folded, Given, fold_folders};
+pub use folding_files_fault::FoldingFault;
+pub use folding_files_lines::{found_text, status_of};
+pub use found::{Found, Likeness};
+pub use given::Given;
 pub use init::init_folder;
+pub use making::{Made, init};
+pub use note::name_text;
 pub use segment::answer_segment;
 pub use verify::{found_to, verify_partitions};
+pub use verifying::{Compared, verify_folds};

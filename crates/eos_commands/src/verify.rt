@@ -2,13 +2,13 @@
 
 ghost use Rattle.std.specs.Prelude.{◌≡◌, Err, IfOk, OnErr};
 ghost use Rattle.std.specs.Io.KnownBytes.{Appends, Keeps};
-ghost use Rattle.eos_folding_files.specs.VerifyingLines.{found_text, status_of};
+ghost use Rattle.eos_commands.specs.VerifyingLines.{found_text, status_of};
 ghost use Rattle.eos_text.specs.Writing.{WritesFront};
 ghost use Rattle.eos_segment.specs.Running.{IsOfReading};
 
 use eos_disk::{Cause, HostDisk};
 use eos_ending::{Ending, STANDARD, Subject, end, end_unread};
-use eos_folding_files::{Compared, Found, found_text, status_of, verify_folds};
+use crate::{Compared, Found, found_text, status_of, verify_folds};
 use eos_segment::RunFault;
 use eos_text::finish;
 use std::alloc::Global;

@@ -1,0 +1,32 @@
+use Rattle.std.proofs.Common.{◌++◌, List, subst}
+use Rattle.std.proofs.lemmas.List.{take_all}
+use Rattle.eos_base.specs.declared.partition_name.PartitionName.{PartitionName}
+use Rattle.eos_commands.specs.Copies.{AreAsked, own_name}
+use Rattle.eos_commands.proofs.Asked.{next_asked, required_are}
+use Rattle.eos_commands.proofs.NameSets.{gains_more}
+use Rattle.eos_commands.proofs.copied.Logs.required.Goals as goal
+
+pub loop-name-preserved : goal.loop-name-preserved
+loop-name-preserved g c =
+    let holds = g.D.Disk.holds c.args.self.now.disk.now in
+    let apps = c.args.apps.now in
+    let name = c.name-item.result in
+    let had = c.loop-name.invariant in
+    let more = c.in_ok-insert_listed.ensures in
+    let own = own_name apps name in (
+      had.0,
+      had.1 ++ (own ++ more.0),
+      had.2,
+      gains_more had.0 c.loop-name.names c.insert_listed.new.names had.1 (own ++ more.0) had.3
+          (gains_more c.loop-name.names c.insert_own.new.names c.insert_listed.new.names own more.0 c.in_ok-insert_own.ensures more.2),
+      next_asked holds c.args.self.now.folder.now apps c.args.folders.now c.loop-name.name-index name had.1 more.0 c.loop-name-test.true c.name-item.is had.4 more.1,
+    )
+
+pub returns : goal.returns
+returns g c =
+    let holds = g.D.Disk.holds c.args.self.now.disk.now in
+    let folder = c.args.self.now.folder.now in
+    let apps = c.args.apps.now in
+    let had = c.loop-name.invariant in
+    let are = subst (λ (ns : List PartitionName). AreAsked holds folder apps ns had.1) (take_all c.loop-name.name-index c.args.folders.now c.loop-name-test.false) had.4 in
+    required_are holds folder apps c.args.folders.now had.1 c.in_ok-in_a_row.field-0.items c.of.result had.0 c.loop-name.names are had.2 had.3 c.in_ok-in_a_row.ensures c.of.ensures

@@ -1,0 +1,28 @@
+use Rattle.std.proofs.Common.{List, take, ap, ◌∙◌, subst}
+use Rattle.std.proofs.lemmas.List.{take_all}
+use Rattle.std.proofs.lemmas.Result.{err_from_is_err_and}
+use Rattle.eos_reading.specs.Wanted.{wanted_of}
+use Rattle.eos_commands.specs.Folding.{Folded, items_of}
+use Rattle.eos_commands.specs.declared.folder.PartitionFolder.{PartitionFolder}
+use Rattle.eos_commands.proofs.FoldsMore.{next_folder, more_in_part}
+use Rattle.eos_commands.proofs.folding.fold_all.Goals as goal
+
+pub loop-folder-preserved : goal.loop-folder-preserved
+loop-folder-preserved g c =
+    let roles = c.args.roles in
+    let wanted = c.of_topic.ensures roles.apps.now c.in_ok-wants.ensures ∙ ap (λ t. wanted_of roles.apps.now t) c.as_slice.ensures in
+    next_folder (g.D.Disk.holds c.args.disk.now) (g.D.Disk.holds c.loop-folder.disk) (g.D.Disk.holds c.fold_folder.new.disk) roles.topics.now roles.out.now roles.apps.now c.args.folders.now
+    c.loop-folder.folder-index c.folder-item.result c.of_topic.result c.loop-folder-test.true c.folder-item.is wanted c.loop-folder.invariant c.in_ok-fold_folder.ensures.ok
+
+pub returns-in_err-fold_folder-clause-err : goal.returns-in_err-fold_folder-clause-err
+returns-in_err-fold_folder-clause-err g c =
+    let p = err_from_is_err_and c.from_residual-in_err-fold_folder.result c.from_residual-in_err-fold_folder.ensures.1 in
+    let roles = c.args.roles in
+    rw p.1 (more_in_part (g.D.Disk.holds c.args.disk.now) (g.D.Disk.holds c.loop-folder.disk) (g.D.Disk.holds c.fold_folder.new.disk) roles.topics.now roles.out.now
+    (items_of roles.apps.now (take c.loop-folder.folder-index c.args.folders.now)) c.loop-folder.invariant c.in_err-fold_folder.ensures.err)
+
+pub returns-clause-ok : goal.returns-clause-ok
+returns-clause-ok g c =
+    let roles = c.args.roles in
+    subst (λ (fs : List PartitionFolder). Folded (g.D.Disk.holds c.args.disk.now) roles.topics.now roles.out.now (items_of roles.apps.now fs) (g.D.Disk.holds c.loop-folder.disk))
+    (take_all c.loop-folder.folder-index c.args.folders.now c.loop-folder-test.false) c.loop-folder.invariant

@@ -1,0 +1,35 @@
+use Rattle.std.proofs.Common.{ap, ◌∙◌, w64, rules}
+use Rattle.std.proofs.lemmas.Int.{to_z-of_z}
+use Rattle.std.proofs.lemmas.Result.{err_from_is_err_and}
+use mir.Val.{SFits}
+use Rattle.eos_fold_file.specs.Reading.{read_fold}
+use Rattle.eos_commands.specs.Folding.{item_of}
+use Rattle.eos_commands.proofs.FoldsMore.{put_is, left_is, left_nothing}
+use Rattle.eos_commands.proofs.folding.fold_segment.Goals as goal
+
+pub returns-in_err-bytes-clause-err : goal.returns-in_err-bytes-clause-err
+returns-in_err-bytes-clause-err g c =
+    let p = err_from_is_err_and c.from_residual-in_err-bytes.result c.from_residual-in_err-bytes.ensures.1 in
+    rw p.1 (left_nothing (g.D.Disk.holds c.args.disk.now) c.args.asked.out.now (item_of c.args.asked.wanted c.args.folder.now c.args.base))
+
+pub returns-in_err-name-clause-err : goal.returns-in_err-name-clause-err
+returns-in_err-name-clause-err g c =
+    let p = err_from_is_err_and c.from_residual-in_err-name.result c.from_residual-in_err-name.ensures.1 in
+    rw p.1 (left_nothing (g.D.Disk.holds c.args.disk.now) c.args.asked.out.now (item_of c.args.asked.wanted c.args.folder.now c.args.base))
+
+pub returns-in_err-write_fold-clause-err : goal.returns-in_err-write_fold-clause-err
+returns-in_err-write_fold-clause-err g c =
+    let p = err_from_is_err_and c.from_residual-in_err-write_fold.result c.from_residual-in_err-write_fold.ensures.1 in
+    let left = c.in_err-write_fold.ensures.err in
+    rw p.1 (left_is (g.D.Disk.holds c.args.disk.now) left.0 (g.D.Disk.holds c.write_fold.new.disk) c.args.asked.out.now (item_of c.args.asked.wanted c.args.folder.now c.args.base)
+    c.in_ok-name.name c.as_slice.result.now (search rules) left.1 left.2)
+
+pub returns-clause-ok : goal.returns-clause-ok
+returns-clause-ok g c =
+    let fits : SFits w64 c.args.base = search rules in
+    let same = to_z-of_z w64 c.args.base fits in
+    let put = c.in_ok-write_fold.ensures.ok in
+    let text = c.as_slice.ensures.value in
+    put_is (g.D.Disk.holds c.args.disk.now) put.0 (g.D.Disk.holds c.write_fold.new.disk) c.args.asked.topics.now c.args.asked.out.now (item_of c.args.asked.wanted c.args.folder.now c.args.base)
+    c.in_ok-fold.fold c.in_ok-name.name c.as_slice.result.now (rw same at c.in_ok-fold.ensures.fold) (search rules) (text ∙ c.in_ok-bytes.ensures.bytes)
+    (ap (λ bs. read_fold bs) text ∙ c.in_ok-bytes.ensures.reads_back c.in_ok-fold.ensures.right) put.1 put.2

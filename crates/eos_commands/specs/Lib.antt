@@ -1,0 +1,7 @@
+pub mod Copies
+pub mod Making
+pub mod steps
+pub mod Folding
+pub mod Paths
+pub mod Verifying
+pub mod VerifyingLines

@@ -1,0 +1,140 @@
+//! What is given for a manifest: the words of the applications, and the ends.
+
+ghost use Rattle.std.specs.Prelude.{◌≡◌, ℕ, List, map, option_map, None, Some, Ok, IfOk, IsSorted, string_bytes};
+ghost use Rattle.eos_base.specs.PartitionNames.{name_cmp};
+ghost use Rattle.eos_disk.specs.Entries.{HasBytes};
+ghost use Rattle.eos_evidence.specs.Parts.{accepted};
+ghost use Rattle.eos_manifest.specs.Lines.{ends_said_by};
+ghost use Rattle.eos_manifest.specs.Manifests.{first_without, parts_for};
+ghost use Rattle.eos_commands.specs.Making.{apps_in_words, is_standard, IsTextOf, AreEndsGiven};
+
+use crate::copied::Logs;
+use crate::fault::InitFault;
+use crate::lines::{Said, has_returns};
+use bytes::Bytes;
+use eos_base::{Listed, PartitionName, Sorted};
+use eos_disk::{Disk, open_file, refusal_of};
+use eos_evidence::{Apps, End, Spec, read_segment};
+use eos_manifest::{EndsFault, ManifestFault, manifest_for, read_app_word, read_ends};
+use std::alloc::Global;
+use std::io::Read;
+
+/// What is given.
+#[derive(Clone, Copy)]
+pub struct Given<'a> {
+    /// The words of the applications, which may be none.
+    pub apps: &'a [&'a str],
+    /// The file of the lines TOPIC:PARTITION:OFFSET, `-` for standard input; without one the ends are those of the copied logs.
+    pub ends: Option<&'a str>,
+    /// The folder of the copied logs.
+    pub folder: &'a str,
+}
+
+/// The applications of the words, which can stand together in a manifest.
+pub(crate) fn read_apps(alloc: Global, words: &[&str]) -> Result<Apps, InitFault>
+    ensures { IfOk result (λ apps. apps_in_words (map (λ w. w.now) words.now) ≡ Some apps) }
+{
+    let apps = apps_of(alloc, words)?;
+    match Spec::new(alloc, apps.clone()?, Listed::new(Vec::new(alloc))) {
+        Ok(_) => Ok(apps),
+        Err(fault) => Err(InitFault::Apps(fault)),
+    }
+}
+
+fn apps_of(alloc: Global, words: &[&str]) -> Result<Apps, InitFault>
+    ensures { IfOk result (λ apps. apps_in_words (map (λ w. w.now) words.now) ≡ Some apps) }
+{
+    let mut apps = Vec::new(alloc);
+    for at in 0..words.len() {
+        let Some(app) = read_app_word(alloc, words[at].as_bytes())? else {
+            return Err(InitFault::App(at));
+        };
+        apps.push(app)?;
+    }
+    Ok(Listed::new(apps))
+}
+
+/// The ends that are given: those that a file or the input says, or those of the copied logs.
+pub(crate) fn ends_given<D: Disk, R: Read>(
+    logs: &Logs<'_, D>,
+    path: Option<&str>,
+    required: &[PartitionName],
+    folders: &Sorted<PartitionName>,
+    input: &mut R,
+) -> Result<Said, InitFault>
+    ensures { IfOk result (λ said. AreEndsGiven (option_map (λ p. p.now) path.entry) (D.holds logs.now.disk.now) logs.now.folder.now folders.now required.now (R.remaining input.old) (R.remaining input.new) said.ends.items) }
+{
+    let Some(path) = path else {
+        return Ok(Said {
+            ends: logs.ends(required, folders)?,
+            has_returns: false,
+        });
+    };
+    let text = read_text(logs, path, input)?;
+    said_by(logs.alloc, text.as_slice())
+}
+
+/// The ends that the lines of a text say.
+fn said_by(alloc: Global, text: &[u8]) -> Result<Said, InitFault>
+    ensures { IfOk result (λ said. ends_said_by text.now ≡ Ok said.ends.items) }
+{
+    match read_ends(alloc, text) {
+        Ok(ends) => Ok(Said {
+            ends,
+            has_returns: has_returns(text),
+        }),
+        Err(EndsFault::Line(number)) => Err(InitFault::Line(number)),
+        Err(EndsFault::OutOfMemory) => Err(InitFault::OutOfMemory),
+    }
+}
+
+/// Whether the path names the standard input.
+fn is_standard(path: &str) -> bool
+    ensures { result ≡ is_standard path.now }
+{
+    path.as_bytes() == b"-".as_slice()
+}
+
+/// The bytes of a file, or of the input where it is named `-`.
+fn read_text<D: Disk, R: Read>(
+    logs: &Logs<'_, D>,
+    path: &str,
+    input: &mut R,
+) -> Result<Bytes, InitFault>
+    ensures { IfOk result (IsTextOf (is_standard path.now) (D.holds logs.now.disk.now) path.now (R.remaining input.old) (R.remaining input.new)) }
+{
+    let own = String::from_str(logs.alloc, path)?;
+    if !is_standard(path) {
+        return Ok(read_file(logs.alloc, logs.disk, own)?);
+    }
+    match read_segment(logs.alloc, input) {
+        Ok(bytes) => Ok(bytes),
+        Err(why) => Err(InitFault::Unread(refusal_of(logs.alloc, own, input, why))),
+    }
+}
+
+/// The bytes of the file of this path.
+#[tactic(auto, using(crate::proofs::GivenTexts::left_stands))]
+fn read_file<D: Disk>(alloc: Global, disk: &D, path: String) -> Result<Bytes, InitFault>
+    ensures { IfOk result (HasBytes (D.holds disk.now (string_bytes path))) }
+{
+    let named = open_file(alloc, disk, path)?;
+    Ok(named.read_whole(alloc)?)
+}
+
+/// The manifest of these applications, with the ends that it is to have.
+pub(crate) fn spec_of(
+    alloc: Global,
+    apps: Apps,
+    required: &Sorted<PartitionName>,
+    ends: &[End],
+) -> Result<Spec, InitFault>
+    ensures { IfOk result (λ spec. (first_without ends.now required.now ≡ None) × (accepted (parts_for apps required.now ends.now) ≡ Ok spec)) }
+{
+    match manifest_for(alloc, apps, required.as_slice(), ends) {
+        Ok(spec) => Ok(spec),
+        Err(ManifestFault::NoEnd(name)) => Err(InitFault::NoEnd(name)),
+        Err(ManifestFault::Refused(fault)) => Err(InitFault::Ends(fault)),
+        Err(ManifestFault::OutOfMemory) => Err(InitFault::OutOfMemory),
+    }
+}

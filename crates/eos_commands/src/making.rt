@@ -1,0 +1,111 @@
+//! The manifest of a folder of copied logs, made of what the words give and what is in the folder.
+
+ghost use Rattle.std.specs.Prelude.{◌≡◌, ℕ, List, Err, IfOk, OnOk, OnErr, string_bytes};
+ghost use Rattle.std.specs.Io.KnownBytes.{Appends};
+ghost use Rattle.eos_disk.specs.Putting.{IsLeft};
+ghost use Rattle.eos_evidence.specs.Parts.{Parts};
+ghost use Rattle.eos_disk.specs.Paths.{manifest_path};
+ghost use Rattle.eos_commands.specs.Making.{IsManifestFor, IsManifestPlaced, wrote_line};
+ghost use Rattle.eos_text.specs.Writing.{WritesFront};
+
+use crate::copied::Logs;
+use crate::fault::InitFault;
+use crate::given::{Given, ends_given, read_apps, spec_of};
+use crate::note::note_texts;
+use crate::noting::notes_on;
+use crate::writing::write_manifest;
+use eos_disk::{Disk, DiskMut, manifest_path};
+use eos_evidence::{Spec, spec_text};
+use eos_text::{WriteFault, finish, push_text, push_value};
+use std::alloc::{AllocError, Global};
+use std::io::{Read, Write};
+
+/// What is said of a manifest that was made.
+#[derive(Drop)]
+pub struct Made {
+    /// How many partitions it has, as a line.
+    pub line: String,
+    /// What is to be told beside, each without its line feed.
+    pub notes: Vec<String>,
+}
+
+/// A manifest, before it is written.
+#[derive(Drop)]
+struct Manifest {
+    spec: Spec,
+    notes: Vec<String>,
+}
+
+/// Makes the manifest of a folder, which may not have one yet. What `-` names is read from the input.
+///
+/// # Errors
+/// The first of what stands against it, in the order: the manifest is there, a word, the folder, the transaction log, the ends,
+/// a partition without an end, the parts, the file. Nothing was written then, but where the system refused it a part of the text
+/// may stand beside the manifest's place.
+#[tactic(auto, using(crate::proofs::Placed::left_nothing, crate::proofs::Placed::left_there, crate::proofs::Placed::all_made))]
+pub fn init<D: DiskMut, R: Read>(
+    alloc: Global,
+    disk: &mut D,
+    given: Given<'_>,
+    input: &mut R,
+) -> Result<Made, InitFault>
+    ensures ok { IfOk result (λ made. (spec : Parts) × IsManifestFor given.entry (D.holds disk.old) (R.remaining input.old) (R.remaining input.new) spec
+        × IsManifestPlaced (D.holds disk.old) given.entry.folder.now spec (D.holds disk.new) × (string_bytes made.line ≡ wrote_line spec)) }
+    ensures err { OnErr result ((text : List ℕ) × IsLeft (D.holds disk.old) (manifest_path given.entry.folder.now) text (D.holds disk.new)) }
+{
+    let path = manifest_path(alloc, given.folder)?;
+    if disk.stands(path.as_str()) {
+        return Err(InitFault::ThereAlready(path));
+    }
+    let Manifest { spec, notes } = manifest_of(alloc, &*disk, given, input)?;
+    let line = line_of(alloc, &spec)?;
+    let text = spec_text(alloc, &spec)?;
+    write_manifest(alloc, disk, path, text.as_slice())?;
+    Ok(Made { line, notes })
+}
+
+/// The manifest that is asked for, and what is to be told beside.
+fn manifest_of<D: Disk, R: Read>(
+    alloc: Global,
+    disk: &D,
+    given: Given<'_>,
+    input: &mut R,
+) -> Result<Manifest, InitFault>
+    ensures { IfOk result (λ manifest. IsManifestFor given.entry (D.holds disk.now) (R.remaining input.old) (R.remaining input.new) manifest.spec) }
+{
+    let apps = read_apps(alloc, given.apps)?;
+    let logs = Logs {
+        alloc,
+        disk,
+        folder: given.folder,
+    };
+    let folders = logs.folders()?;
+    let required = logs.required(apps.as_slice(), folders.as_slice())?;
+    let said = ends_given(&logs, given.ends, required.as_slice(), &folders, input)?;
+    let spec = spec_of(alloc, apps, &required, said.ends.as_slice())?;
+    let notes = notes_on(&logs, given.ends, &spec, &folders, &said)?;
+    let notes = note_texts(alloc, notes.as_slice())?;
+    Ok(Manifest { spec, notes })
+}
+
+fn line_of(alloc: Global, spec: &Spec) -> Result<String, AllocError>
+    ensures { IfOk result (λ line. string_bytes line ≡ wrote_line spec.now) }
+{
+    let mut line = String::new(alloc);
+    push_value(&mut line, "wrote partitions=", &spec.ends().len())?;
+    push_text(&mut line, "\n")?;
+    Ok(line)
+}
+
+impl Made {
+    /// Writes how many partitions the manifest has.
+    ///
+    /// # Errors
+    /// A front of the line was written.
+    pub fn told_to<W: Write>(&self, writer: &mut W) -> Result<(), WriteFault>
+        ensures ok { OnOk result (Appends (W.contents writer.old) (W.contents writer.new) (string_bytes self.now.line)) }
+        ensures front { OnErr result (WritesFront (W.contents writer.old) (W.contents writer.new) (string_bytes self.now.line)) }
+    {
+        finish(writer, self.line.as_bytes())
+    }
+}

@@ -1,4 +1,0 @@
-pub mod Folding
-pub mod Paths
-pub mod Verifying
-pub mod VerifyingLines

@@ -1,6 +1,0 @@
-mod Asked
-mod CopiedEnds
-mod GivenTexts
-mod ManifestParts
-mod NameSets
-mod Placed

@@ -1,8 +1,0 @@
--- The segments that are left end where all of them end.
-use Rattle.std.proofs.Common.{drop}
-use Rattle.eos_disk.specs.Paths.{path_of_end}
-use Rattle.eos_init_files.proofs.CopiedEnds.{GoesOn}
-use Rattle.eos_init_files.proofs.copied.Logs.end_of_front.Given as goal
-
-abbrev pub invariant-loop-base : goal.invariant-loop-base
-invariant-loop-base g l = GoesOn (g.D.Disk.holds l.self.disk.now) (path_of_end l.self.folder.now l.end) l.bases l.next (drop l.base-index l.bases)
