@@ -10,7 +10,7 @@ use Rattle.eos_machine.specs.declared.config.Config.{Config}
 use Rattle.eos_machine.specs.declared.item.Item.{Item}
 use Rattle.eos_machine.specs.Places.{place_count}
 use Rattle.eos_machine.specs.World.{World, log_at}
-use Rattle.eos_logs.specs.Evidences.{log_segments, cluster_segments, adding, HaveTexts}
+use Rattle.eos_machine.specs.Evidences.{log_segments, cluster_segments, adding, HaveTexts}
 use Rattle.eos_log_writer.proofs.Adding.{range_step}
 use Rattle.std.specs.Prelude.{IsOk}
 use Rattle.std.proofs.Common.{map}
@@ -19,15 +19,15 @@ use Rattle.eos_evidence.specs.declared.application.App.{App}
 use Rattle.eos_evidence.specs.declared.ends.End.{End}
 use Rattle.eos_evidence.specs.declared.fault.SpecFault.{SpecFault}
 use Rattle.eos_evidence.specs.Parts.{Parts, accepted}
-use Rattle.eos_logs.specs.Evidences.{groups_of, end_of}
-use Rattle.eos_logs.specs.Fitting.{IsFit}
-use Rattle.eos_logs.proofs.AcceptedParts.{accepted_parts}
+use Rattle.eos_machine.specs.Evidences.{groups_of, end_of}
+use Rattle.eos_machine.specs.Fitting.{IsFit}
+use Rattle.eos_machine.proofs.AcceptedParts.{accepted_parts}
 use Rattle.eos_evidence.specs.Evidence.{without_segments}
 use Rattle.eos_log_writer.specs.declared.segments.LogFault.{LogFault}
 use Rattle.eos_log_writer.specs.declared.segments.LogFault.TheVariants as faults
-use Rattle.eos_logs.specs.Evidences.{parts_of}
-use Rattle.eos_logs.specs.steps.Writable.{IsWritable}
-use Rattle.eos_logs.proofs.AllAdded.{IsAdded, adding_both, segments_added}
+use Rattle.eos_machine.specs.Evidences.{parts_of}
+use Rattle.eos_machine.specs.steps.Writable.{IsWritable}
+use Rattle.eos_machine.proofs.AllAdded.{IsAdded, adding_both, segments_added}
 
 -- what is left to add of the segments of all logs
 log_added : (f : ℕ → List Segment) (e g : EvidenceParts) (all : Result EvidenceParts AddFault) (i n : ℕ) → i < n → all ≡ adding e (flat_map f (range_with_len i (n - i))) → adding e (f i) ≡ Ok g

@@ -29,10 +29,10 @@ use Rattle.eos_machine.proofs.BoundedEvents.{bounded_run_under, bounded_opening,
 use Rattle.eos_machine.proofs.FormedEvents.{formed_run, formed_opening}
 use Rattle.eos_machine.proofs.Counting.{IsCounted, counted_run, counted_opening}
 use Rattle.eos_evidence.specs.Evidence.{EvidenceParts}
-use Rattle.eos_logs.specs.Evidences.{IsEvidenceOf, HasRoomForAll}
-use Rattle.eos_logs.specs.steps.Writable.{IsWritable}
-use Rattle.eos_logs.proofs.ReachedItems.{writable}
-use Rattle.eos_logs.specs.Schedules.{IsOfSchedule}
+use Rattle.eos_machine.specs.Evidences.{IsEvidenceOf, HasRoomForAll}
+use Rattle.eos_machine.specs.steps.Writable.{IsWritable}
+use Rattle.eos_machine.proofs.ReachedItems.{writable}
+use Rattle.eos_machine.specs.Schedules.{IsOfSchedule}
 use Rattle.eos_store.specs.steps.Proper.{IsProper}
 use Rattle.eos_cluster.specs.Courses.{Course, IsTaken, IsTakenUnder, UnlessMemory, IsStep, IsStepUnder, IsCounted as IsCountedStep, IsReached, IsReachedUnder}
 use Rattle.eos_store.specs.Named.{IsNamed, IsSmall}

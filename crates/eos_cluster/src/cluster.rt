@@ -8,8 +8,8 @@ ghost use Rattle.eos_machine.specs.Rest.{IsAtRest, KeepsSequences, StepsFit, All
 ghost use Rattle.eos_cluster.specs.declared.cluster.NewFault.{NewFault};
 ghost use Rattle.eos_cluster.specs.Names.{new_fault_name};
 ghost use Rattle.eos_cluster.specs.declared.evidence.EvidenceRefusal.{EvidenceRefusal};
-ghost use Rattle.eos_logs.specs.Evidences.{IsEvidenceOf, HasRoomForAll};
-ghost use Rattle.eos_logs.specs.Schedules.{IsOfSchedule};
+ghost use Rattle.eos_machine.specs.Evidences.{IsEvidenceOf, HasRoomForAll};
+ghost use Rattle.eos_machine.specs.Schedules.{IsOfSchedule};
 ghost use Rattle.eos_machine.specs.Switching.{none, any_on};
 ghost use Rattle.eos_cluster.specs.Courses.{IsStep, IsStepUnder, IsCounted};
 

@@ -7,8 +7,8 @@ ghost use Rattle.eos_machine.specs.World.{log_at};
 ghost use Rattle.eos_cluster.specs.declared.evidence.EvidenceRefusal.{EvidenceRefusal};
 ghost use Rattle.eos_evidence.specs.Parts.{accepted};
 ghost use Rattle.eos_evidence.specs.Evidence.{IsEvidence, without_segments};
-ghost use Rattle.eos_logs.specs.Evidences.{end_of, parts_of, log_segments, cluster_segments, adding, HaveTexts, IsEvidenceOf};
-ghost use Rattle.eos_logs.specs.steps.Writable.{IsWritable};
+ghost use Rattle.eos_machine.specs.Evidences.{end_of, parts_of, log_segments, cluster_segments, adding, HaveTexts, IsEvidenceOf};
+ghost use Rattle.eos_machine.specs.steps.Writable.{IsWritable};
 ghost use Rattle.eos_log_writer.specs.declared.segments.LogFault.{LogFault};
 ghost use Rattle.eos_cluster.specs.Names.{evidence_refusal_name};
 

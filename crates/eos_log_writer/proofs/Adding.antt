@@ -7,7 +7,7 @@ use Rattle.eos_evidence.specs.declared.fault.AddFault.{AddFault}
 use Rattle.eos_evidence.specs.Evidence.{EvidenceParts, added}
 use Rattle.eos_machine.specs.declared.config.Config.{Config}
 use Rattle.eos_machine.specs.declared.item.Item.{Item}
-use Rattle.eos_logs.specs.Evidences.{segment_count, segment_at, log_segments, adding}
+use Rattle.eos_machine.specs.Evidences.{segment_count, segment_at, log_segments, adding}
 
 -- the numbers from i on begin with i
 pub range_step : (i n : ℕ) → i < n → range_with_len i (n - i) ≡ i ∷ range_with_len (i + 1) (n - (i + 1))

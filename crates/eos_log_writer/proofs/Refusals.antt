@@ -35,11 +35,11 @@ use Rattle.eos_machine.specs.declared.item.Item.{Item}
 use Rattle.eos_machine.specs.declared.item.Item.TheVariants.{Fed, State, Output, Offset, Marker}
 use Rattle.eos_machine.specs.Places.{IsConfig, application_count, input_topic, output_topic}
 use Rattle.eos_machine.proofs.Written.{few_applications}
-use Rattle.eos_logs.specs.Batches.{group, second_group, source_key}
-use Rattle.eos_logs.specs.Evidences.{segment_count, segment_at, adding}
-use Rattle.eos_logs.specs.Fitting.{IsFit}
+use Rattle.eos_machine.specs.Batches.{group, second_group, source_key}
+use Rattle.eos_machine.specs.Evidences.{segment_count, segment_at, adding}
+use Rattle.eos_machine.specs.Fitting.{IsFit}
 use Rattle.eos_log_writer.specs.steps.Writers.{HasWriter}
-use Rattle.eos_logs.proofs.SegmentsFit.{all_drop}
+use Rattle.eos_machine.proofs.SegmentsFit.{all_drop}
 
 pub only_memory : {X : Type 0} (f : RecordFault) (said : Result X RecordFault) (x : X) → Settles {X = X} (Err f) said → said ≡ Ok x → f ≡ faults.OutOfMemory
 only_memory faults.OutOfMemory said x h e = refl

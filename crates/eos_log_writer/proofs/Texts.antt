@@ -16,12 +16,12 @@ use Rattle.eos_machine.specs.declared.config.Config.{Config}
 use Rattle.eos_machine.specs.declared.item.Item.{Item}
 use Rattle.eos_batch.specs.declared.record.Record.{Record}
 use Rattle.eos_machine.specs.Places.{IsConfig}
-use Rattle.eos_logs.specs.Fitting.{IsFit}
-use Rattle.eos_logs.specs.Grouping.{goes_on, joining}
-use Rattle.eos_logs.specs.steps.Joined.{AreJoined}
-use Rattle.eos_logs.proofs.Grouping.{are_joined, joining_few, joining_within}
-use Rattle.eos_logs.proofs.SegmentsFit.{all_drop, take_few}
-use Rattle.eos_logs.specs.Batches.{batch_of, behind, batches_after, batches_from, texts_of, AreTexts}
+use Rattle.eos_machine.specs.Fitting.{IsFit}
+use Rattle.eos_machine.specs.Grouping.{goes_on, joining}
+use Rattle.eos_machine.specs.steps.Joined.{AreJoined}
+use Rattle.eos_machine.proofs.Grouping.{are_joined, joining_few, joining_within}
+use Rattle.eos_machine.proofs.SegmentsFit.{all_drop, take_few}
+use Rattle.eos_machine.specs.Batches.{batch_of, behind, batches_after, batches_from, texts_of, AreTexts}
 
 or_none : Result (List ℕ) BatchFault → List ℕ
 or_none (Ok t) = t

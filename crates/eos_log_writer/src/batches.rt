@@ -5,10 +5,10 @@ ghost use Rattle.eos_machine.specs.Places.{IsConfig};
 ghost use Rattle.eos_batch.specs.Encoding.{batch_text_of};
 ghost use Rattle.eos_batch.specs.declared.fault.BatchFault.{BatchFault};
 ghost use Rattle.std.specs.List.{All};
-ghost use Rattle.eos_logs.specs.Fitting.{AreAllThere, IsFit};
-ghost use Rattle.eos_logs.specs.steps.Joined.{AreJoined};
+ghost use Rattle.eos_machine.specs.Fitting.{AreAllThere, IsFit};
+ghost use Rattle.eos_machine.specs.steps.Joined.{AreJoined};
 ghost use Rattle.eos_log_writer.specs.steps.Writers.{HasWriter};
-ghost use Rattle.eos_logs.specs.Batches.{record_of, fed_record, state_record, output_record, offset_record, marker_record, event_of, item_writer, item_record, record_after, last_or, batch_of, batches_from, texts_of, AreTexts};
+ghost use Rattle.eos_machine.specs.Batches.{record_of, fed_record, state_record, output_record, offset_record, marker_record, event_of, item_writer, item_record, record_after, last_or, batch_of, batches_from, texts_of, AreTexts};
 ghost use Rattle.eos_batch.specs.Text.{IsBatchText};
 
 use crate::joining::joining;
@@ -17,8 +17,7 @@ use crate::writer::{self, as_i64, sequence_as_i32};
 use bytes::Bytes;
 use eos_base::Listed;
 use eos_batch::{Batch, BatchFault, Header, Kind, Record, encode_batch};
-use eos_logs::Writer;
-use eos_machine::{Claim, Config, Entry, Item};
+use eos_machine::{Claim, Config, Entry, Item, Writer};
 use std::alloc::{AllocError, Global};
 
 fn record_of(key: Option<Bytes>, value: Option<Bytes>, headers: Vec<Header>) -> Record
@@ -162,7 +161,7 @@ fn delay(from: u64, to: u64) -> i64
 }
 
 /// The record of an item in a batch that begins at the time of this event.
-#[tactic(auto, using(eos_logs::proofs::FittingTests::fit_event))]
+#[tactic(auto, using(eos_machine::proofs::FittingTests::fit_event))]
 fn record_after(
     alloc: Global,
     config: Config,
@@ -180,7 +179,7 @@ fn record_after(
 }
 
 /// The records of a batch of an item and those that stand behind it.
-#[tactic(auto, using(eos_logs::proofs::FittingTests::fit_event))]
+#[tactic(auto, using(eos_machine::proofs::FittingTests::fit_event))]
 fn records_of(
     alloc: Global,
     config: Config,
@@ -211,7 +210,7 @@ fn last_or<'a>(first: &'a Item, behind: &'a [Item]) -> &'a Item
 }
 
 /// The batch at an offset of an item and those that stand behind it.
-#[tactic(auto, using(crate::proofs::Refusals::fit_writer, eos_logs::proofs::FittingTests::fit_event))]
+#[tactic(auto, using(crate::proofs::Refusals::fit_writer, eos_machine::proofs::FittingTests::fit_event))]
 fn batch_of(
     alloc: Global,
     config: Config,

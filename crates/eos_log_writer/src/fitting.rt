@@ -4,7 +4,7 @@ ghost use Rattle.std.specs.Prelude.{◌≡◌, ◌^◌, ◌&&◌, ◌+◌, lengt
 ghost use Rattle.std.specs.List.{list_all};
 ghost use Rattle.eos_machine.specs.Places.{IsConfig, application_count};
 ghost use Rattle.eos_machine.specs.Sessions.{claimed_topic};
-ghost use Rattle.eos_logs.specs.steps.Fits.{are_all_there, is_fit};
+ghost use Rattle.eos_machine.specs.steps.Fits.{are_all_there, is_fit};
 
 use crate::places::place_count;
 use eos_machine::{Claim, Config, Entry, Item};

@@ -1,7 +1,7 @@
 //! Which records stand in one batch.
 
 ghost use Rattle.std.specs.Prelude.{◌≡◌, ◌+◌};
-ghost use Rattle.eos_logs.specs.Grouping.{is_fed, is_output, is_offset, goes_on, joining};
+ghost use Rattle.eos_machine.specs.Grouping.{is_fed, is_output, is_offset, goes_on, joining};
 
 use eos_machine::Item;
 

@@ -3,12 +3,12 @@
 ghost use Rattle.std.specs.Prelude.{◌≡◌, ◌≢◌, [], ◌∷◌, ◌*◌, ◌<◌, ◌^◌, pos, Ok, Err, take, drop, length, IfOk, OnOk, IsOk, IfSome, IsNone};
 ghost use Rattle.std.specs.List.{All};
 ghost use Rattle.eos_machine.specs.Places.{IsConfig, place_count, topic_of, number_of};
-ghost use Rattle.eos_logs.specs.Fitting.{IsFit};
+ghost use Rattle.eos_machine.specs.Fitting.{IsFit};
 ghost use Rattle.eos_log_writer.specs.declared.segments.LogFault.{LogFault};
 ghost use Rattle.eos_log_writer.specs.Names.{log_fault_name};
 ghost use Rattle.eos_evidence.specs.Evidence.{added};
-ghost use Rattle.eos_logs.specs.Batches.{AreTexts};
-ghost use Rattle.eos_logs.specs.Evidences.{application, second_application, groups_of, segment_count, batches_at, segment_at, log_segments, adding, HaveTexts};
+ghost use Rattle.eos_machine.specs.Batches.{AreTexts};
+ghost use Rattle.eos_machine.specs.Evidences.{application, second_application, groups_of, segment_count, batches_at, segment_at, log_segments, adding, HaveTexts};
 
 use crate::batches::items_text;
 use crate::fitting::are_fit;

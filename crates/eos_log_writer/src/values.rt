@@ -12,8 +12,8 @@ ghost use Rattle.eos_log_writer.specs.steps.Grouping.{starts_with};
 ghost use Rattle.std.specs.Int.{w64, cast_signed};
 ghost use Rattle.std.specs.List.{All};
 ghost use Rattle.eos_base.specs.declared.record_fault.RecordFault.{RecordFault};
-ghost use Rattle.eos_logs.specs.Fitting.{AreAllThere};
-ghost use Rattle.eos_logs.specs.Batches.{group, second_group, transactional_id, bytes_of, header, claim_headers, headers_of, source_key, commit_of, commit_value, control_type};
+ghost use Rattle.eos_machine.specs.Fitting.{AreAllThere};
+ghost use Rattle.eos_machine.specs.Batches.{group, second_group, transactional_id, bytes_of, header, claim_headers, headers_of, source_key, commit_of, commit_value, control_type};
 
 use crate::places::{number_of, topic_of};
 use crate::writer::{as_i16, as_i32, as_i64, producer_id};

@@ -2,9 +2,9 @@
 
 ghost use Rattle.std.specs.Prelude.{◌≡◌, pos, ◌<◌, ◌≤◌, ◌^◌};
 ghost use Rattle.eos_machine.specs.Rest.{producer_id};
-ghost use Rattle.eos_logs.specs.Batches.{plain, transactional, control};
+ghost use Rattle.eos_machine.specs.Batches.{plain, transactional, control};
 
-use eos_logs::Writer;
+use eos_machine::Writer;
 
 /// The producer id of the first application.
 const FIRST_PRODUCER: i64 = 1000;

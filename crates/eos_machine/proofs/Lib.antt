@@ -13,3 +13,16 @@ pub mod StepRules
 pub mod Computed
 pub mod BoundedEvents
 pub mod FormedEvents
+pub mod AcceptedParts
+pub mod AllAdded
+pub mod BatchSizes
+pub mod BatchTests
+pub mod ByteTexts
+pub mod FittingTests
+pub mod Grouping
+pub mod KeptItems
+pub mod ListedPlaces
+pub mod PlaceNames
+pub mod ReachedItems
+pub mod SegmentsFit
+pub mod StateValues

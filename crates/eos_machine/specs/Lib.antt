@@ -15,3 +15,8 @@ pub mod SwitchedRuns
 pub mod Bounds
 pub mod Formed
 pub mod steps
+pub mod Batches
+pub mod Evidences
+pub mod Fitting
+pub mod Grouping
+pub mod Schedules

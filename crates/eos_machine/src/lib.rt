@@ -9,9 +9,11 @@ mod item;
 pub mod laws;
 mod state;
 mod switches;
+mod writer;
 
 pub use config::Config;
 pub use event::{Event, Reply};
 pub use item::{Claim, Entry, Item, Places, Status};
 pub use state::{Coordinator, Message, Producer, Session};
 pub use switches::{Switch, Switches};
+pub use writer::Writer;

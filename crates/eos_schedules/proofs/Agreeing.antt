@@ -28,8 +28,8 @@ use Rattle.eos_fold.specs.declared.close.Close.{Close}
 use Rattle.eos_fold.specs.Closes.{close_by, close_of, closes_of}
 use Rattle.eos_machine.specs.declared.config.Config.{Config}
 use Rattle.eos_machine.specs.declared.item.Item.{Item}
-use Rattle.eos_logs.specs.Grouping.{goes_on, joining}
-use Rattle.eos_logs.specs.Batches.{event_of, item_writer, item_record, record_after, batch_of, behind, batches_after, batches_from}
+use Rattle.eos_machine.specs.Grouping.{goes_on, joining}
+use Rattle.eos_machine.specs.Batches.{event_of, item_writer, item_record, record_after, batch_of, behind, batches_after, batches_from}
 use Rattle.eos_schedules.proofs.Singles.{item_batch, singles_from}
 use Rattle.eos_schedules.proofs.Joining.{IsNext, WritesOn, writes_on, said, first_says, others_say, one_for_two}
 

@@ -21,7 +21,7 @@ use Rattle.eos_machine.specs.Application.{Decision as Decided}
 use Rattle.eos_machine.specs.Logs.{entries_of, decisions_from}
 use Rattle.eos_machine.specs.Rest.{producer_id, decisions_of}
 use Rattle.eos_machine.proofs.Good.{Steps}
-use Rattle.eos_logs.specs.Batches.{transactional_id}
+use Rattle.eos_machine.specs.Batches.{transactional_id}
 use Rattle.eos_schedules.proofs.Settled.{IsSettled, IsLog, AreAt, in_logs}
 use Rattle.eos_schedules.proofs.TxnRecords.{one_app, is_same_id, records_from, AreStates, of_app, own_steps, own_among, IsStepOf}
 use Rattle.eos_schedules.proofs.TxnRules.{as_decision, own_decide}

@@ -26,7 +26,7 @@ use Rattle.eos_check.specs.Verdicts.{Stands, IsVerdict, IsVerdictOf}
 use Rattle.eos_check.proofs.GoodLaw.{none_from}
 use Rattle.eos_lineage.proofs.LogsInOrder.{in_order}
 use Rattle.eos_check.proofs.TransactionLogInOrder.{log_in_order}
-use Rattle.eos_logs.specs.Schedules.{IsOfSchedule}
+use Rattle.eos_machine.specs.Schedules.{IsOfSchedule}
 use Rattle.eos_schedules.specs.Schedules.{AreRight, HaveNoFault, HasRightLogs, HasNoFaultInLogs, IsOfOutputs, AccusesNoLog}
 use Rattle.eos_schedules.proofs.Placing.{Placed, placed_run, placed_opening}
 use Rattle.eos_schedules.proofs.Partitions.{partitions_are}

@@ -17,9 +17,9 @@ use Rattle.eos_touch.proofs.TableRows.{IsClean, is_clean, is_accepted}
 use Rattle.eos_machine.specs.declared.config.Config.{Config}
 use Rattle.eos_machine.specs.declared.item.Item.{Item}
 use Rattle.eos_machine.specs.declared.item.Item.TheVariants.{Fed, State, Output, Offset, Marker}
-use Rattle.eos_logs.specs.declared.writer.Writer.{Writer}
-use Rattle.eos_logs.specs.Grouping.{goes_on}
-use Rattle.eos_logs.specs.Batches.{transactional, item_writer, batch_of}
+use Rattle.eos_machine.specs.declared.writer.Writer.{Writer}
+use Rattle.eos_machine.specs.Grouping.{goes_on}
+use Rattle.eos_machine.specs.Batches.{transactional, item_writer, batch_of}
 
 -- ---- two items of one batch
 

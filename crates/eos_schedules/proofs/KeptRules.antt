@@ -39,8 +39,8 @@ use Rattle.eos_check.specs.Good.{IsKeptLog, AreKeptLogs}
 use Rattle.eos_check.proofs.FrontsUnique.{one_front}
 use Rattle.eos_check.proofs.PairFaults.{EachHasRecords, touches_have_records, no_pair}
 use Rattle.eos_check.proofs.RulesLaw.{right_front, have_records, NoFault, law as rules_law}
-use Rattle.eos_logs.specs.Evidences.{log_segments}
-use Rattle.eos_logs.proofs.PlaceNames.{sequenced_is}
+use Rattle.eos_machine.specs.Evidences.{log_segments}
+use Rattle.eos_machine.proofs.PlaceNames.{sequenced_is}
 use Rattle.eos_schedules.proofs.Placing.{Placed}
 use Rattle.eos_schedules.proofs.Partitions.{partition_at}
 use Rattle.eos_schedules.proofs.Settled.{IsSettled, IsLog, AreAt, log_batches}

@@ -24,8 +24,8 @@ use Rattle.eos_machine.specs.declared.config.Config.{Config}
 use Rattle.eos_machine.specs.Places.{IsConfig, place_count, topic_of, number_of}
 use Rattle.eos_machine.specs.declared.item.Item.{Item}
 use Rattle.eos_machine.specs.World.{World, log_at}
-use Rattle.eos_logs.specs.Evidences.{end_of, parts_of, segment_count, segment_at, log_segments, cluster_segments, adding, IsEvidenceOf}
-use Rattle.eos_logs.proofs.PlaceNames.{one_place, ends_rise}
+use Rattle.eos_machine.specs.Evidences.{end_of, parts_of, segment_count, segment_at, log_segments, cluster_segments, adding, IsEvidenceOf}
+use Rattle.eos_machine.proofs.PlaceNames.{one_place, ends_rise}
 
 abbrev pub partition_at : Config → World → ℕ → Partition
 partition_at c w p = record { end = end_of c w p; segments = log_segments c p (log_at w p) }

@@ -14,7 +14,7 @@ use Rattle.eos_machine.specs.Places.{IsConfig, place_count, topic_of, number_of}
 use Rattle.eos_machine.specs.World.{World, log_at}
 use Rattle.eos_machine.specs.Rest.{NeighboursFit, AllAtomic, StepsFit, IsAtRest}
 use Rattle.eos_machine.proofs.Good.{Good}
-use Rattle.eos_logs.specs.Evidences.{HaveTexts}
+use Rattle.eos_machine.specs.Evidences.{HaveTexts}
 use Rattle.eos_schedules.proofs.Singles.{singles_from}
 use Rattle.eos_schedules.proofs.Placing.{Placed}
 

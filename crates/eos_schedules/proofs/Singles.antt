@@ -3,7 +3,7 @@ use Rattle.std.specs.Prelude.{ℕ, ◌+◌, List, [], ◌∷◌}
 use Rattle.eos_batch.specs.declared.batch.Batch.{Batch}
 use Rattle.eos_machine.specs.declared.config.Config.{Config}
 use Rattle.eos_machine.specs.declared.item.Item.{Item}
-use Rattle.eos_logs.specs.Batches.{batch_of}
+use Rattle.eos_machine.specs.Batches.{batch_of}
 
 abbrev pub item_batch : Config → ℕ → Item → Batch
 item_batch c o x = batch_of c o x []

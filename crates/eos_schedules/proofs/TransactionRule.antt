@@ -23,8 +23,8 @@ use Rattle.eos_machine.specs.World.{World, fresh, coord_at, log_at}
 use Rattle.eos_machine.specs.Logs.{entries_of, last_state}
 use Rattle.eos_machine.specs.Tests.{is_ongoing, is_prepare}
 use Rattle.eos_machine.specs.Rest.{producer_id, values_of, EachStep}
-use Rattle.eos_logs.specs.Batches.{transactional_id}
-use Rattle.eos_logs.proofs.PlaceNames.{name, topic_at, IsNamed}
+use Rattle.eos_machine.specs.Batches.{transactional_id}
+use Rattle.eos_machine.proofs.PlaceNames.{name, topic_at, IsNamed}
 use Rattle.eos_schedules.proofs.Settled.{IsSettled, IsLog, AreAt, in_logs, at_logs}
 use Rattle.eos_schedules.proofs.TxnRecords.{one_app, own_id, is_same_id, records_from, AreStates, are_states, all_read, of_app, own_steps, own_last, own_among, last_among, some_app, IsStepOf, each_step}
 use Rattle.eos_schedules.proofs.TxnRules.{own_follow, last_tracks, track_settled}
@@ -158,7 +158,7 @@ settled_at c w q l id s t = ap (λ xs. is_unfinished (last_of xs id)) t.log.item
     states : AreStates c q (log_at w q)
     states = states_at c w q l s t
 
-    written : Rattle.eos_logs.specs.Batches.AreRead c (log_at w q)
+    written : Rattle.eos_machine.specs.Batches.AreRead c (log_at w q)
     written = (s.written q t.here).reads
 
 shared : (s t : Unskipped) (u v : TxnValue) → s.value ≡ Some u → t.value ≡ Some v → ShareProducer s.value t.value → u.producer ≡ v.producer

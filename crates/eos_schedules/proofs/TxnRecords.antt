@@ -30,7 +30,7 @@ use Rattle.eos_machine.specs.declared.item.Entry.{Entry}
 use Rattle.eos_machine.specs.declared.item.Item.{Item}
 use Rattle.eos_machine.specs.declared.item.Item.TheVariants.{Fed, State, Output, Offset, Marker}
 use Rattle.eos_machine.specs.Rest.{producer_id, value_of}
-use Rattle.eos_logs.specs.Batches.{transactional_id, bytes_of, AreRead}
+use Rattle.eos_machine.specs.Batches.{transactional_id, bytes_of, AreRead}
 use Rattle.eos_schedules.proofs.Singles.{singles_from}
 use Rattle.eos_schedules.proofs.Placing.{IsHere}
 

@@ -31,7 +31,7 @@ use Rattle.eos_machine.specs.Logs.{entries_of, last_state, with_decision, decisi
 use Rattle.eos_machine.specs.Tests.{is_ongoing, is_prepare}
 use Rattle.eos_machine.specs.Rest.{producer_id, status_of, by_topic, value_of, values_of, EachStep}
 use Rattle.eos_machine.proofs.Good.{Moves, Steps}
-use Rattle.eos_logs.specs.Batches.{transactional_id}
+use Rattle.eos_machine.specs.Batches.{transactional_id}
 use Rattle.eos_schedules.proofs.TxnRecords.{step_of, last_after, own_step, own_steps, own_last}
 
 -- ---- statuses

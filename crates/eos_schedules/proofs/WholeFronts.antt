@@ -15,8 +15,8 @@ use Rattle.eos_fold.specs.Fronts.{IsFront}
 use Rattle.eos_machine.specs.declared.config.Config.{Config}
 use Rattle.eos_machine.specs.Places.{IsConfig}
 use Rattle.eos_machine.specs.declared.item.Item.{Item}
-use Rattle.eos_logs.specs.Batches.{batches_from, texts_of, AreTexts}
-use Rattle.eos_logs.specs.Evidences.{segment_count, batches_at, segment_at, log_segments, HaveTexts}
+use Rattle.eos_machine.specs.Batches.{batches_from, texts_of, AreTexts}
+use Rattle.eos_machine.specs.Evidences.{segment_count, batches_at, segment_at, log_segments, HaveTexts}
 use Rattle.eos_schedules.proofs.Singles.{item_batch, singles_from}
 use Rattle.eos_schedules.proofs.Agreeing.{Agrees, agrees_nil, items_agree}
 

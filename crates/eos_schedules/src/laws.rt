@@ -4,7 +4,7 @@
 ghost use Rattle.eos_evidence.specs.Evidence.{EvidenceParts, IsEvidence};
 ghost use Rattle.eos_check.specs.declared.verdict.Verdict.{Verdict};
 ghost use Rattle.eos_check.specs.Verdicts.{IsVerdict};
-ghost use Rattle.eos_logs.specs.Schedules.{IsOfSchedule};
+ghost use Rattle.eos_machine.specs.Schedules.{IsOfSchedule};
 ghost use Rattle.eos_schedules.specs.Schedules.{HasRightLogs, HasNoFaultInLogs, AccusesNoLog};
 
 /// For every list of events, in any order, with any message lost or repeated and any member restarted: where the cluster

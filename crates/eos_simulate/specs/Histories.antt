@@ -8,7 +8,7 @@ use Rattle.eos_machine.specs.declared.switches.Switches.{Switches}
 use Rattle.eos_machine.specs.Switching.{none, any_on}
 use Rattle.eos_machine.specs.World.{opening}
 use Rattle.eos_cluster.specs.Courses.{Course}
-use Rattle.eos_logs.specs.Evidences.{IsEvidenceOf}
+use Rattle.eos_machine.specs.Evidences.{IsEvidenceOf}
 use Rattle.eos_scripts.specs.declared.deed.Deed.{Deed}
 use Rattle.eos_scripts.specs.declared.deed.Deed.TheVariants as done
 use Rattle.eos_scripts.specs.declared.deed.Note.{Note}

@@ -3,8 +3,8 @@
 ghost use Rattle.std.specs.Prelude.{◌≡◌, true, Err, IfOk, OnErr, string_bytes};
 ghost use Rattle.std.specs.Io.KnownBytes.{Appends, Keeps};
 ghost use Rattle.eos_text.specs.Writing.{WritesFront};
-ghost use Rattle.eos_logs.specs.Evidences.{IsEvidenceOf};
-ghost use Rattle.eos_logs.specs.Schedules.{IsOfSchedule};
+ghost use Rattle.eos_machine.specs.Evidences.{IsEvidenceOf};
+ghost use Rattle.eos_machine.specs.Schedules.{IsOfSchedule};
 ghost use Rattle.eos_schedules.specs.Schedules.{HasRightLogs, HasNoFaultInLogs};
 ghost use Rattle.eos_simulate.specs.Histories.{new_course};
 ghost use Rattle.eos_simulate.specs.Simulated.{wrote_line};

@@ -20,10 +20,10 @@ use Rattle.eos_machine.specs.declared.config.Config.{Config}
 use Rattle.eos_machine.specs.declared.item.Item.{Item}
 use Rattle.eos_machine.specs.Places.{IsConfig, place_count}
 use Rattle.eos_machine.specs.World.{World, log_at}
-use Rattle.eos_logs.specs.Evidences.{end_of, parts_of, segment_count, segment_at, log_segments, cluster_segments, adding}
-use Rattle.eos_logs.specs.steps.Writable.{IsWritable}
-use Rattle.eos_logs.proofs.AcceptedParts.{accepted_parts}
-use Rattle.eos_logs.proofs.PlaceNames.{ends_rise}
+use Rattle.eos_machine.specs.Evidences.{end_of, parts_of, segment_count, segment_at, log_segments, cluster_segments, adding}
+use Rattle.eos_machine.specs.steps.Writable.{IsWritable}
+use Rattle.eos_machine.proofs.AcceptedParts.{accepted_parts}
+use Rattle.eos_machine.proofs.PlaceNames.{ends_rise}
 
 -- ---- one segment
 

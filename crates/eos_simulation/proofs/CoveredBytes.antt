@@ -14,7 +14,7 @@ use Rattle.eos_batch.specs.Text.{IsBytesText, IsOptionalText, AreHeaderTexts, Is
 use Rattle.eos_batch.specs.steps.Writing.{HasCoveredWidths}
 use Rattle.eos_batch.proofs.EncodingTests.{passes-counted, passes-fits, batch_is}
 use Rattle.eos_batch.proofs.EncodingTexts.{covered_is}
-use Rattle.eos_logs.proofs.ByteTexts.{no_bytes, i8_bytes, i16_bytes, i32_bytes, i64_bytes, checksum_small}
+use Rattle.eos_machine.proofs.ByteTexts.{no_bytes, i8_bytes, i16_bytes, i32_bytes, i64_bytes, checksum_small}
 
 -- ---- a record of bytes
 

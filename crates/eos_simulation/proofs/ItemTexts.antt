@@ -25,18 +25,18 @@ use Rattle.eos_machine.specs.declared.item.Item.{Item}
 use Rattle.eos_machine.specs.declared.item.Item.TheVariants.{Fed, State, Output, Offset, Marker}
 use Rattle.eos_machine.specs.Places.{IsConfig, application_count, input_topic, output_topic}
 use Rattle.eos_machine.proofs.Written.{few_applications}
-use Rattle.eos_logs.specs.declared.writer.Writer.{Writer}
-use Rattle.eos_logs.specs.steps.Joined.{AreJoined}
-use Rattle.eos_logs.specs.Batches.{group, transactional_id, bytes_of, claim_headers, headers_of, offset_record, control_type, marker_record, plain, transactional, control, event_of, item_writer, item_record, record_after, last_or, batch_of, behind, batches_after, AreTexts, second_group, source_key, commit_of}
-use Rattle.eos_logs.specs.Evidences.{part_at, batches_at, HaveTexts}
-use Rattle.eos_logs.specs.Fitting.{IsFit}
-use Rattle.eos_logs.proofs.BatchSizes.{key_written}
-use Rattle.eos_logs.proofs.BatchTests.{batch_tested}
-use Rattle.eos_logs.proofs.ByteTexts.{no_bytes, one_more, known_bytes, i16_bytes, i32_bytes, i64_bytes}
-use Rattle.eos_logs.proofs.FittingTests.{fit_event, fit_last}
-use Rattle.eos_logs.proofs.Grouping.{are_joined, joining_few, joining_within}
-use Rattle.eos_logs.proofs.SegmentsFit.{all_drop}
-use Rattle.eos_logs.proofs.StateValues.{state_bytes, all_read_back}
+use Rattle.eos_machine.specs.declared.writer.Writer.{Writer}
+use Rattle.eos_machine.specs.steps.Joined.{AreJoined}
+use Rattle.eos_machine.specs.Batches.{group, transactional_id, bytes_of, claim_headers, headers_of, offset_record, control_type, marker_record, plain, transactional, control, event_of, item_writer, item_record, record_after, last_or, batch_of, behind, batches_after, AreTexts, second_group, source_key, commit_of}
+use Rattle.eos_machine.specs.Evidences.{part_at, batches_at, HaveTexts}
+use Rattle.eos_machine.specs.Fitting.{IsFit}
+use Rattle.eos_machine.proofs.BatchSizes.{key_written}
+use Rattle.eos_machine.proofs.BatchTests.{batch_tested}
+use Rattle.eos_machine.proofs.ByteTexts.{no_bytes, one_more, known_bytes, i16_bytes, i32_bytes, i64_bytes}
+use Rattle.eos_machine.proofs.FittingTests.{fit_event, fit_last}
+use Rattle.eos_machine.proofs.Grouping.{are_joined, joining_few, joining_within}
+use Rattle.eos_machine.proofs.SegmentsFit.{all_drop}
+use Rattle.eos_machine.proofs.StateValues.{state_bytes, all_read_back}
 use Rattle.eos_simulation.proofs.CoveredBytes.{AreHeaders, IsOfBytes, written_text}
 
 -- ---- who writes

@@ -16,12 +16,12 @@ use Rattle.eos_machine.specs.World.{World, opening, log_at}
 use Rattle.eos_machine.specs.Machine.{run, run_under}
 use Rattle.eos_machine.specs.Rest.{IsAtRest}
 use Rattle.eos_machine.proofs.Computed.{none_is}
-use Rattle.eos_logs.specs.Evidences.{parts_of, HasRoomForAll}
-use Rattle.eos_logs.specs.Schedules.{IsOfSchedule}
-use Rattle.eos_logs.proofs.AcceptedParts.{accepted_parts}
-use Rattle.eos_logs.proofs.AllAdded.{segments_added}
-use Rattle.eos_logs.proofs.KeptItems.{KeptItem, TopicIs, log_kept}
-use Rattle.eos_logs.proofs.ReachedItems.{kept_run, kept_opening, writable}
+use Rattle.eos_machine.specs.Evidences.{parts_of, HasRoomForAll}
+use Rattle.eos_machine.specs.Schedules.{IsOfSchedule}
+use Rattle.eos_machine.proofs.AcceptedParts.{accepted_parts}
+use Rattle.eos_machine.proofs.AllAdded.{segments_added}
+use Rattle.eos_machine.proofs.KeptItems.{KeptItem, TopicIs, log_kept}
+use Rattle.eos_machine.proofs.ReachedItems.{kept_run, kept_opening, writable}
 use Rattle.eos_schedules.proofs.EverySchedule.{right_logs, no_fault_in_logs}
 use Rattle.eos_simulation.specs.Leaving.{SendsBytes, LeavesEvidence, LeavesRightEvidence}
 use Rattle.eos_simulation.proofs.AddedEvidence.{is_evidence}

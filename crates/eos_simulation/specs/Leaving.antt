@@ -7,8 +7,8 @@ use Rattle.eos_machine.specs.declared.event.Event.{Event}
 use Rattle.eos_machine.specs.declared.event.Event.TheVariants as events
 use Rattle.eos_machine.specs.Sessions.{claimed_topic}
 use Rattle.eos_machine.specs.World.{World}
-use Rattle.eos_logs.specs.Evidences.{IsEvidenceOf}
-use Rattle.eos_logs.specs.Schedules.{IsOfSchedule}
+use Rattle.eos_machine.specs.Evidences.{IsEvidenceOf}
+use Rattle.eos_machine.specs.Schedules.{IsOfSchedule}
 use Rattle.eos_schedules.specs.Schedules.{HasRightLogs, HasNoFaultInLogs}
 
 -- the topic of a claim that is sent is a text of bytes, as every topic in memory is

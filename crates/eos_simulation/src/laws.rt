@@ -3,7 +3,7 @@
 
 ghost use Rattle.std.specs.Prelude.{List};
 ghost use Rattle.std.specs.List.{All};
-ghost use Rattle.eos_logs.specs.Evidences.{HasRoomForAll};
+ghost use Rattle.eos_machine.specs.Evidences.{HasRoomForAll};
 ghost use Rattle.eos_machine.specs.Machine.{run, run_under};
 ghost use Rattle.eos_machine.specs.Places.{IsConfig};
 ghost use Rattle.eos_machine.specs.Rest.{IsAtRest};

@@ -7,8 +7,8 @@ pub mod laws;
 
 ghost use Rattle.std.specs.Prelude.{◌≡◌, ◌↔◌, true, Err, IfOk};
 ghost use Rattle.eos_cluster.specs.declared.evidence.EvidenceRefusal.{EvidenceRefusal};
-ghost use Rattle.eos_logs.specs.Evidences.{IsEvidenceOf, HasRoomForAll};
-ghost use Rattle.eos_logs.specs.Schedules.{IsOfSchedule};
+ghost use Rattle.eos_machine.specs.Evidences.{IsEvidenceOf, HasRoomForAll};
+ghost use Rattle.eos_machine.specs.Schedules.{IsOfSchedule};
 ghost use Rattle.eos_machine.specs.Rest.{IsAtRest};
 ghost use Rattle.eos_schedules.specs.Schedules.{HasRightLogs, HasNoFaultInLogs};
 

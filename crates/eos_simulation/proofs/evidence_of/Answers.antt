@@ -1,7 +1,7 @@
 use Rattle.std.proofs.Common.{Result, Ok, Err}
 use Rattle.std.specs.Prelude.{IfOk}
 use Rattle.eos_evidence.specs.Evidence.{EvidenceParts, IsEvidence}
-use Rattle.eos_logs.specs.Schedules.{IsOfSchedule}
+use Rattle.eos_machine.specs.Schedules.{IsOfSchedule}
 use Rattle.eos_schedules.specs.Schedules.{HasRightLogs, HasNoFaultInLogs}
 use Rattle.eos_schedules.proofs.EverySchedule.{right_logs, no_fault_in_logs}
 use Rattle.eos_simulation.proofs.evidence_of.Goals as goal

@@ -2,7 +2,7 @@ use Rattle.std.proofs.Common.{◌≡◌, ℕ, ◌-◌, ◌<◌}
 use Rattle.std.specs.List.{flat_map, range_with_len}
 use Rattle.eos_machine.specs.Places.{place_count}
 use Rattle.eos_machine.specs.World.{log_at}
-use Rattle.eos_logs.specs.Evidences.{log_segments, cluster_segments, adding, HaveTexts}
+use Rattle.eos_machine.specs.Evidences.{log_segments, cluster_segments, adding, HaveTexts}
 use Rattle.eos_cluster.proofs.evidence.add_logs.Given as goal
 
 abbrev pub invariant-loop-place : goal.invariant-loop-place

@@ -1,4 +1,4 @@
-use Rattle.eos_logs.specs.Evidences.{end_of}
+use Rattle.eos_machine.specs.Evidences.{end_of}
 use Rattle.eos_deliveries.proofs.Ranges.{map_more}
 use Rattle.eos_cluster.proofs.evidence.ends.Goals as goal
 

@@ -1,6 +1,6 @@
 use Rattle.std.proofs.Common.{◌≡◌, map}
 use Rattle.std.specs.List.{range_with_len}
-use Rattle.eos_logs.specs.Evidences.{end_of}
+use Rattle.eos_machine.specs.Evidences.{end_of}
 use Rattle.eos_cluster.proofs.evidence.ends.Given as goal
 
 abbrev pub invariant-loop-place : goal.invariant-loop-place

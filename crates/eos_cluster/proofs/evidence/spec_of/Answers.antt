@@ -1,7 +1,7 @@
 use Rattle.std.proofs.Common.{◌≡◌, map, rules}
 use Rattle.std.specs.List.{range_with_len}
 use Rattle.eos_machine.specs.Places.{place_count}
-use Rattle.eos_logs.specs.Evidences.{groups_of, end_of}
+use Rattle.eos_machine.specs.Evidences.{groups_of, end_of}
 use Rattle.eos_cluster.proofs.AllLogs.{spec_taken}
 use Rattle.eos_cluster.proofs.evidence.spec_of.Goals as goal
 

@@ -1,6 +1,6 @@
 use Rattle.std.proofs.Common.{◌<◌, ◌^◌, ◌∙◌, ap, subst, sym}
-use Rattle.eos_logs.specs.Batches.{event_of, last_or}
-use Rattle.eos_logs.proofs.FittingTests.{fit_event, fit_last}
+use Rattle.eos_machine.specs.Batches.{event_of, last_or}
+use Rattle.eos_machine.proofs.FittingTests.{fit_event, fit_last}
 use Rattle.eos_log_writer.proofs.batches.batch_of.Goals as goal
 
 pub as_i64-requires-3 : goal.as_i64-requires-3

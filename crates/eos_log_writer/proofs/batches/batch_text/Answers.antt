@@ -1,6 +1,6 @@
 use Rattle.std.proofs.Common.{ap, ◌∙◌}
 use Rattle.eos_batch.specs.Encoding.{tested}
-use Rattle.eos_logs.proofs.BatchTests.{batch_tested}
+use Rattle.eos_machine.proofs.BatchTests.{batch_tested}
 use Rattle.eos_log_writer.proofs.Refusals.{batch_memory}
 use Rattle.eos_log_writer.proofs.batches.batch_text.Goals as goal
 

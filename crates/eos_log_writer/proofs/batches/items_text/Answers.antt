@@ -1,5 +1,5 @@
 use Rattle.std.proofs.Common.{◌≤◌, length, subst, sym, rules}
-use Rattle.eos_logs.proofs.Grouping.{joining_within}
+use Rattle.eos_machine.proofs.Grouping.{joining_within}
 use Rattle.eos_log_writer.proofs.Texts.{IsCut, cut_few, cut_joined, cut_fits, one_left}
 use Rattle.eos_log_writer.proofs.batches.items_text.Goals as goal
 

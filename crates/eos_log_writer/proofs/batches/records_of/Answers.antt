@@ -1,7 +1,7 @@
 use Rattle.std.proofs.Common.{arith, subst, sym}
 use Rattle.std.proofs.lemmas.Grind.{common_steps}
 use Rattle.std.proofs.lemmas.List.Elements.{All-tail}
-use Rattle.eos_logs.specs.Fitting.{IsFit}
+use Rattle.eos_machine.specs.Fitting.{IsFit}
 use Rattle.eos_log_writer.proofs.Texts.{within_all}
 use Rattle.eos_log_writer.proofs.batches.records_of.Goals as goal
 

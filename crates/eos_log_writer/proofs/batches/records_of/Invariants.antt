@@ -1,5 +1,5 @@
 use Rattle.std.proofs.Common.{◌≡◌, ◌++◌, ◌∷◌, map, drop}
-use Rattle.eos_logs.specs.Batches.{event_of, record_after}
+use Rattle.eos_machine.specs.Batches.{event_of, record_after}
 use Rattle.eos_log_writer.proofs.batches.records_of.Given as goal
 
 abbrev pub invariant-loop-i : goal.invariant-loop-i

@@ -1,5 +1,5 @@
 use Rattle.std.proofs.Common.{◌≡◌, ◌+◌, ◌-◌, ◌≤◌, drop}
-use Rattle.eos_logs.specs.Grouping.{joining}
+use Rattle.eos_machine.specs.Grouping.{joining}
 use Rattle.eos_log_writer.proofs.joining.joining.Given as goal
 
 abbrev pub invariant-loop-i : goal.invariant-loop-i

@@ -1,11 +1,11 @@
 use Rattle.std.proofs.Common.{◌≡◌, ◌∙◌, sym, ap, Err, true, false, arith}
 use Rattle.std.proofs.lemmas.Result.{err_from_is_err_and}
-use Rattle.eos_logs.specs.Evidences.{batches_at, segment_at}
+use Rattle.eos_machine.specs.Evidences.{batches_at, segment_at}
 use Rattle.eos_log_writer.proofs.Adding.{one_added, first_left}
 use Rattle.eos_log_writer.proofs.Texts.{one_further}
-use Rattle.eos_logs.specs.Batches.{AreTexts}
-use Rattle.eos_logs.proofs.StateValues.{all_read_back}
-use Rattle.eos_logs.proofs.FittingTests.{all_fit, fit_all}
+use Rattle.eos_machine.specs.Batches.{AreTexts}
+use Rattle.eos_machine.proofs.StateValues.{all_read_back}
+use Rattle.eos_machine.proofs.FittingTests.{all_fit, fit_all}
 use Rattle.eos_log_writer.proofs.Refusals.{begins_inside, next_taken}
 use Rattle.eos_log_writer.proofs.segments.add_log.Goals as goal
 

@@ -1,7 +1,7 @@
 use Rattle.std.proofs.Common.{◌≡◌, ℕ, ◌-◌, ◌<◌, map}
 use Rattle.std.specs.List.{range_with_len}
-use Rattle.eos_logs.specs.Batches.{AreTexts}
-use Rattle.eos_logs.specs.Evidences.{batches_at, segment_at, log_segments, adding}
+use Rattle.eos_machine.specs.Batches.{AreTexts}
+use Rattle.eos_machine.specs.Evidences.{batches_at, segment_at, log_segments, adding}
 use Rattle.eos_log_writer.proofs.segments.add_log.Given as goal
 
 abbrev pub invariant-loop-i : goal.invariant-loop-i

@@ -1,6 +1,6 @@
 use Rattle.std.proofs.Common.{◌*◌, subst, sym}
 use Rattle.std.specs.List.{All}
-use Rattle.eos_logs.specs.Fitting.{IsFit}
+use Rattle.eos_machine.specs.Fitting.{IsFit}
 use Rattle.eos_log_writer.proofs.Refusals.{part_fits}
 use Rattle.eos_log_writer.proofs.segments.segment_at.Goals as goal
 

@@ -1,6 +1,6 @@
 use Rattle.std.proofs.Common.{ap, ◌∙◌}
 use Rattle.eos_txnlog.specs.Writing.{write_key}
-use Rattle.eos_logs.proofs.BatchSizes.{key_written}
+use Rattle.eos_machine.proofs.BatchSizes.{key_written}
 use Rattle.eos_log_writer.proofs.Refusals.{only_memory}
 use Rattle.eos_log_writer.proofs.values.transaction_key.Goals as goal
 

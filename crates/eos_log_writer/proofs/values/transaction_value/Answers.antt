@@ -1,6 +1,6 @@
 use Rattle.std.proofs.Common.{ap, ◌∙◌, pos}
 use Rattle.eos_txnlog.specs.Writing.{write_value}
-use Rattle.eos_logs.proofs.BatchSizes.{value_written}
+use Rattle.eos_machine.proofs.BatchSizes.{value_written}
 use Rattle.eos_log_writer.proofs.Refusals.{only_memory}
 use Rattle.eos_log_writer.proofs.values.transaction_value.Goals as goal
 

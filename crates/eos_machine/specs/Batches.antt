@@ -22,8 +22,8 @@ use Rattle.eos_machine.specs.declared.item.Item.TheVariants.{Fed, State, Output,
 use Rattle.eos_machine.specs.declared.item.Entry.{Entry}
 use Rattle.eos_machine.specs.Places.{input_topic, output_topic}
 use Rattle.eos_machine.specs.Rest.{producer_id, value_of}
-use Rattle.eos_logs.specs.declared.writer.Writer.{Writer}
-use Rattle.eos_logs.specs.Grouping.{joining}
+use Rattle.eos_machine.specs.declared.writer.Writer.{Writer}
+use Rattle.eos_machine.specs.Grouping.{joining}
 
 -- the group that reads `in`, and the one that reads `out`
 abbrev pub group : List ℕ

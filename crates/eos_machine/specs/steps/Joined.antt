@@ -1,7 +1,7 @@
 -- Items that may stand in one batch.
 use Rattle.std.specs.Prelude.{◌≡◌, true, List, [], ◌∷◌, ⊤}
 use Rattle.eos_machine.specs.declared.item.Item.{Item}
-use Rattle.eos_logs.specs.Grouping.{goes_on}
+use Rattle.eos_machine.specs.Grouping.{goes_on}
 
 -- each goes on with the one before it
 abbrev pub AreJoined : Item → List Item → Type 0

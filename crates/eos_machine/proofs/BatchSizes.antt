@@ -30,10 +30,10 @@ use Rattle.eos_machine.specs.declared.item.Item.{Item}
 use Rattle.eos_machine.specs.declared.item.Item.TheVariants.{Fed, State, Output, Offset, Marker}
 use Rattle.eos_machine.specs.Rest.{by_topic, with_number, value_of}
 use Rattle.eos_machine.specs.Sessions.{claimed_topic}
-use Rattle.eos_logs.specs.Batches.{group, transactional_id, bytes_of, fed_record, state_record, header, claim_headers, headers_of, output_record, commit_value, offset_record, control_type, marker_record, event_of, delayed, record_after, batch_of, behind, batches_after, texts_of, second_group, source_key, commit_of}
-use Rattle.eos_logs.proofs.Grouping.{joining_within}
+use Rattle.eos_machine.specs.Batches.{group, transactional_id, bytes_of, fed_record, state_record, header, claim_headers, headers_of, output_record, commit_value, offset_record, control_type, marker_record, event_of, delayed, record_after, batch_of, behind, batches_after, texts_of, second_group, source_key, commit_of}
+use Rattle.eos_machine.proofs.Grouping.{joining_within}
 use Rattle.eos_machine.proofs.Written.{few_finals}
-use Rattle.eos_logs.specs.Fitting.{IsFit, AreAllThere}
+use Rattle.eos_machine.specs.Fitting.{IsFit, AreAllThere}
 
 -- ---- numbers and texts
 

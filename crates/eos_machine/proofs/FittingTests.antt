@@ -9,10 +9,10 @@ use Rattle.eos_machine.specs.declared.item.Item.{Item}
 use Rattle.eos_machine.specs.declared.item.Item.TheVariants.{Fed, State, Output, Offset, Marker}
 use Rattle.eos_machine.specs.Places.{application_count, place_count}
 use Rattle.eos_machine.specs.Sessions.{claimed_topic}
-use Rattle.eos_logs.specs.Fitting.{AreAllThere, IsFit}
-use Rattle.eos_logs.specs.Batches.{event_of, last_or}
-use Rattle.eos_logs.proofs.Grouping.{all_at}
-use Rattle.eos_logs.specs.steps.Fits.{are_all_there, is_fit}
+use Rattle.eos_machine.specs.Fitting.{AreAllThere, IsFit}
+use Rattle.eos_machine.specs.Batches.{event_of, last_or}
+use Rattle.eos_machine.proofs.Grouping.{all_at}
+use Rattle.eos_machine.specs.steps.Fits.{are_all_there, is_fit}
 
 below_all : (n : ℕ) (ps : List ℕ) → list_all (λ p. nat_lt p n) ps ≡ true → All (λ p. p < n) ps
 below_all n [] h = All-nil (λ p. p < n)

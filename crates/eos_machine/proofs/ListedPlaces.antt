@@ -7,7 +7,7 @@ use Rattle.std.proofs.lemmas.Bool.{or_parts, eqb-true, eqb-false, ne_eqb}
 use Rattle.eos_machine.specs.declared.config.Config.{Config}
 use Rattle.eos_machine.specs.Places.{place_count, same_topic, listed}
 use Rattle.eos_machine.specs.Tests.{has}
-use Rattle.eos_logs.specs.Fitting.{AreAllThere}
+use Rattle.eos_machine.specs.Fitting.{AreAllThere}
 
 -- none stands twice
 abbrev pub AreApart : List ℕ → Type 0

@@ -7,7 +7,7 @@ use Rattle.eos_machine.specs.Places.{IsConfig}
 use Rattle.eos_machine.specs.World.{World, opening}
 use Rattle.eos_machine.specs.Machine.{run}
 use Rattle.eos_machine.specs.Rest.{IsAtRest}
-use Rattle.eos_logs.specs.Evidences.{IsEvidenceOf}
+use Rattle.eos_machine.specs.Evidences.{IsEvidenceOf}
 
 -- the evidence of a cluster at rest, to which some list of events has led
 pub record IsOfSchedule (e : EvidenceParts) : Type 0 where

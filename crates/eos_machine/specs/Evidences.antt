@@ -13,7 +13,7 @@ use Rattle.eos_machine.specs.declared.item.Item.{Item}
 use Rattle.eos_machine.specs.Places.{place_count, topic_of, number_of, final_topic, input_topic, output_topic}
 use Rattle.eos_machine.specs.World.{World, log_at}
 use Rattle.eos_batch.specs.declared.batch.Batch.{Batch}
-use Rattle.eos_logs.specs.Batches.{group, batches_from, texts_of, AreTexts, AreRead, second_group}
+use Rattle.eos_machine.specs.Batches.{group, batches_from, texts_of, AreTexts, AreRead, second_group}
 
 -- the group that reads `in` and writes `out`
 abbrev pub application : App

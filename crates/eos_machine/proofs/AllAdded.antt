@@ -20,11 +20,11 @@ use Rattle.eos_machine.specs.declared.config.Config.{Config}
 use Rattle.eos_machine.specs.declared.item.Item.{Item}
 use Rattle.eos_machine.specs.Places.{IsConfig, place_count, topic_of, number_of}
 use Rattle.eos_machine.specs.World.{World, log_at}
-use Rattle.eos_logs.specs.Evidences.{end_of, parts_of, segment_count, segment_at, log_segments, cluster_segments, adding, HasRoomForAll}
-use Rattle.eos_logs.specs.Fitting.{IsFit}
-use Rattle.eos_logs.specs.steps.Writable.{IsWritable}
-use Rattle.eos_logs.proofs.PlaceNames.{one_place}
-use Rattle.eos_logs.proofs.SegmentsFit.{segment_short, sum, count_at, room_enough, sum_less}
+use Rattle.eos_machine.specs.Evidences.{end_of, parts_of, segment_count, segment_at, log_segments, cluster_segments, adding, HasRoomForAll}
+use Rattle.eos_machine.specs.Fitting.{IsFit}
+use Rattle.eos_machine.specs.steps.Writable.{IsWritable}
+use Rattle.eos_machine.proofs.PlaceNames.{one_place}
+use Rattle.eos_machine.proofs.SegmentsFit.{segment_short, sum, count_at, room_enough, sum_less}
 
 -- ---- the segments of a place go to its partition, and to no other
 

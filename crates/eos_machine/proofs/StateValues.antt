@@ -22,11 +22,11 @@ use Rattle.eos_machine.specs.Rest.{with_number, by_topic, value_of}
 use Rattle.eos_machine.specs.declared.item.Item.{Item}
 use Rattle.eos_machine.specs.declared.item.Item.TheVariants.{Fed, State, Output, Offset, Marker}
 use Rattle.eos_machine.proofs.Written.{few_applications}
-use Rattle.eos_logs.specs.Batches.{bytes_of, Reads, AreRead}
-use Rattle.eos_logs.specs.Fitting.{AreAllThere, IsFit}
-use Rattle.eos_logs.proofs.AcceptedParts.{number_small, place_few}
-use Rattle.eos_logs.proofs.BatchSizes.{IsTopicOf, topics_few, value_written}
-use Rattle.eos_logs.proofs.ByteTexts.{no_bytes, known_bytes, i8_bytes, i16_bytes, i32_bytes, i64_bytes, uvarint_bytes}
+use Rattle.eos_machine.specs.Batches.{bytes_of, Reads, AreRead}
+use Rattle.eos_machine.specs.Fitting.{AreAllThere, IsFit}
+use Rattle.eos_machine.proofs.AcceptedParts.{number_small, place_few}
+use Rattle.eos_machine.proofs.BatchSizes.{IsTopicOf, topics_few, value_written}
+use Rattle.eos_machine.proofs.ByteTexts.{no_bytes, known_bytes, i8_bytes, i16_bytes, i32_bytes, i64_bytes, uvarint_bytes}
 
 -- ---- topics and their numbers
 

@@ -4,8 +4,8 @@ use Rattle.std.specs.Prelude.{if◌then◌else◌}
 use Rattle.std.specs.List.{All}
 use Rattle.std.proofs.lemmas.List.Elements.{All-nil, All-cons, All-head, All-tail}
 use Rattle.eos_machine.specs.declared.item.Item.{Item}
-use Rattle.eos_logs.specs.Grouping.{goes_on, joining}
-use Rattle.eos_logs.specs.steps.Joined.{AreJoined}
+use Rattle.eos_machine.specs.Grouping.{goes_on, joining}
+use Rattle.eos_machine.specs.steps.Joined.{AreJoined}
 
 -- those that stand in a batch go on with one another
 pub are_joined : (k : ℕ) (x : Item) (ys : List Item) → AreJoined x (take (joining k x ys) ys)

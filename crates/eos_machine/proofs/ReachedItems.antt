@@ -19,11 +19,11 @@ use Rattle.eos_machine.specs.Formed.{IsFormed}
 use Rattle.eos_machine.specs.Machine.{happens_under, counted, step_under, run_under}
 use Rattle.eos_machine.proofs.BoundedEvents.{bounded_run_under, bounded_opening}
 use Rattle.eos_machine.proofs.FormedEvents.{formed_opening, formed_event}
-use Rattle.eos_logs.specs.Evidences.{HasRoomForAll}
-use Rattle.eos_logs.specs.Fitting.{IsFit}
-use Rattle.eos_logs.specs.steps.Writable.{total, IsWritable}
-use Rattle.eos_logs.proofs.ListedPlaces.{AreListed, none_listed, all_there}
-use Rattle.eos_logs.proofs.KeptItems.{KeptItem, KeptMessage, Kept, TopicIs, log_kept, kept_event}
+use Rattle.eos_machine.specs.Evidences.{HasRoomForAll}
+use Rattle.eos_machine.specs.Fitting.{IsFit}
+use Rattle.eos_machine.specs.steps.Writable.{total, IsWritable}
+use Rattle.eos_machine.proofs.ListedPlaces.{AreListed, none_listed, all_there}
+use Rattle.eos_machine.proofs.KeptItems.{KeptItem, KeptMessage, Kept, TopicIs, log_kept, kept_event}
 
 -- ---- any list of events
 

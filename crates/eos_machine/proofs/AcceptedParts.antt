@@ -14,8 +14,8 @@ use Rattle.eos_machine.specs.declared.config.Config.{Config}
 use Rattle.eos_machine.specs.Places.{IsConfig, place_count, offsets_topic, transactions_topic, final_topic, input_topic, output_topic, final_place, input_place, output_place, topic_of, number_of}
 use Rattle.eos_machine.specs.World.{World, log_at}
 use Rattle.eos_machine.proofs.Written.{few_finals}
-use Rattle.eos_logs.specs.Evidences.{application, second_application, groups_of, end_of, parts_of}
-use Rattle.eos_logs.proofs.PlaceNames.{ends_rise}
+use Rattle.eos_machine.specs.Evidences.{application, second_application, groups_of, end_of, parts_of}
+use Rattle.eos_machine.proofs.PlaceNames.{ends_rise}
 
 -- ---- each end is legal
 

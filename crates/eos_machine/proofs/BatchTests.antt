@@ -17,10 +17,10 @@ use Rattle.eos_machine.specs.declared.item.Item.{Item}
 use Rattle.eos_machine.specs.declared.item.Item.TheVariants.{Fed, State, Output, Offset, Marker}
 use Rattle.eos_machine.specs.Places.{IsConfig}
 use Rattle.eos_machine.specs.Rest.{producer_id}
-use Rattle.eos_logs.specs.Batches.{event_of, record_after, batch_of}
-use Rattle.eos_logs.specs.steps.Joined.{AreJoined}
-use Rattle.eos_logs.specs.Fitting.{IsFit}
-use Rattle.eos_logs.proofs.BatchSizes.{batch_short}
+use Rattle.eos_machine.specs.Batches.{event_of, record_after, batch_of}
+use Rattle.eos_machine.specs.steps.Joined.{AreJoined}
+use Rattle.eos_machine.specs.Fitting.{IsFit}
+use Rattle.eos_machine.proofs.BatchSizes.{batch_short}
 
 plain : (c : Config) (o : ℕ) (x : Item) (ys : List Item) → is_compressed (batch_of c o x ys).attributes ≡ false
 plain c o (Fed n) ys = refl

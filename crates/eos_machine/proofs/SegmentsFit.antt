@@ -8,10 +8,10 @@ use Rattle.eos_machine.specs.declared.config.Config.{Config}
 use Rattle.eos_machine.specs.declared.item.Item.{Item}
 use Rattle.eos_machine.specs.Places.{IsConfig, place_count}
 use Rattle.eos_machine.specs.World.{World, log_at}
-use Rattle.eos_logs.specs.Evidences.{segment_count, part_at, segment_at, HasRoomForAll}
-use Rattle.eos_logs.specs.Fitting.{IsFit}
-use Rattle.eos_logs.specs.steps.Writable.{total}
-use Rattle.eos_logs.proofs.BatchSizes.{texts_short}
+use Rattle.eos_machine.specs.Evidences.{segment_count, part_at, segment_at, HasRoomForAll}
+use Rattle.eos_machine.specs.Fitting.{IsFit}
+use Rattle.eos_machine.specs.steps.Writable.{total}
+use Rattle.eos_machine.proofs.BatchSizes.{texts_short}
 
 -- ---- none is too long
 

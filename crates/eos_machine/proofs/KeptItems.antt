@@ -34,8 +34,8 @@ use Rattle.eos_machine.specs.Formed.{Names, IsOfOne, IsFormed}
 use Rattle.eos_machine.proofs.Brokers.{is_lt, not_lt}
 use Rattle.eos_machine.proofs.Written.{written_there, source_there}
 use Rattle.eos_machine.proofs.FormedEvents.{NamesIf, message_at}
-use Rattle.eos_logs.specs.steps.Writable.{total}
-use Rattle.eos_logs.proofs.ListedPlaces.{AreListed, listed_filter, listed_more, none_listed}
+use Rattle.eos_machine.specs.steps.Writable.{total}
+use Rattle.eos_machine.proofs.ListedPlaces.{AreListed, listed_filter, listed_more, none_listed}
 
 -- P is what holds of the claims' topics
 abbrev pub KeptItem : (List ℕ → Type 0) → Config → Item → Type 0

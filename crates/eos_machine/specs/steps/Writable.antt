@@ -5,8 +5,8 @@ use Rattle.eos_machine.specs.declared.config.Config.{Config}
 use Rattle.eos_machine.specs.declared.item.Item.{Item}
 use Rattle.eos_machine.specs.Places.{IsConfig}
 use Rattle.eos_machine.specs.World.{World, log_at}
-use Rattle.eos_logs.specs.Evidences.{HasRoomForAll}
-use Rattle.eos_logs.specs.Fitting.{IsFit}
+use Rattle.eos_machine.specs.Evidences.{HasRoomForAll}
+use Rattle.eos_machine.specs.Fitting.{IsFit}
 
 -- how many items stand in all logs
 abbrev pub total : List (List Item) → ℕ

@@ -1,4 +1,0 @@
--- What only private functions promise: steps towards what the public calls say.
-pub mod Writable
-pub mod Fits
-pub mod Joined
