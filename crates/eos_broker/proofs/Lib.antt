@@ -1,2 +1,3 @@
 pub mod StateOfLog
 pub mod KeptInOrder
+pub mod Rooms

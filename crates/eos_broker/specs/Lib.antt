@@ -1,2 +1,4 @@
 pub mod Kept
 pub mod steps
+pub mod Held
+pub mod Named

@@ -1,2 +1,5 @@
 -- What only private functions promise: steps towards what the public calls say.
 pub mod Kept
+pub mod Proper
+pub mod Listing
+pub mod Named

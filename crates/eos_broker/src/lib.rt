@@ -3,9 +3,16 @@
 //! batch that it appends.
 #![tactic(auto)]
 
+pub mod answers;
+pub mod copies;
 pub mod laws;
 mod partition_log;
+pub mod places;
 mod producer;
+mod store;
 
 pub use partition_log::PartitionLog;
 pub use producer::{is_epoch, is_not_above, next_sequence};
+pub use store::clients::sequence_of;
+pub use store::coordinators::{Step, state_of};
+pub use store::{Store, fresh};

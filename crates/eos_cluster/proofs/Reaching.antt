@@ -33,11 +33,11 @@ use Rattle.eos_machine.specs.Evidences.{IsEvidenceOf, HasRoomForAll}
 use Rattle.eos_machine.specs.steps.Writable.{IsWritable}
 use Rattle.eos_machine.proofs.ReachedItems.{writable}
 use Rattle.eos_machine.specs.Schedules.{IsOfSchedule}
-use Rattle.eos_store.specs.steps.Proper.{IsProper}
+use Rattle.eos_broker.specs.steps.Proper.{IsProper}
 use Rattle.eos_cluster.specs.Courses.{Course, IsTaken, IsTakenUnder, UnlessMemory, IsStep, IsStepUnder, IsCounted as IsCountedStep, IsReached, IsReachedUnder}
-use Rattle.eos_store.specs.Named.{IsNamed, IsSmall}
-use Rattle.eos_store.specs.steps.Named.{Needs}
-use Rattle.eos_store.specs.Held.{Held, becomes}
+use Rattle.eos_broker.specs.Named.{IsNamed, IsSmall}
+use Rattle.eos_broker.specs.steps.Named.{Needs}
+use Rattle.eos_broker.specs.Held.{Held, becomes}
 
 -- ---- what holds
 

@@ -20,7 +20,7 @@ use Rattle.eos_machine.specs.Answers.{Answer, when}
 use Rattle.eos_machine.specs.Sessions.{resume_ended, produce, commit_offset, end_session, resume, fetch}
 use Rattle.eos_machine.specs.Deliveries.{appended, fenced, deliver}
 use Rattle.eos_machine.specs.Machine.{start_session, happens_under}
-use Rattle.eos_store.specs.steps.Proper.{IsProper}
+use Rattle.eos_broker.specs.steps.Proper.{IsProper}
 
 abbrev IsProperAnswer : Answer → Type 0
 IsProperAnswer x = IsProper x.1

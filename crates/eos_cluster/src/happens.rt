@@ -2,14 +2,14 @@
 
 ghost use Rattle.std.specs.Prelude.{◌≡◌, OnErr, IfOk};
 ghost use Rattle.eos_machine.specs.Machine.{restart_broker, happens_under};
-ghost use Rattle.eos_store.specs.steps.Named.{Needs};
+ghost use Rattle.eos_broker.specs.steps.Named.{Needs};
 
 use bytes::Bytes;
 use eos_deliveries::{deliver, restart};
 use eos_machine::{Event, Reply, Switches};
 use eos_sessions::{commit, end, feed, fetch, produce, resume, start};
-use eos_store::Store;
-use eos_store::places::{is_partition, start_of};
+use eos_broker::Store;
+use eos_broker::places::{is_partition, start_of};
 use std::alloc::AllocError;
 
 /// The broker of a partition restarts: it makes what it holds anew from its log.

@@ -6,8 +6,8 @@ ghost use Rattle.eos_machine.specs.Deliveries.{with_partition};
 ghost use Rattle.eos_deliveries.specs.steps.Taken.{fence, taken, IsFromIf};
 
 use eos_machine::{Item, Reply, Status, Switches};
-use eos_store::answers::is_ongoing;
-use eos_store::{Store, copies};
+use eos_broker::answers::is_ongoing;
+use eos_broker::{Store, copies};
 use std::alloc::AllocError;
 
 /// Data on its way: the number of its message, by which application and at which producer epoch it was sent, and the place

@@ -8,8 +8,8 @@ ghost use Rattle.eos_deliveries.specs.steps.Taken.{ended};
 
 use eos_batch::Kind;
 use eos_machine::{Places, Reply, Status, Switches};
-use eos_store::answers::{is_commit, is_decided, is_next, is_ongoing, is_prepare};
-use eos_store::{Store, copies};
+use eos_broker::answers::{is_commit, is_decided, is_next, is_ongoing, is_prepare};
+use eos_broker::{Store, copies};
 use std::alloc::AllocError;
 
 /// Why the coordinator refuses the end of a transaction, if it does.

@@ -9,9 +9,9 @@ ghost use Rattle.eos_deliveries.specs.steps.Taken.{judged, taken, IsFromIf};
 
 use crate::accept::{Arrival, Request, fence};
 use eos_machine::{Item, Reply, Switches};
-use eos_store::Store;
-use eos_store::answers::is_prepare;
-use eos_store::places::OFFSETS_PLACE;
+use eos_broker::Store;
+use eos_broker::answers::is_prepare;
+use eos_broker::places::OFFSETS_PLACE;
 
 /// An offset that is to be committed for a source of the group, or deleted where it is none, at a generation of the group.
 #[derive(Clone, Copy)]

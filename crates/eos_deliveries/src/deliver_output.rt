@@ -10,10 +10,9 @@ ghost use Rattle.eos_machine.specs.Deliveries.{deliver_output};
 ghost use Rattle.eos_deliveries.specs.steps.Taken.{judged, taken, IsFromIf};
 
 use crate::accept::{Arrival, Request, fence};
-use eos_broker::{is_epoch, next_sequence};
+use eos_broker::{Store, is_epoch, next_sequence};
 use eos_machine::{Claim, Item, Producer, Reply, Switches};
-use eos_store::Store;
-use eos_store::answers::is_prepare;
+use eos_broker::answers::is_prepare;
 use std::alloc::AllocError;
 
 /// A record as a session sends it, but for what it claims.

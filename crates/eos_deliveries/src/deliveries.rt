@@ -5,7 +5,7 @@ ghost use Rattle.eos_machine.specs.Places.{application_count};
 ghost use Rattle.eos_machine.specs.Formed.{Names};
 ghost use Rattle.eos_machine.specs.World.{coord_at};
 ghost use Rattle.eos_machine.specs.Deliveries.{deliver};
-ghost use Rattle.eos_store.specs.Named.{IsNamed};
+ghost use Rattle.eos_broker.specs.Named.{IsNamed};
 ghost use Rattle.eos_deliveries.specs.steps.Taken.{taken, IsData, IsFromIf};
 
 use crate::accept::{Arrival, Request, take_in};
@@ -14,8 +14,8 @@ use crate::deliver_marker::{EndMarker, deliver_marker};
 use crate::deliver_offset::{OffsetCommit, offset_arrival};
 use crate::deliver_output::{SentRecord, output_arrival};
 use eos_machine::{Message, Reply, Switches};
-use eos_store::Store;
-use eos_store::places::{OFFSETS_PLACE, written_place};
+use eos_broker::Store;
+use eos_broker::places::{OFFSETS_PLACE, written_place};
 use std::alloc::AllocError;
 
 /// What becomes of data that arrive: the batch that is appended, or the refusal.

@@ -5,13 +5,13 @@ ghost use Rattle.eos_machine.specs.declared.state.Coordinator.{Coordinator};
 ghost use Rattle.eos_machine.specs.World.{fresh, with_messages};
 ghost use Rattle.eos_machine.specs.Logs.{entries_of, last_state};
 ghost use Rattle.eos_machine.specs.Machine.{reread, due_again, restarted};
-ghost use Rattle.eos_store.specs.Held.{becomes};
+ghost use Rattle.eos_broker.specs.Held.{becomes};
 ghost use Rattle.eos_deliveries.specs.steps.Restarting.{said_by, due_message};
 
 use crate::deliver_marker::EndMarker;
 use eos_machine::{Coordinator, Entry, Item, Message, Status};
-use eos_store::places::txn_place;
-use eos_store::{Store, copies, fresh, state_of};
+use eos_broker::places::txn_place;
+use eos_broker::{Store, copies, fresh, state_of};
 use std::alloc::{AllocError, Global};
 
 /// The last record of an application in a log.

@@ -6,7 +6,7 @@ use Rattle.eos_batch.specs.declared.marker.Kind.{Kind}
 use Rattle.eos_machine.specs.declared.item.Item.{Item}
 use Rattle.eos_sessions.specs.declared.fetches.Fetched.{Fetched}
 use Rattle.eos_sessions.specs.steps.Fetching.{AreEnds, IsFetched}
-use Rattle.eos_store.specs.Named.{IsFrom}
+use Rattle.eos_broker.specs.Named.{IsFrom}
 
 pub back_one : (q n : ℕ) (f g : Fetched) (es ss fs : List (Option Kind)) (log : List Item) (j i : ℕ) (x : Item) → i < length log → x ≡ slice_index_or log i x → j ≡ i + 1 → ss ≡ es → length es ≡ n
     → ((xs : List Item) → IsFrom (length ss) x → AreEnds ss xs → IsFetched q f xs → IsFetched q g (x ∷ xs)) → ((xs : List Item) → AreEnds es xs → AreEnds fs (x ∷ xs))

@@ -15,7 +15,7 @@ use Rattle.eos_machine.specs.Logs.{marks_of, mark_in, unseen, after_mark, produc
 use Rattle.eos_machine.proofs.Worlds.{is_same}
 use Rattle.eos_sessions.specs.declared.fetches.Fetched.{Fetched}
 use Rattle.eos_sessions.specs.steps.Fetching.{AreEnds, IsFetched, IsThere, IsSettled, IsNotOf, HasNone}
-use Rattle.eos_store.specs.Named.{IsFrom}
+use Rattle.eos_broker.specs.Named.{IsFrom}
 
 -- ---- an application whose producer id has no data has no offset
 

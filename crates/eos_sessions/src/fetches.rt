@@ -7,12 +7,12 @@ ghost use Rattle.eos_machine.specs.World.{log_at};
 ghost use Rattle.eos_machine.specs.Logs.{begins_at};
 ghost use Rattle.eos_machine.specs.Sessions.{fetch};
 ghost use Rattle.eos_sessions.specs.steps.Fetching.{AreEnds, IsFetched, IsSettled};
-ghost use Rattle.eos_store.specs.Named.{IsFrom};
+ghost use Rattle.eos_broker.specs.Named.{IsFrom};
 
 use eos_batch::Kind;
 use eos_machine::{Item, Reply};
-use eos_store::Store;
-use eos_store::places::{OFFSETS_PLACE, is_source};
+use eos_broker::Store;
+use eos_broker::places::{OFFSETS_PLACE, is_source};
 use std::alloc::{AllocError, Global};
 
 /// What the log of the offsets says of a source.

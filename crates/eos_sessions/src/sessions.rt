@@ -5,14 +5,14 @@ ghost use Rattle.std.specs.List.{list_any};
 ghost use Rattle.eos_machine.specs.World.{coord_at};
 ghost use Rattle.eos_machine.specs.Tests.{is_active, is_commit, is_prepare, is_complete};
 ghost use Rattle.eos_machine.specs.Sessions.{claimed_topic, produce, commit_offset, commit, is_missing, end_session, resume};
-ghost use Rattle.eos_store.specs.Named.{IsSmall};
+ghost use Rattle.eos_broker.specs.Named.{IsSmall};
 
 use crate::starts::LAST_EPOCH;
 use eos_batch::Kind;
 use eos_machine::{Claim, Config, Message, Reply, Session};
-use eos_store::answers::{is_commit, is_complete, is_next, is_prepare};
-use eos_store::places::is_source;
-use eos_store::{Store, copies, sequence_of};
+use eos_broker::answers::{is_commit, is_complete, is_next, is_prepare};
+use eos_broker::places::is_source;
+use eos_broker::{Store, copies, sequence_of};
 use std::alloc::AllocError;
 
 /// The most bytes that a topic's name has.

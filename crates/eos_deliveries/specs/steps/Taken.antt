@@ -12,7 +12,7 @@ use Rattle.eos_machine.specs.declared.event.Reply.TheVariants.{Done, Fenced}
 use Rattle.eos_machine.specs.Answers.{Answer, when}
 use Rattle.eos_machine.specs.Deliveries.{appended, accept, without, ticked}
 use Rattle.eos_machine.specs.Tests.{is_nil, ongoing_partitions}
-use Rattle.eos_store.specs.Named.{IsFrom}
+use Rattle.eos_broker.specs.Named.{IsFrom}
 use Rattle.eos_deliveries.specs.declared.accept.Request.{Request}
 use Rattle.eos_deliveries.specs.declared.accept.Arrival.{Arrival}
 

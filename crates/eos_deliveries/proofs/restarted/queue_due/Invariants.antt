@@ -1,6 +1,6 @@
 use Rattle.std.proofs.Common.{◌≡◌, map, take}
 use Rattle.eos_machine.specs.World.{with_messages}
-use Rattle.eos_store.specs.Held.{becomes}
+use Rattle.eos_broker.specs.Held.{becomes}
 use Rattle.eos_deliveries.specs.steps.Restarting.{due_message}
 use Rattle.eos_deliveries.proofs.restarted.queue_due.Given as goal
 

@@ -1,6 +1,0 @@
-use Rattle.std.proofs.Common.{◌≡◌, replicate}
-use Rattle.eos_machine.specs.World.{fresh}
-use Rattle.eos_store.proofs.store.Store.new.Given as goal
-
-abbrev pub invariant-loop : goal.invariant-loop
-invariant-loop l = l.coordinators.items ≡ replicate l.counter fresh

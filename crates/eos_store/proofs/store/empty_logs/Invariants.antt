@@ -1,7 +1,0 @@
-use Rattle.std.proofs.Common.{◌≡◌, replicate, []}
-use Rattle.std.specs.List.{All}
-use Rattle.eos_store.specs.Held.{IsKeptFor, items_of}
-use Rattle.eos_store.proofs.store.empty_logs.Given as goal
-
-abbrev pub invariant-loop : goal.invariant-loop
-invariant-loop l = (items_of l.logs.items ≡ replicate l.counter []) × All (IsKeptFor l.applications 0) l.logs.items
