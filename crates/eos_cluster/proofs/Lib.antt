@@ -2,3 +2,6 @@ pub mod AllLogs
 pub mod Openings
 pub mod Reaching
 pub mod Replies
+pub mod Backward
+pub mod Settled
+pub mod Ranges

@@ -5,9 +5,8 @@ ghost use Rattle.eos_machine.specs.Machine.{restart_broker, happens_under};
 ghost use Rattle.eos_broker.specs.steps.Named.{Needs};
 
 use bytes::Bytes;
-use eos_deliveries::{deliver, restart};
+use crate::{commit, deliver, end, feed, fetch, produce, restart, resume, start};
 use eos_machine::{Event, Reply, Switches};
-use eos_sessions::{commit, end, feed, fetch, produce, resume, start};
 use eos_broker::Store;
 use eos_broker::places::{is_partition, start_of};
 use std::alloc::AllocError;

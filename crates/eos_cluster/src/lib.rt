@@ -2,10 +2,25 @@
 //! them, in one process and with no clock. Each event does what the machine's definitions say under the switches that are set.
 #![tactic(auto)]
 
+mod accept;
 mod cluster;
+mod deliver_end;
+mod deliver_marker;
+mod deliver_offset;
+mod deliver_output;
+mod deliveries;
 mod evidence;
+mod fetches;
 mod happens;
+mod restarted;
+mod sessions;
+mod starts;
 
 pub use cluster::{Cluster, MAX_EVENTS, NewFault};
+pub use deliveries::deliver;
 pub use eos_machine::{Claim, Config, Event, Reply, Switch, Switches};
 pub use evidence::EvidenceRefusal;
+pub use fetches::fetch;
+pub use restarted::restart;
+pub use sessions::{commit, end, produce, resume};
+pub use starts::{feed, start};

@@ -1,5 +1,5 @@
 use Rattle.eos_machine.specs.Evidences.{end_of}
-use Rattle.eos_deliveries.proofs.Ranges.{map_more}
+use Rattle.eos_cluster.proofs.Ranges.{map_more}
 use Rattle.eos_cluster.proofs.evidence.ends.Goals as goal
 
 pub loop-place-preserved : goal.loop-place-preserved

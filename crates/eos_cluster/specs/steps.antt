@@ -1,0 +1,3 @@
+pub mod Fetching
+pub mod Taken
+pub mod Restarting

@@ -1,0 +1,109 @@
+//! The transaction coordinator restarts: it reads its states from the log again.
+
+ghost use Rattle.std.specs.Prelude.{◌≡◌, ◌++◌, ◌≤◌, length, map, OnOk, OnErr, IfOk};
+ghost use Rattle.eos_machine.specs.declared.state.Coordinator.{Coordinator};
+ghost use Rattle.eos_machine.specs.World.{fresh, with_messages};
+ghost use Rattle.eos_machine.specs.Logs.{entries_of, last_state};
+ghost use Rattle.eos_machine.specs.Machine.{reread, due_again, restarted};
+ghost use Rattle.eos_broker.specs.Held.{becomes};
+ghost use Rattle.eos_cluster.specs.steps.Restarting.{said_by, due_message};
+
+use crate::deliver_marker::EndMarker;
+use eos_machine::{Coordinator, Entry, Item, Message, Status};
+use eos_broker::places::txn_place;
+use eos_broker::{Store, copies, fresh, state_of};
+use std::alloc::{AllocError, Global};
+
+/// The last record of an application in a log.
+fn last_entry(log: &[Item], application: usize) -> Option<&Entry>
+    ensures { (s : Coordinator) → last_state s (entries_of application log.now) ≡ said_by result s }
+{
+    let mut last = None;
+    for i in (0..log.len()).rev() {
+        match &log[i] {
+            Item::State {
+                application: other,
+                entry,
+                ..
+            } => {
+                if *other == application && last.is_none() {
+                    last = Some(entry);
+                }
+            }
+            Item::Fed { .. } | Item::Output { .. } | Item::Offset { .. } | Item::Marker { .. } => {}
+        }
+    }
+    last
+}
+
+/// The state that a record leaves, if there is one.
+fn state_said(alloc: Global, found: Option<&Entry>) -> Result<Coordinator, AllocError>
+    ensures { IfOk result (λ s. s ≡ said_by found.entry fresh) }
+{
+    match found {
+        Some(entry) => state_of(entry.status, entry.epoch, copies::copy(&entry.partitions)?),
+        None => Ok(fresh(alloc)),
+    }
+}
+
+/// Adds the end markers that a state waits for.
+fn push_due(
+    due: &mut Vec<EndMarker>,
+    application: usize,
+    state: &Coordinator,
+) -> Result<(), AllocError>
+    ensures { OnOk result (map due_message due.new.items ≡ map due_message due.old.items ++ due_again state.now.status application state.now.epoch state.now.partitions) }
+{
+    if let Status::Prepare(kind) = state.status {
+        for place in state.partitions.as_slice() {
+            due.push(EndMarker {
+                application,
+                epoch: state.epoch,
+                kind,
+                place: *place,
+            })?;
+        }
+    }
+    Ok(())
+}
+
+fn reread(store: &Store, application: usize) -> Result<Coordinator, AllocError>
+    ensures { IfOk result (λ s. s ≡ reread store.now.config store.now.world application) }
+{
+    let place = txn_place(store.config(), application);
+    state_said(store.alloc(), last_entry(store.log(place), application))
+}
+
+fn queue_due(store: &mut Store, due: &[EndMarker])
+    requires { length due.now ≤ store.old.spare }
+    ensures { store.new ≡ becomes store.old (with_messages store.old.world (map due_message due.now)) (length due.now) }
+{
+    for marker in due {
+        store.queue(Message::Marker {
+            application: marker.application,
+            epoch: marker.epoch,
+            kind: marker.kind,
+            place: marker.place,
+        });
+    }
+}
+
+/// The states are read from the logs, and the end markers of prepared ones are queued again.
+pub fn restart(store: &mut Store) -> Result<(), AllocError>
+    ensures ok { OnOk result (store.new.world ≡ restarted store.old.config store.old.world) }
+    ensures err { OnErr result (store.new.world ≡ store.old.world) }
+    ensures config { store.new.config ≡ store.old.config }
+{
+    let alloc = store.alloc();
+    let mut states = Vec::new(alloc);
+    let mut due = Vec::new(alloc);
+    for application in 0..store.coordinator_count() {
+        let state = reread(store, application)?;
+        push_due(&mut due, application, &state)?;
+        states.push(state)?;
+    }
+    store.make_room(due.len())?;
+    queue_due(store, due.as_slice());
+    store.replace_coordinators(states);
+    Ok(())
+}
