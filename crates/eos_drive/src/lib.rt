@@ -4,8 +4,37 @@
 //! afterwards, and the history of a shared cluster is its replay.
 #![tactic(auto)]
 
+mod deed;
+mod driver;
+mod history;
+mod history_whole;
+mod instance;
+mod mishap;
+mod mishaps;
+mod network;
+mod plan;
+mod rates;
+mod reader;
+mod request;
+mod run;
+mod script;
+mod scripted;
+mod settings;
+mod settle;
+mod shared;
+mod tail;
+mod tally;
 mod threads;
 
-pub use eos_history::{Call, Called, Entries, Entry, Finished, Pass, Shared};
-pub use eos_scripts::{Script, run_script, run_tail};
+pub use deed::{Deed, Note};
+pub use history::History;
+pub use history_whole::{Call, Called, Entries, Entry, Finished};
+pub use mishap::{ChosenMishap, Input, Mishap};
+pub use rates::Rates;
+pub use script::Script;
+pub use scripted::{run_kept, run_script, run_with};
+pub use settings::{Settings, Turning};
+pub use shared::{Pass, Shared};
+pub use tail::{run_tail, run_tail_kept};
+pub use tally::Tally;
 pub use threads::run_threads;

@@ -1,13 +1,12 @@
 //! Scripts that many threads give to one shared cluster at once.
 
 ghost use Rattle.std.specs.Prelude.{◌≡◌, true, vec_len, IfOk};
-ghost use Rattle.eos_history.specs.Replay.{IsReplay};
+ghost use Rattle.eos_drive.specs.Replay.{IsReplay};
 
 use bytes::Bytes;
 use eos_batch::Kind;
-use eos_history::{Finished, Pass, Shared};
+use crate::{Finished, Pass, Script, Shared};
 use eos_machine::{Claim, Event};
-use eos_scripts::Script;
 use std::alloc::{AllocError, Global};
 use std::sync::Wait;
 use std::sync::ledger::Ledger;

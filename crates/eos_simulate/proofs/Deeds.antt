@@ -8,10 +8,10 @@ use Rattle.eos_machine.specs.declared.switches.Switches.{Switches}
 use Rattle.eos_machine.specs.declared.event.Event.{Event}
 use Rattle.eos_machine.specs.declared.event.Reply.{Reply}
 use Rattle.eos_cluster.specs.Courses.{Course}
-use Rattle.eos_scripts.specs.declared.deed.Deed.{Deed}
-use Rattle.eos_scripts.specs.declared.deed.Deed.TheVariants as done
-use Rattle.eos_scripts.specs.declared.deed.Note.{Note}
-use Rattle.eos_scripts.specs.Driven.{is_taken, recorded, IsKept}
+use Rattle.eos_drive.specs.declared.deed.Deed.{Deed}
+use Rattle.eos_drive.specs.declared.deed.Deed.TheVariants as done
+use Rattle.eos_drive.specs.declared.deed.Note.{Note}
+use Rattle.eos_drive.specs.Driven.{is_taken, recorded, IsKept}
 use Rattle.eos_history_lines.specs.declared.line.Deed.{Deed as SaidDeed}
 use Rattle.eos_history_lines.specs.declared.line.Deed.TheVariants as said
 use Rattle.eos_history_lines.specs.declared.line.Note.{Note as SaidNote}
@@ -21,8 +21,8 @@ use Rattle.eos_simulate.specs.declared.replaying.ReplayFault.TheVariants.{NotAtR
 use Rattle.eos_simulate.specs.Histories.{note_of, act_said, acts_of, acts_said, reply_said, Agrees, IsAsSaid}
 use Rattle.eos_simulate.specs.Replays.{DiffersFirst, IfOtherwise}
 use Rattle.eos_simulate.specs.steps.Passing.{HavePassed, HasPassed, IsNoted, HasDiffered, DiffersAfter, IsOther}
-use Rattle.eos_scripts.proofs.OneAfterAnother as deeds
-use Rattle.eos_scripts.proofs.MoreDeeds as more
+use Rattle.eos_drive.proofs.OneAfterAnother as deeds
+use Rattle.eos_drive.proofs.MoreDeeds as more
 
 pub kept_on : (s t u : Course) (before now after : List Deed) → IsKept s before t now → IsKept t now u after → IsKept s before u after
 kept_on = deeds.kept_on

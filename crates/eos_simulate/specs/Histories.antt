@@ -9,12 +9,12 @@ use Rattle.eos_machine.specs.Switching.{none, any_on}
 use Rattle.eos_machine.specs.World.{opening}
 use Rattle.eos_cluster.specs.Courses.{Course}
 use Rattle.eos_machine.specs.Evidences.{IsEvidenceOf}
-use Rattle.eos_scripts.specs.declared.deed.Deed.{Deed}
-use Rattle.eos_scripts.specs.declared.deed.Deed.TheVariants as done
-use Rattle.eos_scripts.specs.declared.deed.Note.{Note}
-use Rattle.eos_scripts.specs.declared.deed.Note.TheVariants as notes
-use Rattle.eos_scripts.specs.Driven.{Leads}
-use Rattle.eos_scripts.specs.Totals.{is_event, is_loss, is_repetition}
+use Rattle.eos_drive.specs.declared.deed.Deed.{Deed}
+use Rattle.eos_drive.specs.declared.deed.Deed.TheVariants as done
+use Rattle.eos_drive.specs.declared.deed.Note.{Note}
+use Rattle.eos_drive.specs.declared.deed.Note.TheVariants as notes
+use Rattle.eos_drive.specs.Driven.{Leads}
+use Rattle.eos_drive.specs.Totals.{is_event, is_loss, is_repetition}
 use Rattle.eos_history_lines.specs.declared.line.Deed.{Deed as SaidDeed}
 use Rattle.eos_history_lines.specs.declared.line.Deed.TheVariants as said
 use Rattle.eos_history_lines.specs.declared.line.Note.{Note as SaidNote}

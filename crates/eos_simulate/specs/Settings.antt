@@ -9,7 +9,7 @@ use Rattle.eos_machine.specs.declared.switches.Switch.{Switch}
 use Rattle.eos_machine.specs.declared.switches.Switch.TheVariants.{KeepDuplicates, NoFence, NoBump, LoseMarker, SwapMarker, HideListing, IgnoreGeneration}
 use Rattle.eos_machine.specs.declared.switches.Switches.{Switches}
 use Rattle.eos_machine.specs.Switching.{switch_name}
-use Rattle.eos_scripts.specs.declared.rates.Rates.{Rates}
+use Rattle.eos_drive.specs.declared.rates.Rates.{Rates}
 
 -- sizes that aren't said are two of everything, one transaction log, sixteen records a segment, one a batch
 abbrev pub config_said : Sizes → Config

@@ -8,7 +8,7 @@ use crate::making::SimulationFault;
 use eos_cluster::{Switch, Switches};
 use eos_history_lines::Head;
 use eos_machine::Config;
-use eos_scripts::{ChosenMishap, Mishap, Rates, Settings, Turning};
+use eos_drive::{ChosenMishap, Mishap, Rates, Settings, Turning};
 use eos_words::{Simulation, Sizes, Thousandths};
 use std::alloc::Global;
 

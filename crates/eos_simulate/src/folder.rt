@@ -10,7 +10,7 @@ use eos_disk::{Cause, ChangeFault, DiskMut, HostDisk, HostFile, WritingFault, Wr
 use eos_ending::{Ending, STANDARD, end, end_unchanged, leave_file, make_file};
 use eos_evidence::Evidence;
 use eos_history_lines::Schedule;
-use eos_scripts::History;
+use eos_drive::History;
 use eos_words::Simulation;
 use std::io;
 

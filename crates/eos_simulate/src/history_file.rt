@@ -5,7 +5,7 @@ ghost use Rattle.eos_simulate.specs.Histories.{act_of, note_of, reply_of, act_sa
 
 use bytes::Bytes;
 use eos_history_lines::{Deed, Head, Line, Note, Tail, head_text, line_text, tail_text};
-use eos_scripts::History;
+use eos_drive::History;
 use std::alloc::{AllocError, Global};
 
 /// The lines of a history that began with a new cluster: what it was, what was done to it, and the totals.
@@ -43,38 +43,38 @@ pub(crate) fn totals(alloc: Global, history: &History) -> Result<Tail, AllocErro
 }
 
 /// What a line says of what was done.
-fn said(deed: &eos_scripts::Deed) -> Result<Deed, AllocError>
+fn said(deed: &eos_drive::Deed) -> Result<Deed, AllocError>
     ensures act { IfOk result (λ said. act_said said ≡ act_of deed.now) }
     ensures reply { IfOk result (λ said. reply_said said ≡ reply_of deed.now) }
 {
     match deed {
-        eos_scripts::Deed::Asked { event, reply } => Ok(Deed::Asked {
+        eos_drive::Deed::Asked { event, reply } => Ok(Deed::Asked {
             event: event.clone()?,
             reply: Some(*reply),
         }),
-        eos_scripts::Deed::Set(switches) => Ok(Deed::Set(*switches)),
-        eos_scripts::Deed::Noted(note) => Ok(Deed::Noted(said_note(note)?)),
+        eos_drive::Deed::Set(switches) => Ok(Deed::Set(*switches)),
+        eos_drive::Deed::Noted(note) => Ok(Deed::Noted(said_note(note)?)),
     }
 }
 
-fn said_note(note: &eos_scripts::Note) -> Result<Note, AllocError>
+fn said_note(note: &eos_drive::Note) -> Result<Note, AllocError>
     ensures { IfOk result (λ said. said ≡ note_of note.now) }
 {
     match note {
-        eos_scripts::Note::Lost(message) => Ok(Note::Lost(*message)),
-        eos_scripts::Note::Repeated(message) => Ok(Note::Repeated(*message)),
-        eos_scripts::Note::Erred(mishap) => Ok(Note::Erred(copy(mishap)?)),
+        eos_drive::Note::Lost(message) => Ok(Note::Lost(*message)),
+        eos_drive::Note::Repeated(message) => Ok(Note::Repeated(*message)),
+        eos_drive::Note::Erred(mishap) => Ok(Note::Erred(copy(mishap)?)),
     }
 }
 
 /// What is noted where a line says so.
-pub(crate) fn noted_of(note: &Note) -> Result<eos_scripts::Note, AllocError>
+pub(crate) fn noted_of(note: &Note) -> Result<eos_drive::Note, AllocError>
     ensures { IfOk result (λ noted. note_of noted ≡ note.now) }
 {
     match note {
-        Note::Lost(message) => Ok(eos_scripts::Note::Lost(*message)),
-        Note::Repeated(message) => Ok(eos_scripts::Note::Repeated(*message)),
-        Note::Erred(mishap) => Ok(eos_scripts::Note::Erred(copy(mishap)?)),
+        Note::Lost(message) => Ok(eos_drive::Note::Lost(*message)),
+        Note::Repeated(message) => Ok(eos_drive::Note::Repeated(*message)),
+        Note::Erred(mishap) => Ok(eos_drive::Note::Erred(copy(mishap)?)),
     }
 }
 

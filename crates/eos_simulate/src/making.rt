@@ -14,7 +14,7 @@ ghost use Rattle.eos_simulate.specs.declared.making.SimulationFault.TheVariants.
 use eos_cluster::{Cluster, EvidenceRefusal, NewFault};
 use eos_evidence::Evidence;
 use eos_machine::Config;
-use eos_scripts::Mishap;
+use eos_drive::Mishap;
 use eos_segment::RunFault;
 use eos_text::{finish, push_text, push_value};
 use std::alloc::{AllocError, AllocFailed, Global};

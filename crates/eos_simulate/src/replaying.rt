@@ -3,8 +3,8 @@
 ghost use Rattle.std.specs.Prelude.{◌≡◌, ◌≢◌, ◌++◌, ◌∷◌, [], true, false, Some, IfOk, IfErr, IfSome, IsSome, OnOk, OnErr};
 ghost use Rattle.std.specs.List.{AllZip};
 ghost use Rattle.eos_history_lines.specs.declared.line.Deed.TheVariants.{Asked};
-ghost use Rattle.eos_scripts.specs.declared.deed.Deed.TheVariants as deeds;
-ghost use Rattle.eos_scripts.specs.Driven.{is_taken, IsKept};
+ghost use Rattle.eos_drive.specs.declared.deed.Deed.TheVariants as deeds;
+ghost use Rattle.eos_drive.specs.Driven.{is_taken, IsKept};
 ghost use Rattle.eos_simulate.specs.declared.replaying.ReplayFault.TheVariants.{OutOfMemory};
 ghost use Rattle.eos_simulate.specs.Histories.{new_course, acts_of, acts_said, IsLeftBy, Agrees, IsAsSaid, FitsTotals};
 ghost use Rattle.eos_simulate.specs.Replays.{IfOtherwise, DiffersFirst};
@@ -16,7 +16,7 @@ use eos_cluster::Cluster;
 use eos_evidence::Evidence;
 use eos_history_lines::{Deed, Line, Note, Schedule, Tail};
 use eos_machine::{Event, Reply};
-use eos_scripts::History;
+use eos_drive::History;
 use std::alloc::{AllocError, AllocFailed, Global};
 
 /// Why a schedule leaves no evidence.

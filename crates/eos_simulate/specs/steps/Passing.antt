@@ -3,10 +3,10 @@ use Rattle.std.specs.Prelude.{◌≡◌, ◌≢◌, ⊤, List, [], ◌∷◌, �
 use Rattle.std.specs.List.{AllZip}
 use Rattle.eos_machine.specs.declared.event.Event.{Event}
 use Rattle.eos_machine.specs.declared.event.Reply.{Reply}
-use Rattle.eos_scripts.specs.declared.deed.Deed.{Deed}
-use Rattle.eos_scripts.specs.declared.deed.Deed.TheVariants as done
+use Rattle.eos_drive.specs.declared.deed.Deed.{Deed}
+use Rattle.eos_drive.specs.declared.deed.Deed.TheVariants as done
 use Rattle.eos_history_lines.specs.declared.line.Deed.TheVariants as said
-use Rattle.eos_scripts.specs.declared.deed.Note.{Note}
+use Rattle.eos_drive.specs.declared.deed.Note.{Note}
 use Rattle.eos_history_lines.specs.declared.line.Note.{Note as SaidNote}
 use Rattle.eos_history_lines.specs.declared.line.Line.{Line}
 use Rattle.eos_simulate.specs.declared.replaying.ReplayFault.{ReplayFault}

@@ -1,5 +1,5 @@
 -- What was done so far is kept.
-use Rattle.eos_scripts.specs.Driven.{IsKept}
+use Rattle.eos_drive.specs.Driven.{IsKept}
 use Rattle.eos_simulate.proofs.kept.show.Given as goal
 
 abbrev pub invariant-loop-switch : goal.invariant-loop-switch

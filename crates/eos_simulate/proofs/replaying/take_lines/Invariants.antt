@@ -1,6 +1,6 @@
 -- What was done so far is kept, and is what the lines said that were passed.
 use Rattle.std.proofs.Common.{take}
-use Rattle.eos_scripts.specs.Driven.{IsKept}
+use Rattle.eos_drive.specs.Driven.{IsKept}
 use Rattle.eos_simulate.specs.steps.Passing.{HavePassed}
 use Rattle.eos_simulate.proofs.replaying.take_lines.Given as goal
 

@@ -1,0 +1,5 @@
+use Rattle.eos_drive.specs.steps.Drives.{HasAsked}
+use Rattle.eos_drive.proofs.settle.finish.Given as goal
+
+abbrev pub invariant-loop : goal.invariant-loop
+invariant-loop l = HasAsked l.fn.cluster l.fn.driver l.cluster l.driver

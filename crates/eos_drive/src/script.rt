@@ -1,0 +1,50 @@
+//! Scripts: words that say what happens in a run.
+
+ghost use Rattle.std.specs.Prelude.{◌≡◌, IfOk};
+ghost use Rattle.eos_drive.specs.Words.{words_from, seeded};
+
+use rand_core::SeedableRng;
+use rand_core::utils::NextWord;
+use rand_pcg::Lcg64Xsh32;
+use std::alloc::{AllocError, Global};
+use std::marker::Model;
+
+/// A list of words of 32 bits, which contracts see as that list.
+#[derive(Debug, Drop)]
+pub struct Script {
+    words: Vec<u32>,
+}
+
+impl Model for Script {
+    ghost use Rattle.std.specs.Prelude.{ℕ, List};
+
+    ghost Value = { List ℕ };
+
+    ghost view = { λ s. s.words.items };
+}
+
+impl Script {
+    /// The first `length` words of the generator PCG XSH RR 64/32 (`Lcg64Xsh32` of `rand_pcg`) that `seed` gives: the same on
+    /// every machine.
+    ///
+    /// # Errors
+    /// Where a growth was refused.
+    #[tactic(auto, using(crate::proofs::Drawing::words_more, crate::proofs::Drawing::after_more))]
+    pub fn from_seed(alloc: Global, seed: u64, length: u64) -> Result<Script, AllocError>
+        ensures { IfOk result (λ s. s ≡ words_from length (seeded seed)) }
+    {
+        let mut generator = Lcg64Xsh32::seed_from_u64(seed);
+        let mut words = Vec::new(alloc);
+        for _ in 0..length {
+            words.push(generator.next_word())?;
+        }
+        Ok(Script { words })
+    }
+
+    /// Its words, in order.
+    pub fn words(&self) -> &[u32]
+        ensures { result.now ≡ self.now }
+    {
+        self.words.as_slice()
+    }
+}

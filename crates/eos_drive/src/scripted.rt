@@ -1,0 +1,125 @@
+//! A run by a script, from its first word to its end.
+
+ghost use Rattle.std.specs.Prelude.{◌≡◌, None};
+ghost use Rattle.eos_drive.specs.Driven.{IsDriven, IsKept};
+ghost use Rattle.eos_drive.specs.steps.Drives.{HasDone};
+
+use crate::driver::Driver;
+use crate::history::History;
+use crate::mishap::Mishap;
+use crate::run::Run;
+use crate::script::Script;
+use crate::settings::Settings;
+use crate::settle::settle;
+use eos_cluster::Cluster;
+use std::alloc::{AllocError, Global};
+use std::mem;
+
+/// Drives a cluster by a script. Each word becomes at most one event, by what the run knows of the cluster. The applications read
+/// from their committed offsets, in transactions, and write for the input at offset o of a partition of `in` its o modulo 3
+/// outputs, or one note where that is 0; each transaction commits the offsets after all inputs whose outputs it writes.
+/// The partition p of `in` belongs to the application of number p plus the group's generation, modulo their number.
+/// Where there is a second group, its one application reads the committed records of `out` in the same way, and writes `fin`.
+/// Meanwhile messages are lost and repeated, sessions are abandoned and go on as zombies, transactions are aborted, the members
+/// of the group change, brokers and the coordinator restart. After the last word all inputs that are left are processed
+/// without loss, and the cluster comes to rest, unless it takes no more events or an application's producer epochs are
+/// spent. The same script does the same on every machine.
+///
+/// The cluster is a new one: of inputs and sessions that it had before, the run knows nothing.
+///
+/// # Errors
+/// Where a growth was refused. The cluster has taken some of the events.
+pub fn run_script(alloc: Global, cluster: &mut Cluster, script: &Script) -> Result<(), AllocError>
+    ensures driven { IsDriven cluster.old cluster.new }
+    ensures config { cluster.new.config ≡ cluster.old.config }
+    ensures honest { cluster.new.honest ≡ cluster.old.honest }
+{
+    run_with(alloc, cluster, script, &Settings::today())?;
+    Ok(())
+}
+
+/// The same with other settings. Rates that come to more than 1,000 leave the later ones less. The answer is the first of the
+/// mishaps that didn't happen, since no input suited it, or none came in where it was to.
+///
+/// # Errors
+/// Where a growth was refused. The cluster has taken some of the events.
+pub fn run_with(
+    alloc: Global,
+    cluster: &mut Cluster,
+    script: &Script,
+    settings: &Settings<'_>,
+) -> Result<Option<Mishap>, AllocError>
+    ensures driven { IsDriven cluster.old cluster.new }
+    ensures config { cluster.new.config ≡ cluster.old.config }
+    ensures honest { settings.now.turning ≡ None → cluster.new.honest ≡ cluster.old.honest }
+{
+    let mut driver = Driver::new(cluster, None);
+    let answer = run_driven(alloc, cluster, &mut driver, script, settings);
+    driver.end();
+    answer
+}
+
+/// The same, and appends to a history what is done to the cluster: each event that it takes, with its reply, and each time that
+/// its switches are set.
+///
+/// # Errors
+/// Where a growth was refused, that of the history among them. The cluster has taken some of the events, which are kept.
+pub fn run_kept(
+    alloc: Global,
+    cluster: &mut Cluster,
+    history: &mut History,
+    script: &Script,
+    settings: &Settings<'_>,
+) -> Result<Option<Mishap>, AllocError>
+    ensures kept { IsKept cluster.old history.old cluster.new history.new }
+    ensures config { cluster.new.config ≡ cluster.old.config }
+    ensures honest { settings.now.turning ≡ None → cluster.new.honest ≡ cluster.old.honest }
+{
+    let before = mem::replace(history, History::new(alloc));
+    let mut driver = Driver::new(cluster, Some(before));
+    let answer = run_driven(alloc, cluster, &mut driver, script, settings);
+    driver.give_back(history);
+    answer
+}
+
+fn run_driven(
+    alloc: Global,
+    cluster: &mut Cluster,
+    driver: &mut Driver,
+    script: &Script,
+    settings: &Settings<'_>,
+) -> Result<Option<Mishap>, AllocError>
+    requires { driver.old.course ≡ cluster.old }
+    ensures done { HasDone cluster.old driver.old cluster.new driver.new }
+    ensures honest { settings.now.turning ≡ None → cluster.new.honest ≡ cluster.old.honest }
+{
+    let mut run = Run::new(alloc, cluster, settings)?;
+    let mut number = 0u64;
+    for word in script.words() {
+        turn_on(cluster, driver, settings, number)?;
+        run.take_word(cluster, driver, *word)?;
+        number = number.saturating_add(1);
+    }
+    turn_on(cluster, driver, settings, number)?;
+    settle(&mut run, cluster, driver)?;
+    Ok(run.plan.unmet())
+}
+
+/// Turns the switches on that are to be on after so many words.
+fn turn_on(
+    cluster: &mut Cluster,
+    driver: &mut Driver,
+    settings: &Settings<'_>,
+    number: u64,
+) -> Result<(), AllocError>
+    requires { driver.old.course ≡ cluster.old }
+    ensures done { HasDone cluster.old driver.old cluster.new driver.new }
+    ensures honest { settings.now.turning ≡ None → cluster.new.honest ≡ cluster.old.honest }
+{
+    if let Some(turning) = settings.turning
+        && turning.after == number
+    {
+        driver.set(cluster, turning.switches)?;
+    }
+    Ok(())
+}

@@ -1,0 +1,43 @@
+//! What a run is besides its script.
+
+ghost use Rattle.std.specs.Prelude.{◌≡◌, [], None};
+ghost use Rattle.eos_drive.specs.Rates.{today};
+
+use crate::mishap::ChosenMishap;
+use crate::rates::Rates;
+use eos_cluster::Switches;
+
+/// What a run is besides its script.
+#[derive(Clone, Copy)]
+pub struct Settings<'a> {
+    /// How often what is said.
+    pub rates: Rates,
+    /// Whether the cluster's switches are set inside the script, or right after its last word.
+    pub turning: Option<Turning>,
+    /// The mistakes that the applications make.
+    pub mishaps: &'a [ChosenMishap],
+}
+
+/// That the switches of a cluster are set.
+#[derive(Clone, Copy, Debug, PartialEq, Eq)]
+pub struct Turning {
+    /// After so many words; after more than the script has they never are.
+    pub after: u64,
+    /// What they are set to.
+    pub switches: Switches,
+}
+
+impl<'a> Settings<'a> {
+    /// Today's rates, no switch and no mishap.
+    pub fn today() -> Settings<'a>
+        ensures rates { result.rates ≡ today }
+        ensures turning { result.turning ≡ None }
+        ensures mishaps { result.mishaps.now ≡ [] }
+    {
+        Settings {
+            rates: Rates::TODAY,
+            turning: None,
+            mishaps: &[],
+        }
+    }
+}

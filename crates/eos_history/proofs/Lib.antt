@@ -1,3 +1,0 @@
-pub mod Replaying
-pub mod Agreeing
-pub mod Equal

@@ -1,6 +1,0 @@
-use Rattle.std.proofs.Common.{take}
-use Rattle.eos_history.specs.Replay.{Agree}
-use Rattle.eos_history.proofs.shared.all_agree.Given as goal
-
-abbrev pub invariant-loop-pass : goal.invariant-loop-pass
-invariant-loop-pass g l = Agree l.entries (take l.pass-index l.passes)

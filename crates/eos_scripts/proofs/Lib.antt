@@ -1,4 +1,0 @@
-mod Counted
-pub mod Drawing
-pub mod MoreDeeds
-pub mod OneAfterAnother

@@ -1,5 +1,0 @@
-use Rattle.eos_scripts.specs.steps.Drives.{HasAsked}
-use Rattle.eos_scripts.proofs.settle.begin_each.Given as goal
-
-abbrev pub invariant-loop-number : goal.invariant-loop-number
-invariant-loop-number l = HasAsked l.fn.cluster l.fn.driver l.cluster l.driver

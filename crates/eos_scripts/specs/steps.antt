@@ -1,2 +1,0 @@
--- What only private functions promise: steps towards what the public calls say.
-pub mod Drives
