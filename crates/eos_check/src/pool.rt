@@ -7,9 +7,9 @@ ghost use Rattle.eos_fold.specs.Sums.{IsFit, Follows};
 ghost use Rattle.eos_board.specs.Places.{IsFresh, AreBelow};
 
 use crate::tied_evidence::TiedEvidence;
+use eos_base::Workers;
 use eos_board::{Board, Drawn, Gate, Pieces, Receipt, Seat, Tickets, Tied};
 use eos_evidence::Segment;
-use eos_base::Workers;
 use std::alloc::{AllocError, Global};
 use std::marker::{Model, PhantomData};
 use std::sync::ledger::{Blank, Ledger};

@@ -5,11 +5,11 @@ ghost use Rattle.eos_ending.specs.Subjects.{subject_text};
 ghost use Rattle.eos_checking.specs.Checking.{verdict_answer, list_answer, answer_text};
 
 use crate::terms::Terms;
+use eos_base::Workers;
 use eos_check::{Fault, Verdict};
 use eos_ending::Subject;
 use eos_report::{About, fault_list, fault_list_json, json_line, verdict_line};
 use eos_text::{push_text, push_value};
-use eos_base::Workers;
 use std::alloc::{AllocError, Global};
 
 /// What is asked of a check: by how many workers, and how the outside is told of it.

@@ -12,10 +12,10 @@ use eos_base::Listed;
 use eos_check::{Fault, Verdict};
 use eos_ending::Progress;
 use eos_evidence::Spec;
-use eos_report::{Findings, Times, page_text, report_text};
-use eos_notes::{Counted, all_notes, tallies_of};
 use eos_kept::Logs;
+use eos_notes::{Counted, all_notes, tallies_of};
 use eos_reading::EpochEntry;
+use eos_report::{Findings, Times, page_text, report_text};
 use std::alloc::{AllocError, Global};
 
 /// Who knows how long the stages of a check took. No contract speaks of it.

@@ -5,9 +5,9 @@ ghost use Rattle.eos_machine.specs.Places.{application_count};
 ghost use Rattle.eos_machine.specs.Deliveries.{with_partition};
 ghost use Rattle.eos_cluster.specs.steps.Taken.{fence, taken, IsFromIf};
 
-use eos_machine::{Item, Reply, Status, Switches};
 use eos_broker::answers::is_ongoing;
 use eos_broker::{Store, copies};
+use eos_machine::{Item, Reply, Status, Switches};
 use std::alloc::AllocError;
 
 /// Data on its way: the number of its message, by which application and at which producer epoch it was sent, and the place

@@ -15,11 +15,11 @@ ghost use Rattle.eos_cluster.specs.Courses.{IsStep, IsStepUnder, IsCounted};
 
 use crate::evidence::{EvidenceRefusal, evidence_of};
 use crate::happens::happen;
+use eos_broker::Store;
+use eos_broker::places::output_place;
 use eos_evidence::{Evidence, MAX_SEGMENTS};
 use eos_log_writer::place_count;
 use eos_machine::{Config, Event, Item, Reply, Switches};
-use eos_broker::Store;
-use eos_broker::places::output_place;
 use std::alloc::Global;
 use std::marker::Model;
 use thiserror::Error;

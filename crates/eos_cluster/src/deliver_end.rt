@@ -7,9 +7,9 @@ ghost use Rattle.eos_machine.specs.Deliveries.{deliver_end};
 ghost use Rattle.eos_cluster.specs.steps.Taken.{ended};
 
 use eos_batch::Kind;
-use eos_machine::{Places, Reply, Status, Switches};
 use eos_broker::answers::{is_commit, is_decided, is_next, is_ongoing, is_prepare};
 use eos_broker::{Store, copies};
+use eos_machine::{Places, Reply, Status, Switches};
 use std::alloc::AllocError;
 
 /// Why the coordinator refuses the end of a transaction, if it does.

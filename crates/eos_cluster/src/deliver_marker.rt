@@ -10,10 +10,10 @@ ghost use Rattle.eos_machine.specs.Deliveries.{deliver_marker, marked};
 ghost use Rattle.eos_cluster.specs.steps.Taken.{settled};
 
 use eos_batch::Kind;
-use eos_broker::{Store, copies, is_not_above};
-use eos_machine::{Config, Item, Reply, Status, Switches};
 use eos_broker::answers::waits_for;
 use eos_broker::places::is_odd_output;
+use eos_broker::{Store, copies, is_not_above};
+use eos_machine::{Config, Item, Reply, Status, Switches};
 use std::alloc::AllocError;
 
 /// An end marker on its way to a broker.

@@ -8,10 +8,10 @@ ghost use Rattle.eos_machine.specs.Deliveries.{deliver_offset};
 ghost use Rattle.eos_cluster.specs.steps.Taken.{judged, taken, IsFromIf};
 
 use crate::accept::{Arrival, Request, fence};
-use eos_machine::{Item, Reply, Switches};
 use eos_broker::Store;
 use eos_broker::answers::is_prepare;
 use eos_broker::places::OFFSETS_PLACE;
+use eos_machine::{Item, Reply, Switches};
 
 /// An offset that is to be committed for a source of the group, or deleted where it is none, at a generation of the group.
 #[derive(Clone, Copy)]

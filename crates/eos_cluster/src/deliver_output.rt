@@ -10,9 +10,9 @@ ghost use Rattle.eos_machine.specs.Deliveries.{deliver_output};
 ghost use Rattle.eos_cluster.specs.steps.Taken.{judged, taken, IsFromIf};
 
 use crate::accept::{Arrival, Request, fence};
+use eos_broker::answers::is_prepare;
 use eos_broker::{Store, is_epoch, next_sequence};
 use eos_machine::{Claim, Item, Producer, Reply, Switches};
-use eos_broker::answers::is_prepare;
 use std::alloc::AllocError;
 
 /// A record as a session sends it, but for what it claims.

@@ -13,9 +13,9 @@ use crate::deliver_end::deliver_end;
 use crate::deliver_marker::{EndMarker, deliver_marker};
 use crate::deliver_offset::{OffsetCommit, offset_arrival};
 use crate::deliver_output::{SentRecord, output_arrival};
-use eos_machine::{Message, Reply, Switches};
 use eos_broker::Store;
 use eos_broker::places::{OFFSETS_PLACE, written_place};
+use eos_machine::{Message, Reply, Switches};
 use std::alloc::AllocError;
 
 /// What becomes of data that arrive: the batch that is appended, or the refusal.

@@ -13,9 +13,9 @@ ghost use Rattle.eos_log_writer.specs.declared.segments.LogFault.{LogFault};
 ghost use Rattle.eos_cluster.specs.Names.{evidence_refusal_name};
 
 use eos_base::Listed;
+use eos_broker::Store;
 use eos_evidence::{End, Evidence, EvidenceBuilder, Spec};
 use eos_log_writer::{LogFault, add_log, end_of, groups_of, place_count};
-use eos_broker::Store;
 use std::alloc::AllocError;
 use thiserror::Error;
 

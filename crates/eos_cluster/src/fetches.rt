@@ -10,9 +10,9 @@ ghost use Rattle.eos_cluster.specs.steps.Fetching.{AreEnds, IsFetched, IsSettled
 ghost use Rattle.eos_broker.specs.Named.{IsFrom};
 
 use eos_batch::Kind;
-use eos_machine::{Item, Reply};
 use eos_broker::Store;
 use eos_broker::places::{OFFSETS_PLACE, is_source};
+use eos_machine::{Item, Reply};
 use std::alloc::{AllocError, Global};
 
 /// What the log of the offsets says of a source.

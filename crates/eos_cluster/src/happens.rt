@@ -4,11 +4,11 @@ ghost use Rattle.std.specs.Prelude.{◌≡◌, OnErr, IfOk};
 ghost use Rattle.eos_machine.specs.Machine.{restart_broker, happens_under};
 ghost use Rattle.eos_broker.specs.steps.Named.{Needs};
 
-use bytes::Bytes;
 use crate::{commit, deliver, end, feed, fetch, produce, restart, resume, start};
-use eos_machine::{Event, Reply, Switches};
+use bytes::Bytes;
 use eos_broker::Store;
 use eos_broker::places::{is_partition, start_of};
+use eos_machine::{Event, Reply, Switches};
 use std::alloc::AllocError;
 
 /// The broker of a partition restarts: it makes what it holds anew from its log.

@@ -9,9 +9,9 @@ ghost use Rattle.eos_broker.specs.Held.{becomes};
 ghost use Rattle.eos_cluster.specs.steps.Restarting.{said_by, due_message};
 
 use crate::deliver_marker::EndMarker;
-use eos_machine::{Coordinator, Entry, Item, Message, Status};
 use eos_broker::places::txn_place;
 use eos_broker::{Store, copies, fresh, state_of};
+use eos_machine::{Coordinator, Entry, Item, Message, Status};
 use std::alloc::{AllocError, Global};
 
 /// The last record of an application in a log.

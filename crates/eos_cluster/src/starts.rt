@@ -7,10 +7,10 @@ ghost use Rattle.eos_machine.specs.Machine.{feed, start, start_session};
 
 use eos_base::Listed;
 use eos_batch::Kind;
-use eos_machine::{Item, Reply, Session, Status, Switches};
 use eos_broker::answers::{is_ongoing, is_prepare};
 use eos_broker::places::input_place;
 use eos_broker::{Store, copies};
+use eos_machine::{Item, Reply, Session, Status, Switches};
 use std::alloc::AllocError;
 
 /// The greatest epoch at which a session may work: the end of its transaction takes one more.

@@ -1,1 +1,13 @@
-
+mod AllFolded
+mod Asked
+mod CopiedEnds
+mod FoldersFound
+mod FoldsMore
+mod FoundMore
+mod GivenTexts
+mod Likenesses
+mod ManifestParts
+mod NameSets
+mod Placed
+mod SortCounts
+mod Unmade

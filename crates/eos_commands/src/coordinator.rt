@@ -7,8 +7,8 @@ ghost use Rattle.eos_text.specs.Writing.{WritesFront};
 ghost use Rattle.eos_segment.specs.Running.{IsOfReading};
 
 use crate::init::refuse;
-use eos_ending::{Ending, STANDARD, end};
 use eos_disk::Cause;
+use eos_ending::{Ending, STANDARD, end};
 use eos_manifest::coordinator_lines;
 use eos_segment::RunFault;
 use eos_text::finish;

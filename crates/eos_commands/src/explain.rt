@@ -6,10 +6,10 @@ ghost use Rattle.eos_text.specs.Pages.{page_text};
 ghost use Rattle.eos_text.specs.Writing.{WritesFront};
 ghost use Rattle.eos_segment.specs.Running.{IsOfReading};
 
-use eos_text::{Page, finish, page_of, page_text};
-use eos_ending::{Ending, STANDARD, end};
 use eos_disk::Cause;
+use eos_ending::{Ending, STANDARD, end};
 use eos_segment::RunFault;
+use eos_text::{Page, finish, page_of, page_text};
 use std::alloc::Global;
 use std::io;
 use std::io::Write;

@@ -1,14 +1,14 @@
 //! `fold`: the folds of segments where they lie.
 
+use crate::{FoldGiven, Folded, FoldingFault, fold_folders};
 use eos_disk::{FolderFault, HostDisk};
 use eos_ending::{Ending, STANDARD, Subject, end, end_unchanged, end_unread};
-use crate::{Folded, FoldingFault, Given, fold_folders};
 use eos_words::Fold;
 
 /// Folds the segments of the folders that the words name, says on standard output how many, and gives the exit status.
 #[inline(never)]
 pub fn fold_partitions(rt: &HostRuntime, words: &Fold<'_>) -> u8 {
-    let given = Given {
+    let given = FoldGiven {
         manifest: words.manifest,
         out: words.out,
         folders: words.folders.as_slice(),

@@ -10,21 +10,21 @@ ghost use Rattle.eos_source.specs.Topics.{AreSourceTopics};
 ghost use Rattle.eos_commands.specs.Folding.{item_of, items_in, items_of, AreFoldersAt, IsFoldAt, IsFoldPut, IsFoldLeft, Folded as AreFolded, FoldedInPart};
 ghost use Rattle.eos_commands.specs.declared.folder.PartitionFolder.{PartitionFolder};
 
-use crate::folding_files_fault::FoldingFault;
 use crate::folder::{PartitionFolder, find_folders};
+use crate::folding_files_fault::FoldingFault;
 use crate::folding_files_writing::write_fold;
 use bytes::Bytes;
 use eos_disk::{Disk, DiskMut, FolderFault, NamedFile, open_log, read_manifest, refusal_of};
 use eos_evidence::{App, ReadFault};
 use eos_fold_file::{FoldFile, encode_fold, fold_of};
-use eos_source::source_topics;
 use eos_reading::{Wanted, Wants};
+use eos_source::source_topics;
 use std::alloc::Global;
 use std::io::Read;
 
 /// What is given.
 #[derive(Clone, Copy)]
-pub struct Given<'a> {
+pub struct FoldGiven<'a> {
     /// The file of the manifest.
     pub manifest: &'a str,
     /// The folder that gets the folds. It is made if need be.
@@ -77,7 +77,7 @@ impl Folded {
 pub fn fold_folders<'a, D: DiskMut>(
     alloc: Global,
     disk: &mut D,
-    given: Given<'a>,
+    given: FoldGiven<'a>,
 ) -> Result<Folded, FoldingFault<'a>>
     ensures ok { OnOk result ((text : List ℕ) × (spec : Parts) × (folders : List PartitionFolder) × (topics : List (List ℕ))
         × HasBytes (D.holds disk.old given.entry.manifest.now) text × (spec_said_by text ≡ Ok spec)

@@ -1,9 +1,9 @@
 //! `init`: the manifest of a folder of copied logs.
 
+use crate::{Given, InitFault, Made, init, name_text};
 use eos_disk::{Cause, HostDisk};
 use eos_ending::{Ending, STANDARD, Subject, end, end_unread};
 use eos_evidence::SpecFault;
-use crate::{Given, InitFault, Made, init, name_text};
 use eos_words::Init;
 use std::alloc::AllocError;
 use std::io;

@@ -31,7 +31,7 @@ pub use decoding::options_of;
 pub use explain::{explain_code, page_to};
 pub use fault::InitFault;
 pub use fold::fold_partitions;
-pub use folding::{Folded, Given, fold_folders};
+pub use folding::{FoldGiven, Folded, fold_folders};
 pub use folding_files_fault::FoldingFault;
 pub use folding_files_lines::{found_text, status_of};
 pub use found::{Found, Likeness};

@@ -6,9 +6,9 @@ ghost use Rattle.eos_commands.specs.VerifyingLines.{found_text, status_of};
 ghost use Rattle.eos_text.specs.Writing.{WritesFront};
 ghost use Rattle.eos_segment.specs.Running.{IsOfReading};
 
+use crate::{Compared, Found, found_text, status_of, verify_folds};
 use eos_disk::{Cause, HostDisk};
 use eos_ending::{Ending, STANDARD, Subject, end, end_unread};
-use crate::{Compared, Found, found_text, status_of, verify_folds};
 use eos_segment::RunFault;
 use eos_text::finish;
 use std::alloc::Global;

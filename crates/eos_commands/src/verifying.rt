@@ -14,11 +14,14 @@ ghost use Rattle.eos_commands.specs.declared.found.Found.{Found};
 use crate::folding::refused;
 use crate::found::{Found, Likeness};
 use bytes::Bytes;
-use eos_disk::{Disk, DiskFault, FolderFault, Form, NamedFile, Shape, Watch, bases_in, open_segment, read_shape, segment_path};
+use eos_disk::{
+    Disk, DiskFault, FolderFault, Form, NamedFile, Shape, Watch, bases_in, open_segment,
+    read_shape, segment_path,
+};
 use eos_evidence::{ReadFault, Segment};
 use eos_fold_file::{FoldFault, decode_fold, encode_fold, fold_of};
-use eos_source::source_topics;
 use eos_reading::{Wanted, Wants};
+use eos_source::source_topics;
 use std::alloc::{AllocError, Global};
 use std::io::Read;
 

@@ -16,8 +16,8 @@ use crate::settled::are_settled;
 use crate::visible::{is_of_offsets, is_visible};
 use eos_base::{PartitionName, RecordFault, Workers};
 use eos_evidence::App;
-use eos_offsets::{view_key, view_value};
 use eos_kept::{ItemRef, Part};
+use eos_offsets::{view_key, view_value};
 use std::alloc::{AllocError, Global};
 use std::thread::Threads;
 

@@ -12,8 +12,8 @@ ghost use Rattle.eos_commits.specs.steps.Settled.{are_claimed, is_settled as is_
 use crate::judge::{is_unclaimed, role_of};
 use crate::roles::Roles;
 use crate::visible::is_visible;
-use eos_kept::{KeptBatch, KeptBatches, Look, Part};
 use eos_base::Workers;
+use eos_kept::{KeptBatch, KeptBatches, Look, Part};
 use std::alloc::{AllocError, Global};
 use std::thread;
 use std::thread::Threads;

@@ -19,8 +19,8 @@ use crate::roles::{Roles, TopicSet};
 use crate::visible::{is_of_offsets, is_same, is_visible};
 use bytes::Bytes;
 use eos_evidence::App;
-use eos_offsets::view_key;
 use eos_kept::{ItemRef, Part};
+use eos_offsets::view_key;
 use std::alloc::{AllocError, Global};
 use std::marker::Model;
 

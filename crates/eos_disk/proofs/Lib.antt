@@ -8,3 +8,19 @@ pub mod InMemory
 pub mod ListedBack
 mod OnePlace
 mod Unknown
+mod AddedOne
+mod FileNames
+mod FilesInOrder
+mod FilesMore
+mod FolderNames
+mod Listings
+mod ListingsCut
+mod ManifestRead
+mod NamedMore
+mod PaddedNames
+mod PartitionsCut
+mod PartitionsGrown
+mod Places
+mod ShapeRead
+mod Staying
+mod WrittenMore

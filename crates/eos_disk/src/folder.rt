@@ -15,6 +15,7 @@ ghost use Rattle.eos_disk.specs.declared.folder.FolderFault.{FolderFault as AFau
 ghost use Rattle.eos_disk.specs.declared.folder.FolderFault.TheVariants.{OutOfMemory};
 ghost use Rattle.eos_disk.specs.declared.names.Form.TheVariants.{Log};
 
+use crate::Disk;
 use crate::cause::Cause;
 use crate::files::{open_segment, read_file};
 use crate::listing::Segments;
@@ -23,10 +24,9 @@ use crate::paths::manifest_path;
 use crate::refusal::{NO_RECORDS, refused_fold};
 use crate::watch::Watch;
 use bytes::Bytes;
-use crate::Disk;
+use eos_base::Workers;
 use eos_evidence::{Evidence, EvidenceBuilder, Segment, Spec, SpecFault, parse_spec};
 use eos_manifest::{SpecCause, explain_spec};
-use eos_base::Workers;
 use std::alloc::{AllocError, AllocFailed, Global};
 use std::thread;
 use std::thread::Threads;

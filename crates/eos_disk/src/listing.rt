@@ -15,8 +15,8 @@ use crate::folder::FolderFault;
 use crate::names::{FileName, Form, read_file_name};
 use crate::paths::{file_path, partition_path};
 use crate::refusal::{NO_RECORDS, TWICE, refused_at};
-use bytes::Bytes;
 use crate::{Disk, DiskFault};
+use bytes::Bytes;
 use eos_evidence::{End, MAX_SEGMENTS, Segment};
 use std::alloc::{AllocError, Global};
 

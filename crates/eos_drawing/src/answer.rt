@@ -12,14 +12,14 @@ ghost use Rattle.eos_report.specs.VerdictTexts.{verdict_line, status_of};
 ghost use Rattle.eos_source.specs.Said.{known_by};
 
 use crate::picture::judged_picture;
+use crate::{drawing_of, svg_text};
+use eos_base::Workers;
 use eos_check::{Fault, Verdict};
 use eos_evidence::{Evidence, Spec};
-use crate::{drawing_of, svg_text};
 use eos_picture::Picture;
 use eos_report::verdict_line;
 use eos_source::Source;
 use eos_source_check::{Judged, Unlisted, all_source_faults, judge_source};
-use eos_base::Workers;
 use std::alloc::{AllocError, Global};
 use std::thread::Threads;
 

@@ -1,9 +1,9 @@
 //! How much a cell of a row holds, and where in it what lies.
 
+use crate::Point;
 use crate::canvas::moved;
 use crate::plan::{LINE, Plan};
 use eos_picture::{Mark, Row, Sign};
-use crate::Point;
 use std::alloc::{AllocError, Global};
 
 /// How many records, and how many lines of commits, a cell has at most; but the fault's are always there.

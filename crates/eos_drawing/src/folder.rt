@@ -12,7 +12,10 @@ ghost use Rattle.eos_disk.specs.Shapes.{AreKnown};
 ghost use Rattle.eos_source.specs.Saying.{known_at, StandsAt};
 
 use crate::answer::{Answer, Pieces, Wanted, answer_source};
-use eos_disk::{ChangeFault, Disk, DiskMut, FolderFault, NewFile, Shape, Watch, begin_file, drop_file, end_file, read_shape};
+use eos_disk::{
+    ChangeFault, Disk, DiskMut, FolderFault, NewFile, Shape, Watch, begin_file, drop_file,
+    end_file, read_shape,
+};
 use eos_source::FolderSource;
 use eos_source_check::Unlisted;
 use eos_text::finish;

@@ -2,9 +2,9 @@
 
 use crate::canvas::{Canvas, moved};
 use crate::labels::shortened;
+use crate::{Look, Point};
 use eos_batch::Kind;
 use eos_picture::{Column, Decided, Picture};
-use crate::{Look, Point};
 use eos_text::{push_escaped, push_text, push_value};
 use std::alloc::{AllocError, Global};
 

@@ -7,9 +7,9 @@ use crate::headings::{draw_heading, draw_other_heading, heading_of, place_of};
 use crate::legend::{ROOM, draw_legend};
 use crate::plan::{GAP, Plan, plan_of};
 use crate::rows::draw_row;
+use crate::{Drawing, Look, Point, Shape, Size};
 use eos_base::Listed;
 use eos_picture::Picture;
-use crate::{Drawing, Look, Point, Shape, Size};
 use std::alloc::{AllocError, Global};
 
 /// The width of a character of the title, and more.

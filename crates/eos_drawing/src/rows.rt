@@ -5,10 +5,10 @@ use crate::cells::{Cell, Place, Room, cells_of, empty_cells, offset_of, pitch_of
 use crate::labels::{commit_label, number_label, passed_label};
 use crate::plan::{CHARACTER, Plan, row_name};
 use crate::told::{Marked, told_of};
+use crate::{Look, Point, Size};
 use eos_batch::Kind;
 use eos_fold::Fate;
 use eos_picture::{Mark, Picture, Row, Sign};
-use crate::{Look, Point, Size};
 use eos_text::{push_text, push_value};
 use std::alloc::{AllocError, Global};
 

@@ -4,3 +4,4 @@ pub mod OneAfterAnother
 pub mod Replaying
 pub mod Agreeing
 pub mod Equal
+mod Counted

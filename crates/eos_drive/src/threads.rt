@@ -3,9 +3,9 @@
 ghost use Rattle.std.specs.Prelude.{◌≡◌, true, vec_len, IfOk};
 ghost use Rattle.eos_drive.specs.Replay.{IsReplay};
 
+use crate::{Finished, Pass, Script, Shared};
 use bytes::Bytes;
 use eos_batch::Kind;
-use crate::{Finished, Pass, Script, Shared};
 use eos_machine::{Claim, Event};
 use std::alloc::{AllocError, Global};
 use std::sync::Wait;

@@ -5,8 +5,8 @@ ghost use Rattle.eos_ending.specs.Endings.{status_of, message_of, is_silent, cau
 ghost use Rattle.eos_ending.specs.Subjects.{subject_text};
 
 use crate::subject::Subject;
-use eos_evidence::SpecFault;
 use eos_disk::Cause;
+use eos_evidence::SpecFault;
 use eos_segment::RunFault;
 use std::fmt::{Display, Formatter, Write};
 

@@ -2,8 +2,8 @@
 
 use crate::subject::Subject;
 use eos_board::Gate;
-use eos_fold::Named;
 use eos_disk::Watch;
+use eos_fold::Named;
 use std::sync::atomic::{AtomicU64, Ordering};
 use std::time::Instant;
 

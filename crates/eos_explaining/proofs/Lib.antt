@@ -2,3 +2,7 @@ mod FolderAnswers
 pub mod NamedFaults
 mod ReadAlone
 mod Tellings
+mod BothHold
+mod LinesOnce
+mod LinesShown
+mod PartsTold

@@ -9,15 +9,15 @@ ghost use Rattle.eos_notes.specs.Notes.{AreNotes};
 ghost use Rattle.eos_explaining.specs.Explaining.{IsAnswer};
 
 use crate::story::{About, story_at};
-use eos_source_check::all_faults;
+use eos_base::Workers;
 use eos_board::Gate;
 use eos_check::{Fault, Verdict, logs_of, verdict_of};
 use eos_evidence::Evidence;
-use eos_notes::{Note, lines_of, notes};
 use eos_kept::Logs;
+use eos_notes::{Note, lines_of, notes};
 use eos_report::verdict_line;
+use eos_source_check::all_faults;
 use eos_story::Scene;
-use eos_base::Workers;
 use std::alloc::{AllocError, Global};
 use std::sync::Wait;
 use std::thread::Threads;

@@ -12,12 +12,12 @@ ghost use Rattle.eos_explaining.specs.steps.Tellings.{Tells, TellsFront};
 ghost use Rattle.eos_explaining.specs.declared.folder.Unexplained.TheVariants.{CannotWrite};
 
 use crate::answer::{Answer, Asked, explain};
+use eos_base::Workers;
 use eos_board::Gate;
 use eos_disk::{Disk, FolderFault, HostDisk, Reading, Watch, read_folder};
 use eos_ending::{Ending, Meter, Progress, STANDARD, Subject, end, end_unread, say_notes};
 use eos_text::{WriteFault, finish};
 use eos_words::Explain;
-use eos_base::Workers;
 use std::alloc::Global;
 use std::io;
 use std::io::Write;

@@ -10,8 +10,8 @@ ghost use Rattle.eos_explaining.specs.Records.{role_of, reading_at, reading_of, 
 use crate::names::{is_there, mark, push_at, push_spot};
 use eos_batch::Record;
 use eos_claims::Place;
-use eos_segment::{Reading, push_decoded};
 use eos_fold::{Fate, Item};
+use eos_segment::{Reading, push_decoded};
 use eos_sought::{Epochs, Find, Placed, Sought};
 use eos_text::{push_escaped, push_text, push_value};
 use std::alloc::{AllocError, Global};

@@ -8,9 +8,9 @@ ghost use Rattle.eos_explaining.specs.Sentences.{row_place, first_place, segment
 use crate::names::{push_at, push_name};
 use crate::signs::{Told, bearer};
 use eos_base::PartitionName;
-use eos_text::{Case, Page, push_text, push_value};
 use eos_sought::Placed;
 use eos_story::Row;
+use eos_text::{Case, Page, push_text, push_value};
 use std::alloc::{AllocError, Global};
 
 fn push_first_place(

@@ -11,10 +11,10 @@ use crate::names::is_there;
 use crate::twins::{completes, is_twin_of};
 use eos_base::PartitionName;
 use eos_batch::BatchHead;
-use eos_text::Sign;
 use eos_claims::Place;
 use eos_sought::{Find, Placed, Sought, Wanted};
 use eos_story::{Row, epoch_after};
+use eos_text::Sign;
 use std::alloc::{AllocError, Global};
 
 /// The place of a fault, and the rows that are told of it.

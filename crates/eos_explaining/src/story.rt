@@ -10,11 +10,11 @@ ghost use Rattle.eos_lineage.specs.EvidenceLogs.{AreLogsOf};
 ghost use Rattle.eos_notes.specs.Notes.{AreNotes};
 ghost use Rattle.eos_explaining.specs.Explaining.{IsStoryOf, code_of};
 
-use eos_text::{Page, page_of};
+use crate::{Story, story_text};
 use eos_check::{Fault, Verdict};
 use eos_notes::Note;
 use eos_story::{Scene, place_of, rows_of};
-use crate::{Story, story_text};
+use eos_text::{Page, page_of};
 use std::alloc::{AllocError, Global};
 
 /// The catalogue's page of a kind of fault.

@@ -15,13 +15,13 @@ use crate::rows::push_more;
 use crate::sentences::{push_sentences, shown_of};
 use crate::signs::Told;
 use crate::told::told_lines;
-use eos_text::{Page, push_text};
 use eos_check::Verdict;
 use eos_claims::Place;
 use eos_evidence::Partition;
 use eos_notes::{Note, note_lines};
 use eos_report::verdict_line;
 use eos_story::Row;
+use eos_text::{Page, push_text};
 use std::alloc::{AllocError, Global};
 
 /// How many lines of rows there are at most, and of notes.

@@ -17,8 +17,8 @@ use crate::reading::{claims_of, inputs_of};
 use eos_claims::OutputFault;
 use eos_commits::{CommitTable, TopicSet};
 use eos_evidence::{App, GroupId, Spec};
-use eos_lineage::LineageFault;
 use eos_kept::Part;
+use eos_lineage::LineageFault;
 use std::alloc::{AllocError, Global};
 
 fn faults_of<'a>(

@@ -4,12 +4,12 @@ ghost use Rattle.std.specs.Prelude.{◌≡◌, IfOk, map};
 ghost use Rattle.eos_faults.specs.PartitionPlaces.{named};
 ghost use Rattle.eos_faults.specs.PartitionLists.{AreFaultsOf};
 
-use crate::segments::walk_along;
 use crate::partition_faults_shown::Shown;
+use crate::segments::walk_along;
 use crate::stops::found_of;
 use bytes::Bytes;
-use eos_evidence::Partition;
 use eos_base::distinct_in_order;
+use eos_evidence::Partition;
 use eos_fold::is_checked;
 use eos_touch::PartitionFault;
 use std::alloc::{AllocError, Global};

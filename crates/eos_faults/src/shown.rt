@@ -11,8 +11,8 @@ ghost use Rattle.eos_faults.specs.steps.Lent.{homes_of};
 use crate::homes::{Homes, enter};
 use crate::sources::Sources;
 use eos_base::RecordFault;
-use eos_offsets::{view_key, view_value};
 use eos_kept::ItemRef;
+use eos_offsets::{view_key, view_value};
 use std::alloc::AllocError;
 
 /// What is asked of a partition's records.

@@ -6,8 +6,8 @@ ghost use Rattle.eos_fold.specs.Ends.{first_placed, last_placed, first_marker};
 ghost use Rattle.eos_fold.specs.Settling.{data_in, waiting_in};
 ghost use Rattle.eos_fold.specs.Summaries.{IsSummary};
 
-use crate::mark::EndMark;
 use crate::batch_summary::BatchSummary;
+use crate::mark::EndMark;
 use eos_touch::Touch;
 
 impl BatchSummary {

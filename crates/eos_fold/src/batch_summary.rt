@@ -13,11 +13,11 @@ ghost use Rattle.eos_fold.specs.steps.Joins.{rest_of, Starts, IsTaking, IsTaken}
 ghost use Rattle.eos_fold.specs.Summaries.{IsSummary, SameEnds, SameSummary};
 ghost use Rattle.eos_fold.specs.steps.Summaries.{FitsBehind, TakesFault, only};
 
+use crate::LogIndex;
 use crate::ends::Ends;
 use crate::fault::{Fault, at_seam, earlier};
 use crate::settle::settle_by;
 use crate::table::make_room;
-use crate::LogIndex;
 use eos_touch::Touch;
 use std::alloc::{AllocError, Global};
 use std::collections::BTreeMap;

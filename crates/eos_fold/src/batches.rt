@@ -6,9 +6,9 @@ ghost use Rattle.eos_batch.specs.declared.batch.Batch.{Batch};
 ghost use Rattle.eos_fold.specs.Summaries.{IsSummary};
 ghost use Rattle.eos_fold.specs.BatchesWhole.{StandsFirst, StandsInWhole, IsLeftOpen, IsLeastId, IsLeastOpen};
 
-use crate::fault::{Fault, earlier};
-use crate::batch_summary::BatchSummary;
 use crate::LogIndex;
+use crate::batch_summary::BatchSummary;
+use crate::fault::{Fault, earlier};
 use eos_touch::{Touch, pair_ok};
 
 /// The fault at the first touch of an id.

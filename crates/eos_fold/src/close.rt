@@ -5,8 +5,8 @@ ghost use Rattle.std.specs.Option.{option_to_list};
 ghost use Rattle.eos_fold.specs.Closes.{close_cmp, close_in, closes_in};
 ghost use Rattle.eos_fold.specs.Parts.{AreCloses};
 
-use eos_batch::Kind;
 use crate::{DataHead, Ending, LogIndex};
+use eos_batch::Kind;
 use std::alloc::{AllocError, Global};
 
 /// A transactional data batch's producer id and epoch, and the epoch and kind of its next end marker: the one of its

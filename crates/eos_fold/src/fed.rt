@@ -11,11 +11,11 @@ ghost use Rattle.eos_fold.specs.Good.{IsGood};
 ghost use Rattle.eos_fold.specs.steps.Feeding.{IsFed, EndsAt, StepsTo, IsWithin};
 ghost use Rattle.eos_fold.specs.steps.Walks.{HasPassed};
 
-use crate::one_segment::Chain;
 use crate::chain_walk::{Walk, unnamed};
+use crate::one_segment::Chain;
+use crate::{ByteFold, read_head};
 use bytes::Bytes;
 use eos_batch::BatchFault;
-use crate::{ByteFold, read_head};
 use eos_touch::{PartitionFault, PartitionFaultKind};
 use eos_wire::are_bytes;
 use std::alloc::{AllocError, Global};

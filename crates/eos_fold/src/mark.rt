@@ -4,8 +4,8 @@ ghost use Rattle.std.specs.Prelude.{◌≡◌, Some};
 ghost use Rattle.eos_fold.specs.Ends.{mark_in};
 ghost use Rattle.eos_fold.specs.Settling.{ended};
 
-use eos_batch::Kind;
 use crate::Ending;
+use eos_batch::Kind;
 use eos_touch::Touch;
 
 /// An end marker.

@@ -10,9 +10,9 @@ ghost use Rattle.eos_fold.specs.ChainFaults.{IsLeastFault};
 ghost use Rattle.eos_fold.specs.Good.{IsGood};
 
 use crate::fed::FedWalk;
+use crate::{ByteFold, read_folded};
 use bytes::Bytes;
 pub use counts::Chain;
-use crate::{ByteFold, read_folded};
 use eos_evidence::{MAX_SEGMENT_BYTES, ReadFault};
 use eos_touch::PartitionFault;
 use std::alloc::{AllocError, Global};

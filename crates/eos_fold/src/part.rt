@@ -7,6 +7,7 @@ ghost use Rattle.eos_fold.specs.LeastFaults.{IsFaultOf, IsFirstFault};
 ghost use Rattle.eos_fold.specs.Standing.{AreOf};
 ghost use Rattle.eos_fold.specs.Whole.{segments_in, IsPartOf};
 
+use crate::Items;
 use crate::close::{Close, closes_of};
 use crate::named::Named;
 use crate::summary::Summary;
@@ -14,7 +15,6 @@ use crate::whole::{least_fault, of_all};
 use bytes::Bytes;
 use eos_batch::Marker;
 use eos_evidence::Segment;
-use crate::Items;
 use eos_touch::PartitionFault;
 use std::alloc::{AllocError, Global};
 use std::marker::Model;

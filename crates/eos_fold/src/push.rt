@@ -14,12 +14,12 @@ ghost use Rattle.eos_fold.specs.steps.Pushes.{IsTakenFrom};
 ghost use Rattle.eos_batch.specs.Heads.{head_of};
 ghost use Rattle.eos_batch.specs.Rules.{IsProducerRight};
 
-use crate::ends::Ends;
+use crate::BatchHead;
 use crate::batch_summary::BatchSummary;
+use crate::ends::Ends;
 use crate::table::make_room_for;
 use bytes::Bytes;
 use eos_batch::BatchFault;
-use crate::BatchHead;
 use eos_touch::touch_of;
 use std::alloc::{AllocError, Global};
 

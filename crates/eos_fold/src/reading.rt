@@ -6,8 +6,8 @@ ghost use Rattle.eos_fold.specs.Ends.{first_placed, last_placed, first_marker};
 ghost use Rattle.eos_fold.specs.Settling.{data_in, waiting_in};
 ghost use Rattle.eos_fold.specs.Sums.{IsSummaryOf};
 
-use crate::summary::Summary;
 use crate::EndMark;
+use crate::summary::Summary;
 use eos_touch::Touch;
 
 impl Summary {

@@ -10,11 +10,11 @@ ghost use Rattle.eos_fold.specs.declared.stop.Stop.TheVariants.{AtEnd};
 ghost use Rattle.eos_fold.specs.Sums.{IsSummaryOf, IsSummed, IsFit, OneTopic, SameSum};
 ghost use Rattle.eos_fold.specs.steps.Sums.{HasWalked, HasStopped};
 
+use crate::BatchSummary;
 use crate::stop::Stop;
 use bytes::Bytes;
 use eos_batch::{BatchFault, Marker};
 use eos_evidence::Segment;
-use crate::BatchSummary;
 use eos_wire::are_bytes;
 use std::alloc::{AllocError, Global};
 

@@ -14,9 +14,9 @@ ghost use Rattle.eos_fold.specs.steps.Whole.{BeginsIn, IsWhole};
 use crate::named::Named;
 use crate::stop::Stop;
 use crate::summary::{Summary, is_checked};
+use crate::{BatchSummary, Fault};
 use bytes::Bytes;
 use eos_evidence::Segment;
-use crate::{BatchSummary, Fault};
 use eos_touch::{PartitionFault, PartitionFaultKind};
 use std::alloc::Global;
 

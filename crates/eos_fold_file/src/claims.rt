@@ -6,9 +6,9 @@ ghost use Rattle.eos_reading.specs.Outputs.{claim_kept};
 ghost use Rattle.eos_reading.specs.Records.{ReadsBack};
 ghost use Rattle.eos_fold_file.specs.steps.Kept.{AreReadBack};
 
+use crate::{FoldKept, FoldText};
 use bytes::Bytes;
 use eos_claims::{Claim, ClaimRef};
-use crate::{FoldKept, FoldText};
 use eos_reading::KeptOutput;
 
 /// Whether there are headers that say a claim, or say none. Their numbers are signed, and none of a claim is below 0.

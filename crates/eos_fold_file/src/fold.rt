@@ -8,12 +8,12 @@ ghost use Rattle.eos_fold_file.specs.Folds.{IsKeptOf, IsAskedAs, IsFoldOf};
 ghost use Rattle.eos_fold_file.specs.Legal.{IsRight};
 ghost use Rattle.eos_fold_file.specs.steps.Fronts.{IsFront};
 
-use crate::front::{Front, read_front};
 use crate::folding_texts::FoldTexts;
+use crate::front::{Front, read_front};
+use crate::{FoldFile, FoldKept};
 use bytes::Bytes;
 use eos_base::Listed;
 use eos_evidence::{MAX_SEGMENT_BYTES, ReadFault, Segment};
-use crate::{FoldFile, FoldKept};
 use eos_reading::{Nothing, Outputs, Wanted};
 use std::alloc::{AllocError, Global};
 use std::io::Read;

@@ -3,9 +3,9 @@
 ghost use Rattle.std.specs.Prelude.{◌≡◌, option_map, IfOk};
 ghost use Rattle.eos_claims.specs.Slots.{plain_claim};
 
+use crate::FoldText;
 use bytes::Bytes;
 use eos_claims::{Claim, ClaimRef, view_claim};
-use crate::FoldText;
 use eos_reading::{Placed, Reading};
 use std::alloc::{AllocError, Global};
 

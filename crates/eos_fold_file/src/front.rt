@@ -9,14 +9,14 @@ ghost use Rattle.eos_fold_file.specs.steps.Passing.{AllFit};
 ghost use Rattle.eos_fold_file.specs.steps.Fronts.{stop_of, IsFront};
 ghost use Rattle.eos_fold_file.specs.steps.Sealing.{IsSealed};
 
+use crate::FoldHead;
 use crate::pass::pass_heads;
 use crate::seals::{checksum_of, entries_of};
 use crate::segment::{Sealed, Sealing};
 use eos_base::Listed;
 use eos_batch::BatchFault;
-use eos_fold::{Stop, read_folded};
 use eos_evidence::{MAX_SEGMENT_BYTES, ReadFault};
-use crate::FoldHead;
+use eos_fold::{Stop, read_folded};
 use eos_reading::{EpochEntry, Reading};
 use std::alloc::{AllocError, Global};
 use std::io::Read;

@@ -12,8 +12,8 @@ ghost use Rattle.eos_kept.specs.Sizes.{AreSized};
 ghost use Rattle.eos_kept.specs.KeptRuns.{IsKeptRun, HasClaims, wanted_by, front_of};
 ghost use Rattle.eos_fold_file.specs.steps.Kept.{AreReadBack, topics_in};
 
-use crate::run_texts::copies_of;
 use crate::FoldKept;
+use crate::run_texts::copies_of;
 use eos_kept::{Front, Kept, KeptRun, Sizes};
 use std::alloc::{AllocError, Global};
 

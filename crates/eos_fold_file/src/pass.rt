@@ -5,9 +5,9 @@ ghost use Rattle.eos_fold_file.specs.Files.{data_records};
 ghost use Rattle.eos_fold_file.specs.Heads.{fold_head};
 ghost use Rattle.eos_fold_file.specs.steps.Passing.{AllFit, Passes};
 
+use crate::FoldHead;
 use eos_base::Listed;
 use eos_batch::BatchHead;
-use crate::FoldHead;
 use std::alloc::{AllocError, Global};
 
 /// The batches that were passed.

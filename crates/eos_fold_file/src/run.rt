@@ -8,11 +8,11 @@ ghost use Rattle.eos_fold_file.specs.Legal.{IsLegal};
 ghost use Rattle.eos_kept.specs.KeptRuns.{IsKeptRun, HasClaims, wanted_by, front_of};
 
 use crate::claims::are_said;
-use crate::run_front::front_of;
 use crate::kept::with_kept;
+use crate::run_front::front_of;
 use crate::unfit::Unfit;
-use eos_fold::is_checked;
 use crate::{FoldFile, FoldKept, laws};
+use eos_fold::is_checked;
 use eos_kept::{Asked, KeptRun, Sizes};
 use eos_reading::Wanted;
 use std::alloc::Global;

@@ -5,8 +5,8 @@ ghost use Rattle.eos_batch.specs.declared.batch.Batch.{Batch};
 ghost use Rattle.eos_kept.specs.Passing.{GoesAlong, data_count};
 ghost use Rattle.eos_fold_file.specs.steps.Heads.{AreFrom};
 
-use eos_batch::BatchHead;
 use crate::FoldHead;
+use eos_batch::BatchHead;
 use eos_kept::Front;
 use std::alloc::{AllocError, Global};
 

@@ -4,9 +4,9 @@ ghost use Rattle.std.specs.Prelude.{◌≡◌, All, map, option_map, IfOk};
 ghost use Rattle.eos_reading.specs.Records.{ReadsBack};
 ghost use Rattle.eos_fold_file.specs.steps.Kept.{text_record};
 
+use crate::FoldText;
 use crate::claims::lent;
 use bytes::Bytes;
-use crate::FoldText;
 use eos_reading::KeptText;
 use std::alloc::{AllocError, Global};
 

@@ -10,10 +10,10 @@ ghost use Rattle.eos_kept.specs.Runs.{IsRun};
 ghost use Rattle.eos_kept.specs.Kept.{KeepsFront, IsFrontOf, SameFront};
 ghost use Rattle.eos_kept.specs.Passing.{GoesAlong};
 
+use crate::Run;
 use eos_batch::Marker;
 use eos_fold::Stop;
 use eos_reading::{EpochEntry, append_entries};
-use crate::Run;
 use std::alloc::{AllocError, Global};
 
 /// The front of a list of segments.

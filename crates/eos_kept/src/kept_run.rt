@@ -6,10 +6,10 @@ ghost use Rattle.eos_evidence.specs.declared.segment.Segment.{Segment};
 ghost use Rattle.eos_evidence.specs.Reading.{Takes, TakesAtMost};
 ghost use Rattle.eos_kept.specs.KeptRuns.{IsKeptRun, HasClaims, wanted_by, front_of, SameKeptRun};
 
+use crate::{Kept, fold_segment};
 use bytes::Bytes;
 use eos_evidence::{MAX_SEGMENT_BYTES, ReadFault};
 use eos_reading::{KeptOutput, KeptText, Nothing, Outputs, Texts, Wanted};
-use crate::{Kept, fold_segment};
 use std::alloc::Global;
 use std::io::Read;
 

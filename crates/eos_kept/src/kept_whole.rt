@@ -11,10 +11,10 @@ ghost use Rattle.eos_kept.specs.steps.Fronts.{AreRead, AreEach, AreWhole, IsWhol
 ghost use Rattle.eos_kept.specs.Records.{records_in, ReadBack, SayClaims};
 
 use crate::records::Records;
+use crate::{Front, Run};
 use bytes::Bytes;
 use eos_evidence::End;
 use eos_fold::{Stop, fault_of, is_checked, kind_at_stop, pair_kind};
-use crate::{Front, Run};
 use eos_touch::PartitionFault;
 use std::alloc::Global;
 

@@ -6,9 +6,9 @@ ghost use Rattle.eos_claims.specs.Slots.{plain_claim};
 ghost use Rattle.eos_kept.specs.Looks.{IsLook};
 ghost use Rattle.eos_kept.specs.Forms.{item_in};
 
+use crate::Look;
 use eos_claims::{ClaimRef, view_claim};
 use eos_fold::Fate;
-use crate::Look;
 use std::marker::Model;
 
 /// In which form a record is lent.

@@ -4,8 +4,8 @@ ghost use Rattle.std.specs.Prelude.{◌≡◌, ◌<◌, [], ◌∷◌, length, s
 ghost use Rattle.eos_kept.specs.Forms.{items_in, items_left};
 
 use crate::log_item::ItemRef;
-use eos_fold::{Item, ItemCursor};
 use crate::{KeptBatches, KeptCursor, KeptItems};
+use eos_fold::{Item, ItemCursor};
 use std::alloc::{AllocError, Global};
 use std::marker::Model;
 

@@ -14,7 +14,7 @@ use std::marker::Model;
 #[derive(Drop)]
 enum Form {
     Whole(eos_fold::Part),
-    Kept(crate::Part),
+    Kept(crate::part::KeptPart),
 }
 
 /// What a partition's log holds, or what is wanted of that, which contracts see as a `PartLog`. Of a kept one no segment is left.
@@ -43,7 +43,7 @@ impl Part {
     }
 
     /// What is wanted of a log.
-    pub fn kept(part: crate::Part) -> Part
+    pub fn kept(part: crate::part::KeptPart) -> Part
         ensures { result ≡ part }
     {
         Part {

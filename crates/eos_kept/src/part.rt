@@ -13,29 +13,29 @@ ghost use Rattle.eos_reading.specs.declared.wanted.Wanted.TheVariants.{Presence,
 use crate::apart::apart;
 use crate::close::closes_of;
 use crate::items::KeptItems;
-use crate::records::Records;
 use crate::kept_whole::{least_fault, of_all};
+use crate::records::Records;
+use crate::{Front, Kept, Sizes};
 use bytes::Bytes;
 use eos_base::Listed;
 use eos_batch::Marker;
 use eos_evidence::End;
 use eos_fold::Close;
 use eos_reading::{EpochEntry, KeptOutput, KeptText};
-use crate::{Front, Kept, Sizes};
 use eos_touch::PartitionFault;
 use std::alloc::{AllocError, Global};
 use std::marker::Model;
 
 /// What is wanted of a partition's log.
 #[derive(Drop)]
-pub struct Part {
+pub struct KeptPart {
     end: End,
     items: KeptItems,
     closes: Vec<Close>,
     markers: Vec<Marker>,
 }
 
-impl Model for Part {
+impl Model for KeptPart {
     ghost use Rattle.std.specs.Prelude.{[]};
     ghost use Rattle.eos_fold.specs.Parts.{PartLog, Rises, Ascends};
 
@@ -49,7 +49,7 @@ impl Model for Part {
 /// What is wanted of a partition's log, and what is said of its bytes, which are gone.
 #[derive(Drop)]
 pub struct Told {
-    pub part: Part,
+    pub part: KeptPart,
     /// The least fault of the bytes.
     pub fault: Option<PartitionFault>,
     /// The number of batches of the front of the segments, control batches too.
@@ -84,7 +84,7 @@ fn made(
     } = front;
     let heads = run.into_heads();
     let closes = closes_of(alloc, heads.as_slice())?;
-    let part = Part {
+    let part = KeptPart {
         end,
         items: KeptItems::new(heads, kept),
         closes,
@@ -99,7 +99,7 @@ fn made(
     })
 }
 
-impl Part {
+impl KeptPart {
     /// The log of a partition that is declared to end here, of whose records it is kept that they are there. What is kept counts as
     /// that of the whole list of its segments.
     ///

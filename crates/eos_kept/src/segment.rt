@@ -8,8 +8,8 @@ ghost use Rattle.eos_kept.specs.Kept.{IsKept};
 
 use crate::fold::{Asked, SegmentFold};
 use crate::summary::Kept;
-use eos_fold::{is_checked, read_folded};
 use eos_evidence::{MAX_SEGMENT_BYTES, ReadFault};
+use eos_fold::{is_checked, read_folded};
 use eos_reading::Reading;
 use std::alloc::Global;
 use std::io::Read;

@@ -6,11 +6,11 @@ ghost use Rattle.eos_evidence.specs.declared.segment.Segment.{Segment};
 ghost use Rattle.eos_kept.specs.Kept.{IsKept, SameKept};
 ghost use Rattle.eos_kept.specs.Passing.{HoldsEach};
 
+use crate::DataHead;
 use crate::front::{Front, is_at_end};
 use crate::sizes::Sizes;
 use eos_batch::Marker;
 use eos_fold::Stop;
-use crate::DataHead;
 use std::alloc::Global;
 use std::marker::Model;
 

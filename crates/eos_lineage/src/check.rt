@@ -23,10 +23,10 @@ use crate::offsets::offsets_of;
 use crate::passes::PassTable;
 use crate::pipeline::Pipeline;
 use crate::tables::Tables;
+use eos_base::Workers;
 use eos_commits::{CommitTable, least_visible_fault_by};
 use eos_evidence::{App, GroupId, Spec};
 use eos_kept::Part;
-use eos_base::Workers;
 use std::alloc::{AllocError, Global};
 use std::thread::Threads;
 

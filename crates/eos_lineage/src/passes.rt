@@ -7,9 +7,9 @@ ghost use Rattle.eos_commits.specs.Plain.{plain_commit};
 ghost use Rattle.eos_lineage.specs.steps.Tables.{plain_key, plain_pass, by_pass, last_below as last_offset_below, pass_of as pass_of_commit, passes_of, reaches, is_reached};
 
 use crate::sorting::sorted;
+use eos_base::Workers;
 use eos_claims::SourceRef;
 use eos_commits::CommitRef;
-use eos_base::Workers;
 use std::alloc::{AllocError, Global};
 use std::marker::Model;
 use std::thread::Threads;

@@ -19,8 +19,8 @@ use crate::note::Note;
 use crate::unlisted::unlisted_notes;
 use eos_commits::{CommitRef, CommitTable, TopicSet};
 use eos_evidence::{App, End, Spec};
-use eos_lineage::committed_offsets;
 use eos_kept::{Logs, Part};
+use eos_lineage::committed_offsets;
 use std::alloc::{AllocError, Global};
 
 /// What was found of what groups have committed, by the kind of note.

@@ -17,8 +17,8 @@ use crate::tally::{GroupTally, SourceTally};
 use eos_base::Listed;
 use eos_commits::{TopicSet, commits_of};
 use eos_evidence::App;
-use eos_lineage::committed_offsets;
 use eos_kept::{Logs, Part};
+use eos_lineage::committed_offsets;
 use std::alloc::{AllocError, Global};
 
 /// Puts a partition at the end, if it is of one of these topics.

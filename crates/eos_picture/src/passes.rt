@@ -4,8 +4,8 @@ use crate::mark::Column;
 use crate::window::column_of;
 use eos_commits::is_visible;
 use eos_fold::Fate;
-use eos_offsets::{KeyRef, view_key, view_value};
 use eos_kept::{ItemRef, Part};
+use eos_offsets::{KeyRef, view_key, view_value};
 use std::alloc::{AllocError, Global};
 use std::collections::BTreeMap;
 

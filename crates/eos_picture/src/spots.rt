@@ -17,8 +17,8 @@ use eos_claims::{OutputFault, OutputKind};
 use eos_commits::{TopicSet, is_visible};
 use eos_evidence::{App, GroupId};
 use eos_fold::{PartitionFault, PartitionFaultKind};
-use eos_lineage::LineageFault;
 use eos_kept::{ItemRef, Part};
+use eos_lineage::LineageFault;
 use eos_table::{MatchFault, MatchFaultKind};
 use std::alloc::{AllocError, Global};
 

@@ -8,8 +8,8 @@ ghost use Rattle.eos_reading.specs.Folds.{IsFolded};
 use crate::fold::Fold;
 use crate::folded::Folded;
 use crate::reading::Reading;
-use eos_fold::read_folded;
 use eos_evidence::{MAX_SEGMENT_BYTES, ReadFault};
+use eos_fold::read_folded;
 use std::alloc::Global;
 use std::io::Read;
 

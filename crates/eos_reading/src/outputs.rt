@@ -1,9 +1,9 @@
 //! The records of an output, of which the claims are wanted.
 
 use crate::output::KeptOutput;
+use crate::{Placed, Reading};
 use bytes::Bytes;
 use eos_claims::view_claim;
-use crate::{Placed, Reading};
 use std::alloc::{AllocError, Global};
 
 /// Keeps the claim in a record's headers, where there is one.

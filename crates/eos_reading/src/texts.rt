@@ -1,8 +1,8 @@
 //! The records of Kafka's own logs, of which keys and values are wanted.
 
 use crate::text::KeptText;
-use eos_claims::view_claim;
 use crate::{Placed, Reading};
+use eos_claims::view_claim;
 use std::alloc::{AllocError, Global};
 
 /// Keeps a record's key and value, and the claim in its headers, where there is one.

@@ -1,2 +1,4 @@
 pub mod Labelled
 pub mod Depths
+mod Floats
+mod Fresh

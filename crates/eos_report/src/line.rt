@@ -10,8 +10,8 @@ ghost use Rattle.eos_report.specs.steps.Fields.{with_fields};
 
 use crate::json_fault::value_of_fault;
 use crate::object::Object;
-use eos_check::{Fault, Verdict};
 use crate::{no_json, verdict_json};
+use eos_check::{Fault, Verdict};
 use eos_text::push_text;
 use serde_json::{Value, json};
 use std::alloc::{AllocError, Global};

@@ -7,11 +7,11 @@ ghost use Rattle.eos_report.specs.Pages.{yes_words, no_words, verdict_words, ver
 
 use crate::about::About;
 use crate::html::push_html;
-use crate::page_tables::{push_groups, push_partitions};
 use crate::json_report::Findings;
+use crate::page_tables::{push_groups, push_partitions};
+use crate::{text_of_fault, verdict_line};
 use eos_check::{Counts, Fault, Verdict};
 use eos_notes::{Note, note_lines};
-use crate::{text_of_fault, verdict_line};
 use eos_text::{push_text, push_value};
 use std::alloc::{AllocError, Global};
 

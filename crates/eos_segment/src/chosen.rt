@@ -9,8 +9,8 @@ ghost use Rattle.eos_segment.specs.Listing.{kind_word as kind_word_of};
 use crate::headers::push_headers;
 use crate::lines::{kind_word, push_head, push_record};
 use crate::options::ListingOptions;
-use eos_batch::{Batch, Record};
 use crate::{Reading, push_decoded};
+use eos_batch::{Batch, Record};
 use std::alloc::{AllocError, Global};
 
 fn push_its_headers(

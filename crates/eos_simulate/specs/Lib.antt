@@ -3,3 +3,5 @@ pub mod Settings
 pub mod Histories
 pub mod Replays
 pub mod steps
+pub mod Schedules
+pub mod Leaving

@@ -6,9 +6,9 @@ ghost use Rattle.eos_machine.specs.Switching.{switch_name, any_on};
 
 use crate::making::SimulationFault;
 use eos_cluster::{Switch, Switches};
+use eos_drive::{ChosenMishap, Mishap, Rates, Settings, Turning};
 use eos_history_lines::Head;
 use eos_machine::Config;
-use eos_drive::{ChosenMishap, Mishap, Rates, Settings, Turning};
 use eos_words::{Simulation, Sizes, Thousandths};
 use std::alloc::Global;
 

@@ -6,11 +6,14 @@ use crate::kept::simulate;
 use crate::making::{SimulationFault, told_to};
 use crate::replaying::{ReplayFault, replay};
 use crate::schedule_file::{end_unreplayed, read_schedule};
-use eos_disk::{Cause, ChangeFault, DiskMut, HostDisk, HostFile, WritingFault, Written, make_folder, write_whole};
+use eos_disk::{
+    Cause, ChangeFault, DiskMut, HostDisk, HostFile, WritingFault, Written, make_folder,
+    write_whole,
+};
+use eos_drive::History;
 use eos_ending::{Ending, STANDARD, end, end_unchanged, leave_file, make_file};
 use eos_evidence::Evidence;
 use eos_history_lines::Schedule;
-use eos_drive::History;
 use eos_words::Simulation;
 use std::io;
 

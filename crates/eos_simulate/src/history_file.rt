@@ -4,8 +4,8 @@ ghost use Rattle.std.specs.Prelude.{◌≡◌, IfOk};
 ghost use Rattle.eos_simulate.specs.Histories.{act_of, note_of, reply_of, act_said, reply_said, FitsTotals};
 
 use bytes::Bytes;
-use eos_history_lines::{Deed, Head, Line, Note, Tail, head_text, line_text, tail_text};
 use eos_drive::History;
+use eos_history_lines::{Deed, Head, Line, Note, Tail, head_text, line_text, tail_text};
 use std::alloc::{AllocError, Global};
 
 /// The lines of a history that began with a new cluster: what it was, what was done to it, and the totals.

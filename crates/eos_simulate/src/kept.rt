@@ -3,15 +3,15 @@
 ghost use Rattle.std.specs.Prelude.{◌≡◌, [], true, false, IfOk, OnOk};
 ghost use Rattle.eos_machine.specs.Schedules.{IsOfSchedule};
 ghost use Rattle.eos_machine.specs.Switching.{any_on};
-ghost use Rattle.eos_schedules.specs.Schedules.{HasRightLogs, HasNoFaultInLogs};
+ghost use Rattle.eos_simulate.specs.Schedules.{HasRightLogs, HasNoFaultInLogs};
 ghost use Rattle.eos_drive.specs.Driven.{IsKept};
 ghost use Rattle.eos_simulate.specs.Histories.{new_course, IsLeftBy, HasBroken};
 
 use crate::course::{Course, SWITCHES, is_on};
 use crate::making::{SimulationFault, evidence_of, new_cluster, none_unmet};
 use eos_cluster::{Cluster, Switches};
-use eos_evidence::Evidence;
 use eos_drive::{History, Script, run_kept, run_tail_kept};
+use eos_evidence::Evidence;
 use std::alloc::{AllocError, Global};
 
 /// What a cluster leaves that is driven by the words of a seed's script. With switches it breaks these rules, if not inside the

@@ -3,12 +3,15 @@
 #![tactic(auto)]
 
 mod course;
+mod evidence;
 mod folder;
 mod history_file;
 mod kept;
+pub mod laws;
 mod making;
 mod replaying;
 mod schedule_file;
+pub mod simulation_laws;
 
 pub use course::Course;
 pub use folder::simulate_folder;

@@ -5,16 +5,16 @@ ghost use Rattle.std.specs.Io.KnownBytes.{Appends, Keeps};
 ghost use Rattle.eos_text.specs.Writing.{WritesFront};
 ghost use Rattle.eos_machine.specs.Evidences.{IsEvidenceOf};
 ghost use Rattle.eos_machine.specs.Schedules.{IsOfSchedule};
-ghost use Rattle.eos_schedules.specs.Schedules.{HasRightLogs, HasNoFaultInLogs};
+ghost use Rattle.eos_simulate.specs.Schedules.{HasRightLogs, HasNoFaultInLogs};
 ghost use Rattle.eos_simulate.specs.Histories.{new_course};
 ghost use Rattle.eos_simulate.specs.Simulated.{wrote_line};
 ghost use Rattle.eos_segment.specs.Running.{IsOfReading};
 ghost use Rattle.eos_simulate.specs.declared.making.SimulationFault.TheVariants.{OutOfMemory};
 
 use eos_cluster::{Cluster, EvidenceRefusal, NewFault};
+use eos_drive::Mishap;
 use eos_evidence::Evidence;
 use eos_machine::Config;
-use eos_drive::Mishap;
 use eos_segment::RunFault;
 use eos_text::{finish, push_text, push_value};
 use std::alloc::{AllocError, AllocFailed, Global};
@@ -78,7 +78,7 @@ pub(crate) fn evidence_of(cluster: &Cluster) -> Result<Evidence, SimulationFault
     if !cluster.has_room() {
         return Err(SimulationFault::Limit);
     }
-    match eos_simulation::evidence_of(cluster) {
+    match crate::evidence::evidence_of(cluster) {
         Ok(evidence) => Ok(evidence),
         Err(EvidenceRefusal::NotAtRest) => Err(SimulationFault::NotAtRest),
         Err(EvidenceRefusal::OutOfMemory) => Err(SimulationFault::OutOfMemory),

@@ -13,10 +13,10 @@ ghost use Rattle.eos_simulate.specs.steps.Passing.{HavePassed, DiffersAfter, Has
 use crate::history_file::{noted_of, totals};
 use crate::making::{SimulationFault, evidence_of, new_cluster};
 use eos_cluster::Cluster;
+use eos_drive::History;
 use eos_evidence::Evidence;
 use eos_history_lines::{Deed, Line, Note, Schedule, Tail};
 use eos_machine::{Event, Reply};
-use eos_drive::History;
 use std::alloc::{AllocError, AllocFailed, Global};
 
 /// Why a schedule leaves no evidence.

@@ -8,8 +8,8 @@ ghost use Rattle.eos_sought.specs.Passing.{is_commit, group_in, is_key_of, names
 use crate::reading::{is_of, is_same};
 use bytes::Bytes;
 use eos_claims::Place;
-use eos_offsets::{KeyRef, view_key, view_value};
 use eos_kept::{ItemRef, Part};
+use eos_offsets::{KeyRef, view_key, view_value};
 use std::alloc::{AllocError, Global};
 
 /// The group of a key of a commit, if it is one.

@@ -11,9 +11,9 @@ ghost use Rattle.eos_disk.specs.declared.names.Form.TheVariants.{Fold};
 ghost use Rattle.eos_source.specs.steps.Folds.{IsForName};
 
 use bytes::Bytes;
+use eos_disk::{Cause, FoldRefusal, FolderFault, Form, refused_at, refused_fold, segment_path};
 use eos_evidence::{MAX_SEGMENT_BYTES, Segment};
 use eos_fold_file::{FoldFault, FoldFile, Unfit, decode_fold};
-use eos_disk::{Cause, FoldRefusal, FolderFault, Form, refused_at, refused_fold, segment_path};
 use std::alloc::{AllocError, Global};
 
 /// Why a fold isn't one of the segment by whose name its file lies there.

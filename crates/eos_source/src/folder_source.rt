@@ -5,10 +5,10 @@ ghost use Rattle.eos_evidence.specs.Evidence.{segments_of};
 
 use crate::fold::{read_fold, refused_unfit};
 use crate::reader::SegmentReader;
+use crate::{Piece, Source};
 use eos_disk::{Cause, Disk, FolderFault, Form, NamedFile, Shape, Watch, segment_path};
 use eos_evidence::{Evidence, ReadFault, Segment};
 use eos_fold_file::Unfit;
-use crate::{Piece, Source};
 use std::alloc::Global;
 
 /// A folder of this shape, as `read_shape` gives it.

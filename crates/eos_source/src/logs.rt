@@ -21,7 +21,7 @@ use crate::topics::source_topics;
 use eos_base::{Listed, Workers};
 use eos_board::Drawn;
 use eos_evidence::{Evidence, Partition};
-use eos_kept::{KeptRun, Part, Sizes, Told};
+use eos_kept::{KeptPart, KeptRun, Sizes, Told};
 use eos_reading::{EpochEntry, Wants};
 use eos_touch::PartitionFault;
 use std::alloc::{AllocError, Global};
@@ -39,7 +39,7 @@ pub struct Tally {
 #[derive(Drop)]
 pub struct KeptLogs {
     /// What is wanted of them.
-    pub parts: Vec<Part>,
+    pub parts: Vec<KeptPart>,
     /// The least fault of each one's bytes.
     pub faults: Vec<Option<PartitionFault>>,
     pub tallies: Vec<Tally>,

@@ -4,8 +4,8 @@ ghost use Rattle.std.specs.Prelude.{◌≡◌, string_bytes};
 ghost use Rattle.eos_disk.specs.Entries.{Entry};
 ghost use Rattle.eos_disk.specs.Refusals.{MayRefuse, RefusesFile};
 
-use eos_evidence::ReadFault;
 use eos_disk::{FolderFault, Watch, refusal_of};
+use eos_evidence::ReadFault;
 use std::alloc::Global;
 use std::io;
 use std::io::Read;

@@ -11,9 +11,9 @@ ghost use Rattle.eos_board.specs.Places.{IsFresh, AreBelow};
 
 use crate::plan::Plan;
 use crate::source::Source;
+use eos_base::Workers;
 use eos_board::{Drawn, Seat, Tickets};
 use eos_kept::KeptRun;
-use eos_base::Workers;
 use std::alloc::{AllocError, Global};
 use std::thread;
 use std::thread::Threads;

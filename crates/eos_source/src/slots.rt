@@ -10,9 +10,9 @@ ghost use Rattle.eos_board.specs.Places.{AreBelow};
 use crate::plan::Plan;
 use crate::seats::{place, read_by_threads};
 use crate::source::Source;
+use eos_base::Workers;
 use eos_board::Drawn;
 use eos_kept::KeptRun;
-use eos_base::Workers;
 use std::alloc::{AllocError, Global};
 use std::thread::Threads;
 

@@ -13,8 +13,8 @@ ghost use Rattle.eos_reading.specs.declared.wanted.Wanted.TheVariants as wants;
 
 use bytes::Bytes;
 use eos_evidence::End;
+use eos_kept::{Asked, Kept, KeptPart, KeptRun, Told};
 use eos_reading::{KeptOutput, KeptText, Wanted};
-use eos_kept::{Asked, Kept, KeptRun, Part, Told};
 use std::alloc::{AllocError, Global};
 
 fn presence_in(run: Option<KeptRun>) -> Option<Kept<()>>
@@ -75,12 +75,12 @@ pub(crate) fn told_of(
     ensures { IfOk result (λ told. (segments : List Segment) → AreKeptRun asked.entry.topics.now segments run → AreOf end.topic end.partition segments → IsTold asked.entry.wanted end segments told) }
 {
     match asked.wanted {
-        Wanted::Presence => Part::of_presence(alloc, end, presence_in(run)),
+        Wanted::Presence => KeptPart::of_presence(alloc, end, presence_in(run)),
         Wanted::Claims => {
             let kept = claims_in(run);
             let topics = copy_of(alloc, asked.topics)?;
-            Part::of_outputs(alloc, end, topics, kept)
+            KeptPart::of_outputs(alloc, end, topics, kept)
         }
-        Wanted::Texts => Part::of_texts(alloc, end, texts_in(run)),
+        Wanted::Texts => KeptPart::of_texts(alloc, end, texts_in(run)),
     }
 }

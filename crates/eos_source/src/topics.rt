@@ -4,8 +4,8 @@ ghost use Rattle.std.specs.Prelude.{◌≡◌, ◌++◌, IfOk, OnOk};
 ghost use Rattle.eos_source.specs.Topics.{sources_of, AreSourceTopics};
 
 use bytes::Bytes;
-use eos_evidence::App;
 use eos_base::distinct_in_order;
+use eos_evidence::App;
 use std::alloc::{AllocError, Global};
 
 /// Puts equal names at the end, which share their bytes.

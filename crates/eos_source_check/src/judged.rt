@@ -11,9 +11,9 @@ use eos_base::{Listed, Workers};
 use eos_check::{Verdict, judge};
 use eos_evidence::Evidence;
 use eos_kept::Logs;
+use eos_notes::Counted;
 use eos_reading::EpochEntry;
 use eos_source::{Source, kept_logs};
-use eos_notes::Counted;
 use std::alloc::Global;
 use std::thread::Threads;
 

@@ -5,13 +5,13 @@ ghost use Rattle.eos_source_check.specs.steps.Apart.{counted_as, IsApart};
 
 use eos_base::Listed;
 use eos_kept::{Logs, Part};
+use eos_notes::Counted;
 use eos_reading::EpochEntry;
 use eos_source::{KeptLogs, Tally};
-use eos_notes::Counted;
 use std::alloc::{AllocError, Global};
 
 /// The same parts, one by one.
-fn wrapped(alloc: Global, parts: Vec<eos_kept::Part>) -> Result<Vec<Part>, AllocError>
+fn wrapped(alloc: Global, parts: Vec<eos_kept::KeptPart>) -> Result<Vec<Part>, AllocError>
     ensures { IfOk result (λ all. all.items ≡ parts.items) }
 {
     let mut all = Vec::new(alloc);

@@ -12,10 +12,10 @@ ghost use Rattle.eos_source_check.specs.LaterFaults.{AreLaterFaults};
 use eos_check::Fault;
 use eos_commits::VisibleFault;
 use eos_evidence::Spec;
-use eos_lineage::LineageFault;
-use eos_table::{LogFault, MatchFault, all_log_faults, all_match_faults};
 use eos_faults::{all_output_faults, all_record_faults};
 use eos_kept::{Logs, Part};
+use eos_lineage::LineageFault;
+use eos_table::{LogFault, MatchFault, all_log_faults, all_match_faults};
 use std::alloc::{AllocError, Global};
 
 fn of_log(alloc: Global, faults: Vec<LogFault>) -> Result<Vec<Fault>, AllocError>

@@ -6,11 +6,11 @@ ghost use Rattle.eos_table.specs.LogFaults.{log_cmp, Stands as StandsInLog};
 ghost use Rattle.eos_base.specs.AllOf.{IsAllOf};
 ghost use Rattle.eos_table.specs.steps.Gathered.{gathered};
 
+use crate::LogFault;
 use crate::log_doubled::push_doubled;
 use crate::reading::{Reading, read_log};
 use eos_base::distinct_in_order;
 use eos_kept::Part;
-use crate::LogFault;
 use std::alloc::{AllocError, Global};
 
 /// The faults as they are found, one perhaps more than once.

@@ -10,8 +10,8 @@ ghost use Rattle.eos_table.specs.declared.log_mark.Mark.{Mark};
 ghost use Rattle.eos_table.specs.steps.Gathered.{AreHomes, AreIds, home_in, lesser_home, with_id, split_at, shared_if, shared_at, doubled_after};
 
 use crate::log_mark::{Mark, Place, push_fault};
-use bytes::Bytes;
 use crate::{LogFault, LogFaultKind};
+use bytes::Bytes;
 use std::alloc::{AllocError, Global};
 use std::collections::BTreeMap;
 

@@ -4,8 +4,8 @@ ghost use Rattle.std.specs.Prelude.{◌≡◌, ◌++◌, ◌∷◌, [], OnOk};
 ghost use Rattle.std.specs.Option.{option_copied};
 ghost use Rattle.eos_table.specs.steps.LogCandidates.{fault_at, natural, producer_of};
 
-use bytes::Bytes;
 use crate::{LogFault, LogFaultKind};
+use bytes::Bytes;
 use eos_txnlog::TxnValue;
 use std::alloc::AllocError;
 

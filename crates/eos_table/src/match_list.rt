@@ -7,13 +7,13 @@ ghost use Rattle.eos_table.specs.MatchFaults.{fault_cmp, Stands};
 ghost use Rattle.eos_base.specs.AllOf.{IsAllOf};
 ghost use Rattle.eos_table.specs.MatchPlaces.{at_decision, at_closes, at_markers, at_names, gathered};
 
+use crate::MatchFault;
 use crate::decided::deciders_of;
 use crate::match_key::{ended_in_order, listed_in_order, marked_in_order, names_in_order};
-use crate::places::{push_closes, push_decisions, push_markers, push_names};
 use crate::match_reading::read_decisions;
+use crate::places::{push_closes, push_decisions, push_markers, push_names};
 use eos_base::distinct_in_order;
 use eos_kept::Part;
-use crate::MatchFault;
 use eos_txnlog::Decision;
 use std::alloc::{AllocError, Global};
 

@@ -12,11 +12,11 @@ ghost use Rattle.eos_table.specs.steps.Shown.{twice_by, decision_by, data_by, cl
 use crate::decided::{Decided, Deciders, decided_of};
 use crate::match_key::{Ended, Listed, NameRef, name_in, name_of_part};
 use crate::match_look::{is_ended, is_listed, is_name};
+use crate::{MatchFault, MatchFaultKind};
 use eos_base::{PartitionName, Sorted};
 use eos_batch::{Kind, Marker};
 use eos_fold::Close;
 use eos_kept::Part;
-use crate::{MatchFault, MatchFaultKind};
 use eos_txnlog::{Decision, TopicPartitions};
 use std::alloc::AllocError;
 

@@ -9,9 +9,9 @@ ghost use Rattle.eos_table.specs.steps.Gathered.{said, step_at, steps_after, ste
 
 use crate::log_content::read_content;
 use crate::log_mark::{Mark, Place, producer_of, push_fault};
+use crate::{LogFault, LogFaultKind};
 use bytes::Bytes;
 use eos_kept::{ItemRef, Part};
-use crate::{LogFault, LogFaultKind};
 use eos_txnlog::{TxnValue, is_skipped, step_ok};
 use std::alloc::{AllocError, Global};
 use std::collections::BTreeMap;

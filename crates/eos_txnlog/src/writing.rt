@@ -20,7 +20,10 @@ use crate::partitions::TopicPartitions;
 use crate::value::TxnValue;
 use bytes::Bytes;
 use eos_base::RecordFault;
-use eos_wire::{Form, fits_count, fits_length, write_count, write_i16, write_i32, write_i64, write_i8, write_section, write_text};
+use eos_wire::{
+    Form, fits_count, fits_length, write_count, write_i8, write_i16, write_i32, write_i64,
+    write_section, write_text,
+};
 use std::alloc::{AllocError, Global};
 
 // ---- what fits its length field

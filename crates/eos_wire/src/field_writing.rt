@@ -6,8 +6,8 @@ ghost use Rattle.eos_wire.specs.Writing.{uvarint_of};
 ghost use Rattle.eos_wire.specs.FieldWriting.{fits_length, length_text, fits_count, count_text, section_text, string_text};
 
 use crate::form::Form;
-use bytes::Bytes;
 use crate::{write_i16, write_i32, write_uvarint};
+use bytes::Bytes;
 use std::alloc::AllocError;
 
 /// Whether a text of so many bytes fits its length field.

@@ -10,9 +10,9 @@ ghost use Rattle.std.specs.Prelude.{IfErr};
 ghost use Rattle.eos_base.specs.Records.{Parses, skipped};
 ghost use Rattle.eos_wire.specs.Reading.{IsOfField, uvarint_from, length_from, count_from, string_from, many_from, tagged_from, section_from};
 
+use crate::Cursor;
 use crate::form::Form;
 use eos_base::RecordFault;
-use crate::Cursor;
 
 /// The most bytes of an unsigned varint.
 const VARINT_MOST: usize = 5;

@@ -12,8 +12,8 @@ use crate::subcommands::Subcommand;
 use clap::builder::ValueParser;
 use clap::error::{Error, ErrorKind};
 use clap::{Arg, ArgAction, ArgMatches, Command};
-use eos_text::push_kinds;
 use eos_base::Workers;
+use eos_text::push_kinds;
 use std::alloc::{AllocError, Global};
 use std::io;
 

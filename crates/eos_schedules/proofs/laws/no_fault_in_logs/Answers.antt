@@ -1,5 +1,0 @@
-use Rattle.eos_schedules.proofs.EverySchedule.{no_fault_in_logs}
-use Rattle.eos_schedules.proofs.laws.no_fault_in_logs.Goals as goal
-
-pub returns : goal.returns
-returns g = no_fault_in_logs

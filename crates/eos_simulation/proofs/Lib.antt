@@ -1,4 +1,0 @@
-pub mod AddedEvidence
-pub mod CoveredBytes
-pub mod ItemTexts
-pub mod LeftEvidence
