@@ -1,5 +1,6 @@
-//! What every crate of the checker stands on: the list type that contracts see as a list, lists in order as sets, the
-//! least of what is found, the names of partitions, and the faults of the internal logs' records.
+//! What every crate of the checker stands on: the list type that contracts see as a list, lists in order as sets, the least
+//! of what is found and all of it as one list in order, the names of partitions, the faults of the internal logs' records,
+//! and how many workers there are (from 1 to 64, by its type).
 #![tactic(auto)]
 
 mod distinct;

@@ -1,6 +1,8 @@
-//! One partition of a simulated cluster: its log, and what its broker holds of each application's producer id, which is a
-//! function of the log; and the law that whatever is asked of a broker, no fault of a sequence or an epoch stands at a
-//! batch that it appends.
+//! What a simulated cluster holds in memory: a partition with its log and what its broker holds of each application's
+//! producer id, which is a function of the log; the machine's state with room for more of each list, and the questions and
+//! changes of which its events are made.
+//!
+//! The law of a broker: whatever is asked of it, no fault of a sequence or an epoch stands at a batch that it appends.
 #![tactic(auto)]
 
 pub mod answers;

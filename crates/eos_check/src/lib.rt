@@ -1,4 +1,7 @@
 //! The verdict over evidence: was the promise of exactly once kept, and if not, which is the first fault?
+//!
+//! The verdict over what is wanted of an evidence's logs is the verdict over the logs: so who has looked at each log when it
+//! was read may forget its bytes.
 #![tactic(auto)]
 
 mod judging;

@@ -217,7 +217,7 @@ impl Cluster {
     /// The logs of a cluster at rest as evidence, honest or not: in segments of the configured number of records, the last of
     /// a partition with as many as are left, with true ends; the groups are `g`, which reads `in` and writes `out`,
     /// and, where there is a second one, `h`, which reads `out` and writes `fin`. Of an honest
-    /// cluster it is the evidence of a schedule, of which `eos_schedules` says that no fault of the logs stands in it.
+    /// cluster it is the evidence of a schedule, of which `eos_simulate` says that no fault of the logs stands in it.
     ///
     /// # Errors
     /// `NotAtRest` where a transaction is open or still ending; `OutOfMemory` where a growth was refused.

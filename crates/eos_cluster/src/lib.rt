@@ -1,5 +1,7 @@
 //! A simulated Kafka cluster for exactly-once applications: brokers, coordinators, producers and what is on its way between
-//! them, in one process and with no clock. Each event does what the machine's definitions say under the switches that are set.
+//! them, in one process and with no clock. Each event does what the machine's definitions say under the switches that are
+//! set: what clients do (inputs, sessions, what they ask and fetch), and what brokers and the transaction coordinator do
+//! (messages as they arrive, restarts). A module of either answers the machine's definition whose name it has.
 #![tactic(auto)]
 
 mod accept;

@@ -1,6 +1,8 @@
-//! The commands that need no verdict: the listing of a segment and the check of its producers, the page of a kind of fault, the
-//! manifest of a folder of copied logs, which partition of Kafka's own two topics names have, and the folds of segments, which are written
-//! or compared with logs.
+//! The commands that need no verdict: the listing of a segment and the check of its producers, the page of a kind of fault,
+//! the manifest of a folder of copied logs, which partition of Kafka's own two topics names have, and the folds of segments,
+//! which are written or compared with logs.
+//!
+//! What a command makes is written whole or not at all, and never over another file.
 #![tactic(auto)]
 
 mod coordinator;

@@ -1,5 +1,7 @@
-//! What the program sees of files: a disk that opens and lists, makes and takes away. What stands at a path is a ghost of it, so that the
-//! contracts above can speak of the bytes of files.
+//! What the program sees of files: a disk that opens and lists, makes and takes away; and evidence as a folder of files, read
+//! and written. What stands at a path is a ghost of the disk, so that the contracts above can speak of the bytes of files.
+//!
+//! In a new folder that evidence was written into stands that evidence and nothing else, so that it is read back.
 #![tactic(auto)]
 
 mod cause;

@@ -1,4 +1,6 @@
-//! `draw` as a command: the picture of a fault, and the file that it becomes.
+//! `draw` as a command: the picture of a fault, where each part of it lies, and the file that it becomes, which is SVG (W3C,
+//! "Scalable Vector Graphics 1.1"): a few shapes, and texts that stay texts whatever bytes they have. It names no script and
+//! nothing outside of itself.
 #![tactic(auto)]
 
 mod answer;

@@ -1,7 +1,12 @@
-//! What drives a simulated cluster: a script alone, or many scripts at once by threads that share it.
+//! What drives a simulated cluster: scripts of words from a seed, and the applications of one or two groups that read,
+//! process and write in transactions, whose requests are lost and repeated, whose sessions are abandoned and whose brokers
+//! and coordinators restart, as the words say. One script may drive it alone, or many at once by threads: then it lies under
+//! a lock, beside the history of all that it was asked and answered.
 //!
-//! Proved: each call returns, and drives the cluster by events alone, so that whatever holds of every cluster holds of it
-//! afterwards, and the history of a shared cluster is its replay.
+//! Proved: the words of a script are those of its seed; each call returns, and does nothing to the cluster but ask it for
+//! events and set its switches, so that whatever holds of every cluster holds of it afterwards. A history has each event that
+//! the cluster took with the machine's reply, and each time that the switches were set, in order; that of a shared cluster is
+//! its replay. What the applications make of their inputs, and what is counted, is tested.
 #![tactic(auto)]
 
 mod deed;

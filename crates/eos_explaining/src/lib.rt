@@ -1,4 +1,5 @@
-//! `explain` of a folder: the story of a fault of an evidence.
+//! `explain` of a folder: the story of a fault of an evidence, and its text, which has a line for each row of the story, what
+//! the fault means, what to do next, how many faults of each kind there are, and the notes.
 #![tactic(auto)]
 
 mod answer;

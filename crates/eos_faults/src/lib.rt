@@ -1,7 +1,9 @@
-//! All faults of visible records, in the order that makes the first of them least.
+//! All faults of a partition's log by itself, of visible records, and of the applications' outputs: three lists, each in the
+//! order that makes the first of them least.
 //!
-//! One walk over the records, in the order of their partitions: each shows its faults of all kinds by itself, but for a split
-//! group, which it shows against the records before it.
+//! Of a partition each place of its front shows its faults. Over the records there is one walk, in the order of their
+//! partitions: each shows its faults of all kinds by itself, but for a split group, which it shows against the records before
+//! it.
 #![tactic(auto)]
 
 mod application;

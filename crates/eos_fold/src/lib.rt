@@ -1,5 +1,9 @@
-//! What a partition's log says of exactly-once delivery, worked out in one pass over its record batches; and `chain`, which
-//! takes one segment as a whole partition.
+//! What a partition's log says of exactly-once delivery, by definitions over its bytes and worked out in one pass over its
+//! record batches; and `chain`, which takes one segment as a whole partition.
+//!
+//! The log's data batches are an index beside the bytes: a batch costs one entry, and a record is read where it stands when
+//! it is asked for. Of a run of batches a summary is worked out batch by batch or joined from its parts. Bytes come chunk by
+//! chunk: what was taken is forgotten, and the bytes of a batch that isn't whole yet stay in one buffer.
 #![tactic(auto)]
 
 pub mod batch_laws;

@@ -1,6 +1,9 @@
-//! What is kept of a segment, as a file: its heads, where its leader epoch changes, of each data record what was wanted, and why its
-//! front ends. `docs/FOLD.md` has
-//! the layout. A fold has one file, which is written and read exactly.
+//! What is kept of a segment, as a file: its heads, where its leader epoch changes, of each data record what was wanted, and
+//! why its front ends. `docs/FOLD.md` has the layout. A fold has one file, which is written and read exactly.
+//!
+//! A fold is made where the segment lies, which is read once, chunk by chunk. It is taken as if its segment had been read,
+//! whoever made it: its heads are passed one after the other, as those of a log are, and its claims are tested, so that what
+//! stands above rests on nothing that a file only says.
 #![tactic(auto)]
 
 mod claim;

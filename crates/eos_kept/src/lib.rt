@@ -1,9 +1,14 @@
-//! What a partition's segments say of exactly-once delivery, without their bytes: the front of their batches, and of each data
-//! record what a reading keeps. Batches, segments and bytes are counted.
+//! What a partition's segments say of exactly-once delivery, without their bytes: the front of their batches, and of each
+//! data record what a reading keeps. Of a run of batches it is worked out batch by batch or joined from its parts; of a
+//! partition it is made of its segments'. Batches, segments and bytes are counted.
 //!
-//! A segment is read chunk by chunk; what was taken of a chunk is forgotten. In memory a data record costs what is kept of it, a
-//! data batch and a producer id what `eos_run` says, and an end marker 24 bytes. While a segment is read, a chunk's heads and the
-//! bytes of a batch that isn't whole yet are held too.
+//! The phases read a log in one of two forms that say the same: over all bytes of its segments, or over what is kept. Who
+//! shows what stands around a fault asks for the first; a verdict needs the second alone.
+//!
+//! A segment is read chunk by chunk; what was taken of a chunk is forgotten. In memory a data record costs what is kept of
+//! it, a data batch 56 bytes (its head), and 8 more as long as it is transactional and waits for its end marker, a producer
+//! id some 150, and an end marker 24. While a segment is read, a chunk's heads and the bytes of a batch that isn't whole yet
+//! are held too.
 #![tactic(auto)]
 
 mod apart;

@@ -1,6 +1,7 @@
-//! A simulated cluster as a machine: what its members hold, what may happen to it, and what it answers, by definitions
-//! that the cluster's code is proved against; and the theorem on every schedule, over these definitions alone. Of code
-//! only what sizes and switches say stands here.
+//! A simulated cluster as a machine: what its members hold, what may happen to it, and what it answers, by definitions that
+//! the cluster's code is proved against; its logs as they are written down, with the bytes of each batch, the segments, the
+//! true ends and the evidence of a schedule; and the theorem on every schedule, over these definitions alone. Of code only
+//! what sizes and switches say stands here.
 #![tactic(auto)]
 
 mod config;

@@ -1,7 +1,11 @@
-//! The notes of an evidence: signs that it isn't the one that was meant.
+//! What stands beside a verdict: the notes of an evidence, signs that it isn't the one that was meant, and the tables of a
+//! report, which say what each partition holds and how far each application's group has got.
 //!
-//! A yes about evidence that was named wrongly is the worst answer: a partition that the manifest forgets isn't judged, and of a
-//! group that it misspells no offset is found. A note changes no verdict.
+//! A yes about evidence that was named wrongly is the worst answer: a partition that the manifest forgets isn't judged, and
+//! of a group that it misspells no offset is found. A note changes no verdict.
+//!
+//! The tables are counted over the logs that the verdict is of; a partition's batches and bytes over its segments, or by what
+//! was told of these when they were read, since a log that is kept has no more of them than that.
 #![tactic(auto)]
 
 mod counts;

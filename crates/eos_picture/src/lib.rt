@@ -1,5 +1,8 @@
-//! The picture of what a fault is about, as a value: the transactions around it, each as a column, the partitions that they wrote to and
-//! read from, each as a row, and in each cell what the transaction did there. How it is drawn, a crate above says.
+//! The picture of what a fault is about, as a value: the transactions around it, each as a column, the partitions that they
+//! wrote to and read from, each as a row, and in each cell what the transaction did there. How it is drawn, a crate above
+//! says.
+//!
+//! The picture over what is wanted of an evidence's logs is one of the logs: so who draws it may forget their bytes.
 #![tactic(auto)]
 
 mod acts;

@@ -1,8 +1,11 @@
 //! What a log's data records say, read once and without keeping their bytes.
 //!
-//! A reading says what is wanted of a record; a fold goes along a log's batches, keeps the head of each and of each data
-//! record what is wanted, and forgets the bytes. It is fed chunk by chunk, and what it then is doesn't depend on where the
-//! chunks were cut.
+//! A reading says what is wanted of a record: of an output's its claim, of a record of Kafka's own logs its key and its value
+//! too. A fold goes along a log's batches, keeps the head of each and of each data record what is wanted, and forgets the
+//! bytes. It is fed chunk by chunk, and what it then is doesn't depend on where the chunks were cut.
+//!
+//! In memory the record of an output costs 32 bytes where its claim names one of the topics that are asked for, and some 200
+//! more where it names another one.
 #![tactic(auto)]
 
 mod batch;

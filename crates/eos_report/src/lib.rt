@@ -1,4 +1,5 @@
-//! The verdict as a line of text, and as a JSON value.
+//! The verdict, its faults and its notes for those who read them: as a line of text, as a line of JSON, as a report, which is
+//! one JSON object whose schema stands in `docs/report.schema.json`, and as a page of HTML.
 #![tactic(auto)]
 
 mod about;

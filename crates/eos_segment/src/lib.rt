@@ -1,4 +1,5 @@
-//! One segment of a log: its listing, and whether its producers kept their promises.
+//! One segment of a log: its listing, with what a record of an output topic or of an internal log says as a line, and whether
+//! its producers kept their promises.
 #![tactic(auto)]
 
 mod chain;

@@ -1,5 +1,8 @@
-//! The command `simulate`: what its words or a schedule make of a simulated cluster, the evidence that this leaves, its folder,
-//! and the history of it.
+//! The command `simulate`: what its words or a schedule make of a simulated cluster, the evidence that this leaves, its
+//! folder, and the history of it.
+//!
+//! Here the simulated cluster and the theorem on every schedule are brought together: of an honest cluster's evidence, as the
+//! checker reads it, no fault of the logs stands in it, and there is such evidence wherever there is room.
 #![tactic(auto)]
 
 mod course;

@@ -1,5 +1,8 @@
-//! The data records that a fault speaks of, found in the logs: those that claim an input, the states of a transactional id or of
-//! a producer id, and the commits of a source partition.
+//! The data records that a fault speaks of, found in the logs: those that claim an input, the states of a transactional id or
+//! of a producer id, and the commits of a source partition; and where the batches of a partition stand, which segment and
+//! which bytes.
+//!
+//! The checker keeps no byte of a batch: places that a reader can look up are found by walking over the segments anew.
 #![tactic(auto)]
 
 mod alike;

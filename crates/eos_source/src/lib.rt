@@ -1,8 +1,9 @@
-//! The kept logs of an evidence whose pieces are read from a source, each once and never whole: a piece is read chunk by chunk,
-//! of its data records is kept what is wanted, and the runs of a partition are joined.
+//! The kept logs of an evidence whose pieces are read from a source, each once and never whole: a piece is read chunk by
+//! chunk, of its data records is kept what is wanted, and the runs of a partition are joined.
 //!
-//! The source may be a folder of files or an evidence in memory. Of which pieces there are the shape says: an evidence whose
-//! segments have their names and no bytes. In memory is what is kept, and for each thread what reading one segment takes.
+//! The source may be a folder of files on any disk, or an evidence in memory. Of which pieces there are the shape says: an
+//! evidence whose segments have their names and no bytes. A file is opened when a thread wants it; a log is read once and in
+//! order, a fold whole. In memory is what is kept, and for each thread what reading one segment takes.
 #![tactic(auto)]
 
 mod again;

@@ -1,8 +1,13 @@
-//! The verdict of an evidence that is read from a source: worked out of what is kept of its logs, it is that of the logs.
+//! The verdict of an evidence that is read from a source, all its faults, its notes and its tables: worked out of what is
+//! kept of its logs, each is that of the logs.
 //!
-//! Of a source whose bytes are known, as an evidence in memory, it is the verdict of these bytes. What a file gives no contract can
-//! say: of a folder of logs it is the verdict of some evidence of this shape, which is the one that was read. Where a piece is a fold
-//! it is the verdict of each evidence whose segment has this fold: that there is one is for who made the fold to know.
+//! Of a source whose bytes are known, as an evidence in memory, it is the verdict of these bytes. What a file gives no
+//! contract can say: of a folder of logs it is the verdict of some evidence of this shape, which is the one that was read.
+//! Where a piece is a fold it is the verdict of each evidence whose segment has this fold: that there is one is for who made
+//! the fold to know.
+//!
+//! For the list of all faults only a partition that has a fault by itself is read again, since of its log no bytes were kept:
+//! one such partition after the other, never two at once.
 #![tactic(auto)]
 
 mod again;

@@ -1,4 +1,5 @@
-//! The transactions: what the log of Kafka's transaction coordinator decided, and whether the partitions' logs agree.
+//! The transactions: what the log of Kafka's transaction coordinator decided, and whether the partitions' logs agree; the
+//! first fault of either, and all of them in the order that makes the first of them least.
 #![tactic(auto)]
 
 mod agree;

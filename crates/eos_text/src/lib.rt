@@ -1,4 +1,8 @@
-//! Texts that grow at their end, and are then written whole or in part.
+//! Texts that grow at their end, and are then written whole or in part; and the catalogue of faults: for each kind a page
+//! that says what it is, what it means, what makes it happen and what to look at.
+//!
+//! The catalogue is one table, from which `explain --code`, `docs/FAULTS.md` and the list of kinds in the help of `check`
+//! come.
 #![tactic(auto)]
 
 mod case;

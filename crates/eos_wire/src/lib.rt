@@ -1,5 +1,6 @@
-//! The numbers and the checksum of Kafka's record formats: variable-length numbers, CRC-32C, and fields read one after
-//! the other. The codecs of record batches and of the internal logs stand on these.
+//! What Kafka's record formats are made of: variable-length numbers, CRC-32C, fields read one after the other, and the fields
+//! of Kafka's messages, which are lengths and counts, texts, and sections of tagged fields, in the plain and in the flexible
+//! form. The codecs of record batches and of the internal logs stand on these.
 #![tactic(auto)]
 
 mod crc;
