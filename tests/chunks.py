@@ -4,8 +4,8 @@
     tests/chunks.py NUMBER SEED
 
 Each segment of tests/segments, cuts of it, and NUMBER damaged and made-up ones (see tests/mutants.py) are fed in chunks of 1, 7,
-61 and 4,096 bytes and whole, as to `chain_in` (the chain), `count_in` (the batches, their data records and where they stop) and
-`count_from` (the same from a reader). Prints what differs, and as its last line 'N passed, N failed'. tests/unproved.py asks 60.
+61 and 4,096 bytes and whole, as to `chain_in` (the chain) and `count_in` (the batches, their data records and where they stop).
+Prints what differs, and as its last line 'N passed, N failed'. tests/unproved.py asks 60.
 """
 import glob
 import os
@@ -18,7 +18,7 @@ from chain_of_listing import answer
 from unproved import Asked, tell
 
 SEGMENTS = os.path.join(os.path.dirname(os.path.abspath(__file__)), "segments")
-CALLS = "chain_in", "count_in", "count_from"
+CALLS = "chain_in", "count_in"
 # Bytes in a chunk; 0 for all at once.
 SIZES = 1, 7, 61, 4096, 0
 KEPT = re.compile(r"ok batches=(\d+) producers=(\d+)")
@@ -76,7 +76,7 @@ def all_asked(number=60, seed=7):
         lines = mutants.read(data)
         chain, counts = of_chain(answer(lines)), of_listing(lines)
         sizes = ",".join(map(str, SIZES))
-        asked.append((name, f"in_chunks {data.hex() or '-'} {sizes}", (chain, counts, counts)))
+        asked.append((name, f"in_chunks {data.hex() or '-'} {sizes}", (chain, counts)))
 
     def judge(answers):
         failed = [] if len(answers) == len(asked) else [f"{len(answers)} answers to {len(asked)} segments in chunks"]

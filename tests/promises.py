@@ -17,7 +17,7 @@ from shape import COMMENTS, TESTS, TEXTS, crates, read
 
 PAGE = "docs/YES.md"
 README = "README.md"
-ACTS = "crates/eoscheck/src/run.rt"
+ACTS = "crates/eoscheck/src/acts.rt"
 # What the words of a command are carried out by.
 CARRIED_OUT = {
     "check": "check_words",

@@ -11,8 +11,8 @@ use Rattle.atomic_table.specs.Table.{Me, keeps, stepped, Allows, Enters, Joins}
 use Rattle.atomic_table.proofs.Lists.{at_set, set_again}
 use Rattle.eos_board.specs.declared.rule.Limits.{Limits}
 use Rattle.eos_board.specs.declared.rule.View.{View}
-use Rattle.eos_board.specs.Places.{Place, once_below}
-use Rattle.eos_board.specs.steps.Places.{open_seats}
+use Rattle.eos_board.specs.SeatViews.{SeatView, once_below}
+use Rattle.eos_board.specs.steps.OpenSeats.{open_seats}
 use Rattle.eos_board.specs.TicketRule.{allowances, all_parts, Fits, KeepsRule, KnowsAll, nobody, together}
 use Rattle.eos_board.proofs.SeatSums.{sum_by_set}
 use Rattle.eos_board.proofs.TicketSteps.{Facts, facts_of, rule_of, still_fits, snoc_fits}
@@ -145,18 +145,18 @@ look_allowed key slots id me all s rule len at fits =
 abbrev test : Bool → ℕ
 test is_done = if is_done then 0 else 1
 
-abbrev may_draw : Place → ℕ
+abbrev may_draw : SeatView → ℕ
 may_draw seat = test seat.is_done
 
 at_most_one : (is_done : Bool) → (if is_done then 0 else 1) ≤ 1
 at_most_one true = omega arith
 at_most_one false = omega arith
 
-at_most_all : (seats : List Place) → open_seats seats ≤ length seats
+at_most_all : (seats : List SeatView) → open_seats seats ≤ length seats
 at_most_all [] = omega arith
 at_most_all (s ∷ ss) = omega (arith, at_most_one s.is_done, at_most_all ss, sum_by-cons may_draw s ss)
 
-fewer : (seats : List Place) (k : ℕ) (x : Place) → k < length seats → get_or seats k x ≡ x → x.is_done ≡ true → open_seats seats < length seats
+fewer : (seats : List SeatView) (k : ℕ) (x : SeatView) → k < length seats → get_or seats k x ≡ x → x.is_done ≡ true → open_seats seats < length seats
 fewer [] k x less at done = absurd (omega (arith, less))
 fewer (s ∷ ss) zero x less at done =
     let none : may_draw s ≡ 0 = ap may_draw at ∙ ap test done in
@@ -165,5 +165,5 @@ fewer (s ∷ ss) (suc k) x less at done =
     omega (arith, at_most_one s.is_done, fewer ss k x (omega (arith, less)) at done, sum_by-cons may_draw s ss)
 
 -- where one of the seats is done, not all may draw
-pub some_done : (seats : List Place) → Any (λ s. s.is_done ≡ true) seats → open_seats seats < length seats
+pub some_done : (seats : List SeatView) → Any (λ s. s.is_done ≡ true) seats → open_seats seats < length seats
 some_done seats any = fewer seats any.0 any.1 any.2 any.3 any.4

@@ -2,11 +2,11 @@
 use Rattle.std.proofs.Common.{◌≡◌, ℕ, List, sym, ap, subst, inl, inr, arith}
 use Rattle.eos_base.specs.Members.{Has}
 use Rattle.eos_fold.specs.Sums.{NamedView}
-use Rattle.eos_board.specs.Runs.{Joins, placed}
-use Rattle.eos_board.specs.steps.RunPlaces.{BeginsHere, IsJoint}
+use Rattle.eos_board.specs.Runs.{Joins, inserted}
+use Rattle.eos_board.specs.steps.RunSlots.{BeginsHere, IsJoint}
 use Rattle.eos_board.proofs.RunsStanding.{has_placed}
 
-pub second_there : (old mid : List NamedView) (first seam : ℕ) (before : NamedView) → IsJoint old first seam → before.first ≡ first → old ≡ placed before mid
+pub second_there : (old mid : List NamedView) (first seam : ℕ) (before : NamedView) → IsJoint old first seam → before.first ≡ first → old ≡ inserted before mid
     → (b : NamedView) × Has mid b × (b.first ≡ seam)
 second_there old mid first seam before j e o = (
   j.b,
@@ -17,7 +17,7 @@ second_there old mid first seam before j e o = (
   j.b_first,
 )
 
-pub pair_joins : (old mid : List NamedView) (first seam : ℕ) (before after : NamedView) → IsJoint old first seam → before.first ≡ first → old ≡ placed before mid
+pub pair_joins : (old mid : List NamedView) (first seam : ℕ) (before after : NamedView) → IsJoint old first seam → before.first ≡ first → old ≡ inserted before mid
     → BeginsHere old first before → BeginsHere mid seam after → Joins before after
 unfolding second_there
 pair_joins old mid first seam before after j e o begins ends =

@@ -6,7 +6,7 @@ use Rattle.std.proofs.lemmas.Bool.{cases_lt, ne_eqb, eq-eqb, lt-ltb, le-ltb}
 use Rattle.std.proofs.lemmas.List.Sums.{sum_by-cons, sum_by-append}
 use Rattle.eos_base.specs.Members.{Has}
 use Rattle.eos_fold.specs.Sums.{NamedView}
-use Rattle.eos_board.specs.Runs.{HasPiece, placed}
+use Rattle.eos_board.specs.Runs.{HasPiece, inserted}
 use Rattle.eos_board.specs.PoolState.{run_pieces}
 use Rattle.eos_board.specs.PoolEvents.{merged}
 
@@ -15,12 +15,12 @@ sum_flat f h [] = refl
 sum_flat f h (x ∷ xs) =
     sum_by-append f (h x) (flat_map h xs) ∙ (ap (λ n. sum_by f (h x) + n) (sum_flat f h xs) ∙ sym (sum_by-cons (λ y. sum_by f (h y)) x xs))
 
-placed_either : (b : Bool) (f : NamedView → ℕ) (run r : NamedView) (rs : List NamedView) → sum_by f (placed run rs) ≡ f run + sum_by f rs
-    → sum_by f (if b then run ∷ r ∷ rs else r ∷ placed run rs) ≡ f run + sum_by f (r ∷ rs)
+placed_either : (b : Bool) (f : NamedView → ℕ) (run r : NamedView) (rs : List NamedView) → sum_by f (inserted run rs) ≡ f run + sum_by f rs
+    → sum_by f (if b then run ∷ r ∷ rs else r ∷ inserted run rs) ≡ f run + sum_by f (r ∷ rs)
 placed_either true f run r rs h = sum_by-cons f run (r ∷ rs)
-placed_either false f run r rs h = omega (arith, sum_by-cons f r (placed run rs), sum_by-cons f r rs, h)
+placed_either false f run r rs h = omega (arith, sum_by-cons f r (inserted run rs), sum_by-cons f r rs, h)
 
-pub sum_placed : (f : NamedView → ℕ) (run : NamedView) (runs : List NamedView) → sum_by f (placed run runs) ≡ f run + sum_by f runs
+pub sum_placed : (f : NamedView → ℕ) (run : NamedView) (runs : List NamedView) → sum_by f (inserted run runs) ≡ f run + sum_by f runs
 sum_placed f run [] = sum_by-cons f run []
 sum_placed f run (r ∷ rs) = placed_either (nat_le run.first r.first) f run r rs (sum_placed f run rs)
 

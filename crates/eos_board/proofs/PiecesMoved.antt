@@ -8,7 +8,7 @@ use Rattle.eos_evidence.specs.declared.segment.Segment.{Segment}
 use Rattle.eos_fold.specs.Sums.{NamedView}
 use Rattle.eos_board.specs.declared.worker.Holding.{Holding}
 use Rattle.eos_board.specs.declared.worker.Holding.TheVariants.{Nothing, Piece, Run, Pair}
-use Rattle.eos_board.specs.Runs.{Joins, placed}
+use Rattle.eos_board.specs.Runs.{Joins, inserted}
 use Rattle.eos_board.specs.Ties.{IsRunOf}
 use Rattle.eos_board.specs.PoolState.{StockView, undrawn, run_pieces, held_pieces, stock_pieces, HoldsRunsOf}
 use Rattle.eos_board.specs.PoolEvents.{run_of, merged}
@@ -25,23 +25,23 @@ pub record Goes (h : Holding) (s : StockView) (i : Holding) (t : StockView) : Ty
   pub holds : HoldsRunsOf t.segments i
   pub on_board : AreRunsOf t
 
--- ---- placed runs
+-- ---- inserted runs
 
-keeps_either : (b : Bool) (run r other : NamedView) (rs : List NamedView) → Has (r ∷ rs) other → (Has rs other → Has (placed run rs) other)
-    → Has (if b then run ∷ r ∷ rs else r ∷ placed run rs) other
+keeps_either : (b : Bool) (run r other : NamedView) (rs : List NamedView) → Has (r ∷ rs) other → (Has rs other → Has (inserted run rs) other)
+    → Has (if b then run ∷ r ∷ rs else r ∷ inserted run rs) other
 keeps_either true run r other rs h more = inr h
 keeps_either false run r other rs (inl e) more = inl e
 keeps_either false run r other rs (inr h) more = inr (more h)
 
-pub placed_keeps : (run : NamedView) (runs : List NamedView) (other : NamedView) → Has runs other → Has (placed run runs) other
+pub placed_keeps : (run : NamedView) (runs : List NamedView) (other : NamedView) → Has runs other → Has (inserted run runs) other
 placed_keeps run [] other h = absurd h
 placed_keeps run (r ∷ rs) other h = keeps_either (nat_le run.first r.first) run r other rs h (placed_keeps run rs other)
 
-here_either : (b : Bool) (run r : NamedView) (rs : List NamedView) → Has (placed run rs) run → Has (if b then run ∷ r ∷ rs else r ∷ placed run rs) run
+here_either : (b : Bool) (run r : NamedView) (rs : List NamedView) → Has (inserted run rs) run → Has (if b then run ∷ r ∷ rs else r ∷ inserted run rs) run
 here_either true run r rs h = inl refl
 here_either false run r rs h = inr h
 
-pub placed_here : (run : NamedView) (runs : List NamedView) → Has (placed run runs) run
+pub placed_here : (run : NamedView) (runs : List NamedView) → Has (inserted run runs) run
 placed_here run [] = inl refl
 placed_here run (r ∷ rs) = here_either (nat_le run.first r.first) run r rs (placed_here run rs)
 
@@ -71,10 +71,10 @@ goes_work s n x e board = record {
   on_board = board;
 }
 
-pub goes_post : (s : StockView) (a : NamedView) → IsRunOf s.segments a → AreRunsOf s → Goes (Run a) s Nothing (record s { runs = placed a s.runs })
+pub goes_post : (s : StockView) (a : NamedView) → IsRunOf s.segments a → AreRunsOf s → Goes (Run a) s Nothing (record s { runs = inserted a s.runs })
 goes_post s a own board = record {
   segments = refl;
-  sums = λ f. omega (arith, stock_sum f s, stock_sum f (record s { runs = placed a s.runs }), sum_placed (λ r. sum_by f (run_pieces r)) a s.runs);
+  sums = λ f. omega (arith, stock_sum f s, stock_sum f (record s { runs = inserted a s.runs }), sum_placed (λ r. sum_by f (run_pieces r)) a s.runs);
   holds = tt;
   on_board = λ r h. elim (has_placed a s.runs r h) [
     | inl e ↦ subst (IsRunOf s.segments) e own
@@ -82,22 +82,22 @@ goes_post s a own board = record {
   ];
 }
 
-pub goes_take : (s : StockView) (rest : List NamedView) (a b : NamedView) → Joins a b → s.runs ≡ placed a (placed b rest) → AreRunsOf s
+pub goes_take : (s : StockView) (rest : List NamedView) (a b : NamedView) → Joins a b → s.runs ≡ inserted a (inserted b rest) → AreRunsOf s
     → Goes Nothing s (Pair a b) (record s { runs = rest })
 goes_take s rest a b j e board =
-    let keep : (r : NamedView) → Has (placed a (placed b rest)) r → IsRunOf s.segments r = λ r h. board r (subst (λ (xs : List NamedView). Has xs r) (sym e) h) in record {
+    let keep : (r : NamedView) → Has (inserted a (inserted b rest)) r → IsRunOf s.segments r = λ r h. board r (subst (λ (xs : List NamedView). Has xs r) (sym e) h) in record {
       segments = refl;
       sums = λ f. omega (
         arith,
         stock_sum f s,
         stock_sum f (record s { runs = rest }),
         ap (λ (xs : List NamedView). sum_by (λ r. sum_by f (run_pieces r)) xs) e,
-        sum_placed (λ r. sum_by f (run_pieces r)) a (placed b rest),
+        sum_placed (λ r. sum_by f (run_pieces r)) a (inserted b rest),
         sum_placed (λ r. sum_by f (run_pieces r)) b rest,
         sum_by-append f (run_pieces a) (run_pieces b),
       );
-      holds = (keep a (placed_here a (placed b rest)), keep b (placed_keeps a (placed b rest) b (placed_here b rest)), j);
-      on_board = λ r h. keep r (placed_keeps a (placed b rest) r (placed_keeps b rest r h));
+      holds = (keep a (placed_here a (inserted b rest)), keep b (placed_keeps a (inserted b rest) b (placed_here b rest)), j);
+      on_board = λ r h. keep r (placed_keeps a (inserted b rest) r (placed_keeps b rest r h));
     }
 
 pub goes_merge : (s : StockView) (a b : NamedView) → HoldsRunsOf s.segments (Pair a b) → AreRunsOf s → Goes (Pair a b) s (Run (merged a b)) s
@@ -108,19 +108,19 @@ goes_merge s a b held board = record {
   on_board = board;
 }
 
-pub goes_back : (s : StockView) (a b : NamedView) → HoldsRunsOf s.segments (Pair a b) → AreRunsOf s → Goes (Pair a b) s Nothing (record s { runs = placed a (placed b s.runs) })
+pub goes_back : (s : StockView) (a b : NamedView) → HoldsRunsOf s.segments (Pair a b) → AreRunsOf s → Goes (Pair a b) s Nothing (record s { runs = inserted a (inserted b s.runs) })
 goes_back s a b held board = record {
   segments = refl;
   sums = λ f. omega (
     arith,
     stock_sum f s,
-    stock_sum f (record s { runs = placed a (placed b s.runs) }),
-    sum_placed (λ r. sum_by f (run_pieces r)) a (placed b s.runs),
+    stock_sum f (record s { runs = inserted a (inserted b s.runs) }),
+    sum_placed (λ r. sum_by f (run_pieces r)) a (inserted b s.runs),
     sum_placed (λ r. sum_by f (run_pieces r)) b s.runs,
     sum_by-append f (run_pieces a) (run_pieces b),
   );
   holds = tt;
-  on_board = λ r h. elim (has_placed a (placed b s.runs) r h) [
+  on_board = λ r h. elim (has_placed a (inserted b s.runs) r h) [
     | inl e ↦ subst (IsRunOf s.segments) e held.0
     | inr k ↦ elim (has_placed b s.runs r k) [
       | inl e ↦ subst (IsRunOf s.segments) e held.1

@@ -1,4 +1,4 @@
--- What is known of the pool's core stays: each piece in one place, each run true; and so what a worker holds may be placed.
+-- What is known of the pool's core stays: each piece in one place, each run true; and so what a worker holds may be inserted.
 use Rattle.std.proofs.Common.{◌≡◌, ◌+◌, ◌-◌, ◌<◌, ◌≤◌, ◌^◌, ℕ, zero, suc, Some, List, [], ◌∷◌, ◌++◌, length, refl, sym, ap, subst, ◌∙◌, ◌⊎◌, inl, inr, arith}
 use Rattle.std.specs.Prelude.{slice_get, slice_index_or, replicate}
 use Rattle.std.specs.List.{sum_by, flat_map, range_with_len}
@@ -80,7 +80,7 @@ next_kept p i w x t k less at m = record {
   events = omega (arith, less);
 }
 
--- ---- what a worker holds may be placed
+-- ---- what a worker holds may be inserted
 
 -- with what the board has and what was given up, these pieces are no more than all
 abbrev Fits : StockView → List ℕ → Type 0

@@ -1,4 +1,4 @@
--- What is known of runs at their places stays when a run is placed or taken out.
+-- What is known of runs at their places stays when a run is inserted or taken out.
 use Rattle.std.proofs.Common.{◌≡◌, ◌+◌, ◌-◌, ◌<◌, ◌≤◌, ◌⊎◌, ℕ, zero, suc, Option, None, Some, List, length, refl, sym, ap, subst, ◌∙◌, inl, inr, arith}
 use Rattle.std.specs.Prelude.{slice_index_or}
 use Rattle.std.proofs.Math.ListN.{set, replicate}
@@ -6,9 +6,9 @@ use Rattle.std.proofs.lemmas.Bool.{cases_lt, cases_eq}
 use Rattle.std.proofs.lemmas.List.{get_or-set_same, get_or-set_other, get_or_past, length-set, set-set, set-get_or, length-replicate}
 use Rattle.eos_base.specs.Members.{Has}
 use Rattle.eos_fold.specs.Sums.{NamedView}
-use Rattle.eos_board.specs.Runs.{AreKnown, AreOrderlyFrom, IsTaken, Overlap, placed}
+use Rattle.eos_board.specs.Runs.{AreKnown, AreOrderlyFrom, IsTaken, Overlap, inserted}
 use Rattle.eos_board.specs.steps.ReachTree.{AreWithin, Exceeds}
-use Rattle.eos_board.specs.steps.RunPlaces.{StandsAt, standing, AreOwned, AreReached, BeginsHere, NoneMeets, reach_of}
+use Rattle.eos_board.specs.steps.RunSlots.{StandsAt, standing, AreOwned, AreReached, BeginsHere, NoneMeets, reach_of}
 use Rattle.eos_board.proofs.RunsStanding.{has_place, place_has, placed_at, orderly, none_replicated}
 
 pub some_is : {X : Type 0} (x y : X) → Some x ≡ Some y → x ≡ y
@@ -85,7 +85,7 @@ none_at None never = refl
 none_at (Some other) never = absurd (never other refl)
 
 pub placed_standing : (pieces : ℕ) (places : List (Option NamedView)) (firsts : List (Option ℕ)) (run : NamedView) → AreOwned pieces places firsts
-    → AreKnown pieces run → (IsTaken (standing places) run → ⊥) → standing (set places run.first (Some run)) ≡ placed run (standing places)
+    → AreKnown pieces run → (IsTaken (standing places) run → ⊥) → standing (set places run.first (Some run)) ≡ inserted run (standing places)
 placed_standing pieces places firsts run o known free =
     placed_at places run.first run o.home (omega (arith, known.0, known.1, o.runs_len))
     (none_at (slice_index_or places run.first None) (λ other s. nothing_at places firsts pieces run o known free run.first other s refl)) refl
@@ -225,7 +225,7 @@ removed_owned pieces places firsts at run o st =
     }
 
 pub removed_standing : (pieces : ℕ) (places : List (Option NamedView)) (firsts : List (Option ℕ)) (at : ℕ) (run : NamedView) → AreOwned pieces places firsts
-    → StandsAt places at run → standing places ≡ placed run (standing (set places at None))
+    → StandsAt places at run → standing places ≡ inserted run (standing (set places at None))
 removed_standing pieces places firsts at run o st =
     let after = removed_owned pieces places firsts at run o st in
     let within = stands_within places at run st in

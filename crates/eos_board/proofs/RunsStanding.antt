@@ -5,8 +5,8 @@ use Rattle.std.proofs.Math.ListN.{set, replicate}
 use Rattle.std.proofs.lemmas.Bool.Decides.{nat_tests}
 use Rattle.eos_base.specs.Members.{Has}
 use Rattle.eos_fold.specs.Sums.{NamedView}
-use Rattle.eos_board.specs.Runs.{AreKnown, AreOrderlyFrom, IsTaken, Overlap, placed}
-use Rattle.eos_board.specs.steps.RunPlaces.{StandsAt, standing}
+use Rattle.eos_board.specs.Runs.{AreKnown, AreOrderlyFrom, IsTaken, Overlap, inserted}
+use Rattle.eos_board.specs.steps.RunSlots.{StandsAt, standing}
 
 -- ---- which runs stand there
 
@@ -25,14 +25,14 @@ place_has (Some other ∷ places) (suc k) run at = inr (place_has places k run a
 
 -- ---- one more run
 
-placed_front : (run : NamedView) (runs : List NamedView) → ((other : NamedView) → Has runs other → run.first ≤ other.first) → placed run runs ≡ run ∷ runs
+placed_front : (run : NamedView) (runs : List NamedView) → ((other : NamedView) → Has runs other → run.first ≤ other.first) → inserted run runs ≡ run ∷ runs
 placed_front run [] least = refl
 placed_front run (r ∷ rs) least = let h : run.first ≤ r.first = least r (inl refl) in grind (arith, nat_tests)
 
-placed_later : (run r : NamedView) (rs : List NamedView) → r.first < run.first → placed run (r ∷ rs) ≡ r ∷ placed run rs
+placed_later : (run r : NamedView) (rs : List NamedView) → r.first < run.first → inserted run (r ∷ rs) ≡ r ∷ inserted run rs
 placed_later run r rs later = grind (arith, nat_tests)
 
-placed_from : (at : ℕ) (places : List (Option NamedView)) (i : ℕ) (run : NamedView) → ((k : ℕ) (r : NamedView) → StandsAt places k r → r.first ≡ at + k) → i < length places → slice_index_or places i None ≡ None → run.first ≡ at + i → standing (set places i (Some run)) ≡ placed run (standing places)
+placed_from : (at : ℕ) (places : List (Option NamedView)) (i : ℕ) (run : NamedView) → ((k : ℕ) (r : NamedView) → StandsAt places k r → r.first ≡ at + k) → i < length places → slice_index_or places i None ≡ None → run.first ≡ at + i → standing (set places i (Some run)) ≡ inserted run (standing places)
 placed_from at [] i run home within none is = absurd (omega arith)
 placed_from at (None ∷ places) zero run home within none is =
     sym (placed_front run (standing places) (λ other h. let p = has_place places other h in let e = home (suc p.0) other p.1 in omega arith))
@@ -44,7 +44,7 @@ placed_from at (Some r ∷ places) (suc i) run home within none is =
     ap (λ rs. r ∷ rs) (placed_from (at + 1) places i run (λ k o s. let e = home (suc k) o s in omega arith) (omega arith) none (omega arith))
     ∙ sym (placed_later run r (standing places) (omega arith))
 
-pub placed_at : (places : List (Option NamedView)) (i : ℕ) (run : NamedView) → ((k : ℕ) (r : NamedView) → StandsAt places k r → r.first ≡ k) → i < length places → slice_index_or places i None ≡ None → run.first ≡ i → standing (set places i (Some run)) ≡ placed run (standing places)
+pub placed_at : (places : List (Option NamedView)) (i : ℕ) (run : NamedView) → ((k : ℕ) (r : NamedView) → StandsAt places k r → r.first ≡ k) → i < length places → slice_index_or places i None ≡ None → run.first ≡ i → standing (set places i (Some run)) ≡ inserted run (standing places)
 placed_at places i run home within none is =
     placed_from 0 places i run (λ k r s. let e = home k r s in omega arith) within none (omega arith)
 
@@ -112,21 +112,21 @@ leaving_more places i v out more within e o p =
     let step = standing_take places i within in
     let next : standing (take (i + 1) places) ≡ standing (take (suc i) places) = ap (λ n. standing (take n places)) (add-one i) in cc
 
--- ---- what was placed
+-- ---- what was inserted
 
-has_placed_after : (run r : NamedView) (rs : List NamedView) (other : NamedView) (first : Bool) → Has (if first then run ∷ r ∷ rs else r ∷ placed run rs) other
-    → (Has (placed run rs) other → (run ≡ other) ⊎ Has rs other) → (run ≡ other) ⊎ Has (r ∷ rs) other
+has_placed_after : (run r : NamedView) (rs : List NamedView) (other : NamedView) (first : Bool) → Has (if first then run ∷ r ∷ rs else r ∷ inserted run rs) other
+    → (Has (inserted run rs) other → (run ≡ other) ⊎ Has rs other) → (run ≡ other) ⊎ Has (r ∷ rs) other
 has_placed_after run r rs other true h more = elim h [ inl e ↦ inl e | inr k ↦ inr k ]
 has_placed_after run r rs other false h more = elim h [
   | inl e ↦ inr (inl e)
   | inr k ↦ elim (more k) [ inl e ↦ inl e | inr k ↦ inr (inr k) ]
 ]
 
-pub has_placed : (run : NamedView) (runs : List NamedView) (other : NamedView) → Has (placed run runs) other → (run ≡ other) ⊎ Has runs other
+pub has_placed : (run : NamedView) (runs : List NamedView) (other : NamedView) → Has (inserted run runs) other → (run ≡ other) ⊎ Has runs other
 has_placed run [] other h = elim h [ inl e ↦ inl e | inr none ↦ absurd none ]
 has_placed run (r ∷ rs) other h = has_placed_after run r rs other (nat_le run.first r.first) h (has_placed run rs other)
 
-pub placed_free : (run other : NamedView) (runs : List NamedView) → (IsTaken runs run → ⊥) → (Overlap run other → ⊥) → IsTaken (placed other runs) run → ⊥
+pub placed_free : (run other : NamedView) (runs : List NamedView) → (IsTaken runs run → ⊥) → (Overlap run other → ⊥) → IsTaken (inserted other runs) run → ⊥
 placed_free run other runs free off t = elim (has_placed other runs t.0 t.1) [
   | inl e ↦
       let o : Overlap other run = subst (λ (x : NamedView). Overlap x run) (sym e) t.2 in

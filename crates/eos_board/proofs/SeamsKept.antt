@@ -7,7 +7,7 @@ use Rattle.std.proofs.lemmas.List.{get_or-set_same, get_or-set_other, length-set
 use Rattle.eos_base.proofs.Membership.{append_cases, append_left, append_right}
 use Rattle.eos_fold.specs.Sums.{NamedView}
 use Rattle.eos_board.specs.Runs.{AreKnown}
-use Rattle.eos_board.specs.steps.RunPlaces.{StandsAt, AreOwned, AreQueued, JointsAreListed, AreSound, NoneMeets, how_many}
+use Rattle.eos_board.specs.steps.RunSlots.{StandsAt, AreOwned, AreQueued, JointsAreListed, AreSound, NoneMeets, how_many}
 use Rattle.eos_board.proofs.RunsKept.{stands_cases, empty_owned, empty_reached}
 use Rattle.eos_board.proofs.RunsStanding.{none_replicated}
 

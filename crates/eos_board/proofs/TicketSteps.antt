@@ -12,7 +12,7 @@ use Rattle.atomic_table.specs.Table.{State, Me, keeps, stepped, Allows, Splits}
 use Rattle.atomic_table.proofs.Lists.{at_set, at_snoc}
 use Rattle.eos_board.specs.declared.rule.Limits.{Limits}
 use Rattle.eos_board.specs.declared.rule.View.{View}
-use Rattle.eos_board.specs.Places.{once_below}
+use Rattle.eos_board.specs.SeatViews.{once_below}
 use Rattle.eos_board.specs.TicketRule.{times_drawn, drawn_count, allowances, all_parts, Fits, KeepsRule, drawn_by, one_less, newcomer}
 use Rattle.eos_board.proofs.SeatSums.{sum_by_set}
 

@@ -1,5 +1,5 @@
 pub mod TicketRule
-pub mod Places
+pub mod SeatViews
 pub mod steps
 pub mod Runs
 pub mod Ties

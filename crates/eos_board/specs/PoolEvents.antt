@@ -10,7 +10,7 @@ use Rattle.eos_board.specs.declared.pool_event.PoolEvent.{PoolEvent}
 use Rattle.eos_board.specs.declared.pool_event.PoolEvent.TheVariants as on
 use Rattle.eos_board.specs.declared.pool_event.PoolReply.{PoolReply}
 use Rattle.eos_board.specs.declared.pool_event.PoolReply.TheVariants.{Did, NoneLeft, NoPair, OutOfMemory, Idle, Full}
-use Rattle.eos_board.specs.Runs.{Joins, NoneJoin, placed}
+use Rattle.eos_board.specs.Runs.{Joins, NoneJoin, inserted}
 use Rattle.eos_board.specs.PoolState.{StockView, PoolView, held_pieces}
 
 abbrev pub holds_nothing : Holding → Bool
@@ -51,15 +51,15 @@ Works w s OutOfMemory x t = (holds_piece w.holds ≡ true) × (x ≡ w) × (t �
 Works w s Idle x t = (holds_piece w.holds ≡ false) × (x ≡ w) × (t ≡ s)
 Works w s r x t = ⊥
 
--- Post places the run on the board and counts one post more.
+-- Post puts the run on the board and counts one post more.
 abbrev pub Posts : Worker → StockView → PoolReply → Worker → StockView → Type 0
-Posts w s Did x t = (a : NamedView) × (w.holds ≡ Run a) × (x ≡ record { holds = Nothing; posts = w.posts + 1 }) × (t ≡ record s { runs = placed a s.runs })
+Posts w s Did x t = (a : NamedView) × (w.holds ≡ Run a) × (x ≡ record { holds = Nothing; posts = w.posts + 1 }) × (t ≡ record s { runs = inserted a s.runs })
 Posts w s Idle x t = (holds_run w.holds ≡ false) × (x ≡ w) × (t ≡ s)
 Posts w s r x t = ⊥
 
 -- TakePair takes any two runs of which the second follows the first. It answers NoPair exactly where there are none.
 abbrev pub TakesPair : Worker → StockView → PoolReply → Worker → StockView → Type 0
-TakesPair w s Did x t = (a : NamedView) × (b : NamedView) × (w.holds ≡ Nothing) × Joins a b × (s.runs ≡ placed a (placed b t.runs))
+TakesPair w s Did x t = (a : NamedView) × (b : NamedView) × (w.holds ≡ Nothing) × Joins a b × (s.runs ≡ inserted a (inserted b t.runs))
     × (x ≡ record w { holds = Pair a b }) × (t ≡ record s { runs = t.runs })
 TakesPair w s NoPair x t = (w.holds ≡ Nothing) × NoneJoin s.runs × (x ≡ w) × (t ≡ s)
 TakesPair w s Idle x t = (holds_nothing w.holds ≡ false) × (x ≡ w) × (t ≡ s)
@@ -72,9 +72,9 @@ Merges w s OutOfMemory x t = (holds_pair w.holds ≡ true) × (x ≡ w) × (t �
 Merges w s Idle x t = (holds_pair w.holds ≡ false) × (x ≡ w) × (t ≡ s)
 Merges w s r x t = ⊥
 
--- PutBack places both runs of the pair on the board, and counts no post.
+-- PutBack puts both runs of the pair on the board, and counts no post.
 abbrev pub PutsBack : Worker → StockView → PoolReply → Worker → StockView → Type 0
-PutsBack w s Did x t = (a : NamedView) × (b : NamedView) × (w.holds ≡ Pair a b) × (x ≡ record w { holds = Nothing }) × (t ≡ record s { runs = placed a (placed b s.runs) })
+PutsBack w s Did x t = (a : NamedView) × (b : NamedView) × (w.holds ≡ Pair a b) × (x ≡ record w { holds = Nothing }) × (t ≡ record s { runs = inserted a (inserted b s.runs) })
 PutsBack w s Idle x t = (holds_pair w.holds ≡ false) × (x ≡ w) × (t ≡ s)
 PutsBack w s r x t = ⊥
 

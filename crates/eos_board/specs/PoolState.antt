@@ -55,13 +55,13 @@ worker_pieces w = held_pieces w.holds
 abbrev pub stock_pieces : StockView → List ℕ
 stock_pieces s = undrawn s ++ (flat_map run_pieces s.runs ++ s.given_up)
 
--- the pieces of all places: undrawn, in a run on the board, given up, held
+-- the pieces of all slots: undrawn, in a run on the board, given up, held
 abbrev pub all_pieces : PoolView → List ℕ
 all_pieces p = stock_pieces p.stock ++ flat_map worker_pieces p.workers
 
--- each piece of the evidence is in exactly one place, and no other number is in any
-abbrev pub AreInOnePlace : PoolView → Type 0
-AreInOnePlace p = (piece : ℕ) → count_by (λ x. x == piece) (all_pieces p) ≡ (if nat_lt piece (length p.stock.segments) then 1 else 0)
+-- each piece of the evidence is held exactly once, and no other number is in any
+abbrev pub AreHeldOnce : PoolView → Type 0
+AreHeldOnce p = (piece : ℕ) → count_by (λ x. x == piece) (all_pieces p) ≡ (if nat_lt piece (length p.stock.segments) then 1 else 0)
 
 -- ---- what the runs hold
 
@@ -73,6 +73,6 @@ HoldsRunsOf segments (Run a) = IsRunOf segments a
 HoldsRunsOf segments (Pair a b) = IsRunOf segments a × IsRunOf segments b × Joins a b
 
 pub record IsSound (p : PoolView) : Type 0 where
-  pub in_one_place : AreInOnePlace p
+  pub in_one_place : AreHeldOnce p
   pub held : (w : Worker) → Has p.workers w → HoldsRunsOf p.stock.segments w.holds
   pub on_board : (a : NamedView) → Has p.stock.runs a → IsRunOf p.stock.segments a

@@ -40,10 +40,10 @@ NoneJoin runs = (a b : NamedView) → Has runs a → Has runs b → Joins a b �
 abbrev pub IsTaken : List NamedView → NamedView → Type 0
 IsTaken runs run = (other : NamedView) × Has runs other × Overlap other run
 
--- these runs with one more, at its place by the first piece
-abbrev pub placed : NamedView → List NamedView → List NamedView
-placed run [] = run ∷ []
-placed run (r ∷ rs) = if nat_le run.first r.first then run ∷ r ∷ rs else r ∷ placed run rs
+-- these runs with one more, at its slot by the first piece
+abbrev pub inserted : NamedView → List NamedView → List NamedView
+inserted run [] = run ∷ []
+inserted run (r ∷ rs) = if nat_le run.first r.first then run ∷ r ∷ rs else r ∷ inserted run rs
 
 -- The runs name pieces of evidence that has so many, from a piece on; they stand in the order of their pieces, and no two
 -- have a piece in common.
@@ -51,8 +51,8 @@ abbrev pub AreOrderlyFrom : ℕ → ℕ → List NamedView → Type 0
 AreOrderlyFrom begin pieces [] = ⊤
 AreOrderlyFrom begin pieces (r ∷ rs) = (begin ≤ r.first) × AreKnown pieces r × AreOrderlyFrom (r.last + 1) pieces rs
 
--- a board's places, as contracts see them: how many there are, and the runs
-pub record PlacesView : Type 0 where
+-- a board's slots, as contracts see them: how many there are, and the runs
+pub record SlotsView : Type 0 where
   pub pieces : ℕ
   pub runs : List NamedView
 
@@ -80,10 +80,10 @@ IsRefused why.Stranger board run = AreKnown board.pieces run → ⊥
 IsRefused why.Twice board run = AreKnown board.pieces run × IsTaken board.runs run
 
 abbrev pub with_run : NamedView → BoardView → BoardView
-with_run run board = record board { runs = placed run board.runs }
+with_run run board = record board { runs = inserted run board.runs }
 
 abbrev pub after_post : NamedView → BoardView → BoardView
-after_post run board = record board { runs = placed run board.runs; posts = board.posts + 1 }
+after_post run board = record board { runs = inserted run board.runs; posts = board.posts + 1 }
 
 -- both runs may be put back
 pub record MayPutBack (board : BoardView) (a b : NamedView) : Type 0 where

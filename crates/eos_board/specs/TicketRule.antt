@@ -9,7 +9,7 @@ use lib.ListN.{get_elem?}
 use Rattle.atomic_table.specs.Table.{State, Step, Me}
 use Rattle.eos_board.specs.declared.rule.Limits.{Limits}
 use Rattle.eos_board.specs.declared.rule.View.{View}
-use Rattle.eos_board.specs.Places.{once_below, AreBelow}
+use Rattle.eos_board.specs.SeatViews.{once_below, AreBelow}
 
 -- how often the number was drawn
 abbrev pub times_drawn : ℕ → List View → ℕ

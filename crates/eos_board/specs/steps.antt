@@ -1,5 +1,5 @@
-pub mod Places
+pub mod OpenSeats
 pub mod ReachTree
-pub mod RunPlaces
+pub mod RunSlots
 pub mod Receipts
 pub mod PoolReady

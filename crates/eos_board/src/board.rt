@@ -4,10 +4,10 @@ ghost use Rattle.std.specs.Prelude.{◌≡◌, ◌+◌, ◌<◌, ◌≤◌, ◌^
 ghost use Rattle.std.specs.List.{sum_by};
 ghost use Rattle.eos_evidence.specs.Evidence.{segments_of};
 ghost use Rattle.eos_fold.specs.Sums.{Follows};
-ghost use Rattle.eos_board.specs.Runs.{IsOrderly, IsRefused, Joins, MayPost, MayPutBack, NoneJoin, Overlap, after_post, placed, with_run};
+ghost use Rattle.eos_board.specs.Runs.{IsOrderly, IsRefused, Joins, MayPost, MayPutBack, NoneJoin, Overlap, after_post, inserted, with_run};
 ghost use Rattle.eos_board.specs.steps.Receipts.{IsGathered, parts_of};
 
-use crate::places::Places;
+use crate::slots::Slots;
 use crate::refused::{Refused, Why};
 use crate::tied::{Pieces, Tied};
 use eos_evidence::Evidence;
@@ -15,13 +15,13 @@ use std::alloc::{AllocError, Global};
 use std::marker::Model;
 use std::sync::ledger::{Blank, Book, Ledger, Share};
 
-/// The runs that no worker holds, with a place for each piece of the evidence, and the number of posts. It takes no memory
+/// The runs that no worker holds, with a slot for each piece of the evidence, and the number of posts. It takes no memory
 /// once it is made.
 ///
 /// Its runs stand in the order of their pieces, no two have a piece in common, and each names pieces of the evidence.
 #[derive(Drop)]
 pub struct Board<L: Ledger, E: Pieces> {
-    places: Places<E>,
+    places: Slots<E>,
     posts: u64,
     book: Book<L>,
 }
@@ -65,7 +65,7 @@ impl<L: Ledger> Receipt<L> {
 }
 
 impl<L: Ledger, E: Pieces> Board<L, E> {
-    /// A board without a run for the pieces of this evidence, and a receipt for each worker. It reserves a place for each
+    /// A board without a run for the pieces of this evidence, and a receipt for each worker. It reserves a slot for each
     /// piece, and the list that `into_runs` gives.
     ///
     /// # Errors
@@ -86,7 +86,7 @@ impl<L: Ledger, E: Pieces> Board<L, E> {
     {
         let (book, whole) = blank.open::<L>();
         let receipts = receipts_of(alloc, whole, workers)?;
-        let places = Places::new(alloc, evidence.pieces())?;
+        let places = Slots::new(alloc, evidence.pieces())?;
         let board = Board {
             places,
             posts: 0,
@@ -95,7 +95,7 @@ impl<L: Ledger, E: Pieces> Board<L, E> {
         Ok((board, receipts))
     }
 
-    /// Places a run. It looks at the places of the run's own pieces, once each.
+    /// Puts a run in its slot. It looks at the slots of the run's own pieces, once each.
     ///
     /// # Errors
     /// The run, and why, in this order: `Stranger` where a number of it is no piece of the evidence, `Twice` where a piece of
@@ -113,7 +113,7 @@ impl<L: Ledger, E: Pieces> Board<L, E> {
             return Err(Refused { named, why });
         }
         self.book.audit(&mut receipt.share);
-        self.places.place(named);
+        self.places.put(named);
         self.posts += 1;
         self.book.add(&mut receipt.share, 1);
         receipt.count += 1;
@@ -121,19 +121,19 @@ impl<L: Ledger, E: Pieces> Board<L, E> {
     }
 
     /// Takes two runs from the board of which the second follows the first; `None` where there are none. It looks at each
-    /// seam between two runs once after a post there, and at the places of the two runs' pieces.
+    /// seam between two runs once after a post there, and at the slots of the two runs' pieces.
     pub fn take_pair(&mut self) -> Option<(Tied<E>, Tied<E>)>
         ensures posts { self.new.posts ≡ self.old.posts }
         ensures pieces { self.new.pieces ≡ self.old.pieces }
         ensures joins { IfSome result (λ pair. Joins pair.0 pair.1) }
         ensures follows { IfSome result (λ pair. Follows pair.0 pair.1) }
-        ensures others { IfSome result (λ pair. self.old.runs ≡ placed pair.0 (placed pair.1 self.new.runs)) }
+        ensures others { IfSome result (λ pair. self.old.runs ≡ inserted pair.0 (inserted pair.1 self.new.runs)) }
         ensures none { IfNone result (NoneJoin self.old.runs × (self.new ≡ self.old)) }
     {
         self.places.take_pair()
     }
 
-    /// Places two runs again that `take_pair` gave, as two posts would, but for their count.
+    /// Puts two runs back that `take_pair` gave, as two posts would, but for their count.
     ///
     /// # Errors
     /// Both runs, where a post of one of them would be refused or the two have a piece in common. Nothing has changed then.
@@ -150,8 +150,8 @@ impl<L: Ledger, E: Pieces> Board<L, E> {
         {
             return Err((before, after));
         }
-        self.places.place(after);
-        self.places.place(before);
+        self.places.put(after);
+        self.places.put(before);
         Ok(())
     }
 
@@ -226,7 +226,7 @@ fn receipts_of<L: Ledger>(
 }
 
 /// Why this run may not be posted, if it mayn't.
-fn refusal<E: Pieces>(places: &Places<E>, run: &Tied<E>) -> Option<Why>
+fn refusal<E: Pieces>(places: &Slots<E>, run: &Tied<E>) -> Option<Why>
     ensures some { IfSome result (λ why. IsRefused why (record { pieces = places.now.pieces; runs = places.now.runs; posts = 0 }) run.now) }
     ensures none { IfNone result (MayPost (record { pieces = places.now.pieces; runs = places.now.runs; posts = 0 }) run.now) }
 {

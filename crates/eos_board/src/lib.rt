@@ -6,7 +6,7 @@
 mod board;
 mod follow;
 mod gate;
-mod places;
+mod slots;
 mod pool_core;
 mod pool_event;
 mod reach;
@@ -19,7 +19,7 @@ mod worker;
 
 pub use board::{Board, Receipt};
 pub use gate::{Gate, OpenGate};
-pub use places::Places;
+pub use slots::Slots;
 pub use pool_core::PoolCore;
 pub use pool_event::{PoolEvent, PoolReply};
 pub use refused::{Refused, Why};

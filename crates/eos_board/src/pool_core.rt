@@ -17,7 +17,7 @@ use std::marker::Model;
 const MAX_EVENTS: u64 = 2147483648;
 
 /// A pool of workers over the pieces of the evidence, as a machine of events: no thread, no lock. Each piece is in exactly one
-/// place: not drawn yet, held by a worker, in a run on the board, or given up.
+/// slot: not drawn yet, held by a worker, in a run on the board, or given up.
 #[derive(Drop)]
 pub struct PoolCore {
     stock: Stock,
@@ -74,7 +74,7 @@ impl PoolCore {
     ///
     /// # Errors
     /// Only want of memory for the list. No event was taken then.
-    pub fn run(&mut self, events: &[PoolEvent]) -> Result<Vec<PoolReply>, AllocError>
+    pub fn take_all(&mut self, events: &[PoolEvent]) -> Result<Vec<PoolReply>, AllocError>
         ensures course { IfOk result (λ replies. IsCourse self.old events.now replies.items self.new) }
         ensures same { IfErr result (λ _. self.new ≡ self.old) }
         ensures sound { IsSound self.new }

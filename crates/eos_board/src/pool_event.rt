@@ -48,7 +48,7 @@ pub enum PoolReply {
     NoneLeft,
     /// No run on the board follows another.
     NoPair,
-    /// The board refused the run. No event of the core is answered so: each piece is in one place.
+    /// The board refused the run. No event of the core is answered so: each piece is in one slot.
     Refused,
     /// A growth was refused. The worker still holds what it held.
     OutOfMemory,

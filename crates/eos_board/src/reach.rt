@@ -1,7 +1,7 @@
-//! How far the runs reach, by the place at which they begin.
+//! How far the runs reach, by the slot at which they begin.
 //!
-//! A number for each place, at the leaves of a tree in which each inner node has the greater number of its two children. So to
-//! change a number, or to ask whether all up to a place are small, takes as many steps as the tree has levels.
+//! A number for each slot, at the leaves of a tree in which each inner node has the greater number of its two children. So to
+//! change a number, or to ask whether all up to a slot are small, takes as many steps as the tree has levels.
 
 ghost use Rattle.std.specs.Prelude.{◌≡◌, ◌+◌, ◌*◌, ◌<◌, ◌≤◌, drop, length, max, replicate, slice_index_or, slice_set, vec_len, MatchBool, IfOk};
 ghost use Rattle.eos_board.specs.steps.ReachTree.{AreAtMost, AreWithin, Exceeds, IsTree, IsTreeBut};
@@ -9,7 +9,7 @@ ghost use Rattle.eos_board.specs.steps.ReachTree.{AreAtMost, AreWithin, Exceeds,
 use std::alloc::{AllocError, Global};
 use std::marker::Model;
 
-/// A number for each place, which contracts see as their list. Node n has the children 2n and 2n + 1; the second half of the
+/// A number for each slot, which contracts see as their list. Node n has the children 2n and 2n + 1; the second half of the
 /// nodes are the leaves.
 #[derive(Drop)]
 pub(crate) struct Reaches {
@@ -38,7 +38,7 @@ impl Reaches {
         Ok(Reaches { nodes, count })
     }
 
-    /// Puts this number at the place.
+    /// Puts this number at the slot.
     pub(crate) fn set(&mut self, place: usize, reach: u64)
         requires { place < length self.old }
         ensures { self.new ≡ slice_set self.old place reach }
@@ -46,7 +46,7 @@ impl Reaches {
         set_leaf(&mut self.nodes, self.count, place, reach);
     }
 
-    /// Whether each number of so many first places is at most this.
+    /// Whether each number of so many first slots is at most this.
     pub(crate) fn are_within(&self, places: usize, most: u64) -> bool
         requires { places ≤ length self.now }
         ensures { MatchBool result (AreWithin places most self.now) (Exceeds places most self.now) }
@@ -69,7 +69,7 @@ fn renew(nodes: &mut Vec<u64>, at: usize)
     nodes[at] = greater(nodes[2 * at], nodes[2 * at + 1]);
 }
 
-/// Puts this number at the leaf of a place, and renews the nodes above it.
+/// Puts this number at the leaf of a slot, and renews the nodes above it.
 fn set_leaf(nodes: &mut Vec<u64>, count: usize, place: usize, reach: u64)
     requires tree { IsTree count nodes.old.items }
     requires place { place < count }
@@ -84,7 +84,7 @@ fn set_leaf(nodes: &mut Vec<u64>, count: usize, place: usize, reach: u64)
     }
 }
 
-/// Whether a node is greater than this: the one at the place, or none where the end is there.
+/// Whether a node is greater than this: the one at the slot, or none where the end is there.
 fn is_over(nodes: &Vec<u64>, at: usize, end: usize, most: u64) -> bool
     requires end { end ≤ at + 1 }
     requires known { end ≤ vec_len nodes.now }
@@ -93,7 +93,7 @@ fn is_over(nodes: &Vec<u64>, at: usize, end: usize, most: u64) -> bool
     at < end && nodes[at] > most
 }
 
-/// Whether each leaf of so many first places is at most this. From level to level it looks at the nodes at the two ends that
+/// Whether each leaf of so many first slots is at most this. From level to level it looks at the nodes at the two ends that
 /// have no parent within them.
 fn are_at_most(nodes: &Vec<u64>, count: usize, places: usize, most: u64) -> bool
     requires tree { IsTree count nodes.now.items }

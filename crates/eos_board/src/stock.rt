@@ -10,7 +10,7 @@ ghost use Rattle.eos_board.specs.steps.PoolReady.{IsReady, HasRoom};
 
 use crate::pool_event::{PoolEvent, PoolReply};
 use crate::worker::{Holding, Worker};
-use crate::{Loose, Places, Tied};
+use crate::{Loose, Slots, Tied};
 use eos_evidence::{Evidence, Segment};
 use std::alloc::{AllocError, Global};
 use std::marker::Model;
@@ -21,7 +21,7 @@ pub(crate) struct Stock {
     pub(crate) alloc: Global,
     segments: Vec<Segment>,
     drawn: u64,
-    places: Places<Loose>,
+    places: Slots<Loose>,
     /// There is room in it for each piece.
     given_up: Vec<u64>,
 }
@@ -45,7 +45,7 @@ impl Stock {
     {
         let count = evidence.pieces();
         let segments = copies(alloc, evidence)?;
-        let places = Places::new(alloc, count)?;
+        let places = Slots::new(alloc, count)?;
         let given_up = Vec::with_capacity(alloc, count as usize)?;
         Ok(Stock {
             alloc,
@@ -112,7 +112,7 @@ impl Stock {
     {
         match worker.release() {
             Holding::Run(run) => {
-                self.places.place(run);
+                self.places.put(run);
                 worker.posts += 1;
                 PoolReply::Did
             }
@@ -164,8 +164,8 @@ impl Stock {
     {
         match worker.release() {
             Holding::Pair(before, after) => {
-                self.places.place(after);
-                self.places.place(before);
+                self.places.put(after);
+                self.places.put(before);
                 PoolReply::Did
             }
             other => {

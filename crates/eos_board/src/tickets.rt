@@ -1,7 +1,7 @@
 //! The tickets and the seats that draw them.
 
 ghost use Rattle.std.specs.Prelude.{◌≡◌, ◌+◌, ◌≤◌, ◌<◌, true, false, [], ◌∷◌, ◌++◌, length, if◌then◌else◌, vec_len, All, Any, IfOk, IfSome, IfNone};
-ghost use Rattle.eos_board.specs.Places.{IsFresh, AreBelow, drawn_of_all};
+ghost use Rattle.eos_board.specs.SeatViews.{IsFresh, AreBelow, drawn_of_all};
 
 use crate::rule::{Draw, EachOnce, Limits, Look, Nobody, OneEach, Together, View};
 use atomic_table::Table;
@@ -25,7 +25,7 @@ pub struct Tickets {
 
 impl Model for Tickets {
     ghost use Rattle.std.specs.Prelude.{◌≡◌};
-    ghost use Rattle.eos_board.specs.Places.{Counter};
+    ghost use Rattle.eos_board.specs.SeatViews.{Counter};
 
     ghost Value = { Counter };
 
@@ -44,9 +44,9 @@ pub struct Seat {
 
 impl Model for Seat {
     ghost use Rattle.std.specs.Prelude.{◌≡◌, [], if◌then◌else◌};
-    ghost use Rattle.eos_board.specs.Places.{Place};
+    ghost use Rattle.eos_board.specs.SeatViews.{SeatView};
 
-    ghost Value = { Place };
+    ghost Value = { SeatView };
 
     ghost view = { λ s. record { of = record { table = s.seat.table_id; count = s.count; workers = s.seat.me.0.workers }; drawn = s.seat.me.0.drawn; is_done = s.is_done } };
 

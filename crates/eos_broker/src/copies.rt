@@ -2,24 +2,24 @@
 
 ghost use Rattle.std.specs.Prelude.{◌≡◌, ◌+◌, ◌<◌, ◌^◌, [], IfOk, replicate, slice_index_or, slice_set};
 ghost use Rattle.std.specs.List.{All, list_any};
-ghost use Rattle.eos_machine.specs.Places.{IsConfig, listed, same_topic};
+ghost use Rattle.eos_machine.specs.LogIndexes.{IsConfig, listed, same_topic};
 ghost use Rattle.eos_machine.specs.World.{said, without_odd_outputs};
 ghost use Rattle.eos_machine.specs.Tests.{has};
 ghost use Rattle.eos_machine.specs.Deliveries.{without};
 
-use crate::places::{OFFSETS_PLACE, is_odd_output};
+use crate::log_indexes::{OFFSETS_INDEX, is_odd_output};
 use eos_base::Listed;
-use eos_machine::{Config, Places, Switches};
+use eos_machine::{Config, LogIndexes, Switches};
 use std::alloc::{AllocError, Global};
 
-pub fn copy(places: &Places) -> Result<Places, AllocError>
+pub fn copy(places: &LogIndexes) -> Result<LogIndexes, AllocError>
     ensures { IfOk result (λ p. p ≡ places.now) }
 {
     Ok(places.clone()?)
 }
 
-/// No places.
-pub fn none(alloc: Global) -> Places
+/// No indexes.
+pub fn none(alloc: Global) -> LogIndexes
     ensures { result ≡ [] }
 {
     Listed::new(Vec::new(alloc))
@@ -31,8 +31,8 @@ pub fn has(place: usize, places: &[usize]) -> bool
     places.contains(&place)
 }
 
-/// These places but for one.
-pub fn without(alloc: Global, place: usize, places: &[usize]) -> Result<Places, AllocError>
+/// These indexes but for one.
+pub fn without(alloc: Global, place: usize, places: &[usize]) -> Result<LogIndexes, AllocError>
     ensures { IfOk result (λ p. p ≡ without place places.now) }
 {
     let mut others = Vec::new(alloc);
@@ -44,12 +44,12 @@ pub fn without(alloc: Global, place: usize, places: &[usize]) -> Result<Places, 
     Ok(Listed::new(others))
 }
 
-/// These places but for the odd partitions of `out`.
+/// These indexes but for the odd partitions of `out`.
 fn without_odd_outputs(
     alloc: Global,
     config: Config,
     places: &[usize],
-) -> Result<Places, AllocError>
+) -> Result<LogIndexes, AllocError>
     requires { IsConfig config }
     ensures { IfOk result (λ p. p ≡ without_odd_outputs config places.now) }
 {
@@ -67,8 +67,8 @@ pub fn said(
     alloc: Global,
     switches: Switches,
     config: Config,
-    places: &Places,
-) -> Result<Places, AllocError>
+    places: &LogIndexes,
+) -> Result<LogIndexes, AllocError>
     requires { IsConfig config }
     ensures { IfOk result (λ p. p ≡ said switches config places.now) }
 {
@@ -85,7 +85,7 @@ pub fn zeros(alloc: Global, count: usize) -> Result<Listed<u32>, AllocError>
     Ok(Listed::new(vec![in alloc; 0; count]?))
 }
 
-/// The number at a place is one more.
+/// The number at an index is one more.
 pub fn raised(numbers: Listed<u32>, place: usize) -> Listed<u32>
     requires { All (λ q. q < 2 ^ 31) numbers }
     ensures { result ≡ slice_set numbers place (slice_index_or numbers place 0 + 1) }
@@ -101,7 +101,7 @@ pub fn raised(numbers: Listed<u32>, place: usize) -> Listed<u32>
 fn same_topic(place: usize, other: usize) -> bool
     ensures { result ≡ same_topic place other }
 {
-    (place == OFFSETS_PLACE) == (other == OFFSETS_PLACE)
+    (place == OFFSETS_INDEX) == (other == OFFSETS_INDEX)
 }
 
 /// Whether a partition of this topic is among these.
@@ -111,8 +111,8 @@ fn has_topic(place: usize, places: &[usize]) -> bool
     places.iter().any(|other| same_topic(place, *other))
 }
 
-/// These places with one more: last under its topic, or last.
-pub fn listed(alloc: Global, place: usize, places: &[usize]) -> Result<Places, AllocError>
+/// These indexes with one more: last under its topic, or last.
+pub fn listed(alloc: Global, place: usize, places: &[usize]) -> Result<LogIndexes, AllocError>
     ensures { IfOk result (λ p. p ≡ listed place places.now) }
 {
     let mut all = Vec::new(alloc);

@@ -9,7 +9,7 @@ pub mod answers;
 pub mod copies;
 pub mod laws;
 mod partition_log;
-pub mod places;
+pub mod log_indexes;
 mod producer;
 mod store;
 

@@ -3,7 +3,7 @@
 
 ghost use Rattle.std.specs.Prelude.{◌≡◌, ◌∷◌, ◌++◌, ◌-◌, ◌+◌, ◌≤◌, ◌<◌, ◌^◌, [], OnOk, OnErr, IfOk, replicate};
 ghost use Rattle.std.specs.List.{All};
-ghost use Rattle.eos_machine.specs.Places.{IsConfig, application_count};
+ghost use Rattle.eos_machine.specs.LogIndexes.{IsConfig, application_count};
 ghost use Rattle.eos_machine.specs.World.{opening, fresh, log_at, with_item, with_generation};
 ghost use Rattle.eos_machine.specs.Logs.{producer_at, unseen};
 ghost use Rattle.eos_broker.specs.Named.{IsFrom};
@@ -36,7 +36,7 @@ pub struct Store {
 
 impl Model for Store {
     ghost use Rattle.std.specs.List.{All};
-    ghost use Rattle.eos_machine.specs.Places.{IsConfig, application_count};
+    ghost use Rattle.eos_machine.specs.LogIndexes.{IsConfig, application_count};
     ghost use Rattle.eos_broker.specs.Held.{Held, HasRoom, IsKeptFor, items_of};
 
     ghost Value = { Held };

@@ -13,7 +13,7 @@ mod pool;
 mod shards;
 mod tied_evidence;
 mod verdict;
-pub mod wanted_verdict_laws;
+pub mod kept_laws;
 mod workers;
 
 pub use judging::judge;

@@ -4,7 +4,7 @@ ghost use Rattle.std.specs.Prelude.{◌≡◌, ◌<◌, ◌≤◌, true, vec_len
 ghost use Rattle.eos_board.specs.Ties.{IsPiece};
 ghost use Rattle.eos_evidence.specs.Evidence.{segments_of};
 ghost use Rattle.eos_fold.specs.Sums.{IsFit, Follows};
-ghost use Rattle.eos_board.specs.Places.{IsFresh, AreBelow};
+ghost use Rattle.eos_board.specs.SeatViews.{IsFresh, AreBelow};
 
 use crate::tied_evidence::TiedEvidence;
 use eos_base::Workers;
@@ -32,7 +32,7 @@ struct Workplace<'s, L: Ledger, E: Pieces, G> {
 impl<'s, L: Ledger, E: Pieces, G> Model for Workplace<'s, L, E, G> {
     ghost use Rattle.std.specs.Prelude.{◌≡◌, length};
     ghost use Rattle.eos_evidence.specs.Evidence.{segments_of};
-    ghost use Rattle.eos_board.specs.Places.{Counter};
+    ghost use Rattle.eos_board.specs.SeatViews.{Counter};
 
     ghost Value = { Counter };
 
@@ -51,7 +51,7 @@ struct Worker<'s, L: Ledger, E: Pieces, G> {
 
 impl<'s, L: Ledger, E: Pieces, G> Model for Worker<'s, L, E, G> {
     ghost use Rattle.std.specs.Prelude.{◌≡◌, false};
-    ghost use Rattle.eos_board.specs.Places.{Counter};
+    ghost use Rattle.eos_board.specs.SeatViews.{Counter};
 
     ghost Value = { Counter };
 
@@ -215,7 +215,7 @@ fn workers_of<'s, L: Ledger, E: Pieces, G>(
 
 /// Sets all of a place's workers to work, each in a thread of its own. What they drew together are the
 /// numbers of its tickets, each once.
-fn run_all<R: Threads + Wait + Sync, L: Ledger + Send + Sync, E: Pieces + Send + Sync, G: Gate>(
+fn work_all<R: Threads + Wait + Sync, L: Ledger + Send + Sync, E: Pieces + Send + Sync, G: Gate>(
     alloc: Global,
     rt: &R,
     place: &Workplace<'_, L, E, G>,
@@ -262,7 +262,7 @@ pub(crate) fn runs_of<
         board: Mutex::new(board),
     };
     let workers = workers_of(alloc, &place, seats, receipts)?;
-    let drawn = run_all(alloc, rt, &place, workers)?;
+    let drawn = work_all(alloc, rt, &place, workers)?;
     let Workplace { board, .. } = place;
     Ok((board.into_inner().into_runs(), drawn))
 }

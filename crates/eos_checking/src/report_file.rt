@@ -17,7 +17,7 @@ pub(crate) struct ReportFile<'a> {
 
 /// A path, and one beside it.
 #[derive(Clone, Copy)]
-struct Places<'a> {
+struct Paths<'a> {
     path: &'a str,
     beside: &'a str,
 }
@@ -92,11 +92,11 @@ pub(crate) fn end_report(
     let Some(beside) = beside else {
         return fill_file(rt, path, file, text, status);
     };
-    let places = Places {
+    let paths = Paths {
         path,
         beside: beside.as_str(),
     };
-    match replace(rt.alloc(), &mut HostDisk { rt }, places, file, text) {
+    match replace(rt.alloc(), &mut HostDisk { rt }, paths, file, text) {
         Ok(()) => status,
         Err(fault) => end_unchanged(rt, path, fault),
     }
@@ -106,7 +106,7 @@ pub(crate) fn end_report(
 fn replace(
     alloc: Global,
     disk: &mut HostDisk<'_>,
-    places: Places<'_>,
+    paths: Paths<'_>,
     file: HostFile<'_>,
     text: Option<String>,
 ) -> Result<(), ChangeFault> {
@@ -115,21 +115,21 @@ fn replace(
     if !is_report {
         return Ok(());
     }
-    put_over(alloc, disk, places)
+    put_over(alloc, disk, paths)
 }
 
 /// Puts a whole file in the place of what stands at its path.
 ///
 /// # Errors
 /// What stands there stays; or, where it is gone, the file stands beside it still.
-fn put_over(alloc: Global, disk: &mut HostDisk<'_>, places: Places<'_>) -> Result<(), ChangeFault> {
-    if disk.stands(places.path) {
-        if let Err(fault) = disk.remove(alloc, places.path) {
-            let _ = disk.remove(alloc, places.beside);
+fn put_over(alloc: Global, disk: &mut HostDisk<'_>, paths: Paths<'_>) -> Result<(), ChangeFault> {
+    if disk.stands(paths.path) {
+        if let Err(fault) = disk.remove(alloc, paths.path) {
+            let _ = disk.remove(alloc, paths.beside);
             return Err(fault);
         }
     }
-    disk.publish(alloc, places.beside, places.path)
+    disk.publish(alloc, paths.beside, paths.path)
 }
 
 /// Prints a report, if there is one. Gives the exit status of the run, which has this one without it.

@@ -16,5 +16,5 @@ pub use alone::{LentClaim, SourceTests, least_of_claim, least_of_input};
 pub use claim::{Claim, ClaimRef, read_claim, view_claim};
 pub use fault::{OutputFault, OutputKind};
 pub use found::Found;
-pub use neighbours::{NumberedClaim, least_of_runs};
+pub use neighbours::{NumberedClaim, least_of_neighbours};
 pub use place::{Place, PlaceRef, SourceRef};

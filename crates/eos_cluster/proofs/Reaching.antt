@@ -13,10 +13,10 @@ use Rattle.eos_machine.specs.declared.event.Event.{Event}
 use Rattle.eos_machine.specs.declared.event.Event.TheVariants as events
 use Rattle.eos_machine.specs.declared.event.Reply.{Reply}
 use Rattle.eos_machine.specs.declared.event.Reply.TheVariants.{Done, Fenced, OutOfOrder, DuplicateKept, WrongState, Busy, StaleGeneration, EpochsSpent, Unknown, OutOfMemory, Full}
-use Rattle.eos_machine.specs.Places.{IsConfig, txn_place}
+use Rattle.eos_machine.specs.LogIndexes.{IsConfig, txn_index}
 use Rattle.eos_machine.specs.World.{World, opening, log_at}
 use Rattle.eos_machine.specs.Answers.{Answer, when}
-use Rattle.eos_machine.specs.Machine.{happens_under, counted, step_under, step, run_under, run}
+use Rattle.eos_machine.specs.Machine.{happens_under, counted, step_under, step, world_under, world_after}
 use Rattle.eos_machine.specs.Bounds.{Bounded, IsSafe}
 use Rattle.eos_machine.specs.Formed.{Names, IsFormed}
 use Rattle.eos_machine.proofs.Good.{Good}
@@ -42,21 +42,21 @@ use Rattle.eos_broker.specs.Held.{Held, becomes}
 -- ---- what holds
 
 pub is_good : (c : Config) (w : World) → IsConfig c → IsReached c w → Good c w
-is_good c w i r = subst (Good c) (sym r.run) (good_run c (opening c) r.taken i (good_opening c))
+is_good c w i r = subst (Good c) (sym r.world_after) (good_run c (opening c) r.taken i (good_opening c))
 
 is_bounded : (c : Config) (w : World) → IsReachedUnder c w → Bounded w.events w
-is_bounded c w r = subst (λ (v : World). Bounded v.events v) (sym r.run) (bounded_run_under c (opening c) r.taken (bounded_opening c))
+is_bounded c w r = subst (λ (v : World). Bounded v.events v) (sym r.world_after) (bounded_run_under c (opening c) r.taken (bounded_opening c))
 
 is_formed : (c : Config) (w : World) → IsReachedUnder c w → IsFormed c w
-is_formed c w r = subst (IsFormed c) (sym r.run) (formed_run c (opening c) r.taken (formed_opening c))
+is_formed c w r = subst (IsFormed c) (sym r.world_after) (formed_run c (opening c) r.taken (formed_opening c))
 
 -- ---- the theorem on every schedule
 
 pub keeps_sequences_there : (c : Config) (w : World) → IsConfig c → IsReached c w → KeepsSequences c w
-keeps_sequences_there c w i r = keeps_sequences c w (is_good c w i r) (subst IsCounted (sym r.run) (counted_run c (opening c) r.taken (counted_opening c)))
+keeps_sequences_there c w i r = keeps_sequences c w (is_good c w i r) (subst IsCounted (sym r.world_after) (counted_run c (opening c) r.taken (counted_opening c)))
 
 pub steps_fit_there : (c : Config) (w : World) → IsConfig c → IsReached c w → StepsFit c w
-steps_fit_there c w i r = λ a. all_steps c a (log_at w (txn_place c a)) ((is_good c w i r).steps a)
+steps_fit_there c w i r = λ a. all_steps c a (log_at w (txn_index c a)) ((is_good c w i r).steps a)
 
 pub atomic_there : (c : Config) (w : World) → IsConfig c → IsReached c w → IsAtRest w → AllAtomic c w
 atomic_there c w i r h = rest_is_atomic c w (is_good c w i r) h
@@ -65,11 +65,11 @@ pub neighbours_fit_there : (c : Config) (w : World) → IsConfig c → IsReached
 neighbours_fit_there c w i r h = neighbours_fit c w (keeps_sequences_there c w i r) (atomic_there c w i r h)
 
 pub of_schedule : (c : Config) (w : World) (e : EvidenceParts) → IsConfig c → IsReached c w → IsAtRest w → IsEvidenceOf c w e → IsOfSchedule e
-of_schedule c w e i r h k = record { config = c; world = w; events = r.taken; sizes = i; run = r.run; rest = h; evidence = k }
+of_schedule c w e i r h k = record { config = c; world = w; events = r.taken; sizes = i; world_after = r.world_after; rest = h; evidence = k }
 
 -- within the room there is evidence of it
 pub writable_there : (c : Config) (w : World) → IsConfig c → IsReachedUnder c w → HasRoomForAll c w → IsWritable c w
-writable_there c w i r h = subst (IsWritable c) (sym r.run) (writable c r.taken i (subst (HasRoomForAll c) r.run h))
+writable_there c w i r h = subst (IsWritable c) (sym r.world_after) (writable c r.taken i (subst (HasRoomForAll c) r.world_after h))
 
 -- ---- what an event needs
 
@@ -104,7 +104,7 @@ needs c w e l r = at e (is_bounded c w r) (is_formed c w r)
 
 -- ---- an event more
 
-run_more : (c : Config) (w : World) (es : List Event) (e : Event) → run c w (es ++ e ∷ []) ≡ (step c (run c w es) e).0
+run_more : (c : Config) (w : World) (es : List Event) (e : Event) → world_after c w (es ++ e ∷ []) ≡ (step c (world_after c w es) e).0
 run_more c w [] e = refl
 run_more c w (d ∷ es) e = run_more c (step c w d).0 es e
 
@@ -126,20 +126,20 @@ one_step u c w v e r l h = ap (counted w.events) h ∙ sym (not_full w.events (w
 pub full_step : (u : Switches) (c : Config) (w : World) (e : Event) → w.events ≡ 2 ^ 31 → (w, Full) ≡ step_under u c w e
 full_step u c w e h = sym (is_full w.events (w, Full) (counted w.events (happens_under u c w e)) h)
 
-run_more_under : (c : Config) (w : World) (xs : List (Switches × Event)) (u : Switches) (e : Event) → run_under c w (xs ++ (u, e) ∷ []) ≡ (step_under u c (run_under c w xs) e).0
+run_more_under : (c : Config) (w : World) (xs : List (Switches × Event)) (u : Switches) (e : Event) → world_under c w (xs ++ (u, e) ∷ []) ≡ (step_under u c (world_under c w xs) e).0
 run_more_under c w [] u e = refl
 run_more_under c w (x ∷ xs) u e = run_more_under c (step_under x.0 c w x.1).0 xs u e
 
 pub reached_under : (u : Switches) (c : Config) (w v : World) (e : Event) (r : Reply) → IsReachedUnder c w → (v, r) ≡ step_under u c w e → IsReachedUnder c v
 reached_under u c w v e r h a = record {
   taken = h.taken ++ (u, e) ∷ [];
-  run = ap (λ x. x.0) a ∙ (ap (λ z. (step_under u c z e).0) h.run ∙ sym (run_more_under c (opening c) h.taken u e));
+  world_after = ap (λ x. x.0) a ∙ (ap (λ z. (step_under u c z e).0) h.world_after ∙ sym (run_more_under c (opening c) h.taken u e));
 }
 
 pub reached_more : (c : Config) (w v : World) (e : Event) (r : Reply) → IsReached c w → (v, r) ≡ step c w e → IsReached c v
 reached_more c w v e r h a = record {
   taken = h.taken ++ e ∷ [];
-  run = ap (λ x. x.0) a ∙ (ap (λ u. (step c u e).0) h.run ∙ sym (run_more c (opening c) h.taken e));
+  world_after = ap (λ x. x.0) a ∙ (ap (λ u. (step c u e).0) h.world_after ∙ sym (run_more c (opening c) h.taken e));
 }
 
 pub step_taken : (A B : Type 0) (r : Reply) → IsProper r → B → UnlessMemory r A B

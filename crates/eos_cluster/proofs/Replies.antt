@@ -14,7 +14,7 @@ use Rattle.eos_machine.specs.declared.event.Reply.TheVariants.{Done, Fenced}
 use Rattle.eos_machine.specs.declared.switches.Switches.{Switches}
 use Rattle.eos_machine.specs.declared.item.Item.{Item}
 use Rattle.eos_machine.specs.declared.item.Item.TheVariants.{Output, Offset}
-use Rattle.eos_machine.specs.Places.{offsets_place, written_place}
+use Rattle.eos_machine.specs.LogIndexes.{offsets_index, written_index}
 use Rattle.eos_machine.specs.World.{World, coord_at, log_at}
 use Rattle.eos_machine.specs.Answers.{Answer, when}
 use Rattle.eos_machine.specs.Sessions.{resume_ended, produce, commit_offset, end_session, resume, fetch}
@@ -44,10 +44,10 @@ fenced_proper u w n p x = elim u.no_fence as (λ t. IsProperAnswer (if◌then◌
 delivered : (u : Switches) (c : Config) (w : World) (n : ℕ) (m : Option Message) → IsProperAnswer (deliver u c w n m)
 delivered u c w n None = tt
 delivered u c w n (Some (messages.Output a e p s x v)) =
-    let o = fenced_proper u w n (written_place c a p) (Output a e s x v w.events) in
+    let o = fenced_proper u w n (written_index c a p) (Output a e s x v w.events) in
     either _ _ _ o (either _ _ _ tt (either _ _ _ tt (either _ _ _ o (either _ _ _ tt tt))))
 delivered u c w n (Some (messages.Offset a e g q v)) =
-    let o = fenced_proper u w n offsets_place (Offset a e q v w.events) in
+    let o = fenced_proper u w n offsets_index (Offset a e q v w.events) in
     either _ _ _ tt (either _ _ _ tt (either _ _ _ o (either _ _ _ o (either _ _ _ tt tt))))
 delivered u c w n (Some (messages.End a e k)) = either _ _ _ tt (either _ _ _ tt (either _ _ _ tt (either _ _ _ tt tt)))
 delivered u c w n (Some (messages.Marker a m k p)) = either _ _ _ tt (either _ _ _ tt (either _ _ _ tt tt))

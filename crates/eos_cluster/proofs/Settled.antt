@@ -9,7 +9,7 @@ use Rattle.eos_machine.specs.declared.item.Item.{Item}
 use Rattle.eos_machine.specs.declared.item.Item.TheVariants.{Fed, State, Output, Offset, Marker}
 use Rattle.eos_machine.specs.declared.state.Producer.{Producer}
 use Rattle.eos_machine.specs.Application.{Mark, Batch, End}
-use Rattle.eos_machine.specs.Places.{offsets_place}
+use Rattle.eos_machine.specs.LogIndexes.{offsets_index}
 use Rattle.eos_machine.specs.World.{World, log_at}
 use Rattle.eos_machine.specs.Logs.{marks_of, mark_in, unseen, after_mark, producer_from, producer_of, kind_in, first_kind, is_open, is_committed, begins_at, has_open_commit}
 use Rattle.eos_machine.proofs.Worlds.{is_same}
@@ -110,8 +110,8 @@ no_end : (m : Option Kind) → is_open m ≡ true → m ≡ None
 no_end None h = refl
 no_end (Some k) h = absurd cc
 
-pub settled_here : (q n : ℕ) (w : World) (f : Fetched) (ss : List (Option Kind)) (i : ℕ) (log : List Item) {es : List (Option Kind)} → log ≡ log_at w offsets_place → length ss ≡ n → All (IsFrom n) log → i ≤ length log → ss ≡ es → AreEnds es (drop i log) → IsSettled n w f ss
-    → IsFetched q f (drop i log) → IsFetched q f (log_at w offsets_place)
+pub settled_here : (q n : ℕ) (w : World) (f : Fetched) (ss : List (Option Kind)) (i : ℕ) (log : List Item) {es : List (Option Kind)} → log ≡ log_at w offsets_index → length ss ≡ n → All (IsFrom n) log → i ≤ length log → ss ≡ es → AreEnds es (drop i log) → IsSettled n w f ss
+    → IsFetched q f (drop i log) → IsFetched q f (log_at w offsets_index)
 settled_here q n w f ss i log {es = es} e m r l o h s k =
     let ended : AreEnds ss (drop i log) = subst (λ zs. AreEnds zs (drop i log)) (sym o) h in
     subst (IsFetched q f) e (settled q n (number_in f.committed) f log i (is_there f.committed s.0) r l

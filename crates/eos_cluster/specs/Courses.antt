@@ -6,7 +6,7 @@ use Rattle.eos_machine.specs.declared.switches.Switches.{Switches}
 use Rattle.eos_machine.specs.declared.event.Event.{Event}
 use Rattle.eos_machine.specs.declared.event.Reply.{Reply}
 use Rattle.eos_machine.specs.declared.event.Reply.TheVariants.{Done, Fenced, OutOfOrder, DuplicateKept, WrongState, Busy, StaleGeneration, EpochsSpent, Unknown, OutOfMemory, Full}
-use Rattle.eos_machine.specs.Machine.{step, step_under, run, run_under}
+use Rattle.eos_machine.specs.Machine.{step, step_under, world_after, world_under}
 
 pub record Course : Type 0 where
   pub config : Config
@@ -62,9 +62,9 @@ IsCounted s Unknown t = t.world.events ≡ s.world.events + 1
 -- some list of events leads here
 pub record IsReached (c : Config) (w : World) : Type 0 where
   pub taken : List Event
-  pub run : w ≡ run c (opening c) taken
+  pub world_after : w ≡ world_after c (opening c) taken
 
 -- some list of events leads here, each under its own switches
 pub record IsReachedUnder (c : Config) (w : World) : Type 0 where
   pub taken : List (Switches × Event)
-  pub run : w ≡ run_under c (opening c) taken
+  pub world_after : w ≡ world_under c (opening c) taken

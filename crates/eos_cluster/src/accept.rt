@@ -1,7 +1,7 @@
 //! Data that a broker appends: to its transaction, or alone.
 
 ghost use Rattle.std.specs.Prelude.{◌≡◌, ◌+◌, ◌≤◌, OnOk, OnErr, IfOk};
-ghost use Rattle.eos_machine.specs.Places.{application_count};
+ghost use Rattle.eos_machine.specs.LogIndexes.{application_count};
 ghost use Rattle.eos_machine.specs.Deliveries.{with_partition};
 ghost use Rattle.eos_cluster.specs.steps.Taken.{fence, taken, IsFromIf};
 

@@ -2,7 +2,7 @@
 
 ghost use Rattle.std.specs.Prelude.{◌≡◌, ◌↔◌, ◌≤◌, ◌<◌, ◌^◌, ◌&&◌, not, true, [], Err, IfOk};
 ghost use Rattle.eos_evidence.specs.Evidence.{IsEvidence};
-ghost use Rattle.eos_machine.specs.Places.{IsConfig, output_place};
+ghost use Rattle.eos_machine.specs.LogIndexes.{IsConfig, output_index};
 ghost use Rattle.eos_machine.specs.World.{opening, log_at};
 ghost use Rattle.eos_machine.specs.Rest.{IsAtRest, KeepsSequences, StepsFit, AllAtomic, NeighboursFit};
 ghost use Rattle.eos_cluster.specs.declared.cluster.NewFault.{NewFault};
@@ -16,9 +16,9 @@ ghost use Rattle.eos_cluster.specs.Courses.{IsStep, IsStepUnder, IsCounted};
 use crate::evidence::{EvidenceRefusal, evidence_of};
 use crate::happens::happen;
 use eos_broker::Store;
-use eos_broker::places::output_place;
+use eos_broker::log_indexes::output_index;
 use eos_evidence::{Evidence, MAX_SEGMENTS};
-use eos_log_writer::place_count;
+use eos_log_writer::log_count;
 use eos_machine::{Config, Event, Item, Reply, Switches};
 use std::alloc::Global;
 use std::marker::Model;
@@ -58,7 +58,7 @@ pub struct Cluster {
 }
 
 impl Model for Cluster {
-    ghost use Rattle.eos_machine.specs.Places.{IsConfig};
+    ghost use Rattle.eos_machine.specs.LogIndexes.{IsConfig};
     ghost use Rattle.std.specs.Prelude.{◌≡◌, ◌≤◌, ◌^◌, true};
     ghost use Rattle.eos_machine.specs.Switching.{none};
     ghost use Rattle.eos_cluster.specs.Courses.{Course, IsReached, IsReachedUnder};
@@ -181,14 +181,14 @@ impl Cluster {
 
     /// What stands in a partition of `out`, by offset: nothing where there is no such partition.
     pub fn output_log(&self, partition: usize) -> &[Item]
-        ensures there { partition < self.now.config.outputs → result.now ≡ log_at self.now.world (output_place self.now.config partition) }
+        ensures there { partition < self.now.config.outputs → result.now ≡ log_at self.now.world (output_index self.now.config partition) }
         ensures none { self.now.config.outputs ≤ partition → result.now ≡ [] }
     {
         let config = self.store.config();
         if partition >= config.outputs {
             return &[];
         }
-        self.store.log(output_place(config, partition))
+        self.store.log(output_index(config, partition))
     }
 
     /// Whether no transaction is open or still ending. Whatever events an honest cluster has taken: no fault of a sequence or
@@ -209,7 +209,7 @@ impl Cluster {
         ensures { result ≡ true ↔ HasRoomForAll self.now.config self.now.world }
     {
         let config = self.config();
-        let partitions = place_count(*config);
+        let partitions = log_count(*config);
         let segments = 2 * self.events() / config.segment_records as u64;
         segments + partitions as u64 <= MAX_SEGMENTS
     }

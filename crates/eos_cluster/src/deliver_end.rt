@@ -9,7 +9,7 @@ ghost use Rattle.eos_cluster.specs.steps.Taken.{ended};
 use eos_batch::Kind;
 use eos_broker::answers::{is_commit, is_decided, is_next, is_ongoing, is_prepare};
 use eos_broker::{Store, copies};
-use eos_machine::{Places, Reply, Status, Switches};
+use eos_machine::{LogIndexes, Reply, Status, Switches};
 use std::alloc::AllocError;
 
 /// Why the coordinator refuses the end of a transaction, if it does.
@@ -86,7 +86,7 @@ fn end_by_markers(
     switches: Switches,
     application: usize,
     kind: Kind,
-    partitions: Places,
+    partitions: LogIndexes,
 ) -> Result<(), AllocError>
     requires epoch { (coord_at store.old.world application).epoch ≤ 32767 }
     ensures ok { OnOk result (store.new.world ≡ prepared switches store.old.config store.old.world application kind partitions) }

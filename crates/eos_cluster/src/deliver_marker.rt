@@ -1,7 +1,7 @@
 //! An end marker arrives at a broker.
 
 ghost use Rattle.std.specs.Prelude.{◌≡◌, ◌==◌, ◌&&◌, ◌||◌, ◌+◌, ◌-◌, ◌≤◌, ◌<◌, [], length, OnOk, OnErr, IfOk};
-ghost use Rattle.eos_machine.specs.Places.{application_count, IsConfig};
+ghost use Rattle.eos_machine.specs.LogIndexes.{application_count, IsConfig};
 ghost use Rattle.eos_machine.specs.World.{coord_at};
 ghost use Rattle.eos_machine.specs.Logs.{producer_at};
 ghost use Rattle.eos_machine.specs.Rules.{is_marker_fenced, marker_epoch, marker_kind, marker_of, other_kind};
@@ -11,7 +11,7 @@ ghost use Rattle.eos_cluster.specs.steps.Taken.{settled};
 
 use eos_batch::Kind;
 use eos_broker::answers::waits_for;
-use eos_broker::places::is_odd_output;
+use eos_broker::log_indexes::is_odd_output;
 use eos_broker::{Store, copies, is_not_above};
 use eos_machine::{Config, Item, Reply, Status, Switches};
 use std::alloc::AllocError;

@@ -1,7 +1,7 @@
 //! An offset arrives at the broker of the offsets, and its transaction at the coordinator.
 
 ghost use Rattle.std.specs.Prelude.{◌≡◌, ℕ, ◌<◌, Option, IfOk};
-ghost use Rattle.eos_machine.specs.Places.{application_count, offsets_place};
+ghost use Rattle.eos_machine.specs.LogIndexes.{application_count, offsets_index};
 ghost use Rattle.eos_machine.specs.declared.item.Item.TheVariants.{Offset};
 ghost use Rattle.eos_machine.specs.Rules.{is_stale};
 ghost use Rattle.eos_machine.specs.Deliveries.{deliver_offset};
@@ -10,7 +10,7 @@ ghost use Rattle.eos_cluster.specs.steps.Taken.{judged, taken, IsFromIf};
 use crate::accept::{Arrival, Request, fence};
 use eos_broker::Store;
 use eos_broker::answers::is_prepare;
-use eos_broker::places::OFFSETS_PLACE;
+use eos_broker::log_indexes::OFFSETS_INDEX;
 use eos_machine::{Item, Reply, Switches};
 
 /// An offset that is to be committed for a source of the group, or deleted where it is none, at a generation of the group.
@@ -49,7 +49,7 @@ fn judge_offset(
     generation: u64,
 ) -> Result<bool, Reply>
     requires application { request.application < application_count store.now.config }
-    requires place { request.place ≡ offsets_place }
+    requires place { request.place ≡ offsets_index }
     ensures { (q : ℕ) (v : Option ℕ) → deliver_offset switches store.now.config store.now.world request.number request.application request.epoch generation q v
         ≡ judged switches store.now.config store.now.world request (Offset request.application request.epoch q v store.now.world.events) result }
 {
@@ -65,7 +65,7 @@ fn judge_offset(
     if is_stale(switches, generation, store.generation()) {
         return Err(Reply::StaleGeneration);
     }
-    if epoch < store.producer(application, OFFSETS_PLACE).high {
+    if epoch < store.producer(application, OFFSETS_INDEX).high {
         return fence(switches);
     }
     if !store.is_current(application, epoch) {
@@ -85,7 +85,7 @@ pub(crate) fn offset_arrival(
     commit: OffsetCommit,
 ) -> Result<Arrival, Reply>
     requires application { request.application < application_count store.now.config }
-    requires place { request.place ≡ offsets_place }
+    requires place { request.place ≡ offsets_index }
     ensures from { IfOk result (IsFromIf (application_count store.now.config)) }
     ensures answer { deliver_offset switches store.now.config store.now.world request.number request.application request.epoch commit.generation commit.source commit.offset
         ≡ taken switches store.now.config store.now.world request result }

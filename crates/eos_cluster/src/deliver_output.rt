@@ -1,7 +1,7 @@
 //! A record arrives at a broker, and its transaction at the coordinator.
 
 ghost use Rattle.std.specs.Prelude.{◌≡◌, ℕ, ◌<◌, Option, IfOk};
-ghost use Rattle.eos_machine.specs.Places.{application_count};
+ghost use Rattle.eos_machine.specs.LogIndexes.{application_count};
 ghost use Rattle.eos_machine.specs.declared.item.Item.TheVariants.{Output};
 ghost use Rattle.eos_machine.specs.declared.item.Claim.{Claim};
 ghost use Rattle.eos_machine.specs.declared.state.Producer.{Producer};

@@ -1,7 +1,7 @@
 //! A message arrives.
 
 ghost use Rattle.std.specs.Prelude.{◌≡◌, ℕ, ◌≤◌, ◌<◌, length, slice_get, Some, OnErr, IfOk};
-ghost use Rattle.eos_machine.specs.Places.{application_count};
+ghost use Rattle.eos_machine.specs.LogIndexes.{application_count};
 ghost use Rattle.eos_machine.specs.Formed.{Names};
 ghost use Rattle.eos_machine.specs.World.{coord_at};
 ghost use Rattle.eos_machine.specs.Deliveries.{deliver};
@@ -14,7 +14,7 @@ use crate::deliver_marker::{EndMarker, deliver_marker};
 use crate::deliver_offset::{OffsetCommit, offset_arrival};
 use crate::deliver_output::{SentRecord, output_arrival};
 use eos_broker::Store;
-use eos_broker::places::{OFFSETS_PLACE, written_place};
+use eos_broker::log_indexes::{OFFSETS_INDEX, written_index};
 use eos_machine::{Message, Reply, Switches};
 use std::alloc::AllocError;
 
@@ -39,7 +39,7 @@ fn arrival_of(
             claim,
             value,
         } => {
-            let place = written_place(store.config(), *application, *partition);
+            let place = written_index(store.config(), *application, *partition);
             let request = Request::new(number, *application, *epoch, place);
             let sent = SentRecord::new(*sequence, *value);
             Ok((
@@ -54,7 +54,7 @@ fn arrival_of(
             source,
             offset,
         } => {
-            let request = Request::new(number, *application, *epoch, OFFSETS_PLACE);
+            let request = Request::new(number, *application, *epoch, OFFSETS_INDEX);
             let commit = OffsetCommit::new(*generation, *source, *offset);
             Ok((request, offset_arrival(store, switches, request, commit)))
         }

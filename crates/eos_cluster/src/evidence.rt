@@ -2,10 +2,10 @@
 
 ghost use Rattle.std.specs.Prelude.{◌≡◌, ℕ, ◌<◌, Ok, map, IfOk, OnOk, IsOk};
 ghost use Rattle.std.specs.List.{range_with_len};
-ghost use Rattle.eos_machine.specs.Places.{place_count};
+ghost use Rattle.eos_machine.specs.LogIndexes.{log_count};
 ghost use Rattle.eos_machine.specs.World.{log_at};
 ghost use Rattle.eos_cluster.specs.declared.evidence.EvidenceRefusal.{EvidenceRefusal};
-ghost use Rattle.eos_evidence.specs.Parts.{accepted};
+ghost use Rattle.eos_evidence.specs.Members.{accepted};
 ghost use Rattle.eos_evidence.specs.Evidence.{IsEvidence, without_segments};
 ghost use Rattle.eos_machine.specs.Evidences.{end_of, parts_of, log_segments, cluster_segments, adding, HaveTexts, IsEvidenceOf};
 ghost use Rattle.eos_machine.specs.steps.Writable.{IsWritable};
@@ -15,7 +15,7 @@ ghost use Rattle.eos_cluster.specs.Names.{evidence_refusal_name};
 use eos_base::Listed;
 use eos_broker::Store;
 use eos_evidence::{End, Evidence, EvidenceBuilder, Spec};
-use eos_log_writer::{LogFault, add_log, end_of, groups_of, place_count};
+use eos_log_writer::{LogFault, add_log, end_of, groups_of, log_count};
 use std::alloc::AllocError;
 use thiserror::Error;
 
@@ -43,7 +43,7 @@ impl EvidenceRefusal {
 
 /// The end of the partition at a place.
 fn end_at(store: &Store, place: usize) -> End
-    requires { place < place_count store.now.config }
+    requires { place < log_count store.now.config }
     ensures { result ≡ end_of store.now.config store.now.world place }
 {
     match end_of(store.config(), place, store.log(place).len()) {
@@ -54,10 +54,10 @@ fn end_at(store: &Store, place: usize) -> End
 
 /// The ends of all partitions.
 fn ends(store: &Store) -> Result<Vec<End>, AllocError>
-    ensures { IfOk result (λ es. es.items ≡ map (end_of store.now.config store.now.world) (range_with_len 0 (place_count store.now.config))) }
+    ensures { IfOk result (λ es. es.items ≡ map (end_of store.now.config store.now.world) (range_with_len 0 (log_count store.now.config))) }
 {
     let mut ends = Vec::new(store.alloc());
-    for place in 0..place_count(store.config()) {
+    for place in 0..log_count(store.config()) {
         ends.push(end_at(store, place))?;
     }
     Ok(ends)
@@ -73,7 +73,7 @@ fn of_memory(_fault: LogFault) -> AllocError
 /// Adds the segments of the log at a place.
 fn add_at(store: &Store, builder: &mut EvidenceBuilder, place: usize) -> Result<(), AllocError>
     requires writable { IsWritable store.now.config store.now.world }
-    requires place { place < place_count store.now.config }
+    requires place { place < log_count store.now.config }
     requires taken { IsOk (adding builder.old (log_segments store.now.config place (log_at store.now.world place))) }
     ensures added { OnOk result (adding builder.old (log_segments store.now.config place (log_at store.now.world place)) ≡ Ok builder.new) }
     ensures written { OnOk result (HaveTexts store.now.config (log_at store.now.world place)) }
@@ -95,9 +95,9 @@ fn add_logs(store: &Store, builder: &mut EvidenceBuilder) -> Result<(), AllocErr
     requires writable { IsWritable store.now.config store.now.world }
     requires begun { builder.old ≡ without_segments (parts_of store.now.config store.now.world) }
     ensures added { OnOk result (adding builder.old (cluster_segments store.now.config store.now.world) ≡ Ok builder.new) }
-    ensures written { OnOk result ((p : ℕ) → p < place_count store.now.config → HaveTexts store.now.config (log_at store.now.world p)) }
+    ensures written { OnOk result ((p : ℕ) → p < log_count store.now.config → HaveTexts store.now.config (log_at store.now.world p)) }
 {
-    for place in 0..place_count(store.config()) {
+    for place in 0..log_count(store.config()) {
         add_at(store, builder, place)?;
     }
     Ok(())

@@ -2,7 +2,7 @@
 
 ghost use Rattle.std.specs.Prelude.{◌≡◌, ◌∷◌, ◌<◌, true, List, None, length, replicate, slice_get, slice_index_or, vec_len, IfOk};
 ghost use Rattle.eos_machine.specs.declared.item.Item.{Item};
-ghost use Rattle.eos_machine.specs.Places.{application_count, offsets_place};
+ghost use Rattle.eos_machine.specs.LogIndexes.{application_count, offsets_index};
 ghost use Rattle.eos_machine.specs.World.{log_at};
 ghost use Rattle.eos_machine.specs.Logs.{begins_at};
 ghost use Rattle.eos_machine.specs.Sessions.{fetch};
@@ -11,7 +11,7 @@ ghost use Rattle.eos_broker.specs.Named.{IsFrom};
 
 use eos_batch::Kind;
 use eos_broker::Store;
-use eos_broker::places::{OFFSETS_PLACE, is_source};
+use eos_broker::log_indexes::{OFFSETS_INDEX, is_source};
 use eos_machine::{Item, Reply};
 use std::alloc::{AllocError, Global};
 
@@ -112,7 +112,7 @@ fn is_settled(store: &Store, fetched: Fetched, ends: &[Option<Kind>]) -> bool
     }
     for application in 0..store.config().application_count() {
         if next_end(ends, application).is_none()
-            && store.producer(application, OFFSETS_PLACE).last.is_some()
+            && store.producer(application, OFFSETS_INDEX).last.is_some()
         {
             return false;
         }
@@ -122,9 +122,9 @@ fn is_settled(store: &Store, fetched: Fetched, ends: &[Option<Kind>]) -> bool
 
 /// What the log of the offsets says of a source, read from its end as far as anything there can matter.
 fn read_back(store: &Store, source: usize) -> Result<Fetched, AllocError>
-    ensures { IfOk result (λ f. IsFetched source f (log_at store.now.world offsets_place)) }
+    ensures { IfOk result (λ f. IsFetched source f (log_at store.now.world offsets_index)) }
 {
-    let log = store.log(OFFSETS_PLACE);
+    let log = store.log(OFFSETS_INDEX);
     let mut ends = no_ends(store.alloc(), store.config().application_count())?;
     let mut fetched = Fetched {
         is_open: false,

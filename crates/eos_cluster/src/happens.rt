@@ -7,7 +7,7 @@ ghost use Rattle.eos_broker.specs.steps.Named.{Needs};
 use crate::{commit, deliver, end, feed, fetch, produce, restart, resume, start};
 use bytes::Bytes;
 use eos_broker::Store;
-use eos_broker::places::{is_partition, start_of};
+use eos_broker::log_indexes::{is_partition, start_of};
 use eos_machine::{Event, Reply, Switches};
 use std::alloc::AllocError;
 

@@ -9,7 +9,7 @@ ghost use Rattle.eos_broker.specs.Held.{becomes};
 ghost use Rattle.eos_cluster.specs.steps.Restarting.{said_by, due_message};
 
 use crate::deliver_marker::EndMarker;
-use eos_broker::places::txn_place;
+use eos_broker::log_indexes::txn_index;
 use eos_broker::{Store, copies, fresh, state_of};
 use eos_machine::{Coordinator, Entry, Item, Message, Status};
 use std::alloc::{AllocError, Global};
@@ -70,7 +70,7 @@ fn push_due(
 fn reread(store: &Store, application: usize) -> Result<Coordinator, AllocError>
     ensures { IfOk result (λ s. s ≡ reread store.now.config store.now.world application) }
 {
-    let place = txn_place(store.config(), application);
+    let place = txn_index(store.config(), application);
     state_said(store.alloc(), last_entry(store.log(place), application))
 }
 

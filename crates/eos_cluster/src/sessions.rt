@@ -10,7 +10,7 @@ ghost use Rattle.eos_broker.specs.Named.{IsSmall};
 use crate::starts::LAST_EPOCH;
 use eos_batch::Kind;
 use eos_broker::answers::{is_commit, is_complete, is_next, is_prepare};
-use eos_broker::places::is_source;
+use eos_broker::log_indexes::is_source;
 use eos_broker::{Store, copies, sequence_of};
 use eos_machine::{Claim, Config, Message, Reply, Session};
 use std::alloc::AllocError;

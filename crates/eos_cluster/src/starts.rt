@@ -8,7 +8,7 @@ ghost use Rattle.eos_machine.specs.Machine.{feed, start, start_session};
 use eos_base::Listed;
 use eos_batch::Kind;
 use eos_broker::answers::{is_ongoing, is_prepare};
-use eos_broker::places::input_place;
+use eos_broker::log_indexes::input_index;
 use eos_broker::{Store, copies};
 use eos_machine::{Item, Reply, Session, Status, Switches};
 use std::alloc::AllocError;
@@ -26,7 +26,7 @@ pub fn feed(store: &mut Store, source: usize) -> Result<Reply, AllocError>
     if source >= config.inputs {
         return Ok(Reply::Unknown);
     }
-    let place = input_place(config, source);
+    let place = input_index(config, source);
     let offset = store.log(place).len() as u64;
     let event = store.events();
     store.make_room(1)?;

@@ -12,7 +12,7 @@ ghost use Rattle.eos_disk.specs.declared.names.Form.TheVariants.{Log};
 ghost use Rattle.eos_commands.specs.Copies.{names_in, AreFoldersAt, AreListedAt, AreListedBy, is_states, path_of_name, own_name, AreRequired, IsEndOfCopy, EndsAt, IsCopied, AreEndsOfCopies};
 ghost use Rattle.eos_commands.specs.steps.Names.{Gains};
 
-use crate::fault::{InitFault, unlisted};
+use crate::init_fault::{InitFault, unlisted};
 use bytes::Bytes;
 use eos_base::{PartitionName, Sorted};
 use eos_disk::{Disk, bases_of, read_segment_file};

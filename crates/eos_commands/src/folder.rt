@@ -6,7 +6,7 @@ ghost use Rattle.eos_manifest.specs.Manifests.{has_end};
 ghost use Rattle.eos_commands.specs.Folding.{IsFolderAt, AreFoldersAt};
 ghost use Rattle.eos_commands.specs.Paths.{partition_at};
 
-use crate::folding_files_fault::FoldingFault;
+use crate::fold_fault::FoldingFault;
 use bytes::Bytes;
 use eos_base::PartitionName;
 use eos_disk::{ChangeFault, Disk, DiskMut, Form, bases_in, segment_path};

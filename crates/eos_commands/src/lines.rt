@@ -1,6 +1,6 @@
 //! What the lines of ends say beside the ends, and what is told of it.
 
-use crate::fault::InitFault;
+use crate::init_fault::InitFault;
 use crate::note::{Note, OfLines};
 use bytes::Bytes;
 use eos_base::{PartitionName, Sorted};

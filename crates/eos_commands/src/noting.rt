@@ -1,7 +1,7 @@
 //! What is told of copied logs beside their manifest.
 
 use crate::copied::Logs;
-use crate::fault::InitFault;
+use crate::init_fault::InitFault;
 use crate::lines::{Said, push_of_groups, push_of_lines};
 use crate::note::Note;
 use eos_base::{PartitionName, Sorted};

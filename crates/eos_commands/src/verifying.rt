@@ -36,7 +36,7 @@ pub struct Compared<'a> {
 
 /// Where folds and logs stand, and the topics whose claims are kept by a number.
 #[derive(Clone, Copy)]
-struct Places<'a, D> {
+struct Sides<'a, D> {
     disk: &'a D,
     folder: &'a str,
     logs: &'a [&'a str],
@@ -106,7 +106,7 @@ fn compare_shape<D: Disk>(
         × AreFound (D.holds disk.now) topics shape.now.evidence.spec.apps given.entry.folder.now (map (λ l. l.now) given.entry.logs.now) (segments_of shape.now.evidence.partitions) shape.now.forms.items found.items) }
 {
     let topics = source_topics(alloc, shape.evidence.spec().apps().as_slice())?;
-    let places = Places {
+    let places = Sides {
         disk,
         folder: given.folder,
         logs: given.logs,
@@ -116,7 +116,7 @@ fn compare_shape<D: Disk>(
     Ok(found)
 }
 
-impl<'a, D: Disk> Places<'a, D> {
+impl<'a, D: Disk> Sides<'a, D> {
     /// What is found of the folds of a folder of this shape, in order.
     fn compare_all(&self, alloc: Global, shape: &Shape) -> Result<Vec<Found>, FolderFault>
         ensures { IfOk result (λ found. AreFound (D.holds self.now.disk.now) self.now.topics.now shape.now.evidence.spec.apps self.now.folder.now (map (λ l. l.now) self.now.logs.now) (segments_of shape.now.evidence.partitions) shape.now.forms.items found.items) }

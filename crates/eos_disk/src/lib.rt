@@ -22,7 +22,7 @@ mod refusal;
 mod watch;
 mod writing;
 pub mod written_laws;
-mod written_writing;
+mod whole_writing;
 
 pub use cause::Cause;
 pub use change::{ChangeFault, DiskMut};
@@ -39,4 +39,4 @@ pub use putting::{HostFile, NewFile, begin_file, drop_file, end_file, put_file};
 pub use refusal::{FoldRefusal, refused_at, refused_fold};
 pub use watch::Watch;
 pub use writing::{WritingFault, Written, make_folder, write_evidence};
-pub use written_writing::write_whole;
+pub use whole_writing::write_whole;

@@ -132,14 +132,14 @@ pub(crate) fn pitch_of(row: &Row) -> u64 {
 
 /// A row that is drawn: its upper edge, the height of its lines, and what its cells hold.
 #[derive(Clone, Copy)]
-pub(crate) struct Place<'a> {
+pub(crate) struct DrawnRow<'a> {
     pub plan: &'a Plan,
     pub top: u64,
     pub pitch: u64,
     pub cells: &'a [Cell],
 }
 
-impl Place<'_> {
+impl DrawnRow<'_> {
     /// The corner of the column's cell.
     fn corner(&self, column: usize) -> Point {
         Point {

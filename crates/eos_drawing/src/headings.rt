@@ -56,15 +56,15 @@ fn third_line(alloc: Global, column: &Column) -> Result<String, AllocError> {
     }
 }
 
-/// The place among all transactions of the one that is shown in this column.
-pub(crate) fn place_of(picture: &Picture, column: usize) -> usize {
+/// The index among all transactions of the one that is shown in this column.
+pub(crate) fn index_of(picture: &Picture, column: usize) -> usize {
     match picture.places.get(column) {
         None => column,
         Some(place) => *place,
     }
 }
 
-/// What stands above the column of the transaction at this place of all.
+/// What stands above the column of the transaction at this index of all.
 pub(crate) fn heading_of(
     alloc: Global,
     place: usize,

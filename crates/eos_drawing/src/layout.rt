@@ -3,7 +3,7 @@
 ghost use Rattle.std.specs.Prelude.{◌≡◌, IfOk, string_bytes};
 
 use crate::canvas::Canvas;
-use crate::headings::{draw_heading, draw_other_heading, heading_of, place_of};
+use crate::headings::{draw_heading, draw_other_heading, heading_of, index_of};
 use crate::legend::{ROOM, draw_legend};
 use crate::plan::{GAP, Plan, plan_of};
 use crate::rows::draw_row;
@@ -61,7 +61,7 @@ fn draw_headings(
     top: u64,
 ) -> Result<(), AllocError> {
     for i in 0..picture.columns.len() {
-        let heading = heading_of(canvas.alloc, place_of(picture, i), &picture.columns[i])?;
+        let heading = heading_of(canvas.alloc, index_of(picture, i), &picture.columns[i])?;
         let at = Point {
             x: plan.x_of(i as u64),
             y: top,

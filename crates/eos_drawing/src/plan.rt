@@ -1,7 +1,7 @@
 //! How wide what is.
 
 use crate::cells::offset_of;
-use crate::headings::{heading_of, place_of};
+use crate::headings::{heading_of, index_of};
 use crate::labels::{digits, name_label};
 use eos_picture::{Column, Mark, Picture, Row};
 use std::alloc::{AllocError, Global};
@@ -55,7 +55,7 @@ fn name_characters(alloc: Global, picture: &Picture) -> Result<usize, AllocError
 fn heading_characters(alloc: Global, picture: &Picture) -> Result<usize, AllocError> {
     let mut most = 18;
     for i in 0..picture.columns.len() {
-        let heading = heading_of(alloc, place_of(picture, i), &picture.columns[i])?;
+        let heading = heading_of(alloc, index_of(picture, i), &picture.columns[i])?;
         most = heading
             .first
             .len()

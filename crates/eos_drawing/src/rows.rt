@@ -1,7 +1,7 @@
 //! The rows of a drawing.
 
 use crate::canvas::{Canvas, moved};
-use crate::cells::{Cell, Place, Room, cells_of, empty_cells, offset_of, pitch_of, room_of};
+use crate::cells::{Cell, DrawnRow, Room, cells_of, empty_cells, offset_of, pitch_of, room_of};
 use crate::labels::{commit_label, number_label, passed_label};
 use crate::plan::{CHARACTER, Plan, row_name};
 use crate::told::{Marked, told_of};
@@ -104,7 +104,7 @@ fn draw_ring(canvas: &mut Canvas, at: Point, size: Size, mark: &Mark) -> Result<
 /// An end marker, by its upper corner.
 fn draw_marker(
     canvas: &mut Canvas,
-    place: Place<'_>,
+    place: DrawnRow<'_>,
     at: Point,
     marked: Marked<'_>,
 ) -> Result<(), AllocError> {
@@ -169,7 +169,7 @@ fn box_size(plan: &Plan, mark: &Mark) -> Size {
 /// Draws a mark in a cell that holds so much, of which so much is drawn.
 fn draw_mark(
     canvas: &mut Canvas,
-    place: Place<'_>,
+    place: DrawnRow<'_>,
     marked: Marked<'_>,
     all: Cell,
     drawn: Cell,
@@ -192,7 +192,7 @@ fn draw_mark(
 
 fn draw_marks(
     canvas: &mut Canvas,
-    place: Place<'_>,
+    place: DrawnRow<'_>,
     row: &Row,
     picture: &Picture,
 ) -> Result<(), AllocError> {
@@ -215,7 +215,7 @@ fn draw_marks(
 }
 
 /// How many are left out, in each cell where some are.
-fn draw_left_out(canvas: &mut Canvas, place: Place<'_>) -> Result<(), AllocError> {
+fn draw_left_out(canvas: &mut Canvas, place: DrawnRow<'_>) -> Result<(), AllocError> {
     for column in 0..place.cells.len() {
         let cell = place.cells[column];
         if cell.left_out > 0 {
@@ -232,7 +232,7 @@ fn draw_left_out(canvas: &mut Canvas, place: Place<'_>) -> Result<(), AllocError
 /// The name of a row, and the line below it.
 fn draw_frame(
     canvas: &mut Canvas,
-    place: Place<'_>,
+    place: DrawnRow<'_>,
     row: &Row,
     bottom: u64,
 ) -> Result<(), AllocError> {
@@ -259,7 +259,7 @@ pub(crate) fn draw_row(
     picture: &Picture,
 ) -> Result<u64, AllocError> {
     let cells = cells_of(canvas.alloc, plan.columns, row)?;
-    let place = Place {
+    let place = DrawnRow {
         plan,
         top,
         pitch: pitch_of(row),

@@ -3,8 +3,8 @@ use Rattle.std.proofs.Common.{◌≡◌, ◌↔◌, ◌++◌, ◌∷◌, [], ℕ
 use Rattle.std.specs.Prelude.{slice_get}
 use Rattle.std.proofs.lemmas.Bool.{ne_eqb, eq-eqb}
 use Rattle.std.proofs.lemmas.List.{drop_more}
-use Rattle.eos_drive.specs.declared.history_whole.Entry.{Entry}
-use Rattle.eos_drive.specs.declared.history_whole.Call.{Call}
+use Rattle.eos_drive.specs.declared.finished.Entry.{Entry}
+use Rattle.eos_drive.specs.declared.finished.Call.{Call}
 use Rattle.eos_drive.specs.Replay.{call_at, calls_from, calls_of}
 
 -- what is left of the calls is what is left of the entries, exactly where all are all

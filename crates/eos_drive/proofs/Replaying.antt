@@ -8,29 +8,29 @@ use Rattle.eos_machine.specs.declared.event.Reply.{Reply}
 use Rattle.eos_machine.specs.declared.event.Reply.TheVariants.{Done, Fenced, OutOfOrder, DuplicateKept, WrongState, Busy, StaleGeneration, EpochsSpent, Unknown, OutOfMemory, Full}
 use Rattle.eos_machine.specs.World.{World, opening}
 use Rattle.eos_machine.specs.Answers.{Answer}
-use Rattle.eos_machine.specs.Machine.{step, run, replies}
+use Rattle.eos_machine.specs.Machine.{step, world_after, replies}
 use Rattle.eos_cluster.specs.Courses.{Course, IsTaken, IsStep, IsCounted}
-use Rattle.eos_drive.specs.declared.history_whole.Entry.{Entry}
-use Rattle.eos_drive.specs.declared.history_whole.Call.{Call}
+use Rattle.eos_drive.specs.declared.finished.Entry.{Entry}
+use Rattle.eos_drive.specs.declared.finished.Call.{Call}
 use Rattle.eos_drive.specs.Replay.{IsReplay, events_of, is_stored, PassView, new_pass, new_passes}
 use Rattle.eos_drive.specs.steps.Replay.{recorded}
 
 -- ---- an event more
 
-run_more : (c : Config) (w : World) (es : List Event) (e : Event) → run c w (es ++ e ∷ []) ≡ (step c (run c w es) e).0
+run_more : (c : Config) (w : World) (es : List Event) (e : Event) → world_after c w (es ++ e ∷ []) ≡ (step c (world_after c w es) e).0
 run_more c w [] e = refl
 run_more c w (d ∷ es) e = run_more c (step c w d).0 es e
 
-replies_more : (c : Config) (w : World) (es : List Event) (e : Event) → replies c w (es ++ e ∷ []) ≡ replies c w es ++ (step c (run c w es) e).1 ∷ []
+replies_more : (c : Config) (w : World) (es : List Event) (e : Event) → replies c w (es ++ e ∷ []) ≡ replies c w es ++ (step c (world_after c w es) e).1 ∷ []
 replies_more c w [] e = refl
 replies_more c w (d ∷ es) e = ap (λ rs. (step c w d).1 ∷ rs) (replies_more c (step c w d).0 es e)
 
 replay_more : (c : Config) (w v : World) (es : List Entry) (x : Entry) → IsReplay c w es → (v, x.reply) ≡ step c w x.event → IsReplay c v (es ++ x ∷ [])
 replay_more c w v es x h t =
     let events : events_of (es ++ x ∷ []) ≡ events_of es ++ x.event ∷ [] = map-append (λ (e : Entry). e.event) es (x ∷ []) in
-    let there : (v, x.reply) ≡ step c (run c (opening c) (events_of es)) x.event = t ∙ ap (λ (u : World). step c u x.event) h.state in
+    let there : (v, x.reply) ≡ step c (world_after c (opening c) (events_of es)) x.event = t ∙ ap (λ (u : World). step c u x.event) h.state in
     record {
-      state = ap (λ (y : Answer). y.0) there ∙ (sym (run_more c (opening c) (events_of es) x.event) ∙ ap (run c (opening c)) (sym events));
+      state = ap (λ (y : Answer). y.0) there ∙ (sym (run_more c (opening c) (events_of es) x.event) ∙ ap (world_after c (opening c)) (sym events));
       answers = map-append (λ (e : Entry). e.reply) es (x ∷ []) ∙ ((λ i. h.answers i ++ (there i).1 ∷ []) ∙ (sym (replies_more c (opening c) (events_of es) x.event) ∙ ap (replies c (opening c)) (sym events)));
     }
 

@@ -7,10 +7,10 @@ use Rattle.eos_machine.specs.declared.event.Event.{Event}
 use Rattle.eos_machine.specs.declared.event.Reply.{Reply}
 use Rattle.eos_machine.specs.declared.event.Reply.TheVariants.{Done, Fenced, OutOfOrder, DuplicateKept, WrongState, Busy, StaleGeneration, EpochsSpent, Unknown, OutOfMemory, Full}
 use Rattle.eos_machine.specs.World.{World, opening}
-use Rattle.eos_machine.specs.Machine.{run, replies}
-use Rattle.eos_drive.specs.declared.history_whole.Entry.{Entry}
-use Rattle.eos_drive.specs.declared.history_whole.Call.{Call}
-use Rattle.eos_drive.specs.declared.history_whole.Called.{Called}
+use Rattle.eos_machine.specs.Machine.{world_after, replies}
+use Rattle.eos_drive.specs.declared.finished.Entry.{Entry}
+use Rattle.eos_drive.specs.declared.finished.Call.{Call}
+use Rattle.eos_drive.specs.declared.finished.Called.{Called}
 
 -- ---- replay
 
@@ -22,7 +22,7 @@ replies_of es = map (λ e. e.reply) es
 
 -- the stored events, one after the other from the opening state, lead here and are answered so
 pub record IsReplay (c : Config) (w : World) (es : List Entry) : Type 0 where
-  pub state : w ≡ run c (opening c) (events_of es)
+  pub state : w ≡ world_after c (opening c) (events_of es)
   pub answers : replies_of es ≡ replies c (opening c) (events_of es)
 
 -- ---- what is stored

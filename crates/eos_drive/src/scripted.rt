@@ -1,4 +1,4 @@
-//! A run by a script, from its first word to its end.
+//! A cluster that a script drives, from its first word to its end.
 
 ghost use Rattle.std.specs.Prelude.{◌≡◌, None};
 ghost use Rattle.eos_drive.specs.Driven.{IsDriven, IsKept};
@@ -7,7 +7,7 @@ ghost use Rattle.eos_drive.specs.steps.Drives.{HasDone};
 use crate::driver::Driver;
 use crate::history::History;
 use crate::mishap::Mishap;
-use crate::run::Run;
+use crate::actors::Actors;
 use crate::script::Script;
 use crate::settings::Settings;
 use crate::settle::settle;
@@ -15,7 +15,7 @@ use eos_cluster::Cluster;
 use std::alloc::{AllocError, Global};
 use std::mem;
 
-/// Drives a cluster by a script. Each word becomes at most one event, by what the run knows of the cluster. The applications read
+/// Drives a cluster by a script. Each word becomes at most one event, by what is known of the cluster. The applications read
 /// from their committed offsets, in transactions, and write for the input at offset o of a partition of `in` its o modulo 3
 /// outputs, or one note where that is 0; each transaction commits the offsets after all inputs whose outputs it writes.
 /// The partition p of `in` belongs to the application of number p plus the group's generation, modulo their number.
@@ -25,16 +25,16 @@ use std::mem;
 /// without loss, and the cluster comes to rest, unless it takes no more events or an application's producer epochs are
 /// spent. The same script does the same on every machine.
 ///
-/// The cluster is a new one: of inputs and sessions that it had before, the run knows nothing.
+/// The cluster is a new one: of inputs and sessions that it had before, nothing is known.
 ///
 /// # Errors
 /// Where a growth was refused. The cluster has taken some of the events.
-pub fn run_script(alloc: Global, cluster: &mut Cluster, script: &Script) -> Result<(), AllocError>
+pub fn drive_script(alloc: Global, cluster: &mut Cluster, script: &Script) -> Result<(), AllocError>
     ensures driven { IsDriven cluster.old cluster.new }
     ensures config { cluster.new.config ≡ cluster.old.config }
     ensures honest { cluster.new.honest ≡ cluster.old.honest }
 {
-    run_with(alloc, cluster, script, &Settings::today())?;
+    drive_with(alloc, cluster, script, &Settings::today())?;
     Ok(())
 }
 
@@ -43,7 +43,7 @@ pub fn run_script(alloc: Global, cluster: &mut Cluster, script: &Script) -> Resu
 ///
 /// # Errors
 /// Where a growth was refused. The cluster has taken some of the events.
-pub fn run_with(
+pub fn drive_with(
     alloc: Global,
     cluster: &mut Cluster,
     script: &Script,
@@ -54,7 +54,7 @@ pub fn run_with(
     ensures honest { settings.now.turning ≡ None → cluster.new.honest ≡ cluster.old.honest }
 {
     let mut driver = Driver::new(cluster, None);
-    let answer = run_driven(alloc, cluster, &mut driver, script, settings);
+    let answer = drive_words(alloc, cluster, &mut driver, script, settings);
     driver.end();
     answer
 }
@@ -64,7 +64,7 @@ pub fn run_with(
 ///
 /// # Errors
 /// Where a growth was refused, that of the history among them. The cluster has taken some of the events, which are kept.
-pub fn run_kept(
+pub fn drive_kept(
     alloc: Global,
     cluster: &mut Cluster,
     history: &mut History,
@@ -77,12 +77,12 @@ pub fn run_kept(
 {
     let before = mem::replace(history, History::new(alloc));
     let mut driver = Driver::new(cluster, Some(before));
-    let answer = run_driven(alloc, cluster, &mut driver, script, settings);
+    let answer = drive_words(alloc, cluster, &mut driver, script, settings);
     driver.give_back(history);
     answer
 }
 
-fn run_driven(
+fn drive_words(
     alloc: Global,
     cluster: &mut Cluster,
     driver: &mut Driver,
@@ -93,16 +93,16 @@ fn run_driven(
     ensures done { HasDone cluster.old driver.old cluster.new driver.new }
     ensures honest { settings.now.turning ≡ None → cluster.new.honest ≡ cluster.old.honest }
 {
-    let mut run = Run::new(alloc, cluster, settings)?;
+    let mut actors = Actors::new(alloc, cluster, settings)?;
     let mut number = 0u64;
     for word in script.words() {
         turn_on(cluster, driver, settings, number)?;
-        run.take_word(cluster, driver, *word)?;
+        actors.take_word(cluster, driver, *word)?;
         number = number.saturating_add(1);
     }
     turn_on(cluster, driver, settings, number)?;
-    settle(&mut run, cluster, driver)?;
-    Ok(run.plan.unmet())
+    settle(&mut actors, cluster, driver)?;
+    Ok(actors.plan.unmet())
 }
 
 /// Turns the switches on that are to be on after so many words.

@@ -1,11 +1,11 @@
-//! The end of a run: what is left is processed without loss.
+//! The end of a script: what is left is processed without loss.
 
 ghost use Rattle.std.specs.Prelude.{◌≡◌};
 ghost use Rattle.eos_drive.specs.steps.Drives.{HasAsked};
 
 use crate::driver::Driver;
 use crate::instance::Choice;
-use crate::run::Run;
+use crate::actors::Actors;
 use eos_cluster::{Cluster, MAX_EVENTS};
 use std::alloc::AllocError;
 
@@ -18,42 +18,42 @@ const STEADY: Choice = Choice {
 /// Processes all inputs that are left without loss, those of the first group before those of the second, and brings the cluster
 /// to rest. Where the cluster breaks its rules, so that an application can't go on, its transaction is aborted in the end.
 pub(crate) fn settle(
-    run: &mut Run,
+    actors: &mut Actors,
     cluster: &mut Cluster,
     driver: &mut Driver,
 ) -> Result<(), AllocError>
     requires { driver.old.course ≡ cluster.old }
     ensures { HasAsked cluster.old driver.old cluster.new driver.new }
 {
-    let applications = run.applications;
-    run.instances.truncate(applications);
-    run.restart_coordinator(cluster, driver)?;
-    carry_all(run, cluster, driver)?;
+    let applications = actors.applications;
+    actors.instances.truncate(applications);
+    actors.restart_coordinator(cluster, driver)?;
+    carry_all(actors, cluster, driver)?;
     for _ in 0..applications.saturating_add(2) {
-        if finish_each(run, cluster, driver)? {
+        if finish_each(actors, cluster, driver)? {
             return Ok(());
         }
     }
-    begin_each(run, cluster, driver)
+    begin_each(actors, cluster, driver)
 }
 
 /// All messages arrive that are on their way.
-fn carry_all(run: &mut Run, cluster: &mut Cluster, driver: &mut Driver) -> Result<(), AllocError>
+fn carry_all(actors: &mut Actors, cluster: &mut Cluster, driver: &mut Driver) -> Result<(), AllocError>
     requires { driver.old.course ≡ cluster.old }
     ensures { HasAsked cluster.old driver.old cluster.new driver.new }
 {
     for _ in 0..MAX_EVENTS {
-        if run.network.next().is_none() {
+        if actors.network.next().is_none() {
             break;
         }
-        run.carry(cluster, driver)?;
+        actors.carry(cluster, driver)?;
     }
     Ok(())
 }
 
 /// Each application processes what is left to it. Whether nothing was kept from any of them.
 fn finish_each(
-    run: &mut Run,
+    actors: &mut Actors,
     cluster: &mut Cluster,
     driver: &mut Driver,
 ) -> Result<bool, AllocError>
@@ -61,15 +61,15 @@ fn finish_each(
     ensures { HasAsked cluster.old driver.old cluster.new driver.new }
 {
     let mut is_finished = true;
-    for number in 0..run.instances.len() {
-        is_finished = finish(run, cluster, driver, number)? && is_finished;
+    for number in 0..actors.instances.len() {
+        is_finished = finish(actors, cluster, driver, number)? && is_finished;
     }
     Ok(is_finished)
 }
 
 /// An application takes its turns until nothing is left to it, or it is kept out. Whether nothing is left.
 fn finish(
-    run: &mut Run,
+    actors: &mut Actors,
     cluster: &mut Cluster,
     driver: &mut Driver,
     number: usize,
@@ -77,11 +77,11 @@ fn finish(
     requires { driver.old.course ≡ cluster.old }
     ensures { HasAsked cluster.old driver.old cluster.new driver.new }
 {
-    let most = run.plan.inputs().saturating_mul(64).saturating_add(1000);
+    let most = actors.plan.inputs().saturating_mul(64).saturating_add(1000);
     for _ in 0..most {
-        run.take_turn(cluster, driver, number, STEADY)?;
-        carry_all(run, cluster, driver)?;
-        match run.instances.get(number) {
+        actors.take_turn(cluster, driver, number, STEADY)?;
+        carry_all(actors, cluster, driver)?;
+        match actors.instances.get(number) {
             Some(instance) if instance.rests() => return Ok(instance.has_finished()),
             Some(_) => {}
             None => return Ok(true),
@@ -91,21 +91,21 @@ fn finish(
 }
 
 /// Each application begins a new session, which aborts what an earlier one left open.
-fn begin_each(run: &mut Run, cluster: &mut Cluster, driver: &mut Driver) -> Result<(), AllocError>
+fn begin_each(actors: &mut Actors, cluster: &mut Cluster, driver: &mut Driver) -> Result<(), AllocError>
     requires { driver.old.course ≡ cluster.old }
     ensures { HasAsked cluster.old driver.old cluster.new driver.new }
 {
-    for number in 0..run.instances.len() {
-        run.forget(number);
-        begin(run, cluster, driver, number)?;
-        begin(run, cluster, driver, number)?;
+    for number in 0..actors.instances.len() {
+        actors.forget(number);
+        begin(actors, cluster, driver, number)?;
+        begin(actors, cluster, driver, number)?;
     }
     Ok(())
 }
 
 /// A new session begins, or what keeps it from that comes to its end.
 fn begin(
-    run: &mut Run,
+    actors: &mut Actors,
     cluster: &mut Cluster,
     driver: &mut Driver,
     number: usize,
@@ -113,6 +113,6 @@ fn begin(
     requires { driver.old.course ≡ cluster.old }
     ensures { HasAsked cluster.old driver.old cluster.new driver.new }
 {
-    run.take_turn(cluster, driver, number, STEADY)?;
-    carry_all(run, cluster, driver)
+    actors.take_turn(cluster, driver, number, STEADY)?;
+    carry_all(actors, cluster, driver)
 }

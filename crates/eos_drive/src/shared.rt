@@ -8,7 +8,7 @@ ghost use Rattle.eos_cluster.specs.Courses.{IsStep, IsCounted};
 ghost use Rattle.eos_drive.specs.Replay.{IsReplay, is_stored, noted, told, new_passes, call_at, calls_of, Agree};
 ghost use Rattle.eos_drive.specs.steps.Replay.{recorded};
 
-use crate::history_whole::{Call, Called, Entry, Finished};
+use crate::finished::{Call, Called, Entry, Finished};
 use eos_base::Listed;
 use eos_cluster::Cluster;
 use eos_machine::{Event, Reply};
@@ -170,7 +170,7 @@ fn answer(
 
 /// Whether a call is this entry at this place, part by part.
 #[tactic(auto, using(crate::proofs::Equal::events_decide))]
-fn has_parts(entry: &Entry, place: u64, call: &Call) -> bool
+fn has_fields(entry: &Entry, place: u64, call: &Call) -> bool
     ensures { result ≡ true ↔ ((call.now.place ≡ place) × (call.now.reply ≡ entry.now.reply) × (call.now.event ≡ entry.now.event)) }
 {
     call.place == place && call.reply == entry.reply && call.event == entry.event
@@ -180,7 +180,7 @@ fn has_parts(entry: &Entry, place: u64, call: &Call) -> bool
 fn is_call(entry: &Entry, place: u64, call: &Call) -> bool
     ensures { result ≡ true ↔ (call.now ≡ call_at place entry.now) }
 {
-    has_parts(entry, place, call)
+    has_fields(entry, place, call)
 }
 
 /// Whether the caller's next call is this entry at this place.

@@ -8,7 +8,7 @@ use Rattle.std.specs.List.Sorted.{IsPartitionPoint, IsNonDecreasing}
 use Rattle.eos_evidence.specs.declared.segment.Segment.{Segment}
 use Rattle.eos_evidence.specs.declared.partition.Partition.{Partition}
 use Rattle.eos_evidence.specs.Evidence.{segments_of}
-use Rattle.eos_evidence.specs.steps.SegmentPlaces.{AreFirsts, IsLastFrom}
+use Rattle.eos_evidence.specs.steps.SegmentIndexes.{AreFirsts, IsLastFrom}
 use Rattle.eos_evidence.proofs.AddedSegments.{parted_at}
 
 -- ---- what halving finds

@@ -11,7 +11,7 @@ use Rattle.std.specs.Ordering.{int_cmp, int_eq, is_lt, on, ordering_reverse}
 use Rattle.std.specs.declared.cmp.Ordering.TheVariants.{Less}
 use Rattle.eos_evidence.specs.declared.segment.Segment.{Segment}
 use Rattle.eos_evidence.specs.Evidence.{IsRising, has_base, insert_segment}
-use Rattle.eos_evidence.specs.steps.SegmentPlaces.{IsPlaceFor}
+use Rattle.eos_evidence.specs.steps.SegmentIndexes.{IsIndexFor}
 
 bases_ascend : (xs : List Segment) → IsRising xs → IsSortedBy (λ a b. is_lt (int_cmp a.base b.base)) xs
 bases_ascend xs up k d low high =
@@ -67,7 +67,7 @@ there base (x ∷ xs) (suc k) within same = rw (there base xs k (omega arith) (�
 
 -- a binary search finds the base, or the place for it
 pub searched : (xs : List Segment) → IsRising xs → (base : ℤ) (r : Result ℕ ℕ) → IsSearchInRange r (length xs) → IsBinarySearchResult (λ s. int_cmp s.base base) xs r
-    → OnOk r (has_base base xs ≡ true) × IfErr r (IsPlaceFor base xs)
+    → OnOk r (has_base base xs ≡ true) × IfErr r (IsIndexFor base xs)
 searched xs up base (Ok at) within equal = (there base xs at within (λ d. int_ranked _ base _ (sym (equal d))), tt)
 searched xs up base (Err at) within parted =
     let parts = parted (searchable_from_sorted int_cmp_total (λ s. s.base) xs base (bases_ascend xs up)) in

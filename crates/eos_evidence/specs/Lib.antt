@@ -3,7 +3,7 @@ pub mod Evidence
 pub mod Manifest
 pub mod Names
 pub mod PartitionNames
-pub mod Parts
+pub mod Members
 pub mod Reading
 pub mod Topics
 pub mod steps

@@ -1,6 +1,6 @@
 -- What only private functions promise: steps towards what the public calls say.
-pub mod AcceptedParts
+pub mod AcceptedMembers
 pub mod OrderedEnds
-pub mod SegmentPlaces
+pub mod SegmentIndexes
 pub mod WrittenEnds
 pub mod WrittenApps

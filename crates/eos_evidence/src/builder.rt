@@ -4,7 +4,7 @@ ghost use Rattle.std.specs.Prelude.{◌≡◌, Ok, Err, IfOk, IfErr, OnErr, Matc
 ghost use Rattle.std.specs.List.Sorted.{IsStrictlySortedBy};
 ghost use Rattle.eos_evidence.specs.Ends.{end_cmp};
 ghost use Rattle.eos_evidence.specs.Evidence.{IsEvidence, is_in, is_past_limit, without_segments, added, empty_partition, AddAnswers};
-ghost use Rattle.eos_evidence.specs.steps.SegmentPlaces.{IsFirst, MayTake};
+ghost use Rattle.eos_evidence.specs.steps.SegmentIndexes.{IsFirst, MayTake};
 
 use crate::ends::End;
 use crate::evidence::{Evidence, MAX_SEGMENTS};
@@ -22,14 +22,14 @@ use std::marker::Model;
 pub struct EvidenceBuilder {
     spec: Spec,
     partitions: Vec<Partition>,
-    /// Room for the place of each partition's first segment.
+    /// Room for the index of each partition's first segment.
     firsts: Vec<usize>,
     count: u64,
 }
 
 impl Model for EvidenceBuilder {
     ghost use Rattle.eos_evidence.specs.Evidence.{EvidenceParts};
-    ghost use Rattle.eos_evidence.specs.steps.SegmentPlaces.{IsBuilt};
+    ghost use Rattle.eos_evidence.specs.steps.SegmentIndexes.{IsBuilt};
 
     ghost Value = { EvidenceParts };
 
@@ -46,7 +46,7 @@ impl EvidenceBuilder {
     pub fn new(alloc: Global, spec: Spec) -> Result<EvidenceBuilder, AllocError>
         ensures { IfOk result (λ builder. builder ≡ without_segments spec) }
     {
-        let (partitions, firsts) = empty_places(alloc, spec.ends().as_slice())?;
+        let (partitions, firsts) = empty_lists(alloc, spec.ends().as_slice())?;
         Ok(EvidenceBuilder {
             spec,
             partitions,
@@ -55,7 +55,7 @@ impl EvidenceBuilder {
         })
     }
 
-    /// Puts a segment in its place, which is found by halving. Where it is refused the builder stays as
+    /// Puts a segment at its index, which is found by halving. Where it is refused the builder stays as
     /// it was.
     ///
     /// # Errors
@@ -66,19 +66,19 @@ impl EvidenceBuilder {
         ensures answer { AddAnswers result self.new (added self.old segment) }
         ensures err { OnErr result (self.new ≡ self.old) }
     {
-        let at = self.place_for(&segment)?;
+        let at = self.index_for(&segment)?;
         let partition = &mut self.partitions[at];
         partition.add(segment)?;
         self.count += 1;
         Ok(())
     }
 
-    /// The place of the partition that may take the segment, unless one of its base is there.
-    fn place_for(&self, segment: &Segment) -> Result<usize, AddFault>
+    /// The index of the partition that may take the segment, unless one of its base is there.
+    fn index_for(&self, segment: &Segment) -> Result<usize, AddFault>
         ensures ok { IfOk result (MayTake self.now segment.now) }
         ensures err { IfErr result (λ e. AddAnswers (Err e) self.now (added self.now segment.now)) }
     {
-        let Some(at) = place_of(self.partitions.as_slice(), segment) else {
+        let Some(at) = index_in(self.partitions.as_slice(), segment) else {
             return Err(AddFault::Name);
         };
         if segment.base < 0 {
@@ -108,8 +108,8 @@ impl EvidenceBuilder {
     }
 }
 
-/// A partition with no segments for each end, and room for the place of its first segment.
-fn empty_places(alloc: Global, ends: &[End]) -> Result<(Vec<Partition>, Vec<usize>), AllocError>
+/// A partition with no segments for each end, and room for the index of its first segment.
+fn empty_lists(alloc: Global, ends: &[End]) -> Result<(Vec<Partition>, Vec<usize>), AllocError>
     ensures partitions { IfOk result (λ made. made.0.items ≡ map empty_partition ends.now) }
     ensures firsts { IfOk result (λ made. vec_len made.1 ≡ length ends.now) }
 {
@@ -129,8 +129,8 @@ fn empty_partitions(alloc: Global, ends: &[End]) -> Result<Vec<Partition>, Alloc
     Ok(partitions)
 }
 
-/// The place of the segment's partition among those in order.
-fn place_of(partitions: &[Partition], segment: &Segment) -> Option<usize>
+/// The index of the segment's partition among those in order.
+fn index_in(partitions: &[Partition], segment: &Segment) -> Option<usize>
     requires { IsStrictlySortedBy end_cmp (map (λ p. p.end) partitions.now) }
     ensures { MatchOption result (find (λ p. is_in segment.now p.end) partitions.now ≡ None) (IsFirst segment.now partitions.now) }
 {

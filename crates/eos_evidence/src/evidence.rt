@@ -2,7 +2,7 @@
 
 ghost use Rattle.std.specs.Prelude.{◌≡◌, ◌<◌, ◌≤◌, Some, length, slice_get};
 ghost use Rattle.eos_evidence.specs.Evidence.{IsEvidence, segments_of};
-ghost use Rattle.eos_evidence.specs.steps.SegmentPlaces.{IsFinished};
+ghost use Rattle.eos_evidence.specs.steps.SegmentIndexes.{IsFinished};
 
 use crate::partition::Partition;
 use crate::pieces::partition_of_piece;
@@ -25,7 +25,7 @@ pub struct Evidence {
 
 impl Model for Evidence {
     ghost use Rattle.eos_evidence.specs.Evidence.{EvidenceParts};
-    ghost use Rattle.eos_evidence.specs.steps.SegmentPlaces.{IsFinished};
+    ghost use Rattle.eos_evidence.specs.steps.SegmentIndexes.{IsFinished};
 
     ghost Value = { EvidenceParts };
 

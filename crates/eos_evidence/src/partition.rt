@@ -3,11 +3,11 @@
 ghost use Rattle.std.specs.Prelude.{◌≡◌, ◌≢◌, ◌↔◌, true, IfOk, OnOk, OnErr};
 ghost use Rattle.eos_evidence.specs.Evidence.{has_base, empty_partition, insert_segment, IsRising};
 ghost use Rattle.eos_evidence.specs.Ends.{end_cmp};
-ghost use Rattle.eos_evidence.specs.steps.SegmentPlaces.{own_end};
+ghost use Rattle.eos_evidence.specs.steps.SegmentIndexes.{own_end};
 
 use crate::ends::End;
 use crate::fault::AddFault;
-use crate::segment::{Segment, place_of_base};
+use crate::segment::{Segment, index_of_base};
 use eos_base::Listed;
 use std::alloc::{AllocError, Global};
 use std::cmp::Ordering;
@@ -49,7 +49,7 @@ impl Partition {
         ensures no_name { result ≢ Err AddFault.Name }
         ensures no_limit { result ≢ Err AddFault.Limit }
     {
-        match place_of_base(self.segments.as_slice(), &segment.base) {
+        match index_of_base(self.segments.as_slice(), &segment.base) {
             Ok(_) => Err(AddFault::Duplicate),
             Err(at) => {
                 self.segments.insert(at, segment)?;

@@ -3,7 +3,7 @@
 ghost use Rattle.std.specs.Prelude.{◌≡◌, ◌<◌, ◌≤◌, ◌^◌, length, slice_index, vec_len};
 ghost use Rattle.std.specs.List.Sorted.{IsNonDecreasing};
 ghost use Rattle.eos_evidence.specs.Evidence.{segments_of};
-ghost use Rattle.eos_evidence.specs.steps.SegmentPlaces.{AreFirsts, IsLastFrom};
+ghost use Rattle.eos_evidence.specs.steps.SegmentIndexes.{AreFirsts, IsLastFrom};
 
 use crate::partition::Partition;
 

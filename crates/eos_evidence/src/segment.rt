@@ -1,7 +1,7 @@
 //! A segment of a partition's log.
 
 ghost use Rattle.std.specs.Prelude.{◌≡◌, true, IfOk, IfErr, OnOk};
-ghost use Rattle.eos_evidence.specs.steps.SegmentPlaces.{IsPlaceFor};
+ghost use Rattle.eos_evidence.specs.steps.SegmentIndexes.{IsIndexFor};
 ghost use Rattle.eos_evidence.specs.Evidence.{IsRising, has_base};
 
 use bytes::Bytes;
@@ -32,10 +32,10 @@ impl Segment {
 }
 
 /// Where the segment of this base is among rising ones, or where it would go.
-pub(crate) fn place_of_base(segments: &[Segment], base: &i64) -> Result<usize, usize>
+pub(crate) fn index_of_base(segments: &[Segment], base: &i64) -> Result<usize, usize>
     requires { IsRising segments.now }
     ensures there { OnOk result (has_base base.now segments.now ≡ true) }
-    ensures place { IfErr result (IsPlaceFor base.now segments.now) }
+    ensures place { IfErr result (IsIndexFor base.now segments.now) }
 {
     segments.binary_search_by_key(base, |segment| segment.base)
 }

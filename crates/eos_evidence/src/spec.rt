@@ -2,8 +2,8 @@
 //! what its tests refuse.
 
 ghost use Rattle.std.specs.Prelude.{◌≡◌};
-ghost use Rattle.eos_evidence.specs.Parts.{accepted, IsAccepted};
-ghost use Rattle.eos_evidence.specs.steps.AcceptedParts.{Accepts};
+ghost use Rattle.eos_evidence.specs.Members.{accepted, IsAccepted};
+ghost use Rattle.eos_evidence.specs.steps.AcceptedMembers.{Accepts};
 
 use crate::application::{App, Apps};
 use crate::ends::{End, Ends, are_ends_legal, put_in_order};
@@ -27,9 +27,9 @@ pub struct Spec {
 }
 
 impl Model for Spec {
-    ghost use Rattle.eos_evidence.specs.Parts.{Parts, IsAccepted};
+    ghost use Rattle.eos_evidence.specs.Members.{Members, IsAccepted};
 
-    ghost Value = { Parts };
+    ghost Value = { Members };
 
     ghost view = { λ s. record { apps = s.apps; ends = s.ends } };
 

@@ -16,22 +16,22 @@ abbrev pub separator : ℕ → List ℕ
 separator left = if left == 0 then codes " " else codes ","
 
 -- so many parts, and then this end, where there are more
-abbrev pub parts_before : List ℕ → ℕ → List ℕ → List ℕ
-parts_before end zero line = end
-parts_before end (suc left) line =
+abbrev pub terms_before : List ℕ → ℕ → List ℕ → List ℕ
+terms_before end zero line = end
+terms_before end (suc left) line =
     if nat_lt (position_or_len is_comma line) (length line)
-    then before_first is_comma line ++ (separator left ++ parts_before end left (after_first is_comma line))
+    then before_first is_comma line ++ (separator left ++ terms_before end left (after_first is_comma line))
     else line
 
 -- those behind the twentieth: a line has a part more than commas
-abbrev pub parts_behind : List ℕ → ℕ
-parts_behind line = commas line - 19
+abbrev pub terms_behind : List ℕ → ℕ
+terms_behind line = commas line - 19
 
-abbrev pub parts_left : List ℕ → List ℕ
-parts_left line = (codes ".. and " ++ decimal (parts_behind line)) ++ codes " more"
+abbrev pub terms_left : List ℕ → List ℕ
+terms_left line = (codes ".. and " ++ decimal (terms_behind line)) ++ codes " more"
 
-abbrev pub parts_text : List ℕ → List ℕ
-parts_text line = parts_before (parts_left line) 20 line
+abbrev pub terms_text : List ℕ → List ℕ
+terms_text line = terms_before (terms_left line) 20 line
 
 -- ---- lines, each once
 

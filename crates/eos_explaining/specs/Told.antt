@@ -10,7 +10,7 @@ use Rattle.eos_sought.specs.Times.{time_in}
 use Rattle.eos_sought.specs.declared.finding.Find.{Find}
 use Rattle.eos_story.specs.declared.row.Row.{Row}
 use Rattle.eos_story.specs.declared.row.Row.TheVariants as rows
-use Rattle.eos_explaining.specs.Lines.{parts_text, is_end, distinct}
+use Rattle.eos_explaining.specs.Lines.{terms_text, is_end, distinct}
 use Rattle.eos_explaining.specs.RowLines.{row_line}
 use Rattle.eos_explaining.specs.Times.{time_text}
 
@@ -45,7 +45,7 @@ when_text (Some time) = codes " at " ++ time_text time
 -- ---- its line
 
 unfoldable pub told_line : Option Place → List Partition → Row → List ℕ
-told_line fault partitions row = parts_text (before_first is_end (row_line fault row)) ++ (when_text (row_time partitions row) ++ codes "\n")
+told_line fault partitions row = terms_text (before_first is_end (row_line fault row)) ++ (when_text (row_time partitions row) ++ codes "\n")
 
 abbrev pub told_lines : Option Place → List Partition → List Row → List (List ℕ)
 told_lines fault partitions all = distinct (map (told_line fault partitions) all)

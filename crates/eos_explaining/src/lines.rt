@@ -3,13 +3,13 @@
 ghost use Rattle.std.specs.Prelude.{◌≡◌, OnOk, length, filter, map, string_bytes};
 ghost use Rattle.std.specs.List.{before_first};
 ghost use Rattle.eos_text.specs.Adding.{Adds};
-ghost use Rattle.eos_explaining.specs.Lines.{is_comma, commas, separator, parts_behind, parts_left, parts_text, is_end, is_said, with_line, joined};
+ghost use Rattle.eos_explaining.specs.Lines.{is_comma, commas, separator, terms_behind, terms_left, terms_text, is_end, is_said, with_line, joined};
 
 use eos_text::{push_text, push_value};
 use std::alloc::AllocError;
 
 /// How many parts of a line are told.
-const MOST_PARTS: usize = 20;
+const MOST_TERMS: usize = 20;
 
 fn is_comma(byte: u8) -> bool
     ensures { result ≡ is_comma byte }
@@ -36,26 +36,26 @@ fn separator(left: usize) -> &'static str
 }
 
 /// How many parts of a line stand behind those that are told.
-fn parts_behind(line: &str) -> usize
-    ensures { result ≡ parts_behind line.now }
+fn terms_behind(line: &str) -> usize
+    ensures { result ≡ terms_behind line.now }
 {
-    commas(line.as_bytes()).saturating_sub(MOST_PARTS - 1)
+    commas(line.as_bytes()).saturating_sub(MOST_TERMS - 1)
 }
 
-fn push_parts_left(out: &mut String, line: &str) -> Result<(), AllocError>
-    ensures { OnOk result (Adds (string_bytes out.old) (string_bytes out.new) (parts_left line.now)) }
+fn push_terms_left(out: &mut String, line: &str) -> Result<(), AllocError>
+    ensures { OnOk result (Adds (string_bytes out.old) (string_bytes out.new) (terms_left line.now)) }
 {
-    push_value(out, ".. and ", &parts_behind(line))?;
+    push_value(out, ".. and ", &terms_behind(line))?;
     push_text(out, " more")?;
     Ok(())
 }
 
 /// Adds a line as far as its twentieth part, and how many more it has.
-pub(crate) fn push_parts(out: &mut String, line: &str) -> Result<(), AllocError>
-    ensures { OnOk result (Adds (string_bytes out.old) (string_bytes out.new) (parts_text line.now)) }
+pub(crate) fn push_terms(out: &mut String, line: &str) -> Result<(), AllocError>
+    ensures { OnOk result (Adds (string_bytes out.old) (string_bytes out.new) (terms_text line.now)) }
 {
     let mut rest = line;
-    let mut left = MOST_PARTS;
+    let mut left = MOST_TERMS;
     while left > 0 {
         let Some((part, others)) = rest.split_once(',') else {
             push_text(out, rest)?;
@@ -66,7 +66,7 @@ pub(crate) fn push_parts(out: &mut String, line: &str) -> Result<(), AllocError>
         push_text(out, separator(left))?;
         rest = others;
     }
-    push_parts_left(out, line)?;
+    push_terms_left(out, line)?;
     Ok(())
 }
 

@@ -6,7 +6,7 @@ ghost use Rattle.eos_text.specs.Adding.{Adds};
 ghost use Rattle.eos_explaining.specs.RowLines.{row_line};
 ghost use Rattle.eos_explaining.specs.Told.{first_time, record_time, row_time, when_text, told_line, told_lines};
 
-use crate::lines::{add_line, front_of, push_parts};
+use crate::lines::{add_line, front_of, push_terms};
 use crate::rows::push_row;
 use crate::times::push_time;
 use eos_base::PartitionName;
@@ -99,7 +99,7 @@ fn told_line(
     let whole = row_text(alloc, place, row)?;
     let time = row_time(alloc, partitions, row)?;
     let mut line = String::new(alloc);
-    push_parts(&mut line, front_of(whole.as_str()))?;
+    push_terms(&mut line, front_of(whole.as_str()))?;
     push_when(&mut line, time)?;
     push_text(&mut line, "\n")?;
     Ok(line)

@@ -11,7 +11,7 @@ ghost use Rattle.eos_faults.specs.steps.Tables.{AreTables};
 use crate::commits::{offsets_of, reached_by};
 use crate::firsts::{firsts_of, places_of};
 use crate::lent::{LentPlace, VisibleClaim};
-use crate::output_faults_shown::found;
+use crate::shown_by_claims::found;
 use crate::tables::Tables;
 use eos_base::{Sorted, distinct_in_order};
 use eos_claims::OutputFault;

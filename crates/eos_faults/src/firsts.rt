@@ -29,7 +29,7 @@ pub(crate) struct OutputKey<'a> {
 pub(crate) type Firsts<'a> = BTreeMap<LentPlace<'a>, First<'a>>;
 
 /// The place of the first claim of each source and number.
-pub(crate) type Places<'a> = BTreeMap<OutputKey<'a>, LentPlace<'a>>;
+pub(crate) type OutputPlaces<'a> = BTreeMap<OutputKey<'a>, LentPlace<'a>>;
 
 fn lesser_first<'a>(known: Option<First<'a>>, first: First<'a>) -> First<'a>
     ensures { first_seen result ≡ lesser_seen (option_map first_seen known.entry) (first_seen first.entry) }
@@ -101,13 +101,13 @@ fn lesser_place<'a>(known: Option<LentPlace<'a>>, place: LentPlace<'a>) -> LentP
 }
 
 /// The place of the first claim of a source and number.
-pub(crate) fn place_in<'a>(places: &Places<'a>, key: &OutputKey<'a>) -> Option<LentPlace<'a>>
+pub(crate) fn place_in<'a>(places: &OutputPlaces<'a>, key: &OutputKey<'a>) -> Option<LentPlace<'a>>
     ensures { result ≡ get by_output places.entry.now key.entry.now }
 {
     places.get(key).copied()
 }
 
-fn take_place<'a>(places: &mut Places<'a>, claim: &VisibleClaim<'a>) -> Result<(), AllocError>
+fn take_place<'a>(places: &mut OutputPlaces<'a>, claim: &VisibleClaim<'a>) -> Result<(), AllocError>
     ensures { (before : List PlacedClaim) → ArePlaces places.old before → OnOk result (ArePlaces places.new (before ++ claim_at claim.now ∷ [])) }
 {
     let key = OutputKey {
@@ -123,7 +123,7 @@ fn take_place<'a>(places: &mut Places<'a>, claim: &VisibleClaim<'a>) -> Result<(
 pub(crate) fn places_of<'a>(
     alloc: Global,
     claims: &[VisibleClaim<'a>],
-) -> Result<Places<'a>, AllocError>
+) -> Result<OutputPlaces<'a>, AllocError>
     ensures { IfOk result (λ places. ArePlaces places (map claim_at claims.now)) }
 {
     let mut places = BTreeMap::new(alloc);

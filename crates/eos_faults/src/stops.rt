@@ -8,7 +8,7 @@ ghost use Rattle.eos_faults.specs.PartitionPlaces.{is_left_open};
 ghost use Rattle.eos_faults.specs.steps.Found.{end_at, open_of, found_at};
 
 use crate::kinds::is_open;
-use crate::partition_faults_shown::{Shown, push_shown};
+use crate::shown_by_log::{Shown, push_shown};
 use crate::walk::Walk;
 use eos_fold::Stop;
 use eos_touch::{PartitionFaultKind, Touch};

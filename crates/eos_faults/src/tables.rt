@@ -8,7 +8,7 @@ ghost use Rattle.eos_faults.specs.steps.Plain.{claim_at, place_at};
 ghost use Rattle.eos_faults.specs.steps.Tables.{AreTables, first_seen, goes_past as is_past, place_before, seen_disagrees, seen_top};
 
 use crate::commits::{Offset, Offsets, Reached, offset_in, pass_key, reach_in};
-use crate::firsts::{First, Firsts, OutputKey, Places, first_in, place_in};
+use crate::firsts::{First, Firsts, OutputKey, OutputPlaces, first_in, place_in};
 use crate::lent::{LentPlace, VisibleClaim};
 use eos_base::Sorted;
 use eos_commits::TopicSet;
@@ -23,7 +23,7 @@ pub(crate) struct Tables<'a> {
     pub offsets: Offsets<'a>,
     pub reached: Reached<'a>,
     pub firsts: Firsts<'a>,
-    pub places: Places<'a>,
+    pub places: OutputPlaces<'a>,
 }
 
 /// Whether an offset was committed, and this one is below it.

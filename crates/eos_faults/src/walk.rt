@@ -14,7 +14,7 @@ ghost use Rattle.eos_faults.specs.PartitionPlaces.{pair_kinds, placed_at};
 ghost use Rattle.eos_faults.specs.steps.Walks.{AreIdsOf, HasPassed};
 
 use crate::kinds::stands;
-use crate::partition_faults_shown::{Shown, push_shown};
+use crate::shown_by_log::{Shown, push_shown};
 use eos_batch::BatchHead;
 use eos_touch::{PairFault, PartitionFaultKind, Touch, touch_of};
 use std::alloc::{AllocError, Global};

@@ -9,7 +9,7 @@ use Rattle.eos_fold.specs.declared.ends.Ends.{Ends}
 use Rattle.eos_fold.specs.declared.fault.Fault.{Fault}
 use Rattle.eos_fold.specs.declared.batch_summary.BatchSummary.{BatchSummary}
 use Rattle.eos_fold.specs.Settling.{data_in, waiting_in}
-use Rattle.eos_fold.specs.Tables.{Table, ends_in, ends_at, AreEnds, KeepsPlaces}
+use Rattle.eos_fold.specs.Tables.{Table, ends_in, ends_at, AreEnds, KeepsIndexes}
 use Rattle.eos_fold.specs.Taken.{IsReadyFor}
 use Rattle.eos_fold.specs.Faults.{IsSettled, IsLeastOf}
 use Rattle.eos_fold.specs.Earlier.{earlier}
@@ -35,7 +35,7 @@ all_more : (by n m : ℕ) (ps : List ℕ) → All (λ p. p < n) ps → n + by < 
 all_more by n m ps h l k d lt = let x = h k d lt in omega (arith, x, l)
 
 -- what joining asks for
-pub can_take : (t : Table) (is js : List DataBatch) (u : Table) → ((id : ℤ) (e : Ends) → get int_cmp u id ≡ Some e → IsReadyFor t id e) → KeepsPlaces t is → KeepsPlaces u js → length is + length js < 2 ^ 64 → IsTaking (length is) t is (rest_of u)
+pub can_take : (t : Table) (is js : List DataBatch) (u : Table) → ((id : ℤ) (e : Ends) → get int_cmp u id ≡ Some e → IsReadyFor t id e) → KeepsIndexes t is → KeepsIndexes u js → length is + length js < 2 ^ 64 → IsTaking (length is) t is (rest_of u)
 can_take t is js u ready places after small = record {
   ready = ready;
   places = λ id e g. places id;

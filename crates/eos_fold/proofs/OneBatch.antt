@@ -26,7 +26,7 @@ use Rattle.eos_fold.specs.declared.ends.Ends.{Ends}
 use Rattle.eos_fold.specs.declared.fault.Fault.{Fault}
 use Rattle.eos_fold.specs.Ends.{is_data, placed_in, mark_in, mark_for}
 use Rattle.eos_fold.specs.Settling.{resolved, data_in, waiting_in, waits}
-use Rattle.eos_fold.specs.Tables.{Table, ends_in, ends_at, AreEnds, KeepsPlaces}
+use Rattle.eos_fold.specs.Tables.{Table, ends_in, ends_at, AreEnds, KeepsIndexes}
 use Rattle.eos_fold.specs.Taken.{AreEndsOf, waiting_alone, IsReadyFor}
 use Rattle.eos_fold.specs.steps.Alone.{rest_alone}
 use Rattle.eos_fold.specs.Faults.{IsSettled, IsLeastOf}
@@ -127,7 +127,7 @@ pub still_least : (s : Bool) (xs : List Batch) (h : Batch) (f : Option Fault) �
 still_least s xs h f l = least_same (IsSettled s xs) (λ o id k. IsSettled s xs o id k ⊎ IsSettled s (h ∷ []) o id k) f (λ o id k x. inl x) (λ o id k x. elim x [ inl a ↦ a | inr b ↦ absurd (no_fault s h o id k b) ]) l
 
 -- a batch that says nothing of any id
-pub silent : (s : Bool) (xs : List Batch) (h : Batch) (t : Table) (is : List DataBatch) (f : Option Fault) → IsProducerRight h → touch_of h ≡ None → KeepsPlaces t is → TakesFrom s xs t is f → Starts xs (h ∷ []) s t is f (λ q. None)
+pub silent : (s : Bool) (xs : List Batch) (h : Batch) (t : Table) (is : List DataBatch) (f : Option Fault) → IsProducerRight h → touch_of h ≡ None → KeepsIndexes t is → TakesFrom s xs t is f → Starts xs (h ∷ []) s t is f (λ q. None)
 silent s xs h t is f right none places w = record {
   before = w.ends;
   after = λ q. record {
@@ -142,7 +142,7 @@ silent s xs h t is f right none places w = record {
 }
 
 -- a batch of an id
-pub says : (s : Bool) (xs : List Batch) (h : Batch) (p : ℤ) (touch : Touch) (e : Ends) (t : Table) (is : List DataBatch) (f : Option Fault) → IsProducerRight h → touch_of h ≡ Some (p, touch) → AreEndsOf (offset_of h) (is_data h) p touch e → KeepsPlaces t is → TakesFrom s xs t is f → Starts xs (h ∷ []) s t is f (rest_alone p e)
+pub says : (s : Bool) (xs : List Batch) (h : Batch) (p : ℤ) (touch : Touch) (e : Ends) (t : Table) (is : List DataBatch) (f : Option Fault) → IsProducerRight h → touch_of h ≡ Some (p, touch) → AreEndsOf (offset_of h) (is_data h) p touch e → KeepsIndexes t is → TakesFrom s xs t is f → Starts xs (h ∷ []) s t is f (rest_alone p e)
 says s xs h p touch e t is f right some are places w = record {
   before = w.ends;
   after = alone h p touch some e are;
@@ -173,7 +173,7 @@ is_alone p e q f g = by_test (int_eq p q) refl g
     by_test true i x = (same_id p q i, same x)
     by_test false i x = absurd (other x)
 
-pub alone_taking : (by : ℕ) (t : Table) (is : List DataBatch) (p : ℤ) (e : Ends) → IsReadyFor t p e → KeepsPlaces t is → All (λ n. n + by < 2 ^ 64) e.waiting.list → length is ≡ by → IsTaking by t is (rest_alone p e)
+pub alone_taking : (by : ℕ) (t : Table) (is : List DataBatch) (p : ℤ) (e : Ends) → IsReadyFor t p e → KeepsIndexes t is → All (λ n. n + by < 2 ^ 64) e.waiting.list → length is ≡ by → IsTaking by t is (rest_alone p e)
 alone_taking by t is p e ready places fits number = record {
   ready = λ q f g. let u = is_alone p e q f g in subst (λ (i : ℤ). IsReadyFor t i f) u.0 (subst (λ (x : Ends). IsReadyFor t p x) u.1 ready);
   places = λ q f g. places q;

@@ -6,7 +6,7 @@ use Rattle.std.specs.Ordering.{int_eq, int_cmp, is_eq}
 use Rattle.std.specs.BTreeMap.{get, is_at}
 use Rattle.std.proofs.lemmas.Bool.Decides.{Decides-int_eq}
 use Rattle.eos_fold.specs.declared.ends.Ends.{Ends}
-use Rattle.eos_fold.specs.Place.{PlacesView}
+use Rattle.eos_fold.specs.Indexes.{IndexesView}
 use Rattle.std.specs.Map.{lookup}
 use Rattle.eos_fold.specs.Tables.{Table, ends_in, ends_at}
 use Rattle.eos_fold.specs.Taken.{IsReadyFor}
@@ -53,7 +53,7 @@ pub same_trans : (a b c : Ends) → SameEnds a b → SameEnds b c → SameEnds a
 same_trans a b c s t = record { first = t.first ∙ s.first; last = t.last ∙ s.last; marker = t.marker ∙ s.marker; waiting = t.waiting ∙ s.waiting; room = omega (arith, s.room, t.room) }
 
 -- an entry with more room
-pub reserved : (e : Ends) (p : PlacesView) → p.list ≡ e.waiting.list → e.waiting.room ≤ p.room → SameEnds e (record { first = e.first; last = e.last; marker = e.marker; waiting = p })
+pub reserved : (e : Ends) (p : IndexesView) → p.list ≡ e.waiting.list → e.waiting.room ≤ p.room → SameEnds e (record { first = e.first; last = e.last; marker = e.marker; waiting = p })
 reserved e p l r = record { first = refl; last = refl; marker = refl; waiting = l; room = r }
 
 pub same_from : (m : Table) (p : ℤ) (e w : Ends) → get int_cmp m p ≡ Some e → SameEnds e w → SameEnds (ends_at m p) w

@@ -13,7 +13,7 @@ use Rattle.eos_fold.specs.declared.ends.Ends.{Ends}
 use Rattle.eos_fold.specs.declared.fault.Fault.{Fault}
 use Rattle.eos_fold.specs.Ends.{first_placed, last_placed, first_marker}
 use Rattle.eos_fold.specs.Settling.{data_in, waiting_in, settled}
-use Rattle.eos_fold.specs.Tables.{Table, ends_in, ends_at, AreEnds, HasEnds, KeepsPlaces}
+use Rattle.eos_fold.specs.Tables.{Table, ends_in, ends_at, AreEnds, HasEnds, KeepsIndexes}
 use Rattle.eos_fold.specs.Taken.{IsJoined, HasRoom, waiting_after}
 use Rattle.eos_fold.specs.Faults.{IsSettled, IsLeastOf, StandsAt}
 use Rattle.eos_fold.specs.Earlier.{earlier}
@@ -173,7 +173,7 @@ module _ (xs ys : List Batch) (s : Bool) (producers : Table) (items : List DataB
   pub all_ends : HasEnds (xs ++ ys) producers
   all_ends id = (w.done id (none id)).0
 
-  pub all_places : KeepsPlaces producers (items ++ data_in ys)
+  pub all_places : KeepsIndexes producers (items ++ data_in ys)
   all_places id = (w.done id (none id)).1
 
   pub all_items : items ++ data_in ys ≡ data_in (xs ++ ys)

@@ -13,7 +13,7 @@ pub mod Items
 pub mod Views
 pub mod Begins
 pub mod Indexed
-pub mod Place
+pub mod Indexes
 pub mod Ends
 pub mod Settling
 pub mod Tables

@@ -4,13 +4,13 @@ use Rattle.eos_batch.specs.declared.batch.Batch.{Batch}
 use Rattle.eos_fold.specs.declared.ends.Ends.{Ends}
 use Rattle.eos_fold.specs.declared.batch_summary.BatchSummary.{BatchSummary}
 use Rattle.eos_fold.specs.Settling.{data_in}
-use Rattle.eos_fold.specs.Tables.{HasEnds, KeepsPlaces, ends_at}
+use Rattle.eos_fold.specs.Tables.{HasEnds, KeepsIndexes, ends_at}
 use Rattle.eos_fold.specs.Faults.{IsSettled, IsLeastOf}
 
 pub record IsSummary (hs : List Batch) (s : BatchSummary) : Type 0 where
   pub items : s.index.batches ≡ data_in hs
   pub ends : HasEnds hs s.producers
-  pub places : KeepsPlaces s.producers s.index.batches
+  pub places : KeepsIndexes s.producers s.index.batches
   pub fault : IsLeastOf (IsSettled s.sequenced hs) s.fault
 
 -- the same is known of an id; the room may have grown

@@ -29,5 +29,5 @@ abbrev pub HasEnds : List Batch → Table → Type 0
 HasEnds hs t = (id : ℤ) → AreEnds id hs (ends_at t id)
 
 -- the places of what waits are those of the items
-abbrev pub KeepsPlaces : Table → List DataBatch → Type 0
-KeepsPlaces t is = (id : ℤ) → (ends_at t id).waiting.list ≡ waiting_in id is
+abbrev pub KeepsIndexes : Table → List DataBatch → Type 0
+KeepsIndexes t is = (id : ℤ) → (ends_at t id).waiting.list ≡ waiting_in id is

@@ -7,7 +7,7 @@ ghost use Rattle.eos_batch.specs.declared.batch.Batch.{Batch};
 ghost use Rattle.eos_fold.specs.Batches.{DataBatch};
 ghost use Rattle.eos_fold.specs.declared.ends.Ends.{Ends};
 ghost use Rattle.eos_fold.specs.Settling.{waiting_in, settled};
-ghost use Rattle.eos_fold.specs.Tables.{ends_at, KeepsPlaces};
+ghost use Rattle.eos_fold.specs.Tables.{ends_at, KeepsIndexes};
 ghost use Rattle.eos_fold.specs.Taken.{IsJoined, HasRoom, IsReadyFor};
 ghost use Rattle.eos_fold.specs.steps.Joins.{rest_of, Starts, IsTaking, IsTaken};
 ghost use Rattle.eos_fold.specs.Summaries.{IsSummary, SameEnds, SameSummary};
@@ -128,8 +128,8 @@ impl BatchSummary {
         mut before: BatchSummary,
         after: BatchSummary,
     ) -> Result<BatchSummary, (BatchSummary, BatchSummary)>
-        requires before { KeepsPlaces before.producers before.index.batches }
-        requires after { KeepsPlaces after.producers after.index.batches }
+        requires before { KeepsIndexes before.producers before.index.batches }
+        requires after { KeepsIndexes after.producers after.index.batches }
         ensures ok { (xs ys : List Batch) → IsSummary xs before → IsSummary ys after → after.sequenced ≡ before.sequenced → IfOk result (IsSummary (xs ++ ys)) }
         ensures sequenced { IfOk result (λ s. s.sequenced ≡ before.sequenced) }
         ensures err { IfErr result (λ back. SameSummary before back.0 × SameSummary after back.1) }

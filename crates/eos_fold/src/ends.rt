@@ -5,7 +5,7 @@ ghost use Rattle.eos_fold.specs.Tables.{ends_in};
 ghost use Rattle.eos_fold.specs.Taken.{IsJoined, HasRoom, AreEndsOf};
 
 use crate::mark::{EndMark, mark_in};
-use crate::places::Places;
+use crate::indexes::Indexes;
 use eos_touch::Touch;
 use std::alloc::{AllocError, Global};
 
@@ -18,8 +18,8 @@ pub struct Ends {
     pub(crate) last: Option<(u64, Touch)>,
     /// Its first end marker.
     pub(crate) marker: Option<EndMark>,
-    /// The places of the run's data batches that wait for a marker of this id.
-    pub(crate) waiting: Places,
+    /// The indexes of the run's data batches that wait for a marker of this id.
+    pub(crate) waiting: Indexes,
 }
 
 impl Ends {
@@ -34,7 +34,7 @@ impl Ends {
             first: None,
             last: None,
             marker: None,
-            waiting: Places::new(alloc),
+            waiting: Indexes::new(alloc),
         }
     }
 
@@ -56,9 +56,9 @@ impl Ends {
             Touch::End { .. } => false,
         };
         let waiting = if is_data && is_open {
-            Places::one(alloc, 0)?
+            Indexes::one(alloc, 0)?
         } else {
-            Places::new(alloc)
+            Indexes::new(alloc)
         };
         Ok(Ends {
             first: Some((offset, touch)),
@@ -89,8 +89,8 @@ impl Ends {
         self.marker
     }
 
-    /// The places of the run's data batches that wait for a marker of this id.
-    pub fn waiting(&self) -> &Places
+    /// The indexes of the run's data batches that wait for a marker of this id.
+    pub fn waiting(&self) -> &Indexes
         ensures { result.now ≡ self.now.waiting }
     {
         &self.waiting

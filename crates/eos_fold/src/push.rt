@@ -6,7 +6,7 @@ ghost use Rattle.eos_batch.specs.declared.fault.BatchFault.TheVariants.{OutOfMem
 ghost use Rattle.eos_batch.specs.Answers.{Fails};
 ghost use Rattle.eos_batch.specs.Reading.{batch_at};
 ghost use Rattle.eos_fold.specs.Settling.{data_in};
-ghost use Rattle.eos_fold.specs.Tables.{KeepsPlaces};
+ghost use Rattle.eos_fold.specs.Tables.{KeepsIndexes};
 ghost use Rattle.eos_fold.specs.steps.Joins.{TakesFrom};
 ghost use Rattle.eos_fold.specs.Summaries.{SameSummary};
 ghost use Rattle.eos_fold.specs.Pushes.{ReadsNext};
@@ -27,7 +27,7 @@ impl BatchSummary {
     /// Takes over what a batch says of its producer id. So many data batches were there before it.
     fn take_batch(&mut self, alloc: Global, head: &BatchHead, by: usize) -> Result<(), AllocError>
         requires within { by ≤ length self.old.index.batches }
-        requires places { KeepsPlaces self.old.producers (take by self.old.index.batches) }
+        requires places { KeepsIndexes self.old.producers (take by self.old.index.batches) }
         ensures taken { (xs : List Batch) (b : Batch) (size : ℕ) → head.now ≡ head_of b size → IsProducerRight b → drop by self.old.index.batches ≡ data_in (b ∷ [])
             → TakesFrom self.old.sequenced xs self.old.producers (take by self.old.index.batches) self.old.fault
             → OnOk result (IsTakenFrom xs b self.old.sequenced self.new.producers self.new.index.batches self.new.fault) }
@@ -56,7 +56,7 @@ impl BatchSummary {
     /// # Errors
     /// Why the bytes are no batch, or `OutOfMemory`, after which nothing more is known.
     pub fn read(&mut self, alloc: Global, next: u64) -> Result<BatchHead, BatchFault>
-        requires { KeepsPlaces self.old.producers self.old.index.batches }
+        requires { KeepsIndexes self.old.producers self.old.index.batches }
         ensures sequenced { self.new.sequenced ≡ self.old.sequenced }
         ensures ok { IfOk result (ReadsNext next self.old self.new) }
         ensures err { IfErr result (λ e. Fails e (batch_at self.old.index.rest) × (e ≢ OutOfMemory → SameSummary self.old self.new)) }

@@ -7,11 +7,11 @@ ghost use Rattle.eos_fold.specs.steps.Summaries.{only};
 ghost use Rattle.eos_fold.specs.Batches.{DataBatch};
 
 use crate::mark::{EndMark, ended};
-use crate::places::Places;
+use crate::indexes::Indexes;
 use crate::{Ending, LogIndex};
 
-/// Gives the batches at these places this ending.
-pub(crate) fn settle(index: &mut LogIndex, places: &Places, ending: Ending)
+/// Gives the batches at these indexes this ending.
+pub(crate) fn settle(index: &mut LogIndex, places: &Indexes, ending: Ending)
     requires { All (λ place. place < length index.old.batches) places.now.list }
     ensures set { index.new.batches ≡ set_endings ending places.now.list index.old.batches }
     ensures rest { index.new.rest ≡ index.old.rest }
@@ -23,9 +23,9 @@ pub(crate) fn settle(index: &mut LogIndex, places: &Places, ending: Ending)
     }
 }
 
-/// Settles what waits at these places, where there is a marker. Behind what waits there may be more, but not where a
+/// Settles what waits at these indexes, where there is a marker. Behind what waits there may be more, but not where a
 /// marker comes.
-pub(crate) fn settle_by(index: &mut LogIndex, places: &Places, marker: Option<EndMark>)
+pub(crate) fn settle_by(index: &mut LogIndex, places: &Indexes, marker: Option<EndMark>)
     requires { All (λ place. place < length index.old.batches) places.now.list }
     ensures rest { index.new.rest ≡ index.old.rest }
     ensures segments { index.new.segments ≡ index.old.segments }

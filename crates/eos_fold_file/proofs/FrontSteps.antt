@@ -17,7 +17,7 @@ use Rattle.eos_touch.proofs.Continuity.{abs_pos, fits_on}
 use Rattle.eos_fold.specs.declared.stop.Stop.{Stop}
 use Rattle.eos_fold.specs.declared.stop.Stop.TheVariants.{NoBatch}
 use Rattle.eos_fold.specs.Fronts.{StopsAt}
-use Rattle.eos_reading.specs.Folds.{FoldedView, IsFolded}
+use Rattle.eos_reading.specs.steps.Fed.{WholeView, IsWhole}
 use Rattle.eos_reading.specs.Heads.{HasHeads}
 use Rattle.eos_reading.specs.Kept.{kept_in, kept_of}
 use Rattle.eos_reading.specs.Seals.{AreSeals, entries_of}
@@ -105,8 +105,8 @@ ends begin bytes mid (b ∷ bs) (h ∷ hs) rest next found stop s e at =
 
 -- ---- the front
 
-pub front_is : {K : Type 0} (keep : ℕ → Record → K) (begin : ℕ) (bytes : List ℕ) (v : FoldedView K) (seals : List Seal) (p : Passed) (f : Front) (kept : List K) (n : ℕ) → length bytes < 2 ^ 64
-    → IsFolded keep bytes v → AreSeals bytes v.heads seals → Passes begin v.heads p → n ≡ length p.heads → f.heads ≡ p.heads → f.epochs ≡ entries_of None (take n seals)
+pub front_is : {K : Type 0} (keep : ℕ → Record → K) (begin : ℕ) (bytes : List ℕ) (v : WholeView K) (seals : List Seal) (p : Passed) (f : Front) (kept : List K) (n : ℕ) → length bytes < 2 ^ 64
+    → IsWhole keep bytes v → AreSeals bytes v.heads seals → Passes begin v.heads p → n ≡ length p.heads → f.heads ≡ p.heads → f.epochs ≡ entries_of None (take n seals)
     → f.batches ≡ crc32c_of (flat_map checksum_text (take n seals)) → f.stop ≡ stop_of begin p.found v.stop → f.bytes ≡ v.bytes → kept ≡ take p.records v.kept → IsFront begin bytes (λ bs. kept ≡ kept_of keep bs) f
 front_is {K} keep begin bytes v seals p f kept n small folded sealed passes count heads epochs checked stop sized cut =
     let w = parted begin bytes folded.batches passes.passed passes.others folded.rest (subst (λ (hs : List BatchHead). HasHeads bytes folded.batches hs folded.rest) passes.parts folded.heads_are) passes.follow in

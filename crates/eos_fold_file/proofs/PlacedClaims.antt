@@ -12,12 +12,12 @@ use Rattle.eos_batch.specs.Offsets.{offset_of}
 use Rattle.eos_claims.specs.declared.claim.Claim.{Claim}
 use Rattle.eos_claims.specs.Headers.{claim_of}
 use Rattle.eos_reading.specs.Kept.{kept_from, kept_in, kept_of}
-use Rattle.eos_reading.specs.Places.{place_of}
+use Rattle.eos_reading.specs.NameIndexes.{index_of}
 use Rattle.eos_reading.specs.declared.output.KeptOutput.{KeptOutput}
 use Rattle.eos_reading.specs.Outputs.{output_at, kept_output}
 use Rattle.eos_fold_file.specs.Records.{is_placed}
 
-place_within : (names : List (List ℕ)) (name : List ℕ) (k : ℕ) → place_of names name ≡ Some k → k < length names
+place_within : (names : List (List ℕ)) (name : List ℕ) (k : ℕ) → index_of names name ≡ Some k → k < length names
 place_within names name k e = elim (cases_lt (position_or_len test names) (length names)) [
   | inl l ↦ let at : position_or_len test names ≡ k = let f = rw (lt-ltb _ _ l) at e in cc in omega (arith, l, at)
   | inr r ↦ absurd (let f = rw (le-ltb _ _ r) at e in cc)
@@ -28,9 +28,9 @@ place_within names name k e = elim (cases_lt (position_or_len test names) (lengt
 
 output_placed : (topics : List (List ℕ)) (claim : Option Claim) → is_placed (length topics) (kept_output topics claim) ≡ true
 output_placed topics None = refl
-output_placed topics (Some c) = by (place_of topics c.topic) refl
+output_placed topics (Some c) = by (index_of topics c.topic) refl
   where
-    by : (place : Option ℕ) → place_of topics c.topic ≡ place → is_placed (length topics) (output_at place c) ≡ true
+    by : (place : Option ℕ) → index_of topics c.topic ≡ place → is_placed (length topics) (output_at place c) ≡ true
     by None e = refl
     by (Some k) e = lt-ltb k (length topics) (place_within topics c.topic k e)
 

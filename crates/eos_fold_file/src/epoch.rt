@@ -19,9 +19,9 @@ use eos_reading::{EpochEntry, is_change};
 use eos_wire::Cursor;
 use std::alloc::{AllocError, Global};
 
-/// How far a front's entries were passed: the epoch of the last batch, and the place of the next entry.
+/// How far a front's entries were passed: the epoch of the last batch, and the number of the next entry.
 #[derive(Clone, Copy)]
-struct Place {
+struct Reached {
     last: Option<i32>,
     at: usize,
 }
@@ -41,23 +41,23 @@ fn begun(epochs: &[EpochEntry], at: usize, next: u64) -> Option<i32>
 
 /// Passes the entry of a batch that begins here, if it has one; none is passed where the batch should have one or should have none.
 #[tactic(auto, using(crate::proofs::EpochLists::none_here, crate::proofs::EpochLists::none_first, crate::proofs::EpochLists::some_here, crate::proofs::EpochLists::some_same, crate::proofs::EpochLists::begun_within))]
-fn pass(epochs: &[EpochEntry], place: Place, next: u64) -> Option<Place>
-    ensures on { IfSome result (λ p. (h : FoldHead) (hs : List FoldHead) → are_entries next place.last (h ∷ hs) (drop place.at epochs.now) ≡ are_entries (next + h.count) p.last hs (drop p.at epochs.now)) }
-    ensures off { result ≡ None → (h : FoldHead) (hs : List FoldHead) → are_entries next place.last (h ∷ hs) (drop place.at epochs.now) ≡ false }
-    ensures within { place.at ≤ length epochs.now → IfSome result (λ p. p.at ≤ length epochs.now) }
+fn pass(epochs: &[EpochEntry], reached: Reached, next: u64) -> Option<Reached>
+    ensures on { IfSome result (λ p. (h : FoldHead) (hs : List FoldHead) → are_entries next reached.last (h ∷ hs) (drop reached.at epochs.now) ≡ are_entries (next + h.count) p.last hs (drop p.at epochs.now)) }
+    ensures off { result ≡ None → (h : FoldHead) (hs : List FoldHead) → are_entries next reached.last (h ∷ hs) (drop reached.at epochs.now) ≡ false }
+    ensures within { reached.at ≤ length epochs.now → IfSome result (λ p. p.at ≤ length epochs.now) }
 {
-    let Some(epoch) = begun(epochs, place.at, next) else {
-        if place.last.is_none() {
+    let Some(epoch) = begun(epochs, reached.at, next) else {
+        if reached.last.is_none() {
             return None;
         }
-        return Some(place);
+        return Some(reached);
     };
-    if !is_change(place.last, epoch) {
+    if !is_change(reached.last, epoch) {
         return None;
     }
-    Some(Place {
+    Some(Reached {
         last: Some(epoch),
-        at: place.at + 1,
+        at: reached.at + 1,
     })
 }
 
@@ -68,15 +68,15 @@ pub(crate) fn are_entries(begin: u64, heads: &[FoldHead], epochs: &[EpochEntry])
     ensures { result ≡ are_entries begin None heads.now epochs.now }
 {
     let mut next = begin;
-    let mut place = Place { last: None, at: 0 };
+    let mut reached = Reached { last: None, at: 0 };
     for head in heads {
-        let Some(passed) = pass(epochs, place, next) else {
+        let Some(passed) = pass(epochs, reached, next) else {
             return false;
         };
-        place = passed;
+        reached = passed;
         next += u64::from(head.count);
     }
-    place.at == epochs.len()
+    reached.at == epochs.len()
 }
 
 impl Entry for EpochEntry {

@@ -132,7 +132,7 @@ pub(crate) fn read_u32(rest: &mut Cursor<'_>) -> Result<u32, FoldFault>
 
 /// A text, as a run of the file's bytes.
 #[tactic(auto, unfolding(crate::specs::Numbers::bytes_from))]
-pub(crate) fn read_run<'a>(rest: &mut Cursor<'a>) -> Result<Cursor<'a>, FoldFault>
+pub(crate) fn read_text_bytes<'a>(rest: &mut Cursor<'a>) -> Result<Cursor<'a>, FoldFault>
     ensures { Gives result rest.new (bytes_from rest.old) }
 {
     let len = read_number(rest)?;
@@ -146,7 +146,7 @@ pub(crate) fn read_run<'a>(rest: &mut Cursor<'a>) -> Result<Cursor<'a>, FoldFaul
 pub(crate) fn read_bytes(rest: &mut Cursor<'_>) -> Result<Bytes, FoldFault>
     ensures { Gives result rest.new (bytes_from rest.old) }
 {
-    let text = read_run(rest)?;
+    let text = read_text_bytes(rest)?;
     Ok(text.share()?)
 }
 

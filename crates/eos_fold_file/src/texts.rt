@@ -18,7 +18,7 @@ ghost use Rattle.eos_fold_file.specs.steps.Faults.{Gives};
 
 use crate::claim::{FoldText, read_optional_claim, write_optional_claim};
 use crate::fault::FoldFault;
-use crate::number::{read_kind, read_run, write_slice};
+use crate::number::{read_kind, read_text_bytes, write_slice};
 use bytes::{Bytes, BytesMut};
 use eos_base::Listed;
 use eos_wire::{Cursor, write_i8};
@@ -132,7 +132,7 @@ fn read_rest(
     ensures text { Gives result rest.new (rest_from before.now count rest.old) }
     ensures room { OnOk result (room.new.items ≡ []) }
 {
-    let behind = read_run(rest)?;
+    let behind = read_text_bytes(rest)?;
     let text = joined(room, before, count, behind.rest())?;
     Ok(Some(text))
 }

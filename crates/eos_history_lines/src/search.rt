@@ -211,7 +211,7 @@ fn look_at_switches(value: &Value, name: &'static str) -> Result<(), Mistake> {
     };
     let mut least = 0usize;
     for item in names.as_slice() {
-        let Some(place) = place_of_switch(item) else {
+        let Some(place) = index_of_switch(item) else {
             return Err(Mistake::UnknownSwitch);
         };
         if place < least {
@@ -222,7 +222,7 @@ fn look_at_switches(value: &Value, name: &'static str) -> Result<(), Mistake> {
     Ok(())
 }
 
-fn place_of_switch(item: &Value) -> Option<usize> {
+fn index_of_switch(item: &Value) -> Option<usize> {
     let name = item.as_str()?;
     for i in 0..SWITCHES.len() {
         if SWITCHES[i].name() == name {

@@ -23,7 +23,7 @@ use Rattle.eos_fold.proofs.JoinedSummaries.{same_summary, can_take, starts}
 use Rattle.eos_fold.proofs.OneBatch.{nothing_known}
 use Rattle.eos_kept.specs.declared.run.Run.{Run}
 use Rattle.eos_kept.specs.Runs.{heads_of, summary_with, IsRunOf, IsRun, SameRun}
-use Rattle.eos_kept.specs.steps.Taking.{CanTake, HavePlaces, Begins, BeginsWith, HasTaken}
+use Rattle.eos_kept.specs.steps.Taking.{CanTake, HaveIndexes, Begins, BeginsWith, HasTaken}
 use Rattle.eos_kept.proofs.HeadLists.{heads_of-append, heads_of-length}
 
 pub same_run : (xs : List Batch) (s t : Run) → SameRun s t → IsRunOf xs s → IsRunOf xs t
@@ -36,10 +36,10 @@ pub some_run : (s t : Run) → SameRun s t → IsRun s → IsRun t
 some_run s t e h = (h.0, same_run h.0 s t e h.1)
 
 -- what stands at places of the heads
-pub have_places : (s : Run) (t : Table) (heads : List DataHead) → IsRun s → heads ≡ s.heads.list → ((id : ℤ) → SameEnds (ends_at s.producers id) (ends_at t id)) → HavePlaces t heads
+pub have_places : (s : Run) (t : Table) (heads : List DataHead) → IsRun s → heads ≡ s.heads.list → ((id : ℤ) → SameEnds (ends_at s.producers id) (ends_at t id)) → HaveIndexes t heads
 have_places s t heads h e same = (data_in h.0, e ∙ h.1.heads, λ id. (same id).waiting ∙ h.1.known.places id)
 
-pub places_inside : (t : Table) (heads : List DataHead) (p : ℤ) → HavePlaces t heads → All (λ n. n < length heads) (ends_at t p).waiting.list
+pub places_inside : (t : Table) (heads : List DataHead) (p : ℤ) → HaveIndexes t heads → All (λ n. n < length heads) (ends_at t p).waiting.list
 places_inside t heads p h =
     let ds = h.0 in
     let n : length ds ≡ length heads = sym (ap length h.1 ∙ heads_of-length ds) in

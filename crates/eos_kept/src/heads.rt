@@ -10,7 +10,7 @@ ghost use Rattle.eos_fold.specs.steps.Summaries.{only};
 ghost use Rattle.eos_kept.specs.Runs.{heads_of};
 
 use eos_batch::BatchHead;
-use eos_fold::{DataHead, EndMark, Ending, Places, ended};
+use eos_fold::{DataHead, EndMark, Ending, Indexes, ended};
 use std::alloc::{AllocError, Global};
 use std::marker::Model;
 
@@ -114,7 +114,7 @@ impl Heads {
     }
 
     /// Gives the batches at these places this ending.
-    fn set_endings(&mut self, places: &Places, ending: Ending)
+    fn set_endings(&mut self, places: &Indexes, ending: Ending)
         requires { All (λ place. place < length self.old.list) places.now.list }
         ensures set { (ds : List DataBatch) → self.old.list ≡ heads_of ds → self.new.list ≡ heads_of (set_endings ending places.now.list ds) }
         ensures all { length self.new.list ≡ length self.old.list }
@@ -126,7 +126,7 @@ impl Heads {
     }
 
     /// Settles what waits at these places, where there is a marker.
-    pub(crate) fn settle(&mut self, places: &Places, marker: Option<EndMark>)
+    pub(crate) fn settle(&mut self, places: &Indexes, marker: Option<EndMark>)
         requires { All (λ place. place < length self.old.list) places.now.list }
         ensures settled { (id : ℤ) (ds : List DataBatch) → self.old.list ≡ heads_of ds → places.now.list ≡ waiting_in id ds
             → self.new.list ≡ heads_of (map (settled (only id marker)) ds) }

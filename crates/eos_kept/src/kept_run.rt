@@ -6,7 +6,7 @@ ghost use Rattle.eos_evidence.specs.declared.segment.Segment.{Segment};
 ghost use Rattle.eos_evidence.specs.Reading.{Takes, TakesAtMost};
 ghost use Rattle.eos_kept.specs.KeptRuns.{IsKeptRun, HasClaims, wanted_by, front_of, SameKeptRun};
 
-use crate::{Kept, fold_segment};
+use crate::{Kept, keep_segment};
 use bytes::Bytes;
 use eos_evidence::{MAX_SEGMENT_BYTES, ReadFault};
 use eos_reading::{KeptOutput, KeptText, Nothing, Outputs, Texts, Wanted};
@@ -32,7 +32,7 @@ pub struct Asked<'a> {
 }
 
 impl KeptRun {
-    /// Reads a segment of this topic, whose name is `base`, to its end, as `fold_segment` does.
+    /// Reads a segment of this topic, whose name is `base`, to its end, as `keep_segment` does.
     pub fn read<R: Read>(
         alloc: Global,
         asked: Asked<'_>,
@@ -50,7 +50,7 @@ impl KeptRun {
         ensures refused { OnErr result (TakesAtMost (MAX_SEGMENT_BYTES + 1) (R.remaining reader.old) (R.remaining reader.new)) }
     {
         match asked.wanted {
-            Wanted::Presence => match fold_segment(alloc, Nothing, topic, base, reader) {
+            Wanted::Presence => match keep_segment(alloc, Nothing, topic, base, reader) {
                 Ok(kept) => Ok(KeptRun::Presence(kept)),
                 Err(fault) => Err(fault),
             },
@@ -58,12 +58,12 @@ impl KeptRun {
                 let outputs = Outputs {
                     topics: asked.topics,
                 };
-                match fold_segment(alloc, outputs, topic, base, reader) {
+                match keep_segment(alloc, outputs, topic, base, reader) {
                     Ok(kept) => Ok(KeptRun::Claims(kept)),
                     Err(fault) => Err(fault),
                 }
             }
-            Wanted::Texts => match fold_segment(alloc, Texts, topic, base, reader) {
+            Wanted::Texts => match keep_segment(alloc, Texts, topic, base, reader) {
                 Ok(kept) => Ok(KeptRun::Texts(kept)),
                 Err(fault) => Err(fault),
             },

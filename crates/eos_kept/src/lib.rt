@@ -50,6 +50,6 @@ pub use log_part::Part;
 pub use logs::Logs;
 pub use part::{KeptPart, Told};
 pub use run::Run;
-pub use segment::fold_segment;
+pub use segment::keep_segment;
 pub use sizes::Sizes;
 pub use summary::Kept;

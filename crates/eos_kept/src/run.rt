@@ -9,7 +9,7 @@ ghost use Rattle.eos_fold.specs.Tables.{ends_at};
 ghost use Rattle.eos_fold.specs.Taken.{IsReadyFor};
 ghost use Rattle.eos_fold.specs.Summaries.{SameEnds};
 ghost use Rattle.eos_kept.specs.Runs.{IsRunOf, IsRun, IsHeadOf, SameRun};
-ghost use Rattle.eos_kept.specs.steps.Taking.{HavePlaces, BeginsWith, HasTaken};
+ghost use Rattle.eos_kept.specs.steps.Taking.{HaveIndexes, BeginsWith, HasTaken};
 
 use crate::heads::{Heads, data_head};
 use eos_batch::BatchHead;
@@ -67,7 +67,7 @@ impl Run {
 
     /// Takes over what a batch says of its producer id.
     fn take_touch(&mut self, alloc: Global, head: &BatchHead) -> Result<(), AllocError>
-        requires { HavePlaces self.old.producers self.old.heads.list }
+        requires { HaveIndexes self.old.producers self.old.heads.list }
         ensures taken { (xs : List Batch) (b : Batch) → IsHeadOf b head.now → BeginsWith xs self.old.sequenced self.old.producers self.old.heads.list self.old.fault
             → OnOk result (HasTaken xs (b ∷ []) self.old.sequenced self.new.producers self.new.heads.list self.new.fault (λ _. None)) }
         ensures capacity { self.new.heads.room ≡ self.old.heads.room }

@@ -17,7 +17,7 @@ use std::io::Read;
 /// Reads a segment of this topic, whose name is `base`, to its end: what is kept of the bytes that the reader has left. No more
 /// of them is held than a chunk, or a batch where that is larger. At `Limit` one byte more than a segment may have was read, and
 /// the rest is unread.
-pub fn fold_segment<K: Reading + Drop, R: Read>(
+pub fn keep_segment<K: Reading + Drop, R: Read>(
     alloc: Global,
     reading: K,
     topic: &[u8],

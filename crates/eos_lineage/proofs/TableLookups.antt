@@ -20,7 +20,7 @@ use Rattle.eos_claims.specs.Faults.{place_cmp}
 use Rattle.eos_claims.specs.Candidates.{is_input, is_by, passes}
 use Rattle.eos_claims.specs.Plain.{plain_place}
 use Rattle.eos_claims.proofs.ClaimTests.{input_is}
-use Rattle.eos_lineage.specs.declared.name.NamedPart.{NamedPart}
+use Rattle.eos_lineage.specs.declared.name.IndexedName.{IndexedName}
 use Rattle.eos_lineage.specs.declared.tables.Tables.{Tables}
 use Rattle.eos_lineage.specs.declared.tables.Known.{Known}
 use Rattle.eos_lineage.specs.steps.Tables.{Passed, key_of, pass_with, passes_of, reaches, is_reached}
@@ -31,7 +31,7 @@ get_mapped f [] k = refl
 get_mapped f (x ∷ xs) zero = refl
 get_mapped f (x ∷ xs) (suc k) = get_mapped f xs k
 
-pub knows : (a : Application) (t : Tables) → AreTables a t → (i : Place) (p : NamedPart) (k : Known)
+pub knows : (a : Application) (t : Tables) → AreTables a t → (i : Place) (p : IndexedName) (k : Known)
     → slice_get t.names.now p.place ≡ Some p.name.now → slice_get t.names.now p.place ≡ Some i.partition
     → plain_place k.place ≡ record { partition = p.name.now; offset = i.offset }
     → (IsSorted by_place t.inputs.now → k.is_input ≡ is_found by_place t.inputs.now k.place)

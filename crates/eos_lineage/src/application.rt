@@ -15,7 +15,7 @@ use crate::tables::{Tables, is_committed, source_of};
 use bytes::Bytes;
 use eos_base::{PartitionName, Workers};
 use eos_claims::{
-    Found, NumberedClaim, OutputFault, Place, PlaceRef, SourceRef, least_of_input, least_of_runs,
+    Found, NumberedClaim, OutputFault, Place, PlaceRef, SourceRef, least_of_input, least_of_neighbours,
 };
 use std::alloc::{AllocError, Global};
 use std::thread::Threads;
@@ -138,7 +138,7 @@ pub(crate) fn make_tally<'a, R: Threads + Sync>(
     let walk = take_outputs(alloc, tables, outputs)?;
     let outputs = count_outputs(walk.below.as_slice());
     let below = sorted(rt, workers, walk.below);
-    let best = least_of_runs(walk.best, below.as_slice());
+    let best = least_of_neighbours(walk.best, below.as_slice());
     let (best, inputs) = take_inputs(tables, below.as_slice(), best);
     let fault = published_if(alloc, best)?;
     Ok(Tally {

@@ -95,7 +95,7 @@ fn take_claim(
     let claim = &placed.claim;
     let place = books
         .names
-        .place_near(&mut marks.name, claim.topic, claim.partition)?;
+        .index_near(&mut marks.name, claim.topic, claim.partition)?;
     let key = key_of(place, claim)?;
     if !is_passed(books, &mut marks.pass, placed) {
         return None;

@@ -43,9 +43,9 @@ fn is_named(name: &NameRef<'_>, topic: &[u8], partition: i32) -> bool
     name.partition == partition && name.topic == topic
 }
 
-/// A partition's place among the names, and its name.
+/// A partition's index among the names, and its name.
 #[derive(Clone, Copy)]
-pub(crate) struct NamedPart<'a> {
+pub(crate) struct IndexedName<'a> {
     pub(crate) place: usize,
     pub(crate) name: &'a PartitionName,
 }
@@ -94,7 +94,7 @@ impl<'a> Names<'a> {
     }
 
     /// The partition of this name, by a binary search: where names ascend, there is none only where it isn't among them.
-    pub(crate) fn find(&self, topic: &[u8], partition: i32) -> Option<NamedPart<'a>>
+    pub(crate) fn find(&self, topic: &[u8], partition: i32) -> Option<IndexedName<'a>>
         ensures found { IfSome result (λ p. slice_get self.now p.place ≡ Some p.name.now) }
         ensures named { IfSome result (λ p. slice_get self.now p.place ≡ Some (record { topic = topic.now; partition = partition })) }
         ensures absent { IfNone result (AreAscending self.now → Has self.now (record { topic = topic.now; partition = partition }) → ⊥) }
@@ -102,7 +102,7 @@ impl<'a> Names<'a> {
         let key = NameRef { topic, partition };
         let names = self.names;
         match self.refs.binary_search(&key) {
-            Ok(place) => Some(NamedPart {
+            Ok(place) => Some(IndexedName {
                 place,
                 name: &names[place],
             }),
@@ -110,7 +110,7 @@ impl<'a> Names<'a> {
         }
     }
 
-    /// Whether the one at this place has this name.
+    /// Whether the one at this index has this name.
     fn is_at(&self, place: usize, topic: &[u8], partition: i32) -> bool
         ensures { result ≡ true → slice_get self.now place ≡ Some (record { topic = topic.now; partition = partition }) }
     {
@@ -120,9 +120,9 @@ impl<'a> Names<'a> {
         }
     }
 
-    /// The place of this name, looked for first where the last one stood. The mark is where the last such look-up ended; it
+    /// The index of this name, looked for first where the last one stood. The mark is where the last such look-up ended; it
     /// may be any.
-    pub(crate) fn place_near(&self, mark: &mut usize, topic: &[u8], partition: i32) -> Option<usize>
+    pub(crate) fn index_near(&self, mark: &mut usize, topic: &[u8], partition: i32) -> Option<usize>
         ensures { IfSome result (λ place. slice_get self.now place ≡ Some (record { topic = topic.now; partition = partition })) }
     {
         if self.is_at(*mark, topic, partition) {

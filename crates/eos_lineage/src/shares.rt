@@ -6,7 +6,7 @@ ghost use Rattle.eos_lineage.specs.steps.Shares.{Follow};
 use eos_base::Workers;
 use std::alloc::{AllocError, Global};
 
-/// What one thread takes: the partitions from one place up to another one, and the keys that should be those of their
+/// What one thread takes: the partitions from one index up to another one, and the keys that should be those of their
 /// inputs.
 #[derive(Clone, Copy)]
 pub(crate) struct Share<'k> {
@@ -15,24 +15,24 @@ pub(crate) struct Share<'k> {
     pub(crate) keys: &'k [u64],
 }
 
-/// The place of the source's partition in a key.
-fn place_in(key: u64) -> usize {
+/// The index of the source's partition in a key.
+fn partition_in(key: u64) -> usize {
     (key / 4503599627370496) as usize
 }
 
-/// How many keys, which are in order, have a partition before this place.
+/// How many keys, which are in order, have a partition before this index.
 fn count_before(keys: &[u64], place: usize) -> usize
     ensures { result ≤ length keys.now }
 {
-    keys.partition_point(|key| place_in(*key) < place)
+    keys.partition_point(|key| partition_in(*key) < place)
 }
 
-/// The place before which about so many of the keys are, which are in order.
-fn place_after(keys: &[u64], count: usize) -> usize {
+/// The index before which about so many of the keys are, which are in order.
+fn partition_after(keys: &[u64], count: usize) -> usize {
     let Some(key) = keys.get(count) else {
         return usize::MAX;
     };
-    let place = place_in(*key);
+    let place = partition_in(*key);
     let below = count_before(keys, place);
     let next = place.saturating_add(1);
     let through = count_before(keys, next);
@@ -59,7 +59,7 @@ fn cut_shares<'k>(
     let mut from = 0;
     let mut left = keys;
     for i in 1..threads {
-        let until = place_after(keys, size.saturating_mul(i)).min(parts);
+        let until = partition_after(keys, size.saturating_mul(i)).min(parts);
         if until > from {
             let (run, rest) = left.split_at(count_before(left, until));
             shares.push(Share {

@@ -33,7 +33,7 @@ use Rattle.eos_evidence.specs.Evidence.{EvidenceParts, added}
 use Rattle.eos_machine.specs.declared.config.Config.{Config}
 use Rattle.eos_machine.specs.declared.item.Item.{Item}
 use Rattle.eos_machine.specs.declared.item.Item.TheVariants.{Fed, State, Output, Offset, Marker}
-use Rattle.eos_machine.specs.Places.{IsConfig, application_count, input_topic, output_topic}
+use Rattle.eos_machine.specs.LogIndexes.{IsConfig, application_count, input_topic, output_topic}
 use Rattle.eos_machine.proofs.Written.{few_applications}
 use Rattle.eos_machine.specs.Batches.{group, second_group, source_key}
 use Rattle.eos_machine.specs.Evidences.{segment_count, segment_at, adding}

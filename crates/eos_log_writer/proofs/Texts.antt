@@ -15,7 +15,7 @@ use Rattle.eos_wire.specs.Writing.{IsShortest}
 use Rattle.eos_machine.specs.declared.config.Config.{Config}
 use Rattle.eos_machine.specs.declared.item.Item.{Item}
 use Rattle.eos_batch.specs.declared.record.Record.{Record}
-use Rattle.eos_machine.specs.Places.{IsConfig}
+use Rattle.eos_machine.specs.LogIndexes.{IsConfig}
 use Rattle.eos_machine.specs.Fitting.{IsFit}
 use Rattle.eos_machine.specs.Grouping.{goes_on, joining}
 use Rattle.eos_machine.specs.steps.Joined.{AreJoined}

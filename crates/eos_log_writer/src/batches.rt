@@ -1,7 +1,7 @@
 //! The batches of a cluster's logs, and their bytes.
 
 ghost use Rattle.std.specs.Prelude.{◌≡◌, ◌<◌, ◌≤◌, ◌+◌, ◌-◌, ◌-ℤ◌, ◌^◌, ◌∷◌, pos, None, Some, length, map, slice_index_or, IfOk, OnOk};
-ghost use Rattle.eos_machine.specs.Places.{IsConfig};
+ghost use Rattle.eos_machine.specs.LogIndexes.{IsConfig};
 ghost use Rattle.eos_batch.specs.Encoding.{batch_text_of};
 ghost use Rattle.eos_batch.specs.declared.fault.BatchFault.{BatchFault};
 ghost use Rattle.std.specs.List.{All};

@@ -2,11 +2,11 @@
 
 ghost use Rattle.std.specs.Prelude.{◌≡◌, ◌^◌, ◌&&◌, ◌+◌, length, nat_lt, nat_le};
 ghost use Rattle.std.specs.List.{list_all};
-ghost use Rattle.eos_machine.specs.Places.{IsConfig, application_count};
+ghost use Rattle.eos_machine.specs.LogIndexes.{IsConfig, application_count};
 ghost use Rattle.eos_machine.specs.Sessions.{claimed_topic};
 ghost use Rattle.eos_machine.specs.steps.Fits.{are_all_there, is_fit};
 
-use crate::places::place_count;
+use crate::log_names::log_count;
 use eos_machine::{Claim, Config, Entry, Item};
 
 /// One more than the greatest number of a field of 64 bits.
@@ -33,7 +33,7 @@ fn are_all_there(config: Config, places: &[usize]) -> bool
     requires { IsConfig config }
     ensures { result ≡ are_all_there config places.now }
 {
-    are_below(place_count(config), places) && places.len() <= place_count(config)
+    are_below(log_count(config), places) && places.len() <= log_count(config)
 }
 
 /// Whether the topic is short enough that a record's claim names.

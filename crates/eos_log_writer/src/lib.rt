@@ -4,10 +4,10 @@
 mod batches;
 mod fitting;
 mod joining;
-mod places;
+mod log_names;
 mod segments;
 mod values;
 mod writer;
 
-pub use places::place_count;
+pub use log_names::log_count;
 pub use segments::{LogFault, add_log, end_of, groups_of};

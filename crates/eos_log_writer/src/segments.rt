@@ -2,7 +2,7 @@
 
 ghost use Rattle.std.specs.Prelude.{◌≡◌, ◌≢◌, [], ◌∷◌, ◌*◌, ◌<◌, ◌^◌, pos, Ok, Err, take, drop, length, IfOk, OnOk, IsOk, IfSome, IsNone};
 ghost use Rattle.std.specs.List.{All};
-ghost use Rattle.eos_machine.specs.Places.{IsConfig, place_count, topic_of, number_of};
+ghost use Rattle.eos_machine.specs.LogIndexes.{IsConfig, log_count, topic_of, number_of};
 ghost use Rattle.eos_machine.specs.Fitting.{IsFit};
 ghost use Rattle.eos_log_writer.specs.declared.segments.LogFault.{LogFault};
 ghost use Rattle.eos_log_writer.specs.Names.{log_fault_name};
@@ -12,7 +12,7 @@ ghost use Rattle.eos_machine.specs.Evidences.{application, second_application, g
 
 use crate::batches::items_text;
 use crate::fitting::are_fit;
-use crate::places::{number_of, place_count, topic_of};
+use crate::log_names::{number_of, log_count, topic_of};
 use crate::values;
 use crate::writer::{as_i32, as_i64};
 use bytes::Bytes;
@@ -32,7 +32,7 @@ fn segment_count(config: Config, records: usize) -> usize
 }
 
 /// So many items from a place on, or those that there are.
-fn part(items: &[Item], from: usize, count: usize) -> &[Item]
+fn taken_from(items: &[Item], from: usize, count: usize) -> &[Item]
     ensures { result.now ≡ take count (drop from items.now) }
 {
     if from >= items.len() {
@@ -55,14 +55,14 @@ fn segment_at(
     i: usize,
 ) -> Result<Segment, AllocError>
     requires config { IsConfig config }
-    requires place { place < place_count config }
+    requires place { place < log_count config }
     requires begins { i * config.segment_records < length log.now }
     requires fits { All (IsFit config) log.now }
     ensures segment { IfOk result (λ s. s ≡ segment_at config place log.now i) }
     ensures written { OnOk result (AreTexts (batches_at config log.now i)) }
 {
     let base = i * config.segment_records;
-    let items = part(log, base, config.segment_records);
+    let items = taken_from(log, base, config.segment_records);
     let bytes = items_text(alloc, config, base, items)?;
     Ok(Segment {
         topic: topic_of(config, place),
@@ -121,9 +121,9 @@ pub fn add_log(
     requires { IsConfig config }
     ensures added { OnOk result (adding builder.old (log_segments config place log.now) ≡ Ok builder.new) }
     ensures written { OnOk result (HaveTexts config log.now) }
-    ensures only { place < place_count config → All (IsFit config) log.now → IsOk (adding builder.old (log_segments config place log.now)) → result ≢ Err LogFault.Refused }
+    ensures only { place < log_count config → All (IsFit config) log.now → IsOk (adding builder.old (log_segments config place log.now)) → result ≢ Err LogFault.Refused }
 {
-    if place >= place_count(config) {
+    if place >= log_count(config) {
         return Err(LogFault::Refused);
     }
     if !are_fit(config, log) {
@@ -187,9 +187,9 @@ pub fn groups_of(alloc: Global, config: Config) -> Result<Listed<App>, AllocErro
 pub fn end_of(config: Config, place: usize, records: usize) -> Option<End>
     requires { IsConfig config }
     ensures some { IfSome result (λ e. e ≡ record { topic = topic_of config place; partition = pos (number_of config place); end = pos records }) }
-    ensures none { IsNone result → place < place_count config → records < 2 ^ 63 → ⊥ }
+    ensures none { IsNone result → place < log_count config → records < 2 ^ 63 → ⊥ }
 {
-    if place >= place_count(config) || records > i64::MAX as usize {
+    if place >= log_count(config) || records > i64::MAX as usize {
         return None;
     }
     Some(End {

@@ -5,7 +5,7 @@ ghost use Rattle.eos_wire.specs.Numbers.{i32_text, i64_text, i16_text};
 ghost use Rattle.eos_txnlog.specs.Reading.{read_value};
 ghost use Rattle.eos_txnlog.specs.Writing as txnlog;
 ghost use Rattle.eos_offsets.specs.Writing as offsets;
-ghost use Rattle.eos_machine.specs.Places.{IsConfig, place_count, final_topic, input_topic, output_topic};
+ghost use Rattle.eos_machine.specs.LogIndexes.{IsConfig, log_count, final_topic, input_topic, output_topic};
 ghost use Rattle.eos_machine.specs.Rest.{status_of, by_topic, value_of, with_number};
 ghost use Rattle.eos_txnlog.specs.declared.partitions.TopicPartitions.{TopicPartitions};
 ghost use Rattle.eos_log_writer.specs.steps.Grouping.{starts_with};
@@ -15,7 +15,7 @@ ghost use Rattle.eos_base.specs.declared.record_fault.RecordFault.{RecordFault};
 ghost use Rattle.eos_machine.specs.Fitting.{AreAllThere};
 ghost use Rattle.eos_machine.specs.Batches.{group, second_group, transactional_id, bytes_of, header, claim_headers, headers_of, source_key, commit_of, commit_value, control_type};
 
-use crate::places::{number_of, topic_of};
+use crate::log_names::{number_of, topic_of};
 use crate::writer::{as_i16, as_i32, as_i64, producer_id};
 use bytes::Bytes;
 use eos_base::{Listed, RecordFault};
@@ -181,7 +181,7 @@ fn put_in_front(
 /// The partitions at these places, by topic.
 fn by_topic(alloc: Global, config: Config, places: &[usize]) -> Result<Partitions, AllocError>
     requires config { IsConfig config }
-    requires places { All (λ p. p < place_count config) places.now }
+    requires places { All (λ p. p < log_count config) places.now }
     ensures { IfOk result (λ p. p ≡ by_topic config places.now) }
 {
     let mut groups = Vec::new(alloc);

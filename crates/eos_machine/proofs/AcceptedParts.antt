@@ -9,9 +9,9 @@ use Rattle.std.proofs.lemmas.Bool.{and_from}
 use Rattle.eos_evidence.specs.declared.ends.End.{End}
 use Rattle.eos_evidence.specs.Topics.{is_topic}
 use Rattle.eos_evidence.specs.Ends.{end_cmp, is_within, is_legal_end, are_apart, insert_end, ordered}
-use Rattle.eos_evidence.specs.Parts.{Parts, are_legal_apps, accepted}
+use Rattle.eos_evidence.specs.Members.{Members, are_legal_apps, accepted}
 use Rattle.eos_machine.specs.declared.config.Config.{Config}
-use Rattle.eos_machine.specs.Places.{IsConfig, place_count, offsets_topic, transactions_topic, final_topic, input_topic, output_topic, final_place, input_place, output_place, topic_of, number_of}
+use Rattle.eos_machine.specs.LogIndexes.{IsConfig, log_count, offsets_topic, transactions_topic, final_topic, input_topic, output_topic, final_index, input_index, output_index, topic_of, number_of}
 use Rattle.eos_machine.specs.World.{World, log_at}
 use Rattle.eos_machine.proofs.Written.{few_finals}
 use Rattle.eos_machine.specs.Evidences.{application, second_application, groups_of, end_of, parts_of}
@@ -20,7 +20,7 @@ use Rattle.eos_machine.proofs.PlaceNames.{ends_rise}
 -- ---- each end is legal
 
 legal_topic : (c : Config) (p : ℕ) → is_topic (topic_of c p) ≡ true
-legal_topic c p = by (p == 0) (nat_le p c.transaction_logs) (nat_lt p (input_place c 0)) (nat_lt p (output_place c 0))
+legal_topic c p = by (p == 0) (nat_le p c.transaction_logs) (nat_lt p (input_index c 0)) (nat_lt p (output_index c 0))
   where
     by : (x y f z : Bool) → is_topic (if x then offsets_topic else if y then transactions_topic else if f then final_topic else if z then input_topic else output_topic) ≡ true
     by true y f z = refl
@@ -30,9 +30,9 @@ legal_topic c p = by (p == 0) (nat_le p c.transaction_logs) (nat_lt p (input_pla
     by false false false false = refl
 
 pub number_small : (c : Config) (p : ℕ) → number_of c p ≤ p
-number_small c p = by (p == 0) (nat_le p c.transaction_logs) (nat_lt p (input_place c 0)) (nat_lt p (output_place c 0))
+number_small c p = by (p == 0) (nat_le p c.transaction_logs) (nat_lt p (input_index c 0)) (nat_lt p (output_index c 0))
   where
-    by : (x y f z : Bool) → (if x then 0 else if y then p - 1 else if f then p - final_place c 0 else if z then p - input_place c 0 else p - output_place c 0) ≤ p
+    by : (x y f z : Bool) → (if x then 0 else if y then p - 1 else if f then p - final_index c 0 else if z then p - input_index c 0 else p - output_index c 0) ≤ p
     by true y f z = omega arith
     by false true f z = omega arith
     by false false true z = omega arith
@@ -48,7 +48,7 @@ within limit n l = and_from (int_le (pos 0) (pos n)) (int_lt (pos n) (pos limit)
     below : (n limit : ℕ) → n < limit → int_lt (pos n) (pos limit) ≡ true
     below n limit l = grind (arith, ints, l)
 
-pub place_few : (c : Config) → IsConfig c → place_count c ≤ 53
+pub place_few : (c : Config) → IsConfig c → log_count c ≤ 53
 place_few c i = let f = few_finals c i in omega (arith, f, i.inputs.1, i.outputs.1, i.transaction_logs.1)
 
 legal : (c : Config) (w : World) (p : ℕ) → p ≤ 53 → length (log_at w p) < 2 ^ 63 → is_legal_end (end_of c w p) ≡ true
@@ -81,10 +81,10 @@ ordered_ends c w a (suc (suc n)) =
 
 -- ---- all of them
 
-few_ends : (c : Config) (w : World) → IsConfig c → nat_le (length (map (end_of c w) (range_with_len 0 (place_count c)))) 4096 ≡ true
+few_ends : (c : Config) (w : World) → IsConfig c → nat_le (length (map (end_of c w) (range_with_len 0 (log_count c)))) 4096 ≡ true
 few_ends c w i =
-    let e : length (map (end_of c w) (range_with_len 0 (place_count c))) ≡ place_count c = length-map-range_with_len (end_of c w) 0 (place_count c) in
-    rw e (small (place_count c) (place_few c i))
+    let e : length (map (end_of c w) (range_with_len 0 (log_count c))) ≡ log_count c = length-map-range_with_len (end_of c w) 0 (log_count c) in
+    rw e (small (log_count c) (place_few c i))
   where
     small : (n : ℕ) → n ≤ 53 → nat_le n 4096 ≡ true
     small n l = grind (arith, l)
@@ -107,4 +107,4 @@ pub accepted_parts : (c : Config) (w : World) → IsConfig c → ((p : ℕ) → 
 unfolding accepted
 accepted_parts c w i l =
     let f = place_few c i in
-    rw (legal_groups c, few_groups c, all_legal c w 0 (place_count c) (omega (arith, f)) l, apart c w 0 (place_count c), few_ends c w i, ordered_ends c w 0 (place_count c)) refl
+    rw (legal_groups c, few_groups c, all_legal c w 0 (log_count c) (omega (arith, f)) l, apart c w 0 (log_count c), few_ends c w i, ordered_ends c w 0 (log_count c)) refl

@@ -14,11 +14,11 @@ use Rattle.eos_evidence.specs.declared.ends.End.{End}
 use Rattle.eos_evidence.specs.declared.segment.Segment.{Segment}
 use Rattle.eos_evidence.specs.declared.partition.Partition.{Partition}
 use Rattle.eos_evidence.specs.declared.fault.AddFault.{AddFault}
-use Rattle.eos_evidence.specs.Parts.{Parts}
+use Rattle.eos_evidence.specs.Members.{Members}
 use Rattle.eos_evidence.specs.Evidence.{EvidenceParts, is_in, is_past_limit, has_base, insert_segment, with_segment, segments_of, empty_partition, without_segments, added}
 use Rattle.eos_machine.specs.declared.config.Config.{Config}
 use Rattle.eos_machine.specs.declared.item.Item.{Item}
-use Rattle.eos_machine.specs.Places.{IsConfig, place_count, topic_of, number_of}
+use Rattle.eos_machine.specs.LogIndexes.{IsConfig, log_count, topic_of, number_of}
 use Rattle.eos_machine.specs.World.{World, log_at}
 use Rattle.eos_machine.specs.Evidences.{end_of, parts_of, segment_count, segment_at, log_segments, cluster_segments, adding, HasRoomForAll}
 use Rattle.eos_machine.specs.Fitting.{IsFit}
@@ -48,7 +48,7 @@ abbrev held : Config → World → (ℕ → ℕ) → ℕ → Partition
 held c w n p = record { end = end_of c w p; segments = firsts c w p (n p) }
 
 abbrev Holds : Config → World → (ℕ → ℕ) → EvidenceParts → Type 0
-Holds c w n e = e.partitions ≡ map (held c w n) (range_with_len 0 (place_count c))
+Holds c w n e = e.partitions ≡ map (held c w n) (range_with_len 0 (log_count c))
 
 -- one more of a place
 abbrev more : ℕ → (ℕ → ℕ) → ℕ → ℕ
@@ -134,21 +134,21 @@ within_limit a b l m = grind (arith, l, m)
 base_right : (n : ℕ) → int_lt (pos n) (pos 0) ≡ false
 base_right n = grind (arith, ints)
 
-one_more : (c : Config) (w : World) (n : ℕ → ℕ) (q : ℕ) (e : EvidenceParts) → IsWritable c w → q < place_count c → n q < count_at c w q → IsOnWay c w n e → OneMore c w n q e
+one_more : (c : Config) (w : World) (n : ℕ → ℕ) (q : ℕ) (e : EvidenceParts) → IsWritable c w → q < log_count c → n q < count_at c w q → IsOnWay c w n e → OneMore c w n q e
 unfolding added
 one_more c w n q e g l m h =
     let s : Segment = segment_at c q (log_at w q) (n q) in
     let r = g.sizes.segment_records.0 in
-    let f : find (λ x. is_in s x.end) e.partitions ≡ Some (held c w n q) = ap (find (λ x. is_in s x.end)) h.holds ∙ found c w n q (n q) 0 (place_count c) (omega arith) (omega (arith, l)) in
-    let k : length (segments_of e.partitions) ≡ sum n (range_with_len 0 (place_count c)) = ap (λ ps. length (segments_of ps)) h.holds ∙ how_many c w n (range_with_len 0 (place_count c)) in
-    let less = sum_less n (count_at c w) q 0 (place_count c) h.few (omega arith) (omega (arith, l)) m in
+    let f : find (λ x. is_in s x.end) e.partitions ≡ Some (held c w n q) = ap (find (λ x. is_in s x.end)) h.holds ∙ found c w n q (n q) 0 (log_count c) (omega arith) (omega (arith, l)) in
+    let k : length (segments_of e.partitions) ≡ sum n (range_with_len 0 (log_count c)) = ap (λ ps. length (segments_of ps)) h.holds ∙ how_many c w n (range_with_len 0 (log_count c)) in
+    let less = sum_less n (count_at c w) q 0 (log_count c) h.few (omega arith) (omega (arith, l)) m in
     let room = room_enough c w g.sizes g.count g.room in
     let lim : is_past_limit e s ≡ false = within_limit (length s.bytes) (length (segments_of e.partitions)) (segment_short c q (log_at w q) (n q) g.sizes (g.fit q)) (omega (arith, k, less, room)) in
     record {
       after = record e { partitions = map (with_segment s) e.partitions };
       added_is = rw (f, base_right (n q * c.segment_records), lim, new_base c q (log_at w q) 0 (n q) (n q) r (omega arith)) refl;
       on_way = record {
-        holds = ap (map (with_segment s)) h.holds ∙ all_placed (with_segment s) (held c w n) (held c w (more q n)) (range_with_len 0 (place_count c)) (λ p. in_place c w n q p r);
+        holds = ap (map (with_segment s)) h.holds ∙ all_placed (with_segment s) (held c w n) (held c w (more q n)) (range_with_len 0 (log_count c)) (λ p. in_place c w n q p r);
         few = λ p. still p;
       };
     }
@@ -183,7 +183,7 @@ more_there q p n d = elim (p == q) as (λ t. (p == q) ≡ t → (if t then suc (
   | false ↦ λ e. refl
 ] refl
 
-all_of : (c : Config) (w : World) (n : ℕ → ℕ) (q : ℕ) (e : EvidenceParts) (i k : ℕ) → IsWritable c w → q < place_count c → n q ≡ i → i + k ≡ count_at c w q → IsOnWay c w n e
+all_of : (c : Config) (w : World) (n : ℕ → ℕ) (q : ℕ) (e : EvidenceParts) (i k : ℕ) → IsWritable c w → q < log_count c → n q ≡ i → i + k ≡ count_at c w q → IsOnWay c w n e
     → AllOf c w n q e (map (segment_at c q (log_at w q)) (range_with_len i k))
 all_of c w n q e i zero g l is m h = record { after = e; number = n; added_are = refl; on_way = h; others = λ p d. refl }
 all_of c w n q e i (suc k) g l is m h =
@@ -213,7 +213,7 @@ pub record IsAdded (e : EvidenceParts) (ss : List Segment) : Type 0 where
   pub after : EvidenceParts
   pub is : adding e ss ≡ Ok after
 
-all_places : (c : Config) (w : World) (n : ℕ → ℕ) (e : EvidenceParts) (a k : ℕ) → IsWritable c w → a + k ≡ place_count c → ((p : ℕ) → a ≤ p → n p ≡ 0) → IsOnWay c w n e
+all_places : (c : Config) (w : World) (n : ℕ → ℕ) (e : EvidenceParts) (a k : ℕ) → IsWritable c w → a + k ≡ log_count c → ((p : ℕ) → a ≤ p → n p ≡ 0) → IsOnWay c w n e
     → IsAdded e (flat_map (λ p. log_segments c p (log_at w p)) (range_with_len a k))
 all_places c w n e a zero g m z h = record { after = e; is = refl }
 all_places c w n e a (suc k) g m z h =
@@ -231,7 +231,7 @@ map_twice f g h (x ∷ xs) e = ap (λ l. l ∷ map g (map f xs)) (e x) ∙ ap (�
 
 -- each segment of a cluster's logs is taken
 pub segments_added : (c : Config) (w : World) → IsWritable c w → IsAdded (without_segments (parts_of c w)) (cluster_segments c w)
-segments_added c w g = all_places c w (λ p. 0) (without_segments (parts_of c w)) 0 (place_count c) g (omega arith) (λ p l. refl) (record {
-  holds = map_twice (end_of c w) empty_partition (held c w (λ p. 0)) (range_with_len 0 (place_count c)) (λ p. refl);
+segments_added c w g = all_places c w (λ p. 0) (without_segments (parts_of c w)) 0 (log_count c) g (omega arith) (λ p l. refl) (record {
+  holds = map_twice (end_of c w) empty_partition (held c w (λ p. 0)) (range_with_len 0 (log_count c)) (λ p. refl);
   few = λ p. omega arith;
 })

@@ -23,7 +23,7 @@ use Rattle.eos_txnlog.specs.Writing.{write_value, write_key}
 use Rattle.eos_offsets.specs.declared.key.OffsetKey.{OffsetKey}
 use Rattle.eos_offsets.specs.Writing as offsets
 use Rattle.eos_machine.specs.declared.config.Config.{Config}
-use Rattle.eos_machine.specs.Places.{IsConfig, place_count, input_place, output_place, offsets_topic, transactions_topic, final_topic, input_topic, output_topic, topic_of, number_of, is_topic}
+use Rattle.eos_machine.specs.LogIndexes.{IsConfig, log_count, input_index, output_index, offsets_topic, transactions_topic, final_topic, input_topic, output_topic, topic_of, number_of, is_topic}
 use Rattle.eos_machine.specs.declared.item.Claim.{Claim}
 use Rattle.eos_machine.specs.declared.item.Entry.{Entry}
 use Rattle.eos_machine.specs.declared.item.Item.{Item}
@@ -93,7 +93,7 @@ record_short place delta r k v h kl vl hl =
 -- ---- the partitions of a transaction, by topic
 
 topic_short : (c : Config) (p : ℕ) → length (topic_of c p) ≤ 19
-topic_short c p = by (p == 0) (nat_le p c.transaction_logs) (nat_lt p (input_place c 0)) (nat_lt p (output_place c 0))
+topic_short c p = by (p == 0) (nat_le p c.transaction_logs) (nat_lt p (input_index c 0)) (nat_lt p (output_index c 0))
   where
     by : (x y f z : Bool) → length (if x then offsets_topic else if y then transactions_topic else if f then final_topic else if z then input_topic else output_topic) ≤ 19
     by true y f z = omega arith
@@ -163,7 +163,7 @@ topics_fit n (t ∷ ts) l h =
 they_fit : (n : ℕ) (ts : List TopicPartitions) → n ≤ 100 → AreTopicsOf n ts → fits ts ≡ true
 they_fit n ts l h = rw (lt-ltb (length ts + 1) (2 ^ 32) (omega (arith, h.0, l))) (topics_fit n ts l h.1)
 
-place_few : (c : Config) → IsConfig c → place_count c ≤ 53
+place_few : (c : Config) → IsConfig c → log_count c ≤ 53
 place_few c i = let f = few_finals c i in omega (arith, f, i.inputs.1, i.outputs.1, i.transaction_logs.1)
 
 pub value_written : (c : Config) (a : ℕ) (x : Entry) (n : ℕ) → IsConfig c → AreAllThere c x.partitions → write_value (pos 1) (value_of c a x n) ≡ Ok (value_bytes (value_of c a x n))

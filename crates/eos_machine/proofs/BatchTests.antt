@@ -15,7 +15,7 @@ use Rattle.eos_wire.specs.Numbers.{i16_text, i32_text, i16_at, i32_at}
 use Rattle.eos_machine.specs.declared.config.Config.{Config}
 use Rattle.eos_machine.specs.declared.item.Item.{Item}
 use Rattle.eos_machine.specs.declared.item.Item.TheVariants.{Fed, State, Output, Offset, Marker}
-use Rattle.eos_machine.specs.Places.{IsConfig}
+use Rattle.eos_machine.specs.LogIndexes.{IsConfig}
 use Rattle.eos_machine.specs.Rest.{producer_id}
 use Rattle.eos_machine.specs.Batches.{event_of, record_after, batch_of}
 use Rattle.eos_machine.specs.steps.Joined.{AreJoined}

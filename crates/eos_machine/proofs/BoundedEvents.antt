@@ -6,7 +6,7 @@ use Rattle.std.proofs.lemmas.List.Elements.{All-nil, All-cons, All-head, All-tai
 use Rattle.std.proofs.lemmas.Bool.{and_parts, or_parts, eqb-true}
 use Rattle.eos_batch.specs.declared.marker.Kind.{Kind}
 use Rattle.eos_batch.specs.declared.marker.Kind.TheVariants.{Abort}
-use Rattle.eos_machine.specs.Places.{Config, application_count, txn_place, input_place, written_place, place_count, listed}
+use Rattle.eos_machine.specs.LogIndexes.{Config, application_count, txn_index, input_index, written_index, log_count, listed}
 use Rattle.eos_machine.specs.declared.switches.Switches.{Switches}
 use Rattle.eos_machine.specs.Switching.{none}
 use Rattle.eos_machine.specs.World.{Claim, Status, Empty, Ongoing, Prepare, Complete, Entry, Item, Fed, State, Output, Offset, Marker, Coordinator, Session, Message, World, Event, fresh, opening, log_at, coord_at, with_item, with_coord, said_entry, written, due_markers, prepared, finished, state_of}
@@ -18,7 +18,7 @@ use Rattle.eos_machine.specs.Answers.{Answer, when, Done, Fenced}
 use Rattle.eos_machine.specs.Sessions.{last_epoch, new_session, sequence_of, after_output, after_offset, after_end, after_resume, produce, commit_offset, commit, end_session, resume_ended, resume, fetch}
 use Rattle.eos_machine.specs.Rules.{marker_epoch, marker_of}
 use Rattle.eos_machine.specs.Deliveries.{with_partition, appended, accept, fenced, marked, ticked_off, ticked, deliver}
-use Rattle.eos_machine.specs.Machine.{start_session, start, reread, due_again, queued_again, happens_under, counted, step_under, step, run_under, run}
+use Rattle.eos_machine.specs.Machine.{start_session, start, reread, due_again, queued_again, happens_under, counted, step_under, step, world_under, world_after}
 use Rattle.eos_machine.specs.Bounds.{Limit, IsWithin, IsSent, IsSafe, Bounded}
 use Rattle.eos_machine.proofs.Brokers.{not_lt}
 
@@ -114,7 +114,7 @@ bounded_coord n w a s b h = record {
 }
 
 bounded_written : (n : ℕ) (u : Switches) (c : Config) (w : World) (a : ℕ) (x : Entry) → Bounded n w → Limit x.status x.epoch → Bounded n (written u c w a x)
-bounded_written n u c w a x b h = bounded_coord n (with_item w (txn_place c a) (State a (said_entry u c x) w.events)) a (state_of x) (bounded_item n w (txn_place c a) (State a (said_entry u c x) w.events) b h) h
+bounded_written n u c w a x b h = bounded_coord n (with_item w (txn_index c a) (State a (said_entry u c x) w.events)) a (state_of x) (bounded_item n w (txn_index c a) (State a (said_entry u c x) w.events) b h) h
 
 -- other messages, sessions and numbers
 abbrev pub like : World → List Message → List Bool → List Session → ℕ → ℕ → World
@@ -187,7 +187,7 @@ message_at n (x ∷ ms) (suc i) h = message_at n ms i (All-tail (IsSent n) x ms 
 bounded_deliver : (n : ℕ) (u : Switches) (c : Config) (w : World) (m : ℕ) (r : Option Message) → Bounded n w → SentIf n r → Bounded n (deliver u c w m r).0
 bounded_deliver n u c w m None b h = b
 bounded_deliver n u c w m (Some (messages.Output a e p s x v)) b h =
-    let o = bounded_fenced n u w m (written_place c a p) (Output a e s x v w.events) b h in
+    let o = bounded_fenced n u w m (written_index c a p) (Output a e s x v w.events) b h in
     bounded_if n _ _ _ (λ t. o) (λ f1. bounded_if n _ _ _ (λ t. b) (λ f2. bounded_if n _ _ _ (λ t. b) (λ f3. bounded_if n _ _ _ (λ t. o) (λ f4. bounded_if n _ _ _ (λ t. b) (λ f5.
     bounded_accept n u c w m a _ (Output a e s x v w.events) b (current_low (coord_at w a) e (not_false _ f4) h.0) h)))))
 bounded_deliver n u c w m (Some (messages.Offset a e g q v)) b h =
@@ -291,7 +291,7 @@ last_within n s a (State b x m ∷ xs) e h =
     ]
 
 reread_within : (n : ℕ) (c : Config) (w : World) (a : ℕ) → Bounded n w → Limit (reread c w a).status (reread c w a).epoch
-reread_within n c w a b = last_within n fresh a (log_at w (txn_place c a)) (omega arith) (log_within n w (txn_place c a) b)
+reread_within n c w a b = last_within n fresh a (log_at w (txn_index c a)) (omega arith) (log_within n w (txn_index c a) b)
 
 due_within : (n a : ℕ) (t : Status) (e : ℕ) (ps : List ℕ) → Limit t e → All (IsSent n) (due_again t a e ps)
 due_within n a Empty e ps h = All-nil (IsSent n)
@@ -310,7 +310,7 @@ all_flat P f (k ∷ ks) h = All-append P (f k) (flat_map f ks) (h k) (all_flat P
 -- ---- any event, and any list
 
 pub bounded_event : (n : ℕ) (u : Switches) (c : Config) (w : World) (e : Event) → Bounded n w → Bounded (n + 1) (happens_under u c w e).0
-bounded_event n u c w (events.Feed p) b = let d = bounded_more n w b in bounded_if (n + 1) _ _ _ (λ t. d) (λ f. bounded_item (n + 1) w (input_place c p) (Fed w.events) d tt)
+bounded_event n u c w (events.Feed p) b = let d = bounded_more n w b in bounded_if (n + 1) _ _ _ (λ t. d) (λ f. bounded_item (n + 1) w (input_index c p) (Fed w.events) d tt)
 bounded_event n u c w (events.Start a) b = bounded_start (n + 1) u c w a (bounded_more n w b)
 bounded_event n u c w (events.Produce m p x) b = bounded_produce n c w m p x (slice_get w.sessions m) b (safe_at n w.sessions m b.sessions)
 bounded_event n u c w (events.Commit m q v) b = bounded_commit (n + 1) c w m q v (bounded_more n w b)
@@ -334,7 +334,7 @@ bounded_event n u c w (events.Deliver m) b = let d = bounded_more n w b in bound
 pub bounded_opening : (c : Config) → Bounded 0 (opening c)
 bounded_opening c = record {
   coordinators = all_replicated (λ s. Limit s.status s.epoch) (application_count c) fresh (omega arith);
-  logs = all_replicated (All (IsWithin 0)) (place_count c) [] (All-nil (IsWithin 0));
+  logs = all_replicated (All (IsWithin 0)) (log_count c) [] (All-nil (IsWithin 0));
   messages = All-nil (IsSent 0);
   sessions = All-nil (IsSafe 0);
   generation = omega arith;
@@ -359,10 +359,10 @@ step_if false x y f g = g
 pub bounded_step : (u : Switches) (c : Config) (w : World) (e : Event) → IsBounded w → IsBounded (step_under u c w e).0
 bounded_step u c w e b = step_if _ _ _ b (bounded_counted w.events (happens_under u c w e) (bounded_event w.events u c w e b))
 
-pub bounded_run : (c : Config) (w : World) (es : List Event) → IsBounded w → IsBounded (run c w es)
+pub bounded_run : (c : Config) (w : World) (es : List Event) → IsBounded w → IsBounded (world_after c w es)
 bounded_run c w [] b = b
 bounded_run c w (e ∷ es) b = bounded_run c (step c w e).0 es (bounded_step none c w e b)
 
-pub bounded_run_under : (c : Config) (w : World) (xs : List (Switches × Event)) → IsBounded w → IsBounded (run_under c w xs)
+pub bounded_run_under : (c : Config) (w : World) (xs : List (Switches × Event)) → IsBounded w → IsBounded (world_under c w xs)
 bounded_run_under c w [] b = b
 bounded_run_under c w (x ∷ xs) b = bounded_run_under c (step_under x.0 c w x.1).0 xs (bounded_step x.0 c w x.1 b)

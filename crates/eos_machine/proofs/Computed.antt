@@ -2,12 +2,12 @@
 use Rattle.std.proofs.Common.{◌≡◌, [], ◌∷◌, List, refl}
 use Rattle.eos_machine.specs.Answers.{when}
 use Rattle.eos_machine.specs.declared.event.Event.{Event}
-use Rattle.eos_machine.specs.Places.{Config}
+use Rattle.eos_machine.specs.LogIndexes.{Config}
 use Rattle.eos_machine.specs.World.{World}
 use Rattle.eos_machine.specs.Switching.{none}
-use Rattle.eos_machine.specs.Machine.{step, run, run_under}
-use Rattle.eos_machine.specs.SwitchedRuns.{Breaks, all_under}
-use Rattle.eos_machine.specs.Runs.{Commits, Restarts, Fences, Fetches, Omits, Lists, Chains}
+use Rattle.eos_machine.specs.Machine.{step, world_after, world_under}
+use Rattle.eos_machine.specs.SwitchedSchedules.{Breaks, all_under}
+use Rattle.eos_machine.specs.ShortSchedules.{Commits, Restarts, Fences, Fetches, Omits, Lists, Chains}
 
 pub commits : Commits
 unfolding when
@@ -58,6 +58,6 @@ breaks = record {
 }
 
 -- with no switch
-pub none_is : (c : Config) (w : World) (es : List Event) → run_under c w (all_under none es) ≡ run c w es
+pub none_is : (c : Config) (w : World) (es : List Event) → world_under c w (all_under none es) ≡ world_after c w es
 none_is c w [] = refl
 none_is c w (e ∷ es) = none_is c (step c w e).0 es

@@ -5,7 +5,7 @@ use Rattle.std.proofs.lemmas.List.{get_or-set_same, get_or-set_other, get_or_pas
 use Rattle.std.proofs.lemmas.List.Elements.{filter_map-append}
 use Rattle.std.proofs.lemmas.Bool.{cases_lt}
 use Rattle.eos_batch.specs.declared.marker.Kind.{Kind}
-use Rattle.eos_machine.specs.Places.{Config, txn_place, input_place, listed}
+use Rattle.eos_machine.specs.LogIndexes.{Config, txn_index, input_index, listed}
 use Rattle.eos_machine.specs.Switching.{none}
 use Rattle.eos_machine.specs.World.{Claim, Ongoing, Entry, Item, Fed, State, Marker, Message, Session, World, Event, opening, coord_at, log_at, with_item, with_coord, written, prepared, finished}
 use Rattle.eos_machine.specs.declared.state.Message.TheVariants as messages
@@ -16,7 +16,7 @@ use Rattle.eos_machine.specs.Tests.{is_ongoing, has, ongoing_partitions}
 use Rattle.eos_machine.specs.Answers.{Answer, when}
 use Rattle.eos_machine.specs.Sessions.{produce, commit_offset, commit, end_session, resume_ended, resume, fetch}
 use Rattle.eos_machine.specs.Deliveries.{with_partition, accept, ticked_off, deliver}
-use Rattle.eos_machine.specs.Machine.{step, run}
+use Rattle.eos_machine.specs.Machine.{step, world_after}
 use Rattle.eos_machine.specs.steps.Machine.{happens}
 use Rattle.eos_machine.proofs.Worlds.{each}
 use Rattle.eos_machine.proofs.Resting.{no_log}
@@ -49,10 +49,10 @@ few_item n w p x h = λ a. item_cases (λ q log. length (marks_of a log) ≤ n +
 
 -- a record of the transaction log is none
 few_written : (n : ℕ) (c : Config) (w : World) (a : ℕ) (x : Entry) → Few n w → Few n (written none c w a x)
-few_written n c w a x h = λ b. item_cases (λ q log. length (marks_of b log) ≤ n) w (txn_place c a) (State a x w.events) (h b)
-    (let e : length (marks_of b (log_at w (txn_place c a) ++ State a x w.events ∷ [])) ≡ length (marks_of b (log_at w (txn_place c a))) + 0 =
-    ap length (filter_map-append (mark_in b) (log_at w (txn_place c a)) (State a x w.events ∷ [])) ∙ length-append (marks_of b (log_at w (txn_place c a))) [] in
-    let k = h b (txn_place c a) in omega (arith, e, k)) (omega arith)
+few_written n c w a x h = λ b. item_cases (λ q log. length (marks_of b log) ≤ n) w (txn_index c a) (State a x w.events) (h b)
+    (let e : length (marks_of b (log_at w (txn_index c a) ++ State a x w.events ∷ [])) ≡ length (marks_of b (log_at w (txn_index c a))) + 0 =
+    ap length (filter_map-append (mark_in b) (log_at w (txn_index c a)) (State a x w.events ∷ [])) ∙ length-append (marks_of b (log_at w (txn_index c a))) [] in
+    let k = h b (txn_index c a) in omega (arith, e, k)) (omega arith)
 
 few_if : (n : ℕ) (t : Bool) (x y : Answer) → Few n x.0 → Few n y.0 → Few n (when t x y).0
 unfolding when
@@ -122,7 +122,7 @@ few_fetch n c w q None h = h
 few_fetch n c w q (Some s) h = few_if n _ _ _ h (few_if n _ _ _ h (few_if n _ _ _ h h))
 
 pub few_event : (n : ℕ) (c : Config) (w : World) (e : Event) → Few n w → Few (n + 1) (happens c w e).0
-few_event n c w (events.Feed p) h = few_if (n + 1) _ _ _ (few_more n w h) (few_item n w (input_place c p) (Fed w.events) h)
+few_event n c w (events.Feed p) h = few_if (n + 1) _ _ _ (few_more n w h) (few_item n w (input_index c p) (Fed w.events) h)
 few_event n c w (events.Start a) h =
     let d = few_more n w h in
     few_if (n + 1) _ _ _ d (few_if (n + 1) _ _ _ d (few_if (n + 1) _ _ _ (few_prepared (n + 1) c w a _ _ d) (few_if (n + 1) _ _ _ d (few_written (n + 1) c w a _ d))))
@@ -153,7 +153,7 @@ counted_step c w e h = counted_if _ _ _ h (λ t. record { few = few_event w.even
     next : (n : ℕ) → (n == 2 ^ 31) ≡ false → n ≤ 2 ^ 31 → n + 1 ≤ 2 ^ 31
     next n t l = grind arith
 
-pub counted_run : (c : Config) (w : World) (es : List Event) → IsCounted w → IsCounted (run c w es)
+pub counted_run : (c : Config) (w : World) (es : List Event) → IsCounted w → IsCounted (world_after c w es)
 counted_run c w [] h = h
 counted_run c w (e ∷ es) h = counted_run c (step c w e).0 es (counted_step c w e h)
 

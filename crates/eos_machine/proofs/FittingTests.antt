@@ -7,7 +7,7 @@ use Rattle.std.proofs.lemmas.Bool.{and_parts, and_from, ltb-true, lt-ltb, leb-tr
 use Rattle.eos_machine.specs.declared.config.Config.{Config}
 use Rattle.eos_machine.specs.declared.item.Item.{Item}
 use Rattle.eos_machine.specs.declared.item.Item.TheVariants.{Fed, State, Output, Offset, Marker}
-use Rattle.eos_machine.specs.Places.{application_count, place_count}
+use Rattle.eos_machine.specs.LogIndexes.{application_count, log_count}
 use Rattle.eos_machine.specs.Sessions.{claimed_topic}
 use Rattle.eos_machine.specs.Fitting.{AreAllThere, IsFit}
 use Rattle.eos_machine.specs.Batches.{event_of, last_or}
@@ -23,10 +23,10 @@ all_below n [] h = refl
 all_below n (p ∷ ps) h = and_from (nat_lt p n) (list_all (λ q. nat_lt q n) ps) (lt-ltb p n (All-head (λ q. q < n) p ps h)) (all_below n ps (All-tail (λ q. q < n) p ps h))
 
 there : (c : Config) (ps : List ℕ) → are_all_there c ps ≡ true → AreAllThere c ps
-there c ps h = let b = and_parts (list_all (λ p. nat_lt p (place_count c)) ps) (nat_le (length ps) (place_count c)) h in (below_all (place_count c) ps b.0, leb-true (length ps) (place_count c) b.1)
+there c ps h = let b = and_parts (list_all (λ p. nat_lt p (log_count c)) ps) (nat_le (length ps) (log_count c)) h in (below_all (log_count c) ps b.0, leb-true (length ps) (log_count c) b.1)
 
 are_there : (c : Config) (ps : List ℕ) → AreAllThere c ps → are_all_there c ps ≡ true
-are_there c ps h = and_from _ _ (all_below (place_count c) ps h.0) (le-leb (length ps) (place_count c) h.1)
+are_there c ps h = and_from _ _ (all_below (log_count c) ps h.0) (le-leb (length ps) (log_count c) h.1)
 
 pub fits : (c : Config) (x : Item) → is_fit c x ≡ true → IsFit c x
 fits c (Fed n) h = ltb-true n (2 ^ 63) h

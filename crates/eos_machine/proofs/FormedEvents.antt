@@ -9,7 +9,7 @@ use Rattle.std.proofs.lemmas.Bool.{or_parts}
 use Rattle.eos_batch.specs.declared.marker.Kind.{Kind}
 use Rattle.eos_batch.specs.declared.marker.Kind.TheVariants.{Abort}
 use Rattle.eos_machine.specs.declared.switches.Switches.{Switches}
-use Rattle.eos_machine.specs.Places.{Config, application_count, txn_place, input_place, written_place, listed}
+use Rattle.eos_machine.specs.LogIndexes.{Config, application_count, txn_index, input_index, written_index, listed}
 use Rattle.eos_machine.specs.World.{Claim, Status, Empty, Ongoing, Prepare, Complete, Entry, Item, Fed, State, Output, Offset, Coordinator, Session, Message, World, Event, fresh, opening, log_at, coord_at, with_item, with_coord, said_entry, state_of, written, due_markers, prepared, finished}
 use Rattle.eos_machine.specs.declared.state.Message.TheVariants as messages
 use Rattle.eos_machine.specs.declared.event.Event.TheVariants as events
@@ -18,7 +18,7 @@ use Rattle.eos_machine.specs.Tests.{is_ongoing, has, ongoing_partitions}
 use Rattle.eos_machine.specs.Answers.{Answer, when, Done, Fenced}
 use Rattle.eos_machine.specs.Sessions.{claimed_topic, new_session, sequence_of, after_output, after_offset, after_end, after_resume, sent, produce, commit_offset, commit, end_session, resume_ended, resume, fetch}
 use Rattle.eos_machine.specs.Deliveries.{with_partition, appended, accept, fenced, marked, ticked_off, ticked, deliver}
-use Rattle.eos_machine.specs.Machine.{start_session, start, reread, due_again, queued_again, happens_under, counted, step_under, run_under}
+use Rattle.eos_machine.specs.Machine.{start_session, start, reread, due_again, queued_again, happens_under, counted, step_under, world_under}
 use Rattle.eos_machine.specs.Formed.{Names, IsOfOne, IsFormed}
 use Rattle.eos_machine.proofs.Brokers.{is_lt}
 
@@ -40,7 +40,7 @@ formed_coord : (c : Config) (w : World) (a : ℕ) (s : Coordinator) → IsFormed
 formed_coord c w a s f = record { coordinators = length-set w.coordinators a s ∙ f.coordinators; messages = f.messages; sessions = f.sessions }
 
 formed_written : (u : Switches) (c : Config) (w : World) (a : ℕ) (x : Entry) → IsFormed c w → IsFormed c (written u c w a x)
-formed_written u c w a x f = formed_coord c (with_item w (txn_place c a) (State a (said_entry u c x) w.events)) a (state_of x) (formed_item c w (txn_place c a) (State a (said_entry u c x) w.events) f)
+formed_written u c w a x f = formed_coord c (with_item w (txn_index c a) (State a (said_entry u c x) w.events)) a (state_of x) (formed_item c w (txn_index c a) (State a (said_entry u c x) w.events) f)
 
 markers_named : (c : Config) (a e : ℕ) (k : Kind) (ps : List ℕ) → a < application_count c → All (Names c) (due_markers a e k ps)
 markers_named c a e k [] l = All-nil (Names c)
@@ -98,9 +98,9 @@ message_at c (x ∷ ms) (suc n) h = message_at c ms n (All-tail (Names c) x ms h
 formed_deliver : (u : Switches) (c : Config) (w : World) (n : ℕ) (r : Option Message) → IsFormed c w → NamesIf c r → IsFormed c (deliver u c w n r).0
 formed_deliver u c w n None f h = f
 formed_deliver u c w n (Some (messages.Output a e p s x v)) f h =
-    let o = formed_fenced u c w n (written_place c a p) (Output a e s x v w.events) f in
+    let o = formed_fenced u c w n (written_index c a p) (Output a e s x v w.events) f in
     formed_if c _ _ _ o (λ f1. formed_if c _ _ _ f (λ f2. formed_if c _ _ _ f (λ f3. formed_if c _ _ _ o (λ f4. formed_if c _ _ _ f (λ f5.
-    formed_accept u c w n a (written_place c a p) (Output a e s x v w.events) f)))))
+    formed_accept u c w n a (written_index c a p) (Output a e s x v w.events) f)))))
 formed_deliver u c w n (Some (messages.Offset a e g q v)) f h =
     let o = formed_fenced u c w n 0 (Offset a e q v w.events) f in
     formed_if c _ _ _ f (λ f1. formed_if c _ _ _ f (λ f2. formed_if c _ _ _ o (λ f3. formed_if c _ _ _ o (λ f4. formed_if c _ _ _ f (λ f5.
@@ -190,7 +190,7 @@ all_flat P f m (suc n) h = All-append P (f m) (flat_map f (range_with_len (m + 1
 -- ---- any event, and any list
 
 pub formed_event : (u : Switches) (c : Config) (w : World) (e : Event) → IsFormed c w → IsFormed c (happens_under u c w e).0
-formed_event u c w (events.Feed p) f = formed_if c _ _ _ f (λ f1. formed_item c w (input_place c p) (Fed w.events) f)
+formed_event u c w (events.Feed p) f = formed_if c _ _ _ f (λ f1. formed_item c w (input_index c p) (Fed w.events) f)
 formed_event u c w (events.Start a) f = formed_start u c w a f
 formed_event u c w (events.Produce n p x) f = formed_produce c w n p x (slice_get w.sessions n) f (session_at c w.sessions n f.sessions)
 formed_event u c w (events.Commit n q v) f = formed_commit c w n q v f
@@ -216,6 +216,6 @@ formed_step u c w e f = formed_if c _ _ _ f (λ h. formed_counted c w.events (ha
 pub formed_opening : (c : Config) → IsFormed c (opening c)
 formed_opening c = record { coordinators = length-replicate (application_count c) fresh; messages = All-nil (Names c); sessions = All-nil (IsOfOne c) }
 
-pub formed_run : (c : Config) (w : World) (xs : List (Switches × Event)) → IsFormed c w → IsFormed c (run_under c w xs)
+pub formed_run : (c : Config) (w : World) (xs : List (Switches × Event)) → IsFormed c w → IsFormed c (world_under c w xs)
 formed_run c w [] f = f
 formed_run c w (x ∷ xs) f = formed_run c (step_under x.0 c w x.1).0 xs (formed_step x.0 c w x.1 f)

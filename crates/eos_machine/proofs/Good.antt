@@ -2,7 +2,7 @@
 use Rattle.std.specs.Prelude.{◌≡◌, ℕ, ◌<◌, Bool, true, false, List, [], ◌∷◌, length, ⊤}
 use Rattle.std.specs.List.{All}
 use Rattle.eos_batch.specs.declared.marker.Kind.TheVariants.{Abort}
-use Rattle.eos_machine.specs.Places.{Config, application_count, txn_place, place_count, is_sequenced}
+use Rattle.eos_machine.specs.LogIndexes.{Config, application_count, txn_index, log_count, is_sequenced}
 use Rattle.eos_machine.specs.World.{World, Status, Empty, Ongoing, Prepare, Complete, Entry, Coordinator, Message, fresh, coord_at, log_at, state_of}
 use Rattle.eos_machine.specs.declared.state.Message.TheVariants as messages
 use Rattle.eos_machine.specs.Application.{Mark, IsOrdered}
@@ -51,7 +51,7 @@ Steps s [] = ⊤
 Steps s (x ∷ xs) = Moves s.started s.status s.epoch x.status x.epoch × Steps (state_of x) xs
 
 abbrev pub IsPlace : Config → ℕ → Type 0
-IsPlace c p = p < place_count c
+IsPlace c p = p < log_count c
 
 -- a message names what there is, and an end marker that is due was decided
 abbrev pub IsDue : Config → World → Message → Type 0
@@ -75,8 +75,8 @@ pub record Good (c : Config) (w : World) : Type 0 where
   pub brokers : (a p : ℕ) → IsKept c p (marks_of a (log_at w p))
   pub due : All (IsDue c w) w.messages
   pub read : (a : ℕ) → IsRead (coord_at w a) (reread c w a)
-  pub steps : (a : ℕ) → Steps fresh (entries_of a (log_at w (txn_place c a)))
+  pub steps : (a : ℕ) → Steps fresh (entries_of a (log_at w (txn_index c a)))
   pub places : (a : ℕ) → All (IsPlace c) (coord_at w a).partitions
   pub sessions : All (IsOfOne c) w.sessions
   pub coordinators : length w.coordinators ≡ application_count c
-  pub logs : length w.logs ≡ place_count c
+  pub logs : length w.logs ≡ log_count c

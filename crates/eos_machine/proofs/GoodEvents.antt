@@ -11,7 +11,7 @@ use Rattle.eos_batch.specs.declared.marker.Kind.{Kind}
 use Rattle.eos_batch.specs.declared.marker.Kind.TheVariants.{Commit, Abort}
 use Rattle.eos_touch.specs.Pair.{same_kind}
 use Rattle.std.proofs.lemmas.List.{length-set}
-use Rattle.eos_machine.specs.Places.{Config, application_count, IsConfig, offsets_place, txn_place, input_place, written_place, is_sequenced, same_topic, listed}
+use Rattle.eos_machine.specs.LogIndexes.{Config, application_count, IsConfig, offsets_index, txn_index, input_index, written_index, is_sequenced, same_topic, listed}
 use Rattle.eos_machine.specs.Switching.{none}
 use Rattle.eos_machine.specs.World.{Claim, Status, Empty, Ongoing, Prepare, Complete, Entry, Item, State, Output, Offset, Marker, Coordinator, Session, Message, World, Event, log_at, fresh, coord_at, state_of, with_item, with_coord, written, due_markers, prepared, finished}
 use Rattle.eos_machine.specs.declared.state.Message.TheVariants as messages
@@ -22,7 +22,7 @@ use Rattle.eos_machine.specs.Tests.{is_ongoing, is_prepare, has, is_nil, is_comm
 use Rattle.eos_machine.specs.Answers.{Answer, when}
 use Rattle.eos_machine.specs.Sessions.{claimed_topic, new_session, after_output, after_offset, after_end, after_resume, sent, produce, commit_offset, commit, end_session, resume_ended, resume, fetch}
 use Rattle.eos_machine.specs.Deliveries.{with_partition, accept, deliver_output, deliver_offset, deliver_end, without, ticked_off, deliver_marker, deliver}
-use Rattle.eos_machine.specs.Machine.{feed, start_session, start, reread, due_again, queued_again, restarted, counted, step, run}
+use Rattle.eos_machine.specs.Machine.{feed, start_session, start, reread, due_again, queued_again, restarted, counted, step, world_after}
 use Rattle.eos_machine.specs.steps.Machine.{happens}
 use Rattle.eos_machine.specs.Rest.{decisions_of}
 use Rattle.eos_machine.proofs.Apps.{App, waited, MayBeOpen, Orders, Invariant}
@@ -127,7 +127,7 @@ waited_is (Prepare l) now m k h =
 
 pub record InRange (c : Config) (w : World) (a p : ℕ) : Type 0 where
   pub app : a < length w.coordinators
-  pub txn : txn_place c a < length w.logs
+  pub txn : txn_index c a < length w.logs
   pub part : p < length w.logs
 
 ranges : (c : Config) (w : World) (a p : ℕ) → IsConfig c → Good c w → a < application_count c → IsPlace c p → InRange c w a p
@@ -146,7 +146,7 @@ range_coord c w a p b s r =
     record { app = omega (arith, r.app, e); txn = r.txn; part = r.part }
 
 range_written : (c : Config) (w : World) (a p : ℕ) (x : Entry) → InRange c w a p → InRange c (written none c w a x) a p
-range_written c w a p x r = range_coord c (with_item w (txn_place c a) (State a x w.events)) a p a (state_of x) (range_item c w a p (txn_place c a) (State a x w.events) r)
+range_written c w a p x r = range_coord c (with_item w (txn_index c a) (State a x w.events)) a p a (state_of x) (range_item c w a p (txn_index c a) (State a x w.events) r)
 
 -- ---- what isn't of logs and states
 
@@ -211,7 +211,7 @@ pub record IsFresh (s : Coordinator) : Type 0 where
   pub epoch : s.epoch ≡ 0
 
 began : (c : Config) (w : World) (a : ℕ) → Good c w → ((coord_at w a).started ≡ true) ⊎ IsFresh (coord_at w a)
-began c w a g = elim (began_read fresh (entries_of a (log_at w (txn_place c a))) (inr refl)) [
+began c w a g = elim (began_read fresh (entries_of a (log_at w (txn_index c a))) (inr refl)) [
   | inl l ↦ inl ((g.read a).started ∙ l)
   | inr r ↦ inr (record { status = (g.read a).status ∙ ap (λ (s : Coordinator). s.status) r; epoch = (g.read a).epoch ∙ ap (λ (s : Coordinator). s.epoch) r })
 ]
@@ -286,10 +286,10 @@ joined c w a p e r q =
           let h = and_parts (is_ongoing (coord_at w a).status) (has p (coord_at w a).partitions) t in
           record { there = open_if (coord_at w a).status (coord_at w a).epoch (coord_at w a).partitions (coord_at w a).awaited p e (ongoing_is (coord_at w a).status h.0) (sym q) (has_contains p (coord_at w a).partitions h.1); marks = refl; range = r }
       | false ↦ λ t.
-          let s : coord_at (written none c w a x) a ≡ state_of x = coord_itself (with_item w (txn_place c a) (State a x w.events)) a (state_of x) r.app in
+          let s : coord_at (written none c w a x) a ≡ state_of x = coord_itself (with_item w (txn_index c a) (State a x w.events)) a (state_of x) r.app in
           record {
             there = subst (λ (v : Coordinator). MayBeOpen v.status v.epoch v.partitions v.awaited p e) (sym s) (sym q, listed_itself p (ongoing_partitions (coord_at w a).status (coord_at w a).partitions));
-            marks = view_none (mark_in a) w (txn_place c a) (State a x w.events) refl r.txn p;
+            marks = view_none (mark_in a) w (txn_index c a) (State a x w.events) refl r.txn p;
             range = range_written c w a p x r;
           }
     ] refl
@@ -317,13 +317,13 @@ good_output c w n a e p s x v g r lp =
     good_if c _ _ _ (λ h. g) (λ f4.
     good_if c _ _ _ (λ h. g) (λ f5. good_accept c w n a p e (Some s) (Output a e s x v w.events) g r lp (of_output a e s x v w.events) (not_false _ f4) f5 f (eqb-true s (next_sequence (producer_at w a p) e) (not_false _ f3)))))))
 
-good_offset : (c : Config) (w : World) (n a e y q : ℕ) (v : Option ℕ) → Good c w → InRange c w a offsets_place → Good c (deliver_offset none c w n a e y q v).0
+good_offset : (c : Config) (w : World) (n a e y q : ℕ) (v : Option ℕ) → Good c w → InRange c w a offsets_index → Good c (deliver_offset none c w n a e y q v).0
 good_offset c w n a e y q v g r =
     good_if c _ _ _ (λ h. g) (λ f1.
     good_if c _ _ _ (λ h. g) (λ f2.
     good_if c _ _ _ (λ h. g) (λ f.
     good_if c _ _ _ (λ h. g) (λ f4.
-    good_if c _ _ _ (λ h. g) (λ f5. good_accept c w n a offsets_place e None (Offset a e q v w.events) g r (omega arith) (of_offset a e q v w.events) (not_false _ f4) f5 f (unsequenced c))))))
+    good_if c _ _ _ (λ h. g) (λ f5. good_accept c w n a offsets_index e None (Offset a e q v w.events) g r (omega arith) (of_offset a e q v w.events) (not_false _ f4) f5 f (unsequenced c))))))
   where
     unsequenced : (c : Config) → nat_lt c.transaction_logs 0 ≡ false
     unsequenced c = grind arith
@@ -343,7 +343,7 @@ good_end c w a e k g r =
     (λ h.
     let nil = nil_is (ongoing_partitions (coord_at w a).status (coord_at w a).partitions) h in
     let x : Entry = record { status = Prepare k; epoch = (coord_at w a).epoch + 1; partitions = [] } in
-    let s : coord_at (prepared none c w a k []) a ≡ state_of x = coord_itself (with_item w (txn_place c a) (State a x w.events)) a (state_of x) r.app in
+    let s : coord_at (prepared none c w a k []) a ≡ state_of x = coord_itself (with_item w (txn_index c a) (State a x w.events)) a (state_of x) r.app in
     good_finished c (prepared none c w a k []) a 0 k (good_prepared c w a 0 k [] g r (All-nil (IsPlace c)) (subst (Grows (coord_at w a).status (coord_at w a).partitions) nil grows) mv) (range_prepared c w a 0 k [] r)
     (ap (λ (v : Coordinator). v.status) s) (ap (λ (v : Coordinator). v.awaited) s) (ap (λ (v : Coordinator). v.started) s))
     (λ h. good_prepared c w a 0 k (ongoing_partitions (coord_at w a).status (coord_at w a).partitions) g r (all_ongoing (IsPlace c) (coord_at w a).status (coord_at w a).partitions (g.places a)) grows mv))))
@@ -393,8 +393,8 @@ due_at c w (x ∷ ms) (suc n) h = due_at c w ms n (All-tail (IsDue c w) x ms h)
 good_deliver : (c : Config) (w : World) (n : ℕ) (r : Option Message) → IsConfig c → Good c w → DueIf c w r → Good c (deliver none c w n r).0
 good_deliver c w n None i g d = g
 good_deliver c w n (Some (messages.Output a e p s x v)) i g d =
-    let l : IsPlace c (written_place c a p) = written_there c a p d.1 in
-    good_output c w n a e (written_place c a p) s x v g (ranges c w a (written_place c a p) i g d.0 l) l
+    let l : IsPlace c (written_index c a p) = written_there c a p d.1 in
+    good_output c w n a e (written_index c a p) s x v g (ranges c w a (written_index c a p) i g d.0 l) l
 good_deliver c w n (Some (messages.Offset a e y q v)) i g d = good_offset c w n a e y q v g (ranges c w a 0 i g d (omega arith))
 good_deliver c w n (Some (messages.End a e k)) i g d = good_end c w a e k g (ranges c w a 0 i g d (omega arith))
 good_deliver c w n (Some (messages.Marker a m k p)) i g d = good_marker c w a m k p g (ranges c w a p i g d.0 d.1) d.2
@@ -478,7 +478,7 @@ good_fetch c w q (Some s) g = good_if c _ _ _ (λ h. g) (λ f1. good_if c _ _ _ 
 good_feed : (c : Config) (w : World) (p : ℕ) → Good c w → Good c (feed c w p).0
 good_feed c w p g = good_if c _ _ _ (λ h. g) (λ f.
     let l : p < c.inputs = is_lt p c.inputs (not_false _ f) in
-    good_fed c w (input_place c p) w.events g (omega (arith, l, g.logs)))
+    good_fed c w (input_index c p) w.events g (omega (arith, l, g.logs)))
 
 -- ---- the states are read again
 
@@ -501,7 +501,7 @@ app_restarted : (c : Config) (w : World) (a : ℕ) → IsRead (coord_at w a) (re
 app_restarted c w a r l =
     let s = coord_restarted c w a l in
     app_is _ _ (ap (λ (v : Coordinator). v.status) s ∙ sym r.status) (ap (λ (v : Coordinator). v.epoch) s ∙ sym r.epoch) (ap (λ (v : Coordinator). v.partitions) s ∙ sym r.partitions)
-    (ap (λ (v : Coordinator). v.awaited) s ∙ (read_awaits fresh (entries_of a (log_at w (txn_place c a))) refl ∙ sym r.partitions)) refl (λ p. refl)
+    (ap (λ (v : Coordinator). v.awaited) s ∙ (read_awaits fresh (entries_of a (log_at w (txn_index c a))) refl ∙ sym r.partitions)) refl (λ p. refl)
 
 -- a cluster with other states
 due_restarted : (c : Config) (w : World) (x : Message) → IsDue c w x → IsDue c (restarted c w) x
@@ -570,6 +570,6 @@ good_counted c n x g = good_like c x.0 _ _ _ _ _ g g.due g.sessions
 pub good_step : (c : Config) (w : World) (e : Event) → IsConfig c → Good c w → Good c (step c w e).0
 good_step c w e i g = good_if c _ _ _ (λ h. g) (λ h. good_counted c w.events (happens c w e) (good_event c w e i g))
 
-pub good_run : (c : Config) (w : World) (es : List Event) → IsConfig c → Good c w → Good c (run c w es)
+pub good_run : (c : Config) (w : World) (es : List Event) → IsConfig c → Good c w → Good c (world_after c w es)
 good_run c w [] i g = g
 good_run c w (e ∷ es) i g = good_run c (step c w e).0 es i (good_step c w e i g)

@@ -8,7 +8,7 @@ use Rattle.eos_batch.specs.declared.marker.Kind.{Kind}
 use Rattle.eos_batch.specs.declared.marker.Kind.TheVariants.{Abort}
 use Rattle.eos_machine.specs.declared.switches.Switches.{Switches}
 use Rattle.eos_machine.specs.declared.config.Config.{Config}
-use Rattle.eos_machine.specs.Places.{application_count, txn_place, input_place, written_place, offsets_place, place_count, listed}
+use Rattle.eos_machine.specs.LogIndexes.{application_count, txn_index, input_index, written_index, offsets_index, log_count, listed}
 use Rattle.eos_machine.specs.declared.item.Claim.{Claim}
 use Rattle.eos_machine.specs.declared.item.Status.{Status}
 use Rattle.eos_machine.specs.declared.item.Status.TheVariants.{Empty, Ongoing, Prepare, Complete}
@@ -29,7 +29,7 @@ use Rattle.eos_machine.specs.Tests.{is_ongoing, has, ongoing_partitions}
 use Rattle.eos_machine.specs.Answers.{Answer, when}
 use Rattle.eos_machine.specs.Sessions.{new_session, claimed_topic, sequence_of, after_output, after_offset, after_end, after_resume, sent, produce, commit_offset, commit, end_session, resume_ended, resume, fetch}
 use Rattle.eos_machine.specs.Deliveries.{with_partition, appended, accept, fenced, marked, ticked_off, ticked, without, deliver}
-use Rattle.eos_machine.specs.Machine.{start_session, start, reread, due_again, queued_again, happens_under, counted, step_under, run_under}
+use Rattle.eos_machine.specs.Machine.{start_session, start, reread, due_again, queued_again, happens_under, counted, step_under, world_under}
 use Rattle.eos_machine.specs.Formed.{Names, IsOfOne, IsFormed}
 use Rattle.eos_machine.proofs.Brokers.{is_lt, not_lt}
 use Rattle.eos_machine.proofs.Written.{written_there, source_there}
@@ -123,8 +123,8 @@ said_listed u c ps h = by u.hide_listing
 
 kept_written : (P : List ℕ → Type 0) (c : Config) (k : ℕ) (u : Switches) (w : World) (a : ℕ) (x : Entry) → a < application_count c → w.events < 2 ^ 31 → AreListed c x.partitions → Kept P c k w → Kept P c (k + 1) (written u c w a x)
 kept_written P c k u w a x l n m h =
-    kept_coord P c (k + 1) (with_item w (txn_place c a) (State a (said_entry u c x) w.events)) a (state_of x)
-    (kept_item P c k w (txn_place c a) (State a (said_entry u c x) w.events) h (l, said_listed u c x.partitions m, n)) m
+    kept_coord P c (k + 1) (with_item w (txn_index c a) (State a (said_entry u c x) w.events)) a (state_of x)
+    (kept_item P c k w (txn_index c a) (State a (said_entry u c x) w.events) h (l, said_listed u c x.partitions m, n)) m
 
 markers_kept : (P : List ℕ → Type 0) (c : Config) (a e : ℕ) (k : Kind) (ps : List ℕ) → All (KeptMessage P c) (due_markers a e k ps)
 markers_kept P c a e k [] = All-nil (KeptMessage P c)
@@ -150,7 +150,7 @@ is_new Ongoing p ps h = h
 is_new (Prepare k) p ps h = refl
 is_new (Complete k) p ps h = refl
 
-kept_partition : (P : List ℕ → Type 0) (c : Config) (n : ℕ) (u : Switches) (w : World) (a p : ℕ) → a < application_count c → w.events < 2 ^ 31 → p < place_count c → Kept P c n w → Kept P c (n + 1) (with_partition u c w a p)
+kept_partition : (P : List ℕ → Type 0) (c : Config) (n : ℕ) (u : Switches) (w : World) (a p : ℕ) → a < application_count c → w.events < 2 ^ 31 → p < log_count c → Kept P c n w → Kept P c (n + 1) (with_partition u c w a p)
 kept_partition P c n u w a p l m g h =
     let x : Entry = record { status = Ongoing; epoch = (coord_at w a).epoch; partitions = listed p (ongoing_partitions (coord_at w a).status (coord_at w a).partitions) } in
     elim (is_ongoing (coord_at w a).status && has p (coord_at w a).partitions) as (λ t. (is_ongoing (coord_at w a).status && has p (coord_at w a).partitions) ≡ t → Kept P c (n + 1) (if t then w else written u c w a x)) [
@@ -161,7 +161,7 @@ kept_partition P c n u w a p l m g h =
 kept_appended : (P : List ℕ → Type 0) (c : Config) (k : ℕ) (w : World) (n p : ℕ) (x : Item) → Kept P c k w → KeptItem P c x → Kept P c (k + 1) (appended w n p x)
 kept_appended P c k w n p x h i = let v = kept_item P c k w p x h i in record { coordinators = v.coordinators; logs = v.logs; messages = v.messages; count = v.count }
 
-kept_accept : (P : List ℕ → Type 0) (c : Config) (k : ℕ) (u : Switches) (w : World) (n a p : ℕ) (x : Item) → a < application_count c → w.events < 2 ^ 31 → p < place_count c → Kept P c k w → KeptItem P c x → Kept P c (k + 2) (accept u c w n a p x)
+kept_accept : (P : List ℕ → Type 0) (c : Config) (k : ℕ) (u : Switches) (w : World) (n a p : ℕ) (x : Item) → a < application_count c → w.events < 2 ^ 31 → p < log_count c → Kept P c k w → KeptItem P c x → Kept P c (k + 2) (accept u c w n a p x)
 kept_accept P c k u w n a p x l m g h i =
     let s : k + 1 + 1 ≤ k + 2 = omega arith in
     kept_more P c (k + 1 + 1) (k + 2) _ s (kept_appended P c (k + 1) (with_partition u c w a p) n p x (kept_partition P c k u w a p l m g h) i)
@@ -203,13 +203,13 @@ kept_deliver : (P : List ℕ → Type 0) (c : Config) (n : ℕ) (u : Switches) (
 kept_deliver P c n u w m None e h f i = kept_more P c n (n + 2) w (omega arith) h
 kept_deliver P c n u w m (Some (messages.Output a t p s x v)) e h f i =
     let d : Kept P c (n + 2) w = kept_more P c n (n + 2) w (omega arith) h in
-    let l : written_place c a p < place_count c = written_there c a p f.1 in
-    let o = kept_fenced P c n u w m (written_place c a p) (Output a t s x v w.events) h (f.0, i.0, i.1, e) in
+    let l : written_index c a p < log_count c = written_there c a p f.1 in
+    let o = kept_fenced P c n u w m (written_index c a p) (Output a t s x v w.events) h (f.0, i.0, i.1, e) in
     kept_if P c (n + 2) _ _ _ o (λ f1. kept_if P c (n + 2) _ _ _ d (λ f2. kept_if P c (n + 2) _ _ _ d (λ f3. kept_if P c (n + 2) _ _ _ o (λ f4. kept_if P c (n + 2) _ _ _ d (λ f5.
-    kept_accept P c n u w m a (written_place c a p) (Output a t s x v w.events) f.0 e l h (f.0, i.0, i.1, e))))))
+    kept_accept P c n u w m a (written_index c a p) (Output a t s x v w.events) f.0 e l h (f.0, i.0, i.1, e))))))
 kept_deliver P c n u w m (Some (messages.Offset a t g q v)) e h f i =
     let d : Kept P c (n + 2) w = kept_more P c n (n + 2) w (omega arith) h in
-    let l : 0 < place_count c = omega arith in
+    let l : 0 < log_count c = omega arith in
     let o = kept_fenced P c n u w m 0 (Offset a t q v w.events) h (f, i, e) in
     kept_if P c (n + 2) _ _ _ d (λ f1. kept_if P c (n + 2) _ _ _ d (λ f2. kept_if P c (n + 2) _ _ _ o (λ f3. kept_if P c (n + 2) _ _ _ o (λ f4. kept_if P c (n + 2) _ _ _ d (λ f5.
     kept_accept P c n u w m a 0 (Offset a t q v w.events) f e l h (f, i, e))))))
@@ -313,7 +313,7 @@ due_kept P c a (Prepare k) e ps = markers_kept P c a e k ps
 
 pub kept_event : (P : List ℕ → Type 0) (c : Config) (k : ℕ) (u : Switches) (w : World) (e : Event) → w.events < 2 ^ 31 → IsFormed c w → TopicIs P e → Kept P c k w → Kept P c (k + 2) (happens_under u c w e).0
 kept_event P c k u w (events.Feed p) n f t h =
-    kept_if P c (k + 2) _ _ _ (kept_more P c k (k + 2) w (omega arith) h) (λ f1. kept_more P c (k + 1) (k + 2) _ (omega arith) (kept_item P c k w (input_place c p) (Fed w.events) h n))
+    kept_if P c (k + 2) _ _ _ (kept_more P c k (k + 2) w (omega arith) h) (λ f1. kept_more P c (k + 1) (k + 2) _ (omega arith) (kept_item P c k w (input_index c p) (Fed w.events) h n))
 kept_event P c k u w (events.Start a) n f t h = kept_more P c (k + 1) (k + 2) _ (omega arith) (kept_start P c k u w a n h)
 kept_event P c k u w (events.Produce m p x) n f t h = kept_more P c k (k + 2) _ (omega arith) (kept_produce P c k w m p x (slice_get w.sessions m) n t h)
 kept_event P c k u w (events.Commit m q v) n f t h = kept_more P c k (k + 2) _ (omega arith) (kept_commit P c k w m q v h)
@@ -323,7 +323,7 @@ kept_event P c k u w (events.Fetch m q) n f t h = kept_more P c k (k + 2) _ (ome
 kept_event P c k u w events.Members n f t h = kept_more P c k (k + 2) _ (omega arith) (kept_like P c k w _ _ _ _ h)
 kept_event P c k u w (events.BrokerRestart s p) n f t h = let d = kept_more P c k (k + 2) w (omega arith) h in kept_if P c (k + 2) _ _ _ d (λ f1. d)
 kept_event P c k u w events.CoordinatorRestart n f t h = record {
-  coordinators = all_of_each (λ s. AreListed c s.partitions) (reread c w) (range_with_len 0 (length w.coordinators)) (λ a. last_kept P c fresh a (log_at w (txn_place c a)) (none_listed c) (log_kept P c k w (txn_place c a) h));
+  coordinators = all_of_each (λ s. AreListed c s.partitions) (reread c w) (range_with_len 0 (length w.coordinators)) (λ a. last_kept P c fresh a (log_at w (txn_index c a)) (none_listed c) (log_kept P c k w (txn_index c a) h));
   logs = h.logs;
   messages = All-append (KeptMessage P c) w.messages (flat_map (queued_again c w) (range_with_len 0 (length w.coordinators))) h.messages
       (all_flat (KeptMessage P c) (queued_again c w) (range_with_len 0 (length w.coordinators)) (λ a. due_kept P c a (reread c w a).status (reread c w a).epoch (reread c w a).partitions));

@@ -5,7 +5,7 @@ use Rattle.std.specs.List.{All, filter, list_any}
 use Rattle.std.proofs.lemmas.List.Elements.{All-nil, All-cons, All-head, All-tail}
 use Rattle.std.proofs.lemmas.Bool.{or_parts, eqb-true, eqb-false, ne_eqb}
 use Rattle.eos_machine.specs.declared.config.Config.{Config}
-use Rattle.eos_machine.specs.Places.{place_count, same_topic, listed}
+use Rattle.eos_machine.specs.LogIndexes.{log_count, same_topic, listed}
 use Rattle.eos_machine.specs.Tests.{has}
 use Rattle.eos_machine.specs.Fitting.{AreAllThere}
 
@@ -15,7 +15,7 @@ AreApart [] = ⊤
 AreApart (p ∷ ps) = (has p ps ≡ false) × AreApart ps
 
 abbrev pub AreListed : Config → List ℕ → Type 0
-AreListed c ps = All (λ p. p < place_count c) ps × AreApart ps
+AreListed c ps = All (λ p. p < log_count c) ps × AreApart ps
 
 -- ---- some of them
 
@@ -43,7 +43,7 @@ apart_filter f (p ∷ ps) h = elim (f p) as (λ t. AreApart (cond t (p ∷ filte
 ]
 
 pub listed_filter : (c : Config) (f : ℕ → Bool) (ps : List ℕ) → AreListed c ps → AreListed c (filter f ps)
-listed_filter c f ps h = (all_filter (λ p. p < place_count c) f ps h.0, apart_filter f ps h.1)
+listed_filter c f ps h = (all_filter (λ p. p < log_count c) f ps h.0, apart_filter f ps h.1)
 
 -- ---- one more
 
@@ -77,11 +77,11 @@ all_listed P p (q ∷ qs) h a =
       | false ↦ All-cons P q (listed p qs) (All-head P q qs a) (all_listed P p qs h (All-tail P q qs a))
     ]
 
-pub listed_more : (c : Config) (p : ℕ) (ps : List ℕ) → p < place_count c → has p ps ≡ false → AreListed c ps → AreListed c (listed p ps)
-listed_more c p ps l n h = (all_listed (λ q. q < place_count c) p ps l h.0, apart_listed p ps n h.1)
+pub listed_more : (c : Config) (p : ℕ) (ps : List ℕ) → p < log_count c → has p ps ≡ false → AreListed c ps → AreListed c (listed p ps)
+listed_more c p ps l n h = (all_listed (λ q. q < log_count c) p ps l h.0, apart_listed p ps n h.1)
 
 pub none_listed : (c : Config) → AreListed c []
-none_listed c = (All-nil (λ p. p < place_count c), tt)
+none_listed c = (All-nil (λ p. p < log_count c), tt)
 
 -- ---- how many there are
 
@@ -117,4 +117,4 @@ few (suc n) ps h a =
     omega (arith, l, m)
 
 pub all_there : (c : Config) (ps : List ℕ) → AreListed c ps → AreAllThere c ps
-all_there c ps h = (h.0, few (place_count c) ps h.0 h.1)
+all_there c ps h = (h.0, few (log_count c) ps h.0 h.1)

@@ -14,7 +14,7 @@ use Rattle.eos_evidence.specs.declared.ends.End.{End}
 use Rattle.eos_evidence.specs.Ends.{end_cmp}
 use Rattle.eos_evidence.specs.Topics.{is_internal}
 use Rattle.eos_machine.specs.declared.config.Config.{Config}
-use Rattle.eos_machine.specs.Places.{IsConfig, place_count, offsets_topic, transactions_topic, final_topic, input_topic, output_topic, final_place, input_place, output_place, topic_of, number_of, is_sequenced}
+use Rattle.eos_machine.specs.LogIndexes.{IsConfig, log_count, offsets_topic, transactions_topic, final_topic, input_topic, output_topic, final_index, input_index, output_index, topic_of, number_of, is_sequenced}
 
 -- ---- the five topics
 
@@ -29,16 +29,16 @@ name (suc (suc (suc (suc n)))) = output_topic
 abbrev pub first : Config → ℕ → ℕ
 first c zero = 0
 first c (suc zero) = 1
-first c (suc (suc zero)) = final_place c 0
-first c (suc (suc (suc zero))) = input_place c 0
-first c (suc (suc (suc (suc n)))) = output_place c 0
+first c (suc (suc zero)) = final_index c 0
+first c (suc (suc (suc zero))) = input_index c 0
+first c (suc (suc (suc (suc n)))) = output_index c 0
 
 abbrev pub IsWithin : Config → ℕ → ℕ → Type 0
 IsWithin c p zero = p ≡ 0
 IsWithin c p (suc zero) = (1 ≤ p) × (p ≤ c.transaction_logs)
-IsWithin c p (suc (suc zero)) = (c.transaction_logs < p) × (p < input_place c 0)
-IsWithin c p (suc (suc (suc zero))) = (input_place c 0 ≤ p) × (p < output_place c 0)
-IsWithin c p (suc (suc (suc (suc n)))) = output_place c 0 ≤ p
+IsWithin c p (suc (suc zero)) = (c.transaction_logs < p) × (p < input_index c 0)
+IsWithin c p (suc (suc (suc zero))) = (input_index c 0 ≤ p) × (p < output_index c 0)
+IsWithin c p (suc (suc (suc (suc n)))) = output_index c 0 ≤ p
 
 pub record IsNamed (c : Config) (p k : ℕ) : Type 0 where
   pub within : IsWithin c p k
@@ -46,25 +46,25 @@ pub record IsNamed (c : Config) (p k : ℕ) : Type 0 where
   pub place : p ≡ first c k + number_of c p
 
 pub topic_at : (c : Config) (p : ℕ) → (k : ℕ) × IsNamed c p k
-topic_at c p = by (p == 0) refl (nat_le p c.transaction_logs) refl (nat_lt p (input_place c 0)) refl (nat_lt p (output_place c 0)) refl
+topic_at c p = by (p == 0) refl (nat_le p c.transaction_logs) refl (nat_lt p (input_index c 0)) refl (nat_lt p (output_index c 0)) refl
   where
-    by : (a : Bool) → (p == 0) ≡ a → (b : Bool) → nat_le p c.transaction_logs ≡ b → (h : Bool) → nat_lt p (input_place c 0) ≡ h → (d : Bool) → nat_lt p (output_place c 0) ≡ d → (k : ℕ) × IsNamed c p k
+    by : (a : Bool) → (p == 0) ≡ a → (b : Bool) → nat_le p c.transaction_logs ≡ b → (h : Bool) → nat_lt p (input_index c 0) ≡ h → (d : Bool) → nat_lt p (output_index c 0) ≡ d → (k : ℕ) × IsNamed c p k
     by true e b f h i d g = let z : p ≡ 0 = eqb-true p 0 e in (0, record { within = z; topic = rw e refl; place = rw e z })
     by false e true f h i d g =
         let z = eqb-false p 0 e in let l = leb-true p c.transaction_logs f in
         let n : number_of c p ≡ p - 1 = rw (e, f) refl in
         (1, record { within = (omega (arith, z), l); topic = rw (e, f) refl; place = omega (arith, z, n) })
     by false e false f true i d g =
-        let l = leb-false p c.transaction_logs f in let m = ltb-true p (input_place c 0) i in
-        let n : number_of c p ≡ p - final_place c 0 = rw (e, f, i) refl in
+        let l = leb-false p c.transaction_logs f in let m = ltb-true p (input_index c 0) i in
+        let n : number_of c p ≡ p - final_index c 0 = rw (e, f, i) refl in
         (2, record { within = (l, m); topic = rw (e, f, i) refl; place = omega (arith, l, n) })
     by false e false f false i true g =
-        let l = ltb-false p (input_place c 0) i in let m = ltb-true p (output_place c 0) g in
-        let n : number_of c p ≡ p - input_place c 0 = rw (e, f, i, g) refl in
+        let l = ltb-false p (input_index c 0) i in let m = ltb-true p (output_index c 0) g in
+        let n : number_of c p ≡ p - input_index c 0 = rw (e, f, i, g) refl in
         (3, record { within = (l, m); topic = rw (e, f, i, g) refl; place = omega (arith, l, n) })
     by false e false f false i false g =
-        let m = ltb-false p (output_place c 0) g in
-        let n : number_of c p ≡ p - output_place c 0 = rw (e, f, i, g) refl in
+        let m = ltb-false p (output_index c 0) g in
+        let n : number_of c p ≡ p - output_index c 0 = rw (e, f, i, g) refl in
         (4, record { within = m; topic = rw (e, f, i, g) refl; place = omega (arith, m, n) })
 
 -- ---- sequences are checked outside the internal topics

@@ -11,12 +11,12 @@ use Rattle.eos_machine.specs.declared.item.Item.{Item}
 use Rattle.eos_machine.specs.declared.item.Item.TheVariants.{Fed, State, Output, Offset, Marker}
 use Rattle.eos_machine.specs.declared.event.Event.{Event}
 use Rattle.eos_machine.specs.declared.event.Event.TheVariants as events
-use Rattle.eos_machine.specs.Places.{IsConfig, application_count, place_count}
+use Rattle.eos_machine.specs.LogIndexes.{IsConfig, application_count, log_count}
 use Rattle.eos_machine.specs.World.{World, opening, fresh, log_at}
 use Rattle.eos_machine.specs.Answers.{Answer, when}
 use Rattle.eos_machine.specs.Bounds.{Limit, IsWithin, Bounded}
 use Rattle.eos_machine.specs.Formed.{IsFormed}
-use Rattle.eos_machine.specs.Machine.{happens_under, counted, step_under, run_under}
+use Rattle.eos_machine.specs.Machine.{happens_under, counted, step_under, world_under}
 use Rattle.eos_machine.proofs.BoundedEvents.{bounded_run_under, bounded_opening}
 use Rattle.eos_machine.proofs.FormedEvents.{formed_opening, formed_event}
 use Rattle.eos_machine.specs.Evidences.{HasRoomForAll}
@@ -53,7 +53,7 @@ kept_step P u c w e t h = step_if P c (w.events == 2 ^ 31) _ (counted w.events (
           formed = record { coordinators = f.coordinators; messages = f.messages; sessions = f.sessions };
         }
 
-pub kept_run : (P : List ℕ → Type 0) (c : Config) (w : World) (xs : List (Switches × Event)) → All (λ x. TopicIs P x.1) xs → IsKept P c w → IsKept P c (run_under c w xs)
+pub kept_run : (P : List ℕ → Type 0) (c : Config) (w : World) (xs : List (Switches × Event)) → All (λ x. TopicIs P x.1) xs → IsKept P c w → IsKept P c (world_under c w xs)
 kept_run P c w [] t h = h
 kept_run P c w (x ∷ xs) t h = kept_run P c (step_under x.0 c w x.1).0 xs (All-tail (λ y. TopicIs P y.1) x xs t) (kept_step P x.0 c w x.1 (All-head (λ y. TopicIs P y.1) x xs t) h)
 
@@ -69,9 +69,9 @@ pub kept_opening : (P : List ℕ → Type 0) (c : Config) → IsKept P c (openin
 kept_opening P c = record {
   kept = record {
     coordinators = all_replicated (λ s. AreListed c s.partitions) (application_count c) fresh (none_listed c);
-    logs = all_replicated (All (KeptItem P c)) (place_count c) [] (All-nil (KeptItem P c));
+    logs = all_replicated (All (KeptItem P c)) (log_count c) [] (All-nil (KeptItem P c));
     messages = All-nil (KeptMessage P c);
-    count = let z = none_there (place_count c) in omega (arith, z);
+    count = let z = none_there (log_count c) in omega (arith, z);
   };
   few = omega arith;
   formed = formed_opening c;
@@ -99,7 +99,7 @@ any_topics : (xs : List (Switches × Event)) → All (λ x. TopicIs IsShort x.1)
 any_topics [] = All-nil (λ x. TopicIs IsShort x.1)
 any_topics (x ∷ xs) = All-cons (λ y. TopicIs IsShort y.1) x xs (any_topic x.1) (any_topics xs)
 
-pub kept_reached : (c : Config) (xs : List (Switches × Event)) → IsKept IsShort c (run_under c (opening c) xs)
+pub kept_reached : (c : Config) (xs : List (Switches × Event)) → IsKept IsShort c (world_under c (opening c) xs)
 kept_reached c xs = kept_run IsShort c (opening c) xs (any_topics xs) (kept_opening IsShort c)
 
 -- ---- what fits
@@ -127,9 +127,9 @@ log_within n (l ∷ ls) zero h = All-head (All (IsWithin n)) l ls h
 log_within n (l ∷ ls) (suc p) h = log_within n ls p (All-tail (All (IsWithin n)) l ls h)
 
 -- each log of a state that events lead to
-pub fit_log : (c : Config) (xs : List (Switches × Event)) (p : ℕ) → All (IsFit c) (log_at (run_under c (opening c) xs) p)
+pub fit_log : (c : Config) (xs : List (Switches × Event)) (p : ℕ) → All (IsFit c) (log_at (world_under c (opening c) xs) p)
 fit_log c xs p =
-    let w : World = run_under c (opening c) xs in
+    let w : World = world_under c (opening c) xs in
     let k = kept_reached c xs in
     let b = bounded_run_under c (opening c) xs (bounded_opening c) in
     fit_items c w.events (log_at w p) k.few (log_kept IsShort c (2 * w.events) w p k.kept) (log_within w.events w.logs p b.logs)
@@ -140,13 +140,13 @@ log_total [] p = omega arith
 log_total (l ∷ ls) zero = omega arith
 log_total (l ∷ ls) (suc p) = let r = log_total ls p in omega (arith, r)
 
-pub logs_short : (c : Config) (xs : List (Switches × Event)) (p : ℕ) → length (log_at (run_under c (opening c) xs) p) < 2 ^ 63
+pub logs_short : (c : Config) (xs : List (Switches × Event)) (p : ℕ) → length (log_at (world_under c (opening c) xs) p) < 2 ^ 63
 logs_short c xs p =
-    let w : World = run_under c (opening c) xs in
+    let w : World = world_under c (opening c) xs in
     let k = kept_reached c xs in
     let l = log_total w.logs p in
     omega (arith, k.kept.count, k.few, l)
 
 -- within the room there is evidence of it
-pub writable : (c : Config) (xs : List (Switches × Event)) → IsConfig c → HasRoomForAll c (run_under c (opening c) xs) → IsWritable c (run_under c (opening c) xs)
+pub writable : (c : Config) (xs : List (Switches × Event)) → IsConfig c → HasRoomForAll c (world_under c (opening c) xs) → IsWritable c (world_under c (opening c) xs)
 writable c xs i r = let k = kept_reached c xs in record { sizes = i; fit = fit_log c xs; short = logs_short c xs; count = k.kept.count; room = r }

@@ -6,7 +6,7 @@ use Rattle.std.proofs.lemmas.List.Kept.{AllPairs-cons}
 use Rattle.std.proofs.lemmas.Bool.{cases_lt}
 use Rattle.std.proofs.lemmas.List.{length-replicate}
 use Rattle.eos_batch.specs.declared.marker.Kind.{Kind}
-use Rattle.eos_machine.specs.Places.{Config, application_count, txn_place, place_count, is_sequenced}
+use Rattle.eos_machine.specs.LogIndexes.{Config, application_count, txn_index, log_count, is_sequenced}
 use Rattle.eos_machine.specs.World.{World, Empty, fresh, opening, coord_at, log_at}
 use Rattle.eos_machine.specs.Application.{Mark, Batch, End, Decision, HasOneKind, NoneWhileOpen, first_end, IsOrdered, IsClosed, Fate, Matched, Never}
 use Rattle.eos_machine.specs.Logs.{marks_of, entries_of, decisions_from}
@@ -25,7 +25,7 @@ same_everywhere (suc n) x zero = refl
 same_everywhere (suc n) x (suc i) = same_everywhere n x i
 
 pub no_log : (c : Config) (p : ℕ) → log_at (opening c) p ≡ []
-no_log c p = same_everywhere (place_count c) [] p
+no_log c p = same_everywhere (log_count c) [] p
 
 no_coord : (c : Config) (a : ℕ) → coord_at (opening c) a ≡ fresh
 no_coord c a = same_everywhere (application_count c) fresh a
@@ -35,12 +35,12 @@ good_opening c = record {
   apps = λ a. subst (λ (s : App). Invariant s) (sym (app_none a)) (nothing_keeps (λ p. []) 0 (λ p. refl));
   brokers = λ a p. rw (no_log c p) (broker_none (is_sequenced c p));
   due = All-nil (IsDue c (opening c));
-  read = λ a. rw (no_coord c a, no_log c (txn_place c a)) (record { started = refl; status = refl; epoch = refl; partitions = refl });
-  steps = λ a. rw (no_log c (txn_place c a)) tt;
+  read = λ a. rw (no_coord c a, no_log c (txn_index c a)) (record { started = refl; status = refl; epoch = refl; partitions = refl });
+  steps = λ a. rw (no_log c (txn_index c a)) tt;
   places = λ a. rw (no_coord c a) (All-nil (IsPlace c));
   sessions = All-nil (IsOfOne c);
   coordinators = length-replicate (application_count c) fresh;
-  logs = length-replicate (place_count c) [];
+  logs = length-replicate (log_count c) [];
 }
   where
     app_none : (a : ℕ) → app_of c (opening c) a ≡ record { status = Empty; epoch = 0; partitions = []; awaited = []; decisions = []; marks = λ p. [] }
@@ -49,7 +49,7 @@ good_opening c = record {
       epoch = (no_coord c a i).epoch;
       partitions = (no_coord c a i).partitions;
       awaited = (no_coord c a i).awaited;
-      decisions = decisions_from [] fresh (entries_of a (no_log c (txn_place c a) i));
+      decisions = decisions_from [] fresh (entries_of a (no_log c (txn_index c a) i));
       marks = λ p. marks_of a (no_log c p i);
     }
 

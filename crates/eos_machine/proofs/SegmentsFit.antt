@@ -6,7 +6,7 @@ use Rattle.std.proofs.lemmas.Bool.{cases_lt}
 use Rattle.std.proofs.lemmas.List.Elements.{All-nil, All-cons, All-head, All-tail}
 use Rattle.eos_machine.specs.declared.config.Config.{Config}
 use Rattle.eos_machine.specs.declared.item.Item.{Item}
-use Rattle.eos_machine.specs.Places.{IsConfig, place_count}
+use Rattle.eos_machine.specs.LogIndexes.{IsConfig, log_count}
 use Rattle.eos_machine.specs.World.{World, log_at}
 use Rattle.eos_machine.specs.Evidences.{segment_count, part_at, segment_at, HasRoomForAll}
 use Rattle.eos_machine.specs.Fitting.{IsFit}
@@ -113,9 +113,9 @@ sum_total (l ∷ ls) (suc k) =
 abbrev pub count_at : Config → World → ℕ → ℕ
 count_at c w p = segment_count c (length (log_at w p))
 
-pub room_enough : (c : Config) (w : World) → IsConfig c → total w.logs ≤ 2 * w.events → HasRoomForAll c w → sum (count_at c w) (range_with_len 0 (place_count c)) ≤ 65536
+pub room_enough : (c : Config) (w : World) → IsConfig c → total w.logs ≤ 2 * w.events → HasRoomForAll c w → sum (count_at c w) (range_with_len 0 (log_count c)) ≤ 65536
 room_enough c w i t h =
-    let n : ℕ = place_count c in
+    let n : ℕ = log_count c in
     let r : ℕ = c.segment_records in
     let s : ℕ = sum (count_at c w) (range_with_len 0 n) in
     let a = sum_times (λ p. length (log_at w p)) c 0 n i.segment_records.0 in

@@ -17,7 +17,7 @@ use Rattle.eos_txnlog.proofs.ValueTexts.{value_whole}
 use Rattle.eos_txnlog.proofs.WrittenTexts.{value_written as value_text_is}
 use Rattle.eos_machine.specs.declared.config.Config.{Config}
 use Rattle.eos_machine.specs.declared.item.Entry.{Entry}
-use Rattle.eos_machine.specs.Places.{IsConfig, application_count, place_count, input_place, output_place, offsets_topic, transactions_topic, final_topic, input_topic, output_topic, topic_of, number_of, is_topic}
+use Rattle.eos_machine.specs.LogIndexes.{IsConfig, application_count, log_count, input_index, output_index, offsets_topic, transactions_topic, final_topic, input_topic, output_topic, topic_of, number_of, is_topic}
 use Rattle.eos_machine.specs.Rest.{with_number, by_topic, value_of}
 use Rattle.eos_machine.specs.declared.item.Item.{Item}
 use Rattle.eos_machine.specs.declared.item.Item.TheVariants.{Fed, State, Output, Offset, Marker}
@@ -31,7 +31,7 @@ use Rattle.eos_machine.proofs.ByteTexts.{no_bytes, known_bytes, i8_bytes, i16_by
 -- ---- topics and their numbers
 
 topic_bytes : (c : Config) (p : ℕ) → IsBytes (topic_of c p)
-topic_bytes c p = by (p == 0) (nat_le p c.transaction_logs) (nat_lt p (input_place c 0)) (nat_lt p (output_place c 0))
+topic_bytes c p = by (p == 0) (nat_le p c.transaction_logs) (nat_lt p (input_index c 0)) (nat_lt p (output_index c 0))
   where
     by : (x y f z : Bool) → IsBytes (if x then offsets_topic else if y then transactions_topic else if f then final_topic else if z then input_topic else output_topic)
     by true y f z = known_bytes offsets_topic refl
@@ -55,13 +55,13 @@ with_one topic k (t ∷ ts) b l h =
       | false ↦ All-cons IsWritten (record { topic = topic; numbers = pos k ∷ [] }) (t ∷ ts) (b, number_more k [] l (All-nil (FitsSigned w32))) h
     ]
 
-grouped : (c : Config) (ps : List ℕ) → IsConfig c → All (λ p. p < place_count c) ps → All IsWritten (by_topic c ps)
+grouped : (c : Config) (ps : List ℕ) → IsConfig c → All (λ p. p < log_count c) ps → All IsWritten (by_topic c ps)
 grouped c [] i h = All-nil IsWritten
 grouped c (p ∷ ps) i h =
     let n = number_small c p in
     let f = place_few c i in
-    let l = All-head (λ q. q < place_count c) p ps h in
-    with_one (topic_of c p) (number_of c p) (by_topic c ps) (topic_bytes c p) (omega (arith, n, f, l)) (grouped c ps i (All-tail (λ q. q < place_count c) p ps h))
+    let l = All-head (λ q. q < log_count c) p ps h in
+    with_one (topic_of c p) (number_of c p) (by_topic c ps) (topic_bytes c p) (omega (arith, n, f, l)) (grouped c ps i (All-tail (λ q. q < log_count c) p ps h))
 
 -- ---- their bytes
 

@@ -6,7 +6,7 @@ use Rattle.std.specs.List.{cons_option}
 use Rattle.std.proofs.lemmas.Int.{ints}
 use Rattle.eos_batch.specs.declared.marker.Kind.TheVariants.{Commit, Abort}
 use Rattle.eos_txnlog.specs.Following.{step_verdict}
-use Rattle.eos_machine.specs.Places.{Config}
+use Rattle.eos_machine.specs.LogIndexes.{Config}
 use Rattle.eos_machine.specs.World.{Status, Empty, Ongoing, Prepare, Complete, Entry, Item, Fed, State, Output, Offset, Marker, fresh, state_of}
 use Rattle.eos_machine.specs.Logs.{entries_of}
 use Rattle.eos_machine.specs.Rest.{value_of, values_of, EachStep}

@@ -12,7 +12,7 @@ use Rattle.eos_touch.specs.declared.touch.Touch.TheVariants as touches
 use Rattle.eos_batch.specs.declared.marker.Kind.TheVariants.{Commit, Abort}
 use Rattle.eos_touch.specs.Pair.{sequence_at, is_first, first_sequence, sequence, zombie_epoch, epoch_while_open, no_bump, mixed_producer, marker_kind, same_kind, pair_verdict}
 use Rattle.eos_touch.specs.Neighbours.{EachAfter, Accepts, KeepsOrder}
-use Rattle.eos_machine.specs.Places.{Config, is_sequenced}
+use Rattle.eos_machine.specs.LogIndexes.{Config, is_sequenced}
 use Rattle.eos_machine.specs.World.{World, log_at, Item, Fed, State, Output, Offset, Marker}
 use Rattle.eos_machine.specs.Application.{Mark, Batch, End, HasOneKind, NoneWhileOpen}
 use Rattle.eos_machine.specs.Logs.{marks_of}

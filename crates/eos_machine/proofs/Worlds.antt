@@ -6,7 +6,7 @@ use Rattle.std.proofs.lemmas.List.Elements.{filter_map-append, All-weaker}
 use Rattle.std.proofs.lemmas.Bool.{eqb-true, eq-eqb, false_from_ne_true}
 use Rattle.eos_batch.specs.declared.marker.Kind.{Kind}
 use Rattle.std.proofs.lemmas.List.{length-set}
-use Rattle.eos_machine.specs.Places.{Config, txn_place}
+use Rattle.eos_machine.specs.LogIndexes.{Config, txn_index}
 use Rattle.eos_machine.specs.Switching.{none}
 use Rattle.eos_machine.specs.World.{Claim, Status, Empty, Ongoing, Prepare, Complete, Entry, Item, Fed, State, Output, Offset, Marker, Coordinator, Message, World, log_at, fresh, coord_at, state_of, with_item, with_coord, written}
 use Rattle.eos_machine.specs.declared.state.Message.TheVariants as messages
@@ -63,10 +63,10 @@ view_some h w p x t e l = each (λ q. filter_map h (log_at (with_item w p x) q) 
     (λ q n. ap (filter_map h) (log_other w p x q n) ∙ sym (rw (not_same q p n) refl))
 
 pub app_same : (c : Config) (w : World) (p : ℕ) (x : Item) (b : ℕ) → mark_in b x ≡ None → entry_in b x ≡ None → p < length w.logs → app_of c (with_item w p x) b ≡ app_of c w b
-app_same c w p x b m n l = app_is _ _ refl refl refl refl (ap (decisions_from [] fresh) (view_none (entry_in b) w p x n l (txn_place c b))) (view_none (mark_in b) w p x m l)
+app_same c w p x b m n l = app_is _ _ refl refl refl refl (ap (decisions_from [] fresh) (view_none (entry_in b) w p x n l (txn_index c b))) (view_none (mark_in b) w p x m l)
 
 pub app_pushed : (c : Config) (w : World) (p : ℕ) (x : Item) (b : ℕ) (t : Mark) → mark_in b x ≡ Some t → entry_in b x ≡ None → p < length w.logs → app_of c (with_item w p x) b ≡ push_mark (app_of c w b) p t
-app_pushed c w p x b t m n l = app_is _ _ refl refl refl refl (ap (decisions_from [] fresh) (view_none (entry_in b) w p x n l (txn_place c b))) (view_some (mark_in b) w p x t m l)
+app_pushed c w p x b t m n l = app_is _ _ refl refl refl refl (ap (decisions_from [] fresh) (view_none (entry_in b) w p x n l (txn_index c b))) (view_some (mark_in b) w p x t m l)
 
 -- ---- a state more
 
@@ -125,9 +125,9 @@ good_item c w p x a t g is l inv kept = record {
       (λ q. subst (IsKept c q) (sym (view_some (mark_in a) w p x t is.itself l q))
       (pushed_cases (λ r ts. IsKept c r ts) (λ r. marks_of a (log_at w r)) p t (λ r n. g.brokers a r) kept q))
       (λ b n q. subst (IsKept c q) (sym (view_none (mark_in b) w p x (is.others b n) l q)) (g.brokers b q));
-  due = All-weaker (IsDue c w) (IsDue c (with_item w p x)) (due_same c w (with_item w p x) (λ b. ap (decisions_from [] fresh) (view_none (entry_in b) w p x (is.no_entry b) l (txn_place c b)))) w.messages g.due;
-  steps = λ b. subst (Steps fresh) (sym (view_none (entry_in b) w p x (is.no_entry b) l (txn_place c b))) (g.steps b);
-  read = λ b. read_same _ _ _ (ap (last_state fresh) (view_none (entry_in b) w p x (is.no_entry b) l (txn_place c b))) (g.read b);
+  due = All-weaker (IsDue c w) (IsDue c (with_item w p x)) (due_same c w (with_item w p x) (λ b. ap (decisions_from [] fresh) (view_none (entry_in b) w p x (is.no_entry b) l (txn_index c b)))) w.messages g.due;
+  steps = λ b. subst (Steps fresh) (sym (view_none (entry_in b) w p x (is.no_entry b) l (txn_index c b))) (g.steps b);
+  read = λ b. read_same _ _ _ (ap (last_state fresh) (view_none (entry_in b) w p x (is.no_entry b) l (txn_index c b))) (g.read b);
   places = g.places;
   sessions = g.sessions;
   coordinators = g.coordinators;
@@ -138,9 +138,9 @@ pub good_fed : (c : Config) (w : World) (p m : ℕ) → Good c w → p < length 
 good_fed c w p m g l = record {
   apps = λ b. subst Invariant (sym (app_same c w p (Fed m) b refl refl l)) (g.apps b);
   brokers = λ b q. subst (IsKept c q) (sym (view_none (mark_in b) w p (Fed m) refl l q)) (g.brokers b q);
-  due = All-weaker (IsDue c w) (IsDue c (with_item w p (Fed m))) (due_same c w (with_item w p (Fed m)) (λ b. ap (decisions_from [] fresh) (view_none (entry_in b) w p (Fed m) refl l (txn_place c b)))) w.messages g.due;
-  steps = λ b. subst (Steps fresh) (sym (view_none (entry_in b) w p (Fed m) (refl) l (txn_place c b))) (g.steps b);
-  read = λ b. read_same _ _ _ (ap (last_state fresh) (view_none (entry_in b) w p (Fed m) refl l (txn_place c b))) (g.read b);
+  due = All-weaker (IsDue c w) (IsDue c (with_item w p (Fed m))) (due_same c w (with_item w p (Fed m)) (λ b. ap (decisions_from [] fresh) (view_none (entry_in b) w p (Fed m) refl l (txn_index c b)))) w.messages g.due;
+  steps = λ b. subst (Steps fresh) (sym (view_none (entry_in b) w p (Fed m) (refl) l (txn_index c b))) (g.steps b);
+  read = λ b. read_same _ _ _ (ap (last_state fresh) (view_none (entry_in b) w p (Fed m) refl l (txn_index c b))) (g.read b);
   places = g.places;
   sessions = g.sessions;
   coordinators = g.coordinators;
@@ -175,8 +175,8 @@ decisions_snoc : (ds : List Decision) (s : Coordinator) (xs : List Entry) (x : E
 decisions_snoc ds s [] x = refl
 decisions_snoc ds s (y ∷ ys) x = decisions_snoc (with_decision ds y.status s.epoch y) (state_of y) ys x
 
-entries_more : (c : Config) (w : World) (a : ℕ) (x : Entry) → txn_place c a < length w.logs → entries_of a (log_at (with_item w (txn_place c a) (State a x w.events)) (txn_place c a)) ≡ entries_of a (log_at w (txn_place c a)) ++ x ∷ []
-entries_more c w a x l = ap (filter_map (entry_in a)) (log_itself w (txn_place c a) (State a x w.events) l) ∙ item_some (entry_in a) (log_at w (txn_place c a)) (State a x w.events) x (rw (is_same a) refl)
+entries_more : (c : Config) (w : World) (a : ℕ) (x : Entry) → txn_index c a < length w.logs → entries_of a (log_at (with_item w (txn_index c a) (State a x w.events)) (txn_index c a)) ≡ entries_of a (log_at w (txn_index c a)) ++ x ∷ []
+entries_more c w a x l = ap (filter_map (entry_in a)) (log_itself w (txn_index c a) (State a x w.events) l) ∙ item_some (entry_in a) (log_at w (txn_index c a)) (State a x w.events) x (rw (is_same a) refl)
 
 no_entry_of : (a b : ℕ) (x : Entry) (m : ℕ) → b ≢ a → entry_in b (State a x m) ≡ None
 no_entry_of a b x m n = rw (not_same a b (λ q. n (sym q))) refl
@@ -192,18 +192,18 @@ after_entry c w a x = record {
   marks = (app_of c w a).marks;
 }
 
-decisions_written : (c : Config) (w : World) (a : ℕ) (x : Entry) → txn_place c a < length w.logs → IsRead (coord_at w a) (reread c w a)
+decisions_written : (c : Config) (w : World) (a : ℕ) (x : Entry) → txn_index c a < length w.logs → IsRead (coord_at w a) (reread c w a)
     → (app_of c (written none c w a x) a).decisions ≡ with_decision (app_of c w a).decisions x.status (coord_at w a).epoch x
 decisions_written c w a x l r =
     ap (decisions_from [] fresh) (entries_more c w a x l)
-    ∙ (decisions_snoc [] fresh (entries_of a (log_at w (txn_place c a))) x
+    ∙ (decisions_snoc [] fresh (entries_of a (log_at w (txn_index c a))) x
     ∙ ap (λ (e : ℕ). with_decision (app_of c w a).decisions x.status e x) (sym r.epoch))
 
-pub app_written : (c : Config) (w : World) (a : ℕ) (x : Entry) → a < length w.coordinators → txn_place c a < length w.logs → IsRead (coord_at w a) (reread c w a) → app_of c (written none c w a x) a ≡ after_entry c w a x
+pub app_written : (c : Config) (w : World) (a : ℕ) (x : Entry) → a < length w.coordinators → txn_index c a < length w.logs → IsRead (coord_at w a) (reread c w a) → app_of c (written none c w a x) a ≡ after_entry c w a x
 app_written c w a x la l r =
-    let s : coord_at (written none c w a x) a ≡ state_of x = coord_itself (with_item w (txn_place c a) (State a x w.events)) a (state_of x) la in
+    let s : coord_at (written none c w a x) a ≡ state_of x = coord_itself (with_item w (txn_index c a) (State a x w.events)) a (state_of x) la in
     app_is _ _ (ap (λ (v : Coordinator). v.status) s) (ap (λ (v : Coordinator). v.epoch) s) (ap (λ (v : Coordinator). v.partitions) s) (ap (λ (v : Coordinator). v.awaited) s)
-    (decisions_written c w a x l r) (view_none (mark_in a) w (txn_place c a) (State a x w.events) refl l)
+    (decisions_written c w a x l r) (view_none (mark_in a) w (txn_index c a) (State a x w.events) refl l)
 
 grown : (ds : List Decision) (t : Status) (e : ℕ) (x : Entry) (p m : ℕ) (k : Kind) → IsOrdered ds p m k → IsOrdered (with_decision ds t e x) p m k
 grown ds Empty e x p m k h = h
@@ -224,31 +224,31 @@ steps_snoc s (y ∷ ys) x h m = (h.0, steps_snoc (state_of y) ys x h.1 m)
 moves_read : (s t : Coordinator) (x : Entry) → IsRead s t → Moves s.started s.status s.epoch x.status x.epoch → Moves t.started t.status t.epoch x.status x.epoch
 moves_read s t x r m = subst (λ (b : Bool). Moves b t.status t.epoch x.status x.epoch) r.started (subst (λ (u : Status). Moves s.started u t.epoch x.status x.epoch) r.status (subst (λ (e : ℕ). Moves s.started s.status e x.status x.epoch) r.epoch m))
 
-pub good_written : (c : Config) (w : World) (a : ℕ) (x : Entry) → Good c w → a < length w.coordinators → txn_place c a < length w.logs → All (IsPlace c) x.partitions → Invariant (after_entry c w a x) → Moves (coord_at w a).started (coord_at w a).status (coord_at w a).epoch x.status x.epoch → Good c (written none c w a x)
+pub good_written : (c : Config) (w : World) (a : ℕ) (x : Entry) → Good c w → a < length w.coordinators → txn_index c a < length w.logs → All (IsPlace c) x.partitions → Invariant (after_entry c w a x) → Moves (coord_at w a).started (coord_at w a).status (coord_at w a).epoch x.status x.epoch → Good c (written none c w a x)
 good_written c w a x g la l ps inv mv =
     let other : (b : ℕ) → b ≢ a → app_of c (written none c w a x) b ≡ app_of c w b =
-    λ b n. app_coord_other c (with_item w (txn_place c a) (State a x w.events)) a (state_of x) b n ∙ app_same c w (txn_place c a) (State a x w.events) b refl (no_entry_of a b x w.events n) l in
+    λ b n. app_coord_other c (with_item w (txn_index c a) (State a x w.events)) a (state_of x) b n ∙ app_same c w (txn_index c a) (State a x w.events) b refl (no_entry_of a b x w.events n) l in
     record {
       apps = each (λ b. Invariant (app_of c (written none c w a x) b)) a (subst Invariant (sym (app_written c w a x la l (g.read a))) inv) (λ b n. subst Invariant (sym (other b n)) (g.apps b));
-      brokers = λ b q. subst (IsKept c q) (sym (view_none (mark_in b) w (txn_place c a) (State a x w.events) refl l q)) (g.brokers b q);
+      brokers = λ b q. subst (IsKept c q) (sym (view_none (mark_in b) w (txn_index c a) (State a x w.events) refl l q)) (g.brokers b q);
       due = All-weaker (IsDue c w) (IsDue c (written none c w a x)) (due_grown c w (written none c w a x)
           (each (λ b. (p m : ℕ) (k : Kind) → IsOrdered (app_of c w b).decisions p m k → IsOrdered (app_of c (written none c w a x) b).decisions p m k) a
           (λ p m k h. subst (λ (ds : List Decision). IsOrdered ds p m k) (sym (decisions_written c w a x l (g.read a))) (grown (app_of c w a).decisions x.status (coord_at w a).epoch x p m k h))
           (λ b n p m k h. subst (λ (s : App). IsOrdered s.decisions p m k) (sym (other b n)) h))) w.messages g.due;
-      steps = each (λ b. Steps fresh (entries_of b (log_at (written none c w a x) (txn_place c b)))) a
-          (subst (Steps fresh) (sym (entries_more c w a x l)) (steps_snoc fresh (entries_of a (log_at w (txn_place c a))) x (g.steps a) (moves_read (coord_at w a) (reread c w a) x (g.read a) mv)))
-          (λ b n. subst (Steps fresh) (sym (view_none (entry_in b) w (txn_place c a) (State a x w.events) (no_entry_of a b x w.events n) l (txn_place c b))) (g.steps b));
+      steps = each (λ b. Steps fresh (entries_of b (log_at (written none c w a x) (txn_index c b)))) a
+          (subst (Steps fresh) (sym (entries_more c w a x l)) (steps_snoc fresh (entries_of a (log_at w (txn_index c a))) x (g.steps a) (moves_read (coord_at w a) (reread c w a) x (g.read a) mv)))
+          (λ b n. subst (Steps fresh) (sym (view_none (entry_in b) w (txn_index c a) (State a x w.events) (no_entry_of a b x w.events n) l (txn_index c b))) (g.steps b));
       read = each (λ b. IsRead (coord_at (written none c w a x) b) (reread c (written none c w a x) b)) a
-          (let s : coord_at (written none c w a x) a ≡ state_of x = coord_itself (with_item w (txn_place c a) (State a x w.events)) a (state_of x) la in
-          let t : reread c (written none c w a x) a ≡ state_of x = ap (last_state fresh) (entries_more c w a x l) ∙ last_snoc fresh (entries_of a (log_at w (txn_place c a))) x in
+          (let s : coord_at (written none c w a x) a ≡ state_of x = coord_itself (with_item w (txn_index c a) (State a x w.events)) a (state_of x) la in
+          let t : reread c (written none c w a x) a ≡ state_of x = ap (last_state fresh) (entries_more c w a x l) ∙ last_snoc fresh (entries_of a (log_at w (txn_index c a))) x in
           let e : coord_at (written none c w a x) a ≡ reread c (written none c w a x) a = s ∙ sym t in
           record { started = ap (λ (v : Coordinator). v.started) e; status = ap (λ (v : Coordinator). v.status) e; epoch = ap (λ (v : Coordinator). v.epoch) e; partitions = ap (λ (v : Coordinator). v.partitions) e })
-          (λ b n. subst (λ (v : Coordinator). IsRead v (reread c (written none c w a x) b)) (sym (coord_other (with_item w (txn_place c a) (State a x w.events)) a (state_of x) b n))
-          (read_same _ _ _ (ap (last_state fresh) (view_none (entry_in b) w (txn_place c a) (State a x w.events) (no_entry_of a b x w.events n) l (txn_place c b))) (g.read b)));
+          (λ b n. subst (λ (v : Coordinator). IsRead v (reread c (written none c w a x) b)) (sym (coord_other (with_item w (txn_index c a) (State a x w.events)) a (state_of x) b n))
+          (read_same _ _ _ (ap (last_state fresh) (view_none (entry_in b) w (txn_index c a) (State a x w.events) (no_entry_of a b x w.events n) l (txn_index c b))) (g.read b)));
       places = each (λ b. All (IsPlace c) (coord_at (written none c w a x) b).partitions) a
-          (subst (λ (v : Coordinator). All (IsPlace c) v.partitions) (sym (coord_itself (with_item w (txn_place c a) (State a x w.events)) a (state_of x) la)) ps)
-          (λ b n. subst (λ (v : Coordinator). All (IsPlace c) v.partitions) (sym (coord_other (with_item w (txn_place c a) (State a x w.events)) a (state_of x) b n)) (g.places b));
+          (subst (λ (v : Coordinator). All (IsPlace c) v.partitions) (sym (coord_itself (with_item w (txn_index c a) (State a x w.events)) a (state_of x) la)) ps)
+          (λ b n. subst (λ (v : Coordinator). All (IsPlace c) v.partitions) (sym (coord_other (with_item w (txn_index c a) (State a x w.events)) a (state_of x) b n)) (g.places b));
       sessions = g.sessions;
       coordinators = length-set w.coordinators a (state_of x) ∙ g.coordinators;
-      logs = length-set w.logs (txn_place c a) (log_at w (txn_place c a) ++ State a x w.events ∷ []) ∙ g.logs;
+      logs = length-set w.logs (txn_index c a) (log_at w (txn_index c a) ++ State a x w.events ∷ []) ∙ g.logs;
     }

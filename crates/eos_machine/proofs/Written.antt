@@ -2,18 +2,18 @@
 use Rattle.std.proofs.Common.{◌≡◌, ℕ, ◌+◌, ◌<◌, ◌≤◌, ◌==◌, ◌&&◌, Bool, true, false, sym, subst, arith, if◌then◌else◌}
 use Rattle.std.specs.Prelude.{nat_le, nat_lt}
 use Rattle.std.proofs.lemmas.Bool.{and_parts}
-use Rattle.eos_machine.specs.Places.{Config, IsConfig, application_count, final_count, is_chained, is_source, final_place, output_place, place_count, written_place}
+use Rattle.eos_machine.specs.LogIndexes.{Config, IsConfig, application_count, final_count, is_chained, is_source, final_index, output_index, log_count, written_index}
 use Rattle.eos_machine.proofs.Brokers.{is_lt}
 
 -- a partition that an application writes comes after the internal ones
-pub written_after : (c : Config) (a p : ℕ) → c.transaction_logs < written_place c a p
+pub written_after : (c : Config) (a p : ℕ) → c.transaction_logs < written_index c a p
 written_after c a p = by (is_chained c a)
   where
-    by : (t : Bool) → c.transaction_logs < (if t then final_place c p else output_place c p)
+    by : (t : Bool) → c.transaction_logs < (if t then final_index c p else output_index c p)
     by true = omega arith
     by false = omega arith
 
-pub written_there : (c : Config) (a p : ℕ) → p < c.outputs → written_place c a p < place_count c
+pub written_there : (c : Config) (a p : ℕ) → p < c.outputs → written_index c a p < log_count c
 written_there c a p l = by c.chain (a == c.applications)
   where
     by : (t u : Bool) → (if t && u then 1 + c.transaction_logs + p else 1 + c.transaction_logs + (if t then c.outputs else 0) + c.inputs + p)

@@ -20,7 +20,7 @@ use Rattle.eos_machine.specs.declared.item.Claim.{Claim}
 use Rattle.eos_machine.specs.declared.item.Item.{Item}
 use Rattle.eos_machine.specs.declared.item.Item.TheVariants.{Fed, State, Output, Offset, Marker}
 use Rattle.eos_machine.specs.declared.item.Entry.{Entry}
-use Rattle.eos_machine.specs.Places.{input_topic, output_topic}
+use Rattle.eos_machine.specs.LogIndexes.{input_topic, output_topic}
 use Rattle.eos_machine.specs.Rest.{producer_id, value_of}
 use Rattle.eos_machine.specs.declared.writer.Writer.{Writer}
 use Rattle.eos_machine.specs.Grouping.{joining}

@@ -5,7 +5,7 @@ use Rattle.std.specs.Prelude.{ℕ, ◌+◌, ◌==◌, nat_lt, false, not, ◌&&�
 use Rattle.std.specs.List.{filter}
 use Rattle.eos_batch.specs.declared.marker.Kind.{Kind}
 use Rattle.eos_machine.specs.declared.switches.Switches.{Switches}
-use Rattle.eos_machine.specs.Places.{Config, offsets_place, written_place, listed}
+use Rattle.eos_machine.specs.LogIndexes.{Config, offsets_index, written_index, listed}
 use Rattle.eos_machine.specs.World.{World, Claim, Item, Output, Offset, Ongoing, Coordinator, Message, coord_at, log_at, with_item, with_coord, with_accepted, written, prepared, finished}
 use Rattle.eos_machine.specs.declared.state.Message.TheVariants as messages
 use Rattle.eos_machine.specs.Logs.{producer_at}
@@ -48,10 +48,10 @@ abbrev pub deliver_offset : Switches → Config → World → ℕ → ℕ → �
 deliver_offset u c w n a e g q v =
     when (slice_index_or w.accepted n false) (w, DuplicateKept) (
     when (is_stale u g w.generation) (w, StaleGeneration) (
-    when (nat_lt e (producer_at w a offsets_place).high) (fenced u w n offsets_place (Offset a e q v w.events)) (
-    when (not (is_current (coord_at w a) e)) (fenced u w n offsets_place (Offset a e q v w.events)) (
+    when (nat_lt e (producer_at w a offsets_index).high) (fenced u w n offsets_index (Offset a e q v w.events)) (
+    when (not (is_current (coord_at w a) e)) (fenced u w n offsets_index (Offset a e q v w.events)) (
     when (is_prepare (coord_at w a).status) (w, Busy) (
-    (accept u c w n a offsets_place (Offset a e q v w.events), Done (length (log_at w offsets_place))))))))
+    (accept u c w n a offsets_index (Offset a e q v w.events), Done (length (log_at w offsets_index))))))))
 
 -- ---- ends
 
@@ -92,7 +92,7 @@ deliver_marker u c w a m k p =
 
 abbrev pub deliver : Switches → Config → World → ℕ → Option Message → Answer
 deliver u c w n None = (w, Unknown)
-deliver u c w n (Some (messages.Output a e p s x v)) = deliver_output u c w n a e (written_place c a p) s x v
+deliver u c w n (Some (messages.Output a e p s x v)) = deliver_output u c w n a e (written_index c a p) s x v
 deliver u c w n (Some (messages.Offset a e g q v)) = deliver_offset u c w n a e g q v
 deliver u c w n (Some (messages.End a e k)) = deliver_end u c w a e k
 deliver u c w n (Some (messages.Marker a m k p)) = deliver_marker u c w a m k p

@@ -6,11 +6,11 @@ use Rattle.eos_evidence.specs.declared.application.App.{App}
 use Rattle.eos_evidence.specs.declared.ends.End.{End}
 use Rattle.eos_evidence.specs.declared.segment.Segment.{Segment}
 use Rattle.eos_evidence.specs.declared.fault.AddFault.{AddFault}
-use Rattle.eos_evidence.specs.Parts.{Parts, accepted}
+use Rattle.eos_evidence.specs.Members.{Members, accepted}
 use Rattle.eos_evidence.specs.Evidence.{EvidenceParts, without_segments, added}
 use Rattle.eos_machine.specs.declared.config.Config.{Config}
 use Rattle.eos_machine.specs.declared.item.Item.{Item}
-use Rattle.eos_machine.specs.Places.{place_count, topic_of, number_of, final_topic, input_topic, output_topic}
+use Rattle.eos_machine.specs.LogIndexes.{log_count, topic_of, number_of, final_topic, input_topic, output_topic}
 use Rattle.eos_machine.specs.World.{World, log_at}
 use Rattle.eos_batch.specs.declared.batch.Batch.{Batch}
 use Rattle.eos_machine.specs.Batches.{group, batches_from, texts_of, AreTexts, AreRead, second_group}
@@ -30,8 +30,8 @@ groups_of c = if c.chain then application ∷ second_application ∷ [] else app
 abbrev pub end_of : Config → World → ℕ → End
 end_of c w p = record { topic = topic_of c p; partition = pos (number_of c p); end = pos (length (log_at w p)) }
 
-abbrev pub parts_of : Config → World → Parts
-parts_of c w = record { apps = groups_of c; ends = map (end_of c w) (range_with_len 0 (place_count c)) }
+abbrev pub parts_of : Config → World → Members
+parts_of c w = record { apps = groups_of c; ends = map (end_of c w) (range_with_len 0 (log_count c)) }
 
 -- how many segments so many records take
 abbrev pub segment_count : Config → ℕ → ℕ
@@ -58,7 +58,7 @@ abbrev pub log_segments : Config → ℕ → List Item → List Segment
 log_segments c p log = map (segment_at c p log) (range_with_len 0 (segment_count c (length log)))
 
 abbrev pub cluster_segments : Config → World → List Segment
-cluster_segments c w = flat_map (λ p. log_segments c p (log_at w p)) (range_with_len 0 (place_count c))
+cluster_segments c w = flat_map (λ p. log_segments c p (log_at w p)) (range_with_len 0 (log_count c))
 
 -- evidence with these segments more
 abbrev pub adding : EvidenceParts → List Segment → Result EvidenceParts AddFault
@@ -72,11 +72,11 @@ pub record HaveTexts (c : Config) (log : List Item) : Type 0 where
 
 -- the evidence that is made of the cluster's parts and of exactly its segments, in which each batch's bytes are a text of it
 pub record IsEvidenceOf (c : Config) (w : World) (e : EvidenceParts) : Type 0 where
-  pub spec : Parts
+  pub spec : Members
   pub accepted : accepted (parts_of c w) ≡ Ok spec
   pub added : adding (without_segments spec) (cluster_segments c w) ≡ Ok e
-  pub written : (p : ℕ) → p < place_count c → HaveTexts c (log_at w p)
+  pub written : (p : ℕ) → p < log_count c → HaveTexts c (log_at w p)
 
 -- two segments an event at the most, cut short only at the end of a partition: as many as evidence may have
 abbrev pub HasRoomForAll : Config → World → Type 0
-HasRoomForAll c w = (2 * w.events) / c.segment_records + place_count c ≤ 65536
+HasRoomForAll c w = (2 * w.events) / c.segment_records + log_count c ≤ 65536

@@ -4,12 +4,12 @@ use Rattle.std.specs.List.{All}
 use Rattle.eos_machine.specs.declared.config.Config.{Config}
 use Rattle.eos_machine.specs.declared.item.Item.{Item}
 use Rattle.eos_machine.specs.declared.item.Item.TheVariants.{Fed, State, Output, Offset, Marker}
-use Rattle.eos_machine.specs.Places.{application_count, place_count}
+use Rattle.eos_machine.specs.LogIndexes.{application_count, log_count}
 use Rattle.eos_machine.specs.Sessions.{claimed_topic}
 
 -- partitions that there are, and no more than there are
 abbrev pub AreAllThere : Config → List ℕ → Type 0
-AreAllThere c ps = All (λ p. p < place_count c) ps × (length ps ≤ place_count c)
+AreAllThere c ps = All (λ p. p < log_count c) ps × (length ps ≤ log_count c)
 
 -- the application, the producer epoch, the sequence, the claim's topic and what else is named are as small as a cluster has them
 abbrev pub IsFit : Config → Item → Type 0

@@ -5,7 +5,7 @@ use Rattle.eos_machine.specs.declared.config.Config.{Config}
 use Rattle.eos_machine.specs.declared.state.Session.{Session}
 use Rattle.eos_machine.specs.declared.state.Message.{Message}
 use Rattle.eos_machine.specs.declared.state.Message.TheVariants.{Output, Offset, End, Marker}
-use Rattle.eos_machine.specs.Places.{application_count}
+use Rattle.eos_machine.specs.LogIndexes.{application_count}
 use Rattle.eos_machine.specs.World.{World}
 
 -- the application and the partition of a message

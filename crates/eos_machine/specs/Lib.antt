@@ -1,4 +1,4 @@
-pub mod Places
+pub mod LogIndexes
 pub mod Switching
 pub mod World
 pub mod Application
@@ -10,8 +10,8 @@ pub mod Sessions
 pub mod Deliveries
 pub mod Machine
 pub mod Rest
-pub mod Runs
-pub mod SwitchedRuns
+pub mod ShortSchedules
+pub mod SwitchedSchedules
 pub mod Bounds
 pub mod Formed
 pub mod steps

@@ -4,7 +4,7 @@ use Rattle.std.specs.List.{flat_map, range_with_len}
 use Rattle.eos_batch.specs.declared.marker.Kind.TheVariants.{Abort}
 use Rattle.eos_machine.specs.declared.switches.Switches.{Switches}
 use Rattle.eos_machine.specs.Switching.{none}
-use Rattle.eos_machine.specs.Places.{Config, application_count, txn_place, input_place, is_partition}
+use Rattle.eos_machine.specs.LogIndexes.{Config, application_count, txn_index, input_index, is_partition}
 use Rattle.eos_machine.specs.World.{World, Status, Empty, Ongoing, Prepare, Complete, Fed, Coordinator, Message, Event, Reply, fresh, coord_at, log_at, with_item, with_messages, with_sessions, with_generation, written, due_markers, prepared}
 use Rattle.eos_machine.specs.declared.event.Event.TheVariants as events
 use Rattle.eos_machine.specs.Logs.{entries_of, last_state}
@@ -16,7 +16,7 @@ use Rattle.eos_machine.specs.Deliveries.{deliver}
 abbrev pub feed : Config → World → ℕ → Answer
 feed c w p =
     when (not (nat_lt p c.inputs)) (w, Unknown) (
-    (with_item w (input_place c p) (Fed w.events), Done (length (log_at w (input_place c p)))))
+    (with_item w (input_index c p) (Fed w.events), Done (length (log_at w (input_index c p)))))
 
 -- ---- a session begins (KIP-98, "Getting a producer Id")
 
@@ -36,7 +36,7 @@ start u c w a =
 -- ---- the coordinator restarts: states are read from the log, and the end markers of prepared ones are queued again
 
 abbrev pub reread : Config → World → ℕ → Coordinator
-reread c w a = last_state fresh (entries_of a (log_at w (txn_place c a)))
+reread c w a = last_state fresh (entries_of a (log_at w (txn_index c a)))
 
 abbrev pub due_again : Status → ℕ → ℕ → List ℕ → List Message
 due_again Empty a e ps = []
@@ -84,17 +84,17 @@ abbrev pub step : Config → World → Event → Answer
 step c w e = step_under none c w e
 
 -- each event under its own switches
-abbrev pub run_under : Config → World → List (Switches × Event) → World
-run_under c w [] = w
-run_under c w (x ∷ xs) = run_under c (step_under x.0 c w x.1).0 xs
+abbrev pub world_under : Config → World → List (Switches × Event) → World
+world_under c w [] = w
+world_under c w (x ∷ xs) = world_under c (step_under x.0 c w x.1).0 xs
 
 abbrev pub replies_under : Config → World → List (Switches × Event) → List Reply
 replies_under c w [] = []
 replies_under c w (x ∷ xs) = (step_under x.0 c w x.1).1 ∷ replies_under c (step_under x.0 c w x.1).0 xs
 
-abbrev pub run : Config → World → List Event → World
-run c w [] = w
-run c w (e ∷ es) = run c (step c w e).0 es
+abbrev pub world_after : Config → World → List Event → World
+world_after c w [] = w
+world_after c w (e ∷ es) = world_after c (step c w e).0 es
 
 abbrev pub replies : Config → World → List Event → List Reply
 replies c w [] = []

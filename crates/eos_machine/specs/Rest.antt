@@ -10,7 +10,7 @@ use Rattle.eos_txnlog.specs.declared.status.Status.TheVariants as statuses
 use Rattle.eos_txnlog.specs.declared.value.TxnValue.{TxnValue}
 use Rattle.eos_txnlog.specs.declared.partitions.TopicPartitions.{TopicPartitions}
 use Rattle.eos_txnlog.specs.Following.{step_verdict}
-use Rattle.eos_machine.specs.Places.{Config, txn_place, topic_of, number_of, is_topic, is_sequenced}
+use Rattle.eos_machine.specs.LogIndexes.{Config, txn_index, topic_of, number_of, is_topic, is_sequenced}
 use Rattle.eos_machine.specs.World.{World, Status, Empty, Ongoing, Prepare, Complete, Entry, Item, Fed, State, Output, Offset, Marker, fresh, coord_at, log_at}
 use Rattle.eos_machine.specs.Application.{Mark, Decision, IsAtomic}
 use Rattle.eos_machine.specs.Logs.{entries_of, marks_of, decisions_from}
@@ -90,7 +90,7 @@ EachStep before [] = ⊤
 EachStep before (v ∷ vs) = (step_verdict before (Some v) ≡ Ok tt) × EachStep (Some v) vs
 
 abbrev pub StepsFit : Config → World → Type 0
-StepsFit c w = (a : ℕ) → EachStep None (values_of c a (log_at w (txn_place c a)))
+StepsFit c w = (a : ℕ) → EachStep None (values_of c a (log_at w (txn_index c a)))
 
 -- ---- at rest
 
@@ -100,7 +100,7 @@ IsAtRest w = (a : ℕ) → (is_ongoing (coord_at w a).status ≡ false) × (is_p
 
 -- the decisions of an application, by its records
 abbrev pub decisions_of : Config → World → ℕ → List Decision
-decisions_of c w a = decisions_from [] fresh (entries_of a (log_at w (txn_place c a)))
+decisions_of c w a = decisions_from [] fresh (entries_of a (log_at w (txn_index c a)))
 
 -- the batches and markers of an application in a partition
 abbrev pub marks_at : World → ℕ → ℕ → List Mark

@@ -3,7 +3,7 @@ use Rattle.std.specs.Prelude.{ℕ, ◌-◌, ◌==◌, nat_lt, Bool, false, not, 
 use Rattle.eos_batch.specs.declared.marker.Kind.{Kind}
 use Rattle.eos_batch.specs.declared.marker.Kind.TheVariants.{Commit, Abort}
 use Rattle.eos_machine.specs.declared.switches.Switches.{Switches}
-use Rattle.eos_machine.specs.Places.{Config, is_odd_output}
+use Rattle.eos_machine.specs.LogIndexes.{Config, is_odd_output}
 use Rattle.eos_machine.specs.World.{Item, Marker, Producer}
 use Rattle.eos_machine.specs.Logs.{is_epoch, next_sequence, not_above}
 

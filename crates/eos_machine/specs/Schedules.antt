@@ -3,9 +3,9 @@ use Rattle.std.specs.Prelude.{◌≡◌, List}
 use Rattle.eos_evidence.specs.Evidence.{EvidenceParts}
 use Rattle.eos_machine.specs.declared.config.Config.{Config}
 use Rattle.eos_machine.specs.declared.event.Event.{Event}
-use Rattle.eos_machine.specs.Places.{IsConfig}
+use Rattle.eos_machine.specs.LogIndexes.{IsConfig}
 use Rattle.eos_machine.specs.World.{World, opening}
-use Rattle.eos_machine.specs.Machine.{run}
+use Rattle.eos_machine.specs.Machine.{world_after}
 use Rattle.eos_machine.specs.Rest.{IsAtRest}
 use Rattle.eos_machine.specs.Evidences.{IsEvidenceOf}
 
@@ -15,6 +15,6 @@ pub record IsOfSchedule (e : EvidenceParts) : Type 0 where
   pub world : World
   pub events : List Event
   pub sizes : IsConfig config
-  pub run : world ≡ run config (opening config) events
+  pub world_after : world ≡ world_after config (opening config) events
   pub rest : IsAtRest world
   pub evidence : IsEvidenceOf config world e

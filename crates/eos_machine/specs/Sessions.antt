@@ -2,7 +2,7 @@
 use Rattle.std.specs.Prelude.{ℕ, ◌+◌, ◌==◌, nat_lt, ℤ, pos, negsuc, Bool, false, not, ◌&&◌, ◌||◌, List, [], ◌∷◌, ◌++◌, length, replicate, slice_get, slice_index_or, slice_set, Option, Some, None}
 use Rattle.std.specs.List.{list_any}
 use Rattle.eos_batch.specs.declared.marker.Kind.{Kind}
-use Rattle.eos_machine.specs.Places.{Config, offsets_place, is_source}
+use Rattle.eos_machine.specs.LogIndexes.{Config, offsets_index, is_source}
 use Rattle.eos_machine.specs.World.{World, Claim, Session, Message, coord_at, log_at, with_messages, with_sessions}
 use Rattle.eos_machine.specs.declared.state.Message.TheVariants as messages
 use Rattle.eos_machine.specs.Logs.{has_open_commit, committed_offset}
@@ -89,5 +89,5 @@ fetch c w q None = (w, Unknown)
 fetch c w q (Some s) =
     when (not (is_source c s.application q)) (w, Unknown) (
     when (not (s.generation == w.generation)) (w, StaleGeneration) (
-    when (has_open_commit q (log_at w offsets_place)) (w, Busy) (
-    (w, Done (committed_offset q (log_at w offsets_place))))))
+    when (has_open_commit q (log_at w offsets_index)) (w, Busy) (
+    (w, Done (committed_offset q (log_at w offsets_index))))))

@@ -3,7 +3,7 @@ use Rattle.std.specs.Prelude.{ℕ, ◌+◌, Bool, true, false, not, List, [], �
 use Rattle.std.specs.List.{filter}
 use Rattle.eos_batch.specs.declared.marker.Kind.{Kind}
 use Rattle.eos_machine.specs.declared.switches.Switches.{Switches}
-use Rattle.eos_machine.specs.Places.{Config, application_count, txn_place, place_count, is_odd_output}
+use Rattle.eos_machine.specs.LogIndexes.{Config, application_count, txn_index, log_count, is_odd_output}
 pub use Rattle.eos_machine.specs.declared.item.Claim.{Claim}
 pub use Rattle.eos_machine.specs.declared.item.Status.{Status}
 pub use Rattle.eos_machine.specs.declared.item.Status.TheVariants.{Empty, Ongoing, Prepare, Complete}
@@ -38,7 +38,7 @@ fresh = record { started = false; status = Empty; epoch = 0; partitions = []; aw
 
 abbrev pub opening : Config → World
 opening c = record {
-  logs = replicate (place_count c) [];
+  logs = replicate (log_count c) [];
   coordinators = replicate (application_count c) fresh;
   messages = [];
   accepted = [];
@@ -91,7 +91,7 @@ said_entry u c x = record { status = x.status; epoch = x.epoch; partitions = sai
 
 -- a record is written, and this is the state
 abbrev pub recorded : Config → World → ℕ → Entry → Coordinator → World
-recorded c w a x s = with_coord (with_item w (txn_place c a) (State a x w.events)) a s
+recorded c w a x s = with_coord (with_item w (txn_index c a) (State a x w.events)) a s
 
 -- the state is what the record should say
 abbrev pub written : Switches → Config → World → ℕ → Entry → World

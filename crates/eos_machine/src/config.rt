@@ -1,7 +1,7 @@
 //! How large a cluster is.
 
 ghost use Rattle.std.specs.Prelude.{◌≡◌, ◌≤◌};
-ghost use Rattle.eos_machine.specs.Places.{IsConfig, application_count, final_count, is_chained};
+ghost use Rattle.eos_machine.specs.LogIndexes.{IsConfig, application_count, final_count, is_chained};
 
 /// The sizes of a simulated cluster. Its partitions are, by place in its list of logs: the one of `__consumer_offsets`,
 /// those of `__transaction_state`, those of `fin` where there is a second group, those of `in`, those of `out`.

@@ -4,8 +4,8 @@ use bytes::Bytes;
 use eos_base::Listed;
 use eos_batch::Kind;
 
-/// Partitions, as places in a cluster's list of logs.
-pub type Places = Listed<usize>;
+/// Partitions, as indexes in a cluster's list of logs.
+pub type LogIndexes = Listed<usize>;
 
 /// Where an output record comes from: the five lineage headers of its record.
 #[derive(Clone, Debug, PartialEq, Eq, Drop)]
@@ -34,7 +34,7 @@ pub enum Status {
 pub struct Entry {
     pub status: Status,
     pub epoch: u16,
-    pub partitions: Places,
+    pub partitions: LogIndexes,
 }
 
 /// A batch of one record. `event` is the number of the event that appended it, which is its timestamp.

@@ -4,54 +4,54 @@
 
 ghost use Rattle.std.specs.Prelude.{◌≡◌, List, ◌≤◌, ◌^◌};
 ghost use Rattle.eos_machine.specs.Bounds.{Bounded};
-ghost use Rattle.eos_machine.specs.Places.{Config, IsConfig};
+ghost use Rattle.eos_machine.specs.LogIndexes.{Config, IsConfig};
 ghost use Rattle.eos_machine.specs.World.{Event, opening};
 ghost use Rattle.eos_machine.specs.declared.switches.Switches.{Switches};
 ghost use Rattle.eos_machine.specs.Switching.{none};
 ghost use Rattle.eos_machine.specs.Formed.{IsFormed};
-ghost use Rattle.eos_machine.specs.Machine.{run, run_under};
+ghost use Rattle.eos_machine.specs.Machine.{world_after, world_under};
 ghost use Rattle.eos_machine.specs.Rest.{KeepsSequences, NeighboursFit, StepsFit, IsAtRest, AllAtomic};
-ghost use Rattle.eos_machine.specs.Runs.{Commits, Restarts, Fences, Fetches, Omits, Lists, Chains};
-ghost use Rattle.eos_machine.specs.SwitchedRuns.{Breaks, all_under};
+ghost use Rattle.eos_machine.specs.ShortSchedules.{Commits, Restarts, Fences, Fetches, Omits, Lists, Chains};
+ghost use Rattle.eos_machine.specs.SwitchedSchedules.{Breaks, all_under};
 
 /// At any time no fault of a sequence or of an epoch stands at any batch: none of the kinds FirstSequence, Sequence,
 /// ZombieEpoch and NoBump. Each broker keeps this by its own partition's log.
 pub fn sequences_kept()
-    ensures { (c : Config) (es : List Event) → IsConfig c → KeepsSequences c (run c (opening c) es) }
+    ensures { (c : Config) (es : List Event) → IsConfig c → KeepsSequences c (world_after c (opening c) es) }
 {}
 
 /// At any time each record of the transaction log may follow the one before it of its transactional id.
 pub fn steps_fit()
-    ensures { (c : Config) (es : List Event) → IsConfig c → StepsFit c (run c (opening c) es) }
+    ensures { (c : Config) (es : List Event) → IsConfig c → StepsFit c (world_after c (opening c) es) }
 {}
 
 /// At any time epochs are at most 32767, those of data at most 32766, and sequences below the number of events taken,
 /// which is at most 2^31: all fit the fields of the logs.
 pub fn numbers_fit()
-    ensures { (c : Config) (es : List Event) → Bounded (run c (opening c) es).events (run c (opening c) es) × ((run c (opening c) es).events ≤ 2 ^ 31) }
+    ensures { (c : Config) (es : List Event) → Bounded (world_after c (opening c) es).events (world_after c (opening c) es) × ((world_after c (opening c) es).events ≤ 2 ^ 31) }
 {}
 
 /// Whatever switches are on, and whenever, numbers fit as far, and what messages and sessions name is there: no event of a
 /// cluster that breaks rules is refused for its numbers.
 pub fn fits_under_switches()
-    ensures numbers { (c : Config) (xs : List (Switches × Event)) → Bounded (run_under c (opening c) xs).events (run_under c (opening c) xs) }
-    ensures names { (c : Config) (xs : List (Switches × Event)) → IsFormed c (run_under c (opening c) xs) }
+    ensures numbers { (c : Config) (xs : List (Switches × Event)) → Bounded (world_under c (opening c) xs).events (world_under c (opening c) xs) }
+    ensures names { (c : Config) (xs : List (Switches × Event)) → IsFormed c (world_under c (opening c) xs) }
 {}
 
 /// With no switch on events lead where they lead in a cluster without switches.
 pub fn no_switch()
-    ensures { (c : Config) (es : List Event) → run_under c (opening c) (all_under none es) ≡ run c (opening c) es }
+    ensures { (c : Config) (es : List Event) → world_under c (opening c) (all_under none es) ≡ world_after c (opening c) es }
 {}
 
 /// At rest the batches, the markers and the decisions of each application fit together: each batch is ended by the
 /// marker of its decision, each marker was decided, and each listed partition has it.
 pub fn atomic_at_rest()
-    ensures { (c : Config) (es : List Event) → IsConfig c → IsAtRest (run c (opening c) es) → AllAtomic c (run c (opening c) es) }
+    ensures { (c : Config) (es : List Event) → IsConfig c → IsAtRest (world_after c (opening c) es) → AllAtomic c (world_after c (opening c) es) }
 {}
 
 /// At rest each batch may follow the one before it of its producer id in its partition: no kind of fault stands.
 pub fn neighbours_fit_at_rest()
-    ensures { (c : Config) (es : List Event) → IsConfig c → IsAtRest (run c (opening c) es) → NeighboursFit c (run c (opening c) es) }
+    ensures { (c : Config) (es : List Event) → IsConfig c → IsAtRest (world_after c (opening c) es) → NeighboursFit c (world_after c (opening c) es) }
 {}
 
 /// The machine moves: short schedules with their replies and logs, computed from the definitions.

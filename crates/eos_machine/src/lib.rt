@@ -14,7 +14,7 @@ mod writer;
 
 pub use config::Config;
 pub use event::{Event, Reply};
-pub use item::{Claim, Entry, Item, Places, Status};
+pub use item::{Claim, Entry, Item, LogIndexes, Status};
 pub use state::{Coordinator, Message, Producer, Session};
 pub use switches::{Switch, Switches};
 pub use writer::Writer;

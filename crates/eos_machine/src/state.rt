@@ -1,6 +1,6 @@
 //! What the members of a cluster hold in memory, and what is on its way between them.
 
-use crate::item::{Claim, Places, Status};
+use crate::item::{Claim, LogIndexes, Status};
 use eos_base::Listed;
 use eos_batch::Kind;
 
@@ -12,8 +12,8 @@ pub struct Coordinator {
     pub started: bool,
     pub status: Status,
     pub epoch: u16,
-    pub partitions: Places,
-    pub awaited: Places,
+    pub partitions: LogIndexes,
+    pub awaited: LogIndexes,
 }
 
 /// What a broker holds of a producer id in one partition.

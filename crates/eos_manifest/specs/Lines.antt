@@ -7,8 +7,8 @@ use Rattle.eos_manifest.specs.Divided.{last_split, lines_of}
 use Rattle.eos_manifest.specs.Numbers.{number_below}
 
 -- a topic's name and a number of 31 bits
-abbrev pub place_in : List ℕ → List ℕ → Option (List ℕ × ℤ)
-place_in topic number = if is_topic topic then option_map (λ n. (topic, pos n)) (number_below (2 ^ 31) number) else None
+abbrev pub name_in : List ℕ → List ℕ → Option (List ℕ × ℤ)
+name_in topic number = if is_topic topic then option_map (λ n. (topic, pos n)) (number_below (2 ^ 31) number) else None
 
 -- such a place, and an offset of 63 bits
 abbrev pub end_at : List ℕ → Option (List ℕ × ℤ) → Option End
@@ -18,7 +18,7 @@ end_at offset place =
 -- a topic, a number and an offset between colons
 abbrev pub end_between : List ℕ → Option End
 end_between text =
-    option_and_then (λ outer. option_and_then (λ inner. end_at outer.1 (place_in inner.0 inner.1)) (last_split 58 outer.0)) (last_split 58 text)
+    option_and_then (λ outer. option_and_then (λ inner. end_at outer.1 (name_in inner.0 inner.1)) (last_split 58 outer.0)) (last_split 58 text)
 
 -- a line that Windows wrote ends in a carriage return before its line feed
 abbrev pub ends_in_return : List ℕ → Bool
@@ -50,4 +50,4 @@ ends_said_by text = ends_from 1 (lines_of text)
 
 -- the partition whose log a folder of this name holds: the last hyphen divides
 abbrev pub partition_in_name : List ℕ → Option (List ℕ × ℤ)
-partition_in_name name = option_and_then (λ parts. place_in parts.0 parts.1) (last_split 45 name)
+partition_in_name name = option_and_then (λ parts. name_in parts.0 parts.1) (last_split 45 name)

@@ -1,6 +1,6 @@
 //! The applications of a manifest, where they stand in its JSON value.
 
-use crate::place::{Owner, Place};
+use crate::element::{Owner, Element};
 use crate::types::array_at;
 use crate::words::Words;
 use eos_evidence::SpecFault;
@@ -27,7 +27,7 @@ impl<'a> AppList<'a> {
         Ok(AppList { values, are_listed })
     }
 
-    /// Whose members those of the application at this place are.
+    /// Whose members those of the application at this index are.
     pub(crate) fn owner(self, at: usize) -> Owner {
         if self.are_listed {
             Owner::App(at)
@@ -40,11 +40,11 @@ impl<'a> AppList<'a> {
 /// Whether a manifest is of version 2, where it isn't of version 1.
 fn is_version_two(words: &mut Words<'_>, manifest: &Value) -> Result<bool, SpecFault> {
     if !manifest.is_object() {
-        let place = Place::Whole(Owner::Manifest);
+        let place = Element::Whole(Owner::Manifest);
         words.add_another(place, manifest, "an object");
         return Err(SpecFault::Field);
     }
-    let place = Place::Member(Owner::Manifest, "version");
+    let place = Element::Member(Owner::Manifest, "version");
     let Some(version) = manifest.get("version") else {
         words.add_absent(Owner::Manifest, "version");
         return Err(SpecFault::Field);

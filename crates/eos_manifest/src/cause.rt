@@ -2,7 +2,7 @@
 
 ghost use Rattle.std.specs.Prelude.{◌≡◌, IfSome};
 
-use crate::json_place::parse;
+use crate::json_stop::parse;
 use crate::position::line_and_column;
 use crate::search::search;
 use crate::words::Words;
@@ -18,7 +18,7 @@ pub struct SpecCause {
     pub line: usize,
     /// The character of that line, from 1.
     pub column: usize,
-    /// The place, what stands there and what is wanted: a part of a sentence, without a line's end.
+    /// The element, what stands there and what is wanted: a part of a sentence, without a line's end.
     pub text: String,
 }
 

@@ -1,15 +1,15 @@
 //! How the folder of a partition's log is named: its topic, a hyphen and its number.
 
 ghost use Rattle.std.specs.Prelude.{◌≡◌, IfOk, option_map};
-ghost use Rattle.eos_manifest.specs.Lines.{place_in, partition_in_name};
+ghost use Rattle.eos_manifest.specs.Lines.{name_in, partition_in_name};
 
 use crate::divided::split_at_last;
 use crate::number::read_partition;
 use crate::topic_name::is_topic_name;
 
 /// A topic and a partition's number, where both may be such.
-pub(crate) fn read_place<'a>(topic: &'a [u8], number: &[u8]) -> Option<(&'a [u8], i32)>
-    ensures { option_map (λ r. (r.0.now, r.1)) result ≡ place_in topic.now number.now }
+pub(crate) fn read_name_in<'a>(topic: &'a [u8], number: &[u8]) -> Option<(&'a [u8], i32)>
+    ensures { option_map (λ r. (r.0.now, r.1)) result ≡ name_in topic.now number.now }
 {
     if !is_topic_name(topic) {
         return None;
@@ -23,5 +23,5 @@ pub fn read_folder_name(name: &[u8]) -> Option<(&[u8], i32)>
     ensures { option_map (λ r. (r.0.now, r.1)) result ≡ partition_in_name name.now }
 {
     let (topic, number) = split_at_last(name, b'-')?;
-    read_place(topic, number)
+    read_name_in(topic, number)
 }

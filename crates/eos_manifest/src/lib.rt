@@ -1,7 +1,7 @@
 //! Manifests beside their reader: why one is refused, and how one is made for logs that were copied from a broker. It knows
 //! no files.
 //!
-//! A refusal is told in words for the manifest's writer: which place of the file, what stands there and what is wanted. It is
+//! A refusal is told in words for the manifest's writer: which element of the file, what stands there and what is wanted. It is
 //! asked for after a refusal, reads the text again and finds the first of the tests that fails, in the order of `parse_spec`.
 //! A manifest is made of what the words and the lines of Kafka's tool say, which partitions the transaction log lists, and
 //! where a log ends.
@@ -15,13 +15,13 @@ mod divided;
 mod folder_name;
 mod front;
 mod head;
-mod json_place;
+mod json_stop;
 mod listing;
 mod manifest;
 mod names;
 mod number;
 mod offset_line;
-mod place;
+mod element;
 mod position;
 mod repeats;
 mod search;

@@ -6,7 +6,7 @@ ghost use Rattle.eos_manifest.specs.steps.Pieces.{end_of};
 ghost use Rattle.eos_manifest.specs.declared.offset_line.EndsFault.TheVariants.{OutOfMemory};
 
 use crate::divided::{after_mark, first_piece, split_at_last};
-use crate::folder_name::read_place;
+use crate::folder_name::read_name_in;
 use crate::number::read_offset;
 use bytes::Bytes;
 use eos_evidence::End;
@@ -64,7 +64,7 @@ pub fn read_ends(alloc: Global, text: &[u8]) -> Result<Vec<End>, EndsFault>
 fn read_line(alloc: Global, line: &[u8]) -> Result<Option<End>, AllocError>
     ensures { IfOk result (λ end. end ≡ end_in_line line.now) }
 {
-    let Some((topic, partition, end)) = parts_of_line(without_return(line)) else {
+    let Some((topic, partition, end)) = fields_of_line(without_return(line)) else {
         return Ok(None);
     };
     let topic = Bytes::copy_from_slice(alloc, topic)?;
@@ -85,12 +85,12 @@ fn without_return(line: &[u8]) -> &[u8]
     &line[..line.len() - 1]
 }
 
-fn parts_of_line(line: &[u8]) -> Option<(&[u8], i32, i64)>
+fn fields_of_line(line: &[u8]) -> Option<(&[u8], i32, i64)>
     ensures { option_map (λ r. end_of r.0.now r.1 r.2) result ≡ end_between line.now }
 {
     let (place, offset) = split_at_last(line, b':')?;
     let (topic, partition) = split_at_last(place, b':')?;
-    let (topic, partition) = read_place(topic, partition)?;
+    let (topic, partition) = read_name_in(topic, partition)?;
     let offset = read_offset(offset)?;
     Some((topic, partition, offset))
 }

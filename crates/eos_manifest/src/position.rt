@@ -1,6 +1,6 @@
-//! Where a place of a manifest stands in its text. The kit's reader of JSON passes over what stands before it.
+//! Where an element of a manifest stands in its text. The kit's reader of JSON passes over what stands before it.
 
-use crate::place::{Owner, Place};
+use crate::element::{Owner, Element};
 use json::{MAX_DEPTH, Reader, Scratch, Token};
 use std::alloc::Global;
 use std::str;
@@ -12,16 +12,16 @@ struct Member {
     value: usize,
 }
 
-/// Where the value of a place begins. It isn't found where it isn't there, or memory is refused.
-pub(crate) fn value_at(alloc: Global, manifest: &[u8], place: Place<'_>) -> Option<usize> {
+/// Where the value of an element begins. It isn't found where it isn't there, or memory is refused.
+pub(crate) fn value_at(alloc: Global, manifest: &[u8], place: Element<'_>) -> Option<usize> {
     match place {
-        Place::Whole(owner) => owner_at(alloc, manifest, owner),
-        Place::Member(owner, name) => member_at(alloc, manifest, owner, name),
-        Place::Item(owner, name, nth) => {
+        Element::Whole(owner) => owner_at(alloc, manifest, owner),
+        Element::Member(owner, name) => member_at(alloc, manifest, owner, name),
+        Element::Item(owner, name, nth) => {
             let list = member_at(alloc, manifest, owner, name)?;
             item_in(alloc, manifest, list, nth)
         }
-        Place::End(name) => Some(end_at(alloc, manifest, name)?.value),
+        Element::End(name) => Some(end_at(alloc, manifest, name)?.value),
     }
 }
 

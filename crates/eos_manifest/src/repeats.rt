@@ -1,7 +1,7 @@
 //! What stands twice in a manifest and may not. A set of what was seen finds it, so that a long list takes no long time.
 
 use crate::apps::{AppList, items_of};
-use crate::place::{Owner, Place};
+use crate::element::{Owner, Element};
 use crate::words::Words;
 use eos_evidence::SpecFault;
 use serde_json::Value;
@@ -30,7 +30,7 @@ fn look_at_list<'a>(
     match seen_before(seen, app, name)? {
         Some((at, topic)) => {
             let more = " again; an application names a topic once";
-            words.add_named(Place::Item(owner, name, at), topic, more);
+            words.add_named(Element::Item(owner, name, at), topic, more);
             Err(SpecFault::Field)
         }
         None => Ok(()),
@@ -47,7 +47,7 @@ pub(crate) fn look_at_groups(
     for (nth, app) in apps.values.iter().enumerate() {
         if let Some(group) = app.get("group").and_then(Value::as_str) {
             if !is_new(&mut seen, group)? {
-                let place = Place::Member(apps.owner(nth), "group");
+                let place = Element::Member(apps.owner(nth), "group");
                 words.add_shared(place, "the group ", group);
                 return Err(SpecFault::Field);
             }
@@ -65,7 +65,7 @@ pub(crate) fn look_at_outputs(
     let mut seen = BTreeSet::new(alloc);
     for (nth, app) in apps.values.iter().enumerate() {
         if let Some((at, topic)) = seen_before(&mut seen, app, "outputs")? {
-            let place = Place::Item(apps.owner(nth), "outputs", at);
+            let place = Element::Item(apps.owner(nth), "outputs", at);
             words.add_shared(place, "the output topic ", topic);
             return Err(SpecFault::Field);
         }
@@ -73,7 +73,7 @@ pub(crate) fn look_at_outputs(
     Ok(())
 }
 
-/// The first text of a member's items, with its place among them, that was seen before. Those before it are seen now.
+/// The first text of a member's items, with its index among them, that was seen before. Those before it are seen now.
 fn seen_before<'a>(
     seen: &mut BTreeSet<&'a str>,
     app: &'a Value,

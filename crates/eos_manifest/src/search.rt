@@ -3,7 +3,7 @@
 
 use crate::apps::{AppList, items_of};
 use crate::names::{is_own_topic, is_topic, topic_of};
-use crate::place::{Owner, Place};
+use crate::element::{Owner, Element};
 use crate::repeats::{look_at_groups, look_at_outputs, look_at_repeats};
 use crate::types::{ends_of, look_at_app_types};
 use crate::words::Words;
@@ -11,7 +11,7 @@ use eos_evidence::{MAX_APPS, MAX_PARTITIONS, SpecFault};
 use serde_json::{Map, Value};
 use std::alloc::Global;
 
-/// Finds nothing where the manifest isn't refused. Where it is, the words say which place it is, what stands there and what is wanted.
+/// Finds nothing where the manifest isn't refused. Where it is, the words say which element it is, what stands there and what is wanted.
 pub(crate) fn search(
     alloc: Global,
     words: &mut Words<'_>,
@@ -44,7 +44,7 @@ fn look_at_topics(
 ) -> Result<(), SpecFault> {
     for (at, item) in items_of(app, name).iter().enumerate() {
         if let Some(topic) = item.as_str() {
-            look_at_topic(alloc, words, topic, Place::Item(owner, name, at))?;
+            look_at_topic(alloc, words, topic, Element::Item(owner, name, at))?;
         }
     }
     Ok(())
@@ -54,7 +54,7 @@ fn look_at_topic(
     alloc: Global,
     words: &mut Words<'_>,
     topic: &str,
-    place: Place<'_>,
+    place: Element<'_>,
 ) -> Result<(), SpecFault> {
     let wanted = if !is_topic(alloc, topic)? {
         "a topic's name"
@@ -105,7 +105,7 @@ fn look_at_end(
     }
     match end.as_i64() {
         Some(offset) if offset < 0 => {
-            words.add_no_end(Place::End(name), end);
+            words.add_no_end(Element::End(name), end);
             Err(SpecFault::Field)
         }
         _ => Ok(()),

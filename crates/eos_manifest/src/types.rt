@@ -2,7 +2,7 @@
 
 use crate::apps::AppList;
 use crate::names::topic_of;
-use crate::place::{Owner, Place};
+use crate::element::{Owner, Element};
 use crate::words::Words;
 use eos_evidence::SpecFault;
 use serde_json::{Map, Value};
@@ -17,11 +17,11 @@ pub(crate) fn look_at_app_types(words: &mut Words<'_>, apps: AppList<'_>) -> Res
 
 fn look_at_app(words: &mut Words<'_>, app: &Value, owner: Owner) -> Result<(), SpecFault> {
     if !app.is_object() {
-        words.add_another(Place::Whole(owner), app, "an object");
+        words.add_another(Element::Whole(owner), app, "an object");
         return Err(SpecFault::Field);
     }
     let group = value_at(words, app, owner, "group")?;
-    look_at_text(words, group, Place::Member(owner, "group"))?;
+    look_at_text(words, group, Element::Member(owner, "group"))?;
     look_at_texts(words, app, owner, "sources")?;
     look_at_texts(words, app, owner, "outputs")
 }
@@ -34,12 +34,12 @@ fn look_at_texts(
 ) -> Result<(), SpecFault> {
     let items = array_at(words, app, owner, name)?;
     for (at, item) in items.iter().enumerate() {
-        look_at_text(words, item, Place::Item(owner, name, at))?;
+        look_at_text(words, item, Element::Item(owner, name, at))?;
     }
     Ok(())
 }
 
-fn look_at_text(words: &mut Words<'_>, value: &Value, place: Place<'_>) -> Result<(), SpecFault> {
+fn look_at_text(words: &mut Words<'_>, value: &Value, place: Element<'_>) -> Result<(), SpecFault> {
     if value.is_string() {
         Ok(())
     } else {
@@ -55,7 +55,7 @@ pub(crate) fn ends_of<'a>(
 ) -> Result<&'a Map<String, Value>, SpecFault> {
     let value = value_at(words, manifest, Owner::Manifest, "ends")?;
     let Some(ends) = value.as_object() else {
-        let place = Place::Member(Owner::Manifest, "ends");
+        let place = Element::Member(Owner::Manifest, "ends");
         words.add_another(place, value, "an object");
         return Err(SpecFault::Field);
     };
@@ -66,7 +66,7 @@ pub(crate) fn ends_of<'a>(
 }
 
 fn look_at_end(words: &mut Words<'_>, name: &str, end: &Value) -> Result<(), SpecFault> {
-    let place = Place::End(name);
+    let place = Element::End(name);
     if topic_of(name).is_none() {
         words.add_unnamed(name, " isn't a partition's name");
     } else if end.is_i64() {
@@ -105,7 +105,7 @@ pub(crate) fn array_at<'a>(
     match member.as_array() {
         Some(items) => Ok(items.as_slice()),
         None => {
-            words.add_another(Place::Member(owner, name), member, "an array");
+            words.add_another(Element::Member(owner, name), member, "an array");
             Err(SpecFault::Field)
         }
     }

@@ -1,6 +1,6 @@
-//! The words of a refusal: a place of the manifest, what stands there and what is wanted.
+//! The words of a refusal: an element of the manifest, what stands there and what is wanted.
 
-use crate::place::{Owner, Place};
+use crate::element::{Owner, Element};
 use crate::position::{name_at, value_at};
 use eos_text::{push_text, push_value};
 use serde_json::Value;
@@ -44,8 +44,8 @@ impl<'a> Words<'a> {
         self.at = at;
     }
 
-    /// They are about what stands at a place.
-    pub(crate) fn point_at(&mut self, place: Place<'_>) {
+    /// They are about what stands at an element.
+    pub(crate) fn point_at(&mut self, place: Element<'_>) {
         let found = value_at(self.alloc, self.manifest, place);
         self.point_at_found(found);
     }
@@ -81,10 +81,10 @@ impl<'a> Words<'a> {
         }
     }
 
-    /// Adds what stands at a place, and what is wanted there.
-    pub(crate) fn add_another(&mut self, place: Place<'_>, value: &Value, wanted: &str) {
+    /// Adds what stands at an element, and what is wanted there.
+    pub(crate) fn add_another(&mut self, place: Element<'_>, value: &Value, wanted: &str) {
         self.point_at(place);
-        self.add_place(place, " is ");
+        self.add_element(place, " is ");
         self.add(type_of(value));
         self.add("; ");
         self.add(wanted);
@@ -92,50 +92,50 @@ impl<'a> Words<'a> {
     }
 
     /// Adds a name that stands there, and what is said of it.
-    pub(crate) fn add_named(&mut self, place: Place<'_>, name: &str, more: &str) {
+    pub(crate) fn add_named(&mut self, place: Element<'_>, name: &str, more: &str) {
         self.point_at(place);
-        self.add_place(place, " is ");
+        self.add_element(place, " is ");
         self.add_quoted("", name);
         self.add(more);
     }
 
     /// Adds a name that stands there, and what is wanted in its place.
-    pub(crate) fn add_unfit(&mut self, place: Place<'_>, name: &str, wanted: &str) {
+    pub(crate) fn add_unfit(&mut self, place: Element<'_>, name: &str, wanted: &str) {
         self.add_named(place, name, "; ");
         self.add(wanted);
         self.add(" is wanted");
     }
 
-    /// Adds what two applications have, the second of them at this place.
-    pub(crate) fn add_shared(&mut self, place: Place<'_>, what: &str, name: &str) {
+    /// Adds what two applications have, the second of them at this index.
+    pub(crate) fn add_shared(&mut self, place: Element<'_>, what: &str, name: &str) {
         self.point_at(place);
         self.add("two applications have ");
         self.add_quoted(what, name);
     }
 
     /// Adds a whole number at which no partition can end.
-    pub(crate) fn add_no_end(&mut self, place: Place<'_>, value: &Value) {
+    pub(crate) fn add_no_end(&mut self, place: Element<'_>, value: &Value) {
         self.point_at(place);
-        self.add_place(place, " is ");
+        self.add_element(place, " is ");
         self.add_value("", value);
         self.add("; 0 to 9223372036854775807 is wanted");
     }
 
     /// Adds that a member of the manifest is absent, or of an application.
     pub(crate) fn add_absent(&mut self, owner: Owner, name: &str) {
-        self.point_at(Place::Whole(owner));
-        self.add_place(Place::Member(owner, name), " is absent");
+        self.point_at(Element::Whole(owner));
+        self.add_element(Element::Member(owner, name), " is absent");
     }
 
     /// Adds an end whose name is refused, and what is said of it.
     pub(crate) fn add_unnamed(&mut self, name: &str, more: &str) {
         self.point_at_name(name);
-        self.add_place(Place::End(name), more);
+        self.add_element(Element::End(name), more);
     }
 
     /// Adds how many a member of the manifest has of something, and how many may be.
     pub(crate) fn add_count(&mut self, name: &str, count: usize, what: &str, most: usize) {
-        self.point_at(Place::Member(Owner::Manifest, name));
+        self.point_at(Element::Member(Owner::Manifest, name));
         self.add(name);
         self.add_value(" has ", &count);
         self.add(what);
@@ -143,17 +143,17 @@ impl<'a> Words<'a> {
         self.add(" are allowed");
     }
 
-    /// Adds a place and what follows.
-    fn add_place(&mut self, place: Place<'_>, more: &str) {
+    /// Adds an element and what follows.
+    fn add_element(&mut self, place: Element<'_>, more: &str) {
         match place {
-            Place::Whole(Owner::Manifest) => self.add("the manifest"),
-            Place::Whole(Owner::App(at)) => self.add_index("apps", at),
-            Place::Member(owner, name) => self.add_member(owner, name),
-            Place::Item(owner, name, at) => {
+            Element::Whole(Owner::Manifest) => self.add("the manifest"),
+            Element::Whole(Owner::App(at)) => self.add_index("apps", at),
+            Element::Member(owner, name) => self.add_member(owner, name),
+            Element::Item(owner, name, at) => {
                 self.add_member(owner, "");
                 self.add_index(name, at);
             }
-            Place::End(name) => {
+            Element::End(name) => {
                 self.add_quoted("ends[", name);
                 self.add("]");
             }

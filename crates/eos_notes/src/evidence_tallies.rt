@@ -5,7 +5,7 @@ ghost use Rattle.eos_commits.specs.Faults.{AreInOrder};
 ghost use Rattle.eos_notes.specs.TalliesByLogs.{tallies_by};
 
 use crate::partitions::partition_tallies_of;
-use crate::tallies_groups::group_tallies_of;
+use crate::group_rows::group_tallies_of;
 use crate::tally::{Counted, Tallies};
 use eos_evidence::Spec;
 use eos_kept::Logs;

@@ -65,7 +65,7 @@ fn nearest_of(logs: &[Part], name: Option<&PartitionName>, column: &Column) -> O
     nearest
 }
 
-// ---- places
+// ---- columns
 
 fn alone(alloc: Global, place: usize) -> Result<Vec<usize>, AllocError>
     ensures { IfOk result (λ places. places.items ≡ place ∷ []) }
@@ -75,7 +75,7 @@ fn alone(alloc: Global, place: usize) -> Result<Vec<usize>, AllocError>
     Ok(places)
 }
 
-/// The places of an order behind the first ones, of which there are so many.
+/// The columns of an order behind the first ones, of which there are so many.
 fn without_first(
     alloc: Global,
     order: Vec<(u64, usize)>,
@@ -114,7 +114,7 @@ fn cut(
     without_first(alloc, order, middle.saturating_sub(around))
 }
 
-fn all_places(alloc: Global, count: usize) -> Result<Vec<usize>, AllocError>
+fn all_columns(alloc: Global, count: usize) -> Result<Vec<usize>, AllocError>
     ensures { IfOk result (λ places. places.items ≡ range_with_len 0 count) }
 {
     let mut places = Vec::new(alloc);
@@ -125,17 +125,17 @@ fn all_places(alloc: Global, count: usize) -> Result<Vec<usize>, AllocError>
 }
 
 /// The first of so many, twice so many as on each side.
-fn first_places(alloc: Global, count: usize, around: usize) -> Result<Vec<usize>, AllocError>
+fn first_columns(alloc: Global, count: usize, around: usize) -> Result<Vec<usize>, AllocError>
     ensures { IfOk result (λ places. places.items ≡ take (2 * around) (range_with_len 0 count)) }
 {
-    let mut places = all_places(alloc, count)?;
+    let mut places = all_columns(alloc, count)?;
     let end = around.saturating_mul(2).min(places.len());
     places.truncate(end);
     Ok(places)
 }
 
-/// Those that share the nearest partition with the transaction at this place.
-fn places_around(
+/// Those that share the nearest partition with the transaction at this column.
+fn columns_around(
     alloc: Global,
     columns: &[Column],
     logs: &[Part],
@@ -155,11 +155,11 @@ fn places_around(
     }
 }
 
-/// The places among all transactions of those that are shown around this one.
+/// The columns among all transactions of those that are shown around this one.
 ///
 /// # Errors
 /// Only want of memory.
-pub(crate) fn places_of(
+pub(crate) fn columns_shown(
     alloc: Global,
     columns: &[Column],
     logs: &[Part],
@@ -170,8 +170,8 @@ pub(crate) fn places_of(
     ensures { IfOk result (λ places. AreShown logs.now columns.now (option_copied wanted.entry.name) middle wanted.entry.around places.items) }
 {
     match middle {
-        None => first_places(alloc, columns.len(), wanted.around),
-        Some(middle) => places_around(alloc, columns, logs, wanted, middle),
+        None => first_columns(alloc, columns.len(), wanted.around),
+        Some(middle) => columns_around(alloc, columns, logs, wanted, middle),
     }
 }
 
@@ -203,7 +203,7 @@ fn copy_of(column: &Column) -> Result<Column, AllocError>
     })
 }
 
-/// Puts the transaction at this place at the end.
+/// Puts the transaction at this column at the end.
 fn push_at(shown: &mut Vec<Column>, columns: &[Column], place: usize) -> Result<(), AllocError>
     ensures { OnOk result (shown.new.items ≡ shown.old.items ++ at_place columns.now place) }
 {
@@ -214,7 +214,7 @@ fn push_at(shown: &mut Vec<Column>, columns: &[Column], place: usize) -> Result<
     Ok(())
 }
 
-/// The transactions at these places.
+/// The transactions at these columns.
 ///
 /// # Errors
 /// Only want of memory.

@@ -208,8 +208,8 @@ fn push_bare(
     Ok(())
 }
 
-/// The place of the transaction whose data have this producer id and epoch, or the one behind the last.
-fn own_place(columns: &[Column], writer: (i64, i16)) -> usize
+/// The column of the transaction whose data have this producer id and epoch, or the one behind the last.
+fn own_column(columns: &[Column], writer: (i64, i16)) -> usize
     ensures { (c : Column) → slice_get columns.now result ≡ Some c → IsOfWriter (Some c) writer }
 {
     match column_of(columns, writer) {
@@ -233,7 +233,7 @@ fn push_stray(
     if count == 0 {
         return Ok(());
     }
-    let column = own_place(scene.columns, (end.producer, end.epoch));
+    let column = own_column(scene.columns, (end.producer, end.epoch));
     marks.push(Mark {
         column,
         sign: Sign::Marker {

@@ -7,7 +7,7 @@ ghost use Rattle.eos_picture.specs.Whole.{HasWholeRows};
 ghost use Rattle.eos_picture.specs.Window.{IsWindow, place_of};
 ghost use Rattle.eos_picture.specs.steps.Spots.{StartsAt};
 
-use crate::chosen::{Wanted, columns_at, places_of};
+use crate::chosen::{Wanted, columns_at, columns_shown};
 use crate::mark::{Column, Picture};
 use crate::marks::Scene;
 use crate::named::name_of_fault;
@@ -65,7 +65,7 @@ pub fn picture_of(
         name: name.as_ref(),
         around,
     };
-    let places = places_of(alloc, columns.as_slice(), logs, wanted, middle)?;
+    let places = columns_shown(alloc, columns.as_slice(), logs, wanted, middle)?;
     let columns = columns_at(alloc, columns.as_slice(), places.as_slice())?;
     let passes = passes_of(alloc, columns.as_slice(), logs)?;
     let scene = Scene {

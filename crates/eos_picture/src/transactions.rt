@@ -39,7 +39,7 @@ fn kind_of_status(status: Status) -> Option<Kind>
 
 /// A place in the transaction log.
 #[derive(Clone, Copy)]
-struct Place {
+struct TxnPlace {
     partition: i32,
     offset: u64,
 }
@@ -47,7 +47,7 @@ struct Place {
 /// Puts the transaction at the end that a record decides, if it decides one.
 fn push_decided(
     columns: &mut Vec<Column>,
-    place: Place,
+    place: TxnPlace,
     id: &Bytes,
     before: Option<&TxnValue>,
     value: Option<&TxnValue>,
@@ -97,7 +97,7 @@ fn take_value(
     alloc: Global,
     columns: &mut Vec<Column>,
     last: &mut LastValues,
-    place: Place,
+    place: TxnPlace,
     state: State,
 ) -> Result<(), AllocError>
     ensures columns { OnOk result (columns.new.items ≡ columns.old.items ++ flat_map column_at (step_at (state_of last.old) place.partition place.offset (Ok (Some (state.id, state.value))))) }
@@ -124,7 +124,7 @@ fn take_record(
     ensures columns { OnOk result (columns.new.items ≡ columns.old.items ++ flat_map column_at (step_at (state_of last.old) part.now.number item.now.offset (said item.now))) }
     ensures last { OnOk result (state_of last.new ≡ next_state (state_of last.old) (said item.now)) }
 {
-    let place = Place {
+    let place = TxnPlace {
         partition: part.partition(),
         offset: item.offset(),
     };

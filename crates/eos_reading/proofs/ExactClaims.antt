@@ -5,7 +5,7 @@ use Rattle.std.specs.List.{slice_get, position_or_len}
 use Rattle.std.specs.Cmp.Lexicographic.{pointwise, bytes_decides}
 use Rattle.std.proofs.lemmas.Bool.{cases_lt, lt-ltb, le-ltb}
 use Rattle.eos_claims.specs.declared.claim.Claim.{Claim}
-use Rattle.eos_reading.specs.Places.{place_of}
+use Rattle.eos_reading.specs.NameIndexes.{index_of}
 use Rattle.eos_reading.specs.Outputs.{output_at, kept_output, claim_kept}
 
 -- the first that passes stands there, and passes
@@ -21,7 +21,7 @@ passes_there {X} p (x ∷ xs) lt = one (p x) refl lt (λ l. passes_there p xs l)
         let s : 1 + position_or_len p xs ≡ suc (position_or_len p xs) = omega arith in
         (w.0, ap (λ (n : ℕ). slice_get (x ∷ xs) n) s ∙ w.1, w.2)
 
-place_found : (names : List (List ℕ)) (name : List ℕ) (k : ℕ) → place_of names name ≡ Some k → slice_get names k ≡ Some name
+place_found : (names : List (List ℕ)) (name : List ℕ) (k : ℕ) → index_of names name ≡ Some k → slice_get names k ≡ Some name
 place_found names name k e = elim (cases_lt (position_or_len test names) (length names)) [
   | inl l ↦
       let at : position_or_len test names ≡ k = let f = rw (lt-ltb _ _ l) at e in cc in
@@ -36,8 +36,8 @@ place_found names name k e = elim (cases_lt (position_or_len test names) (length
 
 pub exact_claim : (topics : List (List ℕ)) (claim : Option Claim) → claim_kept topics (kept_output topics claim) ≡ claim
 exact_claim topics None = refl
-exact_claim topics (Some c) = by (place_of topics c.topic) refl
+exact_claim topics (Some c) = by (index_of topics c.topic) refl
   where
-    by : (place : Option ℕ) → place_of topics c.topic ≡ place → claim_kept topics (output_at place c) ≡ Some c
+    by : (place : Option ℕ) → index_of topics c.topic ≡ place → claim_kept topics (output_at place c) ≡ Some c
     by None e = refl
     by (Some k) e = ap (option_map (λ (name : List ℕ). record { topic = name; partition = c.partition; offset = c.offset; output = c.output; of = c.of })) (place_found topics c.topic k e)

@@ -15,7 +15,7 @@ use Rattle.eos_reading.specs.Heads.{HasHeads}
 use Rattle.eos_reading.specs.Kept.{kept_in, kept_of}
 use Rattle.eos_reading.specs.Runs.{IsRun}
 use Rattle.eos_reading.specs.steps.Keeping.{IsKept}
-use Rattle.eos_reading.specs.Folds.{FoldView, IsFold, FoldedView, IsFolded}
+use Rattle.eos_reading.specs.steps.Fed.{FedView, IsFed, WholeView, IsWhole}
 use Rattle.eos_reading.proofs.HeadLists.{has_splits, heads_at, heads_more, heads_join}
 
 -- ---- one batch more
@@ -55,7 +55,7 @@ run_ends keep bytes heads heads' kept kept' at fault w e real =
 
 -- ---- one chunk more
 
-pub fold_none : {K : Type 0} (keep : ℕ → Record → K) (v : FoldView K) → v.heads ≡ [] → v.kept ≡ [] → v.place ≡ 0 → v.fault ≡ faults.Truncated → v.taken ≡ 0 → IsFold keep [] [] v
+pub fold_none : {K : Type 0} (keep : ℕ → Record → K) (v : FedView K) → v.heads ≡ [] → v.kept ≡ [] → v.place ≡ 0 → v.fault ≡ faults.Truncated → v.taken ≡ 0 → IsFed keep [] [] v
 fold_none keep v hs ks p f t =
     record {
       batches = [];
@@ -69,8 +69,8 @@ fold_none keep v hs ks p f t =
       taken_is = omega (arith, t);
     }
 
-pub fold_on : {K : Type 0} (keep : ℕ → Record → K) (fed waiting more : List ℕ) (v w : FoldView K) (at : ℕ) → IsFold keep fed waiting v → v.fault ≡ faults.Truncated
-    → IsRun keep (waiting ++ more) v.heads w.heads v.kept w.kept at w.fault → w.place ≡ v.place + at → w.taken ≡ w.place → IsFold keep (fed ++ more) (drop at (waiting ++ more)) w
+pub fold_on : {K : Type 0} (keep : ℕ → Record → K) (fed waiting more : List ℕ) (v w : FedView K) (at : ℕ) → IsFed keep fed waiting v → v.fault ≡ faults.Truncated
+    → IsRun keep (waiting ++ more) v.heads w.heads v.kept w.kept at w.fault → w.place ≡ v.place + at → w.taken ≡ w.place → IsFed keep (fed ++ more) (drop at (waiting ++ more)) w
 fold_on {K} keep fed waiting more v w at f waits run place took =
     let same = f.waits waits in
     let heads : HasHeads (fed ++ more) f.batches v.heads (waiting ++ more) = rw same (heads_more fed f.batches v.heads f.rest more f.heads_are) in
@@ -87,15 +87,15 @@ fold_on {K} keep fed waiting more v w at f waits run place took =
     }
 
 -- in a buffer
-pub fold_taken : {K : Type 0} (keep : ℕ → Record → K) (fed waiting more buffer : List ℕ) (v w : FoldView K) (at : ℕ) → buffer ≡ waiting ++ more → IsFold keep fed waiting v → v.fault ≡ faults.Truncated
-    → IsRun keep buffer v.heads w.heads v.kept w.kept at w.fault → w.place ≡ v.place + at → w.taken ≡ w.place → IsFold keep (fed ++ more) (drop at buffer) w
+pub fold_taken : {K : Type 0} (keep : ℕ → Record → K) (fed waiting more buffer : List ℕ) (v w : FedView K) (at : ℕ) → buffer ≡ waiting ++ more → IsFed keep fed waiting v → v.fault ≡ faults.Truncated
+    → IsRun keep buffer v.heads w.heads v.kept w.kept at w.fault → w.place ≡ v.place + at → w.taken ≡ w.place → IsFed keep (fed ++ more) (drop at buffer) w
 fold_taken keep fed waiting more buffer v w at e f waits run place took =
-    subst (λ (xs : List ℕ). IsFold keep (fed ++ more) (drop at xs) w) (sym e)
+    subst (λ (xs : List ℕ). IsFed keep (fed ++ more) (drop at xs) w) (sym e)
     (fold_on keep fed waiting more v w at f waits (subst (λ (xs : List ℕ). IsRun keep xs v.heads w.heads v.kept w.kept at w.fault) e run) place took)
 
-pub fold_stopped : {K : Type 0} (keep : ℕ → Record → K) (fed waiting more buffer : List ℕ) (v w : FoldView K) (taken : ℕ) → buffer ≡ waiting ++ more → taken ≡ length buffer → IsFold keep fed waiting v → v.fault ≢ faults.Truncated
-    → w.heads ≡ v.heads → w.kept ≡ v.kept → w.place ≡ v.place → w.fault ≡ v.fault → w.taken ≡ v.taken + taken → IsFold keep (fed ++ more) (drop taken buffer) w
-fold_stopped {K} keep fed waiting more buffer v w taken is all f stopped heads kept place fault took = subst (λ (x : FoldView K). IsFold keep (fed ++ more) (drop taken buffer) x) so (
+pub fold_stopped : {K : Type 0} (keep : ℕ → Record → K) (fed waiting more buffer : List ℕ) (v w : FedView K) (taken : ℕ) → buffer ≡ waiting ++ more → taken ≡ length buffer → IsFed keep fed waiting v → v.fault ≢ faults.Truncated
+    → w.heads ≡ v.heads → w.kept ≡ v.kept → w.place ≡ v.place → w.fault ≡ v.fault → w.taken ≡ v.taken + taken → IsFed keep (fed ++ more) (drop taken buffer) w
+fold_stopped {K} keep fed waiting more buffer v w taken is all f stopped heads kept place fault took = subst (λ (x : FedView K). IsFed keep (fed ++ more) (drop taken buffer) x) so (
     let still : batch_at f.rest ≢ Err faults.Truncated = λ q. stopped (let both : Err v.fault ≡ Err faults.Truncated = sym f.ends ∙ q in cc) in
     record {
       batches = f.batches;
@@ -109,7 +109,7 @@ fold_stopped {K} keep fed waiting more buffer v w taken is all f stopped heads k
       taken_is = omega (arith, all, f.taken_is, length-drop taken buffer, ap length is, length-append waiting more, length-append fed more);
     })
   where
-    so : ◌≡◌ {A = FoldView K} (record { heads = v.heads; kept = v.kept; place = v.place; fault = v.fault; taken = v.taken + taken }) (record { heads = w.heads; kept = w.kept; place = w.place; fault = w.fault; taken = w.taken })
+    so : ◌≡◌ {A = FedView K} (record { heads = v.heads; kept = v.kept; place = v.place; fault = v.fault; taken = v.taken + taken }) (record { heads = w.heads; kept = w.kept; place = w.place; fault = w.fault; taken = w.taken })
     so = cc (heads, kept, place, fault, took)
 
 -- ---- the end
@@ -118,8 +118,8 @@ not_none : (rest : List ℕ) (fault : BatchFault) → batch_at rest ≡ Err faul
 not_none rest fault e ne none = ne (let both : Err fault ≡ Err faults.Truncated = sym e ∙ (ap batch_at none ∙ batch_none) in cc)
 
 -- a batch never stands there
-pub folded_stop : {K : Type 0} (keep : ℕ → Record → K) (bytes waiting : List ℕ) (v : FoldView K) (w : FoldedView K) → IsFold keep bytes waiting v → v.fault ≢ faults.Truncated
-    → w.heads ≡ v.heads → w.kept ≡ v.kept → w.stop ≡ Some (v.place, v.fault) → (count : ℕ) → length waiting ≡ count → w.bytes ≡ min (v.taken + count) (2 ^ 64 - 1) → IsFolded keep bytes w
+pub folded_stop : {K : Type 0} (keep : ℕ → Record → K) (bytes waiting : List ℕ) (v : FedView K) (w : WholeView K) → IsFed keep bytes waiting v → v.fault ≢ faults.Truncated
+    → w.heads ≡ v.heads → w.kept ≡ v.kept → w.stop ≡ Some (v.place, v.fault) → (count : ℕ) → length waiting ≡ count → w.bytes ≡ min (v.taken + count) (2 ^ 64 - 1) → IsWhole keep bytes w
 folded_stop keep bytes waiting v w f stopped heads kept stop count len size =
     record {
       batches = f.batches;
@@ -131,8 +131,8 @@ folded_stop keep bytes waiting v w f stopped heads kept stop count len size =
     }
 
 -- the bytes end in a batch
-pub folded_cut : {K : Type 0} (keep : ℕ → Record → K) (bytes waiting : List ℕ) (v : FoldView K) (w : FoldedView K) → IsFold keep bytes waiting v → v.fault ≡ faults.Truncated → waiting ≢ []
-    → w.heads ≡ v.heads → w.kept ≡ v.kept → w.stop ≡ Some (v.place, v.fault) → (count : ℕ) → length waiting ≡ count → w.bytes ≡ min (v.taken + count) (2 ^ 64 - 1) → IsFolded keep bytes w
+pub folded_cut : {K : Type 0} (keep : ℕ → Record → K) (bytes waiting : List ℕ) (v : FedView K) (w : WholeView K) → IsFed keep bytes waiting v → v.fault ≡ faults.Truncated → waiting ≢ []
+    → w.heads ≡ v.heads → w.kept ≡ v.kept → w.stop ≡ Some (v.place, v.fault) → (count : ℕ) → length waiting ≡ count → w.bytes ≡ min (v.taken + count) (2 ^ 64 - 1) → IsWhole keep bytes w
 folded_cut keep bytes waiting v w f waits some heads kept stop count len size =
     record {
       batches = f.batches;
@@ -144,8 +144,8 @@ folded_cut keep bytes waiting v w f waits some heads kept stop count len size =
     }
 
 -- nothing is left
-pub folded_all : {K : Type 0} (keep : ℕ → Record → K) (bytes waiting : List ℕ) (v : FoldView K) (w : FoldedView K) → IsFold keep bytes waiting v → v.fault ≡ faults.Truncated → waiting ≡ []
-    → w.heads ≡ v.heads → w.kept ≡ v.kept → w.stop ≡ None → (count : ℕ) → length waiting ≡ count → w.bytes ≡ min (v.taken + count) (2 ^ 64 - 1) → IsFolded keep bytes w
+pub folded_all : {K : Type 0} (keep : ℕ → Record → K) (bytes waiting : List ℕ) (v : FedView K) (w : WholeView K) → IsFed keep bytes waiting v → v.fault ≡ faults.Truncated → waiting ≡ []
+    → w.heads ≡ v.heads → w.kept ≡ v.kept → w.stop ≡ None → (count : ℕ) → length waiting ≡ count → w.bytes ≡ min (v.taken + count) (2 ^ 64 - 1) → IsWhole keep bytes w
 folded_all keep bytes waiting v w f waits none heads kept stop count len size =
     record {
       batches = f.batches;

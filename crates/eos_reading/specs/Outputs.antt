@@ -3,7 +3,7 @@
 use Rattle.std.specs.Prelude.{ℕ, List, Option, Some, None, option_map}
 use Rattle.std.specs.List.{slice_get}
 use Rattle.eos_claims.specs.declared.claim.Claim.{Claim}
-use Rattle.eos_reading.specs.Places.{place_of}
+use Rattle.eos_reading.specs.NameIndexes.{index_of}
 use Rattle.eos_reading.specs.declared.output.KeptOutput.{KeptOutput}
 use Rattle.eos_reading.specs.declared.output.KeptOutput.TheVariants.{Unclaimed, Asked, Foreign}
 
@@ -14,7 +14,7 @@ output_at (Some topic) c = Asked c.partition c.output c.of topic c.offset
 
 abbrev pub kept_output : List (List ℕ) → Option Claim → KeptOutput
 kept_output topics None = Unclaimed
-kept_output topics (Some c) = output_at (place_of topics c.topic) c
+kept_output topics (Some c) = output_at (index_of topics c.topic) c
 
 -- the claim that was kept so
 abbrev pub claim_kept : List (List ℕ) → KeptOutput → Option Claim

@@ -1,3 +1,4 @@
 -- What only private functions promise: steps towards what the public calls say.
-pub mod Keeping
 pub mod Bytes
+pub mod Fed
+pub mod Keeping

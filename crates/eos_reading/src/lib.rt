@@ -1,8 +1,8 @@
 //! What a log's data records say, read once and without keeping their bytes.
 //!
 //! A reading says what is wanted of a record: of an output's its claim, of a record of Kafka's own logs its key and its value
-//! too. A fold goes along a log's batches, keeps the head of each and of each data record what is wanted, and forgets the
-//! bytes. It is fed chunk by chunk, and what it then is doesn't depend on where the chunks were cut.
+//! too. Along a log's batches the head of each is kept, and of each data record what is wanted; the
+//! bytes are forgotten.
 //!
 //! In memory the record of an output costs 32 bytes where its claim names one of the topics that are asked for, and some 200
 //! more where it names another one.
@@ -11,10 +11,7 @@
 mod batch;
 mod boxed;
 mod epoch;
-mod fold;
-mod folded;
 pub mod laws;
-mod log;
 mod nothing;
 mod output;
 mod outputs;
@@ -25,15 +22,12 @@ mod seals;
 mod text;
 mod texts;
 mod wanted;
-pub mod wanted_laws;
+pub mod reading_laws;
 mod wants;
 
 pub use batch::keep_batches;
 pub use boxed::BoxedClaim;
 pub use epoch::{EpochEntry, append_entries, is_change};
-pub use fold::Fold;
-pub use folded::Folded;
-pub use log::fold_log;
 pub use nothing::Nothing;
 pub use output::KeptOutput;
 pub use outputs::Outputs;

@@ -2,7 +2,7 @@
 
 ghost use Rattle.std.specs.Prelude.{◌≡◌, option_map, IfOk};
 ghost use Rattle.eos_claims.specs.Slots.{plain_claim};
-ghost use Rattle.eos_reading.specs.Places.{place_of as place_among};
+ghost use Rattle.eos_reading.specs.NameIndexes.{index_of as index_among};
 ghost use Rattle.eos_reading.specs.Outputs.{kept_output, claim_kept};
 
 use crate::boxed::BoxedClaim;
@@ -22,7 +22,7 @@ pub enum KeptOutput {
         /// The number of this output among the input's outputs, and how many these are.
         output: u32,
         of: u32,
-        /// The place of the input's topic among those that are asked for.
+        /// The index of the input's topic among those that are asked for.
         topic: usize,
         /// The input's offset.
         offset: u64,
@@ -33,9 +33,9 @@ pub enum KeptOutput {
 
 const _: () = prove!(size_of::<KeptOutput>() <= 32);
 
-/// The place of the first of these names that is this one.
-fn place_of(names: &[Bytes], name: &[u8]) -> Option<usize>
-    ensures { result ≡ place_among names.now name.now }
+/// The index of the first of these names that is this one.
+fn index_of(names: &[Bytes], name: &[u8]) -> Option<usize>
+    ensures { result ≡ index_among names.now name.now }
 {
     names.iter().position(|one| one.as_slice() == name)
 }
@@ -55,7 +55,7 @@ impl KeptOutput {
         let Some(claim) = claim else {
             return Ok(KeptOutput::Unclaimed);
         };
-        let Some(topic) = place_of(topics, claim.topic) else {
+        let Some(topic) = index_of(topics, claim.topic) else {
             return Ok(KeptOutput::Foreign(BoxedClaim::new(alloc, &claim)?));
         };
         Ok(KeptOutput::Asked {

@@ -25,8 +25,8 @@ record_lines offset [] = []
 record_lines offset (r ∷ rs) = record_line offset r ++ record_lines (offset +ℤ pos 1) rs
 
 -- where a batch begins, and which offsets it has
-unfoldable pub place_of : ℕ → Batch → List ℕ
-place_of byte b =
+unfoldable pub begin_of : ℕ → Batch → List ℕ
+begin_of byte b =
     (codes "batch byte=" ++ decimal byte)
     ++ ((codes " base=" ++ signed_decimal b.base_offset)
     ++ (codes " count=" ++ decimal (length b.records)))
@@ -40,4 +40,4 @@ producer_of b =
 
 -- the line of a batch whose first byte is this one of the segment
 abbrev pub batch_line : ℕ → List ℕ → Batch → List ℕ
-batch_line byte kind b = place_of byte b ++ (producer_of b ++ ((codes " " ++ kind) ++ codes "\n"))
+batch_line byte kind b = begin_of byte b ++ (producer_of b ++ ((codes " " ++ kind) ++ codes "\n"))

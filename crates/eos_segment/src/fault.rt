@@ -1,8 +1,8 @@
 //! Why a command ended without an answer.
 
 ghost use Rattle.std.specs.Prelude.{◌≡◌};
-ghost use Rattle.eos_segment.specs.declared.fault.RunFault.TheVariants.{Write, OutOfMemory};
-ghost use Rattle.eos_segment.specs.Faults.{name_of, run_fault_of};
+ghost use Rattle.eos_segment.specs.declared.fault.CommandFault.TheVariants.{Write, OutOfMemory};
+ghost use Rattle.eos_segment.specs.Faults.{name_of, command_fault_of};
 
 use eos_evidence::ReadFault;
 use eos_text::WriteFault;
@@ -12,7 +12,7 @@ use thiserror::Error;
 /// Why a command ended without an answer.
 #[derive(Clone, Copy, Debug, PartialEq, Eq, Error)]
 #[error("{name}", name = self.name())]
-pub enum RunFault {
+pub enum CommandFault {
     /// The input could not be read.
     Read,
     /// The input is larger than a segment may be.
@@ -23,52 +23,52 @@ pub enum RunFault {
     OutOfMemory,
 }
 
-impl RunFault {
+impl CommandFault {
     /// The fault's name.
     pub fn name(self) -> &'static str
         ensures { result.now ≡ name_of self }
     {
         match self {
-            RunFault::Read => "Read",
-            RunFault::Limit => "Limit",
-            RunFault::Write => "Write",
-            RunFault::OutOfMemory => "OutOfMemory",
+            CommandFault::Read => "Read",
+            CommandFault::Limit => "Limit",
+            CommandFault::Write => "Write",
+            CommandFault::OutOfMemory => "OutOfMemory",
         }
     }
 }
 
-impl From<ReadFault> for RunFault {
-    ghost from_gives = { λ e fault. fault ≡ run_fault_of e };
+impl From<ReadFault> for CommandFault {
+    ghost from_gives = { λ e fault. fault ≡ command_fault_of e };
 
-    fn from(e: ReadFault) -> RunFault {
+    fn from(e: ReadFault) -> CommandFault {
         match e {
-            ReadFault::Read => RunFault::Read,
-            ReadFault::Limit => RunFault::Limit,
-            ReadFault::OutOfMemory => RunFault::OutOfMemory,
+            ReadFault::Read => CommandFault::Read,
+            ReadFault::Limit => CommandFault::Limit,
+            ReadFault::OutOfMemory => CommandFault::OutOfMemory,
         }
     }
 }
 
-impl From<WriteFault> for RunFault {
+impl From<WriteFault> for CommandFault {
     ghost from_gives = { λ _ e. e ≡ Write };
 
-    fn from(_e: WriteFault) -> RunFault {
-        RunFault::Write
+    fn from(_e: WriteFault) -> CommandFault {
+        CommandFault::Write
     }
 }
 
-impl From<AllocError> for RunFault {
+impl From<AllocError> for CommandFault {
     ghost from_gives = { λ _ e. e ≡ OutOfMemory };
 
-    fn from(_e: AllocError) -> RunFault {
-        RunFault::OutOfMemory
+    fn from(_e: AllocError) -> CommandFault {
+        CommandFault::OutOfMemory
     }
 }
 
-impl<T: Drop> From<AllocFailed<T>> for RunFault {
+impl<T: Drop> From<AllocFailed<T>> for CommandFault {
     ghost from_gives = { λ _ e. e ≡ OutOfMemory };
 
-    fn from(_e: AllocFailed<T>) -> RunFault {
-        RunFault::OutOfMemory
+    fn from(_e: AllocFailed<T>) -> CommandFault {
+        CommandFault::OutOfMemory
     }
 }

@@ -3,7 +3,7 @@
 ghost use Rattle.std.specs.Prelude.{◌≡◌, OnOk, IfOk, Some, None, string_bytes};
 ghost use Rattle.eos_text.specs.Adding.{Adds};
 ghost use Rattle.eos_segment.specs.Listing.{kind_word, last_line, status_of};
-ghost use Rattle.eos_segment.specs.Lines.{record_line, place_of, producer_of, batch_line};
+ghost use Rattle.eos_segment.specs.Lines.{record_line, begin_of, producer_of, batch_line};
 
 use crate::text::push_hex;
 use eos_batch::{Batch, BatchFault, Kind, Record};
@@ -28,8 +28,8 @@ pub(crate) fn push_record(
 }
 
 /// Adds where a batch begins, and which offsets it has.
-fn push_place(out: &mut String, byte: usize, batch: &Batch) -> Result<(), AllocError>
-    ensures { OnOk result (Adds (string_bytes out.old) (string_bytes out.new) (place_of byte batch.now)) }
+fn push_begin(out: &mut String, byte: usize, batch: &Batch) -> Result<(), AllocError>
+    ensures { OnOk result (Adds (string_bytes out.old) (string_bytes out.new) (begin_of byte batch.now)) }
 {
     push_value(out, "batch byte=", &byte)?;
     push_value(out, " base=", &batch.base_offset)?;
@@ -56,7 +56,7 @@ pub(crate) fn push_head(
 ) -> Result<(), AllocError>
     ensures { OnOk result (Adds (string_bytes out.old) (string_bytes out.new) (batch_line byte kind.now batch.now)) }
 {
-    push_place(out, byte, batch)?;
+    push_begin(out, byte, batch)?;
     push_producer(out, batch)?;
     push_value(out, " ", &kind)?;
     push_text(out, "\n")?;

@@ -12,13 +12,13 @@ use Rattle.eos_evidence.specs.declared.partition.Partition.{Partition}
 use Rattle.eos_evidence.specs.declared.fault.AddFault.{AddFault}
 use Rattle.eos_evidence.specs.declared.fault.AddFault.TheVariants as faults
 use Rattle.eos_evidence.specs.Ends.{end_cmp}
-use Rattle.eos_evidence.specs.Parts.{IsAccepted}
+use Rattle.eos_evidence.specs.Members.{IsAccepted}
 use Rattle.eos_evidence.specs.Evidence.{EvidenceParts, IsEvidence, IsCounted, is_in, has_base, with_segment, segments_of, is_past_limit, without_segments, added_to, added, empty_partition}
-use Rattle.eos_evidence.specs.steps.SegmentPlaces.{IsFirst, MayTake}
+use Rattle.eos_evidence.specs.steps.SegmentIndexes.{IsFirst, MayTake}
 use Rattle.eos_evidence.proofs.AddedSegments.{found_first, gives_added, still_counted, begun}
 use Rattle.eos_machine.specs.declared.config.Config.{Config}
 use Rattle.eos_machine.specs.declared.item.Item.{Item}
-use Rattle.eos_machine.specs.Places.{IsConfig, place_count}
+use Rattle.eos_machine.specs.LogIndexes.{IsConfig, log_count}
 use Rattle.eos_machine.specs.World.{World, log_at}
 use Rattle.eos_machine.specs.Evidences.{end_of, parts_of, segment_count, segment_at, log_segments, cluster_segments, adding}
 use Rattle.eos_machine.specs.steps.Writable.{IsWritable}
@@ -135,5 +135,5 @@ ends_ascend c w a (suc n) = (later_ends c w a (a + 1) n (omega arith), ends_asce
 
 pub is_evidence : (c : Config) (w : World) (e : EvidenceParts) → IsWritable c w → adding (without_segments (parts_of c w)) (cluster_segments c w) ≡ Ok e → IsEvidence e
 is_evidence c w e g a =
-    let accepted : IsAccepted (parts_of c w) = record { as_it_is = accepted_parts c w g.sizes g.short; ascending = ends_ascend c w 0 (place_count c) } in
-    all_added (without_segments (parts_of c w)) e (cluster_segments c w) 0 (all_widths c w 0 (place_count c) g) (begun (parts_of c w) (map empty_partition (parts_of c w).ends) accepted refl) a
+    let accepted : IsAccepted (parts_of c w) = record { as_it_is = accepted_parts c w g.sizes g.short; ascending = ends_ascend c w 0 (log_count c) } in
+    all_added (without_segments (parts_of c w)) e (cluster_segments c w) 0 (all_widths c w 0 (log_count c) g) (begun (parts_of c w) (map empty_partition (parts_of c w).ends) accepted refl) a

@@ -31,7 +31,7 @@ use Rattle.eos_table.specs.TransactionLog as table
 use Rattle.eos_machine.specs.declared.config.Config.{Config}
 use Rattle.eos_machine.specs.declared.item.Item.{Item}
 use Rattle.eos_machine.specs.declared.item.Item.TheVariants.{Fed, State, Output, Offset, Marker}
-use Rattle.eos_machine.specs.Places.{place_count, topic_of, number_of}
+use Rattle.eos_machine.specs.LogIndexes.{log_count, topic_of, number_of}
 use Rattle.eos_machine.specs.World.{World, log_at}
 use Rattle.eos_machine.specs.Application as app
 use Rattle.eos_machine.specs.Application.{Mark, IsOrdered, IsClosed, Fate, Matched, Never, first_end, Decision as Decided}
@@ -232,13 +232,13 @@ beyond (l ∷ ls) zero h = absurd (omega (arith, h))
 beyond (l ∷ ls) (suc q) h = beyond ls q (omega (arith, h))
 
 -- a place with a mark is a partition
-is_there : (c : Config) (w : World) (a q : ℕ) (t : Mark) → IsSettled c w → Has (marks_at w a q) t → q < place_count c
+is_there : (c : Config) (w : World) (a q : ℕ) (t : Mark) → IsSettled c w → Has (marks_at w a q) t → q < log_count c
 is_there c w a q t s h = elim (cases_lt q (length w.logs)) [
   | inl l ↦ omega (arith, l, s.good.logs)
   | inr l ↦ absurd (subst (λ xs. Has (marks_of a xs) t) (beyond w.logs q l) h)
 ]
 
-pub is_atomic : (c : Config) (w : World) (ls : List PartLog) → IsSettled c w → AreAt c w 0 (place_count c) ls → Atomic (table.decisions_of (transaction_parts ls)) ls
+pub is_atomic : (c : Config) (w : World) (ls : List PartLog) → IsSettled c w → AreAt c w 0 (log_count c) ls → Atomic (table.decisions_of (transaction_parts ls)) ls
 is_atomic c w ls s at = record { once = once c w ls s at; decided = decided; marked = marked; no_stray = no_stray }
   where
     matched : (p : ℕ) → AllMatched (decisions_of c w) p (log_at w p)
@@ -254,7 +254,7 @@ is_atomic c w ls s at = record { once = once c w ls s at; decided = decided; mar
 
     decided : (l : PartLog) (cl : Close) → Has ls l → Has l.closes cl → (d : Decision) × Has (table.decisions_of (transaction_parts ls)) d × IsOf d cl × EndsAs d cl × Has (names_of d.partitions) (part_name l)
     decided l cl h m =
-        let r = in_logs c w 0 (place_count c) ls at l h in
+        let r = in_logs c w 0 (log_count c) ls at l h in
         let i = each_close c (decisions_of c w) r.0 0 (log_at w r.0) (matched r.0) cl ((r.3.closes.members cl).0 m) in
         let o = i.closed.ordered in
         let x = listing r.0 i.app i.to i.kind l r.3 o in (
@@ -273,7 +273,7 @@ is_atomic c w ls s at = record { once = once c w ls s at; decided = decided; mar
         let there = All-contains (λ e. (q : ℕ) → Contains e.partitions q → Contains (marks_at w r.0 q) (app.End e.to e.kind)) (decisions_of c w r.0) dd (s.atomic r.0).delivered (contains_had (decisions_of c w r.0) dd r.1.member) in
         let mark = has_contained (marks_at w r.0 p.0) (app.End dd.to dd.kind) (there p.0 (contains_had dd.partitions p.0 p.1)) in
         let here = is_there c w r.0 p.0 (app.End dd.to dd.kind) s mark in
-        let l = at_logs c w 0 (place_count c) ls at p.0 (omega arith) (omega (arith, here)) in (
+        let l = at_logs c w 0 (log_count c) ls at p.0 (omega arith) (omega (arith, here)) in (
           l.0,
           l.1,
           name_is c w p.0 l.0 l.2 ∙ sym p.2,
@@ -284,7 +284,7 @@ is_atomic c w ls s at = record { once = once c w ls s at; decided = decided; mar
 
     no_stray : (l : PartLog) (m : EndMarker) → Has ls l → Has l.markers m → (d : Decision) × Has (table.decisions_of (transaction_parts ls)) d × Ends d m × Has (names_of d.partitions) (part_name l)
     no_stray l m h k =
-        let r = in_logs c w 0 (place_count c) ls at l h in
+        let r = in_logs c w 0 (log_count c) ls at l h in
         let i = each_marker c (decisions_of c w) r.0 0 (log_at w r.0) (matched r.0) m (subst (λ ms. Has ms m) r.3.markers k) in
         let o = i.ordered in
         let x = listing r.0 i.app i.to i.kind l r.3 o in (

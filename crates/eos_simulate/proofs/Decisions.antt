@@ -14,7 +14,7 @@ use Rattle.eos_table.specs.TransactionLog.{Unskipped, nothing, flat, steps_of, a
 use Rattle.eos_table.specs.TransactionLog as table
 use Rattle.eos_table.specs.Atomic.{AreOfOne, NoTwo}
 use Rattle.eos_machine.specs.declared.config.Config.{Config}
-use Rattle.eos_machine.specs.Places.{txn_place, place_count}
+use Rattle.eos_machine.specs.LogIndexes.{txn_index, log_count}
 use Rattle.eos_machine.specs.declared.item.Item.{Item}
 use Rattle.eos_machine.specs.World.{World, fresh, log_at}
 use Rattle.eos_machine.specs.Application.{Decision as Decided}
@@ -32,7 +32,7 @@ use Rattle.eos_simulate.proofs.TransactionRule.{IsTxnLog, in_txn, at_txn, states
 abbrev pub decided_at : Config → World → ℕ → ℕ → List Decided
 decided_at c w q a = decisions_from [] fresh (entries_of a (log_at w q))
 
-own_decisions : (c : Config) (w : World) (a q : ℕ) → IsSettled c w → q ≡ txn_place c a → flat_map decision_of (own_steps c a None (num c q) 0 (log_at w q)) ≡ map (as_decision c a) (decided_at c w q a)
+own_decisions : (c : Config) (w : World) (a q : ℕ) → IsSettled c w → q ≡ txn_index c a → flat_map decision_of (own_steps c a None (num c q) 0 (log_at w q)) ≡ map (as_decision c a) (decided_at c w q a)
 own_decisions c w a q s e =
     own_decide c a None fresh (num c q) 0 (log_at w q) (refl, refl) (subst (λ (p : ℕ). Steps fresh (entries_of a (log_at w p))) (sym e) (s.good.steps a))
 
@@ -41,7 +41,7 @@ pub record IsDecided (c : Config) (w : World) (a : ℕ) (d : Decision) : Type 0 
   pub member : Has (decisions_of c w a) decision
   pub is : d ≡ as_decision c a decision
 
-decision_in : (c : Config) (w : World) (q : ℕ) (l : PartLog) (d : Decision) → IsSettled c w → IsTxnLog c w q l → Has (flat_map decision_of (steps_of l)) d → (a : ℕ) × (q ≡ txn_place c a) × IsDecided c w a d
+decision_in : (c : Config) (w : World) (q : ℕ) (l : PartLog) (d : Decision) → IsSettled c w → IsTxnLog c w q l → Has (flat_map decision_of (steps_of l)) d → (a : ℕ) × (q ≡ txn_index c a) × IsDecided c w a d
 decision_in c w q l d s t h =
     let f = flat_has decision_of (steps_of l) d h in
     let r = step_in c w q l f.0 s t f.1 in
@@ -50,7 +50,7 @@ decision_in c w q l d s t h =
 
 -- ---- of all partitions
 
-pub decision_of_all : (c : Config) (w : World) (ls : List PartLog) (d : Decision) → IsSettled c w → AreAt c w 0 (place_count c) ls → Has (table.decisions_of (transaction_parts ls)) d → (a : ℕ) × IsDecided c w a d
+pub decision_of_all : (c : Config) (w : World) (ls : List PartLog) (d : Decision) → IsSettled c w → AreAt c w 0 (log_count c) ls → Has (table.decisions_of (transaction_parts ls)) d → (a : ℕ) × IsDecided c w a d
 decision_of_all c w ls d s at h =
     let f = flat_has decision_of (all_steps (transaction_parts ls)) d h in
     let g = flat_has steps_of (transaction_parts ls) f.0 f.1 in
@@ -58,9 +58,9 @@ decision_of_all c w ls d s at h =
     let r = decision_in c w t.0 g.0 d s t.1 (has_flat decision_of (steps_of g.0) f.0 d g.2 f.2) in
     (r.0, r.2)
 
-pub all_decisions : (c : Config) (w : World) (ls : List PartLog) (a : ℕ) (d : Decided) → IsSettled c w → AreAt c w 0 (place_count c) ls → Has (decisions_of c w a) d → Has (table.decisions_of (transaction_parts ls)) (as_decision c a d)
+pub all_decisions : (c : Config) (w : World) (ls : List PartLog) (a : ℕ) (d : Decided) → IsSettled c w → AreAt c w 0 (log_count c) ls → Has (decisions_of c w a) d → Has (table.decisions_of (transaction_parts ls)) (as_decision c a d)
 all_decisions c w ls a d s at h =
-    let q : ℕ = txn_place c a in
+    let q : ℕ = txn_index c a in
     let t = at_txn c w ls a s at in
     let m : Has (flat_map decision_of (own_steps c a None (num c q) 0 (log_at w q))) (as_decision c a d) = subst (λ ds. Has ds (as_decision c a d)) (sym (own_decisions c w a q s refl)) (has_map (as_decision c a) (decisions_of c w a) d h) in
     let f = flat_has decision_of (own_steps c a None (num c q) 0 (log_at w q)) (as_decision c a d) m in
@@ -177,14 +177,14 @@ once_in c w q l s t = no_two_keys AreOfOne of_id (flat_map decision_of (steps_of
 
     -- an application of another partition has none here
     each : (a : ℕ) → NoTwo AreOfOne (filter (of_id a) (flat_map decision_of (steps_of l)))
-    each a = elim (cases_eq q (txn_place c a)) [
+    each a = elim (cases_eq q (txn_index c a)) [
       | inl e ↦ subst (NoTwo AreOfOne) (sym (own a ∙ own_decisions c w a q s e))
           (one_app_once c a (decided_at c w q a) (subst (λ (p : ℕ). AllPairs FromApart (decisions_from [] fresh (entries_of a (log_at w p)))) (sym e) (s.atomic a).once))
       | inr d ↦ no_two_none (filter (of_id a) (flat_map decision_of (steps_of l))) (λ x m.
           let f = filter_has (of_id a) (flat_map decision_of (steps_of l)) x m in
           let r = decision_in c w q l x s t f.0 in
           let b : a ≡ r.0 = one_app a r.0 (Rattle.eos_simulate.proofs.TxnRecords.same_id_is (transactional_id a) x.id f.1 ∙ ap (λ (y : Decision). y.id) r.2.is) in
-          d (r.1 ∙ ap (txn_place c) (sym b)))
+          d (r.1 ∙ ap (txn_index c) (sym b)))
     ]
       where
         no_two_none : (xs : List Decision) → ((x : Decision) → Has xs x → ⊥) → NoTwo AreOfOne xs
@@ -205,7 +205,7 @@ less_from : (c : Config) (w : World) (a b : ℕ) (ls : List PartLog) → a ≤ b
 less_from c w a b [] l h = tt
 less_from c w a b (k ∷ ls) l h = (h.0, omega (arith, l, h.1), h.2, h.3)
 
-txn_from : (c : Config) (w : World) (a n : ℕ) (ls : List PartLog) → a + n ≤ place_count c → AreAt c w a n ls → AreTxnFrom c w a (transaction_parts ls)
+txn_from : (c : Config) (w : World) (a n : ℕ) (ls : List PartLog) → a + n ≤ log_count c → AreAt c w a n ls → AreTxnFrom c w a (transaction_parts ls)
 txn_from c w a zero [] m h = tt
 txn_from c w a zero (l ∷ ls) m h = absurd h
 txn_from c w a (suc n) [] m h = tt
@@ -213,11 +213,11 @@ txn_from c w a (suc n) (l ∷ ls) m h = by (is_transaction_part l) refl (txn_fro
   where
     by : (t : Bool) → is_transaction_part l ≡ t → AreTxnFrom c w (a + 1) (transaction_parts ls) → AreTxnFrom c w a (cond t (l ∷ transaction_parts ls) (transaction_parts ls))
     by true e k =
-        let t = Rattle.eos_simulate.proofs.TransactionRule.txn_within c a (subst (λ x. Rattle.std.specs.Ordering.is_eq (Rattle.std.specs.Cmp.Lexicographic.slice_cmp Rattle.std.specs.Ordering.nat_cmp x Rattle.eos_machine.specs.Places.transactions_topic) ≡ true) h.0.topic e) in
+        let t = Rattle.eos_simulate.proofs.TransactionRule.txn_within c a (subst (λ x. Rattle.std.specs.Ordering.is_eq (Rattle.std.specs.Cmp.Lexicographic.slice_cmp Rattle.std.specs.Ordering.nat_cmp x Rattle.eos_machine.specs.LogIndexes.transactions_topic) ≡ true) h.0.topic e) in
         (a, omega arith, record { first = t.0; last = t.1; here = omega (arith, m); log = h.0 }, k)
     by false e k = less_from c w a (a + 1) (transaction_parts ls) (omega arith) k
 
-later_decision : (c : Config) (w : World) (a : ℕ) (ls : List PartLog) (d : Decision) → IsSettled c w → AreTxnFrom c w a ls → Has (flat_map decision_of (all_steps ls)) d → (b : ℕ) × (a ≤ txn_place c b) × IsDecided c w b d
+later_decision : (c : Config) (w : World) (a : ℕ) (ls : List PartLog) (d : Decision) → IsSettled c w → AreTxnFrom c w a ls → Has (flat_map decision_of (all_steps ls)) d → (b : ℕ) × (a ≤ txn_index c b) × IsDecided c w b d
 later_decision c w a [] d s h m = absurd m
 later_decision c w a (l ∷ ls) d s h m = elim (append_cases (flat_map decision_of (steps_of l)) (flat_map decision_of (all_steps ls)) d (subst (λ ds. Has ds d) (flat_append decision_of (steps_of l) (all_steps ls)) m)) [
   | inl x ↦ let r = decision_in c w h.0 l d s h.2 x in (r.0, omega (arith, h.1, r.1), r.2)
@@ -234,8 +234,8 @@ once_from c w a (l ∷ ls) s h = subst (NoTwo AreOfOne) (sym (flat_append decisi
         let i = decision_in c w h.0 l x s h.2 m in
         let j = later_decision c w (h.0 + 1) ls y s h.3 n in
         let e : i.0 ≡ j.0 = one_producer i.0 j.0 (sym (ap (λ (z : Decision). z.producer) i.2.is) ∙ (r.producer ∙ ap (λ (z : Decision). z.producer) j.2.is)) in
-        let p : txn_place c i.0 ≡ txn_place c j.0 = ap (txn_place c) e in
+        let p : txn_index c i.0 ≡ txn_index c j.0 = ap (txn_index c) e in
         absurd (omega (arith, p, i.1, j.1))
 
-pub once : (c : Config) (w : World) (ls : List PartLog) → IsSettled c w → AreAt c w 0 (place_count c) ls → NoTwo AreOfOne (table.decisions_of (transaction_parts ls))
-once c w ls s at = once_from c w 0 (transaction_parts ls) s (txn_from c w 0 (place_count c) ls (omega arith) at)
+pub once : (c : Config) (w : World) (ls : List PartLog) → IsSettled c w → AreAt c w 0 (log_count c) ls → NoTwo AreOfOne (table.decisions_of (transaction_parts ls))
+once c w ls s at = once_from c w 0 (transaction_parts ls) s (txn_from c w 0 (log_count c) ls (omega arith) at)

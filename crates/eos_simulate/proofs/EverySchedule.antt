@@ -7,9 +7,9 @@ use Rattle.eos_table.proofs.LogLaw.{law as log_law}
 use Rattle.eos_table.proofs.AtomicLaw.{law as atomic_law}
 use Rattle.eos_machine.specs.declared.config.Config.{Config}
 use Rattle.eos_machine.specs.declared.event.Event.{Event}
-use Rattle.eos_machine.specs.Places.{IsConfig, txn_place, place_count}
+use Rattle.eos_machine.specs.LogIndexes.{IsConfig, txn_index, log_count}
 use Rattle.eos_machine.specs.World.{World, opening, log_at}
-use Rattle.eos_machine.specs.Machine.{run}
+use Rattle.eos_machine.specs.Machine.{world_after}
 use Rattle.eos_machine.specs.Rest.{IsAtRest, NeighboursFit, AllAtomic}
 use Rattle.eos_machine.proofs.Good.{Good}
 use Rattle.eos_machine.proofs.Counting.{IsCounted, counted_run, counted_opening}
@@ -41,17 +41,17 @@ settled e h = record {
   fit = neighbours_fit h.config h.world (keeps_sequences h.config h.world good counted) atomic;
   atomic = atomic;
   written = h.evidence.written;
-  steps = λ a. all_steps h.config a (log_at h.world (txn_place h.config a)) (good.steps a);
+  steps = λ a. all_steps h.config a (log_at h.world (txn_index h.config a)) (good.steps a);
   rest = h.rest;
   good = good;
-  placed = subst (Placed h.config) (sym h.run) (placed_run h.config (opening h.config) h.events (placed_opening h.config));
+  placed = subst (Placed h.config) (sym h.world_after) (placed_run h.config (opening h.config) h.events (placed_opening h.config));
 }
   where
     good : Good h.config h.world
-    good = subst (Good h.config) (sym h.run) (good_run h.config (opening h.config) h.events h.sizes (good_opening h.config))
+    good = subst (Good h.config) (sym h.world_after) (good_run h.config (opening h.config) h.events h.sizes (good_opening h.config))
 
     counted : IsCounted h.world
-    counted = subst IsCounted (sym h.run) (counted_run h.config (opening h.config) h.events (counted_opening h.config))
+    counted = subst IsCounted (sym h.world_after) (counted_run h.config (opening h.config) h.events (counted_opening h.config))
 
     atomic : AllAtomic h.config h.world
     atomic = rest_is_atomic h.config h.world good h.rest

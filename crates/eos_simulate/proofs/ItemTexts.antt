@@ -23,7 +23,7 @@ use Rattle.eos_machine.specs.declared.item.Claim.{Claim}
 use Rattle.eos_machine.specs.Sessions.{claimed_topic}
 use Rattle.eos_machine.specs.declared.item.Item.{Item}
 use Rattle.eos_machine.specs.declared.item.Item.TheVariants.{Fed, State, Output, Offset, Marker}
-use Rattle.eos_machine.specs.Places.{IsConfig, application_count, input_topic, output_topic}
+use Rattle.eos_machine.specs.LogIndexes.{IsConfig, application_count, input_topic, output_topic}
 use Rattle.eos_machine.proofs.Written.{few_applications}
 use Rattle.eos_machine.specs.declared.writer.Writer.{Writer}
 use Rattle.eos_machine.specs.steps.Joined.{AreJoined}

@@ -28,7 +28,7 @@ use Rattle.eos_fold.specs.Standing.{StandsIn, IsOpen}
 use Rattle.eos_fold.specs.Closes.{closes_of}
 use Rattle.eos_fold.specs.Settling.{data_in}
 use Rattle.eos_machine.specs.declared.config.Config.{Config}
-use Rattle.eos_machine.specs.Places.{IsConfig, place_count, topic_of, number_of, is_sequenced}
+use Rattle.eos_machine.specs.LogIndexes.{IsConfig, log_count, topic_of, number_of, is_sequenced}
 use Rattle.eos_machine.specs.declared.item.Item.{Item}
 use Rattle.eos_machine.specs.World.{World, log_at}
 use Rattle.eos_machine.specs.Rest.{NeighboursFit, AllAtomic, StepsFit, IsAtRest, decisions_of}
@@ -52,7 +52,7 @@ use Rattle.eos_simulate.proofs.LogTouches.{each_fits, none_open}
 abbrev written : Config → World → ℕ → List Batch
 written c w p = all_batches c (log_at w p)
 
-front : (c : Config) (w : World) (p : ℕ) → IsSettled c w → p < place_count c → IsFront 0 (log_segments c p (log_at w p)) (written c w p) AtEnd
+front : (c : Config) (w : World) (p : ℕ) → IsSettled c w → p < log_count c → IsFront 0 (log_segments c p (log_at w p)) (written c w p) AtEnd
 front c w p s l = whole_front c p (log_at w p) s.config (s.written p l)
 
 -- whether the last touch is open is the same of a batch and of its records one by one
@@ -67,7 +67,7 @@ is_open_too (Some x) (Some y) e h = some_is (is_open x) (is_open y) e h
 same_closes : (bs cs closes : List Close) → ((x : Close) → Has bs x ↔ Has cs x) → AreCloses bs closes → AreCloses cs closes
 same_closes bs cs closes h a = record { members = λ x. (λ k. (h x).0 ((a.members x).0 k), λ k. (a.members x).1 ((h x).1 k)); ascend = a.ascend }
 
-no_fault : (c : Config) (w : World) (p : ℕ) → IsSettled c w → p < place_count c → NoFault (topic_of c p) (pos (number_of c p)) (pos (length (log_at w p))) (written c w p) AtEnd
+no_fault : (c : Config) (w : World) (p : ℕ) → IsSettled c w → p < log_count c → NoFault (topic_of c p) (pos (number_of c p)) (pos (length (log_at w p))) (written c w p) AtEnd
 no_fault c w p s l fault h = none_of fault.offset fault.kind h.stands
   where
     bs : List Batch
@@ -92,7 +92,7 @@ no_fault c w p s l fault h = none_of fault.offset fault.kind h.stands
     none_of offset (End declared) k = k.1 (ap pos (records_are c (log_at w p) s.config))
     none_of offset (OpenAtEnd producer) k = none_open c (log_at w p) producer p (decisions_of c w) (λ a. (s.atomic a).matched p) (is_open_too _ _ (agrees.opens producer) k.1)
 
-place_keeps : (c : Config) (w : World) (p : ℕ) → IsSettled c w → p < place_count c → KeepsRules (topic_of c p) (pos (length (log_at w p))) (log_segments c p (log_at w p)) (written c w p)
+place_keeps : (c : Config) (w : World) (p : ℕ) → IsSettled c w → p < log_count c → KeepsRules (topic_of c p) (pos (length (log_at w p))) (log_segments c p (log_at w p)) (written c w p)
 place_keeps c w p s l = (rules_law (topic_of c p) (pos (number_of c p)) (pos (length (log_at w p))) (log_segments c p (log_at w p)) (written c w p) AtEnd (front c w p s l)).0 (no_fault c w p s l)
 
 -- ---- the logs of the evidence are these
@@ -100,11 +100,11 @@ place_keeps c w p s l = (rules_law (topic_of c p) (pos (number_of c p)) (pos (le
 abbrev Same : Config → World → ℕ → List Batch → Stop → Type 0
 Same c w p bs stop = (bs ≡ written c w p) × (stop ≡ AtEnd)
 
-same_front : (c : Config) (w : World) (p : ℕ) (bs : List Batch) (stop : Stop) → IsSettled c w → p < place_count c → IsFront 0 (log_segments c p (log_at w p)) bs stop → Same c w p bs stop
+same_front : (c : Config) (w : World) (p : ℕ) (bs : List Batch) (stop : Stop) → IsSettled c w → p < log_count c → IsFront 0 (log_segments c p (log_at w p)) bs stop → Same c w p bs stop
 same_front c w p bs stop s l f = one_front 0 (log_segments c p (log_at w p)) bs (written c w p) stop AtEnd f (front c w p s l)
 
 abbrev IsPlaceOf : Config → World → Partition → Type 0
-IsPlaceOf c w p = (q : ℕ) × (q < place_count c) × (p ≡ partition_at c w q)
+IsPlaceOf c w p = (q : ℕ) × (q < log_count c) × (p ≡ partition_at c w q)
 
 keeps : (c : Config) (w : World) (p : Partition) (l : PartLog) → IsLogOf p l → IsSettled c w → IsPlaceOf c w p → IsKeptLog p l
 keeps c w p l of s q =
@@ -123,18 +123,18 @@ each_keeps c w [] (l ∷ ls) of s h = of
 each_keeps c w (p ∷ ps) [] of s h = of
 each_keeps c w (p ∷ ps) (l ∷ ls) of s h = (keeps c w p l of.0 s (h p (inl refl)), each_keeps c w ps ls of.1 s (λ r m. h r (inr m)))
 
-each_is : (c : Config) (w : World) (a n : ℕ) → a + n ≤ place_count c → (p : Partition) → Has (map (partition_at c w) (range_with_len a n)) p → IsPlaceOf c w p
+each_is : (c : Config) (w : World) (a n : ℕ) → a + n ≤ log_count c → (p : Partition) → Has (map (partition_at c w) (range_with_len a n)) p → IsPlaceOf c w p
 each_is c w a zero l p h = absurd h
 each_is c w a (suc n) l p (inl e) = (a, omega (arith, l), sym e)
 each_is c w a (suc n) l p (inr h) = each_is c w (a + 1) n (omega (arith, l)) p h
 
 -- whole, sequenced and fenced
-pub all_keep : (c : Config) (w : World) (ps : List Partition) (ls : List PartLog) → AreLogsOf ps ls → IsSettled c w → ps ≡ map (partition_at c w) (range_with_len 0 (place_count c)) → AreKeptLogs ps ls
-all_keep c w ps ls of s e = each_keeps c w ps ls of s (λ p h. each_is c w 0 (place_count c) (omega arith) p (subst (λ qs. Has qs p) e h))
+pub all_keep : (c : Config) (w : World) (ps : List Partition) (ls : List PartLog) → AreLogsOf ps ls → IsSettled c w → ps ≡ map (partition_at c w) (range_with_len 0 (log_count c)) → AreKeptLogs ps ls
+all_keep c w ps ls of s e = each_keeps c w ps ls of s (λ p h. each_is c w 0 (log_count c) (omega arith) p (subst (λ qs. Has qs p) e h))
 
 -- ---- what they hold
 
-is_log : (c : Config) (w : World) (p : ℕ) (l : PartLog) → IsSettled c w → p < place_count c → IsLogOf (partition_at c w p) l → IsLog c w p l
+is_log : (c : Config) (w : World) (p : ℕ) (l : PartLog) → IsSettled c w → p < log_count c → IsLogOf (partition_at c w p) l → IsLog c w p l
 is_log c w p l s m of =
     let same = same_front c w p of.batches of.stop s m of.front in
     let a = all_agree c (log_at w p) s.config in
@@ -146,11 +146,11 @@ is_log c w p l s m of =
       closes = same_closes (closes_of (written c w p)) (closes_of (log_batches c w p)) l.closes a.closes (subst (λ bs. AreCloses (closes_of bs) l.closes) same.0 (record { members = of.log.closes; ascend = of.ascends }));
     }
 
-are_at : (c : Config) (w : World) (a n : ℕ) (ls : List PartLog) → IsSettled c w → a + n ≤ place_count c → AreLogsOf (map (partition_at c w) (range_with_len a n)) ls → AreAt c w a n ls
+are_at : (c : Config) (w : World) (a n : ℕ) (ls : List PartLog) → IsSettled c w → a + n ≤ log_count c → AreLogsOf (map (partition_at c w) (range_with_len a n)) ls → AreAt c w a n ls
 are_at c w a zero [] s m of = tt
 are_at c w a zero (l ∷ ls) s m of = of
 are_at c w a (suc n) [] s m of = of
 are_at c w a (suc n) (l ∷ ls) s m of = (is_log c w a l s (omega (arith, m)) of.0, are_at c w (a + 1) n ls s (omega (arith, m)) of.1)
 
-pub logs_are : (c : Config) (w : World) (ps : List Partition) (ls : List PartLog) → AreLogsOf ps ls → IsSettled c w → ps ≡ map (partition_at c w) (range_with_len 0 (place_count c)) → AreAt c w 0 (place_count c) ls
-logs_are c w ps ls of s e = are_at c w 0 (place_count c) ls s (omega arith) (subst (λ qs. AreLogsOf qs ls) e of)
+pub logs_are : (c : Config) (w : World) (ps : List Partition) (ls : List PartLog) → AreLogsOf ps ls → IsSettled c w → ps ≡ map (partition_at c w) (range_with_len 0 (log_count c)) → AreAt c w 0 (log_count c) ls
+logs_are c w ps ls of s e = are_at c w 0 (log_count c) ls s (omega arith) (subst (λ qs. AreLogsOf qs ls) e of)

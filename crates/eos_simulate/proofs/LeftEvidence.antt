@@ -9,11 +9,11 @@ use Rattle.eos_machine.specs.declared.event.Event.{Event}
 use Rattle.eos_machine.specs.declared.event.Event.TheVariants as events
 use Rattle.eos_machine.specs.declared.item.Item.{Item}
 use Rattle.eos_machine.specs.declared.item.Item.TheVariants.{Fed, State, Output, Offset, Marker}
-use Rattle.eos_machine.specs.Places.{IsConfig}
+use Rattle.eos_machine.specs.LogIndexes.{IsConfig}
 use Rattle.eos_machine.specs.Switching.{none}
-use Rattle.eos_machine.specs.SwitchedRuns.{all_under}
+use Rattle.eos_machine.specs.SwitchedSchedules.{all_under}
 use Rattle.eos_machine.specs.World.{World, opening, log_at}
-use Rattle.eos_machine.specs.Machine.{run, run_under}
+use Rattle.eos_machine.specs.Machine.{world_after, world_under}
 use Rattle.eos_machine.specs.Rest.{IsAtRest}
 use Rattle.eos_machine.proofs.Computed.{none_is}
 use Rattle.eos_machine.specs.Evidences.{parts_of, HasRoomForAll}
@@ -51,9 +51,9 @@ item_bytes c (Marker a e k n) h = tt
 
 -- ---- under any switches
 
-pub leaves : (c : Config) (xs : List (Switches × Event)) → IsConfig c → All (λ x. SendsBytes x.1) xs → HasRoomForAll c (run_under c (opening c) xs) → LeavesEvidence c (run_under c (opening c) xs)
+pub leaves : (c : Config) (xs : List (Switches × Event)) → IsConfig c → All (λ x. SendsBytes x.1) xs → HasRoomForAll c (world_under c (opening c) xs) → LeavesEvidence c (world_under c (opening c) xs)
 leaves c xs i b r =
-    let w : World = run_under c (opening c) xs in
+    let w : World = world_under c (opening c) xs in
     let g = writable c xs i r in
     let a = segments_added c w g in
     let k = kept_run IsBytes c (opening c) xs (All-weaker (λ x. SendsBytes x.1) (λ x. TopicIs IsBytes x.1) (λ x h. one_topic x.1 h) xs b) (kept_opening IsBytes c) in
@@ -74,9 +74,9 @@ none_bytes : (es : List Event) → All SendsBytes es → All (λ x. SendsBytes x
 none_bytes [] h = All-nil (λ x. SendsBytes x.1)
 none_bytes (e ∷ es) h = All-cons (λ x. SendsBytes x.1) (none, e) (all_under none es) (All-head SendsBytes e es h) (none_bytes es (All-tail SendsBytes e es h))
 
-of_schedule : (c : Config) (es : List Event) → IsConfig c → IsAtRest (run c (opening c) es) → LeavesEvidence c (run c (opening c) es) → LeavesRightEvidence c (run c (opening c) es)
+of_schedule : (c : Config) (es : List Event) → IsConfig c → IsAtRest (world_after c (opening c) es) → LeavesEvidence c (world_after c (opening c) es) → LeavesRightEvidence c (world_after c (opening c) es)
 of_schedule c es i h l =
-    let s : IsOfSchedule l.evidence = record { config = c; world = run c (opening c) es; events = es; sizes = i; run = refl; rest = h; evidence = l.of_logs } in
+    let s : IsOfSchedule l.evidence = record { config = c; world = world_after c (opening c) es; events = es; sizes = i; world_after = refl; rest = h; evidence = l.of_logs } in
     record {
       evidence = l.evidence;
       is_evidence = l.is_evidence;
@@ -86,7 +86,7 @@ of_schedule c es i h l =
       faultless = no_fault_in_logs l.evidence l.is_evidence s;
     }
 
-pub leaves_right : (c : Config) (es : List Event) → IsConfig c → All SendsBytes es → IsAtRest (run c (opening c) es) → HasRoomForAll c (run c (opening c) es) → LeavesRightEvidence c (run c (opening c) es)
+pub leaves_right : (c : Config) (es : List Event) → IsConfig c → All SendsBytes es → IsAtRest (world_after c (opening c) es) → HasRoomForAll c (world_after c (opening c) es) → LeavesRightEvidence c (world_after c (opening c) es)
 leaves_right c es i b h r =
     let e = none_is c (opening c) es in
     of_schedule c es i h (subst (LeavesEvidence c) e (leaves c (all_under none es) i (none_bytes es b) (subst (HasRoomForAll c) (sym e) r)))

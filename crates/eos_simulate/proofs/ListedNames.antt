@@ -9,7 +9,7 @@ use Rattle.eos_base.proofs.Membership.{append_cases, append_left, append_right}
 use Rattle.eos_txnlog.specs.declared.partitions.TopicPartitions.{TopicPartitions}
 use Rattle.eos_txnlog.specs.PartitionSets.{names_in_topic, names_of}
 use Rattle.eos_machine.specs.declared.config.Config.{Config}
-use Rattle.eos_machine.specs.Places.{topic_of, number_of, is_topic}
+use Rattle.eos_machine.specs.LogIndexes.{topic_of, number_of, is_topic}
 use Rattle.eos_machine.specs.Rest.{with_number, by_topic}
 
 -- ---- members by place in a list

@@ -19,7 +19,7 @@ use Rattle.eos_touch.specs.Touches.{touch_of}
 use Rattle.eos_touch.specs.Touches.{touch_in, touches_of, last_of, last_touch}
 use Rattle.eos_fold.specs.Standing.{IsOpen}
 use Rattle.eos_machine.specs.declared.config.Config.{Config}
-use Rattle.eos_machine.specs.Places.{is_sequenced}
+use Rattle.eos_machine.specs.LogIndexes.{is_sequenced}
 use Rattle.eos_machine.specs.declared.item.Item.{Item}
 use Rattle.eos_machine.specs.declared.item.Item.TheVariants.{Fed, State, Output, Offset, Marker}
 use Rattle.eos_machine.specs.World.{World, log_at}

@@ -18,10 +18,10 @@ use Rattle.eos_evidence.specs.declared.fault.AddFault.TheVariants as add_faults
 use Rattle.eos_evidence.specs.declared.fault.SpecFault.{SpecFault}
 use Rattle.eos_evidence.specs.declared.fault.SpecFault.TheVariants as spec_faults
 use Rattle.eos_evidence.specs.Ends.{end_cmp, are_apart, is_legal_end, insert_end, ordered}
-use Rattle.eos_evidence.specs.Parts.{Parts, are_legal_apps, are_legal_ends, accepted}
+use Rattle.eos_evidence.specs.Members.{Members, are_legal_apps, are_legal_ends, accepted}
 use Rattle.eos_evidence.specs.Evidence.{EvidenceParts, is_in, is_past_limit, has_base, insert_segment, with_segment, empty_partition, without_segments, added_to, added}
 use Rattle.eos_machine.specs.declared.config.Config.{Config}
-use Rattle.eos_machine.specs.Places.{IsConfig, place_count, topic_of, number_of}
+use Rattle.eos_machine.specs.LogIndexes.{IsConfig, log_count, topic_of, number_of}
 use Rattle.eos_machine.specs.declared.item.Item.{Item}
 use Rattle.eos_machine.specs.World.{World, log_at}
 use Rattle.eos_machine.specs.Evidences.{end_of, parts_of, segment_count, segment_at, log_segments, cluster_segments, adding, IsEvidenceOf}
@@ -77,15 +77,15 @@ all_added e f (s ∷ ss) h = by (added e s) refl h (λ g k. all_added g f ss k)
 
 -- ---- the ends are in order as they are
 
-ok_parts : (e f : Parts) → (let r : Result Parts SpecFault = Ok e in r ≡ Ok f) → e ≡ f
+ok_parts : (e f : Members) → (let r : Result Members SpecFault = Ok e in r ≡ Ok f) → e ≡ f
 ok_parts e f h = cc h
 
-accepted_is : (given spec : Parts) → accepted given ≡ Ok spec → spec.ends ≡ ordered given.ends
+accepted_is : (given spec : Members) → accepted given ≡ Ok spec → spec.ends ≡ ordered given.ends
 unfolding accepted
 accepted_is given spec h = by (are_legal_apps given.apps && are_legal_ends given.ends) (nat_le (length given.apps) 256 && nat_le (length given.ends) 4096) h
   where
-    by : (a b : Bool) → (let r : Result Parts SpecFault = if a then (if b then Ok (record given { ends = ordered given.ends }) else Err spec_faults.Limit) else Err spec_faults.Field in r ≡ Ok spec) → spec.ends ≡ ordered given.ends
-    by true true k = sym (ap (λ (x : Parts). x.ends) (ok_parts _ spec k))
+    by : (a b : Bool) → (let r : Result Members SpecFault = if a then (if b then Ok (record given { ends = ordered given.ends }) else Err spec_faults.Limit) else Err spec_faults.Field in r ≡ Ok spec) → spec.ends ≡ ordered given.ends
+    by true true k = sym (ap (λ (x : Members). x.ends) (ok_parts _ spec k))
     by true false k = absurd cc
     by false b k = absurd cc
 
@@ -189,16 +189,16 @@ found_at c w q a (suc n) l m =
     next : (a q : ℕ) → a ≤ q → (a ≡ q → ⊥) → a + 1 ≤ q
     next a q l d = grind (arith, l, d)
 
-each_place : (c : Config) (w : World) (a n : ℕ) → a + n ≤ place_count c
+each_place : (c : Config) (w : World) (a n : ℕ) → a + n ≤ log_count c
     → map (with_all (cluster_segments c w)) (map empty_partition (map (end_of c w) (range_with_len a n))) ≡ map (partition_at c w) (range_with_len a n)
 each_place c w a zero l = refl
 each_place c w a (suc n) l =
-    ap (λ p. p ∷ map (with_all (cluster_segments c w)) (map empty_partition (map (end_of c w) (range_with_len (a + 1) n)))) (found_at c w a 0 (place_count c) (omega arith) (omega (arith, l)))
+    ap (λ p. p ∷ map (with_all (cluster_segments c w)) (map empty_partition (map (end_of c w) (range_with_len (a + 1) n)))) (found_at c w a 0 (log_count c) (omega arith) (omega (arith, l)))
     ∙ ap (λ ps. partition_at c w a ∷ ps) (each_place c w (a + 1) n (omega (arith, l)))
 
 -- a partition for each place, in order
-pub partitions_are : (c : Config) (w : World) (e : EvidenceParts) → IsConfig c → IsEvidenceOf c w e → e.partitions ≡ map (partition_at c w) (range_with_len 0 (place_count c))
+pub partitions_are : (c : Config) (w : World) (e : EvidenceParts) → IsConfig c → IsEvidenceOf c w e → e.partitions ≡ map (partition_at c w) (range_with_len 0 (log_count c))
 partitions_are c w e i h =
     all_added (without_segments h.spec) e (cluster_segments c w) h.added
-    ∙ (ap (λ es. map (with_all (cluster_segments c w)) (map empty_partition es)) (accepted_is (parts_of c w) h.spec h.accepted ∙ ordered_is c w 0 (place_count c) i)
-    ∙ each_place c w 0 (place_count c) (omega arith))
+    ∙ (ap (λ es. map (with_all (cluster_segments c w)) (map empty_partition es)) (accepted_is (parts_of c w) h.spec h.accepted ∙ ordered_is c w 0 (log_count c) i)
+    ∙ each_place c w 0 (log_count c) (omega arith))

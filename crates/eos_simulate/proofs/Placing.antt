@@ -6,7 +6,7 @@ use Rattle.std.proofs.lemmas.List.Elements.{All-nil, All-push}
 use Rattle.eos_batch.specs.declared.marker.Kind.{Kind}
 use Rattle.eos_batch.specs.declared.marker.Kind.TheVariants.{Abort}
 use Rattle.eos_machine.specs.declared.config.Config.{Config}
-use Rattle.eos_machine.specs.Places.{txn_place, input_place, written_place, offsets_place, place_count, listed}
+use Rattle.eos_machine.specs.LogIndexes.{txn_index, input_index, written_index, offsets_index, log_count, listed}
 use Rattle.eos_machine.specs.declared.item.Claim.{Claim}
 use Rattle.eos_machine.specs.declared.item.Status.{Status}
 use Rattle.eos_machine.specs.declared.item.Entry.{Entry}
@@ -25,15 +25,15 @@ use Rattle.eos_machine.specs.Answers.{Answer, when}
 use Rattle.eos_machine.specs.Sessions.{produce, commit_offset, commit, end_session, resume_ended, resume, fetch}
 use Rattle.eos_machine.specs.Deliveries.{with_partition, accept, ticked_off, deliver}
 use Rattle.eos_machine.proofs.Written.{written_after}
-use Rattle.eos_machine.specs.Machine.{start_session, start, counted, step, run}
+use Rattle.eos_machine.specs.Machine.{start_session, start, counted, step, world_after}
 use Rattle.eos_machine.specs.steps.Machine.{happens}
 
 -- a state stands in the transaction log of its application, data elsewhere
 abbrev pub IsHere : Config → ℕ → Item → Type 0
 IsHere c p (Fed n) = c.transaction_logs < p
-IsHere c p (State a x n) = p ≡ txn_place c a
+IsHere c p (State a x n) = p ≡ txn_index c a
 IsHere c p (Output a e s x v n) = c.transaction_logs < p
-IsHere c p (Offset a e q v n) = p ≡ offsets_place
+IsHere c p (Offset a e q v n) = p ≡ offsets_index
 IsHere c p (Marker a e k n) = ⊤
 
 abbrev pub Placed : Config → World → Type 0
@@ -55,7 +55,7 @@ placed_item c w q x h k p = elim (set_or w.logs q (log_at w q ++ x ∷ []) p [])
 ]
 
 placed_written : (c : Config) (w : World) (a : ℕ) (x : Entry) → Placed c w → Placed c (written none c w a x)
-placed_written c w a x h = placed_item c w (txn_place c a) (State a x w.events) h refl
+placed_written c w a x h = placed_item c w (txn_index c a) (State a x w.events) h refl
 
 placed_finished : (c : Config) (w : World) (a : ℕ) (k : Kind) → Placed c w → Placed c (finished none c w a k)
 placed_finished c w a k h = placed_written c w a _ h
@@ -83,9 +83,9 @@ placed_if c false x y f g = g
 placed_deliver : (c : Config) (w : World) (m : ℕ) (r : Option Message) → Placed c w → Placed c (deliver none c w m r).0
 placed_deliver c w m None h = h
 placed_deliver c w m (Some (messages.Output a e p s x v)) h =
-    placed_if c _ _ _ h (placed_if c _ _ _ h (placed_if c _ _ _ h (placed_if c _ _ _ h (placed_if c _ _ _ h (placed_accept c w m a (written_place c a p) (Output a e s x v w.events) h (written_after c a p))))))
+    placed_if c _ _ _ h (placed_if c _ _ _ h (placed_if c _ _ _ h (placed_if c _ _ _ h (placed_if c _ _ _ h (placed_accept c w m a (written_index c a p) (Output a e s x v w.events) h (written_after c a p))))))
 placed_deliver c w m (Some (messages.Offset a e g q v)) h =
-    placed_if c _ _ _ h (placed_if c _ _ _ h (placed_if c _ _ _ h (placed_if c _ _ _ h (placed_if c _ _ _ h (placed_accept c w m a offsets_place (Offset a e q v w.events) h refl)))))
+    placed_if c _ _ _ h (placed_if c _ _ _ h (placed_if c _ _ _ h (placed_if c _ _ _ h (placed_if c _ _ _ h (placed_accept c w m a offsets_index (Offset a e q v w.events) h refl)))))
 placed_deliver c w m (Some (messages.End a e k)) h =
     placed_if c _ _ _ h (placed_if c _ _ _ h (placed_if c _ _ _ h (placed_if c _ _ _
     (placed_finished c (prepared none c w a k []) a k (placed_prepared c w a k [] h))
@@ -130,7 +130,7 @@ placed_fetch c w q None h = h
 placed_fetch c w q (Some s) h = placed_if c _ _ _ h (placed_if c _ _ _ h (placed_if c _ _ _ h h))
 
 placed_event : (c : Config) (w : World) (e : Event) → Placed c w → Placed c (happens c w e).0
-placed_event c w (events.Feed p) h = placed_if c _ _ _ h (placed_item c w (input_place c p) (Fed w.events) h (omega arith))
+placed_event c w (events.Feed p) h = placed_if c _ _ _ h (placed_item c w (input_index c p) (Fed w.events) h (omega arith))
 placed_event c w (events.Start a) h = placed_start c w a h
 placed_event c w (events.Produce m p x) h = placed_produce c w m p x (slice_get w.sessions m) h
 placed_event c w (events.Commit m q v) h = placed_commit c w m q v h
@@ -142,12 +142,12 @@ placed_event c w (events.BrokerRestart t p) h = placed_if c _ _ _ h h
 placed_event c w events.CoordinatorRestart h = h
 placed_event c w (events.Deliver m) h = placed_deliver c w m (slice_get w.messages m) h
 
-pub placed_run : (c : Config) (w : World) (es : List Event) → Placed c w → Placed c (run c w es)
+pub placed_run : (c : Config) (w : World) (es : List Event) → Placed c w → Placed c (world_after c w es)
 placed_run c w [] h = h
 placed_run c w (e ∷ es) h = placed_run c (step c w e).0 es (placed_if c _ _ _ h (placed_event c w e h))
 
 pub placed_opening : (c : Config) → Placed c (opening c)
-placed_opening c p = subst (All (IsHere c p)) (sym (empty (place_count c) p)) (All-nil (IsHere c p))
+placed_opening c p = subst (All (IsHere c p)) (sym (empty (log_count c) p)) (All-nil (IsHere c p))
   where
     empty : (n p : ℕ) → slice_index_or (replicate n (let e : List Item = [] in e)) p [] ≡ []
     empty zero p = refl

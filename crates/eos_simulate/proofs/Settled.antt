@@ -10,7 +10,7 @@ use Rattle.eos_fold.specs.Parts.{PartLog, AreCloses}
 use Rattle.eos_fold.specs.Closes.{closes_of}
 use Rattle.eos_fold.specs.Settling.{data_in}
 use Rattle.eos_machine.specs.declared.config.Config.{Config}
-use Rattle.eos_machine.specs.Places.{IsConfig, place_count, topic_of, number_of}
+use Rattle.eos_machine.specs.LogIndexes.{IsConfig, log_count, topic_of, number_of}
 use Rattle.eos_machine.specs.World.{World, log_at}
 use Rattle.eos_machine.specs.Rest.{NeighboursFit, AllAtomic, StepsFit, IsAtRest}
 use Rattle.eos_machine.proofs.Good.{Good}
@@ -27,7 +27,7 @@ pub record IsSettled (c : Config) (w : World) : Type 0 where
   pub config : IsConfig c
   pub fit : NeighboursFit c w
   pub atomic : AllAtomic c w
-  pub written : (p : ℕ) → p < place_count c → HaveTexts c (log_at w p)
+  pub written : (p : ℕ) → p < log_count c → HaveTexts c (log_at w p)
   pub steps : StepsFit c w
   pub rest : IsAtRest w
   pub good : Good c w

@@ -15,7 +15,7 @@ use Rattle.eos_fold.specs.declared.item.Item.{Item as DataRecord}
 use Rattle.eos_fold.specs.Parts.{PartLog}
 use Rattle.eos_table.specs.TransactionLog.{content_with, content_of, Unskipped, nothing, flat, steps_after, state_after, steps_of, all_steps, is_unfinished, last_of, ShareProducer, IsTransactionLog, is_transaction_part, transaction_parts}
 use Rattle.eos_machine.specs.declared.config.Config.{Config}
-use Rattle.eos_machine.specs.Places.{txn_place, place_count, topic_of, number_of, transactions_topic}
+use Rattle.eos_machine.specs.LogIndexes.{txn_index, log_count, topic_of, number_of, transactions_topic}
 use Rattle.eos_machine.specs.declared.item.Item.{Item}
 use Rattle.eos_machine.specs.declared.state.Coordinator.{Coordinator}
 use Rattle.eos_machine.specs.declared.item.Item.TheVariants.{Fed, State, Output, Offset, Marker}
@@ -34,7 +34,7 @@ use Rattle.eos_simulate.proofs.TxnRules.{own_follow, last_tracks, track_settled}
 pub record IsTxnLog (c : Config) (w : World) (q : ℕ) (l : PartLog) : Type 0 where
   pub first : 1 ≤ q
   pub last : q ≤ c.transaction_logs
-  pub here : q < place_count c
+  pub here : q < log_count c
   pub log : IsLog c w q l
 
 txn_name : (k : ℕ) → is_eq (slice_cmp nat_cmp (name k) transactions_topic) ≡ true → k ≡ 1
@@ -64,24 +64,24 @@ within_txn c q l m = let n = topic_at c q in by n.0 n.1
     by (suc (suc (suc zero))) n = absurd (let e = n.within.0 in omega (arith, e, m))
     by (suc (suc (suc (suc k)))) n = absurd (let e = n.within in omega (arith, e, m))
 
-pub in_txn : (c : Config) (w : World) (ls : List PartLog) → AreAt c w 0 (place_count c) ls → (l : PartLog) → Has (transaction_parts ls) l → (q : ℕ) × IsTxnLog c w q l
+pub in_txn : (c : Config) (w : World) (ls : List PartLog) → AreAt c w 0 (log_count c) ls → (l : PartLog) → Has (transaction_parts ls) l → (q : ℕ) × IsTxnLog c w q l
 in_txn c w ls at l h =
     let f = filter_has is_transaction_part ls l h in
-    let r = in_logs c w 0 (place_count c) ls at l f.0 in
+    let r = in_logs c w 0 (log_count c) ls at l f.0 in
     let t = txn_within c r.0 (subst (λ t. is_eq (slice_cmp nat_cmp t transactions_topic) ≡ true) r.3.topic f.1) in
     (r.0, record { first = t.0; last = t.1; here = omega (arith, r.2); log = r.3 })
 
-txn_here : (c : Config) (q : ℕ) → q ≤ c.transaction_logs → q < place_count c
+txn_here : (c : Config) (q : ℕ) → q ≤ c.transaction_logs → q < log_count c
 txn_here c q l = omega (arith, l)
 
-pub at_txn : (c : Config) (w : World) (ls : List PartLog) (a : ℕ) → IsSettled c w → AreAt c w 0 (place_count c) ls → (l : PartLog) × Has (transaction_parts ls) l × IsTxnLog c w (txn_place c a) l
+pub at_txn : (c : Config) (w : World) (ls : List PartLog) (a : ℕ) → IsSettled c w → AreAt c w 0 (log_count c) ls → (l : PartLog) × Has (transaction_parts ls) l × IsTxnLog c w (txn_index c a) l
 at_txn c w ls a s at =
     let few : a % c.transaction_logs < c.transaction_logs = mod-lt a s.config.transaction_logs.0 in
-    let last : txn_place c a ≤ c.transaction_logs = omega (arith, few) in
-    let here = txn_here c (txn_place c a) last in
-    let r = at_logs c w 0 (place_count c) ls at (txn_place c a) (omega arith) (omega (arith, here)) in (
+    let last : txn_index c a ≤ c.transaction_logs = omega (arith, few) in
+    let here = txn_here c (txn_index c a) last in
+    let r = at_logs c w 0 (log_count c) ls at (txn_index c a) (omega arith) (omega (arith, here)) in (
       r.0,
-      has_filter is_transaction_part ls r.0 r.1 (subst (λ t. is_eq (slice_cmp nat_cmp t transactions_topic) ≡ true) (sym r.2.topic) (within_txn c (txn_place c a) (omega arith) last)),
+      has_filter is_transaction_part ls r.0 r.1 (subst (λ t. is_eq (slice_cmp nat_cmp t transactions_topic) ≡ true) (sym r.2.topic) (within_txn c (txn_index c a) (omega arith) last)),
       record { first = omega arith; last = last; here = here; log = r.2 },
     )
 
@@ -112,7 +112,7 @@ step_in c w q l s e t h =
       },
     )
 
-pub step_at : (c : Config) (w : World) (ls : List PartLog) (s : Unskipped) → IsSettled c w → AreAt c w 0 (place_count c) ls → Has (all_steps (transaction_parts ls)) s → (q : ℕ) × (a : ℕ) × IsStepAt c w q a s
+pub step_at : (c : Config) (w : World) (ls : List PartLog) (s : Unskipped) → IsSettled c w → AreAt c w 0 (log_count c) ls → Has (all_steps (transaction_parts ls)) s → (q : ℕ) × (a : ℕ) × IsStepAt c w q a s
 step_at c w ls s e at h =
     let f = flat_has steps_of (transaction_parts ls) s h in
     let t = in_txn c w ls at f.0 f.1 in
@@ -124,14 +124,14 @@ step_at c w ls s e at h =
 pub one_producer : (a b : ℕ) → producer_id a ≡ producer_id b → a ≡ b
 one_producer a b e = let n : 1000 + a ≡ 1000 + b = ap unsigned_abs e in omega (arith, n)
 
-pub no_entries : (c : Config) (q a : ℕ) (xs : List Item) → AreStates c q xs → (q ≡ txn_place c a → ⊥) → entries_of a xs ≡ []
+pub no_entries : (c : Config) (q a : ℕ) (xs : List Item) → AreStates c q xs → (q ≡ txn_index c a → ⊥) → entries_of a xs ≡ []
 no_entries c q a [] h d = refl
 no_entries c q a (Fed n ∷ xs) h d = absurd h
 no_entries c q a (Output b e s x v n ∷ xs) h d = absurd h
 no_entries c q a (Offset b e s v n ∷ xs) h d = absurd h
 no_entries c q a (Marker b e k n ∷ xs) h d = no_entries c q a xs h d
 no_entries c q a (State b x n ∷ xs) h d = elim (cases_eq b a) [
-  | inl e ↦ absurd (d (h.0 ∙ ap (txn_place c) e))
+  | inl e ↦ absurd (d (h.0 ∙ ap (txn_index c) e))
   | inr f ↦ rw (Rattle.std.proofs.lemmas.Bool.ne_eqb b a f) (no_entries c q a xs h.1 d)
 ]
 
@@ -140,7 +140,7 @@ abbrev IsQuiet : Coordinator → Type 0
 IsQuiet s = (is_ongoing s.status ≡ false) × (is_prepare s.status ≡ false)
 
 last_quiet : (c : Config) (w : World) (q a : ℕ) → IsSettled c w → AreStates c q (log_at w q) → IsQuiet (last_state fresh (entries_of a (log_at w q)))
-last_quiet c w q a s h = elim (cases_eq q (txn_place c a)) [
+last_quiet c w q a s h = elim (cases_eq q (txn_index c a)) [
   | inl e ↦ subst (λ (p : ℕ). IsQuiet (last_state fresh (entries_of a (log_at w p)))) (sym e)
       (let r = (s.good.read a).status in let t = s.rest a in (ap is_ongoing (sym r) ∙ t.0, ap is_prepare (sym r) ∙ t.1))
   | inr d ↦ subst (λ es. IsQuiet (last_state fresh es)) (sym (no_entries c q a (log_at w q) h d)) (refl, refl)
@@ -164,7 +164,7 @@ settled_at c w q l id s t = ap (λ xs. is_unfinished (last_of xs id)) t.log.item
 shared : (s t : Unskipped) (u v : TxnValue) → s.value ≡ Some u → t.value ≡ Some v → ShareProducer s.value t.value → u.producer ≡ v.producer
 shared s t u v e f h = (subst (λ y. ShareProducer (Some u) y) f (subst (λ x. ShareProducer x t.value) e h)).0
 
-pub keeps_rule : (c : Config) (w : World) (ls : List PartLog) → IsSettled c w → AreAt c w 0 (place_count c) ls → IsTransactionLog (transaction_parts ls)
+pub keeps_rule : (c : Config) (w : World) (ls : List PartLog) → IsSettled c w → AreAt c w 0 (log_count c) ls → IsTransactionLog (transaction_parts ls)
 keeps_rule c w ls s at = record {
   reads = reads;
   follows = follows;
@@ -187,7 +187,7 @@ keeps_rule c w ls s at = record {
     one_partition u v h k e =
         let x = step_at c w ls u s at h in let y = step_at c w ls v s at k in
         let a : x.1 ≡ y.1 = one_app x.1 y.1 (sym x.2.of.id ∙ (e ∙ y.2.of.id)) in
-        x.2.of.partition ∙ (ap (num c) (x.2.of.place ∙ (ap (txn_place c) a ∙ sym y.2.of.place)) ∙ sym y.2.of.partition)
+        x.2.of.partition ∙ (ap (num c) (x.2.of.place ∙ (ap (txn_index c) a ∙ sym y.2.of.place)) ∙ sym y.2.of.partition)
 
     one_id : (u v : Unskipped) → Has (all_steps (transaction_parts ls)) u → Has (all_steps (transaction_parts ls)) v → ShareProducer u.value v.value → u.id ≡ v.id
     one_id u v h k e =

@@ -25,7 +25,7 @@ use Rattle.eos_fold.specs.Items.{items_of}
 use Rattle.eos_fold.specs.Settling.{data_in}
 use Rattle.eos_table.specs.TransactionLog.{content_with, content_at, content_of, same_id, Unskipped, State as LastOf, update, flat, next_state, step_at, steps_after, state_after}
 use Rattle.eos_machine.specs.declared.config.Config.{Config}
-use Rattle.eos_machine.specs.Places.{txn_place, offsets_place}
+use Rattle.eos_machine.specs.LogIndexes.{txn_index, offsets_index}
 use Rattle.eos_machine.specs.declared.item.Entry.{Entry}
 use Rattle.eos_machine.specs.declared.item.Item.{Item}
 use Rattle.eos_machine.specs.declared.item.Item.TheVariants.{Fed, State, Output, Offset, Marker}
@@ -69,7 +69,7 @@ records_from c o xs = items_of (data_in (singles_from c o xs))
 abbrev pub AreStates : Config → ℕ → List Item → Type 0
 AreStates c p [] = ⊤
 AreStates c p (Fed n ∷ xs) = ⊥
-AreStates c p (State a x n ∷ xs) = (p ≡ txn_place c a) × AreStates c p xs
+AreStates c p (State a x n ∷ xs) = (p ≡ txn_index c a) × AreStates c p xs
 AreStates c p (Output a e s x v n ∷ xs) = ⊥
 AreStates c p (Offset a e q v n ∷ xs) = ⊥
 AreStates c p (Marker a e k n ∷ xs) = AreStates c p xs
@@ -234,7 +234,7 @@ some_app c p id last o (State b x n ∷ xs) s w = by (same_id (transactional_id 
 
 pub record IsStepOf (c : Config) (p : ℕ) (num : ℤ) (a : ℕ) (s : Unskipped) : Type 0 where
   pub id : s.id ≡ transactional_id a
-  pub place : p ≡ txn_place c a
+  pub place : p ≡ txn_index c a
   pub partition : s.partition ≡ num
   pub value : TxnValue
   pub says : s.value ≡ Some value

@@ -13,7 +13,7 @@ use Rattle.eos_fold.specs.declared.stop.Stop.TheVariants.{AtEnd}
 use Rattle.eos_touch.specs.Front.{records_in, ContinuesFrom}
 use Rattle.eos_fold.specs.Fronts.{IsFront}
 use Rattle.eos_machine.specs.declared.config.Config.{Config}
-use Rattle.eos_machine.specs.Places.{IsConfig}
+use Rattle.eos_machine.specs.LogIndexes.{IsConfig}
 use Rattle.eos_machine.specs.declared.item.Item.{Item}
 use Rattle.eos_machine.specs.Batches.{batches_from, texts_of, AreTexts}
 use Rattle.eos_machine.specs.Evidences.{segment_count, batches_at, segment_at, log_segments, HaveTexts}

@@ -14,7 +14,7 @@ pub mod laws;
 mod making;
 mod replaying;
 mod schedule_file;
-pub mod simulation_laws;
+pub mod evidence_laws;
 
 pub use course::Course;
 pub use folder::simulate_folder;

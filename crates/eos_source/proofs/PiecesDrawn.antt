@@ -7,7 +7,7 @@ use Rattle.std.specs.Prelude.{All, Any, IsOk, IfOk}
 use Rattle.std.specs.List.{count_by}
 use Rattle.eos_source.specs.declared.seats.Stint.{Stint}
 use Rattle.eos_source.specs.steps.Seats.{numbers_in, all_numbers, LeavesNone}
-use Rattle.eos_board.specs.Places.{Counter, Place, AreBelow, drawn_of_all, once_below}
+use Rattle.eos_board.specs.SeatViews.{Counter, SeatView, AreBelow, drawn_of_all, once_below}
 
 -- ---- lists that grow by one
 
@@ -97,7 +97,7 @@ module _ {F : Type 0} where
 
   -- one of the seats found none left, or has drawn as many as there are
   pub each_once : (n : ℕ) (stints : List (Stint F)) (drawn : List ℕ) → drawn ≡ drawn_of_all (map (λ s. s.seat) stints) → AreBelow (length drawn) drawn
-      → (Any (λ (p : Place). p.is_done ≡ true) (map (λ s. s.seat) stints) → length drawn ≡ n)
+      → (Any (λ (p : SeatView). p.is_done ≡ true) (map (λ s. s.seat) stints) → length drawn ≡ n)
       → All (λ s. All (λ m. m < n) s.seat.drawn) stints → All (λ s. IfOk s.end (λ done. s.seat.is_done ≡ false → n ≤ length s.seat.drawn)) stints
       → Any (λ s. IsOk s.end) stints → AreBelow n drawn
   each_once n stints drawn lists below left there ended any =

@@ -3,14 +3,14 @@
 ghost use Rattle.std.specs.Prelude.{◌≡◌, ◌⊎◌, ◌+◌, ◌++◌, ◌∷◌, [], ℕ, List, length, IfOk, IfErr, OnOk, IsPermutation, alloc_error};
 ghost use Rattle.std.specs.Vec.Iter.{into_iter_items};
 ghost use Rattle.eos_evidence.specs.Evidence.{IsPartition, segments_of};
-ghost use Rattle.eos_evidence.specs.Parts.{outputs_of};
+ghost use Rattle.eos_evidence.specs.Members.{outputs_of};
 ghost use Rattle.eos_evidence.specs.declared.segment.Segment.{Segment};
 ghost use Rattle.eos_source.specs.Logs.{AreKeptLogs, tally_of};
 ghost use Rattle.eos_source.specs.Refusals.{IsRefusal};
 ghost use Rattle.eos_source.specs.Said.{Said, known_by};
 ghost use Rattle.eos_source.specs.steps.Partitions.{IsToldOf, AreToldOf};
 ghost use Rattle.eos_source.specs.steps.Runs.{AreSlots, AreSlotsOf, IsFirstRefused, ArePassed};
-ghost use Rattle.eos_board.specs.Places.{AreBelow};
+ghost use Rattle.eos_board.specs.SeatViews.{AreBelow};
 
 use crate::joined::next_run;
 use crate::plan::Plan;

@@ -3,11 +3,11 @@
 
 ghost use Rattle.std.specs.Prelude.{◌≡◌, vec_len, length, map, set, All, Any, IsOk, IfOk, IsPermutation};
 ghost use Rattle.eos_evidence.specs.Evidence.{segments_of};
-ghost use Rattle.eos_evidence.specs.Parts.{outputs_of};
+ghost use Rattle.eos_evidence.specs.Members.{outputs_of};
 ghost use Rattle.eos_source.specs.Said.{known_by};
 ghost use Rattle.eos_source.specs.steps.Seats.{IsReading, IsDesk, IsStint, numbers_in, all_numbers};
 ghost use Rattle.eos_source.specs.steps.Slots.{AreSlotsSoFar, AreFilledAsWell, IsFilled};
-ghost use Rattle.eos_board.specs.Places.{IsFresh, AreBelow};
+ghost use Rattle.eos_board.specs.SeatViews.{IsFresh, AreBelow};
 
 use crate::plan::Plan;
 use crate::source::Source;
@@ -99,7 +99,7 @@ fn read_drawn<S: Source>(
 }
 
 /// The seats and what was read from them, apart, if one of the threads found that all pieces are drawn.
-fn parted<F: Drop>(
+fn split_stints<F: Drop>(
     alloc: Global,
     stints: Vec<Stint<F>>,
 ) -> Result<(Vec<Seat>, Vec<Vec<Reading<F>>>), AllocError>
@@ -135,7 +135,7 @@ fn gathered<S: Source>(
     ensures numbers { IfOk result (λ r. all_numbers r.0.items ≡ r.1) }
     ensures once { IfOk result (λ r. AreBelow (length (segments_of plan.now.shape.now.partitions)) r.1) }
 {
-    let (seats, read) = parted(alloc, stints)?;
+    let (seats, read) = split_stints(alloc, stints)?;
     Ok((read, tickets.gather(seats)))
 }
 
@@ -176,7 +176,7 @@ fn put_at<T: Drop>(items: &mut [T], place: u64, item: T)
 }
 
 /// Puts what a thread read into the slots.
-pub(crate) fn place<S: Source>(
+pub(crate) fn fill<S: Source>(
     plan: &Plan<'_, S>,
     seat: Vec<Reading<S::Fault>>,
     slots: &mut [Option<Result<KeptRun, S::Fault>>],

@@ -2,13 +2,13 @@
 
 ghost use Rattle.std.specs.Prelude.{◌≡◌, vec_len, length, map, Some, None, All, IsSome, IfOk, IsPermutation};
 ghost use Rattle.eos_evidence.specs.Evidence.{segments_of};
-ghost use Rattle.eos_evidence.specs.Parts.{outputs_of};
+ghost use Rattle.eos_evidence.specs.Members.{outputs_of};
 ghost use Rattle.eos_source.specs.Said.{known_by};
 ghost use Rattle.eos_source.specs.steps.Runs.{AreSlots};
-ghost use Rattle.eos_board.specs.Places.{AreBelow};
+ghost use Rattle.eos_board.specs.SeatViews.{AreBelow};
 
 use crate::plan::Plan;
-use crate::seats::{place, read_by_threads};
+use crate::seats::{fill, read_by_threads};
 use crate::source::Source;
 use eos_base::Workers;
 use eos_board::Drawn;
@@ -58,7 +58,7 @@ pub(crate) fn read_all<S: Source, R: Threads + Sync>(
     let (seats, drawn) = read_by_threads(alloc, rt, plan, workers)?;
     let mut slots = unread(alloc, plan.shape.pieces())?;
     for seat in seats {
-        place(plan, seat, slots.as_mut_slice());
+        fill(plan, seat, slots.as_mut_slice());
     }
     Ok((filled(alloc, slots)?, drawn))
 }

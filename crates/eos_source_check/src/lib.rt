@@ -12,7 +12,7 @@
 
 mod again;
 mod all;
-pub mod all_faults_laws;
+pub mod list_laws;
 mod fault;
 mod judged;
 mod kept;
@@ -20,8 +20,8 @@ mod later;
 pub mod laws;
 mod listed;
 mod partitions;
-pub mod source_faults_laws;
-pub mod wanted_notes_laws;
+pub mod kept_list_laws;
+pub mod kept_note_laws;
 
 pub use all::{all_faults, of_partitions};
 pub use fault::Unlisted;

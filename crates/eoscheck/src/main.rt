@@ -2,10 +2,10 @@
 //! epochs of their producers, writes manifests for copied logs, and the logs of a simulated cluster.
 #![tactic(auto)]
 
-mod run;
+mod acts;
 
 use std::process::ExitCode;
 
 fn main(rt: HostRuntime) -> ExitCode {
-    ExitCode::from(run::run(&rt, &rt))
+    ExitCode::from(acts::obey_words(&rt, &rt))
 }

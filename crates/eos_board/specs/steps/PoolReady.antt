@@ -10,29 +10,29 @@ use Rattle.eos_board.specs.Runs.{AreKnown, IsTaken, Overlap}
 use Rattle.eos_board.specs.Ties.{IsRunOf}
 use Rattle.eos_board.specs.PoolState.{StockView, PoolView, held_pieces, all_pieces, HoldsRunsOf}
 
--- the run may be placed on the board
-pub record MayPlace (s : StockView) (run : NamedView) : Type 0 where
+-- the run may be put on the board
+pub record MayPut (s : StockView) (run : NamedView) : Type 0 where
   pub known : AreKnown (length s.segments) run
   pub free : IsTaken s.runs run → ⊥
 
--- both runs may be placed, and merged
-pub record MayPlaceBoth (s : StockView) (a b : NamedView) : Type 0 where
-  pub left : MayPlace s a
-  pub right : MayPlace s b
+-- both runs may be put, and merged
+pub record MayPutBoth (s : StockView) (a b : NamedView) : Type 0 where
+  pub left : MayPut s a
+  pub right : MayPut s b
   pub apart : Overlap a b → ⊥
   pub follows : Follows a b
 
 abbrev pub IsReady : StockView → Holding → Type 0
 IsReady s Nothing = ⊤
 IsReady s (Piece n) = n < length s.segments
-IsReady s (Run a) = MayPlace s a
-IsReady s (Pair a b) = MayPlaceBoth s a b
+IsReady s (Run a) = MayPut s a
+IsReady s (Pair a b) = MayPutBoth s a b
 
 -- what the worker holds may be given up
 abbrev pub HasRoom : StockView → Holding → Type 0
 HasRoom s h = length s.given_up + length (held_pieces h) ≤ length s.segments
 
--- The pieces of all places are those of the evidence, each once: so they have the same sum, whatever each counts.
+-- The pieces of all slots are those of the evidence, each once: so they have the same sum, whatever each counts.
 abbrev pub AreSamePieces : PoolView → Type 0
 AreSamePieces p = (f : ℕ → ℕ) → sum_by f (all_pieces p) ≡ sum_by f (range_with_len 0 (length p.stock.segments))
 

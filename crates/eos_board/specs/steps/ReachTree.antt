@@ -15,7 +15,7 @@ pub record IsTreeBut (but count : ℕ) (nodes : List ℕ) : Type 0 where
   pub len : length nodes ≡ 2 * count
   pub over : (m : ℕ) → 1 ≤ m → m < count → (m ≡ but → ⊥) → slice_index_or nodes m 0 ≡ of_children m nodes
 
--- the nodes from one place up to another are at most this
+-- the nodes from one slot up to another are at most this
 abbrev pub AreAtMost : ℕ → ℕ → ℕ → List ℕ → Type 0
 AreAtMost low high most nodes = (k : ℕ) → low ≤ k → k < high → slice_index_or nodes k 0 ≤ most
 

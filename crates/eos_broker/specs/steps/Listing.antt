@@ -1,6 +1,6 @@
 -- What is still to be listed of a transaction's partitions.
 use Rattle.std.specs.Prelude.{ℕ, List, Bool, true, false}
-use Rattle.eos_machine.specs.Places.{listed}
+use Rattle.eos_machine.specs.LogIndexes.{listed}
 
 -- where the new one stands already, the others as they are
 abbrev pub rest_of : Bool → ℕ → List ℕ → List ℕ

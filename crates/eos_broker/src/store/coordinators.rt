@@ -1,7 +1,7 @@
 //! What the transaction coordinator holds.
 
 ghost use Rattle.std.specs.Prelude.{◌≡◌, ◌∷◌, ◌++◌, ◌-◌, ◌+◌, ◌≤◌, ◌<◌, ◌^◌, ◌↔◌, true, [], OnOk, OnErr, IfOk, length};
-ghost use Rattle.eos_machine.specs.Places.{txn_place};
+ghost use Rattle.eos_machine.specs.LogIndexes.{txn_index};
 ghost use Rattle.eos_machine.specs.World.{coord_at, with_coord, said_entry, recorded, prepared, state_of};
 ghost use Rattle.eos_machine.specs.Tests.{has, is_current, ongoing_partitions};
 ghost use Rattle.eos_machine.specs.Deliveries.{without, ticked_off};
@@ -12,9 +12,9 @@ ghost use Rattle.eos_broker.specs.Held.{becomes};
 use super::Store;
 use crate::answers::{is_ongoing, is_prepare};
 use crate::copies;
-use crate::places::txn_place;
+use crate::log_indexes::txn_index;
 use eos_batch::Kind;
-use eos_machine::{Coordinator, Entry, Item, Places, Status, Switches};
+use eos_machine::{Coordinator, Entry, Item, LogIndexes, Status, Switches};
 use std::alloc::AllocError;
 
 /// A record of the transaction log, and the state that it leaves.
@@ -25,7 +25,7 @@ pub struct Step {
 }
 
 /// The state that a record with these parts leaves.
-pub fn state_of(status: Status, epoch: u16, partitions: Places) -> Result<Coordinator, AllocError>
+pub fn state_of(status: Status, epoch: u16, partitions: LogIndexes) -> Result<Coordinator, AllocError>
     ensures { IfOk result (λ s. s ≡ state_of (record { status = status; epoch = epoch; partitions = partitions })) }
 {
     let awaited = copies::copy(&partitions)?;
@@ -74,7 +74,7 @@ impl Store {
     }
 
     /// The partitions of an application's transaction, copied.
-    pub fn partitions(&self, application: usize) -> Result<Places, AllocError>
+    pub fn partitions(&self, application: usize) -> Result<LogIndexes, AllocError>
         ensures { IfOk result (λ p. p ≡ (coord_at self.now.world application).partitions) }
     {
         match self.coordinators.get(application) {
@@ -84,7 +84,7 @@ impl Store {
     }
 
     /// The partitions of the open transaction.
-    pub fn ongoing_partitions(&self, application: usize) -> Result<Places, AllocError>
+    pub fn ongoing_partitions(&self, application: usize) -> Result<LogIndexes, AllocError>
         ensures { IfOk result (λ p. p ≡ ongoing_partitions (coord_at self.now.world application).status (coord_at self.now.world application).partitions) }
     {
         if is_ongoing(self.status(application)) {
@@ -115,7 +115,7 @@ impl Store {
     }
 
     /// The partitions whose end markers are awaited, but for one.
-    pub fn others_awaited(&self, application: usize, place: usize) -> Result<Places, AllocError>
+    pub fn others_awaited(&self, application: usize, place: usize) -> Result<LogIndexes, AllocError>
         ensures { IfOk result (λ p. p ≡ without place (coord_at self.now.world application).awaited) }
     {
         match self.coordinators.get(application) {
@@ -125,7 +125,7 @@ impl Store {
     }
 
     /// An end marker has come: these are left.
-    pub fn tick_off(&mut self, application: usize, _place: usize, left: Places)
+    pub fn tick_off(&mut self, application: usize, _place: usize, left: LogIndexes)
         requires { left ≡ without _place (coord_at self.old.world application).awaited }
         ensures { self.new ≡ becomes self.old (with_coord self.old.world application (ticked_off (coord_at self.old.world application) _place)) 0 }
     {
@@ -149,7 +149,7 @@ impl Store {
         switches: Switches,
         status: Status,
         epoch: u16,
-        partitions: Places,
+        partitions: LogIndexes,
     ) -> Result<Step, AllocError>
         ensures entry { IfOk result (λ s. s.entry ≡ said_entry switches self.now.config (record { status = status; epoch = epoch; partitions = partitions })) }
         ensures state { IfOk result (λ s. s.state ≡ state_of (record { status = status; epoch = epoch; partitions = partitions })) }
@@ -171,7 +171,7 @@ impl Store {
         requires { 1 ≤ self.old.spare }
         ensures { self.new ≡ becomes self.old (recorded self.old.config self.old.world application step.entry step.state) 1 }
     {
-        let place = txn_place(self.config(), application);
+        let place = txn_index(self.config(), application);
         let event = self.events();
         let Step { entry, state } = step;
         self.put(
@@ -191,7 +191,7 @@ impl Store {
         switches: Switches,
         application: usize,
         kind: Kind,
-        partitions: Places,
+        partitions: LogIndexes,
     ) -> Result<(), AllocError>
         requires room { length partitions + 1 ≤ self.old.spare }
         requires epoch { (coord_at self.old.world application).epoch ≤ 32767 }

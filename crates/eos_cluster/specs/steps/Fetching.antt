@@ -4,7 +4,7 @@ use Rattle.std.specs.List.{All}
 use Rattle.eos_batch.specs.declared.marker.Kind.{Kind}
 use Rattle.eos_machine.specs.declared.item.Item.{Item}
 use Rattle.eos_machine.specs.declared.item.Item.TheVariants.{Fed, State, Output, Offset, Marker}
-use Rattle.eos_machine.specs.Places.{offsets_place}
+use Rattle.eos_machine.specs.LogIndexes.{offsets_index}
 use Rattle.eos_machine.specs.World.{World}
 use Rattle.eos_machine.specs.Logs.{producer_at, first_kind, has_open_commit, committed_from}
 use Rattle.eos_cluster.specs.declared.fetches.Fetched.{Fetched}
@@ -27,7 +27,7 @@ IsThere (Some v) = ⊤
 
 -- nothing before can change this: a commit was found, and the next marker of each application that has data
 abbrev pub IsSettled : ℕ → World → Fetched → List (Option Kind) → Type 0
-IsSettled n w f es = IsThere f.committed × ((a : ℕ) → a < n → slice_index_or es a None ≡ None → (producer_at w a offsets_place).last ≡ None)
+IsSettled n w f es = IsThere f.committed × ((a : ℕ) → a < n → slice_index_or es a None ≡ None → (producer_at w a offsets_index).last ≡ None)
 
 -- no offset of the application stands in a log
 abbrev pub IsNotOf : ℕ → Item → Type 0

@@ -4,7 +4,7 @@ use Rattle.std.specs.Prelude.{ℕ, ◌+◌, List, [], ◌∷◌, ◌++◌, if◌
 use Rattle.eos_machine.specs.declared.event.Event.{Event}
 use Rattle.eos_machine.specs.declared.event.Reply.{Reply}
 use Rattle.eos_cluster.specs.Courses.{Course}
-use Rattle.eos_drive.specs.declared.history_whole.Entry.{Entry}
+use Rattle.eos_drive.specs.declared.finished.Entry.{Entry}
 use Rattle.eos_drive.specs.Replay.{is_stored}
 
 -- the entries after a call by the pass of this number

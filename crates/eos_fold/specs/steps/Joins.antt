@@ -10,7 +10,7 @@ use Rattle.eos_fold.specs.declared.ends.Ends.{Ends}
 use Rattle.eos_fold.specs.declared.fault.Fault.{Fault}
 use Rattle.eos_fold.specs.Ends.{first_placed, last_placed, first_marker}
 use Rattle.eos_fold.specs.Settling.{data_in, waiting_in, settled}
-use Rattle.eos_fold.specs.Tables.{Table, ends_in, ends_at, AreEnds, HasEnds, KeepsPlaces}
+use Rattle.eos_fold.specs.Tables.{Table, ends_in, ends_at, AreEnds, HasEnds, KeepsIndexes}
 use Rattle.eos_fold.specs.Taken.{IsJoined, IsReadyFor}
 use Rattle.eos_fold.specs.Faults.{IsSettled, IsLeastOf, StandsAt}
 use Rattle.eos_fold.specs.steps.Summaries.{only, TakesFault}
@@ -27,7 +27,7 @@ pub record Starts (xs ys : List Batch) (s : Bool) (t : Table) (is : List DataBat
   pub before : HasEnds xs t
   pub after : (id : ℤ) → AreEnds id ys (ends_in (rest id))
   pub items : is ≡ data_in xs
-  pub places : KeepsPlaces t is
+  pub places : KeepsIndexes t is
   pub places_after : (id : ℤ) → (ends_in (rest id)).waiting.list ≡ waiting_in id (data_in ys)
   pub fault : IsLeastOf (λ o id k. IsSettled s xs o id k ⊎ IsSettled s ys o id k) f
 

@@ -4,11 +4,11 @@ use Rattle.std.specs.List.{list_all}
 use Rattle.eos_machine.specs.declared.config.Config.{Config}
 use Rattle.eos_machine.specs.declared.item.Item.{Item}
 use Rattle.eos_machine.specs.declared.item.Item.TheVariants.{Fed, State, Output, Offset, Marker}
-use Rattle.eos_machine.specs.Places.{application_count, place_count}
+use Rattle.eos_machine.specs.LogIndexes.{application_count, log_count}
 use Rattle.eos_machine.specs.Sessions.{claimed_topic}
 
 abbrev pub are_all_there : Config → List ℕ → Bool
-are_all_there c ps = list_all (λ p. nat_lt p (place_count c)) ps && nat_le (length ps) (place_count c)
+are_all_there c ps = list_all (λ p. nat_lt p (log_count c)) ps && nat_le (length ps) (log_count c)
 
 abbrev pub is_fit : Config → Item → Bool
 is_fit c (Fed n) = nat_lt n (2 ^ 63)

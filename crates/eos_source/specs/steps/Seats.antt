@@ -8,7 +8,7 @@ use Rattle.eos_source.specs.declared.seats.Reading.{Reading}
 use Rattle.eos_source.specs.declared.seats.Stint.{Stint}
 use Rattle.eos_source.specs.Said.{Known}
 use Rattle.eos_source.specs.steps.Runs.{IsSlot}
-use Rattle.eos_board.specs.Places.{Counter, Place, IsFresh}
+use Rattle.eos_board.specs.SeatViews.{Counter, SeatView, IsFresh}
 
 -- what became of a piece of these names
 abbrev pub IsReading : {F : Type 0} → (ℕ → Known) → (ℕ → Option F → Type 0) → List (List ℕ) → List App → List Segment → Reading F → Type 0
@@ -19,7 +19,7 @@ abbrev pub numbers_in : {F : Type 0} → List (Reading F) → List ℕ
 numbers_in read = map (λ r. r.piece) read
 
 -- a seat that found none left, or that has itself drawn as many as there are
-abbrev pub LeavesNone : Place → Type 0
+abbrev pub LeavesNone : SeatView → Type 0
 LeavesNone seat = seat.is_done ≡ false → seat.of.count ≤ length seat.drawn
 
 -- a seat of these tickets that has drawn nothing yet, with room for one reading

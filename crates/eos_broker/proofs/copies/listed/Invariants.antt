@@ -1,5 +1,5 @@
 use Rattle.std.proofs.Common.{◌≡◌, ◌++◌, drop}
-use Rattle.eos_machine.specs.Places.{listed}
+use Rattle.eos_machine.specs.LogIndexes.{listed}
 use Rattle.eos_broker.specs.steps.Listing.{rest_of}
 use Rattle.eos_broker.proofs.copies.listed.Given as goal
 

@@ -1,5 +1,5 @@
 use Rattle.std.proofs.Common.{◌≡◌, ◌+◌, vec_len, All}
-use Rattle.eos_board.specs.Places.{IsFresh}
+use Rattle.eos_board.specs.SeatViews.{IsFresh}
 use Rattle.eos_check.proofs.pool.workers_of.Given as goal
 
 abbrev pub invariant-loop-seat : goal.invariant-loop-seat

@@ -1,5 +1,5 @@
 use Rattle.std.proofs.Common.{◌-◌, ◌∙◌, rules}
-use Rattle.eos_machine.specs.Places.{application_count}
+use Rattle.eos_machine.specs.LogIndexes.{application_count}
 use Rattle.eos_cluster.proofs.Backward.{back_one}
 use Rattle.eos_cluster.proofs.Settled.{settled_here}
 use Rattle.eos_cluster.proofs.fetches.read_back.Goals as goal

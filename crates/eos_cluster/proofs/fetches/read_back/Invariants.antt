@@ -1,5 +1,5 @@
 use Rattle.std.proofs.Common.{◌≡◌, drop, vec_len}
-use Rattle.eos_machine.specs.Places.{application_count}
+use Rattle.eos_machine.specs.LogIndexes.{application_count}
 use Rattle.eos_cluster.specs.steps.Fetching.{AreEnds, IsFetched}
 use Rattle.eos_cluster.proofs.fetches.read_back.Given as goal
 

@@ -14,7 +14,7 @@ returns-clause-so c =
     let id = sym (to_z-of_z w64 end.producer id_fits) in
     let epoch = sym (to_z-of_z w16 end.epoch epoch_fits) in
     let many = c.count_ends-count.ensures ∙ ends_same markers _ _ _ _ end.kind id epoch in
-    let so = own_true c.args.part.now c.args.scene.columns.now c.own_place-column.result _ end.kind c.count_ends-count.result c.own_place-column.ensures (omega (arith, c.if-count-eq0.false)) many in
+    let so = own_true c.args.part.now c.args.scene.columns.now c.own_column-column.result _ end.kind c.count_ends-count.result c.own_column-column.ensures (omega (arith, c.if-count-eq0.false)) many in
     λ h. one_more_in c.args.part.now c.args.scene.columns.now c.args.marks.now.items c.push.new.self.items _ c.in_ok-push.ensures.items so h
 
 pub returns-clause-keeps : goal.returns-clause-keeps

@@ -4,13 +4,13 @@ use Rattle.eos_evidence.specs.Evidence.{segments_of}
 use Rattle.eos_source.specs.Said.{known_by}
 use Rattle.eos_source.specs.steps.Seats.{IsReading, all_numbers}
 use Rattle.eos_source.proofs.PiecesDrawn.{all_map, numbers_drawn, leaves_none, each_once}
-use Rattle.eos_board.specs.Places.{Place, AreBelow, drawn_of_all}
+use Rattle.eos_board.specs.SeatViews.{SeatView, AreBelow, drawn_of_all}
 use Rattle.eos_source.proofs.seats.gathered.Goals as goal
 
 pub gather-requires-clause-made : goal.gather-requires-clause-made
 gather-requires-clause-made g c =
-    subst (λ xs. All (λ (s : Place). s.of ≡ c.args.tickets.now) xs) (sym c.in_ok-seats.ensures.seats)
-    (all_map (λ s. s.seat) (λ (s : Place). s.of ≡ c.args.tickets.now) c.args.stints.items (λ k d lt. (c.requires.each k d lt).made))
+    subst (λ xs. All (λ (s : SeatView). s.of ≡ c.args.tickets.now) xs) (sym c.in_ok-seats.ensures.seats)
+    (all_map (λ s. s.seat) (λ (s : SeatView). s.of ≡ c.args.tickets.now) c.args.stints.items (λ k d lt. (c.requires.each k d lt).made))
 
 pub returns-clause-each : goal.returns-clause-each
 returns-clause-each g c =
@@ -29,5 +29,5 @@ returns-clause-once g c =
     let seats = c.in_ok-seats.ensures.seats in
     subst (λ n. AreBelow n c.gather.result) c.requires.count
     (each_once c.args.tickets.now.count stints c.gather.result (c.gather.ensures.lists ∙ ap drawn_of_all seats) c.gather.ensures.each_once
-    (λ any. c.gather.ensures.none_left (subst (λ xs. Any (λ (p : Place). p.is_done ≡ true) xs) (sym seats) any))
+    (λ any. c.gather.ensures.none_left (subst (λ xs. Any (λ (p : SeatView). p.is_done ≡ true) xs) (sym seats) any))
     (λ k d lt. (c.requires.each k d lt).there) (λ k d lt. let is = c.requires.each k d lt in leaves_none c.args.tickets.now (get_or stints k d) is.made is.ended) c.in_ok-seats.ensures.ended)

@@ -13,7 +13,7 @@ use Rattle.eos_source.specs.steps.Slots.{AreSlotsSoFar, AreFilledAsWell, IsFille
 use Rattle.eos_source.proofs.PiecesDrawn.{all_both}
 use Rattle.eos_source.proofs.SlotsFilled.{all_filled}
 use Rattle.eos_source.proofs.SlotsRead.{none_yet, all_read}
-use Rattle.eos_board.specs.Places.{once_below}
+use Rattle.eos_board.specs.SeatViews.{once_below}
 use Rattle.eos_source.proofs.slots.read_all.Goals as goal
 
 pub loop-seat-init : goal.loop-seat-init
@@ -33,8 +33,8 @@ loop-seat-init g c =
       λ k d lt. absurd (omega (arith, lt)),
     )
 
-pub place-requires-clause-read : goal.place-requires-clause-read
-place-requires-clause-read g c κs within =
+pub fill-requires-clause-read : goal.fill-requires-clause-read
+fill-requires-clause-read g c κs within =
     let known = known_by (g.S.Source.said c.args.plan.now.source.now) (g.S.Source.is_log c.args.plan.now.source.now) in
     let outcomes = g.S.Source.outcomes c.args.plan.now.source.now in
     let Is = IsReading known outcomes c.args.plan.now.topics.now c.args.plan.now.shape.now.spec.apps (segments_of c.args.plan.now.shape.now.partitions) in
@@ -48,18 +48,18 @@ loop-seat-preserved g c =
     let topics = c.args.plan.now.topics.now in
     let apps = c.args.plan.now.shape.now.spec.apps in
     let names = segments_of c.args.plan.now.shape.now.partitions in
-    let new = c.place.new.slots in
+    let new = c.fill.new.slots in
     let seen = c.loop-seat.yielded in
     let seat = c.in-Some.seat in
     let all = subst (λ xs. All (λ seat. All (IsReading known outcomes topics apps names) seat.items) xs) c.in-Some.ensures.steps.0 c.loop-seat.invariant.4 in
     let len : length new ≡ c.loop-seat.slots.len = search rules in
     let same : take c.loop-seat.slots.len (new ++ drop (length new) c.loop-seat.slots.items) ≡ new = grind (arith, common_steps) in
-    let stays : AreFilledAsWell c.loop-seat.slots.items new = subst (λ xs. AreFilledAsWell xs new) c.as_mut_slice.ensures.value c.place.ensures.stay in
-    let both = all_both (λ n. IsFilled new n) (all_numbers seen) (numbers_in seat.items) (λ k d lt. stays _ (c.loop-seat.invariant.5 k d lt)) c.place.ensures.filled in
+    let stays : AreFilledAsWell c.loop-seat.slots.items new = subst (λ xs. AreFilledAsWell xs new) c.as_mut_slice.ensures.value c.fill.ensures.stay in
+    let both = all_both (λ n. IsFilled new n) (all_numbers seen) (numbers_in seat.items) (λ k d lt. stays _ (c.loop-seat.invariant.5 k d lt)) c.fill.ensures.filled in
     let numbers = flat_map-append (λ s. numbers_in s.items) seen (seat ∷ []) ∙ ap (λ xs. all_numbers seen ++ xs) (append-nil (numbers_in seat.items)) in (
       tt,
       tt,
-      subst (λ xs. AreSlotsSoFar known outcomes topics apps 0 names xs) (sym same) c.place.ensures.slots,
+      subst (λ xs. AreSlotsSoFar known outcomes topics apps 0 names xs) (sym same) c.fill.ensures.slots,
       c.loop-seat.invariant.3,
       λ k d lt. all (suc k) d (omega (arith, lt)),
       subst (λ xs. All (λ n. IsFilled xs n) (all_numbers (seen ++ seat ∷ []))) (sym same) (subst (λ ns. All (λ n. IsFilled new n) ns) (sym numbers) both),

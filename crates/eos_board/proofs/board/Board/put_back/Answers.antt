@@ -12,11 +12,11 @@ none_gives : {X : Type 0} (o : Option X) (P : Type 0) → is_some o ≡ false �
 none_gives None P e p = p
 none_gives (Some x) P e p = absurd (false≢true (sym e))
 
-pub place-requires-2-clause-free : goal.place-requires-2-clause-free
-place-requires-2-clause-free g c =
+pub put-requires-2-clause-free : goal.put-requires-2-clause-free
+put-requires-2-clause-free g c =
     let free = (none_gives c.refusal.result _ (sym c.is_some.ensures ∙ c.if-is_some.false) c.refusal.ensures.none).free in
     let off : Overlap c.args.before c.args.after → ⊥ = MatchBool-at_false _ _ c.if-overlap.false c.overlap.ensures in
-    λ t. placed_free c.args.before c.args.after c.self.inside.places.runs free off (subst (λ (rs : List NamedView). IsTaken rs c.args.before) c.place.ensures.runs t)
+    λ t. placed_free c.args.before c.args.after c.self.inside.places.runs free off (subst (λ (rs : List NamedView). IsTaken rs c.args.before) c.put.ensures.runs t)
 
 pub returns-clause-taken : goal.returns-clause-taken
 returns-clause-taken g c =

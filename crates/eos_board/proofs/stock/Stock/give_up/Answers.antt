@@ -5,7 +5,7 @@ use Rattle.eos_fold.specs.Sums.{NamedView}
 use Rattle.eos_board.specs.declared.worker.Holding.{Holding}
 use Rattle.eos_board.specs.declared.worker.Holding.TheVariants.{Run, Pair}
 use Rattle.eos_board.specs.PoolState.{StockView, run_pieces}
-use Rattle.eos_board.specs.steps.PoolReady.{IsReady, HasRoom, MayPlace, MayPlaceBoth}
+use Rattle.eos_board.specs.steps.PoolReady.{IsReady, HasRoom, MayPut, MayPutBoth}
 use Rattle.eos_board.proofs.stock.Stock.give_up.Goals as goal
 
 run_length : (a : NamedView) → length (run_pieces a) ≡ a.last + 1 - a.first
@@ -14,7 +14,7 @@ run_length a = length-range_with_len a.first (a.last + 1 - a.first)
 pub list_pieces-requires-clause-top : goal.list_pieces-requires-clause-top
 list_pieces-requires-clause-top c =
     let held : c.args.worker.now.holds ≡ Run c.in-Run.run' = sym c.release.ensures.value ∙ c.in-Run.is in
-    let ready : MayPlace c.args.self.now c.in-Run.run' = subst (λ (h : Holding). IsReady c.args.self.now h) held c.requires.ready in
+    let ready : MayPut c.args.self.now c.in-Run.run' = subst (λ (h : Holding). IsReady c.args.self.now h) held c.requires.ready in
     omega (arith, ready.known.1, ap (λ (v : StockView). length v.segments) c.self.view_is, c.self.invariant.2)
 
 pub list_pieces-requires-clause-room : goal.list_pieces-requires-clause-room
@@ -33,7 +33,7 @@ list_pieces-requires-clause-room c =
 pub list_pieces-requires-in-Pair-clause-top : goal.list_pieces-requires-in-Pair-clause-top
 list_pieces-requires-in-Pair-clause-top c =
     let held : c.args.worker.now.holds ≡ Pair c.in-Pair.before c.in-Pair.after = sym c.release.ensures.value ∙ c.in-Pair.is in
-    let ready : MayPlaceBoth c.args.self.now c.in-Pair.before c.in-Pair.after = subst (λ (h : Holding). IsReady c.args.self.now h) held c.requires.ready in
+    let ready : MayPutBoth c.args.self.now c.in-Pair.before c.in-Pair.after = subst (λ (h : Holding). IsReady c.args.self.now h) held c.requires.ready in
     omega (arith, ready.left.known.1, ap (λ (v : StockView). length v.segments) c.self.view_is, c.self.invariant.2)
 
 pub list_pieces-requires-in-Pair-clause-room : goal.list_pieces-requires-in-Pair-clause-room
@@ -54,7 +54,7 @@ list_pieces-requires-in-Pair-clause-room c =
 pub list_pieces-requires-in-Pair-2-clause-top : goal.list_pieces-requires-in-Pair-2-clause-top
 list_pieces-requires-in-Pair-2-clause-top c =
     let held : c.args.worker.now.holds ≡ Pair c.in-Pair.before c.in-Pair.after = sym c.release.ensures.value ∙ c.in-Pair.is in
-    let ready : MayPlaceBoth c.args.self.now c.in-Pair.before c.in-Pair.after = subst (λ (h : Holding). IsReady c.args.self.now h) held c.requires.ready in
+    let ready : MayPutBoth c.args.self.now c.in-Pair.before c.in-Pair.after = subst (λ (h : Holding). IsReady c.args.self.now h) held c.requires.ready in
     omega (arith, ready.right.known.1, ap (λ (v : StockView). length v.segments) c.self.view_is, c.self.invariant.2)
 
 pub list_pieces-requires-in-Pair-2-clause-room : goal.list_pieces-requires-in-Pair-2-clause-room

@@ -1,5 +1,5 @@
 use Rattle.std.proofs.Common.{refl, ap, subst, ◌∙◌}
-use Rattle.eos_board.specs.Runs.{PlacesView, NoneJoin}
+use Rattle.eos_board.specs.Runs.{SlotsView, NoneJoin}
 use Rattle.eos_board.specs.PoolState.{StockView}
 use Rattle.eos_board.proofs.stock.Stock.take_pair.Goals as goal
 
@@ -10,5 +10,5 @@ returns-in_default-take_pair c =
       c.in-Nothing.is,
       subst (λ (v : StockView). NoneJoin v.runs) c.self.view_is none.0,
       refl,
-      ap (λ (q : PlacesView). record { segments = inside.segments.items; drawn = inside.drawn; runs = q.runs; given_up = inside.given_up.items }) none.1 ∙ c.self.view_is,
+      ap (λ (q : SlotsView). record { segments = inside.segments.items; drawn = inside.drawn; runs = q.runs; given_up = inside.given_up.items }) none.1 ∙ c.self.view_is,
     )

@@ -2,8 +2,8 @@ use Rattle.std.proofs.Common.{◌≡◌, length, ap, sym, ◌∙◌, arith, rule
 use Rattle.std.proofs.lemmas.List.{map-id}
 use Rattle.std.proofs.lemmas.Iterator.Adapters.{YieldsList-from_vec}
 use Rattle.std.proofs.lemmas.Iterator.Consumers.{YieldsList-end}
-use Rattle.eos_board.specs.Places.{Counter}
-use Rattle.eos_board.specs.steps.Places.{open_seats}
+use Rattle.eos_board.specs.SeatViews.{Counter}
+use Rattle.eos_board.specs.steps.OpenSeats.{open_seats}
 use Rattle.atomic_table.specs.Table.{Me}
 use Rattle.eos_board.specs.declared.rule.View.{View}
 use Rattle.eos_board.specs.TicketRule.{KnowsAll}

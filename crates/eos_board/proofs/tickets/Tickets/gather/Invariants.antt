@@ -1,6 +1,6 @@
 use Rattle.std.proofs.Common.{◌≡◌, ◌<◌, length}
-use Rattle.eos_board.specs.Places.{drawn_of_all}
-use Rattle.eos_board.specs.steps.Places.{open_seats}
+use Rattle.eos_board.specs.SeatViews.{drawn_of_all}
+use Rattle.eos_board.specs.steps.OpenSeats.{open_seats}
 use Rattle.eos_board.proofs.tickets.Tickets.gather.Given as goal
 
 abbrev pub invariant-loop-seat : goal.invariant-loop-seat

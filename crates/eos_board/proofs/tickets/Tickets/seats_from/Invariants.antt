@@ -1,5 +1,5 @@
 use Rattle.std.proofs.Common.{◌≡◌, ◌+◌, [], vec_len, All}
-use Rattle.eos_board.specs.Places.{IsFresh}
+use Rattle.eos_board.specs.SeatViews.{IsFresh}
 use Rattle.eos_board.proofs.tickets.Tickets.seats_from.Given as goal
 
 abbrev pub invariant-loop : goal.invariant-loop

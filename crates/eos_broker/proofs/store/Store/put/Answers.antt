@@ -1,5 +1,5 @@
 use Rattle.std.proofs.Common.{ap, rules, refl, arith, subst, sym}
-use Rattle.eos_machine.specs.Places.{application_count}
+use Rattle.eos_machine.specs.LogIndexes.{application_count}
 use Rattle.eos_broker.specs.Held.{Held}
 use Rattle.eos_broker.specs.Named.{IsFrom}
 use Rattle.eos_broker.proofs.Rooms.{items_put, kept_put}

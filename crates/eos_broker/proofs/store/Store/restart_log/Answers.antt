@@ -1,5 +1,5 @@
 use Rattle.std.proofs.Common.{ap, rules, refl}
-use Rattle.eos_machine.specs.Places.{application_count}
+use Rattle.eos_machine.specs.LogIndexes.{application_count}
 use Rattle.eos_broker.proofs.Rooms.{items_same, kept_same}
 use Rattle.eos_broker.proofs.store.Store.restart_log.Goals as goal
 

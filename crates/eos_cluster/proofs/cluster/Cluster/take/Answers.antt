@@ -1,5 +1,5 @@
 use Rattle.std.proofs.Common.{◌<◌, ◌^◌, arith, subst, sym}
-use Rattle.eos_machine.specs.Places.{IsConfig}
+use Rattle.eos_machine.specs.LogIndexes.{IsConfig}
 use Rattle.eos_cluster.specs.Courses.{Course, IsReached, IsReachedUnder}
 use Rattle.eos_cluster.proofs.Replies.{proper_of}
 use Rattle.eos_cluster.proofs.Reaching.{needs, taken_one, counted_one, reached_more, reached_under, step_honest, course_of, step_taken, is_counted}

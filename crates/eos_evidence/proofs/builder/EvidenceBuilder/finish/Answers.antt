@@ -1,6 +1,6 @@
 use Rattle.std.proofs.Common.{subst, ap, arith, length}
 use Rattle.eos_evidence.specs.Evidence.{segments_of}
-use Rattle.eos_evidence.specs.steps.SegmentPlaces.{AreFirsts}
+use Rattle.eos_evidence.specs.steps.SegmentIndexes.{AreFirsts}
 use Rattle.eos_evidence.proofs.builder.EvidenceBuilder.finish.Goals as goal
 
 pub number_pieces-requires-clause-few : goal.number_pieces-requires-clause-few

@@ -3,7 +3,7 @@ use Rattle.std.proofs.Common.{◌<◌, subst, sym, ap, length, arith}
 use Rattle.std.proofs.lemmas.List.{get_or_read}
 use Rattle.std.specs.List.Sorted.{IsNonDecreasing}
 use Rattle.eos_evidence.specs.Evidence.{segments_of}
-use Rattle.eos_evidence.specs.steps.SegmentPlaces.{IsLastFrom}
+use Rattle.eos_evidence.specs.steps.SegmentIndexes.{IsLastFrom}
 use Rattle.eos_evidence.proofs.PieceAt.{firsts_rise, found, piece_is}
 use Rattle.eos_evidence.proofs.evidence.Evidence.piece.Goals as goal
 

@@ -10,7 +10,7 @@ use Rattle.eos_batch.specs.declared.head.BatchHead.{BatchHead}
 use Rattle.eos_fold.specs.Batches.{DataBatch}
 use Rattle.eos_fold.specs.Settling.{waiting_in, settled}
 use Rattle.eos_fold.specs.steps.Summaries.{only}
-use Rattle.eos_fold.specs.Tables.{KeepsPlaces, ends_at}
+use Rattle.eos_fold.specs.Tables.{KeepsIndexes, ends_at}
 use Rattle.eos_fold.specs.Taken.{IsReadyFor}
 use Rattle.eos_fold.specs.steps.Alone.{rest_alone}
 use Rattle.eos_fold.specs.steps.Joins.{Took, IsTaking}
@@ -47,7 +47,7 @@ returns-clause-taken c = λ xs b size eh right ed w.
     let split : js ≡ is ++ drop c.args.by js = sym (take-append-drop c.args.by js) in
     let said : spec.touch_of b ≡ Some (p, c.in-Some.touch) = sym (c.touch_of.ensures b size eh) ∙ c.in-Some.is in
     let same = c.make_room_for.ensures.same in
-    let places : KeepsPlaces t is = λ id. (same id).waiting ∙ c.requires.places id in
+    let places : KeepsIndexes t is = λ id. (same id).waiting ∙ c.requires.places id in
     let o = ap (λ (x : BatchHead). x.offset) eh in
     let d = ap (λ (x : BatchHead). not x.is_control) eh in
     let are = are_of h _ p _ _ c.in-Some.touch e key o d c.in_ok-ends.ensures in

@@ -7,7 +7,7 @@ use mir.Val.{SFits}
 use Rattle.eos_fold.specs.declared.ends.Ends.{Ends}
 use Rattle.eos_touch.specs.declared.touch.Touch.{Touch}
 use Rattle.eos_fold.specs.declared.mark.EndMark.{EndMark}
-use Rattle.eos_fold.specs.Place.{PlacesView}
+use Rattle.eos_fold.specs.Indexes.{IndexesView}
 use Rattle.eos_fold.specs.Tables.{ends_in}
 use Rattle.eos_fold.specs.Taken.{HasRoom}
 use Rattle.eos_kept.specs.Runs.{heads_of}
@@ -27,7 +27,7 @@ settle-requires c =
     let fits : SFits w64 c.args.producer = search rules in
     let was : get int_cmp c.args.self.now.producers c.args.producer ≡ Some c.in-Some.ends.now = sym (c.in-Some.ensures.value ∙ ap (get int_cmp c.args.self.now.producers) (to_z-of_z w64 c.args.producer fits)) in
     let below = subst (λ (x : Ends). All (λ p. p < length c.args.self.now.heads.list) x.waiting.list) (ap ends_in was) c.requires.inside in
-    subst (λ (x : PlacesView). All (λ p. p < length c.args.self.now.heads.list) x.list) (sym c.waiting.ensures) below
+    subst (λ (x : IndexesView). All (λ p. p < length c.args.self.now.heads.list) x.list) (sym c.waiting.ensures) below
 
 pub take_over-requires-clause-room : goal.take_over-requires-clause-room
 take_over-requires-clause-room c =
@@ -40,7 +40,7 @@ returns-clause-heads c = λ ds is places.
     let fits : SFits w64 c.args.producer = search rules in
     let was : get int_cmp c.args.self.now.producers c.args.producer ≡ Some c.in-Some.ends.now = sym (c.in-Some.ensures.value ∙ ap (get int_cmp c.args.self.now.producers) (to_z-of_z w64 c.args.producer fits)) in
     let e : c.in-Some.ends.now.waiting.list ≡ waiting_in c.args.producer ds = ap (λ (x : Ends). x.waiting.list) (sym (ap ends_in was)) ∙ places in
-    c.settle.ensures.settled c.args.producer ds is (ap (λ (p : PlacesView). p.list) c.waiting.ensures ∙ e)
+    c.settle.ensures.settled c.args.producer ds is (ap (λ (p : IndexesView). p.list) c.waiting.ensures ∙ e)
     ∙ ap (λ (o : Option EndMark). heads_of (map (settled (only c.args.producer o)) ds)) c.marker.ensures
 
 pub returns-clause-fault : goal.returns-clause-fault

@@ -6,8 +6,8 @@ use Rattle.std.specs.BTreeMap.{get}
 use Rattle.std.proofs.lemmas.Int.{to_z-of_z}
 use mir.Val.{SFits}
 use Rattle.eos_batch.specs.declared.head.BatchHead.{BatchHead}
-use Rattle.eos_fold.specs.Place.{PlacesView}
-use Rattle.eos_fold.specs.Tables.{KeepsPlaces, ends_at}
+use Rattle.eos_fold.specs.Indexes.{IndexesView}
+use Rattle.eos_fold.specs.Tables.{KeepsIndexes, ends_at}
 use Rattle.eos_fold.specs.Taken.{IsReadyFor}
 use Rattle.eos_fold.specs.steps.Alone.{rest_alone}
 use Rattle.eos_fold.specs.steps.Joins.{IsTaking}
@@ -45,7 +45,7 @@ returns-clause-taken c = λ xs b h w.
     let by = c.len-by.result in
     let said : spec.touch_of b ≡ Some (p, c.in-Some.touch) = sym (c.touch_of.ensures b h.size h.is) ∙ c.in-Some.is in
     let same = c.make_room_for.ensures.same in
-    let places : KeepsPlaces t w.ds = λ id. (same id).waiting ∙ w.places id in
+    let places : KeepsIndexes t w.ds = λ id. (same id).waiting ∙ w.places id in
     let o = ap (λ (x : BatchHead). x.offset) h.is in
     let d = ap (λ (x : BatchHead). not x.is_control) h.is in
     let are = are_of b _ p _ _ c.in-Some.touch e key o d c.in_ok-ends.ensures in
@@ -53,7 +53,7 @@ returns-clause-taken c = λ xs b h w.
     let number : length w.ds ≡ by = let n = c.len-by.ensures.value in let m = ap length w.heads_are in let l = heads_of-length w.ds in omega (arith, n, m, l) in
     let present = subst (λ (k : ℤ). IsSome (get int_cmp t k)) key c.in_ok-make_room_for.ensures.present in
     let room = subst (λ (k : ℤ). length (ends_at c.args.self.now.producers k).waiting.list + c.len.result ≤ (ends_at t k).waiting.room) key c.in_ok-make_room_for.ensures.room in
-    let count : c.len.result ≡ length e.waiting.list = c.len.ensures ∙ ap (λ (x : PlacesView). length x.list) c.waiting.ensures in
+    let count : c.len.result ≡ length e.waiting.list = c.len.ensures ∙ ap (λ (x : IndexesView). length x.list) c.waiting.ensures in
     let ready : IsReadyFor t p e = ready_alone c.args.self.now.producers t p e c.len.result (same p) present room count in
     let taking : IsTaking by t w.ds (rest_alone p e) = alone_taking by t w.ds p e ready places (short_fits b p c.in-Some.touch e by are c.len-by.ensures.bound) number in
     let can : CanTake by t heads (rest_alone p e) = (w.ds, w.heads_are, taking) in

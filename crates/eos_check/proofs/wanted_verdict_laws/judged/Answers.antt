@@ -1,5 +1,0 @@
-use Rattle.eos_check.proofs.KeptAnswers.{judged}
-use Rattle.eos_check.proofs.wanted_verdict_laws.judged.Goals as goal
-
-pub returns : goal.returns
-returns c = judged

@@ -1,5 +1,0 @@
-use Rattle.eos_check.proofs.NamedFaults.{least_named}
-use Rattle.eos_check.proofs.wanted_verdict_laws.partitions.Goals as goal
-
-pub returns : goal.returns
-returns c = least_named

@@ -1,0 +1,7 @@
+use Rattle.eos_drive.proofs.MoreDeeds.{given_back}
+use Rattle.eos_drive.proofs.tail.drive_tail_kept.Goals as goal
+
+pub returns-clause-kept : goal.returns-clause-kept
+returns-clause-kept c =
+    let led = c.show-answer.ensures in
+    given_back c.show-answer.new.driver c.new-driver.result.origin _ _ c.args.history.now _ _ led.0 c.new-driver.ensures.origin c.replace-before.ensures.value led.1 c.give_back.ensures

@@ -1,7 +1,0 @@
-use Rattle.eos_text.proofs.Appended.{then}
-use Rattle.eos_explaining.proofs.lines.push_parts_left.Goals as goal
-
-pub returns : goal.returns
-returns c =
-    let count = simp c.parts_behind.ensures at c.in_ok-push_value.ensures in
-    then count c.in_ok-push_text.ensures

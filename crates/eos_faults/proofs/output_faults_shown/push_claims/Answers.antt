@@ -1,9 +1,0 @@
-use Rattle.eos_faults.specs.steps.OutputFaultsGathered.{shown_at}
-use Rattle.eos_faults.specs.steps.Plain.{claim_at}
-use Rattle.eos_faults.proofs.PushedOnto.{pushed_onto}
-use Rattle.eos_faults.proofs.output_faults_shown.push_claims.Goals as goal
-
-pub loop-claim-preserved : goal.loop-claim-preserved
-loop-claim-preserved c = λ a are.
-    pushed_onto (shown_at a) claim_at c.args.faults.now.items c.loop-claim.faults.items c.push_claim.new.faults.items c.args.claims.now c.loop-claim.claim-index _ c.loop-claim-test.true (c.loop-claim.invariant a are)
-    (c.in_ok-push_claim.ensures a are)

@@ -1,0 +1,119 @@
+-- Short schedules, with what is answered and what stands in the logs after them.
+use Rattle.std.specs.Prelude.{◌≡◌, pos, negsuc, true, false, List, [], ◌∷◌, Option, Some, None, drop}
+use Rattle.eos_batch.specs.declared.marker.Kind.TheVariants.{Commit, Abort}
+use Rattle.eos_machine.specs.LogIndexes.{Config, final_topic, input_topic, output_topic}
+use Rattle.eos_machine.specs.World.{World, Claim, Event, Reply, Empty, Ongoing, Prepare, Complete, Fed, State, Output, Offset, Marker, opening, log_at}
+use Rattle.eos_machine.specs.declared.state.Message.TheVariants as messages
+use Rattle.eos_machine.specs.declared.event.Event.TheVariants as events
+use Rattle.eos_machine.specs.Answers.{Done, Fenced, OutOfOrder, DuplicateKept, WrongState, Busy, StaleGeneration, Unknown}
+use Rattle.eos_machine.specs.Machine.{world_after, replies}
+
+-- two applications, two partitions of each topic of theirs; and one of everything
+abbrev pub pair : Config
+pair = record { applications = 2; inputs = 2; outputs = 2; transaction_logs = 1; segment_records = 16; batch_records = 1; chain = false }
+
+abbrev pub single : Config
+single = record { applications = 1; inputs = 1; outputs = 1; transaction_logs = 1; segment_records = 1; batch_records = 1; chain = false }
+
+-- the first with a second group, whose application is number 2
+abbrev pub chained : Config
+chained = record { applications = 2; inputs = 2; outputs = 2; transaction_logs = 1; segment_records = 16; batch_records = 1; chain = true }
+
+-- the only output of the input at in-0:0
+abbrev pub claim : Option Claim
+claim = Some (record { topic = input_topic; partition = pos 0; offset = pos 0; output = pos 1; of = pos 1 })
+
+-- what is answered to a list of events, and the state after it
+abbrev pub Answers : Config → List Event → List Reply → Type 0
+Answers c es rs = replies c (opening c) es ≡ rs
+
+abbrev pub after : Config → List Event → World
+after c es = world_after c (opening c) es
+
+-- a transaction with one record is committed, and the session goes on
+abbrev pub committing : List Event
+committing =
+    events.Start 0 ∷ events.Produce 0 0 claim ∷ events.Deliver 0 ∷ events.Deliver 0 ∷ events.End 0 Commit ∷ events.Deliver 1 ∷ events.Deliver 2
+    ∷ events.Deliver 0 ∷ events.Resume 0 ∷ events.Deliver 99 ∷ []
+
+pub record Commits : Type 0 where
+  pub replies : Answers pair committing (Done 0 ∷ Done 0 ∷ Done 0 ∷ DuplicateKept ∷ Done 1 ∷ Done 2 ∷ Done 1 ∷ Fenced ∷ Done 1 ∷ Unknown ∷ [])
+  pub output : log_at (after pair committing) 4 ≡ Output 0 0 0 claim 1 2 ∷ Marker 0 1 Commit 6 ∷ []
+  pub states : log_at (after pair committing) 1 ≡ State 0 (record { status = Empty; epoch = 0; partitions = [] }) 0
+      ∷ State 0 (record { status = Ongoing; epoch = 0; partitions = 4 ∷ [] }) 2
+      ∷ State 0 (record { status = Prepare Commit; epoch = 1; partitions = 4 ∷ [] }) 5
+      ∷ State 0 (record { status = Complete Commit; epoch = 1; partitions = [] }) 6 ∷ []
+
+-- the coordinator restarts before the marker comes: the marker is queued again, and both come
+abbrev pub restarting : List Event
+restarting =
+    events.Start 0 ∷ events.Produce 0 0 claim ∷ events.Deliver 0 ∷ events.End 0 Commit ∷ events.Deliver 1 ∷ events.CoordinatorRestart ∷ events.Deliver 2 ∷ events.Deliver 3 ∷ []
+
+pub record Restarts : Type 0 where
+  pub replies : Answers pair restarting (Done 0 ∷ Done 0 ∷ Done 0 ∷ Done 1 ∷ Done 2 ∷ Done 0 ∷ Done 1 ∷ Done 2 ∷ [])
+  pub output : log_at (after pair restarting) 4 ≡ Output 0 0 0 claim 1 2 ∷ Marker 0 1 Commit 6 ∷ Marker 0 1 Commit 7 ∷ []
+  -- a broker knows a repeated record after its restart
+  pub broker : Answers pair (events.Start 0 ∷ events.Produce 0 0 claim ∷ events.Deliver 0 ∷ events.BrokerRestart output_topic 0 ∷ events.Deliver 0 ∷ events.BrokerRestart output_topic 2 ∷ []) (Done 0 ∷ Done 0 ∷ Done 0 ∷ Done 0 ∷ DuplicateKept ∷ Unknown ∷ [])
+
+-- a second session of an application fences the first, and aborts its open transaction
+abbrev pub aborting : List Event
+aborting =
+    events.Start 0 ∷ events.Produce 0 0 claim ∷ events.Deliver 0 ∷ events.Start 0 ∷ events.Deliver 1 ∷ events.Start 0 ∷ events.Deliver 0 ∷ []
+
+pub record Fences : Type 0 where
+  pub early : Answers pair (events.Start 0 ∷ events.Produce 0 0 claim ∷ events.Start 0 ∷ events.Deliver 0 ∷ []) (Done 0 ∷ Done 0 ∷ Done 1 ∷ Fenced ∷ [])
+  pub late : Answers single aborting (Done 0 ∷ Done 0 ∷ Done 0 ∷ Busy ∷ Done 1 ∷ Done 1 ∷ Fenced ∷ [])
+  pub output : log_at (after single aborting) 3 ≡ Output 0 0 0 claim 1 2 ∷ Marker 0 1 Abort 4 ∷ []
+
+-- an offset is committed: while its transaction is open nobody fetches it, and another generation of the group never does
+abbrev pub fetching : List Event
+fetching =
+    events.Feed 0 ∷ events.Start 0 ∷ events.Fetch 0 0 ∷ events.Commit 0 0 (Some (negsuc 0)) ∷ events.Commit 0 0 (Some (pos 1)) ∷ events.End 0 Commit ∷ events.Deliver 0 ∷ events.Deliver 0 ∷ events.Fetch 0 0
+    ∷ events.End 0 Commit ∷ events.Deliver 1 ∷ events.Deliver 2 ∷ events.Fetch 0 0 ∷ events.Members ∷ events.Fetch 0 0 ∷ []
+
+pub record Fetches : Type 0 where
+  pub replies : Answers pair fetching (Done 0 ∷ Done 0 ∷ Done 0 ∷ Unknown ∷ Done 0 ∷ WrongState ∷ Done 0 ∷ DuplicateKept ∷ Busy ∷ Done 1 ∷ Done 2 ∷ Done 1 ∷ Done 1 ∷ Done 0 ∷ StaleGeneration ∷ [])
+  pub input : log_at (after pair fetching) 2 ≡ Fed 0 ∷ []
+  pub offsets : log_at (after pair fetching) 0 ≡ Offset 0 0 0 (Some 1) 6 ∷ Marker 0 1 Commit 11 ∷ []
+
+-- a record without headers and an offset are committed; then the offset is deleted, and the group begins at 0 again
+abbrev pub omitting : List Event
+omitting =
+    events.Start 0 ∷ events.Produce 0 0 None ∷ events.Commit 0 0 (Some (pos 3)) ∷ events.Deliver 0 ∷ events.Deliver 1 ∷ events.End 0 Commit ∷ events.Deliver 2 ∷ events.Deliver 3 ∷ events.Deliver 4 ∷ events.Fetch 0 0
+    ∷ events.Resume 0 ∷ events.Commit 0 0 None ∷ events.Deliver 5 ∷ events.End 0 Commit ∷ events.Deliver 6 ∷ events.Deliver 7 ∷ events.Fetch 0 0 ∷ []
+
+pub record Omits : Type 0 where
+  pub replies : Answers pair omitting (Done 0 ∷ Done 0 ∷ Done 1 ∷ Done 0 ∷ Done 0 ∷ Done 2 ∷ Done 3 ∷ Done 1 ∷ Done 1 ∷ Done 3 ∷ Done 1 ∷ Done 5 ∷ Done 2 ∷ Done 6 ∷ Done 7 ∷ Done 3 ∷ Done 0 ∷ [])
+  pub output : log_at (after pair omitting) 4 ≡ Output 0 0 0 None 1 3 ∷ Marker 0 1 Commit 7 ∷ []
+  pub offsets : log_at (after pair omitting) 0 ≡ Offset 0 0 0 (Some 3) 4 ∷ Marker 0 1 Commit 8 ∷ Offset 0 1 0 None 12 ∷ Marker 0 2 Commit 15 ∷ []
+
+-- a transaction of three partitions, with a record that comes too early: a number goes last under its topic
+abbrev pub listing : List Event
+listing =
+    events.Start 0 ∷ events.Produce 0 0 claim ∷ events.Produce 0 0 claim ∷ events.Deliver 1 ∷ events.Deliver 0 ∷ events.Commit 0 1 (Some (pos 5)) ∷ events.Deliver 2 ∷ events.Produce 0 1 claim ∷ events.Deliver 3 ∷ events.Deliver 1
+    ∷ events.End 0 Abort ∷ events.Deliver 4 ∷ []
+
+pub record Lists : Type 0 where
+  pub replies : Answers pair listing (Done 0 ∷ Done 0 ∷ Done 1 ∷ OutOfOrder ∷ Done 0 ∷ Done 2 ∷ Done 0 ∷ Done 3 ∷ Done 0 ∷ Done 1 ∷ Done 4 ∷ Done 5 ∷ [])
+  pub markers : drop 5 (after pair listing).messages ≡ messages.Marker 0 1 Abort 4 ∷ messages.Marker 0 1 Abort 5 ∷ messages.Marker 0 1 Abort 0 ∷ []
+
+-- the second group reads a committed record of `out` and writes one of `fin`: each group has its own sources
+abbrev pub next_claim : Option Claim
+next_claim = Some (record { topic = output_topic; partition = pos 0; offset = pos 0; output = pos 1; of = pos 1 })
+
+abbrev pub chaining : List Event
+chaining =
+    events.Start 0 ∷ events.Produce 0 0 claim ∷ events.Deliver 0 ∷ events.End 0 Commit ∷ events.Deliver 1 ∷ events.Deliver 2
+    ∷ events.Start 2 ∷ events.Fetch 1 0 ∷ events.Fetch 1 2 ∷ events.Fetch 0 2 ∷ events.Fetch 1 4 ∷ events.Commit 0 2 (Some (pos 1)) ∷ events.Commit 1 1 (Some (pos 1))
+    ∷ events.Produce 1 0 next_claim ∷ events.Commit 1 2 (Some (pos 1)) ∷ events.Deliver 3 ∷ events.Deliver 4 ∷ events.End 1 Commit ∷ events.Deliver 5 ∷ events.Deliver 6 ∷ events.Deliver 7
+    ∷ events.Fetch 1 2 ∷ events.Start 3 ∷ events.BrokerRestart final_topic 1 ∷ events.BrokerRestart final_topic 2 ∷ []
+
+pub record Chains : Type 0 where
+  pub replies : Answers chained chaining
+      (Done 0 ∷ Done 0 ∷ Done 0 ∷ Done 1 ∷ Done 2 ∷ Done 1
+      ∷ Done 1 ∷ Unknown ∷ Done 0 ∷ Unknown ∷ Unknown ∷ Unknown ∷ Unknown
+      ∷ Done 3 ∷ Done 4 ∷ Done 0 ∷ Done 0 ∷ Done 5 ∷ Done 6 ∷ Done 1 ∷ Done 1
+      ∷ Done 1 ∷ Unknown ∷ Done 0 ∷ Unknown ∷ [])
+  pub output : log_at (after chained chaining) 6 ≡ Output 0 0 0 claim 1 2 ∷ Marker 0 1 Commit 5 ∷ []
+  pub final : log_at (after chained chaining) 2 ≡ Output 2 0 0 next_claim 13 15 ∷ Marker 2 1 Commit 19 ∷ []
+  pub offsets : log_at (after chained chaining) 0 ≡ Offset 2 0 2 (Some 1) 16 ∷ Marker 2 1 Commit 20 ∷ []

@@ -1,0 +1,9 @@
+use Rattle.std.proofs.Common.{rules, ◌≡◌, get_or, pos, w64, to_z, of_z}
+use Rattle.eos_notes.proofs.SourceRows.{sources_more}
+use Rattle.eos_notes.proofs.group_rows.source_tallies.Goals as goal
+
+pub loop-i-preserved : goal.loop-i-preserved
+loop-i-preserved c = λ committed are.
+    let read : to_z w64 (of_z w64 c.offset_at.result) ≡ get_or c.args.offsets.now c.loop-i.i (pos 0) = search rules in
+    sources_more c.args.sources.now committed c.loop-i.all.items c.push_source.new.all.items c.args.parts.now c.args.offsets.now c.loop-i.i c.index-parts-i.result
+    (to_z w64 (of_z w64 c.offset_at.result)) read c.loop-i-test.true c.index-parts-i.is are (c.loop-i.invariant committed are) c.in_ok-push_source.ensures

@@ -1,5 +1,0 @@
-use Rattle.eos_simulate.proofs.LeftEvidence.{leaves}
-use Rattle.eos_simulate.proofs.simulation_laws.leaves_evidence.Goals as goal
-
-pub returns : goal.returns
-returns g = leaves
