@@ -15,10 +15,11 @@ use Rattle.eos_evidence.specs.declared.application.App.{App}
 use Rattle.eos_offsets.specs.declared.key.OffsetKey.{OffsetKey}
 use Rattle.eos_fold.specs.declared.item.Item.{Item}
 use Rattle.eos_fold.specs.Parts.{PartLog}
-use Rattle.eos_claims.specs.Outputs.{Writer, Commit}
+use Rattle.eos_claims.specs.Outputs.{Writer}
+use Rattle.eos_commits.specs.EpochCommits.{EpochCommit, under, epoch_in, epoch_commits_of}
 use Rattle.eos_commits.specs.declared.table.Entry.{Entry}
 use Rattle.eos_commits.specs.Visible.{is_visible}
-use Rattle.eos_commits.specs.Commits.{Group, Topic, is_same, is_of, is_offsets_part, key_of, value_of, commit_with, commit_under, commits_of}
+use Rattle.eos_commits.specs.Commits.{Group, Topic, is_same, is_of, is_offsets_part, key_of, value_of, commit_with, commit_under}
 use Rattle.eos_commits.specs.Tables.{Tabled, IsTableOf, pick, pick_of_topics, picked}
 use Rattle.eos_commits.specs.steps.CommitLists.{commit_at, commits_at}
 use Rattle.eos_commits.specs.steps.Entries.{AreEntriesOf, plain_entry, is_read, is_under, entry_under, entry_at, entries_at, entries_by}
@@ -42,10 +43,10 @@ same_is a b e = go (slice_cmp nat_cmp a b) refl e
 abbrev pub Covers : (OffsetKey → Bool) → Group → List Topic → Type 0
 Covers ours group sources = (key : OffsetKey) → is_of group sources key ≡ true → ours key ≡ true
 
-picked_one : (group : Group) (sources : List Topic) (key : OffsetKey) (c : Commit) → c.partition.topic ≡ key.topic
+picked_one : (group : Group) (sources : List Topic) (key : OffsetKey) (c : EpochCommit) → c.commit.partition.topic ≡ key.topic
     → picked group sources ((key.group, c) ∷ []) ≡ (if is_of group sources key then c ∷ [] else [])
 picked_one group sources key c e =
-    go (is_same group key.group) (is_found (slice_cmp nat_cmp) sources c.partition.topic)
+    go (is_same group key.group) (is_found (slice_cmp nat_cmp) sources c.commit.partition.topic)
     ∙ ap (λ (t : Topic). if is_same group key.group && is_found (slice_cmp nat_cmp) sources t then c ∷ [] else []) e
   where
     go : (a b : Bool) → (if a then (if b then c ∷ [] else []) else []) ++ [] ≡ (if a && b then c ∷ [] else [])
@@ -53,28 +54,32 @@ picked_one group sources key c e =
     go true false = refl
     go false b = refl
 
-nothing_if : (b : Bool) → ◌≡◌ {A = List Commit} [] (if b then [] else [])
+nothing_if : (b : Bool) → ◌≡◌ {A = List EpochCommit} [] (if b then [] else [])
 nothing_if true = refl
 nothing_if false = refl
 
-picked_key : (group : Group) (sources : List Topic) (key : OffsetKey) (value : Option (Result ℤ RecordFault)) (writer : Option Writer)
-    → picked group sources (map (λ c. (key.group, c)) (commit_with key value writer)) ≡ (if is_of group sources key then commit_with key value writer else [])
-picked_key group sources key None writer = nothing_if (is_of group sources key)
-picked_key group sources key (Some (Err fault)) writer = nothing_if (is_of group sources key)
-picked_key group sources key (Some (Ok offset)) writer =
-    picked_one group sources key (record { partition = record { topic = key.topic; partition = key.partition }; offset = offset; writer = writer }) refl
+picked_key : (group : Group) (sources : List Topic) (key : OffsetKey) (epoch : ℤ) (value : Option (Result ℤ RecordFault)) (writer : Option Writer)
+    → picked group sources (map (λ c. (key.group, c)) (map (under epoch) (commit_with key value writer))) ≡ (if is_of group sources key then map (under epoch) (commit_with key value writer) else [])
+picked_key group sources key epoch None writer = nothing_if (is_of group sources key)
+picked_key group sources key epoch (Some (Err fault)) writer = nothing_if (is_of group sources key)
+picked_key group sources key epoch (Some (Ok offset)) writer =
+    picked_one group sources key (under epoch (record { partition = record { topic = key.topic; partition = key.partition }; offset = offset; writer = writer })) refl
 
 picked_under : (group : Group) (sources : List Topic) (ours : OffsetKey → Bool) → Covers ours group sources → (r : Result (Option OffsetKey) RecordFault) (x : Item)
-    → picked group sources (entry_under ours r x) ≡ commit_under (is_of group sources) r x
+    → picked group sources (entry_under ours r x) ≡ map (under (epoch_in x.value)) (commit_under (is_of group sources) r x)
 picked_under group sources ours covers (Err fault) x = refl
 picked_under group sources ours covers (Ok None) x = refl
-picked_under group sources ours covers (Ok (Some key)) x = go (ours key) (is_of group sources key) refl refl
+picked_under group sources ours covers (Ok (Some key)) x = go (ours key) (is_of group sources key) refl refl ∙ sym (map_if (is_of group sources key))
   where
-    cs : List Commit
-    cs = commit_with key (value_of x) x.writer
+    cs : List EpochCommit
+    cs = map (under (epoch_in x.value)) (commit_with key (value_of x) x.writer)
+
+    map_if : (b : Bool) → map (under (epoch_in x.value)) (if b then commit_with key (value_of x) x.writer else []) ≡ (if b then cs else [])
+    map_if true = refl
+    map_if false = refl
 
     go : (a b : Bool) → ours key ≡ a → is_of group sources key ≡ b → picked group sources (if a then map (λ c. (key.group, c)) cs else []) ≡ (if b then cs else [])
-    go true b p q = picked_key group sources key (value_of x) x.writer ∙ ap (λ t. if t then cs else []) q
+    go true b p q = picked_key group sources key (epoch_in x.value) (value_of x) x.writer ∙ ap (λ t. if t then cs else []) q
     go false true p q = absurd (let h : false ≡ true = sym p ∙ covers key q in cc)
     go false false p q = refl
 
@@ -82,7 +87,7 @@ picked_at : (group : Group) (sources : List Topic) (ours : OffsetKey → Bool) �
     → picked group sources (entry_at ours x) ≡ commit_at (is_of group sources) x
 picked_at group sources ours covers x = go (is_visible x.fate)
   where
-    go : (b : Bool) → picked group sources (if b then entry_under ours (key_of x) x else []) ≡ (if b then commit_under (is_of group sources) (key_of x) x else [])
+    go : (b : Bool) → picked group sources (if b then entry_under ours (key_of x) x else []) ≡ (if b then map (under (epoch_in x.value)) (commit_under (is_of group sources) (key_of x) x) else [])
     go true = picked_under group sources ours covers (key_of x) x
     go false = refl
 
@@ -102,7 +107,7 @@ picked_part group sources ours covers p = go (is_offsets_part p)
     go false = refl
 
 picked_log : (group : Group) (sources : List Topic) (ours : OffsetKey → Bool) → Covers ours group sources → (ps : List PartLog)
-    → picked group sources (entries_by ours ps) ≡ commits_of group sources ps
+    → picked group sources (entries_by ours ps) ≡ epoch_commits_of group sources ps
 picked_log group sources ours covers ps =
     picked_flat group sources (entries_at ours) ps ∙ ((λ i. flat_map (λ p. picked_part group sources ours covers p i) ps) ∙ in_log group sources ps)
 
@@ -142,7 +147,7 @@ picked_filter : (group : Group) (sources : List Topic) (es : List Entry)
 picked_filter group sources es = flat_map-map (pick group sources) plain_entry es ∙ flat_filter (λ e. pick_of_topics sources (plain_entry e)) (is_under group) es
 
 table_of : (group : Group) (sources : List Topic) (ps : List PartLog) (keys : List Source) (es : List Entry) → Covers (is_read keys) group sources → AreEntriesOf (is_read keys) ps es
-    → picked group sources (map plain_entry es) ≡ commits_of group sources ps
+    → picked group sources (map plain_entry es) ≡ epoch_commits_of group sources ps
 table_of group sources ps keys es covers are =
     picked_filter group sources es
     ∙ (ap (flat_map (λ e. pick_of_topics sources (plain_entry e))) (are.stable group)
@@ -154,10 +159,10 @@ pub is_table : (apps : List App) (ps : List PartLog) (keys : List Source) (es : 
 is_table apps ps keys es p are app has = table_of app.group app.sources ps keys es (covered apps keys p app has) are
 
 pub of_group : (group : Group) (sources : List Topic) (ps : List PartLog) (keys : List Source) (es : List Entry) → IsPermutation (sources_under group sources) keys → AreEntriesOf (is_read keys) ps es
-    → picked group sources (map plain_entry es) ≡ commits_of group sources ps
+    → picked group sources (map plain_entry es) ≡ epoch_commits_of group sources ps
 of_group group sources ps keys es p are = table_of group sources ps keys es (covered_group group sources keys p) are
 
 -- the topics in another order
 pub picked_any : (group : Group) (sources set : List Topic) (table : List Tabled) → IsPermutation sources set → picked group set table ≡ picked group sources table
 picked_any group sources set table p =
-    λ i. flat_map (λ e. if is_same group e.0 then (if found_in_order (slice_cmp nat_cmp) sources set e.1.partition.topic p i then e.1 ∷ [] else []) else []) table
+    λ i. flat_map (λ e. if is_same group e.0 then (if found_in_order (slice_cmp nat_cmp) sources set e.1.commit.partition.topic p i then e.1 ∷ [] else []) else []) table

@@ -1,5 +1,6 @@
 pub mod Visible
 pub mod Commits
+pub mod EpochCommits
 pub mod Kept
 pub mod Faults
 pub mod Plain

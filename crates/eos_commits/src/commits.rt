@@ -8,9 +8,10 @@ ghost use Rattle.eos_offsets.specs.Reading.{read_value};
 ghost use Rattle.eos_offsets.specs.Views.{plain_key};
 ghost use Rattle.eos_claims.specs.Outputs.{committed_offset};
 ghost use Rattle.eos_commits.specs.Commits.{commit_with as commit_valued};
-ghost use Rattle.eos_commits.specs.Plain.{plain_commit};
+ghost use Rattle.eos_commits.specs.EpochCommits.{under, epoch_in};
+ghost use Rattle.eos_commits.specs.Plain.{plain_commit, epoch_commit};
 
-use eos_offsets::{KeyRef, view_value};
+use eos_offsets::{KeyRef, view_leader_epoch, view_value};
 
 /// An offset that a group has committed for a partition that it reads. The topic is lent.
 #[derive(Clone, Copy)]
@@ -19,6 +20,8 @@ pub struct CommitRef<'a> {
     pub partition: i32,
     /// The offset of the next record to read.
     pub offset: i64,
+    /// The leader epoch of the last record read, -1 for none.
+    pub leader_epoch: i32,
     /// The producer id and epoch of the transaction in which it was committed, if it was in one.
     pub writer: Option<(i64, i16)>,
 }
@@ -29,15 +32,17 @@ pub(crate) fn commit_with<'a>(
     value: Option<&[u8]>,
     writer: Option<(i64, i16)>,
 ) -> Option<CommitRef<'a>>
-    ensures { option_to_list (option_map plain_commit result)
-        ≡ commit_valued (plain_key key.entry) (option_map read_value (option_map (λ s. s.now) value.entry)) writer }
+    ensures { option_to_list (option_map epoch_commit result)
+        ≡ map (under (epoch_in (option_map (λ s. s.now) value.entry))) (commit_valued (plain_key key.entry) (option_map read_value (option_map (λ s. s.now) value.entry)) writer) }
 {
-    match view_value(value?) {
+    let value = value?;
+    match view_value(value) {
         Err(_) => None,
         Ok(offset) => Some(CommitRef {
             topic: key.topic,
             partition: key.partition,
             offset,
+            leader_epoch: view_leader_epoch(value),
             writer,
         }),
     }

@@ -10,7 +10,8 @@ ghost use Rattle.eos_evidence.specs.declared.application.App.{App};
 ghost use Rattle.eos_fold.specs.Parts.{PartLog};
 ghost use Rattle.eos_claims.specs.Outputs.{committed_offset};
 ghost use Rattle.eos_commits.specs.Commits.{Group, key_of, commits_of as commits_in_log};
-ghost use Rattle.eos_commits.specs.Plain.{plain_commit};
+ghost use Rattle.eos_commits.specs.EpochCommits.{epoch_commits_of};
+ghost use Rattle.eos_commits.specs.Plain.{plain_commit, epoch_commit};
 ghost use Rattle.eos_commits.specs.Tables.{IsTableOf, pick_of_topics, picked};
 ghost use Rattle.eos_commits.specs.steps.Entries.{AreEntriesOf, by_group, entries_at, entries_by, entry_at as entry_in, entry_under, is_read, is_under, plain_entry};
 
@@ -51,7 +52,7 @@ impl<'a> Model for CommitTable<'a> {
 
 /// The commit with its group, if there is one.
 fn grouped<'a>(group: &'a [u8], commit: Option<CommitRef<'a>>) -> Option<Entry<'a>>
-    ensures { option_to_list (option_map plain_entry result) ≡ map (λ c. (group.now, c)) (option_to_list (option_map plain_commit commit.entry)) }
+    ensures { option_to_list (option_map plain_entry result) ≡ map (λ c. (group.now, c)) (option_to_list (option_map epoch_commit commit.entry)) }
 {
     match commit {
         None => None,
@@ -173,7 +174,7 @@ fn push_of_topics<'a>(
     sources: &TopicSet<'_>,
     entry: &Entry<'a>,
 ) -> Result<(), AllocError>
-    ensures { OnOk result (map plain_commit all.new.items ≡ map plain_commit all.old.items ++ pick_of_topics sources.now (plain_entry entry.now)) }
+    ensures { OnOk result (map epoch_commit all.new.items ≡ map epoch_commit all.old.items ++ pick_of_topics sources.now (plain_entry entry.now)) }
 {
     if sources.has(entry.commit.topic) {
         all.push(entry.commit)?;
@@ -197,7 +198,7 @@ fn commits_from<'a>(
     sources: &TopicSet<'_>,
 ) -> Result<Vec<CommitRef<'a>>, AllocError>
     requires { IsSorted by_group entries.now }
-    ensures { IfOk result (λ all. map plain_commit all.items ≡ picked group.now sources.now (map plain_entry entries.now)) }
+    ensures { IfOk result (λ all. map epoch_commit all.items ≡ picked group.now sources.now (map plain_entry entries.now)) }
 {
     let mut all = Vec::new(alloc);
     let mut at = count_before(entries, group);
@@ -229,7 +230,7 @@ fn picked_of<'a>(
     sources: &[Bytes],
 ) -> Result<Vec<CommitRef<'a>>, AllocError>
     requires { IsSorted by_group entries.now }
-    ensures { IfOk result (λ all. map plain_commit all.items ≡ picked group.now sources.now (map plain_entry entries.now)) }
+    ensures { IfOk result (λ all. map epoch_commit all.items ≡ picked group.now sources.now (map plain_entry entries.now)) }
 {
     let set = TopicSet::of(alloc, sources)?;
     commits_from(alloc, entries, group, &set)
@@ -253,8 +254,10 @@ impl<'a> CommitTable<'a> {
     /// # Errors
     /// Only want of memory.
     pub fn commits_of(&self, alloc: Global, app: &App) -> Result<Vec<CommitRef<'a>>, AllocError>
-        ensures { (apps : List App) (parts : List PartLog) → IsTableOf apps parts self.now → Has apps app.now
+        ensures commits { (apps : List App) (parts : List PartLog) → IsTableOf apps parts self.now → Has apps app.now
             → IfOk result (λ all. map plain_commit all.items ≡ commits_in_log app.now.group app.now.sources parts) }
+        ensures epochs { (apps : List App) (parts : List PartLog) → IsTableOf apps parts self.now → Has apps app.now
+            → IfOk result (λ all. map epoch_commit all.items ≡ epoch_commits_of app.now.group app.now.sources parts) }
     {
         let entries = self.entries.as_slice();
         picked_of(alloc, entries, app.group.as_bytes(), app.sources.as_slice())
@@ -272,7 +275,8 @@ pub fn commits_of<'a>(
     sources: &[Bytes],
     parts: &'a [Part],
 ) -> Result<Vec<CommitRef<'a>>, AllocError>
-    ensures { IfOk result (λ all. map plain_commit all.items ≡ commits_in_log group.now sources.now parts.now) }
+    ensures commits { IfOk result (λ all. map plain_commit all.items ≡ commits_in_log group.now sources.now parts.now) }
+    ensures epochs { IfOk result (λ all. map epoch_commit all.items ≡ epoch_commits_of group.now sources.now parts.now) }
 {
     let roles = Roles::of_group(alloc, group, sources)?;
     let entries = entries_of(alloc, &roles, parts)?;

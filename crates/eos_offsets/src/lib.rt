@@ -3,10 +3,12 @@
 #![tactic(auto)]
 
 mod key;
+mod leader_epoch;
 mod value;
 mod view;
 
 pub use eos_base::RecordFault;
 pub use key::{OffsetKey, decode_key, encode_key};
+pub use leader_epoch::view_leader_epoch;
 pub use value::{Commit, decode_value, encode_value};
 pub use view::{KeyRef, view_key, view_value};

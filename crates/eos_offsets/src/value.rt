@@ -28,13 +28,13 @@ use std::alloc::{AllocError, Global};
 const LAST_VERSION: i16 = 3;
 
 /// The version with a leader epoch.
-const LEADER_EPOCH_VERSION: i16 = 3;
+pub(crate) const LEADER_EPOCH_VERSION: i16 = 3;
 
 /// The version with an expiry.
 const EXPIRE_TIMESTAMP_VERSION: i16 = 1;
 
 /// What is written where a commit has no leader epoch.
-const NO_LEADER_EPOCH: i32 = -1;
+pub(crate) const NO_LEADER_EPOCH: i32 = -1;
 
 /// The length of empty metadata.
 const NO_METADATA: i16 = 0;

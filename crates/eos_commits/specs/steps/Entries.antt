@@ -12,12 +12,13 @@ use Rattle.eos_fold.specs.Parts.{PartLog}
 use Rattle.eos_commits.specs.declared.table.Entry.{Entry}
 use Rattle.eos_commits.specs.Visible.{is_visible}
 use Rattle.eos_commits.specs.Commits.{Group, is_same, is_offsets_part, key_of, value_of, commit_with}
-use Rattle.eos_commits.specs.Plain.{plain_commit}
+use Rattle.eos_commits.specs.EpochCommits.{under, epoch_in}
+use Rattle.eos_commits.specs.Plain.{epoch_commit}
 use Rattle.eos_commits.specs.Tables.{Tabled}
 use Rattle.eos_commits.specs.steps.Roles.{Source, source_cmp}
 
 abbrev pub plain_entry : Entry → Tabled
-plain_entry e = (e.group.now, plain_commit e.commit)
+plain_entry e = (e.group.now, epoch_commit e.commit)
 
 abbrev pub by_group : Entry → Entry → Ordering
 by_group a b = slice_cmp nat_cmp a.group.now b.group.now
@@ -33,7 +34,7 @@ is_read sources key = is_found source_cmp sources (key.group, key.topic)
 abbrev pub entry_under : (OffsetKey → Bool) → Result (Option OffsetKey) RecordFault → Item → List Tabled
 entry_under ours (Err fault) x = []
 entry_under ours (Ok None) x = []
-entry_under ours (Ok (Some key)) x = if ours key then map (λ c. (key.group, c)) (commit_with key (value_of x) x.writer) else []
+entry_under ours (Ok (Some key)) x = if ours key then map (λ c. (key.group, c)) (map (under (epoch_in x.value)) (commit_with key (value_of x) x.writer)) else []
 
 abbrev pub entry_at : (OffsetKey → Bool) → Item → List Tabled
 entry_at ours x = if is_visible x.fate then entry_under ours (key_of x) x else []

@@ -1,7 +1,7 @@
 use Rattle.std.proofs.Common.{◌++◌, ◌∙◌, List, map, drop, sym, ap, append-nil}
-use Rattle.eos_claims.specs.Outputs.{Commit}
+use Rattle.eos_commits.specs.EpochCommits.{EpochCommit}
 use Rattle.eos_commits.specs.declared.commits.CommitRef.{CommitRef}
-use Rattle.eos_commits.specs.Plain.{plain_commit}
+use Rattle.eos_commits.specs.Plain.{epoch_commit}
 use Rattle.eos_commits.specs.Tables.{picked}
 use Rattle.eos_commits.specs.steps.Entries.{plain_entry}
 use Rattle.eos_commits.proofs.EntryOrder.{front_not_picked, rest_not_picked}
@@ -16,7 +16,7 @@ loop-all-init c =
     let count = c.count_before-at.ensures in record {
       within = count.bound;
       from = count.from;
-      found = ap (λ (cs : List CommitRef). map plain_commit cs ++ picked group sources (map plain_entry (drop first es))) c.new-all.ensures.items
+      found = ap (λ (cs : List CommitRef). map epoch_commit cs ++ picked group sources (map plain_entry (drop first es))) c.new-all.ensures.items
           ∙ front_not_picked group sources es first count.before count.bound;
     }
 
@@ -27,4 +27,4 @@ returns c =
     let sources = c.args.sources.now in
     let i = c.loop-all.invariant in
     let none = rest_not_picked group sources es c.loop-all.at c.requires i.from c.loop-all-test.ensures in
-    sym (append-nil (map plain_commit c.loop-all.all.items)) ∙ (ap (λ (cs : List Commit). map plain_commit c.loop-all.all.items ++ cs) (sym none) ∙ i.found)
+    sym (append-nil (map epoch_commit c.loop-all.all.items)) ∙ (ap (λ (cs : List EpochCommit). map epoch_commit c.loop-all.all.items ++ cs) (sym none) ∙ i.found)

@@ -11,7 +11,7 @@ pub returns-clause-stable : goal.returns-clause-stable
 returns-clause-stable c group =
     let blank : Entry = record {
       group = record { ref_ptr = (0, 0); now = group };
-      commit = record { topic = record { ref_ptr = (0, 0); now = group }; partition = pos 0; offset = pos 0; writer = None };
+      commit = record { topic = record { ref_ptr = (0, 0); now = group }; partition = pos 0; offset = pos 0; leader_epoch = pos 0; writer = None };
     } in
     sym (under_tied group blank c.sort_by_key.new.self.items refl)
     ∙ (c.in_ok-sort_by_key.ensures.stable (λ entry. entry.group) (answers_always _ _ _ (λ f a r g called. search rules)) blank

@@ -15,7 +15,7 @@ returns c = λ are.
     let table = c.requires in
     let sources = subst (λ ts. IsPermutation ts c.in_ok-sources.sources) c.as_slice.ensures c.in_ok-sources.ensures in
     let outputs = subst (λ ts. IsPermutation ts c.in_ok-outputs.outputs) c.as_slice-2.ensures c.in_ok-outputs.ensures in
-    let commits = c.in_ok-commits.ensures table.0 parts table.1 table.2 in
+    let commits = c.in_ok-commits.ensures.commits table.0 parts table.1 table.2 in
     c.output_faults.ensures (application_of app parts) (reads app parts) (apart app parts are) sources (c.in_ok-inputs.ensures ∙ inputs_same app.sources c.in_ok-sources.sources parts sources)
     (ap (λ (cs : List CommitRef). map plain_commit cs) c.as_slice-3.ensures.value ∙ commits)
     (ap (λ (cs : List VisibleClaim). map claim_at cs) c.as_slice-4.ensures.value ∙ (c.in_ok-claims.ensures ∙ claims_same app.outputs c.in_ok-outputs.outputs parts outputs))
