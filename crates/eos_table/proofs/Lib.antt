@@ -33,7 +33,6 @@ pub mod AllGathered
 pub mod PlaceTests
 pub mod PlacesSound
 pub mod PlacesWhole
-pub mod MatchKeyOrders
 pub mod PushedMore
 pub mod RecordedDecisions
 pub mod KeptDeciders

@@ -6,6 +6,5 @@ pub mod OneShard
 pub mod Wanted
 pub mod Gathered
 pub mod Deciders
-pub mod MatchKeys
 pub mod Recorded
 pub mod Shown

@@ -1,7 +1,7 @@
 //! Keys for look-ups, in order, of the producer ids of one shard. Names are borrowed, so that a key costs no copy of a topic.
 
 ghost use Rattle.std.specs.Prelude.{◌≡◌, ◌++◌, IfOk, OnOk, IsPermutation, map};
-ghost use Rattle.eos_txnlog.specs.PartitionSets.{names_in_topic, names_of};
+ghost use Rattle.eos_txnlog.specs.PartitionSets.{name_of, names_in_topic, names_of};
 ghost use Rattle.eos_fold.specs.Parts.{part_name};
 ghost use Rattle.eos_table.specs.steps.Keys.{plain_name, decided, judged, listed, listed_of, plain_listed, ended, ended_of, plain_ended, marked, marked_of, names};
 
@@ -45,6 +45,16 @@ pub(crate) fn name_of_part(part: &Part) -> NameRef<'_>
     NameRef {
         topic: part.topic(),
         partition: part.partition(),
+    }
+}
+
+/// The name of a partition of this topic.
+pub(crate) fn name_in<'a>(topic: &'a TopicPartitions, partition: &i32) -> NameRef<'a>
+    ensures { plain_name result ≡ name_of topic.entry.now.topic partition.now }
+{
+    NameRef {
+        topic: &topic.topic,
+        partition: *partition,
     }
 }
 
@@ -98,10 +108,7 @@ fn push_listed_topic<'a>(
         keys.push(Listed {
             producer: decision.producer,
             epoch: decision.epoch,
-            name: NameRef {
-                topic: &topic.topic,
-                partition: *partition,
-            },
+            name: name_in(topic, partition),
         })?;
     }
     Ok(())
@@ -145,10 +152,7 @@ fn push_ended_topic<'a>(
             producer: decision.producer,
             epoch: decision.marker_epoch,
             kind: decision.kind,
-            name: NameRef {
-                topic: &topic.topic,
-                partition: *partition,
-            },
+            name: name_in(topic, partition),
         })?;
     }
     Ok(())

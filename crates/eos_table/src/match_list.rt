@@ -9,8 +9,9 @@ ghost use Rattle.eos_table.specs.MatchPlaces.{at_decision, at_closes, at_markers
 
 use crate::MatchFault;
 use crate::decided::deciders_of;
-use crate::match_key::{ended_in_order, listed_in_order, marked_in_order, names_in_order};
+use crate::key::{ended_keys, listed_keys, marked_keys, name_keys};
 use crate::match_reading::read_decisions;
+use crate::one_shard::Shard;
 use crate::places::{push_closes, push_decisions, push_markers, push_names};
 use eos_base::distinct_in_order;
 use eos_kept::Part;
@@ -27,7 +28,7 @@ fn push_by_decision(
     ensures { OnOk result (faults.new.items ≡ faults.old.items ++ (flat_map (at_decision decisions.now) decisions.now ++ at_closes decisions.now parts.now)) }
 {
     let deciders = deciders_of(alloc, decisions)?;
-    let listed = listed_in_order(alloc, decisions)?;
+    let listed = listed_keys(alloc, decisions, Shard::only())?;
     push_decisions(faults, &deciders, decisions)?;
     push_closes(faults, &deciders, &listed, parts)?;
     Ok(())
@@ -42,7 +43,7 @@ fn push_by_marker(
 ) -> Result<(), AllocError>
     ensures { OnOk result (faults.new.items ≡ faults.old.items ++ at_markers decisions.now parts.now) }
 {
-    let wanted = ended_in_order(alloc, decisions)?;
+    let wanted = ended_keys(alloc, decisions, Shard::only())?;
     push_markers(faults, &wanted, parts)?;
     Ok(())
 }
@@ -56,8 +57,8 @@ fn push_by_name(
 ) -> Result<(), AllocError>
     ensures { OnOk result (faults.new.items ≡ faults.old.items ++ at_names decisions.now parts.now) }
 {
-    let there = names_in_order(alloc, parts)?;
-    let marked = marked_in_order(alloc, parts)?;
+    let there = name_keys(alloc, parts)?;
+    let marked = marked_keys(alloc, parts, Shard::only())?;
     push_names(faults, &there, &marked, decisions)?;
     Ok(())
 }

@@ -35,6 +35,13 @@ impl Shard {
         Shard { number, of }
     }
 
+    /// The only one, which has all producer ids.
+    pub fn only() -> Shard
+        ensures { result ≡ record { number = 0; of = 1 } }
+    {
+        Shard { number: 0, of: 1 }
+    }
+
     /// Is the producer id of the shard?
     pub fn has(self, producer: i64) -> bool
         ensures { result ≡ mine self.of self.number producer }

@@ -9,7 +9,7 @@ ghost use Rattle.eos_table.specs.steps.Keys.{plain_name, plain_listed, plain_end
 ghost use Rattle.eos_table.specs.steps.Candidates.{plain, faults_of, kind_at_close as kind_of_close, kind_at_marker as kind_of_marker, kind_at_name as kind_of_name, faults_at_close, faults_at_marker, faults_at_name, close_faults, marker_faults, name_faults, at_closes, at_markers, at_names};
 
 use crate::best::Found;
-use crate::key::{Ended, Listed, NameRef, name_of_part};
+use crate::key::{Ended, Listed, NameRef, name_in, name_of_part};
 use crate::look::{is_decided, is_ended, is_judged, is_listed, is_name};
 use crate::match_fault::MatchFaultKind;
 use crate::one_shard::Shard;
@@ -185,10 +185,7 @@ fn after_number<'a>(
     ensures { option_map plain result ≡ fold (lesser_of fault_cmp) (option_map plain best.entry)
         (faults_at_name (map plain_name present.now.names) (map plain_ended present.now.marked) decision.now (record { topic = topic.now.topic; partition = partition.now })) }
 {
-    let name = NameRef {
-        topic: &topic.topic,
-        partition: *partition,
-    };
+    let name = name_in(topic, partition);
     let kind = kind_at_name(present, decision, name);
     with(best, decision.producer, decision.epoch, name, kind)
 }

@@ -6,12 +6,12 @@ ghost use Rattle.std.specs.Ordering.{int_eq};
 ghost use Rattle.eos_touch.specs.Pair.{same_kind};
 ghost use Rattle.eos_txnlog.specs.PartitionSets.{names_in_topic};
 ghost use Rattle.eos_table.specs.MatchPlaces.{fault_of};
-ghost use Rattle.eos_table.specs.steps.MatchKeys.{plain_name, plain_listed, plain_ended};
+ghost use Rattle.eos_table.specs.steps.Keys.{plain_name, plain_listed, plain_ended};
 ghost use Rattle.eos_table.specs.steps.Shown.{twice_by, decision_by, data_by, close_by, marker_by, name_by, closes_in, markers_in, names_in};
 
 use crate::decided::{Decided, Deciders, decided_of};
-use crate::match_key::{Ended, Listed, NameRef, name_in, name_of_part};
-use crate::match_look::{is_ended, is_listed, is_name};
+use crate::key::{Ended, Listed, NameRef, name_in, name_of_part};
+use crate::look::{is_ended, is_listed, is_name};
 use crate::{MatchFault, MatchFaultKind};
 use eos_base::{PartitionName, Sorted};
 use eos_batch::{Kind, Marker};

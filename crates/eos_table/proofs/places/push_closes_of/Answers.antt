@@ -2,7 +2,7 @@ use Rattle.std.proofs.Common.{◌≡◌, ◌++◌, ◌<◌, List, length, get_or
 use Rattle.eos_batch.specs.declared.marker.Kind.TheVariants.{Commit}
 use Rattle.eos_fold.specs.declared.close.Close.{Close}
 use Rattle.eos_fold.specs.Parts.{part_name}
-use Rattle.eos_table.specs.steps.MatchKeys.{plain_listed}
+use Rattle.eos_table.specs.steps.Keys.{plain_listed}
 use Rattle.eos_table.specs.steps.Shown.{close_by}
 use Rattle.eos_table.proofs.PushedMore.{appended_at}
 use Rattle.eos_table.proofs.places.push_closes_of.Goals as goal

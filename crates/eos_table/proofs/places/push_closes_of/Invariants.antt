@@ -1,7 +1,7 @@
 use Rattle.std.proofs.Common.{◌≡◌, ◌++◌, take, map}
 use Rattle.std.specs.List.{flat_map}
 use Rattle.eos_fold.specs.Parts.{part_name}
-use Rattle.eos_table.specs.steps.MatchKeys.{plain_listed}
+use Rattle.eos_table.specs.steps.Keys.{plain_listed}
 use Rattle.eos_table.specs.steps.Shown.{close_by}
 use Rattle.eos_table.proofs.places.push_closes_of.Given as goal
 

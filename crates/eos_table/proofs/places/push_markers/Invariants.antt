@@ -1,6 +1,6 @@
 use Rattle.std.proofs.Common.{◌≡◌, ◌++◌, take, map}
 use Rattle.std.specs.List.{flat_map}
-use Rattle.eos_table.specs.steps.MatchKeys.{plain_ended}
+use Rattle.eos_table.specs.steps.Keys.{plain_ended}
 use Rattle.eos_table.specs.steps.Shown.{markers_in}
 use Rattle.eos_table.proofs.places.push_markers.Given as goal
 

@@ -1,7 +1,7 @@
 use Rattle.std.proofs.Common.{◌≡◌, ◌++◌, take, map}
 use Rattle.std.specs.List.{flat_map}
 use Rattle.eos_fold.specs.Parts.{part_name}
-use Rattle.eos_table.specs.steps.MatchKeys.{plain_ended}
+use Rattle.eos_table.specs.steps.Keys.{plain_ended}
 use Rattle.eos_table.specs.steps.Shown.{marker_by}
 use Rattle.eos_table.proofs.places.push_markers_of.Given as goal
 

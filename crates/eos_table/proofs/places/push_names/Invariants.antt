@@ -1,6 +1,6 @@
 use Rattle.std.proofs.Common.{◌≡◌, ◌++◌, take, map}
 use Rattle.std.specs.List.{flat_map}
-use Rattle.eos_table.specs.steps.MatchKeys.{plain_name, plain_ended}
+use Rattle.eos_table.specs.steps.Keys.{plain_name, plain_ended}
 use Rattle.eos_table.specs.steps.Shown.{names_in}
 use Rattle.eos_table.proofs.places.push_names.Given as goal
 

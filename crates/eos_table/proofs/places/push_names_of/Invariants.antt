@@ -1,7 +1,7 @@
 use Rattle.std.proofs.Common.{◌≡◌, ◌++◌, take, map}
 use Rattle.std.specs.List.{flat_map}
 use Rattle.eos_txnlog.specs.PartitionSets.{names_of}
-use Rattle.eos_table.specs.steps.MatchKeys.{plain_name, plain_ended}
+use Rattle.eos_table.specs.steps.Keys.{plain_name, plain_ended}
 use Rattle.eos_table.specs.steps.Shown.{name_by}
 use Rattle.eos_table.proofs.places.push_names_of.Given as goal
 

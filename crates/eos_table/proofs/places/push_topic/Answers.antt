@@ -2,7 +2,7 @@ use Rattle.std.proofs.Common.{◌≡◌, ◌++◌, ◌<◌, ℕ, ℤ, pos, List,
 use Rattle.std.proofs.lemmas.Grind.{common_steps}
 use Rattle.std.proofs.lemmas.List.Folds.{flat_map-map}
 use Rattle.eos_base.specs.declared.partition_name.PartitionName.{PartitionName}
-use Rattle.eos_table.specs.steps.MatchKeys.{plain_name, plain_ended}
+use Rattle.eos_table.specs.steps.Keys.{plain_name, plain_ended}
 use Rattle.eos_table.specs.steps.Shown.{name_by}
 use Rattle.eos_table.proofs.PushedMore.{appended_at}
 use Rattle.eos_table.proofs.places.push_topic.Goals as goal
