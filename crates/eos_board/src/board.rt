@@ -7,8 +7,8 @@ ghost use Rattle.eos_fold.specs.Sums.{Follows};
 ghost use Rattle.eos_board.specs.Runs.{IsOrderly, IsRefused, Joins, MayPost, MayPutBack, NoneJoin, Overlap, after_post, inserted, with_run};
 ghost use Rattle.eos_board.specs.steps.Receipts.{IsGathered, parts_of};
 
-use crate::slots::Slots;
 use crate::refused::{Refused, Why};
+use crate::slots::Slots;
 use crate::tied::{Pieces, Tied};
 use eos_evidence::Evidence;
 use std::alloc::{AllocError, Global};

@@ -6,12 +6,12 @@
 mod board;
 mod follow;
 mod gate;
-mod slots;
 mod pool_core;
 mod pool_event;
 mod reach;
 mod refused;
 mod rule;
+mod slots;
 mod stock;
 mod tickets;
 mod tied;
@@ -19,9 +19,9 @@ mod worker;
 
 pub use board::{Board, Receipt};
 pub use gate::{Gate, OpenGate};
-pub use slots::Slots;
 pub use pool_core::PoolCore;
 pub use pool_event::{PoolEvent, PoolReply};
 pub use refused::{Refused, Why};
+pub use slots::Slots;
 pub use tickets::{Drawn, MAX_TICKETS, MAX_WORKERS, Seat, Tickets};
 pub use tied::{Loose, Pieces, Tied};

@@ -8,8 +8,8 @@
 pub mod answers;
 pub mod copies;
 pub mod laws;
-mod partition_log;
 pub mod log_indexes;
+mod partition_log;
 mod producer;
 mod store;
 

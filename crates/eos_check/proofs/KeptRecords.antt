@@ -8,7 +8,7 @@ use Rattle.eos_base.specs.Members.{Has, is_found}
 use Rattle.eos_base.proofs.Exact.{bytes_exact, is_tied}
 use Rattle.eos_base.proofs.Membership.{found_has, has_found, has_flat}
 use Rattle.eos_evidence.specs.declared.application.App.{App}
-use Rattle.eos_evidence.specs.Members.{outputs_of}
+use Rattle.eos_evidence.specs.SpecFields.{outputs_of}
 use Rattle.eos_evidence.specs.Topics.{is_internal}
 use Rattle.eos_claims.specs.Headers.{claim_of}
 use Rattle.eos_fold.specs.declared.item.Item.{Item}

@@ -5,6 +5,7 @@
 #![tactic(auto)]
 
 mod judging;
+pub mod kept_laws;
 pub mod laws;
 mod one_thread;
 mod parts;
@@ -13,7 +14,6 @@ mod pool;
 mod shards;
 mod tied_evidence;
 mod verdict;
-pub mod kept_laws;
 mod workers;
 
 pub use judging::judge;

@@ -4,7 +4,7 @@ use Rattle.eos_check.specs.declared.verdict.Fault.{Fault}
 use Rattle.eos_check.specs.declared.verdict.Verdict.{Verdict}
 use Rattle.eos_check.specs.Verdicts.{IsVerdict}
 use Rattle.eos_evidence.specs.Evidence.{EvidenceParts}
-use Rattle.eos_evidence.specs.Members.{Members}
+use Rattle.eos_evidence.specs.SpecFields.{SpecFields}
 use Rattle.eos_fold.specs.Parts.{PartLog}
 use Rattle.eos_notes.specs.Notes.{AreAllNotesBy}
 use Rattle.eos_kept.specs.Parts.{HaveEpochs}
@@ -33,12 +33,12 @@ by_kept e logs told all about text k spec same counted epochs verdict faults r =
     let kept = wanted_logs e.spec.apps k.whole in
     let noted : AreAllNotesBy e.spec kept told.epochs.now (is_some (first_of named)) r.notes =
     subst (λ (ls : List PartLog). AreAllNotesBy e.spec ls told.epochs.now (is_some (first_of named)) r.notes) parts
-    (subst (λ (s : Members). AreAllNotesBy s told.logs.now.parts.items told.epochs.now (is_some (first_of named)) r.notes) spec r.by) in
+    (subst (λ (s : SpecFields). AreAllNotesBy s told.logs.now.parts.items told.epochs.now (is_some (first_of named)) r.notes) spec r.by) in
     let over_kept : AreTallies e (tallies_by e.spec.apps kept named told.counted.now) = whole_tables e k.whole named told.counted.now k.of is_faults counted in
     let over_parts : AreTallies e (tallies_by e.spec.apps told.logs.now.parts.items named told.counted.now) =
     subst (λ (ls : List PartLog). AreTallies e (tallies_by e.spec.apps ls named told.counted.now)) (sym parts) over_kept in
     let tables : AreTallies e (tallies_by told.spec.now.apps told.logs.now.parts.items named told.counted.now) =
-    subst (λ (s : Members). AreTallies e (tallies_by s.apps told.logs.now.parts.items named told.counted.now)) (sym spec) over_parts in
+    subst (λ (s : SpecFields). AreTallies e (tallies_by s.apps told.logs.now.parts.items named told.counted.now)) (sym spec) over_parts in
     record {
       verdict = told.verdict.now;
       faults = told.faults.now;
@@ -51,7 +51,7 @@ by_kept e logs told all about text k spec same counted epochs verdict faults r =
       says = r.says;
     }
 
-pub kept_report : (e : EvidenceParts) (spec : Members) (j : Judged) (all : Bool) (faults : List Fault) (about : Option Wanted) (text : Option Made) → e.spec ≡ spec → AreKeptOf e j.logs
+pub kept_report : (e : EvidenceParts) (spec : SpecFields) (j : Judged) (all : Bool) (faults : List Fault) (about : Option Wanted) (text : Option Made) → e.spec ≡ spec → AreKeptOf e j.logs
     → AreCounted e.partitions j.counted.items → HaveEpochs e.partitions j.epochs.items → IsVerdict e j.verdict → AreTold e all j.verdict faults → ReportsOf spec j faults about text → IsReportAsked e all about text
 kept_report e spec j all faults None text same k counted epochs verdict are r = r
 kept_report e spec j all faults (Some about) None same k counted epochs verdict are r = absurd r
@@ -61,7 +61,7 @@ kept_report e spec j all faults (Some about) (Some text) same k counted epochs v
     subst (λ (fs : List Fault). AreTold e all told.verdict.now fs) (sym r.6) (subst (λ (v : Verdict). AreTold e all v faults) (sym r.5) are) in
     by_kept e j.logs told all about text k (r.1 ∙ sym same) r.2 (subst (AreCounted e.partitions) (sym r.3) counted) (subst (HaveEpochs e.partitions) (sym r.4) epochs) (subst (IsVerdict e) (sym r.5) verdict) of_told r.7
 
-pub reports : (spec : Members) (j : Judged) (faults : List Fault) (asked : Option Wanted) (about : Wanted) (text : Made) (told : Told) → asked ≡ Some about → told.spec.now ≡ spec
+pub reports : (spec : SpecFields) (j : Judged) (faults : List Fault) (asked : Option Wanted) (about : Wanted) (text : Made) (told : Told) → asked ≡ Some about → told.spec.now ≡ spec
     → told.logs.now ≡ j.logs → told.counted.now ≡ j.counted.items → told.epochs.now ≡ j.epochs.items → told.verdict.now ≡ j.verdict → told.faults.now ≡ faults → IsReportBy told about text → ReportsOf spec j faults asked (Some text)
 reports spec j faults asked about text told is of_spec of_logs of_counted of_epochs of_verdict of_faults by =
     subst (λ (o : Option Wanted). ReportsOf spec j faults o (Some text)) (sym is) (told, of_spec, of_logs, of_counted, of_epochs, of_verdict, of_faults, by)

@@ -7,7 +7,7 @@ use Rattle.eos_commits.specs.Faults.{AreInOrder}
 use Rattle.eos_ending.specs.declared.subject.Subject.{Subject}
 use Rattle.eos_evidence.specs.declared.partition.Partition.{Partition}
 use Rattle.eos_evidence.specs.Evidence.{EvidenceParts}
-use Rattle.eos_evidence.specs.Members.{Members}
+use Rattle.eos_evidence.specs.SpecFields.{SpecFields}
 use Rattle.eos_fold.specs.Parts.{PartLog}
 use Rattle.eos_notes.specs.Lines.{IsAllNotesTextBy}
 use Rattle.eos_notes.specs.Notes.{AreAllNotesBy}
@@ -45,10 +45,10 @@ answer_for shape e subject json all quiet terms about judged faults answer spec 
     λ n by.
     let over : AreAllNotesBy shape.spec (wanted_logs e.spec.apps k.whole) epochs faulty by.notes = subst (λ (ls : List PartLog). AreAllNotesBy shape.spec ls epochs faulty by.notes) k.parts by.by in
     let whole : AreAllNotesBy e.spec (wanted_logs e.spec.apps k.whole) epochs faulty by.notes =
-    subst (λ (s : Members). AreAllNotesBy s (wanted_logs e.spec.apps k.whole) epochs faulty by.notes) (sym spec) over in
+    subst (λ (s : SpecFields). AreAllNotesBy s (wanted_logs e.spec.apps k.whole) epochs faulty by.notes) (sym spec) over in
     record { notes = by.notes; are = whole_all e k.whole judged.logs.faults.items epochs by.notes k.of k.faults j.epochs whole; is = by.is } in
     let by : IsAllNotesTextBy e.spec (wanted_logs e.spec.apps k.whole) epochs faulty quiet (string_bytes answer.notes) =
-    subst (λ (s : Members). IsAllNotesTextBy s (wanted_logs e.spec.apps k.whole) epochs faulty quiet (string_bytes answer.notes)) (sym spec) over_kept in
+    subst (λ (s : SpecFields). IsAllNotesTextBy s (wanted_logs e.spec.apps k.whole) epochs faulty quiet (string_bytes answer.notes)) (sym spec) over_kept in
     record {
       is_evidence = j.is_evidence;
       lines = record { verdict = judged.verdict; faults = faults; is = j.verdict; told = told; lines = t.lines; noted = status.noted; notes = λ strict. noted status.noted (status.notes strict); exit = status.is };

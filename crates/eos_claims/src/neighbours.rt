@@ -143,7 +143,10 @@ fn least_after<'a>(
 }
 
 /// The lesser of the least so far and what the neighbours among the claims show, which stand in their order.
-pub fn least_of_neighbours<'a>(best: Option<Found<'a>>, claims: &[NumberedClaim<'a>]) -> Option<Found<'a>>
+pub fn least_of_neighbours<'a>(
+    best: Option<Found<'a>>,
+    claims: &[NumberedClaim<'a>],
+) -> Option<Found<'a>>
     ensures { option_map plain_fault result ≡ fold (lesser_of fault_cmp) (option_map plain_fault best.entry) (runs (map plain_claim claims.entry.now)) }
 {
     match claims.split_first() {

@@ -18,7 +18,7 @@ use Rattle.std.specs.List.{All}
 use Rattle.eos_evidence.specs.declared.application.App.{App}
 use Rattle.eos_evidence.specs.declared.ends.End.{End}
 use Rattle.eos_evidence.specs.declared.fault.SpecFault.{SpecFault}
-use Rattle.eos_evidence.specs.Members.{Members, accepted}
+use Rattle.eos_evidence.specs.SpecFields.{SpecFields, accepted}
 use Rattle.eos_machine.specs.Evidences.{groups_of, end_of}
 use Rattle.eos_machine.specs.Fitting.{IsFit}
 use Rattle.eos_machine.proofs.AcceptedParts.{accepted_parts}
@@ -87,16 +87,16 @@ log_only c d w p log b R e i g l o h =
     (subst (λ k. IsOk (adding b (log_segments k p log))) (sym e) (subst (λ xs. IsOk (adding b (log_segments d p xs))) (sym i) o))
 
 pub spec_taken : (c : Config) (w : World) → IsWritable c w → (apps : List App) (ends : List End) (f : SpecFault) → apps ≡ groups_of c → ends ≡ map (end_of c w) (range_with_len 0 (log_count c))
-    → (let r : Result Members SpecFault = Err f in r ≡ accepted (record { apps = apps; ends = ends })) → ⊥
+    → (let r : Result SpecFields SpecFault = Err f in r ≡ accepted (record { apps = apps; ends = ends })) → ⊥
 spec_taken c w g apps ends f a e h =
     let s : accepted (record { apps = apps; ends = ends }) ≡ accepted (parts_of c w) = λ i. accepted (record { apps = a i; ends = e i }) in
     unlike f (parts_of c w) (h ∙ (s ∙ accepted_parts c w g.sizes g.short))
   where
-    unlike : (f : SpecFault) (p : Members) → (let r : Result Members SpecFault = Err f in r ≡ Ok p) → ⊥
+    unlike : (f : SpecFault) (p : SpecFields) → (let r : Result SpecFields SpecFault = Err f in r ≡ Ok p) → ⊥
     unlike f p q = cc q
 
-pub same_spec : (c : Config) (w : World) (s : Members) → IsWritable c w → accepted (parts_of c w) ≡ Ok s → s ≡ parts_of c w
+pub same_spec : (c : Config) (w : World) (s : SpecFields) → IsWritable c w → accepted (parts_of c w) ≡ Ok s → s ≡ parts_of c w
 same_spec c w s g h = inner s (parts_of c w) (sym h ∙ accepted_parts c w g.sizes g.short)
   where
-    inner : (a b : Members) → (let r : Result Members SpecFault = Ok a in r ≡ Ok b) → a ≡ b
+    inner : (a b : SpecFields) → (let r : Result SpecFields SpecFault = Ok a in r ≡ Ok b) → a ≡ b
     inner a b q = cc q

@@ -5,7 +5,7 @@ ghost use Rattle.std.specs.List.{range_with_len};
 ghost use Rattle.eos_machine.specs.LogIndexes.{log_count};
 ghost use Rattle.eos_machine.specs.World.{log_at};
 ghost use Rattle.eos_cluster.specs.declared.evidence.EvidenceRefusal.{EvidenceRefusal};
-ghost use Rattle.eos_evidence.specs.Members.{accepted};
+ghost use Rattle.eos_evidence.specs.SpecFields.{accepted};
 ghost use Rattle.eos_evidence.specs.Evidence.{IsEvidence, without_segments};
 ghost use Rattle.eos_machine.specs.Evidences.{end_of, parts_of, log_segments, cluster_segments, adding, HaveTexts, IsEvidenceOf};
 ghost use Rattle.eos_machine.specs.steps.Writable.{IsWritable};

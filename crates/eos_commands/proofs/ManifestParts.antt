@@ -4,13 +4,13 @@ use Rattle.eos_base.specs.declared.partition_name.PartitionName.{PartitionName}
 use Rattle.eos_disk.specs.Entries.{Entry}
 use Rattle.eos_evidence.specs.declared.application.App.{App}
 use Rattle.eos_evidence.specs.declared.ends.End.{End}
-use Rattle.eos_evidence.specs.Members.{Members, accepted}
+use Rattle.eos_evidence.specs.SpecFields.{SpecFields, accepted}
 use Rattle.eos_manifest.specs.Manifests.{first_without, parts_for}
 use Rattle.eos_commands.specs.Copies.{AreFoldersAt, AreRequired}
 use Rattle.eos_commands.specs.Making.{apps_in_words, AreEndsGiven, IsManifestFor}
 use Rattle.eos_commands.specs.declared.given.Given.{Given}
 
-pub manifest_is : (given : Given) (holds : List ℕ → Entry) (old new : Option (List ℕ)) (spec : Members) (apps listed : List App) (folders found required wanted : List PartitionName)
+pub manifest_is : (given : Given) (holds : List ℕ → Entry) (old new : Option (List ℕ)) (spec : SpecFields) (apps listed : List App) (folders found required wanted : List PartitionName)
     (ends said : List End) → apps_in_words (map (λ w. w.now) given.apps.now) ≡ Some apps → AreFoldersAt holds given.folder.now folders → AreRequired holds given.folder.now listed found required
     → AreEndsGiven (option_map (λ p. p.now) given.ends) holds given.folder.now folders wanted old new ends → first_without said required ≡ None
     → accepted (parts_for apps required said) ≡ Ok spec → listed ≡ apps → found ≡ folders → wanted ≡ required → said ≡ ends → IsManifestFor given holds old new spec

@@ -4,7 +4,7 @@ use Rattle.eos_disk.specs.Entries.{Entry}
 use Rattle.eos_disk.specs.Putting.{IsPlaced, IsLeft}
 use Rattle.eos_disk.proofs.Kept.{known_same}
 use Rattle.eos_evidence.specs.Manifest.{spec_said_by}
-use Rattle.eos_evidence.specs.Members.{Members}
+use Rattle.eos_evidence.specs.SpecFields.{SpecFields}
 use Rattle.eos_disk.specs.Paths.{manifest_path}
 use Rattle.eos_commands.specs.Making.{IsManifestFor, IsManifestPlaced, wrote_line}
 use Rattle.eos_commands.specs.declared.given.Given.{Given}
@@ -15,9 +15,9 @@ left_nothing old path = ([], (record { known = λ q. known_same (old q) (old q) 
 pub left_there : (old new : List ℕ → Entry) (folder path text : List ℕ) → path ≡ manifest_path folder → IsLeft old path text new → (some : List ℕ) × IsLeft old (manifest_path folder) some new
 left_there old new folder path text is left = (text, subst (λ (p : List ℕ). IsLeft old p text new) is left)
 
-pub all_made : (given : Given) (old new : List ℕ → Entry) (input rest : Option (List ℕ)) (path bytes text line : List ℕ) (spec : Members) → IsManifestFor given old input rest spec
+pub all_made : (given : Given) (old new : List ℕ → Entry) (input rest : Option (List ℕ)) (path bytes text line : List ℕ) (spec : SpecFields) → IsManifestFor given old input rest spec
     → path ≡ manifest_path given.folder.now → spec_said_by text ≡ Ok spec → bytes ≡ text → IsPlaced old path bytes new → line ≡ wrote_line spec
-    → (s : Members) × IsManifestFor given old input rest s × IsManifestPlaced old given.folder.now s new × (line ≡ wrote_line s)
+    → (s : SpecFields) × IsManifestFor given old input rest s × IsManifestPlaced old given.folder.now s new × (line ≡ wrote_line s)
 all_made given old new input rest path bytes text line spec is at says same placed told = (
   spec,
   is,

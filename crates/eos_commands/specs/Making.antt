@@ -8,7 +8,7 @@ use Rattle.eos_disk.specs.Putting.{IsPlaced}
 use Rattle.eos_evidence.specs.declared.application.App.{App}
 use Rattle.eos_evidence.specs.declared.ends.End.{End}
 use Rattle.eos_evidence.specs.Manifest.{spec_said_by}
-use Rattle.eos_evidence.specs.Members.{Members, accepted}
+use Rattle.eos_evidence.specs.SpecFields.{SpecFields, accepted}
 use Rattle.eos_disk.specs.Paths.{manifest_path}
 use Rattle.eos_manifest.specs.AppWords.{app_in_word}
 use Rattle.eos_manifest.specs.Lines.{ends_said_by}
@@ -36,7 +36,7 @@ AreEndsGiven None holds folder folders required old new ends = AreEndsOfCopies h
 
 -- The parts of the manifest that is asked for: the applications of the words; of the ends that are given those of topics that an
 -- application or Kafka itself has, and of partitions that have to have one; each of the latter has one.
-pub record IsManifestFor (given : Given) (holds : List ℕ → Entry) (old new : Option (List ℕ)) (spec : Members) : Type 0 where
+pub record IsManifestFor (given : Given) (holds : List ℕ → Entry) (old new : Option (List ℕ)) (spec : SpecFields) : Type 0 where
   pub apps : List App
   pub words : apps_in_words (map (λ w. w.now) given.apps.now) ≡ Some apps
   pub folders : List PartitionName
@@ -49,11 +49,11 @@ pub record IsManifestFor (given : Given) (holds : List ℕ → Entry) (old new :
   pub accepts : accepted (parts_for apps required ends) ≡ Ok spec
 
 -- a new file stands at the manifest's place, whose text says these parts, and nothing else changed
-pub record IsManifestPlaced (old : List ℕ → Entry) (folder : List ℕ) (spec : Members) (new : List ℕ → Entry) : Type 0 where
+pub record IsManifestPlaced (old : List ℕ → Entry) (folder : List ℕ) (spec : SpecFields) (new : List ℕ → Entry) : Type 0 where
   pub text : List ℕ
   pub says : spec_said_by text ≡ Ok spec
   pub placed : IsPlaced old (manifest_path folder) text new
 
 -- how many partitions a manifest has
-abbrev pub wrote_line : Members → List ℕ
+abbrev pub wrote_line : SpecFields → List ℕ
 wrote_line spec = (codes "wrote partitions=" ++ decimal (length spec.ends)) ++ codes "\n"

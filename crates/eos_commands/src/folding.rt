@@ -3,16 +3,16 @@
 ghost use Rattle.std.specs.Prelude.{◌≡◌, ℕ, List, map, Ok, IfOk, OnOk, OnErr, string_bytes};
 ghost use Rattle.eos_disk.specs.Entries.{HasBytes};
 ghost use Rattle.eos_evidence.specs.Manifest.{spec_said_by};
-ghost use Rattle.eos_evidence.specs.Members.{Members};
+ghost use Rattle.eos_evidence.specs.SpecFields.{SpecFields};
 ghost use Rattle.eos_fold_file.specs.Legal.{IsRight};
 ghost use Rattle.eos_disk.specs.Refusals.{RefusesFile};
 ghost use Rattle.eos_source.specs.Topics.{AreSourceTopics};
 ghost use Rattle.eos_commands.specs.Folding.{item_of, items_in, items_of, AreFoldersAt, IsFoldAt, IsFoldPut, IsFoldLeft, Folded as AreFolded, FoldedInPart};
 ghost use Rattle.eos_commands.specs.declared.folder.PartitionFolder.{PartitionFolder};
 
-use crate::folder::{PartitionFolder, find_folders};
 use crate::fold_fault::FoldingFault;
 use crate::fold_writing::write_fold;
+use crate::folder::{PartitionFolder, find_folders};
 use bytes::Bytes;
 use eos_disk::{Disk, DiskMut, FolderFault, NamedFile, open_log, read_manifest, refusal_of};
 use eos_evidence::{App, ReadFault};
@@ -79,7 +79,7 @@ pub fn fold_folders<'a, D: DiskMut>(
     disk: &mut D,
     given: FoldGiven<'a>,
 ) -> Result<Folded, FoldingFault<'a>>
-    ensures ok { OnOk result ((text : List ℕ) × (spec : Members) × (folders : List PartitionFolder) × (topics : List (List ℕ))
+    ensures ok { OnOk result ((text : List ℕ) × (spec : SpecFields) × (folders : List PartitionFolder) × (topics : List (List ℕ))
         × HasBytes (D.holds disk.old given.entry.manifest.now) text × (spec_said_by text ≡ Ok spec)
         × AreFoldersAt (D.holds disk.old) spec.ends (map (λ p. p.now) given.entry.folders.now) folders
         × AreSourceTopics spec.apps topics × AreFolded (D.holds disk.old) topics given.entry.out.now (items_of spec.apps folders) (D.holds disk.new)) }

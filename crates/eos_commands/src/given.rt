@@ -3,7 +3,7 @@
 ghost use Rattle.std.specs.Prelude.{◌≡◌, ℕ, List, map, option_map, None, Some, Ok, IfOk, IsSorted, string_bytes};
 ghost use Rattle.eos_base.specs.PartitionNames.{name_cmp};
 ghost use Rattle.eos_disk.specs.Entries.{HasBytes};
-ghost use Rattle.eos_evidence.specs.Members.{accepted};
+ghost use Rattle.eos_evidence.specs.SpecFields.{accepted};
 ghost use Rattle.eos_manifest.specs.Lines.{ends_said_by};
 ghost use Rattle.eos_manifest.specs.Manifests.{first_without, parts_for};
 ghost use Rattle.eos_commands.specs.Making.{apps_in_words, is_standard, IsTextOf, AreEndsGiven};

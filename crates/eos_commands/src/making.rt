@@ -3,17 +3,17 @@
 ghost use Rattle.std.specs.Prelude.{◌≡◌, ℕ, List, Err, IfOk, OnOk, OnErr, string_bytes};
 ghost use Rattle.std.specs.Io.KnownBytes.{Appends};
 ghost use Rattle.eos_disk.specs.Putting.{IsLeft};
-ghost use Rattle.eos_evidence.specs.Members.{Members};
+ghost use Rattle.eos_evidence.specs.SpecFields.{SpecFields};
 ghost use Rattle.eos_disk.specs.Paths.{manifest_path};
 ghost use Rattle.eos_commands.specs.Making.{IsManifestFor, IsManifestPlaced, wrote_line};
 ghost use Rattle.eos_text.specs.Writing.{WritesFront};
 
 use crate::copied::Logs;
-use crate::init_fault::InitFault;
 use crate::given::{Given, ends_given, read_apps, spec_of};
+use crate::init_fault::InitFault;
+use crate::manifest_writing::write_manifest;
 use crate::note::note_texts;
 use crate::noting::notes_on;
-use crate::manifest_writing::write_manifest;
 use eos_disk::{Disk, DiskMut, manifest_path};
 use eos_evidence::{Spec, spec_text};
 use eos_text::{WriteFault, finish, push_text, push_value};
@@ -49,7 +49,7 @@ pub fn init<D: DiskMut, R: Read>(
     given: Given<'_>,
     input: &mut R,
 ) -> Result<Made, InitFault>
-    ensures ok { IfOk result (λ made. (spec : Members) × IsManifestFor given.entry (D.holds disk.old) (R.remaining input.old) (R.remaining input.new) spec
+    ensures ok { IfOk result (λ made. (spec : SpecFields) × IsManifestFor given.entry (D.holds disk.old) (R.remaining input.old) (R.remaining input.new) spec
         × IsManifestPlaced (D.holds disk.old) given.entry.folder.now spec (D.holds disk.new) × (string_bytes made.line ≡ wrote_line spec)) }
     ensures err { OnErr result ((text : List ℕ) × IsLeft (D.holds disk.old) (manifest_path given.entry.folder.now) text (D.holds disk.new)) }
 {

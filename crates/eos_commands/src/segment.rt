@@ -31,7 +31,10 @@ pub fn answer_segment(rt: &HostRuntime, answer: Answer<'_>, file: &str) -> u8 {
 /// Why there is no answer about this file, where it is the file's.
 fn cause_of_none(rt: &HostRuntime, answered: Result<u8, CommandFault>, file: &str) -> Cause {
     match answered {
-        Err(CommandFault::Read) if file == STANDARD => Cause::of_reader(rt.alloc(), &mut rt.reader()),
+        Err(CommandFault::Read) if file == STANDARD => Cause::of_reader(
+            rt.alloc(),
+            &mut rt.reader(),
+        ),
         Err(CommandFault::Read) => Cause::of_file(rt.alloc(), &HostDisk { rt }, file),
         Err(CommandFault::Limit) => Cause::long_file(rt.alloc(), file),
         _ => Cause::Unknown,

@@ -42,7 +42,11 @@ fn tell(rt: &HostRuntime, folder: &str, found: &[Found]) -> u8 {
 ///
 /// # Errors
 /// At `Write` a front of the lines was written, at `OutOfMemory` nothing. There is no other refusal.
-pub fn found_to<W: Write>(alloc: Global, found: &[Found], writer: &mut W) -> Result<u8, CommandFault>
+pub fn found_to<W: Write>(
+    alloc: Global,
+    found: &[Found],
+    writer: &mut W,
+) -> Result<u8, CommandFault>
     ensures ok { IfOk result (λ status. (status ≡ status_of found.now) × Appends (W.contents writer.old) (W.contents writer.new) (found_text found.now)) }
     ensures write { result ≡ Err CommandFault.Write → WritesFront (W.contents writer.old) (W.contents writer.new) (found_text found.now) }
     ensures memory { result ≡ Err CommandFault.OutOfMemory → Keeps (W.contents writer.old) (W.contents writer.new) }

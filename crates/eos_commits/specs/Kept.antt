@@ -6,7 +6,7 @@ use Rattle.std.specs.Cmp.Lexicographic.{slice_cmp}
 use Rattle.eos_base.specs.declared.record_fault.RecordFault.{RecordFault}
 use Rattle.eos_base.specs.Members.{is_found}
 use Rattle.eos_evidence.specs.declared.application.App.{App}
-use Rattle.eos_evidence.specs.Members.{outputs_of}
+use Rattle.eos_evidence.specs.SpecFields.{outputs_of}
 use Rattle.eos_fold.specs.Parts.{PartLog}
 use Rattle.eos_claims.specs.declared.claim.Claim.{Claim}
 use Rattle.eos_claims.specs.Headers.{claim_of}

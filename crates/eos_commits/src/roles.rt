@@ -4,7 +4,7 @@ ghost use Rattle.std.specs.Prelude.{◌≡◌, ◌++◌, [], ◌∷◌, map, fla
 ghost use Rattle.std.specs.Ordering.{nat_cmp};
 ghost use Rattle.std.specs.Cmp.Lexicographic.{slice_cmp};
 ghost use Rattle.eos_base.specs.Members.{is_found};
-ghost use Rattle.eos_evidence.specs.Members.{outputs_of};
+ghost use Rattle.eos_evidence.specs.SpecFields.{outputs_of};
 ghost use Rattle.eos_commits.specs.steps.Roles.{plain_topic, by_topic, plain_source, source_cmp, by_source, sources_under, sources_of};
 
 use bytes::Bytes;

@@ -12,7 +12,7 @@ use Rattle.eos_evidence.specs.declared.partition.Partition.{Partition}
 use Rattle.eos_evidence.specs.declared.segment.Segment.{Segment}
 use Rattle.eos_evidence.specs.Evidence.{EvidenceParts}
 use Rattle.eos_evidence.specs.Manifest.{spec_said_by}
-use Rattle.eos_evidence.specs.Members.{Members}
+use Rattle.eos_evidence.specs.SpecFields.{SpecFields}
 use Rattle.eos_base.proofs.WholeList.{same_list}
 use Rattle.eos_disk.specs.declared.names.FileName.{FileName}
 use Rattle.eos_disk.specs.declared.names.Form.{Form}
@@ -79,10 +79,10 @@ one_listed holds folder (p ∷ ps) (q ∷ qs) fs gs known ends a b =
       forms = a.4 ∙ ((let tail = rest.forms in λ i. heads i ++ tail i) ∙ sym b.4);
     }
 
-evidence_of : Members → List Partition → EvidenceParts
+evidence_of : SpecFields → List Partition → EvidenceParts
 evidence_of spec partitions = record { spec = spec; partitions = partitions }
 
-ok_is : (a b : Members) (r : Result Members SpecFault) → r ≡ Ok a → r ≡ Ok b → a ≡ b
+ok_is : (a b : SpecFields) (r : Result SpecFields SpecFault) → r ≡ Ok a → r ≡ Ok b → a ≡ b
 ok_is a b r e f = cc (e, f)
 
 pub one_shape : (holds : List ℕ → Entry) (folder : List ℕ) (a b : EvidenceParts) (fs gs : List Form) → AreKnown holds folder → IsShapeAt holds folder a fs → IsShapeAt holds folder b gs
@@ -91,6 +91,6 @@ unfolding evidence_of
 one_shape holds folder a b fs gs known h i =
     let manifest = one_bytes _ h.manifest i.manifest (known (codes "evidence.json")) h.stands i.stands in
     let spec : a.spec ≡ b.spec = ok_is a.spec b.spec (spec_said_by i.manifest) (ap spec_said_by (sym manifest) ∙ h.says) i.says in
-    let ends : map (λ p. p.end) a.partitions ≡ map (λ p. p.end) b.partitions = h.is_evidence.ends ∙ (ap (λ (s : Members). s.ends) spec ∙ sym i.is_evidence.ends) in
+    let ends : map (λ p. p.end) a.partitions ≡ map (λ p. p.end) b.partitions = h.is_evidence.ends ∙ (ap (λ (s : SpecFields). s.ends) spec ∙ sym i.is_evidence.ends) in
     let one = one_listed holds folder a.partitions b.partitions fs gs known ends h.listed i.listed in
-    (ap (λ (s : Members). evidence_of s a.partitions) spec ∙ ap (evidence_of b.spec) one.partitions, one.forms)
+    (ap (λ (s : SpecFields). evidence_of s a.partitions) spec ∙ ap (evidence_of b.spec) one.partitions, one.forms)

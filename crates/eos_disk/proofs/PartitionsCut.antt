@@ -11,7 +11,7 @@ use Rattle.eos_evidence.specs.declared.segment.Segment.{Segment}
 use Rattle.eos_evidence.specs.Ends.{end_cmp}
 use Rattle.eos_evidence.specs.Evidence.{EvidenceParts, IsEvidence, empty_partition}
 use Rattle.eos_evidence.specs.Manifest.{spec_said_by}
-use Rattle.eos_evidence.specs.Members.{Members}
+use Rattle.eos_evidence.specs.SpecFields.{SpecFields}
 use Rattle.eos_disk.specs.declared.folder.FolderFault.{FolderFault}
 use Rattle.eos_disk.specs.declared.names.FileName.{FileName}
 use Rattle.eos_disk.specs.declared.names.Form.{Form}
@@ -87,7 +87,7 @@ listed_to holds folder ends names forms why up c =
     let of_names = subst (λ (ns : List Segment). AreListedTo holds folder (length forms) why (partitions_with ns ends) (c.early_forms ++ late)) (sym c.named) of_ends in
     subst (λ (fs : List Form). AreListedTo holds folder (length forms) why (partitions_with names ends) fs) (sym c.formed) of_names
 
-pub shape_to : (holds : List ℕ → Entry) (folder text : List ℕ) (spec : Members) (names : List Segment) (shape : EvidenceParts) (forms : List Form) (why : FolderFault)
+pub shape_to : (holds : List ℕ → Entry) (folder text : List ℕ) (spec : SpecFields) (names : List Segment) (shape : EvidenceParts) (forms : List Form) (why : FolderFault)
     → HasBytes (holds (manifest_path folder)) text → spec_said_by text ≡ Ok spec → shape.spec ≡ spec → shape.partitions ≡ partitions_with names spec.ends → IsEvidence shape
     → IsCut holds folder spec.ends names forms why → IsShapeTo holds folder shape forms why
 shape_to holds folder text spec names shape forms why stands says same partitions is cut = record {
@@ -96,5 +96,5 @@ shape_to holds folder text spec names shape forms why stands says same partition
   says = says ∙ ap Ok (sym same);
   is_evidence = is;
   listed = subst (λ (ps : List Partition). AreListedTo holds folder (length forms) why ps forms) (sym partitions)
-      (listed_to holds folder spec.ends names forms why (subst (λ (s : Members). IsStrictlySortedBy end_cmp s.ends) same is.accepted.ascending) cut);
+      (listed_to holds folder spec.ends names forms why (subst (λ (s : SpecFields). IsStrictlySortedBy end_cmp s.ends) same is.accepted.ascending) cut);
 }

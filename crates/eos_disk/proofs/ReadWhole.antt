@@ -12,7 +12,7 @@ use Rattle.eos_evidence.specs.declared.partition.Partition.{Partition}
 use Rattle.eos_evidence.specs.declared.segment.Segment.{Segment}
 use Rattle.eos_evidence.specs.Evidence.{EvidenceParts, IsEvidence, IsPartition, IsOwn, IsRising, is_in, insert_segment, with_segment, empty_partition, segments_of}
 use Rattle.eos_evidence.specs.Manifest.{spec_said_by}
-use Rattle.eos_evidence.specs.Members.{Members}
+use Rattle.eos_evidence.specs.SpecFields.{SpecFields}
 use Rattle.eos_disk.specs.declared.folder.FolderFault.{FolderFault}
 use Rattle.eos_disk.specs.declared.folder.SegmentFile.{SegmentFile}
 use Rattle.eos_disk.specs.declared.names.FileName.{FileName}
@@ -199,7 +199,7 @@ all_bytes holds folder (o ∷ os) (n ∷ ns) (s ∷ ss) are names bytes = (
 
 -- ---- the whole
 
-pub read_whole : (holds : List ℕ → Entry) (folder text : List ℕ) (spec : Members) (old new : List SegmentFile) (e : EvidenceParts) → HasBytes (holds (manifest_path folder)) text
+pub read_whole : (holds : List ℕ → Entry) (folder text : List ℕ) (spec : SpecFields) (old new : List SegmentFile) (e : EvidenceParts) → HasBytes (holds (manifest_path folder)) text
     → spec_said_by text ≡ Ok spec → AreLogsNamed holds folder spec.ends (map (λ f. f.name) old) → length new ≡ length old
     → ((k : ℕ) (d : SegmentFile) → k < length old → IsFileRead holds folder (slice_index_or old k d) (slice_index_or new k d)) → IsFilledBy spec new e → IsEvidence e → IsReadWhole holds folder e
 read_whole holds folder text spec old new e stands says named many each by is =

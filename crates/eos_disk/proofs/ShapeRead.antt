@@ -7,14 +7,14 @@ use Rattle.eos_evidence.specs.declared.segment.Segment.{Segment}
 use Rattle.eos_evidence.specs.Ends.{end_cmp}
 use Rattle.eos_evidence.specs.Evidence.{EvidenceParts, IsEvidence}
 use Rattle.eos_evidence.specs.Manifest.{spec_said_by}
-use Rattle.eos_evidence.specs.Members.{Members}
+use Rattle.eos_evidence.specs.SpecFields.{SpecFields}
 use Rattle.eos_disk.specs.declared.names.Form.{Form}
 use Rattle.eos_disk.specs.Paths.{manifest_path}
 use Rattle.eos_disk.specs.Shapes.{AreListed, IsShapeAt}
 use Rattle.eos_disk.specs.steps.Listing.{AreNamed, partitions_with}
 use Rattle.eos_disk.proofs.PartitionsGrown.{listed_by}
 
-pub shape_stands : (holds : List ℕ → Entry) (folder text : List ℕ) (spec : Members) (names : List Segment) (shape : EvidenceParts) (forms : List Form)
+pub shape_stands : (holds : List ℕ → Entry) (folder text : List ℕ) (spec : SpecFields) (names : List Segment) (shape : EvidenceParts) (forms : List Form)
     → HasBytes (holds (manifest_path folder)) text → spec_said_by text ≡ Ok spec → shape.spec ≡ spec → shape.partitions ≡ partitions_with names spec.ends → IsEvidence shape
     → AreNamed holds folder spec.ends names forms → IsShapeAt holds folder shape forms
 shape_stands holds folder text spec names shape forms stands says same partitions is named = record {
@@ -23,5 +23,5 @@ shape_stands holds folder text spec names shape forms stands says same partition
   says = says ∙ ap Ok (sym same);
   is_evidence = is;
   listed = subst (λ (ps : List Partition). AreListed holds folder ps forms) (sym partitions)
-      (listed_by holds folder spec.ends names forms (subst (λ (s : Members). IsStrictlySortedBy end_cmp s.ends) same is.accepted.ascending) named);
+      (listed_by holds folder spec.ends names forms (subst (λ (s : SpecFields). IsStrictlySortedBy end_cmp s.ends) same is.accepted.ascending) named);
 }

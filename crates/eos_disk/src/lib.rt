@@ -20,9 +20,9 @@ mod paths;
 mod putting;
 mod refusal;
 mod watch;
+mod whole_writing;
 mod writing;
 pub mod written_laws;
-mod whole_writing;
 
 pub use cause::Cause;
 pub use change::{ChangeFault, DiskMut};
@@ -38,5 +38,5 @@ pub use paths::{manifest_path, partition_path, segment_path};
 pub use putting::{HostFile, NewFile, begin_file, drop_file, end_file, put_file};
 pub use refusal::{FoldRefusal, refused_at, refused_fold};
 pub use watch::Watch;
-pub use writing::{WritingFault, Written, make_folder, write_evidence};
 pub use whole_writing::write_whole;
+pub use writing::{WritingFault, Written, make_folder, write_evidence};

@@ -9,10 +9,11 @@
 //! its replay. What the applications make of their inputs, and what is counted, is tested.
 #![tactic(auto)]
 
+mod actors;
 mod deed;
 mod driver;
-mod history;
 mod finished;
+mod history;
 mod instance;
 mod mishap;
 mod mishaps;
@@ -21,7 +22,6 @@ mod plan;
 mod rates;
 mod reader;
 mod request;
-mod actors;
 mod script;
 mod scripted;
 mod settings;
@@ -32,8 +32,8 @@ mod tally;
 mod threads;
 
 pub use deed::{Deed, Note};
-pub use history::History;
 pub use finished::{Call, Called, Entries, Entry, Finished};
+pub use history::History;
 pub use mishap::{ChosenMishap, Input, Mishap};
 pub use rates::Rates;
 pub use script::Script;

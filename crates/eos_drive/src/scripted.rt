@@ -4,10 +4,10 @@ ghost use Rattle.std.specs.Prelude.{◌≡◌, None};
 ghost use Rattle.eos_drive.specs.Driven.{IsDriven, IsKept};
 ghost use Rattle.eos_drive.specs.steps.Drives.{HasDone};
 
+use crate::actors::Actors;
 use crate::driver::Driver;
 use crate::history::History;
 use crate::mishap::Mishap;
-use crate::actors::Actors;
 use crate::script::Script;
 use crate::settings::Settings;
 use crate::settle::settle;

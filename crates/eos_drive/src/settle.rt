@@ -3,9 +3,9 @@
 ghost use Rattle.std.specs.Prelude.{◌≡◌};
 ghost use Rattle.eos_drive.specs.steps.Drives.{HasAsked};
 
+use crate::actors::Actors;
 use crate::driver::Driver;
 use crate::instance::Choice;
-use crate::actors::Actors;
 use eos_cluster::{Cluster, MAX_EVENTS};
 use std::alloc::AllocError;
 
@@ -38,7 +38,11 @@ pub(crate) fn settle(
 }
 
 /// All messages arrive that are on their way.
-fn carry_all(actors: &mut Actors, cluster: &mut Cluster, driver: &mut Driver) -> Result<(), AllocError>
+fn carry_all(
+    actors: &mut Actors,
+    cluster: &mut Cluster,
+    driver: &mut Driver,
+) -> Result<(), AllocError>
     requires { driver.old.course ≡ cluster.old }
     ensures { HasAsked cluster.old driver.old cluster.new driver.new }
 {
@@ -91,7 +95,11 @@ fn finish(
 }
 
 /// Each application begins a new session, which aborts what an earlier one left open.
-fn begin_each(actors: &mut Actors, cluster: &mut Cluster, driver: &mut Driver) -> Result<(), AllocError>
+fn begin_each(
+    actors: &mut Actors,
+    cluster: &mut Cluster,
+    driver: &mut Driver,
+) -> Result<(), AllocError>
     requires { driver.old.course ≡ cluster.old }
     ensures { HasAsked cluster.old driver.old cluster.new driver.new }
 {

@@ -21,7 +21,7 @@ use Rattle.eos_evidence.specs.declared.partition.Partition.{Partition}
 use Rattle.eos_evidence.specs.declared.fault.AddFault.{AddFault}
 use Rattle.eos_evidence.specs.declared.fault.AddFault.TheVariants as faults
 use Rattle.eos_evidence.specs.Ends.{end_cmp}
-use Rattle.eos_evidence.specs.Members.{Members, IsAccepted}
+use Rattle.eos_evidence.specs.SpecFields.{SpecFields, IsAccepted}
 use Rattle.eos_evidence.specs.steps.SegmentIndexes.{own_end, IsFirst, MayTake, IsBuilt}
 use Rattle.eos_evidence.specs.Evidence.{AddAnswers, EvidenceParts, IsOwn, IsPartition, IsRising, IsEvidence, IsCounted, is_in, has_base, insert_segment, with_segment, segments_of, is_past_limit, added, empty_partition}
 use Rattle.eos_evidence.proofs.EndsInOrder.{end_total}
@@ -263,7 +263,7 @@ no_segments : (es : List End) → length (segments_of (map empty_partition es)) 
 no_segments [] = refl
 no_segments (e ∷ es) = no_segments es
 
-pub begun : (spec : Members) (ps : List Partition) → IsAccepted spec → ps ≡ map empty_partition spec.ends → IsCounted (record { spec = spec; partitions = ps }) 0
+pub begun : (spec : SpecFields) (ps : List Partition) → IsAccepted spec → ps ≡ map empty_partition spec.ends → IsCounted (record { spec = spec; partitions = ps }) 0
 begun spec ps accepted is = subst (λ l. IsCounted (record { spec = spec; partitions = l }) 0) (sym is) (record {
   evidence_is = record { accepted = accepted; ends = unnamed_ends spec.ends; each = none_each spec.ends; few = omega (arith, no_segments spec.ends) };
   count_is = sym (no_segments spec.ends);

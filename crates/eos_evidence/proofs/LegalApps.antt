@@ -5,7 +5,7 @@ use Rattle.std.proofs.lemmas.List.{append-nil, take_all, take_more}
 use Rattle.std.proofs.lemmas.List.Folds.{list_any-append}
 use Rattle.std.specs.List.{list_any}
 use Rattle.eos_evidence.specs.declared.application.App.{App}
-use Rattle.eos_evidence.specs.Members.{groups_of, outputs_of}
+use Rattle.eos_evidence.specs.SpecFields.{groups_of, outputs_of}
 use Rattle.eos_evidence.specs.Topics.{is_among, are_unequal}
 
 pub among_groups : (group : List ℕ) (apps : List App) → list_any (λ app. bytes_eq group app.group) apps ≡ is_among group (groups_of apps)

@@ -10,7 +10,7 @@ use Rattle.eos_evidence.specs.declared.ends.End.{End}
 use Rattle.eos_evidence.specs.declared.fault.SpecFault.{SpecFault}
 use Rattle.eos_evidence.specs.declared.fault.SpecFault.TheVariants as faults
 use Rattle.eos_evidence.specs.declared.manifest_reader.Version.{Version}
-use Rattle.eos_evidence.specs.Members.{Answers}
+use Rattle.eos_evidence.specs.SpecFields.{Answers}
 use Rattle.eos_evidence.specs.Manifest.{apps_in, ends_in, version_in, version_test, accepted_parts, said_in, manifest_of, said_by, spec_said_by}
 
 pub answers_fault : {X : Type 0} (said : Result X SpecFault) (fault : SpecFault) → said ≡ Err fault → Answers (Err fault) said

@@ -17,7 +17,7 @@ use Rattle.eos_evidence.specs.declared.fault.SpecFault.TheVariants as faults
 use Rattle.eos_evidence.specs.declared.manifest_reader.Version.TheVariants.{One, Two}
 use Rattle.eos_evidence.specs.Topics.{is_topic, is_internal, are_unequal}
 use Rattle.eos_evidence.specs.Ends.{is_within, is_legal_end, are_apart, ordered}
-use Rattle.eos_evidence.specs.Members.{Members, IsAccepted, is_own_topic, is_legal_app, groups_of, outputs_of, are_legal_apps, accepted}
+use Rattle.eos_evidence.specs.SpecFields.{SpecFields, IsAccepted, is_own_topic, is_legal_app, groups_of, outputs_of, are_legal_apps, accepted}
 use Rattle.eos_evidence.specs.Manifest.{texts_of, app_in, apps_of, end_of, manifest_of, version_in, version_for}
 use Rattle.eos_evidence.specs.steps.WrittenApps.{are_topics, items_of_texts, written_app, written_apps, written_one, written_two}
 use Rattle.eos_evidence.specs.steps.WrittenEnds.{HoldsEnds}
@@ -27,13 +27,13 @@ use Rattle.eos_evidence.proofs.ManifestParts.{manifest_is}
 use Rattle.eos_evidence.proofs.WrittenSpecs.{name_back}
 
 -- which tests an accepted spec passed
-pub record PassedTests (parts : Members) : Type 0 where
+pub record PassedTests (parts : SpecFields) : Type 0 where
   pub apps : are_legal_apps parts.apps ≡ true
   pub ends : list_all is_legal_end parts.ends ≡ true
   pub few_apps : length parts.apps ≤ 256
   pub few : length parts.ends ≤ 4096
 
-pub passed_tests : (parts : Members) → IsAccepted parts → PassedTests parts
+pub passed_tests : (parts : SpecFields) → IsAccepted parts → PassedTests parts
 unfolding accepted
 passed_tests parts holds = by (are_legal_apps parts.apps) (list_all is_legal_end parts.ends) (are_apart parts.ends) (nat_le (length parts.apps) 256) (nat_le (length parts.ends) 4096) refl refl refl refl holds.as_it_is
   where
@@ -68,7 +68,7 @@ all_topics (app ∷ apps) h =
     rw (topics_legal app (first_so (is_legal_app app) (list_all is_legal_app apps) h), all_topics apps (second_so (is_legal_app app) (list_all is_legal_app apps) h)) refl
 
 -- the topics of an accepted spec can be written
-pub apps_topics : (parts : Members) → IsAccepted parts → list_all are_topics parts.apps ≡ true
+pub apps_topics : (parts : SpecFields) → IsAccepted parts → list_all are_topics parts.apps ≡ true
 apps_topics parts holds =
     let both = first_so (list_all is_legal_app parts.apps && are_unequal (groups_of parts.apps)) (are_unequal (outputs_of parts.apps)) (passed_tests parts holds).apps in
     all_topics parts.apps (first_so (list_all is_legal_app parts.apps) (are_unequal (groups_of parts.apps)) both)
@@ -78,7 +78,7 @@ topics_at [] i d lt h = absurd (omega (arith, lt))
 topics_at (app ∷ apps) zero d lt h = first_so (are_topics app) (list_all are_topics apps) h
 topics_at (app ∷ apps) (suc i) d lt h = topics_at apps i d (omega arith) (second_so (are_topics app) (list_all are_topics apps) h)
 
-accepted_back : (parts : Members) (given : List End) → IsAccepted parts → IsPermutation parts.ends given → accepted (record parts { ends = given }) ≡ Ok parts
+accepted_back : (parts : SpecFields) (given : List End) → IsAccepted parts → IsPermutation parts.ends given → accepted (record parts { ends = given }) ≡ Ok parts
 accepted_back parts given holds shuffled =
     let tests = passed_tests parts holds in
     let passed : Passed (record parts { ends = given }) parts.ends = record {
@@ -114,7 +114,7 @@ apps_depth [] = omega arith
 apps_depth (app ∷ apps) = omega (arith, app_depth app, apps_depth apps)
 
 -- what is promised of a value that is written for parts
-pub record IsWritten (parts : Members) (d : Data) : Type 0 where
+pub record IsWritten (parts : SpecFields) (d : Data) : Type 0 where
   pub says : manifest_of d ≡ Ok parts
   pub version : version_in d ≡ Some (version_for parts.apps)
   pub shallow : depth d ≤ max_depth
@@ -124,7 +124,7 @@ only_app [] d one = absurd (omega (arith, one))
 only_app (app ∷ []) d one = refl
 only_app (app ∷ other ∷ apps) d one = absurd (omega (arith, one))
 
-pub one_is_written : (parts : Members) (apps : List App) (app : App) (ms : Members) → IsAccepted parts → HoldsEnds ms parts.ends → apps ≡ parts.apps → length apps ≡ 1
+pub one_is_written : (parts : SpecFields) (apps : List App) (app : App) (ms : Members) → IsAccepted parts → HoldsEnds ms parts.ends → apps ≡ parts.apps → length apps ≡ 1
     → app ≡ get_or apps 0 app → IsWritten parts (written_one app ms)
 one_is_written parts apps app ms holds ends apps_are one is =
     let only : parts.apps ≡ app ∷ [] = sym apps_are ∙ only_app apps app one ∙ ap (λ a. a ∷ []) (sym is) in
@@ -138,7 +138,7 @@ one_is_written parts apps app ms holds ends apps_are one is =
 not_one : (n : ℕ) → (n ≡ 1 → ⊥) → (n == 1) ≡ false
 not_one n other = grind (arith, nat_tests, other)
 
-pub all_are_written : (parts : Members) (apps : List App) (ms : Members) → IsAccepted parts → HoldsEnds ms parts.ends → apps ≡ parts.apps → (length apps ≡ 1 → ⊥) → IsWritten parts (written_two apps ms)
+pub all_are_written : (parts : SpecFields) (apps : List App) (ms : Members) → IsAccepted parts → HoldsEnds ms parts.ends → apps ≡ parts.apps → (length apps ≡ 1 → ⊥) → IsWritten parts (written_two apps ms)
 all_are_written parts apps ms holds ends apps_are several =
     let other : (length parts.apps == 1) ≡ false = not_one (length parts.apps) (λ one. several (ap length apps_are ∙ one)) in
     record {
@@ -147,7 +147,7 @@ all_are_written parts apps ms holds ends apps_are several =
       shallow = omega (arith, ends.flat, apps_depth apps);
     }
 
-pub written_as : (parts : Members) (d v : Data) → IsWritten parts d → v ≡ d → IsWritten parts v
+pub written_as : (parts : SpecFields) (d v : Data) → IsWritten parts d → v ≡ d → IsWritten parts v
 written_as parts d v written is = subst (IsWritten parts) (sym is) written
 
 end_made : (topic : List ℕ) (p z : ℤ) → int_le (pos 0) p ≡ true → int_le (pos 0) z ≡ true → ((n : ℕ) → p ≡ pos n → n < 2 ^ 31) → ((n : ℕ) → z ≡ pos n → n < 2 ^ 63)

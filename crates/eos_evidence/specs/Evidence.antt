@@ -9,10 +9,10 @@ use Rattle.eos_evidence.specs.declared.segment.Segment.{Segment}
 use Rattle.eos_evidence.specs.declared.partition.Partition.{Partition}
 use Rattle.eos_evidence.specs.declared.fault.AddFault.{AddFault}
 use Rattle.eos_evidence.specs.declared.fault.AddFault.TheVariants as faults
-use Rattle.eos_evidence.specs.Members.{Members, IsAccepted}
+use Rattle.eos_evidence.specs.SpecFields.{SpecFields, IsAccepted}
 
 pub record EvidenceParts : Type 0 where
-  pub spec : Members
+  pub spec : SpecFields
   pub partitions : List Partition
 
 -- the segment is one of this partition
@@ -49,7 +49,7 @@ pub record IsEvidence (evidence : EvidenceParts) : Type 0 where
 abbrev pub empty_partition : End → Partition
 empty_partition e = record { end = e; segments = [] }
 
-abbrev pub without_segments : Members → EvidenceParts
+abbrev pub without_segments : SpecFields → EvidenceParts
 without_segments spec = record { spec = spec; partitions = map empty_partition spec.ends }
 
 -- a segment of this base is there

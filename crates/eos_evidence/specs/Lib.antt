@@ -3,7 +3,7 @@ pub mod Evidence
 pub mod Manifest
 pub mod Names
 pub mod PartitionNames
-pub mod Members
+pub mod SpecFields
 pub mod Reading
 pub mod Topics
 pub mod steps

@@ -12,7 +12,7 @@ use Rattle.eos_evidence.specs.declared.fault.SpecFault.TheVariants as faults
 use Rattle.eos_evidence.specs.declared.manifest_reader.Version.{Version}
 use Rattle.eos_evidence.specs.declared.manifest_reader.Version.TheVariants.{One, Two}
 use Rattle.eos_evidence.specs.PartitionNames.{partition_of}
-use Rattle.eos_evidence.specs.Members.{Members, accepted}
+use Rattle.eos_evidence.specs.SpecFields.{SpecFields, accepted}
 
 -- the texts of an array, or nothing where an item is no text
 abbrev pub texts_of : Items → Option (List (List ℕ))
@@ -62,25 +62,25 @@ version_test None = Err faults.Field
 version_test (Some version) = if int_eq version (pos 1) then Ok One else (if int_eq version (pos 2) then Ok Two else Err faults.Version)
 
 -- what the two parts give, or the refusal where one is absent or of another type
-abbrev pub accepted_parts : Option (List App) → Option (List End) → Result Members SpecFault
+abbrev pub accepted_parts : Option (List App) → Option (List End) → Result SpecFields SpecFault
 accepted_parts None ends = Err faults.Field
 accepted_parts (Some apps) None = Err faults.Field
 accepted_parts (Some apps) (Some ends) = accepted (record { apps = apps; ends = ends })
 
-abbrev pub said_in : Result Version SpecFault → Data → Result Members SpecFault
+abbrev pub said_in : Result Version SpecFault → Data → Result SpecFields SpecFault
 said_in (Err fault) d = Err fault
 said_in (Ok version) d = accepted_parts (apps_in version d) (ends_in d)
 
 -- what a JSON value says: the version is looked at first, then the parts
-unfoldable pub manifest_of : Data → Result Members SpecFault
+unfoldable pub manifest_of : Data → Result SpecFields SpecFault
 manifest_of d = said_in (version_test (version_in d)) d
 
 -- what bytes say: they have to be UTF-8 and a JSON text
-abbrev pub said_by : Option Data → Result Members SpecFault
+abbrev pub said_by : Option Data → Result SpecFields SpecFault
 said_by None = Err faults.Json
 said_by (Some d) = manifest_of d
 
-unfoldable pub spec_said_by : List ℕ → Result Members SpecFault
+unfoldable pub spec_said_by : List ℕ → Result SpecFields SpecFault
 spec_said_by bytes = if is_utf8 bytes then said_by (read_text bytes) else Err faults.Json
 
 -- the version that bytes say

@@ -4,7 +4,7 @@
 
 ghost use Rattle.std.specs.Prelude.{◌≡◌, ◌++◌, ◌&&◌, IfOk, OnOk, bytes_eq};
 ghost use Rattle.std.specs.List.{list_all, list_any};
-ghost use Rattle.eos_evidence.specs.Members.{is_own_topic, is_legal_app, are_legal_apps, outputs_of, groups_of};
+ghost use Rattle.eos_evidence.specs.SpecFields.{is_own_topic, is_legal_app, are_legal_apps, outputs_of, groups_of};
 ghost use Rattle.eos_evidence.specs.Topics.{is_among, are_unequal};
 
 use crate::application::{App, GroupId};

@@ -16,7 +16,7 @@ ghost use Rattle.std.specs.Str.{is_utf8};
 ghost use Rattle.serde_json.specs.Read.{read as read_text};
 ghost use Rattle.serde_json.specs.View.{view, items_view, members_view};
 ghost use Rattle.serde_json.specs.Find.{as_number, as_integer};
-ghost use Rattle.eos_evidence.specs.Members.{Answers};
+ghost use Rattle.eos_evidence.specs.SpecFields.{Answers};
 ghost use Rattle.eos_evidence.specs.Manifest.{texts_of, app_in, apps_of, apps_in, end_of, ends_of, group_in, topics_in, ends_in, version_in, version_test, manifest_of, spec_said_by};
 ghost use Rattle.eos_evidence.specs.declared.fault.SpecFault.TheVariants as faults;
 ghost use Rattle.eos_evidence.specs.declared.manifest_reader.Version.TheVariants.{Two};

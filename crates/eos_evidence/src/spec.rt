@@ -2,7 +2,7 @@
 //! what its tests refuse.
 
 ghost use Rattle.std.specs.Prelude.{◌≡◌};
-ghost use Rattle.eos_evidence.specs.Members.{accepted, IsAccepted};
+ghost use Rattle.eos_evidence.specs.SpecFields.{accepted, IsAccepted};
 ghost use Rattle.eos_evidence.specs.steps.AcceptedMembers.{Accepts};
 
 use crate::application::{App, Apps};
@@ -27,9 +27,9 @@ pub struct Spec {
 }
 
 impl Model for Spec {
-    ghost use Rattle.eos_evidence.specs.Members.{Members, IsAccepted};
+    ghost use Rattle.eos_evidence.specs.SpecFields.{SpecFields, IsAccepted};
 
-    ghost Value = { Members };
+    ghost Value = { SpecFields };
 
     ghost view = { λ s. record { apps = s.apps; ends = s.ends } };
 

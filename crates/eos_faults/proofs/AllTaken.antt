@@ -13,7 +13,7 @@ use Rattle.eos_base.specs.Members.{Has}
 use Rattle.eos_base.specs.Least.{NoneStands}
 use Rattle.eos_base.proofs.Membership.{append_cases, flat_has, has_flat, map_has, has_map, only}
 use Rattle.eos_evidence.specs.declared.application.App.{App}
-use Rattle.eos_evidence.specs.Members.{groups_of}
+use Rattle.eos_evidence.specs.SpecFields.{groups_of}
 use Rattle.eos_evidence.specs.Topics.{are_unequal}
 use Rattle.eos_fold.specs.Parts.{PartLog}
 use Rattle.eos_base.proofs.WholeList.{plain_rises}

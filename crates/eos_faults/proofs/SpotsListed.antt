@@ -13,7 +13,7 @@ use Rattle.eos_base.proofs.Exact.{bytes_exact, is_tied}
 use Rattle.eos_base.proofs.Membership.{append_cases, append_left, append_right}
 use Rattle.eos_claims.proofs.ClaimTests.{less_is, is_less_int}
 use Rattle.eos_evidence.specs.declared.application.App.{App}
-use Rattle.eos_evidence.specs.Members.{outputs_of}
+use Rattle.eos_evidence.specs.SpecFields.{outputs_of}
 use Rattle.eos_fold.specs.Parts.{part_name, PartLog}
 use Rattle.eos_commits.specs.declared.fault.VisibleFault.{VisibleFault}
 use Rattle.eos_commits.specs.declared.fault.VisibleFaultKind.{VisibleFaultKind}

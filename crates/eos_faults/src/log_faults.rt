@@ -4,8 +4,8 @@ ghost use Rattle.std.specs.Prelude.{◌≡◌, IfOk, map};
 ghost use Rattle.eos_faults.specs.PartitionPlaces.{named};
 ghost use Rattle.eos_faults.specs.PartitionLists.{AreFaultsOf};
 
-use crate::shown_by_log::Shown;
 use crate::segments::walk_along;
+use crate::shown_by_log::Shown;
 use crate::stops::found_of;
 use bytes::Bytes;
 use eos_base::distinct_in_order;

@@ -2,7 +2,7 @@
 
 ghost use Rattle.std.specs.Prelude.{◌≡◌, ◌++◌, map, IfOk, OnOk, IsPermutation, IsSorted};
 ghost use Rattle.eos_base.specs.Members.{is_found};
-ghost use Rattle.eos_evidence.specs.Members.{outputs_of};
+ghost use Rattle.eos_evidence.specs.SpecFields.{outputs_of};
 ghost use Rattle.eos_commits.specs.steps.Roles.{source_cmp, sources_in, sources_of};
 ghost use Rattle.eos_faults.specs.steps.Lent.{plain_source, by_source};
 

@@ -7,11 +7,10 @@ ghost use Rattle.std.specs.BTreeMap.{get};
 ghost use Rattle.eos_faults.specs.PartitionPlaces.{is_left_open};
 ghost use Rattle.eos_faults.specs.steps.Found.{end_at, open_of, found_at};
 
-use crate::kinds::is_open;
 use crate::shown_by_log::{Shown, push_shown};
 use crate::walk::Walk;
 use eos_fold::Stop;
-use eos_touch::{PartitionFaultKind, Touch};
+use eos_touch::{PartitionFaultKind, Touch, is_open};
 use std::alloc::AllocError;
 use std::collections::BTreeMap;
 

@@ -13,10 +13,9 @@ ghost use Rattle.eos_touch.specs.Pair.{stands};
 ghost use Rattle.eos_faults.specs.PartitionPlaces.{pair_kinds, placed_at};
 ghost use Rattle.eos_faults.specs.steps.Walks.{AreIdsOf, HasPassed};
 
-use crate::kinds::stands;
 use crate::shown_by_log::{Shown, push_shown};
 use eos_batch::BatchHead;
-use eos_touch::{PairFault, PartitionFaultKind, Touch, touch_of};
+use eos_touch::{PairFault, PartitionFaultKind, Touch, stands, touch_of};
 use std::alloc::{AllocError, Global};
 use std::collections::BTreeMap;
 

@@ -4,8 +4,8 @@ ghost use Rattle.std.specs.Prelude.{◌≡◌, ◌+◌, ◌<◌, ◌^◌, [], No
 ghost use Rattle.eos_fold.specs.Tables.{ends_in};
 ghost use Rattle.eos_fold.specs.Taken.{IsJoined, HasRoom, AreEndsOf};
 
-use crate::mark::{EndMark, mark_in};
 use crate::indexes::Indexes;
+use crate::mark::{EndMark, mark_in};
 use eos_touch::Touch;
 use std::alloc::{AllocError, Global};
 

@@ -6,8 +6,8 @@ ghost use Rattle.eos_fold.specs.Settling.{settled, waiting_in};
 ghost use Rattle.eos_fold.specs.steps.Summaries.{only};
 ghost use Rattle.eos_fold.specs.Batches.{DataBatch};
 
-use crate::mark::{EndMark, ended};
 use crate::indexes::Indexes;
+use crate::mark::{EndMark, ended};
 use crate::{Ending, LogIndex};
 
 /// Gives the batches at these indexes this ending.

@@ -11,7 +11,7 @@ use Rattle.eos_base.specs.Members.{Has}
 use Rattle.eos_base.specs.Least.{UpTo, NoneStands, IsLeast}
 use Rattle.eos_base.proofs.Membership.{append_cases, only}
 use Rattle.eos_evidence.specs.declared.application.App.{App}
-use Rattle.eos_evidence.specs.Members.{Members, groups_of, are_legal_apps, outputs_of, IsAccepted}
+use Rattle.eos_evidence.specs.SpecFields.{SpecFields, groups_of, are_legal_apps, outputs_of, IsAccepted}
 use Rattle.eos_evidence.specs.Topics.{is_among, are_unequal}
 use Rattle.eos_evidence.proofs.AcceptedParts.{refused_apps}
 use Rattle.eos_fold.specs.Parts.{PartLog}
@@ -167,7 +167,7 @@ first_fault apps ps i d m n f un lt none s l = record {
 
 -- ---- the applications of a spec
 
-pub unequal_groups : (parts : Members) → IsAccepted parts → are_unequal (groups_of parts.apps) ≡ true
+pub unequal_groups : (parts : SpecFields) → IsAccepted parts → are_unequal (groups_of parts.apps) ≡ true
 unequal_groups parts are = go (are_legal_apps parts.apps) refl
   where
     go : (b : Bool) → are_legal_apps parts.apps ≡ b → are_unequal (groups_of parts.apps) ≡ true

@@ -15,7 +15,8 @@ use crate::tables::{Tables, is_committed, source_of};
 use bytes::Bytes;
 use eos_base::{PartitionName, Workers};
 use eos_claims::{
-    Found, NumberedClaim, OutputFault, Place, PlaceRef, SourceRef, least_of_input, least_of_neighbours,
+    Found, NumberedClaim, OutputFault, Place, PlaceRef, SourceRef, least_of_input,
+    least_of_neighbours,
 };
 use std::alloc::{AllocError, Global};
 use std::thread::Threads;

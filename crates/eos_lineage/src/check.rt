@@ -4,7 +4,7 @@ ghost use Rattle.std.specs.Prelude.{◌≡◌, ◌+◌, true, IfOk};
 ghost use Rattle.eos_base.specs.Least.{NoneStands};
 ghost use Rattle.eos_commits.specs.Faults.{AreInOrder, Stands as StandsAtRecord};
 ghost use Rattle.eos_evidence.specs.declared.application.App.{App};
-ghost use Rattle.eos_evidence.specs.Members.{groups_of};
+ghost use Rattle.eos_evidence.specs.SpecFields.{groups_of};
 ghost use Rattle.eos_evidence.specs.Topics.{are_unequal};
 ghost use Rattle.eos_lineage.specs.Faults.{named_group, IsAnswer, as_counts};
 ghost use Rattle.eos_lineage.specs.Lineage.{application_of};

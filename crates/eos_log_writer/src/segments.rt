@@ -12,7 +12,7 @@ ghost use Rattle.eos_machine.specs.Evidences.{application, second_application, g
 
 use crate::batches::items_text;
 use crate::fitting::are_fit;
-use crate::log_names::{number_of, log_count, topic_of};
+use crate::log_names::{log_count, number_of, topic_of};
 use crate::values;
 use crate::writer::{as_i32, as_i64};
 use bytes::Bytes;

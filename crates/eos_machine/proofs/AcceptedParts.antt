@@ -9,7 +9,7 @@ use Rattle.std.proofs.lemmas.Bool.{and_from}
 use Rattle.eos_evidence.specs.declared.ends.End.{End}
 use Rattle.eos_evidence.specs.Topics.{is_topic}
 use Rattle.eos_evidence.specs.Ends.{end_cmp, is_within, is_legal_end, are_apart, insert_end, ordered}
-use Rattle.eos_evidence.specs.Members.{Members, are_legal_apps, accepted}
+use Rattle.eos_evidence.specs.SpecFields.{SpecFields, are_legal_apps, accepted}
 use Rattle.eos_machine.specs.declared.config.Config.{Config}
 use Rattle.eos_machine.specs.LogIndexes.{IsConfig, log_count, offsets_topic, transactions_topic, final_topic, input_topic, output_topic, final_index, input_index, output_index, topic_of, number_of}
 use Rattle.eos_machine.specs.World.{World, log_at}

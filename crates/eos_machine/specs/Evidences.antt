@@ -6,7 +6,7 @@ use Rattle.eos_evidence.specs.declared.application.App.{App}
 use Rattle.eos_evidence.specs.declared.ends.End.{End}
 use Rattle.eos_evidence.specs.declared.segment.Segment.{Segment}
 use Rattle.eos_evidence.specs.declared.fault.AddFault.{AddFault}
-use Rattle.eos_evidence.specs.Members.{Members, accepted}
+use Rattle.eos_evidence.specs.SpecFields.{SpecFields, accepted}
 use Rattle.eos_evidence.specs.Evidence.{EvidenceParts, without_segments, added}
 use Rattle.eos_machine.specs.declared.config.Config.{Config}
 use Rattle.eos_machine.specs.declared.item.Item.{Item}
@@ -30,7 +30,7 @@ groups_of c = if c.chain then application ∷ second_application ∷ [] else app
 abbrev pub end_of : Config → World → ℕ → End
 end_of c w p = record { topic = topic_of c p; partition = pos (number_of c p); end = pos (length (log_at w p)) }
 
-abbrev pub parts_of : Config → World → Members
+abbrev pub parts_of : Config → World → SpecFields
 parts_of c w = record { apps = groups_of c; ends = map (end_of c w) (range_with_len 0 (log_count c)) }
 
 -- how many segments so many records take
@@ -72,7 +72,7 @@ pub record HaveTexts (c : Config) (log : List Item) : Type 0 where
 
 -- the evidence that is made of the cluster's parts and of exactly its segments, in which each batch's bytes are a text of it
 pub record IsEvidenceOf (c : Config) (w : World) (e : EvidenceParts) : Type 0 where
-  pub spec : Members
+  pub spec : SpecFields
   pub accepted : accepted (parts_of c w) ≡ Ok spec
   pub added : adding (without_segments spec) (cluster_segments c w) ≡ Ok e
   pub written : (p : ℕ) → p < log_count c → HaveTexts c (log_at w p)

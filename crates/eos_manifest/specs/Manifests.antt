@@ -7,7 +7,7 @@ use Rattle.eos_base.specs.PartitionNames.{name_cmp}
 use Rattle.eos_base.specs.declared.partition_name.PartitionName.{PartitionName}
 use Rattle.eos_evidence.specs.declared.application.App.{App}
 use Rattle.eos_evidence.specs.declared.ends.End.{End}
-use Rattle.eos_evidence.specs.Members.{Members}
+use Rattle.eos_evidence.specs.SpecFields.{SpecFields}
 use Rattle.eos_evidence.specs.Topics.{is_among, is_internal}
 
 -- an application reads or writes the topic
@@ -34,5 +34,5 @@ abbrev pub first_without : List End → List PartitionName → Option PartitionN
 first_without ends names = find (λ name. not (has_end ends name)) names
 
 -- the applications, and of the ends those that are wanted
-abbrev pub parts_for : List App → List PartitionName → List End → Members
+abbrev pub parts_for : List App → List PartitionName → List End → SpecFields
 parts_for apps required ends = record { apps = apps; ends = filter (is_wanted apps required) ends }

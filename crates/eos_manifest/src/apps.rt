@@ -1,6 +1,6 @@
 //! The applications of a manifest, where they stand in its JSON value.
 
-use crate::element::{Owner, Element};
+use crate::element::{Element, Owner};
 use crate::types::array_at;
 use crate::words::Words;
 use eos_evidence::SpecFault;

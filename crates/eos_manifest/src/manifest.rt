@@ -7,7 +7,7 @@ ghost use Rattle.std.specs.Ordering.{int_eq};
 ghost use Rattle.eos_base.specs.PartitionNames.{name_cmp};
 ghost use Rattle.eos_base.specs.declared.partition_name.PartitionName.{PartitionName};
 ghost use Rattle.eos_evidence.specs.declared.fault.SpecFault.{SpecFault};
-ghost use Rattle.eos_evidence.specs.Members.{accepted};
+ghost use Rattle.eos_evidence.specs.SpecFields.{accepted};
 ghost use Rattle.eos_evidence.specs.Topics.{is_among, is_internal};
 ghost use Rattle.eos_manifest.specs.Manifests.{is_judged, is_named, is_wanted, name_of, has_end, first_without, parts_for};
 ghost use Rattle.eos_manifest.specs.declared.manifest.ManifestFault.TheVariants.{OutOfMemory};

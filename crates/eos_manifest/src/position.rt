@@ -1,6 +1,6 @@
 //! Where an element of a manifest stands in its text. The kit's reader of JSON passes over what stands before it.
 
-use crate::element::{Owner, Element};
+use crate::element::{Element, Owner};
 use json::{MAX_DEPTH, Reader, Scratch, Token};
 use std::alloc::Global;
 use std::str;

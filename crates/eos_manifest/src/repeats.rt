@@ -1,7 +1,7 @@
 //! What stands twice in a manifest and may not. A set of what was seen finds it, so that a long list takes no long time.
 
 use crate::apps::{AppList, items_of};
-use crate::element::{Owner, Element};
+use crate::element::{Element, Owner};
 use crate::words::Words;
 use eos_evidence::SpecFault;
 use serde_json::Value;

@@ -2,8 +2,8 @@
 //! the ends, and how many there are of both.
 
 use crate::apps::{AppList, items_of};
+use crate::element::{Element, Owner};
 use crate::names::{is_own_topic, is_topic, topic_of};
-use crate::element::{Owner, Element};
 use crate::repeats::{look_at_groups, look_at_outputs, look_at_repeats};
 use crate::types::{ends_of, look_at_app_types};
 use crate::words::Words;

@@ -1,8 +1,8 @@
 //! Whether what stands in a manifest is of the types that are wanted.
 
 use crate::apps::AppList;
+use crate::element::{Element, Owner};
 use crate::names::topic_of;
-use crate::element::{Owner, Element};
 use crate::words::Words;
 use eos_evidence::SpecFault;
 use serde_json::{Map, Value};

@@ -1,6 +1,6 @@
 //! The words of a refusal: an element of the manifest, what stands there and what is wanted.
 
-use crate::element::{Owner, Element};
+use crate::element::{Element, Owner};
 use crate::position::{name_at, value_at};
 use eos_text::{push_text, push_value};
 use serde_json::Value;

@@ -2,7 +2,7 @@
 -- verdict.
 use Rattle.std.specs.Prelude.{◌≡◌, Bool, true, false, List, map, ◌++◌, Option, is_some}
 use Rattle.eos_evidence.specs.Evidence.{EvidenceParts}
-use Rattle.eos_evidence.specs.Members.{Members}
+use Rattle.eos_evidence.specs.SpecFields.{SpecFields}
 use Rattle.eos_touch.specs.declared.fault.PartitionFault.{PartitionFault}
 use Rattle.eos_fold.specs.LeastFaults.{IsFirstFault}
 use Rattle.eos_fold.specs.Parts.{PartLog, part_name}
@@ -15,17 +15,17 @@ use Rattle.eos_notes.specs.CommitNotes.{end_name, AreUnlistedNotes, past_ends, n
 use Rattle.eos_notes.specs.ReplicaNotes.{falls}
 
 -- what the manifest alone shows
-abbrev pub of_manifest : Members → List Note
+abbrev pub of_manifest : SpecFields → List Note
 of_manifest spec = no_application spec.apps ++ (absent_topics spec.ends spec.apps ++ (gaps spec.apps spec.ends ++ absent_internals spec.ends))
 
 -- all, with those of partitions that aren't in `ends`
-abbrev pub of_all : Members → List PartLog → List Note → List Note
+abbrev pub of_all : SpecFields → List PartLog → List Note → List Note
 of_all spec logs unlisted =
     no_application spec.apps ++ (unlisted ++ (past_ends logs spec.apps ++ (absent_topics spec.ends spec.apps ++ (gaps spec.apps spec.ends
     ++ (nothing_committed logs spec.apps ++ (absent_internals spec.ends ++ behind logs spec.apps))))))
 
 -- by whether a partition's log has a fault
-abbrev pub AreNotesBy : Members → List PartLog → Bool → List Note → Type 0
+abbrev pub AreNotesBy : SpecFields → List PartLog → Bool → List Note → Type 0
 AreNotesBy spec logs true notes = notes ≡ of_manifest spec
 AreNotesBy spec logs false notes = (unlisted : List Note) × AreUnlistedNotes spec.ends logs spec.apps unlisted × (notes ≡ of_all spec logs unlisted)
 
@@ -36,7 +36,7 @@ AreNotes e notes =
 
 -- ---- with those of replicas, by the entries at which the leader epochs of the partitions change
 
-abbrev pub AreAllNotesBy : Members → List PartLog → List (List EpochEntry) → Bool → List Note → Type 0
+abbrev pub AreAllNotesBy : SpecFields → List PartLog → List (List EpochEntry) → Bool → List Note → Type 0
 AreAllNotesBy spec logs epochs faulty notes = (first : List Note) × AreNotesBy spec logs faulty first × (notes ≡ first ++ falls (map part_name logs) epochs)
 
 abbrev pub AreAllNotes : EvidenceParts → List Note → Type 0

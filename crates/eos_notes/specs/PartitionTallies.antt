@@ -8,7 +8,7 @@ use Rattle.eos_batch.specs.declared.batch.Batch.{Batch}
 use Rattle.eos_evidence.specs.declared.application.App.{App}
 use Rattle.eos_evidence.specs.declared.partition.Partition.{Partition}
 use Rattle.eos_evidence.specs.declared.segment.Segment.{Segment}
-use Rattle.eos_evidence.specs.Members.{outputs_of}
+use Rattle.eos_evidence.specs.SpecFields.{outputs_of}
 use Rattle.eos_touch.specs.declared.fault.PartitionFault.{PartitionFault}
 use Rattle.eos_fold.specs.declared.stop.Stop.{Stop}
 use Rattle.eos_fold.specs.Fronts.{IsFront}

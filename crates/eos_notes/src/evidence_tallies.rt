@@ -4,8 +4,8 @@ ghost use Rattle.std.specs.Prelude.{◌≡◌, IfOk};
 ghost use Rattle.eos_commits.specs.Faults.{AreInOrder};
 ghost use Rattle.eos_notes.specs.TalliesByLogs.{tallies_by};
 
-use crate::partitions::partition_tallies_of;
 use crate::group_rows::group_tallies_of;
+use crate::partitions::partition_tallies_of;
 use crate::tally::{Counted, Tallies};
 use eos_evidence::Spec;
 use eos_kept::Logs;

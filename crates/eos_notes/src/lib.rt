@@ -12,6 +12,7 @@ mod counts;
 mod evidence_notes;
 mod evidence_tallies;
 mod fronts;
+mod group_rows;
 mod groups;
 pub mod laws;
 mod lines;
@@ -20,9 +21,8 @@ mod note;
 mod partitions;
 mod records;
 mod replicas;
-mod group_rows;
-pub mod tally_laws;
 mod tally;
+pub mod tally_laws;
 mod text;
 mod unlisted;
 

@@ -6,7 +6,7 @@ ghost use Rattle.std.specs.Cmp.Lexicographic.{slice_cmp};
 ghost use Rattle.eos_base.specs.Members.{is_found};
 ghost use Rattle.eos_commits.specs.Commits.{is_same as is_same_text};
 ghost use Rattle.eos_commits.specs.Visible.{visible};
-ghost use Rattle.eos_evidence.specs.Members.{outputs_of as outputs_in};
+ghost use Rattle.eos_evidence.specs.SpecFields.{outputs_of as outputs_in};
 ghost use Rattle.eos_notes.specs.PartitionTallies.{sources_of as sources_in, roles_by, roles_of};
 ghost use Rattle.eos_notes.specs.TalliesByLogs.{beside, partition_tally as tally_of_partition};
 

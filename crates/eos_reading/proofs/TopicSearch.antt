@@ -9,7 +9,7 @@ use Rattle.std.proofs.lemmas.List.Sorted.{list_any-IsPermutation}
 use Rattle.eos_base.specs.Members.{is_found}
 use Rattle.eos_base.proofs.Membership.{found_by}
 use Rattle.eos_evidence.specs.declared.application.App.{App}
-use Rattle.eos_evidence.specs.Members.{outputs_of}
+use Rattle.eos_evidence.specs.SpecFields.{outputs_of}
 use Rattle.eos_evidence.specs.Topics.{is_internal}
 use Rattle.eos_reading.specs.Wanted.{wanted_of}
 use Rattle.eos_reading.specs.declared.wanted.Wanted.TheVariants.{Presence, Claims}

@@ -8,7 +8,7 @@ use Rattle.eos_base.specs.Members.{is_found}
 use Rattle.eos_wire.specs.Numbers.{i32_text, i64_text}
 use Rattle.eos_batch.specs.declared.record.Header.{Header}
 use Rattle.eos_evidence.specs.declared.application.App.{App}
-use Rattle.eos_evidence.specs.Members.{outputs_of}
+use Rattle.eos_evidence.specs.SpecFields.{outputs_of}
 use Rattle.eos_evidence.specs.Topics.{is_internal}
 use Rattle.eos_claims.specs.declared.claim.Claim.{Claim}
 use Rattle.eos_claims.specs.Headers.{claim_of}

@@ -17,12 +17,12 @@ mod output;
 mod outputs;
 mod placed;
 mod reading;
+pub mod reading_laws;
 mod record;
 mod seals;
 mod text;
 mod texts;
 mod wanted;
-pub mod reading_laws;
 mod wants;
 
 pub use batch::keep_batches;

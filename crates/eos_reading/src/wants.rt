@@ -1,7 +1,7 @@
 //! What the applications want of each topic.
 
 ghost use Rattle.std.specs.Prelude.{◌≡◌, ◌++◌, ℕ, List, map, IfOk, OnOk, IsPermutation};
-ghost use Rattle.eos_evidence.specs.Members.{outputs_of};
+ghost use Rattle.eos_evidence.specs.SpecFields.{outputs_of};
 ghost use Rattle.eos_evidence.specs.Topics.{is_internal};
 ghost use Rattle.eos_evidence.specs.declared.application.App.{App};
 ghost use Rattle.eos_reading.specs.Wanted.{wanted_of};

@@ -12,7 +12,7 @@ use Rattle.eos_evidence.specs.declared.partition.Partition.{Partition}
 use Rattle.eos_evidence.specs.declared.fault.AddFault.{AddFault}
 use Rattle.eos_evidence.specs.declared.fault.AddFault.TheVariants as faults
 use Rattle.eos_evidence.specs.Ends.{end_cmp}
-use Rattle.eos_evidence.specs.Members.{IsAccepted}
+use Rattle.eos_evidence.specs.SpecFields.{IsAccepted}
 use Rattle.eos_evidence.specs.Evidence.{EvidenceParts, IsEvidence, IsCounted, is_in, has_base, with_segment, segments_of, is_past_limit, without_segments, added_to, added, empty_partition}
 use Rattle.eos_evidence.specs.steps.SegmentIndexes.{IsFirst, MayTake}
 use Rattle.eos_evidence.proofs.AddedSegments.{found_first, gives_added, still_counted, begun}

@@ -18,7 +18,7 @@ use Rattle.eos_evidence.specs.declared.fault.AddFault.TheVariants as add_faults
 use Rattle.eos_evidence.specs.declared.fault.SpecFault.{SpecFault}
 use Rattle.eos_evidence.specs.declared.fault.SpecFault.TheVariants as spec_faults
 use Rattle.eos_evidence.specs.Ends.{end_cmp, are_apart, is_legal_end, insert_end, ordered}
-use Rattle.eos_evidence.specs.Members.{Members, are_legal_apps, are_legal_ends, accepted}
+use Rattle.eos_evidence.specs.SpecFields.{SpecFields, are_legal_apps, are_legal_ends, accepted}
 use Rattle.eos_evidence.specs.Evidence.{EvidenceParts, is_in, is_past_limit, has_base, insert_segment, with_segment, empty_partition, without_segments, added_to, added}
 use Rattle.eos_machine.specs.declared.config.Config.{Config}
 use Rattle.eos_machine.specs.LogIndexes.{IsConfig, log_count, topic_of, number_of}
@@ -77,15 +77,15 @@ all_added e f (s ∷ ss) h = by (added e s) refl h (λ g k. all_added g f ss k)
 
 -- ---- the ends are in order as they are
 
-ok_parts : (e f : Members) → (let r : Result Members SpecFault = Ok e in r ≡ Ok f) → e ≡ f
+ok_parts : (e f : SpecFields) → (let r : Result SpecFields SpecFault = Ok e in r ≡ Ok f) → e ≡ f
 ok_parts e f h = cc h
 
-accepted_is : (given spec : Members) → accepted given ≡ Ok spec → spec.ends ≡ ordered given.ends
+accepted_is : (given spec : SpecFields) → accepted given ≡ Ok spec → spec.ends ≡ ordered given.ends
 unfolding accepted
 accepted_is given spec h = by (are_legal_apps given.apps && are_legal_ends given.ends) (nat_le (length given.apps) 256 && nat_le (length given.ends) 4096) h
   where
-    by : (a b : Bool) → (let r : Result Members SpecFault = if a then (if b then Ok (record given { ends = ordered given.ends }) else Err spec_faults.Limit) else Err spec_faults.Field in r ≡ Ok spec) → spec.ends ≡ ordered given.ends
-    by true true k = sym (ap (λ (x : Members). x.ends) (ok_parts _ spec k))
+    by : (a b : Bool) → (let r : Result SpecFields SpecFault = if a then (if b then Ok (record given { ends = ordered given.ends }) else Err spec_faults.Limit) else Err spec_faults.Field in r ≡ Ok spec) → spec.ends ≡ ordered given.ends
+    by true true k = sym (ap (λ (x : SpecFields). x.ends) (ok_parts _ spec k))
     by true false k = absurd cc
     by false b k = absurd cc
 

@@ -7,6 +7,7 @@
 
 mod course;
 mod evidence;
+pub mod evidence_laws;
 mod folder;
 mod history_file;
 mod kept;
@@ -14,7 +15,6 @@ pub mod laws;
 mod making;
 mod replaying;
 mod schedule_file;
-pub mod evidence_laws;
 
 pub use course::Course;
 pub use folder::simulate_folder;

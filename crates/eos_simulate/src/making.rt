@@ -89,7 +89,11 @@ pub(crate) fn evidence_of(cluster: &Cluster) -> Result<Evidence, SimulationFault
 ///
 /// # Errors
 /// At `Write` a front of the line was written, at `OutOfMemory` nothing. There is no other refusal.
-pub fn told_to<W: Write>(alloc: Global, evidence: &Evidence, writer: &mut W) -> Result<u8, CommandFault>
+pub fn told_to<W: Write>(
+    alloc: Global,
+    evidence: &Evidence,
+    writer: &mut W,
+) -> Result<u8, CommandFault>
     ensures ok { IfOk result (λ status. (status ≡ 0) × Appends (W.contents writer.old) (W.contents writer.new) (wrote_line evidence.now)) }
     ensures write { result ≡ Err CommandFault.Write → WritesFront (W.contents writer.old) (W.contents writer.new) (wrote_line evidence.now) }
     ensures memory { result ≡ Err CommandFault.OutOfMemory → Keeps (W.contents writer.old) (W.contents writer.new) }

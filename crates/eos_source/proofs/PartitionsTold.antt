@@ -7,7 +7,7 @@ use Rattle.eos_evidence.specs.declared.application.App.{App}
 use Rattle.eos_evidence.specs.declared.ends.End.{End}
 use Rattle.eos_evidence.specs.declared.partition.Partition.{Partition}
 use Rattle.eos_evidence.specs.declared.segment.Segment.{Segment}
-use Rattle.eos_evidence.specs.Members.{Members}
+use Rattle.eos_evidence.specs.SpecFields.{SpecFields}
 use Rattle.eos_evidence.specs.Evidence.{EvidenceParts, IsEvidence, IsPartition, segments_of}
 use Rattle.eos_fold.specs.Standing.{AreOf}
 use Rattle.eos_kept.specs.declared.part.Told.{Told}
@@ -187,7 +187,7 @@ kept_of logs shape evidence said told e columns each h =
     record {
       is_evidence = evidence_is said shape evidence e h;
       told = told;
-      each = subst (λ (s : Members). AreTold s.apps evidence.partitions told) (sym h.spec) (each evidence.partitions h.partitions);
+      each = subst (λ (s : SpecFields). AreTold s.apps evidence.partitions told) (sym h.spec) (each evidence.partitions h.partitions);
       columns = columns;
     }
 

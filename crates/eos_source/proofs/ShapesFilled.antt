@@ -13,7 +13,7 @@ use Rattle.std.proofs.lemmas.List.Elements.{All-nil, All-cons}
 use Rattle.eos_evidence.specs.declared.ends.End.{End}
 use Rattle.eos_evidence.specs.declared.partition.Partition.{Partition}
 use Rattle.eos_evidence.specs.declared.segment.Segment.{Segment}
-use Rattle.eos_evidence.specs.Members.{Members}
+use Rattle.eos_evidence.specs.SpecFields.{SpecFields}
 use Rattle.eos_evidence.specs.Evidence.{EvidenceParts, IsEvidence, IsPartition, IsOwn, IsRising, segments_of}
 use Rattle.eos_fold.specs.Standing.{AreOf}
 use Rattle.eos_source.specs.Said.{Said, Log, Fold, IsLog, AreLogs}
@@ -87,7 +87,7 @@ module _ (said : ℕ → Said) where
 
   pub evidence_is : (shape evidence : EvidenceParts) → IsEvidence shape → IsOfShape said shape evidence → IsEvidence evidence
   evidence_is shape evidence s h =
-      subst IsEvidence (ap (λ (p : Members). record { spec = p; partitions = evidence.partitions }) (sym h.spec)) (evidence_of shape evidence.partitions s h.partitions)
+      subst IsEvidence (ap (λ (p : SpecFields). record { spec = p; partitions = evidence.partitions }) (sym h.spec)) (evidence_of shape evidence.partitions s h.partitions)
 
   -- ---- of logs
 

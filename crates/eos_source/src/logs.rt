@@ -3,7 +3,7 @@
 ghost use Rattle.std.specs.Prelude.{◌≡◌, ◌⊎◌, ◌+◌, ◌++◌, ◌∷◌, [], ℕ, List, length, IfOk, IfErr, OnOk, IsPermutation, alloc_error};
 ghost use Rattle.std.specs.Vec.Iter.{into_iter_items};
 ghost use Rattle.eos_evidence.specs.Evidence.{IsPartition, segments_of};
-ghost use Rattle.eos_evidence.specs.Members.{outputs_of};
+ghost use Rattle.eos_evidence.specs.SpecFields.{outputs_of};
 ghost use Rattle.eos_evidence.specs.declared.segment.Segment.{Segment};
 ghost use Rattle.eos_source.specs.Logs.{AreKeptLogs, tally_of};
 ghost use Rattle.eos_source.specs.Refusals.{IsRefusal};

@@ -2,7 +2,7 @@
 
 ghost use Rattle.std.specs.Prelude.{◌≡◌, vec_len, length, map, Some, None, All, IsSome, IfOk, IsPermutation};
 ghost use Rattle.eos_evidence.specs.Evidence.{segments_of};
-ghost use Rattle.eos_evidence.specs.Members.{outputs_of};
+ghost use Rattle.eos_evidence.specs.SpecFields.{outputs_of};
 ghost use Rattle.eos_source.specs.Said.{known_by};
 ghost use Rattle.eos_source.specs.steps.Runs.{AreSlots};
 ghost use Rattle.eos_board.specs.SeatViews.{AreBelow};

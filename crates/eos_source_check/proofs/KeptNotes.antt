@@ -5,7 +5,7 @@ use Rattle.eos_base.specs.Members.{Has}
 use Rattle.eos_claims.specs.Outputs.{Application, Commit, committed_offset}
 use Rattle.eos_commits.specs.Faults.{AreInOrder}
 use Rattle.eos_evidence.specs.Evidence.{EvidenceParts, IsEvidence}
-use Rattle.eos_evidence.specs.Members.{Members}
+use Rattle.eos_evidence.specs.SpecFields.{SpecFields}
 use Rattle.eos_evidence.specs.declared.application.App.{App}
 use Rattle.eos_evidence.specs.declared.ends.End.{End}
 use Rattle.eos_fold.specs.Parts.{PartLog, part_name}
@@ -58,7 +58,7 @@ unlisted_kept ends apps (app ∷ few) ps notes among h = (
   h.4,
 )
 
-all_same : (spec : Members) (ps : List PartLog) (unlisted : List Note) → of_all spec (wanted_logs spec.apps ps) unlisted ≡ of_all spec ps unlisted
+all_same : (spec : SpecFields) (ps : List PartLog) (unlisted : List Note) → of_all spec (wanted_logs spec.apps ps) unlisted ≡ of_all spec ps unlisted
 all_same spec ps unlisted =
     let kept = wanted_logs spec.apps ps in
     let past = flat_same (past_ends_in kept) (past_ends_in ps) spec.apps (past_kept spec.apps ps) in
@@ -66,7 +66,7 @@ all_same spec ps unlisted =
     let late = flat_same (behind_in kept) (behind_in ps) spec.apps (behind_kept spec.apps ps) in
     λ i. no_application spec.apps ++ (unlisted ++ (past i ++ (absent_topics spec.ends spec.apps ++ (gaps spec.apps spec.ends ++ (nothing i ++ (absent_internals spec.ends ++ late i))))))
 
-pub notes_kept : (spec : Members) (ps : List PartLog) (faulty : Bool) (notes : List Note) → AreNotesBy spec (wanted_logs spec.apps ps) faulty notes → AreNotesBy spec ps faulty notes
+pub notes_kept : (spec : SpecFields) (ps : List PartLog) (faulty : Bool) (notes : List Note) → AreNotesBy spec (wanted_logs spec.apps ps) faulty notes → AreNotesBy spec ps faulty notes
 notes_kept spec ps true notes h = h
 notes_kept spec ps false notes h = (h.0, unlisted_kept spec.ends spec.apps spec.apps ps h.0 (λ app has. has) h.1, h.2 ∙ all_same spec ps h.0)
 

@@ -6,7 +6,7 @@ use Rattle.eos_base.specs.Least.{NoneStands}
 use Rattle.eos_evidence.specs.declared.ends.End.{End}
 use Rattle.eos_evidence.specs.declared.partition.Partition.{Partition}
 use Rattle.eos_evidence.specs.Evidence.{EvidenceParts, IsEvidence}
-use Rattle.eos_evidence.specs.Members.{Members}
+use Rattle.eos_evidence.specs.SpecFields.{SpecFields}
 use Rattle.eos_touch.specs.declared.fault.PartitionFault.{PartitionFault}
 use Rattle.eos_fold.specs.LeastFaults.{IsFaultIn, IsFirstFault}
 use Rattle.eos_fold.specs.Parts.{PartLog}
@@ -81,7 +81,7 @@ faults_of known piece (shape ∷ shapes) (p ∷ ps) (Some f ∷ found) (Some q �
     (h.0, h.1, mine, h.2, faults_of known (piece + length shape.segments) shapes ps found more h.1 (behind p shape ps shapes e) h.5 n.1 t.1)
 
 same_ends : (shape e : EvidenceParts) → IsEvidence shape → IsEvidence e → e.spec ≡ shape.spec → ends e.partitions ≡ ends shape.partitions
-same_ends shape e is_shape is spec = is.ends ∙ (ap (λ (s : Members). s.ends) spec ∙ sym is_shape.ends)
+same_ends shape e is_shape is spec = is.ends ∙ (ap (λ (s : SpecFields). s.ends) spec ∙ sym is_shape.ends)
 
 -- ---- all faults
 
@@ -106,7 +106,7 @@ later_listed known shape logs list found h = record {
       let first : IsFirstFault kept.whole None = subst (IsFirstFault kept.whole) found (first_named e.partitions kept.whole kept.of logs.faults.items kept.faults) in
       let none : NoneStands (StandsInPartitions e.partitions kept.whole kept.of) = none_in_partitions e kept.whole kept.of is first in
       let order : AreInOrder logs.parts.items = subst AreInOrder (sym kept.parts) ((all_kept e.spec.apps kept.whole).1 (in_order e kept.whole is kept.of)) in
-      let over_parts : AreLaterFaults e.spec.apps logs.parts.items list = subst (λ (s : Members). AreLaterFaults s.apps logs.parts.items list) (sym spec) (h order) in
+      let over_parts : AreLaterFaults e.spec.apps logs.parts.items list = subst (λ (s : SpecFields). AreLaterFaults s.apps logs.parts.items list) (sym spec) (h order) in
       let over_kept : AreLaterFaults e.spec.apps (wanted_logs e.spec.apps kept.whole) list = subst (λ (ls : List PartLog). AreLaterFaults e.spec.apps ls list) kept.parts over_parts in
       (kept_later e kept.whole kept.of none list).0 over_kept;
 }

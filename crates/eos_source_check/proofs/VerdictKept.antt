@@ -1,7 +1,7 @@
 -- The verdict that is judged of kept logs is that of the evidence whose logs they are kept of.
 use Rattle.std.proofs.Common.{◌≡◌, ℕ, List, map, sym, subst, ap, ◌∙◌}
 use Rattle.eos_evidence.specs.Evidence.{EvidenceParts}
-use Rattle.eos_evidence.specs.Members.{Members}
+use Rattle.eos_evidence.specs.SpecFields.{SpecFields}
 use Rattle.eos_fold.specs.Parts.{PartLog}
 use Rattle.eos_check.specs.Judged.{IsJudged}
 use Rattle.eos_kept.specs.Parts.{HaveEpochs}
@@ -24,7 +24,7 @@ judged_for kept j shape e spec k w epochs answer =
     let parts : j.logs.parts.items ≡ wanted_logs e.spec.apps t.whole = w.parts ∙ (k.columns.parts ∙ t.parts) in
     let faults : AreFaultsIn e.partitions j.logs.faults.items = subst (AreFaultsIn e.partitions) (sym (w.faults ∙ k.columns.faults)) t.faults in
     let over_apps : IsJudged e.spec.apps j.logs.parts.items (first_of j.logs.faults.items) j.verdict =
-    subst (λ (s : Members). IsJudged s.apps j.logs.parts.items (first_of j.logs.faults.items) j.verdict) (sym spec) answer in
+    subst (λ (s : SpecFields). IsJudged s.apps j.logs.parts.items (first_of j.logs.faults.items) j.verdict) (sym spec) answer in
     let over_kept : IsJudged e.spec.apps (wanted_logs e.spec.apps t.whole) (first_of j.logs.faults.items) j.verdict =
     subst (λ (ls : List PartLog). IsJudged e.spec.apps ls (first_of j.logs.faults.items) j.verdict) parts over_apps in
     record {

@@ -5,7 +5,7 @@
 ghost use Rattle.std.specs.Prelude.{◌≡◌, ℕ, Bool, is_some, List, Option};
 ghost use Rattle.eos_commits.specs.Faults.{AreInOrder};
 ghost use Rattle.eos_evidence.specs.Evidence.{EvidenceParts, IsEvidence};
-ghost use Rattle.eos_evidence.specs.Members.{Members};
+ghost use Rattle.eos_evidence.specs.SpecFields.{SpecFields};
 ghost use Rattle.eos_evidence.specs.declared.application.App.{App};
 ghost use Rattle.eos_fold.specs.Parts.{PartLog};
 ghost use Rattle.eos_lineage.specs.EvidenceLogs.{AreLogsOf};
@@ -25,7 +25,7 @@ ghost use Rattle.eos_reading.specs.Wanted.{wanted_logs};
 /// Notes by kept logs are those by the logs, and with the faults of an evidence's partitions they are the evidence's; so is their
 /// text. So it is of all notes, with the entries of its partitions' leader epochs.
 pub fn notes()
-    ensures logs { (spec : Members) (logs : List PartLog) (faulty : Bool) (notes : List Note)
+    ensures logs { (spec : SpecFields) (logs : List PartLog) (faulty : Bool) (notes : List Note)
         → AreNotesBy spec (wanted_logs spec.apps logs) faulty notes → AreNotesBy spec logs faulty notes }
     ensures notes { (e : EvidenceParts) (logs : List PartLog) (faults : List (Option PartitionFault)) (notes : List Note)
         → AreLogsOf e.partitions logs → AreFaultsIn e.partitions faults

@@ -12,16 +12,16 @@
 
 mod again;
 mod all;
-pub mod list_laws;
 mod fault;
 mod judged;
 mod kept;
-mod later;
-pub mod laws;
-mod listed;
-mod partitions;
 pub mod kept_list_laws;
 pub mod kept_note_laws;
+mod later;
+pub mod laws;
+pub mod list_laws;
+mod listed;
+mod partitions;
 
 pub use all::{all_faults, of_partitions};
 pub use fault::Unlisted;

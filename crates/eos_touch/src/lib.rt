@@ -9,6 +9,6 @@ mod touch;
 mod touches;
 
 pub use fault::{PartitionFault, PartitionFaultKind};
-pub use pair::{PairFault, pair_ok};
+pub use pair::{PairFault, is_open, pair_ok, stands};
 pub use touch::Touch;
 pub use touches::touch_of;

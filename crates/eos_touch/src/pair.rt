@@ -2,7 +2,7 @@
 //! that a log shows afterwards. Each kind of fault is a test of its own, and the least kind that stands is the answer.
 
 ghost use Rattle.std.specs.Prelude.{◌≡◌, OnOk, IfErr};
-ghost use Rattle.eos_touch.specs.Pair.{pair_verdict, sequence_at, first_sequence, sequence, epoch_of, is_plain, is_open, zombie_epoch, epoch_while_open, no_bump, mixed_producer, marker_kind, NoneStands, IsLeast, number_of, name_of};
+ghost use Rattle.eos_touch.specs.Pair.{pair_verdict, sequence_at, first_sequence, sequence, epoch_of, is_plain, is_open, zombie_epoch, epoch_while_open, no_bump, mixed_producer, marker_kind, stands, NoneStands, IsLeast, number_of, name_of};
 
 use crate::touch::Touch;
 use thiserror::Error;
@@ -89,8 +89,8 @@ fn is_plain(touch: Touch) -> bool
     }
 }
 
-/// Data of a transaction.
-fn is_open(touch: Touch) -> bool
+/// Whether it is data of a transaction, which a marker has still to end.
+pub fn is_open(touch: Touch) -> bool
     ensures { result ≡ is_open touch }
 {
     match touch {
@@ -197,6 +197,22 @@ fn is_marker_kind(before: Option<Touch>, next: Touch) -> bool
             Touch::End { epoch, kind },
         ) => last == epoch && was != kind,
         _ => false,
+    }
+}
+
+/// Whether a fault of this kind stands at `next`, after the touch of its producer id before it, each kind by itself. Sequences are
+/// looked at only where they are checked. `pair_ok` answers the least kind that stands.
+pub fn stands(is_sequenced: bool, before: Option<Touch>, next: Touch, kind: PairFault) -> bool
+    ensures { result ≡ stands is_sequenced before next kind }
+{
+    match kind {
+        PairFault::FirstSequence => is_sequenced && is_first_sequence(before, next),
+        PairFault::Sequence => is_sequenced && is_sequence(before, next),
+        PairFault::ZombieEpoch => is_zombie_epoch(before, next),
+        PairFault::EpochWhileOpen => is_epoch_while_open(before, next),
+        PairFault::NoBump => is_no_bump(before, next),
+        PairFault::MixedProducer => is_mixed_producer(before, next),
+        PairFault::MarkerKind => is_marker_kind(before, next),
     }
 }
 

@@ -25,7 +25,11 @@ pub struct Step {
 }
 
 /// The state that a record with these parts leaves.
-pub fn state_of(status: Status, epoch: u16, partitions: LogIndexes) -> Result<Coordinator, AllocError>
+pub fn state_of(
+    status: Status,
+    epoch: u16,
+    partitions: LogIndexes,
+) -> Result<Coordinator, AllocError>
     ensures { IfOk result (λ s. s ≡ state_of (record { status = status; epoch = epoch; partitions = partitions })) }
 {
     let awaited = copies::copy(&partitions)?;

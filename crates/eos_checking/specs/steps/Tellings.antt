@@ -7,7 +7,7 @@ use Rattle.eos_check.specs.declared.verdict.Verdict.{Verdict}
 use Rattle.eos_check.specs.declared.verdict.Verdict.TheVariants.{Yes, No}
 use Rattle.eos_commits.specs.Faults.{AreInOrder}
 use Rattle.eos_evidence.specs.Evidence.{EvidenceParts}
-use Rattle.eos_evidence.specs.Members.{Members}
+use Rattle.eos_evidence.specs.SpecFields.{SpecFields}
 use Rattle.eos_notes.specs.declared.note.Note.{Note}
 use Rattle.eos_notes.specs.Lines.{IsAllNotesTextBy}
 use Rattle.eos_notes.specs.Notes.{AreAllNotesBy}
@@ -44,19 +44,19 @@ AreListed known shape judged (Yes counts) faults = faults ≡ []
 AreListed known shape judged (No first) faults = IsListOf known shape judged.logs faults
 
 -- whether a note stands, by the manifest, the logs, the entries of their leader epochs, and whether one of them has a fault
-pub record IsNotedBy (spec : Members) (logs : List PartLog) (epochs : List (List EpochEntry)) (faulty : Bool) (noted : Bool) : Type 0 where
+pub record IsNotedBy (spec : SpecFields) (logs : List PartLog) (epochs : List (List EpochEntry)) (faulty : Bool) (noted : Bool) : Type 0 where
   pub notes : List Note
   pub by : AreAllNotesBy spec logs epochs faulty notes
   pub is : noted ≡ not (length notes == 0)
 
 -- the exit status of what was judged, of whose yes this is demanded
-pub record ExitsBy (spec : Members) (judged : Judged) (demands : Demands) (status : ℕ) : Type 0 where
+pub record ExitsBy (spec : SpecFields) (judged : Judged) (demands : Demands) (status : ℕ) : Type 0 where
   pub noted : Bool
   pub notes : demands.strict ≡ true → IsNotedBy spec judged.logs.parts.items judged.epochs.items (is_some (first_of judged.logs.faults.items)) noted
   pub is : status ≡ exit_status demands judged.verdict noted
 
 -- the report and the page of what was judged, with these faults, or none where none is wanted
-abbrev pub ReportsOf : Members → Judged → List Fault → Option Wanted → Option Made → Type 0
+abbrev pub ReportsOf : SpecFields → Judged → List Fault → Option Wanted → Option Made → Type 0
 ReportsOf spec judged faults None made = made ≡ None
 ReportsOf spec judged faults (Some wanted) None = ⊥
 ReportsOf spec judged faults (Some wanted) (Some made) =
@@ -64,7 +64,7 @@ ReportsOf spec judged faults (Some wanted) (Some made) =
     × (told.epochs.now ≡ judged.epochs.items) × (told.verdict.now ≡ judged.verdict) × (told.faults.now ≡ faults) × IsReportBy told wanted made
 
 -- what is told of what was judged, with these faults, which are all or the first alone
-pub record TellsOf (spec : Members) (judged : Judged) (faults : List Fault) (subject : Subject) (json all quiet : Bool) (terms : Terms) (about : Option Wanted) (answer : SourceAnswer) : Type 0 where
+pub record TellsOf (spec : SpecFields) (judged : Judged) (faults : List Fault) (subject : Subject) (json all quiet : Bool) (terms : Terms) (about : Option Wanted) (answer : SourceAnswer) : Type 0 where
   pub lines : string_bytes answer.lines ≡ answer_text (subject_text subject) json all judged.verdict faults
   pub status : AreInOrder judged.logs.parts.items → ExitsBy spec judged terms.demands answer.status
   pub unmet : string_bytes answer.unmet ≡ unmet_text terms judged.verdict

@@ -3,7 +3,7 @@ use Rattle.std.specs.Prelude.{◌≡◌, ℕ, List, map, Ok, IfOk}
 use Rattle.eos_disk.specs.Entries.{Entry, HasBytes}
 use Rattle.eos_evidence.specs.declared.segment.Segment.{Segment}
 use Rattle.eos_evidence.specs.Evidence.{EvidenceParts}
-use Rattle.eos_evidence.specs.Members.{Members}
+use Rattle.eos_evidence.specs.SpecFields.{SpecFields}
 use Rattle.eos_disk.specs.declared.folder.SegmentFile.{SegmentFile}
 use Rattle.eos_disk.specs.declared.names.Form.TheVariants.{Log}
 use Rattle.eos_disk.specs.Paths.{segment_path}
@@ -20,7 +20,7 @@ pub record AreFilled (files : List SegmentFile) (segments : List Segment) : Type
   pub bytes : map (λ s. Ok s.bytes) segments ≡ map (λ f. f.bytes) files
 
 -- they stand in their partitions
-pub record IsFilledBy (spec : Members) (files : List SegmentFile) (e : EvidenceParts) : Type 0 where
+pub record IsFilledBy (spec : SpecFields) (files : List SegmentFile) (e : EvidenceParts) : Type 0 where
   pub segments : List Segment
   pub filled : AreFilled files segments
   pub spec_is : e.spec ≡ spec

@@ -1,5 +1,5 @@
 use Rattle.std.proofs.Common.{subst}
-use Rattle.eos_evidence.specs.Members.{Members}
+use Rattle.eos_evidence.specs.SpecFields.{SpecFields}
 use Rattle.eos_kept.specs.Faults.{first_of}
 use Rattle.eos_check.specs.Judged.{IsJudged}
 use Rattle.eos_check.specs.Verdicts.{IsVerdict}
@@ -12,4 +12,4 @@ returns g c =
     let logs = c.args.logs.now in
     if_ok c.judge.result (IsJudged c.spec-spec.result.now.apps logs.parts.items (first_of logs.faults.items)) (IsVerdict e)
     (λ v h. judged e c.spec-spec.ensures.evidence logs c.requires v
-    (subst (λ (s : Members). IsJudged s.apps logs.parts.items (first_of logs.faults.items) v) c.spec-spec.ensures.value h)) c.judge.ensures
+    (subst (λ (s : SpecFields). IsJudged s.apps logs.parts.items (first_of logs.faults.items) v) c.spec-spec.ensures.value h)) c.judge.ensures

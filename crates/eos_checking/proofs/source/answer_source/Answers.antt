@@ -1,6 +1,6 @@
 use Rattle.std.proofs.Common.{false, List, subst}
 use Rattle.eos_check.specs.declared.verdict.Fault.{Fault}
-use Rattle.eos_evidence.specs.Members.{Members}
+use Rattle.eos_evidence.specs.SpecFields.{SpecFields}
 use Rattle.eos_checking.specs.steps.Tellings.{TellsOf}
 use Rattle.eos_checking.proofs.SourceAnswers.{answer_is}
 use Rattle.eos_checking.proofs.source.answer_source.Goals as goal
@@ -9,6 +9,6 @@ pub returns : goal.returns
 returns g c =
     let asked = c.args.asked.now in
     let judged = c.in_ok-judged.judged in
-    let tells = subst (λ (s : Members). TellsOf s judged c.faults_of.result.now asked.subject asked.json false asked.quiet asked.terms asked.report c.in_ok-answer.answer) c.spec.ensures.value c.in_ok-answer.ensures in
+    let tells = subst (λ (s : SpecFields). TellsOf s judged c.faults_of.result.now asked.subject asked.json false asked.quiet asked.terms asked.report c.in_ok-answer.answer) c.spec.ensures.value c.in_ok-answer.ensures in
     let of_first = subst (λ (fs : List Fault). TellsOf c.args.pieces.shape.now.spec judged fs asked.subject asked.json false asked.quiet asked.terms asked.report c.in_ok-answer.answer) c.faults_of.ensures tells in
     answer_is _ c.args.pieces.shape.now asked.subject asked.json asked.quiet asked.terms asked.report judged _ c.in_ok-judged.ensures.judged of_first

@@ -1,5 +1,5 @@
 use Rattle.std.proofs.Common.{◌≡◌, take, map}
-use Rattle.eos_evidence.specs.Members.{outputs_of}
+use Rattle.eos_evidence.specs.SpecFields.{outputs_of}
 use Rattle.eos_commits.specs.steps.Roles.{plain_topic}
 use Rattle.eos_commits.proofs.roles.all_outputs.Given as goal
 

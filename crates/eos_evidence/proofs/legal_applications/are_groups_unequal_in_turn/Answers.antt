@@ -1,6 +1,6 @@
 use Rattle.std.proofs.Common.{◌∙◌, sym, ap, not, ◌&&◌, drop, ◌+◌}
 use Rattle.eos_evidence.specs.Topics.{are_unequal}
-use Rattle.eos_evidence.specs.Members.{groups_of}
+use Rattle.eos_evidence.specs.SpecFields.{groups_of}
 use Rattle.eos_evidence.proofs.LegalApps.{groups_step}
 use Rattle.eos_evidence.proofs.legal_applications.are_groups_unequal_in_turn.Goals as goal
 

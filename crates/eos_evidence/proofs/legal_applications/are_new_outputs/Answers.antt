@@ -1,6 +1,6 @@
 use Rattle.std.proofs.Common.{refl, ◌∙◌, sym, ap, not, ◌&&◌, ◌||◌, ◌++◌, ◌+◌, drop}
 use Rattle.eos_evidence.specs.Topics.{are_unequal}
-use Rattle.eos_evidence.specs.Members.{outputs_of}
+use Rattle.eos_evidence.specs.SpecFields.{outputs_of}
 use Rattle.eos_evidence.proofs.LegalApps.{names_step, among_outputs, first_holds, second_holds}
 use Rattle.eos_evidence.proofs.legal_applications.are_new_outputs.Goals.{then-is_one_of-via-then-is_one_of, then-is_one_of-via-else-is_one_of+then-is_output}
 use Rattle.eos_evidence.proofs.legal_applications.are_new_outputs.Goals as goal

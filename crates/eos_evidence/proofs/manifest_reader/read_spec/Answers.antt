@@ -2,7 +2,7 @@
 use Rattle.std.proofs.Common.{rules, refl, sym, ◌∙◌, Some, None}
 use Rattle.std.proofs.lemmas.Result.{err_from_is_err_and}
 use Rattle.serde_json.specs.View.{view}
-use Rattle.eos_evidence.specs.Members.{accepted}
+use Rattle.eos_evidence.specs.SpecFields.{accepted}
 use Rattle.eos_evidence.proofs.ManifestParts.{answers_fault, answers_same, version_refused, manifest_is}
 use Rattle.eos_evidence.proofs.manifest_reader.read_spec.Goals as goal
 

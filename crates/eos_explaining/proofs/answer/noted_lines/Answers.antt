@@ -1,5 +1,5 @@
 use Rattle.std.proofs.Common.{false, is_some, subst, string_bytes}
-use Rattle.eos_evidence.specs.Members.{Members}
+use Rattle.eos_evidence.specs.SpecFields.{SpecFields}
 use Rattle.eos_lineage.proofs.LogsInOrder.{in_order}
 use Rattle.eos_notes.specs.Lines.{IsNotesTextBy}
 use Rattle.eos_notes.proofs.Whole.{text_is}
@@ -11,5 +11,5 @@ returns c =
     let e = c.args.evidence.now in
     let logs = c.args.logs.now in
     let order = in_order e logs.parts.items c.spec.ensures.evidence c.requires.parts in
-    let by = subst (λ (s : Members). IsNotesTextBy s logs.parts.items (is_some (first_of logs.faults.items)) false (string_bytes c.in_ok-text.text)) c.spec.ensures.value (c.in_ok-text.ensures order) in
+    let by = subst (λ (s : SpecFields). IsNotesTextBy s logs.parts.items (is_some (first_of logs.faults.items)) false (string_bytes c.in_ok-text.text)) c.spec.ensures.value (c.in_ok-text.ensures order) in
     text_is e logs.parts.items logs.faults.items false (string_bytes c.in_ok-text.text) c.requires.parts c.requires.faults by

@@ -1,7 +1,7 @@
 use Rattle.std.proofs.Common.{◌≡◌, ◌∙◌, sym, subst, true, List, Option}
 use Rattle.eos_base.specs.Least.{IsLeast, IsLeastOrNone}
 use Rattle.eos_evidence.specs.declared.application.App.{App}
-use Rattle.eos_evidence.specs.Members.{groups_of}
+use Rattle.eos_evidence.specs.SpecFields.{groups_of}
 use Rattle.eos_evidence.specs.Topics.{are_unequal}
 use Rattle.eos_commits.specs.declared.fault.VisibleFault.{VisibleFault}
 use Rattle.eos_commits.specs.Faults.{visible_cmp, Stands}

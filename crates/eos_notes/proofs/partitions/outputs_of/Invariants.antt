@@ -1,5 +1,5 @@
 use Rattle.std.proofs.Common.{◌≡◌, take}
-use Rattle.eos_evidence.specs.Members.{outputs_of}
+use Rattle.eos_evidence.specs.SpecFields.{outputs_of}
 use Rattle.eos_notes.proofs.partitions.outputs_of.Given as goal
 
 abbrev pub invariant-loop-app : goal.invariant-loop-app

@@ -1,5 +1,5 @@
 use Rattle.std.proofs.Common.{◌≡◌, Some, None, sym, subst, rules}
-use Rattle.eos_evidence.specs.Members.{Members}
+use Rattle.eos_evidence.specs.SpecFields.{SpecFields}
 use Rattle.eos_fold.specs.LeastFaults.{IsFirstFault}
 use Rattle.eos_kept.specs.Faults.{first_of}
 use Rattle.eos_lineage.proofs.LogsInOrder.{in_order}
@@ -28,5 +28,5 @@ returns c = λ of faults.
     let list = c.in_ok-list-2.list.items in
     let found : first_of c.args.logs.now.faults.items ≡ None = search rules in
     let none : IsFirstFault logs None = subst (IsFirstFault logs) found (first_named e.partitions logs of c.args.logs.now.faults.items faults) in
-    let later = subst (λ (s : Members). AreLaterFaults s.apps logs list) c.spec-spec.ensures.value (c.in_ok-list-2.ensures (in_order e logs is of)) in
+    let later = subst (λ (s : SpecFields). AreLaterFaults s.apps logs list) c.spec-spec.ensures.value (c.in_ok-list-2.ensures (in_order e logs is of)) in
     (whole_later e logs of (none_in_partitions e logs of is none) list).0 later

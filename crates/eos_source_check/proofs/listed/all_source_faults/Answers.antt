@@ -1,6 +1,6 @@
 use Rattle.std.proofs.Common.{◌≡◌, List, length, take, Option, Some, None, ap, subst, ◌∙◌, rules}
 use Rattle.std.proofs.lemmas.Result.{err_from_is_err_and}
-use Rattle.eos_evidence.specs.Members.{Members}
+use Rattle.eos_evidence.specs.SpecFields.{SpecFields}
 use Rattle.eos_touch.specs.declared.fault.PartitionFault.{PartitionFault}
 use Rattle.eos_kept.specs.Faults.{first_of}
 use Rattle.eos_source_check.specs.LaterFaults.{AreLaterFaults}
@@ -28,7 +28,7 @@ returns-clause-ok g c =
     let logs = c.args.logs.now in
     let list = c.in_ok-list-2.list.items in
     let found : first_of logs.faults.items ≡ None = search rules in
-    later_listed known shape logs list found (λ order. subst (λ (s : Members). AreLaterFaults s.apps logs.parts.items list) c.spec-spec.ensures.value (c.in_ok-list-2.ensures order))
+    later_listed known shape logs list found (λ order. subst (λ (s : SpecFields). AreLaterFaults s.apps logs.parts.items list) c.spec-spec.ensures.value (c.in_ok-list-2.ensures order))
 
 pub returns-in-Some-clause-first : goal.returns-in-Some-clause-first
 returns-in-Some-clause-first g c =

@@ -1,7 +1,7 @@
 use Rattle.std.proofs.Common.{◌≡◌, ◌++◌, ◌∙◌, ap, map, take, subst, IsPermutation, arith}
 use Rattle.std.proofs.lemmas.List.Sorted.{IsPermutation-map}
 use Rattle.std.proofs.lemmas.List.{take_all}
-use Rattle.eos_evidence.specs.Members.{outputs_of}
+use Rattle.eos_evidence.specs.SpecFields.{outputs_of}
 use Rattle.eos_evidence.specs.declared.application.App.{App}
 use Rattle.eos_reading.specs.Names.{plain_name}
 use Rattle.eos_reading.proofs.TopicSearch.{pushed_more}

@@ -1,5 +1,5 @@
 use Rattle.std.proofs.Common.{◌≡◌, take, map}
-use Rattle.eos_evidence.specs.Members.{outputs_of}
+use Rattle.eos_evidence.specs.SpecFields.{outputs_of}
 use Rattle.eos_reading.specs.Names.{plain_name}
 use Rattle.eos_reading.proofs.wants.Wants.of.Given as goal
 

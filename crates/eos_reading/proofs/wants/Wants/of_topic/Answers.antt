@@ -1,5 +1,5 @@
 use Rattle.std.proofs.Common.{◌∙◌, sym, subst, IsPermutation}
-use Rattle.eos_evidence.specs.Members.{outputs_of}
+use Rattle.eos_evidence.specs.SpecFields.{outputs_of}
 use Rattle.eos_reading.proofs.TopicSearch.{found_in, wants_claims, wants_presence}
 use Rattle.eos_reading.proofs.wants.Wants.of_topic.Goals as goal
 

@@ -10,7 +10,7 @@ use Rattle.eos_evidence.specs.declared.fault.SpecFault.TheVariants as faults
 use Rattle.eos_evidence.specs.Ends.{end_cmp, is_legal_end, are_apart, ordered}
 use Rattle.eos_evidence.specs.Topics.{is_topic, is_internal, are_unequal}
 
-pub record Members : Type 0 where
+pub record SpecFields : Type 0 where
   pub apps : List App
   pub ends : List End
 
@@ -38,14 +38,14 @@ abbrev pub are_legal_ends : List End → Bool
 are_legal_ends ends = list_all is_legal_end ends && are_apart ends
 
 -- the parts with their ends by topic bytes, then number, or the first refusal
-unfoldable pub accepted : Members → Result Members SpecFault
+unfoldable pub accepted : SpecFields → Result SpecFields SpecFault
 accepted given =
     if are_legal_apps given.apps && are_legal_ends given.ends
     then (if nat_le (length given.apps) 256 && nat_le (length given.ends) 4096 then Ok (record given { ends = ordered given.ends }) else Err faults.Limit)
     else Err faults.Field
 
 -- no test refuses the parts, and the ends stand by topic bytes, then number
-pub record IsAccepted (parts : Members) : Type 0 where
+pub record IsAccepted (parts : SpecFields) : Type 0 where
   pub as_it_is : accepted parts ≡ Ok parts
   pub ascending : IsStrictlySortedBy end_cmp parts.ends
 
