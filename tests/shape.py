@@ -1,13 +1,13 @@
 #!/usr/bin/env -S python3 -B
-"""What is said of the crates as a whole: their order, their entries, their place in the documents, and how long things get.
+"""What is said of the crates as a whole: their order, their place in the map and among the tests, and how long things get.
 
     python3 -B tests/shape.py
 
-Each crate of crates.txt stands below those that name it, and names none that its sources don't; it has one entry in
-docs/ARCHITECTURE.md, stands in the picture there, and CONTRIBUTING.md says which tests are its own. No function has more than
-five parameters or 45 lines, its contract and its body together, and no file more than 400 lines. The code that names the kit's
-files, of which no contract can say what they hold, is in one crate and has at most 100 lines. The last line is
-'N passed, N failed'.
+Each crate of crates.txt stands below those that name it, and names none that its sources don't; it stands in the map of
+docs/ARCHITECTURE.md, and CONTRIBUTING.md says which tests are its own (tests/rooms.py looks at the rest that is said of it). No
+function has more than five parameters or 45 lines, its contract and its body together, and no file more than 400 lines. The code
+that names the kit's files, of which no contract can say what they hold, is in one crate and has at most 100 lines. The last line
+is 'N passed, N failed'.
 """
 import glob
 import os
@@ -110,13 +110,10 @@ def of_list(found, say):
 
 def of_documents(found, say):
     """The documents that speak of each crate."""
-    architecture = read("docs/ARCHITECTURE.md")
-    picture = architecture.partition("## The crates")[0]
-    entries = re.findall(r"^- \*\*`(\w+)`\*\*", architecture, re.M)
+    picture = read("docs/ARCHITECTURE.md").partition("## The ways")[0]
     tests = read("CONTRIBUTING.md")
     for name in found:
-        say(entries.count(name) == 1, f"docs/ARCHITECTURE.md: not one entry of {name}")
-        say(re.search(rf"\b{name}\b", picture), f"docs/ARCHITECTURE.md: the picture lacks {name}")
+        say(name in TESTS or re.search(rf"\b{name}\b", picture), f"docs/ARCHITECTURE.md: the map lacks {name}")
         say(name in TESTS or f"`{name}`" in tests, f"CONTRIBUTING.md: no tests of {name}")
 
 

@@ -10,8 +10,10 @@ passes 'what carries each promise' python3 -B tests/promises.py
 passes 'what Good reaches' python3 -B tests/good_reaches.py
 # what no public contract reaches stands in specs/steps
 passes 'definitions that no public contract reaches' python3 -B tests/specs_steps.py
-# crates in their order, in the documents, and functions of few parameters
+# crates in their order, in the map, and functions of few parameters
 passes 'the shape of the crates' python3 -B tests/shape.py
+# a line and a README for each crate, and no document that names one which is gone
+passes 'what is said of each crate' python3 -B tests/rooms.py
 # each public call that can answer want of memory, by a row of a table, a test or a run
 passes 'tests/allocating.txt' python3 -B tests/allocating.py
 end
