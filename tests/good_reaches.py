@@ -25,8 +25,8 @@ FOLDER = [
     ("eos_checking.specs.Folders", "HoldsOf"),
     ("eos_checking.specs.Folders", "IsToldOf"),
     ("eos_checking.specs.Checking", "IsCheckAnswer"),
-    ("eos_folder.specs.Shapes", "AreKnown"),
-    ("eos_folder_source.specs.Saying", "StandsAt"),
+    ("eos_disk.specs.Shapes", "AreKnown"),
+    ("eos_source.specs.Saying", "StandsAt"),
     ("eos_text.specs.Writing", "WritesFrontOf"),
 ]
 PAGE = "docs/YES.md"
@@ -39,7 +39,7 @@ OF_THE_CHECKER = (
     ("eos_touch.specs.Pair", "stands"),
     ("eos_touch.specs.FaultNames", None),
     ("eos_touch.specs.declared.fault.PartitionFault", None),
-    ("eos_summary.specs.Summaries", None),
+    ("eos_fold.specs.Summaries", None),
     ("eos_fold.specs.Standing", None),
     ("eos_fold.specs.Sums", None),
     ("eos_fold.specs.Fronts", "IsFront"),

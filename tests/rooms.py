@@ -7,13 +7,15 @@ the table of tasks in tests/rooms.txt.
 Each crate of crates.txt has one line in the list of docs/ARCHITECTURE.md, which has at most 150 lines, and a README.md: its name,
 its purpose, `## Promises` and `## Why one crate`, at most 40 lines and 1,800 bytes. A promise begins with the calls that keep it,
 each with names of its clauses or of definitions that these cite, as "`call`, `Type::call` (`clause`, `definition`); `laws::law`: ..".
-Each such call is public in the crate's sources, and each such name stands in its contract. No document names a crate that isn't there.
+Each such call is exported by the crate, and each such name stands in its contract. No document names a crate that isn't there.
 Each task of tests/rooms.txt leads to a crate. The last line is 'N passed, N failed'.
 """
 import glob
 import os
 import re
 import sys
+
+from allocating import exported
 
 MOST_LINES_OF_THE_MAP = 150
 MOST_LINES = 40
@@ -62,13 +64,16 @@ def blocks(text):
 
 
 def calls(crate):
-    """The contracts of each public call of a crate, by its name, with its type or module before it where it has one."""
+    """The contracts of each call that a crate exports, by its name, with its type or module before it where it has one."""
+    names = exported(crate) if os.path.exists(f"crates/{crate}/src/lib.rt") else {"main"}
     found = {}
     for path in glob.glob(f"crates/{crate}/src/**/*.rt", recursive=True):
         module = os.path.basename(path)[: -len(".rt")]
         for owner, public, name, contract in blocks(read(path)):
-            if public:
-                for key in [f"{owner}::{name}"] if owner else [name, f"{module}::{name}"]:
+            if public and owner in names:
+                found.setdefault(f"{owner}::{name}", []).append(contract)
+            elif public and not owner:
+                for key in [name] * (name in names) + [f"{module}::{name}"] * (module in names):
                     found.setdefault(key, []).append(contract)
     return found
 
