@@ -8,7 +8,8 @@ Each crate of crates.txt has one line in the list of docs/ARCHITECTURE.md, which
 its purpose, `## Promises` and `## Why one crate`, at most 40 lines and 1,800 bytes. A promise begins with the calls that keep it,
 each with names of its clauses or of definitions that these cite, as "`call`, `Type::call` (`clause`, `definition`); `laws::law`: ..".
 Each such call is exported by the crate, and each such name stands in its contract. No document names a crate that isn't there.
-Each task of tests/rooms.txt leads to a crate. The last line is 'N passed, N failed'.
+Each path that a document names is there, and a task of CONTRIBUTING.md has at most ten places. Each task of tests/rooms.txt leads to
+a crate. The last line is 'N passed, N failed'.
 """
 import glob
 import os
@@ -31,6 +32,10 @@ NAME = re.compile(r"`([\w:]+)`")
 CRATE = re.compile(r"\beos_\w+")
 # Words of this form that are no crates.
 NO_CRATES = {"eos_"}
+PATH = re.compile(r"`((?:crates|tests|docs|tools|bench|edits|examples)/[^` ]*)`")
+# Paths in which a part stands for any.
+ANY = re.compile(r"NAME|\bX\b|CRATE|\bPART\b")
+PLACES = 10
 
 
 def read(path):
@@ -121,11 +126,32 @@ def of_map(found, say):
         say(listed.count(crate) == 1, f"docs/ARCHITECTURE.md: not one line of {crate}")
 
 
+def documents():
+    """The documents, each with its text."""
+    for path in ["README.md", "CONTRIBUTING.md", "bench/README.md", *sorted(glob.glob("docs/*.md") + glob.glob("crates/*/README.md"))]:
+        yield path, read(path)
+
+
+def of_paths(say):
+    """The paths that documents name."""
+    for document, text in documents():
+        for path in sorted(set(PATH.findall(text))):
+            say(ANY.search(path) or glob.glob(path), f"{document}: no {path}")
+
+
+def of_places(say):
+    """The places of each task of CONTRIBUTING.md."""
+    tasks = read("CONTRIBUTING.md").partition("## Five tasks")[2].partition("\n## ")[0].split("\n### ")[1:]
+    say(len(tasks) == 5, f"CONTRIBUTING.md has {len(tasks)} tasks")
+    for task in tasks:
+        places = len(re.findall(r"^\d+\. ", task, re.M))
+        say(0 < places <= PLACES, f"CONTRIBUTING.md: {task.splitlines()[0]} has {places} places")
+
+
 def of_names(found, say):
     """No document, and no comment of a source, names a crate that isn't there."""
-    paths = ["README.md", "CONTRIBUTING.md", "bench/README.md"] + glob.glob("docs/*.md") + glob.glob("crates/*/README.md")
-    for path in sorted(path for path in paths if os.path.exists(path)):
-        gone = sorted(set(CRATE.findall(read(path))) - set(found) - NO_CRATES)
+    for path, text in documents():
+        gone = sorted(set(CRATE.findall(text)) - set(found) - NO_CRATES)
         say(not gone, f"{path} names {', '.join(gone)}")
     for ending, mark in (("rt", "//"), ("antt", "--")):
         for path in sorted(glob.glob(f"crates/*/*/**/*.{ending}", recursive=True)):
@@ -157,6 +183,8 @@ def main():
     found = crates()
     of_map(found, say)
     of_names(found, say)
+    of_paths(say)
+    of_places(say)
     of_tasks(found, say)
     for crate in found:
         of_readme(crate, say)
