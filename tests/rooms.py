@@ -8,8 +8,9 @@ Each crate of crates.txt has one line in the list of docs/ARCHITECTURE.md, which
 its purpose, `## Promises` and `## Why one crate`, at most 40 lines and 1,800 bytes. A promise begins with the calls that keep it,
 each with names of its clauses or of definitions that these cite, as "`call`, `Type::call` (`clause`, `definition`); `laws::law`: ..".
 Each such call is exported by the crate, and each such name stands in its contract. No document names a crate that isn't there.
-Each path that a document names is there, and a task of CONTRIBUTING.md has at most ten places. Each task of tests/rooms.txt leads to
-a crate. The last line is 'N passed, N failed'.
+Each path that a document names is there, a task of CONTRIBUTING.md has at most ten places, and README.md, CONTRIBUTING.md and what of
+docs/*.md isn't made by a script have at most 200 KiB together. Each task of tests/rooms.txt leads to a crate. The last line is
+'N passed, N failed'.
 """
 import glob
 import os
@@ -36,6 +37,9 @@ PATH = re.compile(r"`((?:crates|tests|docs|tools|bench|edits|examples)/[^` ]*)`"
 # Paths in which a part stands for any.
 ANY = re.compile(r"NAME|\bX\b|CRATE|\bPART\b")
 PLACES = 10
+MOST_KIB_OF_DOCUMENTS = 200
+# A page that a script makes of the program's own table.
+MADE = {"docs/FAULTS.md"}
 
 
 def read(path):
@@ -139,6 +143,13 @@ def of_paths(say):
             say(ANY.search(path) or glob.glob(path), f"{document}: no {path}")
 
 
+def of_size(say):
+    """How large the documents are that are written by hand."""
+    written = ["README.md", "CONTRIBUTING.md", *sorted(set(glob.glob("docs/*.md")) - MADE)]
+    size = sum(os.path.getsize(path) for path in written)
+    say(size <= MOST_KIB_OF_DOCUMENTS * 1024, f"the documents have {size} bytes")
+
+
 def of_places(say):
     """The places of each task of CONTRIBUTING.md."""
     tasks = read("CONTRIBUTING.md").partition("## Five tasks")[2].partition("\n## ")[0].split("\n### ")[1:]
@@ -184,6 +195,7 @@ def main():
     of_map(found, say)
     of_names(found, say)
     of_paths(say)
+    of_size(say)
     of_places(say)
     of_tasks(found, say)
     for crate in found:
