@@ -67,6 +67,12 @@ TABLE = {
 }
 # Rust's own names for taking a value apart, and a record's fields in the decoder, which stands below all that has partitions.
 ELSEWHERE = {"into_parts", "of_parts"}
+# Public calls that had their names before the words had one meaning: what runs is a command, a script, a list of events.
+GIVEN = {
+    "eos_board": {"run"},
+    "eos_drive": {"run_kept", "run_script", "run_tail", "run_tail_kept", "run_threads", "run_with"},
+    "eos_segment": {"RunFault"},
+}
 BELOW = {"eos_batch": {"Parts", "parts_of", "own_parts"}}
 
 
@@ -97,7 +103,7 @@ def named():
         with open(path, encoding="utf-8") as file:
             text = file.read()
         for name in SAID.findall(text):
-            if name in ELSEWHERE or name in BELOW.get(crate, ()):
+            if name in ELSEWHERE or name in BELOW.get(crate, ()) or name in GIVEN.get(crate, ()):
                 continue
             for word in words_of(name) & set(WORDS):
                 found.setdefault((word, crate, name), path)

@@ -74,7 +74,7 @@ impl PoolCore {
     ///
     /// # Errors
     /// Only want of memory for the list. No event was taken then.
-    pub fn take_all(&mut self, events: &[PoolEvent]) -> Result<Vec<PoolReply>, AllocError>
+    pub fn run(&mut self, events: &[PoolEvent]) -> Result<Vec<PoolReply>, AllocError>
         ensures course { IfOk result (λ replies. IsCourse self.old events.now replies.items self.new) }
         ensures same { IfErr result (λ _. self.new ≡ self.old) }
         ensures sound { IsSound self.new }

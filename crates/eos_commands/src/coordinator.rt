@@ -10,7 +10,7 @@ use crate::init::refuse;
 use eos_disk::Cause;
 use eos_ending::{Ending, STANDARD, end};
 use eos_manifest::coordinator_lines;
-use eos_segment::CommandFault;
+use eos_segment::RunFault;
 use eos_text::finish;
 use eos_words::Coordinator;
 use std::alloc::Global;
@@ -50,11 +50,11 @@ pub fn coordinators_to<W: Write>(
     partitions: u64,
     names: &[&str],
     writer: &mut W,
-) -> Result<u8, CommandFault>
+) -> Result<u8, RunFault>
     requires { 0 < partitions }
     ensures ok { OnOk result (Appends (W.contents writer.old) (W.contents writer.new) (coordinator_lines partitions (map (λ n. n.now) names.now))) }
-    ensures write { result ≡ Err CommandFault.Write → WritesFront (W.contents writer.old) (W.contents writer.new) (coordinator_lines partitions (map (λ n. n.now) names.now)) }
-    ensures memory { result ≡ Err CommandFault.OutOfMemory → Keeps (W.contents writer.old) (W.contents writer.new) }
+    ensures write { result ≡ Err RunFault.Write → WritesFront (W.contents writer.old) (W.contents writer.new) (coordinator_lines partitions (map (λ n. n.now) names.now)) }
+    ensures memory { result ≡ Err RunFault.OutOfMemory → Keeps (W.contents writer.old) (W.contents writer.new) }
     ensures only { OnErr result (IsOfReading result → ⊥) }
 {
     let text = coordinator_lines(alloc, partitions, names)?;

@@ -8,7 +8,7 @@ ghost use Rattle.eos_segment.specs.Running.{IsOfReading};
 
 use eos_disk::Cause;
 use eos_ending::{Ending, STANDARD, end};
-use eos_segment::CommandFault;
+use eos_segment::RunFault;
 use eos_text::{Page, finish, page_of, page_text};
 use std::alloc::Global;
 use std::io;
@@ -33,10 +33,10 @@ pub fn explain_code(rt: &HostRuntime, code: &str) -> u8 {
 ///
 /// # Errors
 /// At `Write` a front of it was written, at `OutOfMemory` nothing. There is no other refusal.
-pub fn page_to<W: Write>(alloc: Global, page: &Page, writer: &mut W) -> Result<u8, CommandFault>
+pub fn page_to<W: Write>(alloc: Global, page: &Page, writer: &mut W) -> Result<u8, RunFault>
     ensures ok { OnOk result (Appends (W.contents writer.old) (W.contents writer.new) (page_text page.now)) }
-    ensures write { result ≡ Err CommandFault.Write → WritesFront (W.contents writer.old) (W.contents writer.new) (page_text page.now) }
-    ensures memory { result ≡ Err CommandFault.OutOfMemory → Keeps (W.contents writer.old) (W.contents writer.new) }
+    ensures write { result ≡ Err RunFault.Write → WritesFront (W.contents writer.old) (W.contents writer.new) (page_text page.now) }
+    ensures memory { result ≡ Err RunFault.OutOfMemory → Keeps (W.contents writer.old) (W.contents writer.new) }
     ensures only { OnErr result (IsOfReading result → ⊥) }
 {
     let text = page_text(alloc, page)?;

@@ -3,7 +3,7 @@
 use crate::decoding::options_of;
 use eos_disk::{Cause, HostDisk};
 use eos_ending::{Ending, STANDARD, end};
-use eos_segment::{CommandFault, chain_file, chain_to, dump_file, dump_to};
+use eos_segment::{RunFault, chain_file, chain_to, dump_file, dump_to};
 use eos_words::Answer;
 use std::io;
 
@@ -29,20 +29,17 @@ pub fn answer_segment(rt: &HostRuntime, answer: Answer<'_>, file: &str) -> u8 {
 }
 
 /// Why there is no answer about this file, where it is the file's.
-fn cause_of_none(rt: &HostRuntime, answered: Result<u8, CommandFault>, file: &str) -> Cause {
+fn cause_of_none(rt: &HostRuntime, answered: Result<u8, RunFault>, file: &str) -> Cause {
     match answered {
-        Err(CommandFault::Read) if file == STANDARD => Cause::of_reader(
-            rt.alloc(),
-            &mut rt.reader(),
-        ),
-        Err(CommandFault::Read) => Cause::of_file(rt.alloc(), &HostDisk { rt }, file),
-        Err(CommandFault::Limit) => Cause::long_file(rt.alloc(), file),
+        Err(RunFault::Read) if file == STANDARD => Cause::of_reader(rt.alloc(), &mut rt.reader()),
+        Err(RunFault::Read) => Cause::of_file(rt.alloc(), &HostDisk { rt }, file),
+        Err(RunFault::Limit) => Cause::long_file(rt.alloc(), file),
         _ => Cause::Unknown,
     }
 }
 
 /// Answers about the segment in the file of this path, on standard output.
-fn answer_file(rt: &HostRuntime, answer: Answer<'_>, path: &str) -> Result<u8, CommandFault> {
+fn answer_file(rt: &HostRuntime, answer: Answer<'_>, path: &str) -> Result<u8, RunFault> {
     let mut writer = io::writer(rt);
     match answer {
         Answer::Listing(words) => {
@@ -54,7 +51,7 @@ fn answer_file(rt: &HostRuntime, answer: Answer<'_>, path: &str) -> Result<u8, C
 }
 
 /// Answers about the segment on standard input, on standard output.
-fn answer_input(rt: &HostRuntime, answer: Answer<'_>) -> Result<u8, CommandFault> {
+fn answer_input(rt: &HostRuntime, answer: Answer<'_>) -> Result<u8, RunFault> {
     let mut writer = io::writer(rt);
     match answer {
         Answer::Listing(words) => {

@@ -9,7 +9,7 @@ ghost use Rattle.eos_segment.specs.Running.{IsOfReading};
 use crate::{Compared, Found, found_text, status_of, verify_folds};
 use eos_disk::{Cause, HostDisk};
 use eos_ending::{Ending, STANDARD, Subject, end, end_unread};
-use eos_segment::CommandFault;
+use eos_segment::RunFault;
 use eos_text::finish;
 use std::alloc::Global;
 use std::io;
@@ -42,14 +42,10 @@ fn tell(rt: &HostRuntime, folder: &str, found: &[Found]) -> u8 {
 ///
 /// # Errors
 /// At `Write` a front of the lines was written, at `OutOfMemory` nothing. There is no other refusal.
-pub fn found_to<W: Write>(
-    alloc: Global,
-    found: &[Found],
-    writer: &mut W,
-) -> Result<u8, CommandFault>
+pub fn found_to<W: Write>(alloc: Global, found: &[Found], writer: &mut W) -> Result<u8, RunFault>
     ensures ok { IfOk result (λ status. (status ≡ status_of found.now) × Appends (W.contents writer.old) (W.contents writer.new) (found_text found.now)) }
-    ensures write { result ≡ Err CommandFault.Write → WritesFront (W.contents writer.old) (W.contents writer.new) (found_text found.now) }
-    ensures memory { result ≡ Err CommandFault.OutOfMemory → Keeps (W.contents writer.old) (W.contents writer.new) }
+    ensures write { result ≡ Err RunFault.Write → WritesFront (W.contents writer.old) (W.contents writer.new) (found_text found.now) }
+    ensures memory { result ≡ Err RunFault.OutOfMemory → Keeps (W.contents writer.old) (W.contents writer.new) }
     ensures only { OnErr result (IsOfReading result → ⊥) }
 {
     let text = found_text(alloc, found)?;

@@ -29,12 +29,12 @@ use std::mem;
 ///
 /// # Errors
 /// Where a growth was refused. The cluster has taken some of the events.
-pub fn drive_script(alloc: Global, cluster: &mut Cluster, script: &Script) -> Result<(), AllocError>
+pub fn run_script(alloc: Global, cluster: &mut Cluster, script: &Script) -> Result<(), AllocError>
     ensures driven { IsDriven cluster.old cluster.new }
     ensures config { cluster.new.config ≡ cluster.old.config }
     ensures honest { cluster.new.honest ≡ cluster.old.honest }
 {
-    drive_with(alloc, cluster, script, &Settings::today())?;
+    run_with(alloc, cluster, script, &Settings::today())?;
     Ok(())
 }
 
@@ -43,7 +43,7 @@ pub fn drive_script(alloc: Global, cluster: &mut Cluster, script: &Script) -> Re
 ///
 /// # Errors
 /// Where a growth was refused. The cluster has taken some of the events.
-pub fn drive_with(
+pub fn run_with(
     alloc: Global,
     cluster: &mut Cluster,
     script: &Script,
@@ -64,7 +64,7 @@ pub fn drive_with(
 ///
 /// # Errors
 /// Where a growth was refused, that of the history among them. The cluster has taken some of the events, which are kept.
-pub fn drive_kept(
+pub fn run_kept(
     alloc: Global,
     cluster: &mut Cluster,
     history: &mut History,

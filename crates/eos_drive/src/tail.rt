@@ -23,7 +23,7 @@ const MOST_MARKERS: u64 = 64;
 ///
 /// # Errors
 /// Where a growth was refused. The cluster has taken some of the events.
-pub fn drive_tail(cluster: &mut Cluster, switch: Switch) -> Result<(), AllocError>
+pub fn run_tail(cluster: &mut Cluster, switch: Switch) -> Result<(), AllocError>
     ensures driven { IsDriven cluster.old cluster.new }
     ensures config { cluster.new.config ≡ cluster.old.config }
     ensures honest { cluster.new.honest ≡ cluster.old.honest }
@@ -38,7 +38,7 @@ pub fn drive_tail(cluster: &mut Cluster, switch: Switch) -> Result<(), AllocErro
 ///
 /// # Errors
 /// Where a growth was refused, that of the history among them. The cluster has taken some of the events, which are kept.
-pub fn drive_tail_kept(
+pub fn run_tail_kept(
     alloc: Global,
     cluster: &mut Cluster,
     history: &mut History,

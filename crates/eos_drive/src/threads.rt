@@ -105,7 +105,7 @@ fn call_all<L: Ledger>(rt: &impl Wait, shared: &Shared<L>, caller: Caller<L>) ->
 ///
 /// # Errors
 /// A growth was refused outside the cluster. What its events were is lost then.
-pub fn drive_threads<L: Ledger + Send + Sync, R: Threads + Wait + Sync>(
+pub fn run_threads<L: Ledger + Send + Sync, R: Threads + Wait + Sync>(
     rt: &R,
     alloc: Global,
     shared: Shared<L>,

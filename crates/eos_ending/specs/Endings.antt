@@ -3,8 +3,8 @@ use Rattle.std.specs.Prelude.{ℕ, List, [], ◌++◌, codes, Bool, true, false,
 use Rattle.eos_evidence.specs.Names.{spec_fault_name}
 use Rattle.eos_disk.specs.declared.cause.Cause.{Cause}
 use Rattle.eos_disk.specs.Causes.{cause_text, is_unknown}
-use Rattle.eos_segment.specs.declared.fault.CommandFault.{CommandFault}
-use Rattle.eos_segment.specs.declared.fault.CommandFault.TheVariants as faults
+use Rattle.eos_segment.specs.declared.fault.RunFault.{RunFault}
+use Rattle.eos_segment.specs.declared.fault.RunFault.TheVariants as faults
 use Rattle.eos_ending.specs.declared.ending.Ending.{Ending}
 use Rattle.eos_ending.specs.declared.ending.Ending.TheVariants.{Answered, Helped, BadWords, NotText, CannotRead, CannotWrite, Manifest, Refused, NoSuchCode, Unfit, NotAtRest, Limit, OutOfMemory}
 
@@ -82,7 +82,7 @@ abbrev pub told_text : List ℕ → Ending → List ℕ
 told_text about ending = if is_silent ending then [] else about ++ (message_of ending ++ cause_line about (cause_of ending))
 
 -- the exit status of a command that answered so
-abbrev pub status_after : Result ℕ CommandFault → ℕ
+abbrev pub status_after : Result ℕ RunFault → ℕ
 status_after (Ok status) = status
 status_after (Err faults.Read) = 2
 status_after (Err faults.Limit) = 2
@@ -90,7 +90,7 @@ status_after (Err faults.Write) = 2
 status_after (Err faults.OutOfMemory) = 3
 
 -- what is said after it, of the input and the output with these names
-abbrev pub message_after : Result ℕ CommandFault → List ℕ → List ℕ → List ℕ
+abbrev pub message_after : Result ℕ RunFault → List ℕ → List ℕ → List ℕ
 message_after (Ok status) input output = []
 message_after (Err faults.Read) input output = codes "eoscheck: cannot read " ++ (input ++ codes "\n")
 message_after (Err faults.Limit) input output = codes "eoscheck: limit\n"
@@ -98,7 +98,7 @@ message_after (Err faults.Write) input output = codes "eoscheck: cannot write " 
 message_after (Err faults.OutOfMemory) input output = codes "eoscheck: out of memory\n"
 
 -- why, where it hasn't read its input
-abbrev pub cause_after : Result ℕ CommandFault → Cause → Option Cause
+abbrev pub cause_after : Result ℕ RunFault → Cause → Option Cause
 cause_after (Ok status) cause = None
 cause_after (Err faults.Read) cause = Some cause
 cause_after (Err faults.Limit) cause = Some cause

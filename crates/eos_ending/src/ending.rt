@@ -7,7 +7,7 @@ ghost use Rattle.eos_ending.specs.Subjects.{subject_text};
 use crate::subject::Subject;
 use eos_disk::Cause;
 use eos_evidence::SpecFault;
-use eos_segment::CommandFault;
+use eos_segment::RunFault;
 use std::fmt::{Display, Formatter, Write};
 
 /// How a run ended, or its part that is about one folder. Printed, it is the first line that standard error is told, or nothing.
@@ -44,7 +44,7 @@ pub enum Ending<'a> {
 impl<'a> Ending<'a> {
     /// How a run ended that read this input and wrote its answer to this output. Where it didn't read it, this is why.
     pub fn of_answer(
-        answer: Result<u8, CommandFault>,
+        answer: Result<u8, RunFault>,
         input: &'a str,
         output: &'a str,
         cause: &'a Cause,
@@ -55,10 +55,10 @@ impl<'a> Ending<'a> {
     {
         match answer {
             Ok(status) => Ending::Answered(status),
-            Err(CommandFault::Read) => Ending::CannotRead(input, cause),
-            Err(CommandFault::Write) => Ending::CannotWrite(output),
-            Err(CommandFault::Limit) => Ending::Limit(cause),
-            Err(CommandFault::OutOfMemory) => Ending::OutOfMemory,
+            Err(RunFault::Read) => Ending::CannotRead(input, cause),
+            Err(RunFault::Write) => Ending::CannotWrite(output),
+            Err(RunFault::Limit) => Ending::Limit(cause),
+            Err(RunFault::OutOfMemory) => Ending::OutOfMemory,
         }
     }
 

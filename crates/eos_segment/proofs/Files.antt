@@ -9,8 +9,8 @@ use Rattle.eos_text.specs.Writing.{Writes, WritesFrontOf}
 use Rattle.eos_segment.specs.Files.{IsToldOf, IsToldOfBytes, IsLong}
 use Rattle.eos_segment.specs.Running.{Ran, ReadsSegment}
 use Rattle.eos_segment.specs.steps.Opening.{IsUnopened}
-use Rattle.eos_segment.specs.declared.fault.CommandFault.{CommandFault}
-use Rattle.eos_segment.specs.declared.fault.CommandFault.TheVariants as faults
+use Rattle.eos_segment.specs.declared.fault.RunFault.{RunFault}
+use Rattle.eos_segment.specs.declared.fault.RunFault.TheVariants as faults
 
 -- all that was left are the bytes of the file
 all_left : (bytes known : List ℕ) (rest : Option (List ℕ)) → Consumes (Some known) rest bytes → IsAtEnd rest → bytes ≡ known
@@ -34,7 +34,7 @@ long_of (File known) left rest leaves taken = long_left taken.0 known rest taken
 long_of (Folder names) left rest leaves taken = absurd leaves
 
 -- what was done with a reader's bytes was done with its file's
-pub over_file : (Answers : List ℕ → List ℕ → ℕ → Type 0) (entry : Entry) (left rest old new : Option (List ℕ)) (result : Result ℕ CommandFault)
+pub over_file : (Answers : List ℕ → List ℕ → ℕ → Type 0) (entry : Entry) (left rest old new : Option (List ℕ)) (result : Result ℕ RunFault)
     → Leaves entry left → Ran Answers left rest old new result → IsToldOf Answers entry old new result
 over_file Answers entry left rest old new (Ok status) leaves h = record { bytes = h.bytes; is = read_of entry left rest h.bytes leaves h.read; within = h.read.within; written = h.written }
 over_file Answers entry left rest old new (Err faults.Read) leaves h = h.1
@@ -45,13 +45,13 @@ over_file Answers entry left rest old new (Err faults.OutOfMemory) leaves (inr h
     inr (record { bytes = h.bytes; is = read_of entry left rest h.bytes leaves h.read; within = h.read.within; written = h.written })
 
 -- nothing was written about a file that wasn't opened
-pub not_opened : (Answers : List ℕ → List ℕ → ℕ → Type 0) (entry : Entry) (old : Option (List ℕ)) (fault : CommandFault) → IsUnopened fault → IsToldOf Answers entry old old (Err fault)
+pub not_opened : (Answers : List ℕ → List ℕ → ℕ → Type 0) (entry : Entry) (old : Option (List ℕ)) (fault : RunFault) → IsUnopened fault → IsToldOf Answers entry old old (Err fault)
 not_opened Answers entry old faults.Read u = Keeps-refl old
 not_opened Answers entry old faults.Limit u = absurd u
 not_opened Answers entry old faults.Write u = absurd u
 not_opened Answers entry old faults.OutOfMemory u = inl (Keeps-refl old)
 
-of_bytes : (Answers : List ℕ → List ℕ → ℕ → Type 0) (bytes : List ℕ) (old new : Option (List ℕ)) (result : Result ℕ CommandFault) → IsToldOf Answers (File bytes) old new result → IsToldOfBytes Answers bytes old new result
+of_bytes : (Answers : List ℕ → List ℕ → ℕ → Type 0) (bytes : List ℕ) (old new : Option (List ℕ)) (result : Result ℕ RunFault) → IsToldOf Answers (File bytes) old new result → IsToldOfBytes Answers bytes old new result
 of_bytes Answers bytes old new (Ok status) h = subst (λ (l : List ℕ). Writes (Answers l) old new status) h.is h.written
 of_bytes Answers bytes old new (Err faults.Read) h = h
 of_bytes Answers bytes old new (Err faults.Limit) h = h
@@ -60,6 +60,6 @@ of_bytes Answers bytes old new (Err faults.OutOfMemory) (inl h) = inl h
 of_bytes Answers bytes old new (Err faults.OutOfMemory) (inr h) = inr (subst (λ (l : List ℕ). WritesFrontOf (Answers l) old new) h.is h.written)
 
 -- a known file is answered about by its bytes
-pub known_file : (Answers : List ℕ → List ℕ → ℕ → Type 0) (entry : Entry) (bytes : List ℕ) (old new : Option (List ℕ)) (result : Result ℕ CommandFault)
+pub known_file : (Answers : List ℕ → List ℕ → ℕ → Type 0) (entry : Entry) (bytes : List ℕ) (old new : Option (List ℕ)) (result : Result ℕ RunFault)
     → entry ≡ File bytes → IsToldOf Answers entry old new result → IsToldOfBytes Answers bytes old new result
 known_file Answers entry bytes old new result e h = of_bytes Answers bytes old new result (subst (λ (x : Entry). IsToldOf Answers x old new result) e h)

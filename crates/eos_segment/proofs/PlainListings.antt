@@ -7,8 +7,8 @@ use Rattle.std.specs.Prelude.{if◌then◌else◌}
 use Rattle.eos_batch.specs.declared.batch.Batch.{Batch}
 use Rattle.eos_batch.specs.declared.record.Record.{Record}
 use Rattle.eos_batch.specs.Rules.{IsCounted}
-use Rattle.eos_segment.specs.declared.fault.CommandFault.{CommandFault}
-use Rattle.eos_segment.specs.declared.fault.CommandFault.TheVariants as faults
+use Rattle.eos_segment.specs.declared.fault.RunFault.{RunFault}
+use Rattle.eos_segment.specs.declared.fault.RunFault.TheVariants as faults
 use Rattle.eos_segment.specs.declared.options.ListingOptions.{ListingOptions}
 use Rattle.eos_segment.specs.Choosing.{plain_options, is_asked, chosen_record, chosen_records, asks_for_one, chosen_lines, IsChosenListing}
 use Rattle.eos_segment.specs.Lines.{record_line, record_lines, batch_line}
@@ -49,7 +49,7 @@ lists_plain byte bytes (b ∷ bs) text status h =
 
 -- what answers in one sense answers in another
 pub also : (A B : List ℕ → List ℕ → ℕ → Type 0) → ((bytes text : List ℕ) (status : ℕ) → A bytes text status → B bytes text status)
-    → (left rest old new : Option (List ℕ)) (result : Result ℕ CommandFault) → Ran A left rest old new result → Ran B left rest old new result
+    → (left rest old new : Option (List ℕ)) (result : Result ℕ RunFault) → Ran A left rest old new result → Ran B left rest old new result
 also A B f left rest old new (Ok status) h = record { bytes = h.bytes; read = h.read; written = (h.written.0, f h.bytes h.written.0 status h.written.1, h.written.2) }
 also A B f left rest old new (Err faults.Read) h = h
 also A B f left rest old new (Err faults.Limit) h = h
@@ -57,7 +57,7 @@ also A B f left rest old new (Err faults.Write) h = record { bytes = h.bytes; re
 also A B f left rest old new (Err faults.OutOfMemory) (inl h) = inl h
 also A B f left rest old new (Err faults.OutOfMemory) (inr h) = inr (record { bytes = h.bytes; read = h.read; written = (h.written.0, h.written.1, f h.bytes h.written.0 h.written.1 h.written.2, h.written.3) })
 
-pub plain_run : (o : ListingOptions) (left rest old new : Option (List ℕ)) (result : Result ℕ CommandFault) → o ≡ plain_options
+pub plain_run : (o : ListingOptions) (left rest old new : Option (List ℕ)) (result : Result ℕ RunFault) → o ≡ plain_options
     → Ran (IsChosenListing o) left rest old new result → Ran IsListing left rest old new result
 plain_run o left rest old new result e h =
     let plain : Ran (IsChosenListing plain_options) left rest old new result = subst (λ (o : ListingOptions). Ran (IsChosenListing o) left rest old new result) e h in

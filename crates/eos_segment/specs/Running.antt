@@ -4,8 +4,8 @@ use Rattle.std.specs.Prelude.{ℕ, ◌+◌, ◌^◌, ◌≤◌, List, length, Op
 use Rattle.std.specs.Io.KnownBytes.{Keeps, Consumes, IsAtEnd}
 use Rattle.eos_evidence.specs.Reading.{Takes, TakesAtMost}
 use Rattle.eos_text.specs.Writing.{Writes, WritesFrontOf}
-use Rattle.eos_segment.specs.declared.fault.CommandFault.{CommandFault}
-use Rattle.eos_segment.specs.declared.fault.CommandFault.TheVariants as faults
+use Rattle.eos_segment.specs.declared.fault.RunFault.{RunFault}
+use Rattle.eos_segment.specs.declared.fault.RunFault.TheVariants as faults
 
 -- all that the reader had was read: these bytes, and no more than a segment may have
 pub record ReadsSegment (left rest : Option (List ℕ)) (bytes : List ℕ) : Type 0 where
@@ -29,7 +29,7 @@ pub record AnsweredInPart (Answers : List ℕ → List ℕ → ℕ → Type 0) (
 abbrev pub StopsReading : ℕ → Option (List ℕ) → Option (List ℕ) → Option (List ℕ) → Option (List ℕ) → Type 0
 StopsReading most left rest old new = TakesAtMost most left rest × Keeps old new
 
-abbrev pub Ran : (List ℕ → List ℕ → ℕ → Type 0) → Option (List ℕ) → Option (List ℕ) → Option (List ℕ) → Option (List ℕ) → Result ℕ CommandFault → Type 0
+abbrev pub Ran : (List ℕ → List ℕ → ℕ → Type 0) → Option (List ℕ) → Option (List ℕ) → Option (List ℕ) → Option (List ℕ) → Result ℕ RunFault → Type 0
 Ran Answers left rest old new (Ok status) = Answered Answers left rest old new status
 Ran Answers left rest old new (Err faults.Read) = StopsReading (2 ^ 30) left rest old new
 Ran Answers left rest old new (Err faults.Limit) = Takes (2 ^ 30 + 1) left rest × Keeps old new
@@ -37,7 +37,7 @@ Ran Answers left rest old new (Err faults.Write) = AnsweredInPart Answers left r
 Ran Answers left rest old new (Err faults.OutOfMemory) = StopsReading (2 ^ 30 + 1) left rest old new ⊎ AnsweredInPart Answers left rest old new
 
 -- reading failed, or met the limit
-abbrev pub IsOfReading : {T : Type 0} → Result T CommandFault → Type 0
+abbrev pub IsOfReading : {T : Type 0} → Result T RunFault → Type 0
 IsOfReading (Ok x) = ⊥
 IsOfReading (Err faults.Read) = ⊤
 IsOfReading (Err faults.Limit) = ⊤

@@ -9,7 +9,7 @@ ghost use Rattle.eos_segment.specs.Answer.{IsChainAnswer, good_line, fault_line}
 ghost use Rattle.eos_segment.specs.Running.{Ran};
 
 use crate::details::push_details;
-use crate::fault::CommandFault;
+use crate::fault::RunFault;
 use eos_fold::{Chain, PartitionFault, chain_from};
 use eos_text::{finish, push_text, push_value};
 use std::alloc::{AllocError, Global};
@@ -26,9 +26,9 @@ pub fn chain_to<R: Read, W: Write>(
     alloc: Global,
     reader: &mut R,
     writer: &mut W,
-) -> Result<u8, CommandFault>
+) -> Result<u8, RunFault>
     ensures ran { Ran IsChainAnswer (R.remaining reader.old) (R.remaining reader.new) (W.contents writer.old) (W.contents writer.new) result }
-    ensures memory { result ≡ Err CommandFault.OutOfMemory → Keeps (W.contents writer.old) (W.contents writer.new) }
+    ensures memory { result ≡ Err RunFault.OutOfMemory → Keeps (W.contents writer.old) (W.contents writer.new) }
 {
     let answer = chain_from(alloc, reader)?;
     let mut line = String::new(alloc);

@@ -9,7 +9,7 @@ ghost use Rattle.eos_text.specs.Writing.{Writes, WritesFrontOf, WritesFront};
 ghost use Rattle.eos_segment.specs.steps.Holding.{HasListed, Passes};
 
 use crate::chosen::push_batch;
-use crate::fault::CommandFault;
+use crate::fault::RunFault;
 use crate::lines::push_last;
 use crate::options::ListingOptions;
 use bytes::Bytes;
@@ -35,7 +35,7 @@ pub fn dump_to<R: Read, W: Write>(
     options: &ListingOptions,
     reader: &mut R,
     writer: &mut W,
-) -> Result<u8, CommandFault>
+) -> Result<u8, RunFault>
     ensures ran { Ran (IsChosenListing options.now) (R.remaining reader.old) (R.remaining reader.new) (W.contents writer.old) (W.contents writer.new) result }
 
     // With no option it is the listing of every record.
@@ -49,7 +49,7 @@ fn read_and_dump<R: Read, W: Write>(
     options: &ListingOptions,
     reader: &mut R,
     writer: &mut W,
-) -> Result<u8, CommandFault>
+) -> Result<u8, RunFault>
     ensures { Ran (IsChosenListing options.now) (R.remaining reader.old) (R.remaining reader.new) (W.contents writer.old) (W.contents writer.new) result }
 {
     let bytes = read_segment(alloc, reader)?;
@@ -62,7 +62,7 @@ fn dump<W: Write>(
     options: &ListingOptions,
     bytes: &Bytes,
     writer: &mut W,
-) -> Result<u8, CommandFault>
+) -> Result<u8, RunFault>
     ensures ok { IfOk result (λ status. Writes (IsChosenListing options.now bytes.now) (W.contents writer.old) (W.contents writer.new) status) }
     ensures front { OnErr result (WritesFrontOf (IsChosenListing options.now bytes.now) (W.contents writer.old) (W.contents writer.new)) }
     ensures only { OnErr result (IsOfReading result → ⊥) }
@@ -83,7 +83,7 @@ fn list_batches<W: Write>(
     bytes: &Bytes,
     writer: &mut W,
     lines: &mut String,
-) -> Result<(usize, Option<BatchFault>), CommandFault>
+) -> Result<(usize, Option<BatchFault>), RunFault>
     requires { string_bytes lines.old ≡ [] }
     ensures listed { IfOk result (λ r. HasListed (chosen_lines options.now) bytes.now (W.contents writer.old) (W.contents writer.new) (string_bytes lines.new) r.0) }
     ensures stops { IfOk result (λ r. StopsHere (drop r.0 bytes.now) r.1) }
@@ -107,10 +107,10 @@ fn list_batches<W: Write>(
 }
 
 /// Writes the lines that are held back, where they are many.
-fn write_long<W: Write>(writer: &mut W, lines: &mut String) -> Result<(), CommandFault>
+fn write_long<W: Write>(writer: &mut W, lines: &mut String) -> Result<(), RunFault>
     ensures ok { OnOk result (Passes (W.contents writer.old) (W.contents writer.new) (string_bytes lines.old) (string_bytes lines.new)) }
     ensures front { OnErr result (WritesFront (W.contents writer.old) (W.contents writer.new) (string_bytes lines.old)) }
-    ensures only { IfErr result (λ fault. fault ≡ CommandFault.Write) }
+    ensures only { IfErr result (λ fault. fault ≡ RunFault.Write) }
 {
     if lines.len() >= HELD_BACK {
         write_whole(writer, lines.as_bytes())?;

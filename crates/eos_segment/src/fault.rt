@@ -1,8 +1,8 @@
 //! Why a command ended without an answer.
 
 ghost use Rattle.std.specs.Prelude.{◌≡◌};
-ghost use Rattle.eos_segment.specs.declared.fault.CommandFault.TheVariants.{Write, OutOfMemory};
-ghost use Rattle.eos_segment.specs.Faults.{name_of, command_fault_of};
+ghost use Rattle.eos_segment.specs.declared.fault.RunFault.TheVariants.{Write, OutOfMemory};
+ghost use Rattle.eos_segment.specs.Faults.{name_of, run_fault_of};
 
 use eos_evidence::ReadFault;
 use eos_text::WriteFault;
@@ -12,7 +12,7 @@ use thiserror::Error;
 /// Why a command ended without an answer.
 #[derive(Clone, Copy, Debug, PartialEq, Eq, Error)]
 #[error("{name}", name = self.name())]
-pub enum CommandFault {
+pub enum RunFault {
     /// The input could not be read.
     Read,
     /// The input is larger than a segment may be.
@@ -23,52 +23,52 @@ pub enum CommandFault {
     OutOfMemory,
 }
 
-impl CommandFault {
+impl RunFault {
     /// The fault's name.
     pub fn name(self) -> &'static str
         ensures { result.now ≡ name_of self }
     {
         match self {
-            CommandFault::Read => "Read",
-            CommandFault::Limit => "Limit",
-            CommandFault::Write => "Write",
-            CommandFault::OutOfMemory => "OutOfMemory",
+            RunFault::Read => "Read",
+            RunFault::Limit => "Limit",
+            RunFault::Write => "Write",
+            RunFault::OutOfMemory => "OutOfMemory",
         }
     }
 }
 
-impl From<ReadFault> for CommandFault {
-    ghost from_gives = { λ e fault. fault ≡ command_fault_of e };
+impl From<ReadFault> for RunFault {
+    ghost from_gives = { λ e fault. fault ≡ run_fault_of e };
 
-    fn from(e: ReadFault) -> CommandFault {
+    fn from(e: ReadFault) -> RunFault {
         match e {
-            ReadFault::Read => CommandFault::Read,
-            ReadFault::Limit => CommandFault::Limit,
-            ReadFault::OutOfMemory => CommandFault::OutOfMemory,
+            ReadFault::Read => RunFault::Read,
+            ReadFault::Limit => RunFault::Limit,
+            ReadFault::OutOfMemory => RunFault::OutOfMemory,
         }
     }
 }
 
-impl From<WriteFault> for CommandFault {
+impl From<WriteFault> for RunFault {
     ghost from_gives = { λ _ e. e ≡ Write };
 
-    fn from(_e: WriteFault) -> CommandFault {
-        CommandFault::Write
+    fn from(_e: WriteFault) -> RunFault {
+        RunFault::Write
     }
 }
 
-impl From<AllocError> for CommandFault {
+impl From<AllocError> for RunFault {
     ghost from_gives = { λ _ e. e ≡ OutOfMemory };
 
-    fn from(_e: AllocError) -> CommandFault {
-        CommandFault::OutOfMemory
+    fn from(_e: AllocError) -> RunFault {
+        RunFault::OutOfMemory
     }
 }
 
-impl<T: Drop> From<AllocFailed<T>> for CommandFault {
+impl<T: Drop> From<AllocFailed<T>> for RunFault {
     ghost from_gives = { λ _ e. e ≡ OutOfMemory };
 
-    fn from(_e: AllocFailed<T>) -> CommandFault {
-        CommandFault::OutOfMemory
+    fn from(_e: AllocFailed<T>) -> RunFault {
+        RunFault::OutOfMemory
     }
 }

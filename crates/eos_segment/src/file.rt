@@ -11,7 +11,7 @@ ghost use Rattle.eos_segment.specs.steps.Opening.{IsUnopened};
 
 use crate::chain::chain_to;
 use crate::dump::dump_to;
-use crate::fault::CommandFault;
+use crate::fault::RunFault;
 use crate::options::ListingOptions;
 use eos_disk::{Disk, DiskFault};
 use std::alloc::Global;
@@ -28,7 +28,7 @@ pub fn dump_file<D: Disk, W: Write>(
     path: &str,
     options: &ListingOptions,
     writer: &mut W,
-) -> Result<u8, CommandFault>
+) -> Result<u8, RunFault>
     ensures some { IsToldOf (IsChosenListing options.now) (D.holds disk.now path.now) (W.contents writer.old) (W.contents writer.new) result }
 
     // Where it is known which file stands there, its bytes are listed, and no others.
@@ -47,7 +47,7 @@ fn open_and_dump<D: Disk, W: Write>(
     path: &str,
     options: &ListingOptions,
     writer: &mut W,
-) -> Result<u8, CommandFault>
+) -> Result<u8, RunFault>
     ensures some { IsToldOf (IsChosenListing options.now) (D.holds disk.now path.now) (W.contents writer.old) (W.contents writer.new) result }
     ensures plain { options.now ≡ plain_options → IsToldOf IsListing (D.holds disk.now path.now) (W.contents writer.old) (W.contents writer.new) result }
 {
@@ -67,10 +67,10 @@ pub fn chain_file<D: Disk, W: Write>(
     disk: &D,
     path: &str,
     writer: &mut W,
-) -> Result<u8, CommandFault>
+) -> Result<u8, RunFault>
     ensures known { (bytes : List ℕ) → D.holds disk.now path.now ≡ File bytes → IsToldOfBytes IsChainAnswer bytes (W.contents writer.old) (W.contents writer.new) result }
     ensures some { IsToldOf IsChainAnswer (D.holds disk.now path.now) (W.contents writer.old) (W.contents writer.new) result }
-    ensures memory { result ≡ Err CommandFault.OutOfMemory → Keeps (W.contents writer.old) (W.contents writer.new) }
+    ensures memory { result ≡ Err RunFault.OutOfMemory → Keeps (W.contents writer.old) (W.contents writer.new) }
 {
     open_and_chain(alloc, disk, path, writer)
 }
@@ -81,9 +81,9 @@ fn open_and_chain<D: Disk, W: Write>(
     disk: &D,
     path: &str,
     writer: &mut W,
-) -> Result<u8, CommandFault>
+) -> Result<u8, RunFault>
     ensures some { IsToldOf IsChainAnswer (D.holds disk.now path.now) (W.contents writer.old) (W.contents writer.new) result }
-    ensures memory { result ≡ Err CommandFault.OutOfMemory → Keeps (W.contents writer.old) (W.contents writer.new) }
+    ensures memory { result ≡ Err RunFault.OutOfMemory → Keeps (W.contents writer.old) (W.contents writer.new) }
 {
     match disk.open(alloc, path) {
         Ok(mut file) => chain_to(alloc, &mut file, writer),
@@ -92,11 +92,11 @@ fn open_and_chain<D: Disk, W: Write>(
 }
 
 /// Why a file that isn't opened isn't answered about.
-fn unopened(fault: DiskFault) -> CommandFault
+fn unopened(fault: DiskFault) -> RunFault
     ensures { IsUnopened result }
 {
     match fault {
-        DiskFault::OutOfMemory => CommandFault::OutOfMemory,
-        _ => CommandFault::Read,
+        DiskFault::OutOfMemory => RunFault::OutOfMemory,
+        _ => RunFault::Read,
     }
 }

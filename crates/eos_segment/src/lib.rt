@@ -22,7 +22,7 @@ mod transaction;
 pub use chain::chain_to;
 pub use details::push_details;
 pub use dump::dump_to;
-pub use fault::CommandFault;
+pub use fault::RunFault;
 pub use file::{chain_file, dump_file};
 pub use line::push_decoded;
 pub use options::ListingOptions;

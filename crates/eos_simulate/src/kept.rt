@@ -10,7 +10,7 @@ ghost use Rattle.eos_simulate.specs.Histories.{new_course, IsLeftBy, HasBroken};
 use crate::course::{Course, SWITCHES, is_on};
 use crate::making::{SimulationFault, evidence_of, new_cluster, none_unmet};
 use eos_cluster::{Cluster, Switches};
-use eos_drive::{History, Script, drive_kept, drive_tail_kept};
+use eos_drive::{History, Script, run_kept, run_tail_kept};
 use eos_evidence::Evidence;
 use std::alloc::{AllocError, Global};
 
@@ -52,7 +52,7 @@ fn driven(alloc: Global, course: &Course, history: &mut History) -> Result<Clust
     let mut cluster = new_cluster(alloc, course.config)?;
     let script = Script::from_seed(alloc, course.seed, course.words)?;
     let settings = course.settings();
-    let unmet = drive_kept(alloc, &mut cluster, history, &script, &settings)?;
+    let unmet = run_kept(alloc, &mut cluster, history, &script, &settings)?;
     none_unmet(unmet)?;
     Ok(cluster)
 }
@@ -87,7 +87,7 @@ fn show(
 {
     for switch in SWITCHES {
         if is_on(switches, switch) {
-            drive_tail_kept(alloc, cluster, history, switch)?;
+            run_tail_kept(alloc, cluster, history, switch)?;
         }
     }
     Ok(())

@@ -15,7 +15,7 @@ use eos_cluster::{Cluster, EvidenceRefusal, NewFault};
 use eos_drive::Mishap;
 use eos_evidence::Evidence;
 use eos_machine::Config;
-use eos_segment::CommandFault;
+use eos_segment::RunFault;
 use eos_text::{finish, push_text, push_value};
 use std::alloc::{AllocError, AllocFailed, Global};
 use std::io::Write;
@@ -89,14 +89,10 @@ pub(crate) fn evidence_of(cluster: &Cluster) -> Result<Evidence, SimulationFault
 ///
 /// # Errors
 /// At `Write` a front of the line was written, at `OutOfMemory` nothing. There is no other refusal.
-pub fn told_to<W: Write>(
-    alloc: Global,
-    evidence: &Evidence,
-    writer: &mut W,
-) -> Result<u8, CommandFault>
+pub fn told_to<W: Write>(alloc: Global, evidence: &Evidence, writer: &mut W) -> Result<u8, RunFault>
     ensures ok { IfOk result (λ status. (status ≡ 0) × Appends (W.contents writer.old) (W.contents writer.new) (wrote_line evidence.now)) }
-    ensures write { result ≡ Err CommandFault.Write → WritesFront (W.contents writer.old) (W.contents writer.new) (wrote_line evidence.now) }
-    ensures memory { result ≡ Err CommandFault.OutOfMemory → Keeps (W.contents writer.old) (W.contents writer.new) }
+    ensures write { result ≡ Err RunFault.Write → WritesFront (W.contents writer.old) (W.contents writer.new) (wrote_line evidence.now) }
+    ensures memory { result ≡ Err RunFault.OutOfMemory → Keeps (W.contents writer.old) (W.contents writer.new) }
     ensures only { OnErr result (IsOfReading result → ⊥) }
 {
     let line = line_of(alloc, evidence)?;

@@ -1,5 +1,5 @@
 use Rattle.eos_drive.proofs.MoreDeeds.{given_back}
-use Rattle.eos_drive.proofs.scripted.drive_kept.Goals as goal
+use Rattle.eos_drive.proofs.scripted.run_kept.Goals as goal
 
 pub returns-clause-kept : goal.returns-clause-kept
 returns-clause-kept c =

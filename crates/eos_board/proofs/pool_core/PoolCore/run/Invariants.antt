@@ -2,7 +2,7 @@ use Rattle.std.proofs.Common.{◌≡◌, ◌≤◌, length, take}
 use Rattle.std.specs.Prelude.{vec_capacity}
 use Rattle.eos_board.specs.PoolState.{IsSound}
 use Rattle.eos_board.specs.PoolEvents.{IsCourse}
-use Rattle.eos_board.proofs.pool_core.PoolCore.take_all.Given as goal
+use Rattle.eos_board.proofs.pool_core.PoolCore.run.Given as goal
 
 abbrev pub invariant-loop-event : goal.invariant-loop-event
 invariant-loop-event l = record {

@@ -1,6 +1,6 @@
 use Rattle.std.proofs.Common.{◌<◌, length, arith}
 use Rattle.eos_board.proofs.CoursesMore.{course_next}
-use Rattle.eos_board.proofs.pool_core.PoolCore.take_all.Goals as goal
+use Rattle.eos_board.proofs.pool_core.PoolCore.run.Goals as goal
 
 pub loop-event-preserved : goal.loop-event-preserved
 loop-event-preserved c =
