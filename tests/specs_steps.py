@@ -152,11 +152,14 @@ def contracts(crate):
                 yield path, resolve(clauses(found[5]), named, aliases, "", ())
 
 
+def crates():
+    return sorted({it.split("/")[1] for it in glob.glob("crates/*/src/*.rt")})
+
+
 def main():
-    crates = sorted({it.split("/")[1] for it in glob.glob("crates/*/src/*.rt")})
     definitions = Definitions()
     reached, waiting = set(), []
-    for crate in crates:
+    for crate in crates():
         for _, words in contracts(crate):
             waiting += words
     while waiting:

@@ -10,6 +10,8 @@ passes 'what carries each promise' python3 -B tests/promises.py
 passes 'what Good reaches' python3 -B tests/good_reaches.py
 # what no public contract reaches stands in specs/steps
 passes 'definitions that no public contract reaches' python3 -B tests/specs_steps.py
+# place, fold, run and part mean one thing each
+passes 'four words, each with one meaning' python3 -B tests/words.py
 # crates in their order, in the map, and functions of few parameters
 passes 'the shape of the crates' python3 -B tests/shape.py
 # a line and a README for each crate, and no document that names one which is gone
