@@ -6,7 +6,7 @@
 Prints how many definitions, files and lines they are; a line counts that is neither blank nor a comment. With a revision the
 same is counted there and said beside it, with --files the count of each file. It fails where *good* is said by what the checker
 does: the list of a partition's faults, the front of a log and why it ends, the decoder, a summary. docs/YES.md says how
-many they are at most, of both. The last line is 'N passed, N failed'.
+many they are at most, of both, and how many of *good* say Kafka's formats and rules at least; it fails where that isn't so, or says much more. The last line is 'N passed, N failed'.
 """
 import collections
 import io
@@ -31,6 +31,11 @@ FOLDER = [
 ]
 PAGE = "docs/YES.md"
 SAID = re.compile(r"at most ([\d,]+) definitions in ([\d,]+) files, ([\d,]+) lines")
+# Whose definitions say Kafka's formats and rules.
+OF_KAFKA = {"eos_wire", "eos_batch", "eos_touch", "eos_txnlog", "eos_offsets", "eos_table", "eos_commits"}
+SAID_OF_KAFKA = re.compile(r"of these at least ([\d,]+) definitions say Kafka's formats and rules")
+# How much more than there is the page may say, in hundredths.
+ROOM = 10
 
 # By the module and the name; of a module without a name each definition counts.
 OF_THE_CHECKER = (
@@ -74,6 +79,7 @@ class Counts:
             sys.exit(f"no definition has the name {'.'.join(lacking[0])}")
         self.names = reached(definitions.words, roots)
         own = [key for key in self.names if key in definitions.words]
+        self.of_kafka = sum(key[0].split(".")[0] in OF_KAFKA for key in own)
         self.files = collections.Counter()
         for key in own:
             self.files[definitions.place[key]] += definitions.lines[key]
@@ -106,20 +112,26 @@ def main(arguments):
         print(f"{arguments[0]}: {before}")
         less = before.sums[3] - now.sums[3]
         print(f"{less} lines fewer, {100 * less / before.sums[3]:.1f} of a hundred")
-    print(f"good: {now}\na folder's yes: {folder}")
+    print(f"good: {now}, and {now.of_kafka} of the definitions say Kafka's formats and rules\na folder's yes: {folder}")
     failed = 0
     for module, name in OF_THE_CHECKER:
         for key in sorted(key for key in now.names if key[0] == module and name in (None, key[1])):
             print(f"{'.'.join(key)}: good is said by what the checker does")
             failed += 1
     with open(PAGE, encoding="utf-8") as file:
-        said = [[int(it.replace(",", "")) for it in found] for found in SAID.findall(file.read().replace("\n", " "))]
+        text = file.read().replace("\n", " ")
+    said = [[int(it.replace(",", "")) for it in found] for found in SAID.findall(text)]
     for counts, most in zip((now, folder), [*said, None, None]):
         definitions, files, _, lines = counts.sums
-        if not most or any(bound < it for bound, it in zip(most, (definitions, files, lines))):
+        if not most or not all(it <= bound <= it * (100 + ROOM) / 100 for bound, it in zip(most, (definitions, files, lines))):
             print(f"{PAGE} says {most or 'no counts'}, and there are {counts}")
             failed += 1
-    checks = len(OF_THE_CHECKER) + 2
+    least = SAID_OF_KAFKA.search(text)
+    least = int(least[1].replace(",", "")) if least else 0
+    if not now.of_kafka * (100 - ROOM) / 100 <= least <= now.of_kafka:
+        print(f"{PAGE} says that {least} definitions say Kafka's formats and rules, and {now.of_kafka} do")
+        failed += 1
+    checks = len(OF_THE_CHECKER) + 3
     print(f"{max(checks - failed, 0)} passed, {failed} failed")
     return 1 if failed or now.sums[0] < 100 else 0
 

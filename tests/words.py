@@ -48,7 +48,6 @@ TABLE = {
     "run": """
         eos_board: into_runs
         eos_check: is_run_of made_run next_run own_run run_of runs_of
-        eos_claims: in_run
         eos_fold_file: run run_front run_of run_texts
         eos_kept: KeptRun Run kept_run run
         eos_source: next_run
@@ -65,7 +64,7 @@ TABLE = {
         eos_faults: take_part
         """,
 }
-# Rust's own names for taking a value apart, and a record's fields in the decoder, which stands below all that has partitions.
+# Rust's own names for taking a value apart; and, below all that has runs and parts, claims of one input in a row, and a record's fields.
 ELSEWHERE = {"into_parts", "of_parts"}
 # Public calls that had their names before the words had one meaning: what runs is a command, a script, a list of events.
 GIVEN = {
@@ -73,7 +72,7 @@ GIVEN = {
     "eos_drive": {"run_kept", "run_script", "run_tail", "run_tail_kept", "run_threads", "run_with"},
     "eos_segment": {"RunFault"},
 }
-BELOW = {"eos_batch": {"Parts", "parts_of", "own_parts"}}
+BELOW = {"eos_batch": {"Parts", "parts_of", "own_parts"}, "eos_claims": {"in_run"}}
 
 
 def words_of(name):
