@@ -17,6 +17,7 @@ mod replaying;
 mod schedule_file;
 
 pub use course::Course;
+pub use evidence::evidence_of;
 pub use folder::simulate_folder;
 pub use kept::simulate;
 pub use making::{SimulationFault, told_to};
