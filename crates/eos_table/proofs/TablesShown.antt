@@ -1,5 +1,5 @@
 -- What is shown by look-ups is what each place shows.
-use Rattle.std.proofs.Common.{◌≡◌, ℤ, List, [], ◌∷◌, ◌++◌, map, length, Some, None, refl, sym, subst, ap, ◌∙◌, inl, true, false, Bool, ◌&&◌, if◌then◌else◌, IsPermutation, arith}
+use Rattle.std.proofs.Common.{◌≡◌, ℤ, pos, List, [], ◌∷◌, ◌++◌, map, length, Some, None, refl, sym, subst, ap, ◌∙◌, inl, true, false, Bool, ◌&&◌, if◌then◌else◌, IsPermutation, arith}
 use Rattle.std.specs.Prelude.{nat_lt}
 use Rattle.std.specs.List.{flat_map, list_any}
 use Rattle.std.specs.Ordering.{is_eq}
