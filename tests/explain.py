@@ -280,7 +280,7 @@ def look_at_folder(program, folder):
     faults = reference.listed(folder)
     for number in sorted({*range(1, 6), len(faults)} & set(range(1, len(faults) + 1))):
         look_at(program, folder, faults, number)
-    told = f"eoscheck: there are {len(faults)} faults\n"
+    told = "eoscheck: there is 1 fault\n" if len(faults) == 1 else f"eoscheck: there are {len(faults)} faults\n"
     for number in len(faults) + 1, 2**64 - 1:
         ran = run(program, "explain", "--fault", str(number), folder)
         expect(ran == (2, "", told), f"{folder} --fault {number}: {ran}")

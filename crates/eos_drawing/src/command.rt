@@ -2,7 +2,9 @@
 
 use crate::folder::{Asked, Undrawn, draw_folder_to};
 use eos_disk::HostDisk;
-use eos_ending::{Ending, Meter, Progress, STANDARD, Subject, end, end_unchanged, end_unread};
+use eos_ending::{
+    Ending, Meter, Progress, STANDARD, Subject, end, end_fewer, end_unchanged, end_unread,
+};
 use eos_words::Draw;
 use std::io;
 use std::sync::Wait;
@@ -36,10 +38,7 @@ pub fn draw_folder(
         Ok(status) => status,
         Err(Undrawn::Unwritten(fault)) => end_unchanged(rt, words.file, fault),
         Err(Undrawn::Refused(fault)) => end_unread(rt, Subject::Only, &fault),
-        Err(Undrawn::TooFew(count)) => {
-            let _ = eprint!(rt; "eoscheck: there are {count} faults\n");
-            2
-        }
+        Err(Undrawn::TooFew(count)) => end_fewer(rt, count as u64),
         Err(Undrawn::CannotPrint) => end(rt, Ending::CannotWrite(STANDARD)),
     }
 }

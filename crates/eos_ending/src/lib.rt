@@ -13,6 +13,6 @@ mod subject;
 pub use ending::{Ending, Told};
 pub use new_file::{end_unchanged, fill_file, leave_file, make_file};
 pub use progress::{Meter, Progress, Stages};
-pub use said::{end_unread, say_notes};
+pub use said::{end_fewer, end_unread, say_notes, unread_text};
 pub use saying::{STANDARD, end, end_about};
 pub use subject::Subject;

@@ -15,7 +15,9 @@ use crate::answer::{Answer, Asked, explain};
 use eos_base::Workers;
 use eos_board::Gate;
 use eos_disk::{Disk, FolderFault, HostDisk, Reading, Watch, read_folder};
-use eos_ending::{Ending, Meter, Progress, STANDARD, Subject, end, end_unread, say_notes};
+use eos_ending::{
+    Ending, Meter, Progress, STANDARD, Subject, end, end_fewer, end_unread, say_notes,
+};
 use eos_text::{WriteFault, finish};
 use eos_words::Explain;
 use std::alloc::Global;
@@ -166,14 +168,8 @@ pub fn explain_folder(
             0
         }
         Ok(Explained::Story) => 1,
-        Ok(Explained::Fewer(count)) => say_fewer(rt, count),
+        Ok(Explained::Fewer(count)) => end_fewer(rt, count),
         Err(Unexplained::CannotWrite) => end(rt, Ending::CannotWrite(STANDARD)),
         Err(Unexplained::Refused(fault)) => end_unread(rt, Subject::Only, &fault),
     }
-}
-
-/// There are fewer faults than the number that was named.
-fn say_fewer(rt: &HostRuntime, count: u64) -> u8 {
-    let _ = eprint!(rt; "eoscheck: there are {count} faults\n");
-    2
 }
