@@ -43,7 +43,7 @@ all_inputs apps topics ps = flat_seen (kept_log apps) (is_part_of topics) inputs
 
 -- ---- commits
 
-commit_same : (group : Group) (sources : List Topic) (x : Item) → commit_in group sources (wanted_item Texts x) ≡ commit_in group sources x
+pub commit_same : (group : Group) (sources : List Topic) (x : Item) → commit_in group sources (wanted_item Texts x) ≡ commit_in group sources x
 commit_same group sources x = go (key_of x)
   where
     go : (key : Result (Option OffsetKey) RecordFault) → commit_under (is_of group sources) key (wanted_item Texts x) ≡ commit_under (is_of group sources) key x

@@ -27,4 +27,5 @@ pub mod KeptTransactions
 pub mod KeptMatching
 pub mod KeptVisible
 pub mod KeptLineage
+pub mod KeptEpochs
 pub mod KeptAnswers

@@ -1,6 +1,5 @@
 use Rattle.std.proofs.Common.{◌∙◌, List, map, ap}
 use Rattle.std.proofs.lemmas.Result.{IfOk-weaker}
-use Rattle.eos_claims.specs.Outputs.{Commit}
 use Rattle.eos_commits.specs.declared.table.Entry.{Entry}
 use Rattle.eos_commits.specs.EpochCommits.{EpochCommit}
 use Rattle.eos_commits.specs.Tables.{picked}
