@@ -12,8 +12,9 @@ from fold_files import CLAIMS, PRESENCE, TEXTS, Fold, Head
 from fold_folders import fold_path, folds_of, with_folds, write
 
 GOOD = "tests/evidence/row-yes-2"
-# What a byte of a fold may hold; where neither a key nor a value is there, three bytes say a record, of which a check keeps two views.
-BYTES, OF_NULLS = 64, 80
+# What a byte of a fold may hold. It is dearest where neither a key nor a value is there: three bytes say such a record, and a check holds
+# it as it was read and as it is kept.
+BYTES = 64
 # How many times the time of a fold of a log. Records that only have to be there take none of a fold's bytes, so a check of a fold may
 # take as long besides as reading the segment that it says would, by so many bytes a second.
 TIMES, SPEED = 10, 40_000_000
@@ -120,10 +121,9 @@ def costs(tests):
         write(os.path.join(folder, path), fold_files.file_of(logged(made.roles, len(data), chance)))
         right = spent(tests, folder)[1]
         write(os.path.join(folder, path), data)
-        each = OF_NULLS if kind == "null texts" else BYTES
-        status, found = spent(tests, folder, least + ROOM + each * len(data))
+        status, found = spent(tests, folder, least + ROOM + BYTES * len(data))
         write(os.path.join(folder, path), folds[path])
-        tests.same(f"{kind}, {len(data)} bytes: its status, with {each} bytes of memory for each of its own", status in (0, 1, 2), True)
+        tests.same(f"{kind}, {len(data)} bytes: its status, with {BYTES} bytes of memory for each of its own", status in (0, 1, 2), True)
         seconds = TIMES * right + made.size / SPEED + SECONDS
         tests.same(f"{kind}, {len(data)} bytes, {found} s", found <= seconds, True)
         if len(data) > 30000:

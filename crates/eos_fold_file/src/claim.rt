@@ -11,7 +11,7 @@
 ghost use Rattle.std.specs.Prelude.{◌≡◌, ◌++◌, IfOk, OnOk};
 ghost use Rattle.std.specs.List.{list_all};
 ghost use Rattle.eos_claims.specs.Slots.{plain_claim};
-ghost use Rattle.eos_fold_file.specs.Records.{is_placed, numbers_text, claim_text, optional_claim_text, output_text, numbers_from, claim_from, asked_from, foreign_from, some_claim_from, optional_claim_from, output_from, numbers_of};
+ghost use Rattle.eos_fold_file.specs.Records.{is_placed, numbers_text, claim_text, optional_claim_text, output_text, numbers_from, claim_from, asked_from, foreign_from, some_claim_from, optional_claim_from, output_from};
 ghost use Rattle.eos_fold_file.specs.Legal.{AreClaimNumbers, IsLegalClaim, IsLegalOutput, IsLegalOptionalClaim};
 ghost use Rattle.eos_fold_file.specs.steps.Faults.{Gives};
 
@@ -27,11 +27,12 @@ use eos_wire::{Cursor, write_i8};
 use std::alloc::{AllocError, Global};
 
 /// What is kept of a record of Kafka's own logs: its key, its value and the claim in its headers, where there is one.
-#[derive(Clone, Debug, PartialEq, Eq, Drop)]
+#[derive(Drop)]
 pub struct FoldText {
     pub key: Option<Bytes>,
     pub value: Option<Bytes>,
-    pub claim: Option<Claim>,
+    /// In a box, since hardly a record has one.
+    pub claim: Option<BoxedClaim>,
 }
 
 /// A claim but for its topic.
@@ -84,25 +85,6 @@ fn read_claim(rest: &mut Cursor<'_>) -> Result<Claim, FoldFault>
         output: numbers.output,
         of: numbers.of,
     })
-}
-
-fn numbers_of(claim: &Claim) -> ClaimNumbers
-    ensures { result ≡ numbers_of claim.now }
-{
-    ClaimNumbers {
-        partition: claim.partition,
-        offset: claim.offset,
-        output: claim.output,
-        of: claim.of,
-    }
-}
-
-fn write_claim(out: &mut Vec<u8>, claim: &Claim) -> Result<(), AllocError>
-    ensures text { OnOk result (out.new.items ≡ out.old.items ++ claim_text claim.now) }
-    ensures fit { OnOk result (IsLegalClaim claim.now) }
-{
-    write_slice(out, claim.topic.as_slice())?;
-    write_numbers(out, numbers_of(claim))
 }
 
 // ---- of an output
@@ -247,27 +229,30 @@ impl Entry for KeptOutput {
 // ---- of Kafka's own logs
 
 #[tactic(auto, unfolding(crate::specs::Records::some_claim_from))]
-fn read_some_claim(rest: &mut Cursor<'_>) -> Result<Option<Claim>, FoldFault>
+fn read_some_claim(alloc: Global, rest: &mut Cursor<'_>) -> Result<Option<BoxedClaim>, FoldFault>
     ensures { Gives result rest.new (some_claim_from rest.old) }
 {
     let claim = read_claim(rest)?;
-    Ok(Some(claim))
+    Ok(Some(boxed(alloc, &claim)?))
 }
 
 #[tactic(auto, unfolding(crate::specs::Records::optional_claim_from))]
-pub(crate) fn read_optional_claim(rest: &mut Cursor<'_>) -> Result<Option<Claim>, FoldFault>
+pub(crate) fn read_optional_claim(
+    alloc: Global,
+    rest: &mut Cursor<'_>,
+) -> Result<Option<BoxedClaim>, FoldFault>
     ensures { Gives result rest.new (optional_claim_from rest.old) }
 {
     match read_kind(rest)? {
         0 => Ok(None),
-        1 => read_some_claim(rest),
+        1 => read_some_claim(alloc, rest),
         _ => Err(FoldFault::Record),
     }
 }
 
 pub(crate) fn write_optional_claim(
     out: &mut Vec<u8>,
-    claim: &Option<Claim>,
+    claim: &Option<BoxedClaim>,
 ) -> Result<(), AllocError>
     ensures text { OnOk result (out.new.items ≡ out.old.items ++ optional_claim_text claim.now) }
     ensures fit { OnOk result (IsLegalOptionalClaim claim.now) }
@@ -276,7 +261,7 @@ pub(crate) fn write_optional_claim(
         None => write_i8(out, 0),
         Some(claim) => {
             write_i8(out, 1)?;
-            write_claim(out, claim)
+            write_lent(out, claim.view())
         }
     }
 }

@@ -8,8 +8,8 @@ ghost use Rattle.eos_fold_file.specs.steps.Kept.{AreReadBack};
 
 use crate::{FoldKept, FoldText};
 use bytes::Bytes;
-use eos_claims::{Claim, ClaimRef};
-use eos_reading::KeptOutput;
+use eos_claims::ClaimRef;
+use eos_reading::{BoxedClaim, KeptOutput};
 
 /// Whether there are headers that say a claim, or say none. Their numbers are signed, and none of a claim is below 0.
 fn is_said(claim: Option<ClaimRef<'_>>) -> bool
@@ -29,19 +29,13 @@ fn is_said(claim: Option<ClaimRef<'_>>) -> bool
 }
 
 /// A claim, lent, where there is one.
-pub(crate) fn lent(claim: &Option<Claim>) -> Option<ClaimRef<'_>>
+pub(crate) fn lent(claim: &Option<BoxedClaim>) -> Option<ClaimRef<'_>>
     ensures { option_map plain_claim result ≡ claim.now }
 {
-    let Some(claim) = claim else {
-        return None;
-    };
-    Some(ClaimRef {
-        topic: claim.topic.as_slice(),
-        partition: claim.partition,
-        offset: claim.offset,
-        output: claim.output,
-        of: claim.of,
-    })
+    match claim {
+        None => None,
+        Some(claim) => Some(claim.view()),
+    }
 }
 
 fn are_outputs_said(topics: &[Bytes], outputs: &[KeptOutput]) -> bool

@@ -5,8 +5,8 @@ ghost use Rattle.eos_claims.specs.Slots.{plain_claim};
 
 use crate::FoldText;
 use bytes::Bytes;
-use eos_claims::{Claim, ClaimRef, view_claim};
-use eos_reading::{Placed, Reading};
+use eos_claims::{ClaimRef, view_claim};
+use eos_reading::{BoxedClaim, Placed, Reading};
 use std::alloc::{AllocError, Global};
 
 /// Keeps a copy of a record's key and value, and of the claim in its headers, where there is one.
@@ -47,19 +47,16 @@ fn copies_of_texts(
 }
 
 /// A copy of a claim, where there is one.
-fn copy_of_claim(alloc: Global, claim: Option<ClaimRef<'_>>) -> Result<Option<Claim>, AllocError>
+fn copy_of_claim(
+    alloc: Global,
+    claim: Option<ClaimRef<'_>>,
+) -> Result<Option<BoxedClaim>, AllocError>
     ensures { IfOk result (λ copy. copy ≡ option_map plain_claim claim.entry) }
 {
-    let Some(claim) = claim else {
-        return Ok(None);
-    };
-    Ok(Some(Claim {
-        topic: Bytes::copy_from_slice(alloc, claim.topic)?,
-        partition: claim.partition,
-        offset: claim.offset,
-        output: claim.output,
-        of: claim.of,
-    }))
+    match claim {
+        None => Ok(None),
+        Some(claim) => Ok(Some(BoxedClaim::new(alloc, &claim)?)),
+    }
 }
 
 impl Reading for FoldTexts {

@@ -159,6 +159,7 @@ fn read_shared(
 
 #[tactic(auto, unfolding(crate::specs::Texts::key_value_from))]
 fn read_text(
+    alloc: Global,
     room: &mut BytesMut,
     rest: &mut Cursor<'_>,
     key_before: &[u8],
@@ -170,7 +171,7 @@ fn read_text(
 {
     let key = read_shared(room, rest, key_before)?;
     let value = read_shared(room, rest, value_before)?;
-    let claim = read_optional_claim(rest)?;
+    let claim = read_optional_claim(alloc, rest)?;
     Ok(FoldText { key, value, claim })
 }
 
@@ -198,7 +199,7 @@ pub(crate) fn read_texts(
     let mut key = Bytes::new();
     let mut value = Bytes::new();
     for _ in 0..count {
-        let text = read_text(&mut room, rest, key.as_slice(), value.as_slice())?;
+        let text = read_text(alloc, &mut room, rest, key.as_slice(), value.as_slice())?;
         key = last(key, &text.key)?;
         value = last(value, &text.value)?;
         texts.push(text)?;

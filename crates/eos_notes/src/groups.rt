@@ -24,7 +24,7 @@ pub(crate) struct Count {
 }
 
 /// The offset that is committed for the part at this place.
-pub(crate) fn offset_at(offsets: &[i64], i: usize) -> i64
+fn offset_at(offsets: &[i64], i: usize) -> i64
     ensures { result ≡ get_or offsets.now i (pos 0) }
 {
     if i < offsets.len() { offsets[i] } else { 0 }
@@ -140,8 +140,7 @@ fn sum(a: u64, b: u64) -> Result<u64, AllocError>
     a.checked_add(b).ok_or(AllocError)
 }
 
-/// Whether the record at this offset is below the committed one.
-pub(crate) fn is_below(offset: u64, committed: i64) -> bool
+fn is_below(offset: u64, committed: i64) -> bool
     ensures { result ≡ int_lt (pos offset) committed }
 {
     committed > 0 && offset < committed as u64
