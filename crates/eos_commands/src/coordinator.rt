@@ -6,7 +6,7 @@ ghost use Rattle.eos_manifest.specs.Coordinators.{coordinator_lines};
 ghost use Rattle.eos_text.specs.Writing.{WritesFront};
 ghost use Rattle.eos_segment.specs.Running.{IsOfReading};
 
-use crate::init_command::refuse;
+use crate::init::refuse;
 use eos_disk::Cause;
 use eos_ending::{Ending, STANDARD, end};
 use eos_manifest::coordinator_lines;

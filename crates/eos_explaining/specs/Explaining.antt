@@ -20,7 +20,7 @@ use Rattle.eos_story.specs.PlaceOfFault.{place_in}
 use Rattle.eos_story.specs.declared.row.Row.{Row}
 use Rattle.eos_story.specs.Rows.{IsTrue}
 use Rattle.eos_story.specs.Wholeness.{IsWhole}
-use Rattle.eos_explaining.specs.declared.whole_story.Story.{Story}
+use Rattle.eos_explaining.specs.declared.story_text.Story.{Story}
 use Rattle.eos_explaining.specs.Stories.{story_text}
 use Rattle.eos_explaining.specs.declared.answer.Answer.{Answer}
 use Rattle.eos_explaining.specs.declared.answer.Answer.TheVariants as answers

@@ -16,11 +16,11 @@ mod rows;
 mod sentences;
 mod signs;
 mod story;
+mod story_text;
 mod times;
 mod told;
 mod twins;
-mod whole_story;
 
 pub use answer::{Answer, Asked, explain};
 pub use folder::{Explained, Folder, Unexplained, Which, explain_folder, explain_folder_to};
-pub use whole_story::{Story, story_text};
+pub use story_text::{Story, story_text};

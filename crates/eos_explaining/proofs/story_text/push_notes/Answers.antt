@@ -4,7 +4,7 @@ use Rattle.eos_notes.specs.Texts.{note_lines}
 use Rattle.eos_text.specs.Adding.{Adds}
 use Rattle.eos_text.proofs.Appended.{then}
 use Rattle.eos_explaining.specs.Stories.{notes_text}
-use Rattle.eos_explaining.proofs.whole_story.push_notes.Goals as goal
+use Rattle.eos_explaining.proofs.story_text.push_notes.Goals as goal
 
 pub returns : goal.returns
 unfolding notes_text

@@ -1,6 +1,6 @@
 use Rattle.std.proofs.Common.{◌∙◌, ℕ, ap, take}
 use Rattle.std.proofs.lemmas.List.{take_min}
-use Rattle.eos_explaining.proofs.whole_story.shown_lines.Goals as goal
+use Rattle.eos_explaining.proofs.story_text.shown_lines.Goals as goal
 
 pub returns : goal.returns
 returns c =

@@ -7,7 +7,7 @@ use Rattle.eos_explaining.specs.Stories.{lines_of_story, rows_text, page_text, n
 use Rattle.eos_explaining.specs.Told.{told_line}
 use Rattle.eos_explaining.proofs.LinesOnce.{each_once, front_of_all}
 use Rattle.eos_explaining.proofs.LinesShown.{first_among}
-use Rattle.eos_explaining.proofs.whole_story.story_text.Goals as goal
+use Rattle.eos_explaining.proofs.story_text.story_text.Goals as goal
 
 pub returns-clause-text : goal.returns-clause-text
 unfolding story_text

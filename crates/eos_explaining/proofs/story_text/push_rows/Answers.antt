@@ -4,7 +4,7 @@ use Rattle.eos_text.proofs.Appended.{then}
 use Rattle.eos_explaining.specs.Lines.{joined}
 use Rattle.eos_explaining.specs.Stories.{lines_of_story, rest_text, rows_text}
 use Rattle.eos_explaining.proofs.LinesOnce.{as_many, front_of_all}
-use Rattle.eos_explaining.proofs.whole_story.push_rows.Goals as goal
+use Rattle.eos_explaining.proofs.story_text.push_rows.Goals as goal
 
 pub returns : goal.returns
 unfolding rows_text
