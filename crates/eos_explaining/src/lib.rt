@@ -17,7 +17,6 @@ mod sentences;
 mod signs;
 mod story;
 mod story_text;
-mod times;
 mod told;
 mod twins;
 
