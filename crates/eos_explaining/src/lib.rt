@@ -15,6 +15,7 @@ mod records;
 mod rows;
 mod sentences;
 mod signs;
+mod stories;
 mod story;
 mod story_text;
 mod told;
@@ -22,4 +23,5 @@ mod twins;
 
 pub use answer::{Answer, Asked, explain};
 pub use folder::{Explained, Folder, Unexplained, Which, explain_folder, explain_folder_to};
+pub use stories::{First, first_stories, first_stories_of};
 pub use story_text::{Story, story_text};
