@@ -4,9 +4,10 @@
     python3 -B tests/draw.py PROGRAM [REFUSE.SO]
 
 Each picture is read by Python's XML parser; it may have no script and name nothing outside of itself. Its title has to be the line of `check`, its
-columns the transactions, and it has to have as many shapes of each kind as tests/plain_logs.py finds things to be drawn. Over the folds that the
-program makes of a folder, all of them or every other one, the picture has to be the same to the byte. Pictures of logs with hostile texts are among
-them. Where rsvg-convert or chromium is there, some are rendered and looked at. Run it in the repository's top folder.
+columns the transactions, and it has to have as many shapes of each kind as tests/plain_logs.py finds things to be drawn. What is told of a mark has
+the time that Python reads in the batch that holds its offset, and no time where there is none. Over the folds that the program makes of a folder, all
+of them or every other one, the picture has to be the same to the byte but for times, which folds don't have. Pictures of logs with hostile texts are
+among them. Where rsvg-convert or chromium is there, some are rendered and looked at. Run it in the repository's top folder.
 The last line is 'N passed, N failed'.
 """
 import collections
@@ -30,6 +31,7 @@ from fold_folders import files_in, fold_words, name_of, partitions_of, with_fold
 from made_evidence import text
 from plain_logs import ABORT, COMMIT, OFFSETS, STATES
 from random_evidence import Folder, Piece, sealed
+from story_lines import time_at, time_text
 
 SPACE = "{http://www.w3.org/2000/svg}"
 TAGS = {SPACE + name for name in ("svg", "title", "rect", "line", "path", "text")}
@@ -260,9 +262,58 @@ def check_folds(folder, words):
     folds = folds_in(folder)
     some = set(sorted(folds)[::2])
     for name, chosen in ("all-folds", lambda path: True), ("some-folds", lambda path: path in some):
-        found = drawn(over_folds(folder, folds, name, chosen), *words)
+        made = over_folds(folder, folds, name, chosen)
+        found = drawn(made, *words)
         same(f"draw {folder} {words}, {name}", found[:3], (status, printed, told))
-        same(f"draw {folder} {words}, {name}: its bytes", found[3] == data, True)
+        same(f"draw {folder} {words}, {name}: its bytes", without_times(found[3]) == without_times(data), True)
+        check_times(f"draw {folder} {words}, {name}", made, xml.fromstring(found[3]))
+
+
+# ---- times
+
+TOLD = re.compile(r"(\S*?-\d+)(?::(\d+))? .*?(?:, at (\d{4,}-\d\d-\d\dT\d\d:\d\d:\d\d\.\d{3}Z|-?\d+))?(?:; a place of the fault)?$", re.S)
+
+
+def without_times(data):
+    return re.sub(rb", at [0-9TZ:.-]+(?=; a place of the fault</title>|</title>)", b"", data)
+
+
+def times_in(folder):
+    """When each record was written, by its partition and offset, as far as a segment's bytes are batches, each where the one before ends."""
+    found = {}
+    with open(os.path.join(folder, "evidence.json"), encoding="utf-8") as file:
+        names = json.load(file)["ends"]
+    for name in names:
+        path = os.path.join(folder, name)
+        for segment in os.listdir(path) if os.path.isdir(path) else []:
+            if re.fullmatch("[0-9]{20}[.]log", segment):
+                with open(os.path.join(path, segment), "rb") as file:
+                    data = file.read()
+                found.update(times_of(name, int(segment[:20]), data))
+    return found
+
+
+def times_of(name, offset, data):
+    at = 0
+    while at < len(data):
+        try:
+            batch, size = plain_logs.read_batch(data, at)
+        except plain_logs.Refused:
+            return
+        if batch.base != offset:
+            return
+        yield from (((name, offset + place), time_at(data, at, place)) for place in range(batch.count))
+        at, offset = at + size, offset + batch.count
+
+
+def check_times(what, folder, root):
+    times = times_in(folder)
+    for it in root.iter(SPACE + "rect"):
+        if it.get("class") == "mark":
+            title = it.find(SPACE + "title").text
+            name, offset, time = TOLD.match(title).groups()
+            written = times.get((name, int(offset))) if offset else None
+            same(f"{what}: time of {title}", time, None if written is None else time_text(written))
 
 
 def check_picture(folder, around=None, number=None):
@@ -282,19 +333,21 @@ def check_picture(folder, around=None, number=None):
     same(f"{what}: name", root.find(SPACE + "title").text, line)
     same(f"{what}: title", "".join(it.text for it in root.iter(SPACE + "text") if it.get("class") == "title"), line)
     check_shapes(what, folder, root, printed, around or 6, line)
+    check_times(what, folder, root)
+    check_input(what, folder, root, line)
     if not number:
         check_folds(folder, words)
     return root
 
 
 def check_shapes(what, folder, root, printed, around, line):
-    _, parts = plain_logs.read_folder(folder)
+    apps, parts = plain_logs.read_folder(folder)
     every = transactions(parts)
     heads = headings(root)
     places = [int(head.split()[0][1:]) - 1 for head in heads]
     shown = [every[place] for place in places]
     same(f"{what}: columns", heads, [first_line(place, it) for place, it in zip(places, shown)])
-    middle = middle_of(every, parts, line)
+    middle = middle_of(every, apps, parts, line)
     if line.startswith("yes"):
         same(f"{what}: window", places, list(range(min(len(every), 2 * around))))
     elif middle is not None:
@@ -348,6 +401,31 @@ def windows(every, parts, line, middle, around):
     return found
 
 
+def check_input(what, folder, root, line):
+    """Of a lost output the first commit past its input, and the input, are places of the fault."""
+    if line.startswith("no 5.11 "):
+        titles = [it.find(SPACE + "title").text for it in root.iter(SPACE + "rect") if it.get("class") == "mark"]
+        of_fault = [title.split(" ")[0] for title in titles if title.endswith("; a place of the fault")]
+        apps, parts = plain_logs.read_folder(folder)
+        wanted = [*first_past(apps, parts, line), words_of(line)["source"]]
+        same(f"{what}: the commit past the input, and the input", [it for it in wanted if it not in of_fault], [])
+
+
+def first_past(apps, parts, line):
+    """Where the first visible commit of the line's group, or of the only one, stands that goes past its input."""
+    words = words_of(line)
+    group = next(app.group for app in apps if words.get("group", reference.escaped(app.group)) == reference.escaped(app.group))
+    name, offset = words["source"].rsplit(":", 1)
+    topic, number = name.rsplit("-", 1)
+    for part in parts:
+        if part.name[0] == OFFSETS:
+            for _, place, record in plain_logs.records_of(part, only_visible=True):
+                key, committed = commit_in(part, record) or (None, 0)
+                if key and key == (group, topic.encode(), int(number)) and committed > int(offset):
+                    return [f"{reference.place_text(part.name)}:{place}"]
+    return []
+
+
 def check_labels(what, root):
     """Below each ring around a box stands the offset: that in the box, or of a commit, whose box has another text, a number."""
     words = {(int(it.get("x")), int(it.get("y"))): (it.get("class"), it.text) for it in root.iter(SPACE + "text")}
@@ -367,9 +445,12 @@ def is_inside(it, width, height):
     return 0 <= x and 0 <= y and x + w <= width and y + h <= height
 
 
-def middle_of(every, parts, line):
-    """Where the fault names the place of a record of a transaction: that transaction's place."""
+def middle_of(every, apps, parts, line):
+    """Where the fault names the place of a record of a transaction: that transaction's place. Of a lost output it is that of the first
+    commit past its input."""
     at = [word[3:] for word in line.split() if word.startswith("at=")]
+    if line.startswith("no 5.11 "):
+        at = first_past(apps, parts, line)
     if not at:
         return None
     name, offset = at[0].rsplit(":", 1)

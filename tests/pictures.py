@@ -6,7 +6,7 @@
 Each folder is made here, of transactions of a few producers in named partitions, with a marker lost, exchanged, doubled or of a wrong
 epoch, a record of the transaction log that doesn't read, long transactional ids, or fifty partitions of that log. What is looked for is
 written by hand: which transactions are shown and in which order, in which row and which transaction's column a mark stands, of which class
-it is, and what is told of it. Where rsvg-convert or chromium is there, the pictures are rendered, and the marks looked for by their colour.
+it is, and what is told of it, with its time, also where that is none of a calendar's years. Where rsvg-convert or chromium is there, the pictures are rendered, and the marks looked for by their colour.
 Run it in the repository's top folder.
 The last line is 'N passed, N failed'.
 """
@@ -23,6 +23,7 @@ import made_evidence
 from draw import SPACE, pixels_of
 from made_evidence import STATES
 from random_evidence import Folder, Piece, sealed
+from story_lines import TIMES, time_text, with_times
 
 COMMIT, ABORT = 1, 0
 RED, BLUE, WHITE = (0xD0, 0, 0), (0, 0x72, 0xB2), (255, 255, 255)
@@ -91,12 +92,13 @@ class Cluster:
         self.begin(producer, *names)
         self.end(producer, *names, kind=kind)
 
-    def write(self, path):
+    def write(self, path, change=lambda folder: None):
         folder = Folder.__new__(Folder)
         folder.manifest = {"version": 2, "apps": [], "ends": dict(self.maker.lengths)}
         folder.logs = {name: [Piece(it) for it in log] or [Piece(b"", 0)] for name, log in self.maker.logs.items()}
         for log in folder.logs.values():
             log[0].name = 0
+        change(folder)
         folder.write(path)
 
 
@@ -342,6 +344,25 @@ def check(name, make, line, wanted):
     look_at(name, path, picture)
 
 
+def check_times():
+    """Of each mark that has an offset the time stands behind what it is, as a date, or where that has no year of four digits as a number."""
+    for time in TIMES:
+        for appended in False, True:
+            name = f"time {time} {appended}"
+            folder, path = os.path.join(scratch, name), os.path.join(scratch, name + ".svg")
+            cluster = Cluster("out-0", "out-1")
+            both_kinds(cluster)
+            cluster.write(folder, with_times(sealed, 7 if appended else time, time if appended else 7, appended))
+            done = subprocess.run([program, "draw", folder, path], capture_output=True, timeout=100)
+            same(f"{name}: drawn", (done.returncode, done.stderr), (1, b""))
+            titles = [mark[3] for mark in Picture(path).marks]
+            placed = [title for title in titles if re.match(r"\S+-\d+:\d+ ", title)]
+            end = f", at {time_text(time)}"
+            same(f"{name}: told", [title for title in placed if not title.removesuffix("; a place of the fault").endswith(end)], [])
+            same(f"{name}: of these there are", len(placed) > 5, True)
+            same(f"{name}: not told", [title for title in titles if title not in placed and ", at " in title], [])
+
+
 # ---- rendered
 
 
@@ -380,6 +401,7 @@ def look_at(name, path, picture):
 def main():
     for name, (make, line, wanted) in CASES.items():
         check(name, make, line, wanted)
+    check_times()
     print(f"{passed} passed, {failed} failed")
     sys.exit(1 if failed else 0)
 

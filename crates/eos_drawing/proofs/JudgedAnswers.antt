@@ -8,6 +8,7 @@ use Rattle.eos_check.specs.declared.verdict.Fault.{Fault}
 use Rattle.eos_check.specs.declared.verdict.Verdict.{Verdict}
 use Rattle.eos_check.specs.declared.verdict.Verdict.TheVariants.{Yes, No}
 use Rattle.eos_check.specs.Verdicts.{IsVerdict}
+use Rattle.eos_evidence.specs.declared.partition.Partition.{Partition}
 use Rattle.eos_evidence.specs.Evidence.{EvidenceParts}
 use Rattle.eos_picture.specs.declared.mark.Picture.{Picture}
 use Rattle.eos_source.specs.Said.{Known}
@@ -18,27 +19,32 @@ use Rattle.eos_source_check.specs.Listed.{IsListOf}
 use Rattle.eos_drawing.specs.declared.answer.Answer.{Answer}
 use Rattle.eos_drawing.specs.declared.answer.Answer.TheVariants as answers
 use Rattle.eos_drawing.specs.declared.answer.Drawn.{Drawn}
+use Rattle.eos_drawing.specs.declared.when.Times.{Times}
 use Rattle.eos_drawing.specs.Drawings.{fault_of, around_of, AreItsFaults, IsShown, IsDrawing, AreTooFew}
 use Rattle.eos_drawing.specs.Folders.{is_later, HoldsAsRead}
 use Rattle.eos_drawing.specs.Pictures.{IsPictureOf}
+use Rattle.eos_drawing.specs.Whens.{AreTimesOfRows}
 use Rattle.eos_drawing.specs.steps.Answers.{IsAnswer, IsText, IsDrawnBy, IsAnswerBy}
 
-drawing_is : (e : EvidenceParts) (judged : Judged) (verdict : Verdict) (fault around : Option ℕ) (drawn : Drawn) → IsJudgedFor judged e → IsShown e fault verdict
-    → IsDrawnBy judged verdict around drawn → IsDrawing e fault around drawn.status (string_bytes drawn.line) (string_bytes drawn.text)
-drawing_is e judged verdict fault around drawn j shown d = record {
+drawing_is : (known : ℕ → Known) (partitions : List Partition) (e : EvidenceParts) (judged : Judged) (verdict : Verdict) (fault around : Option ℕ) (drawn : Drawn) → IsJudgedFor judged e → IsShown e fault verdict
+    → IsDrawnBy known partitions judged verdict around drawn → IsDrawing known partitions e fault around drawn.status (string_bytes drawn.line) (string_bytes drawn.text)
+drawing_is known partitions e judged verdict fault around drawn j shown d = record {
   verdict = verdict;
   shown = shown;
   picture = d.picture;
   is = d.is e j;
   size = d.text.size;
+  times = d.times;
+  when = d.when;
   drawing = d.text.drawing;
+  told = d.text.told;
   title = d.text.title;
   says = d.text.says;
   exit = d.text.exit;
 }
 
 pub of_judged : (known : ℕ → Known) (shape : EvidenceParts) (judged : Judged) (fault around : Option ℕ) (answer : Answer) → IsJudgedOf known shape judged
-    → IsAnswerBy known shape judged fault around answer → HoldsAsRead known shape (is_later fault) (IsAnswer fault around answer)
+    → IsAnswerBy known shape judged fault around answer → HoldsAsRead known shape (is_later fault) (IsAnswer fault around answer known shape.partitions)
 of_judged known shape judged fault around answer j a = record {
   again = a.again;
   once = a.once;
@@ -52,20 +58,20 @@ pub many_around : (around : Option ℕ) → unwrap_or around 6 ≡ around_of aro
 many_around None = refl
 many_around (Some many) = refl
 
-pub drawn_by : {E : Type 0} (judged : Judged) (verdict : Verdict) (around : Option ℕ) (picture : Picture) (result : Result Drawn E)
-    → ((e : EvidenceParts) → IsJudgedFor judged e → IsPictureOf e (fault_of verdict) (around_of around) picture) → IfOk result (IsText picture verdict) → IfOk result (IsDrawnBy judged verdict around)
-drawn_by judged verdict around picture (Ok drawn) is text = record { picture = picture; is = is; text = text }
-drawn_by judged verdict around picture (Err refused) is text = tt
+pub drawn_by : (known : ℕ → Known) (partitions : List Partition) (judged : Judged) (verdict : Verdict) (around : Option ℕ) (picture : Picture) (times : List Times) (drawn : Drawn)
+    → ((e : EvidenceParts) → IsJudgedFor judged e → IsPictureOf e (fault_of verdict) (around_of around) picture) → AreTimesOfRows known partitions picture.rows.items times → IsText picture times verdict drawn
+    → IsDrawnBy known partitions judged verdict around drawn
+drawn_by known partitions judged verdict around picture times drawn is when text = record { picture = picture; is = is; times = times; when = when; text = text }
 
 -- ---- of the verdict itself
 
-pub shown : (known : ℕ → Known) (shape : EvidenceParts) (judged : Judged) (fault around : Option ℕ) (drawn : Drawn) → fault ≡ None → IsDrawnBy judged judged.verdict around drawn
+pub shown : (known : ℕ → Known) (shape : EvidenceParts) (judged : Judged) (fault around : Option ℕ) (drawn : Drawn) → fault ≡ None → IsDrawnBy known shape.partitions judged judged.verdict around drawn
     → IsAnswerBy known shape judged fault around (answers.Drawn drawn)
 shown known shape judged fault around drawn none d = record {
   again = [];
   once = λ _. refl;
   read = tt;
-  are = λ e spec j there. drawing_is e judged judged.verdict fault around drawn j (subst (λ (f : Option ℕ). IsShown e f judged.verdict) (sym none) j.verdict) d;
+  are = λ e spec j there. drawing_is known shape.partitions e judged judged.verdict fault around drawn j (subst (λ (f : Option ℕ). IsShown e f judged.verdict) (sym none) j.verdict) d;
 }
 
 pub none_of_yes : (known : ℕ → Known) (shape : EvidenceParts) (judged : Judged) (fault around : Option ℕ) (number : ℕ) (counts : Counts) → fault ≡ Some number → judged.verdict ≡ Yes counts
@@ -78,13 +84,13 @@ none_of_yes known shape judged fault around number counts asked is = record {
 }
 
 pub first_shown : (known : ℕ → Known) (shape : EvidenceParts) (judged : Judged) (fault around : Option ℕ) (number : ℕ) (drawn : Drawn) → fault ≡ Some number → number ≤ 1
-    → (f : Fault) × (judged.verdict ≡ No f) → IsDrawnBy judged judged.verdict around drawn → IsAnswerBy known shape judged fault around (answers.Drawn drawn)
+    → (f : Fault) × (judged.verdict ≡ No f) → IsDrawnBy known shape.partitions judged judged.verdict around drawn → IsAnswerBy known shape judged fault around (answers.Drawn drawn)
 first_shown known shape judged fault around number drawn asked first is d = record {
   again = [];
   once = λ _. refl;
   read = tt;
   are = λ e spec j there.
-      drawing_is e judged judged.verdict fault around drawn j
+      drawing_is known shape.partitions e judged judged.verdict fault around drawn j
       (subst (λ (f : Option ℕ). IsShown e f judged.verdict) (sym asked) (is.0, is.1, inl (first, subst (IsVerdict e) is.1 j.verdict))) d;
 }
 
@@ -101,13 +107,13 @@ list_of known shape e judged faults list spec j there = record { logs = j.logs.w
 
 pub later_shown : (known : ℕ → Known) (shape : EvidenceParts) (judged : Judged) (fault around : Option ℕ) (number : ℕ) (faults : List Fault) (verdict : Verdict) (drawn : Drawn)
     → fault ≡ Some number → 1 < number → IsListOf known shape judged.logs faults → (f : Fault) × (verdict ≡ No f) × (slice_get faults (number - 1) ≡ Some f)
-    → IsDrawnBy judged verdict around drawn → IsAnswerBy known shape judged fault around (answers.Drawn drawn)
+    → IsDrawnBy known shape.partitions judged verdict around drawn → IsAnswerBy known shape judged fault around (answers.Drawn drawn)
 later_shown known shape judged fault around number faults verdict drawn asked later list at d = record {
   again = list.again;
   once = λ first. absurd (never_first number later (subst (λ (f : Option ℕ). is_later f ≡ false) asked first));
   read = list.read;
   are = λ e spec j there.
-      drawing_is e judged verdict fault around drawn j
+      drawing_is known shape.partitions e judged verdict fault around drawn j
       (subst (λ (f : Option ℕ). IsShown e f verdict) (sym asked) (at.0, at.1, inr (later, faults, list_of known shape e judged faults list spec j there, at.2))) d;
 }
 

@@ -3,3 +3,5 @@ mod JudgedAnswers
 pub mod KeptPictures
 pub mod Escaped
 mod Placed
+pub mod Tellings
+pub mod RowTimes

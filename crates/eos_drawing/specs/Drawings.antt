@@ -8,14 +8,19 @@ use Rattle.eos_check.specs.declared.verdict.Fault.{Fault}
 use Rattle.eos_check.specs.declared.verdict.Verdict.{Verdict}
 use Rattle.eos_check.specs.declared.verdict.Verdict.TheVariants.{Yes, No}
 use Rattle.eos_check.specs.Verdicts.{IsVerdict}
+use Rattle.eos_evidence.specs.declared.partition.Partition.{Partition}
 use Rattle.eos_evidence.specs.Evidence.{EvidenceParts}
 use Rattle.eos_fold.specs.Parts.{PartLog}
 use Rattle.eos_lineage.specs.EvidenceLogs.{AreLogsOf}
 use Rattle.eos_picture.specs.declared.mark.Picture.{Picture}
 use Rattle.eos_report.specs.VerdictTexts.{verdict_line, status_of}
+use Rattle.eos_source.specs.Said.{Known}
 use Rattle.eos_drawing.specs.declared.drawing.Drawing.{Drawing}
+use Rattle.eos_drawing.specs.declared.when.Times.{Times}
 use Rattle.eos_drawing.specs.Shapes.{svg_text}
 use Rattle.eos_drawing.specs.Pictures.{IsPictureOf}
+use Rattle.eos_drawing.specs.Told.{TellOf}
+use Rattle.eos_drawing.specs.Whens.{AreTimesOfRows}
 
 -- the fault that a verdict names
 abbrev pub fault_of : Verdict → Option Fault
@@ -48,14 +53,18 @@ abbrev pub drew_line : Picture → List ℕ
 drew_line picture =
     codes "drew columns=" ++ (decimal (length picture.columns.items) ++ (codes " rows=" ++ (decimal (length picture.rows.items) ++ codes "\n")))
 
--- a picture of the evidence: the line on its size, and the text of a drawing that has the verdict's line as its title
-pub record IsDrawing (e : EvidenceParts) (fault around : Option ℕ) (status : ℕ) (line text : List ℕ) : Type 0 where
+-- a picture of the evidence: the line on its size, and the text of a drawing that has the verdict's line as its title, and tells of the
+-- picture's marks, with the times of their records in these partitions, of whose pieces so much is known
+pub record IsDrawing (known : ℕ → Known) (partitions : List Partition) (e : EvidenceParts) (fault around : Option ℕ) (status : ℕ) (line text : List ℕ) : Type 0 where
   pub verdict : Verdict
   pub shown : IsShown e fault verdict
   pub picture : Picture
   pub is : IsPictureOf e (fault_of verdict) (around_of around) picture
   pub size : line ≡ drew_line picture
+  pub times : List Times
+  pub when : AreTimesOfRows known partitions picture.rows.items times
   pub drawing : Drawing
+  pub told : TellOf picture times drawing.shapes
   pub title : string_bytes drawing.title ≡ trim_end (verdict_line verdict)
   pub says : text ≡ svg_text drawing
   pub exit : status ≡ status_of verdict

@@ -8,7 +8,7 @@ use Rattle.eos_evidence.specs.declared.partition.Partition.{Partition}
 use Rattle.eos_evidence.specs.Evidence.{EvidenceParts, segments_of}
 use Rattle.eos_disk.specs.declared.names.Form.{Form}
 use Rattle.eos_disk.specs.Shapes.{IsShapeAt}
-use Rattle.eos_source.specs.Saying.{known_at}
+use Rattle.eos_source.specs.Saying.{known_at, StandsAt}
 use Rattle.eos_source.specs.Said.{Known}
 use Rattle.eos_source.specs.Shapes.{HoldsAsSaid}
 use Rattle.eos_source_check.specs.Again.{AreAgain, AreThere}
@@ -30,27 +30,32 @@ pub record HoldsAsRead (known : ℕ → Known) (shape : EvidenceParts) (later : 
   pub read : AreAgain known 0 shape.partitions again
   pub are : HoldsAsSaid known shape (λ evidence. AreThere again evidence.partitions → Holds evidence)
 
--- a shape stands in this folder, and so it is with each evidence of it whose segments are such as their files say
-pub record HoldsOf (holds : List ℕ → Entry) (folder : List ℕ) (later : Bool) (Holds : EvidenceParts → Type 0) : Type 0 where
+-- a shape stands in this folder, and so it is, by what is known of the files of its partitions, with each evidence of it whose segments
+-- are such as their files say
+pub record HoldsOf (holds : List ℕ → Entry) (folder : List ℕ) (later : Bool) (Holds : (ℕ → Known) → List Partition → EvidenceParts → Type 0) : Type 0 where
   pub shape : EvidenceParts
   pub forms : List Form
   pub is : IsShapeAt holds folder shape forms
-  pub each : HoldsAsRead (known_at holds folder (segments_of shape.partitions) forms) shape later Holds
+  pub each : HoldsAsRead (known_at holds folder (segments_of shape.partitions) forms) shape later (Holds (known_at holds folder (segments_of shape.partitions) forms) shape.partitions)
+
+-- so it is with an evidence that stands in this folder, by what its files are known to say
+abbrev pub HoldsAt : (holds : List ℕ → Entry) → (folder : List ℕ) → (e : EvidenceParts) → StandsAt holds folder e → ((ℕ → Known) → List Partition → EvidenceParts → Type 0) → Type 0
+HoldsAt holds folder e at Holds = Holds (known_at holds folder (segments_of at.shape.partitions) at.forms) at.shape.partitions e
 
 -- the picture's text is the new file, and the line was printed
-pub record IsDrawn (fault around : Option ℕ) (file : List ℕ) (old new : List ℕ → Entry) (before after : Option (List ℕ)) (status : ℕ) (e : EvidenceParts) : Type 0 where
+pub record IsDrawn (fault around : Option ℕ) (file : List ℕ) (old new : List ℕ → Entry) (before after : Option (List ℕ)) (status : ℕ) (known : ℕ → Known) (partitions : List Partition) (e : EvidenceParts) : Type 0 where
   pub line : List ℕ
   pub text : List ℕ
-  pub is : IsDrawing e fault around status line text
+  pub is : IsDrawing known partitions e fault around status line text
   pub placed : IsPlaced old file text new
   pub printed : Appends before after line
 
 -- the picture's text is the new file, and a front of the line was printed
-pub record IsHalfDrawn (fault around : Option ℕ) (file : List ℕ) (old new : List ℕ → Entry) (before after : Option (List ℕ)) (e : EvidenceParts) : Type 0 where
+pub record IsHalfDrawn (fault around : Option ℕ) (file : List ℕ) (old new : List ℕ → Entry) (before after : Option (List ℕ)) (known : ℕ → Known) (partitions : List Partition) (e : EvidenceParts) : Type 0 where
   pub status : ℕ
   pub line : List ℕ
   pub text : List ℕ
-  pub is : IsDrawing e fault around status line text
+  pub is : IsDrawing known partitions e fault around status line text
   pub placed : IsPlaced old file text new
   pub printed : WritesFront before after line
 

@@ -6,3 +6,6 @@ pub mod Escaping
 pub mod CharacterData
 pub mod Looks
 pub mod Shapes
+pub mod Titles
+pub mod Told
+pub mod Whens

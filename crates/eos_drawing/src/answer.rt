@@ -12,10 +12,11 @@ ghost use Rattle.eos_report.specs.VerdictTexts.{verdict_line, status_of};
 ghost use Rattle.eos_source.specs.Said.{known_by};
 
 use crate::picture::judged_picture;
+use crate::when::{Times, times_of_rows};
 use crate::{drawing_of, svg_text};
 use eos_base::Workers;
 use eos_check::{Fault, Verdict};
-use eos_evidence::{Evidence, Spec};
+use eos_evidence::Evidence;
 use eos_picture::Picture;
 use eos_report::verdict_line;
 use eos_source::Source;
@@ -69,7 +70,7 @@ pub(crate) fn answer_source<S: Source, R: Threads + Sync>(
     pieces: Pieces<'_, S>,
     wanted: Wanted,
 ) -> Result<Answer, Unlisted<S::Fault>>
-    ensures { IfOk result (λ answer. HoldsAsRead (known_by (S.said pieces.entry.source.now) (S.is_log pieces.entry.source.now)) pieces.entry.shape.now (is_later wanted.fault) (IsAnswer wanted.fault wanted.around answer)) }
+    ensures { IfOk result (λ answer. HoldsAsRead (known_by (S.said pieces.entry.source.now) (S.is_log pieces.entry.source.now)) pieces.entry.shape.now (is_later wanted.fault) (IsAnswer wanted.fault wanted.around answer (known_by (S.said pieces.entry.source.now) (S.is_log pieces.entry.source.now)) pieces.entry.shape.now.partitions)) }
 {
     let workers = Workers::standard();
     match judge_source(alloc, threads, pieces.source, pieces.shape, workers) {
@@ -97,7 +98,7 @@ fn answer_judged<S: Source>(
             Verdict::No(_) => answer_numbered(alloc, pieces, judged, wanted, number),
         },
         None => {
-            let drawn = drawn_of(alloc, pieces.shape.spec(), judged, &judged.verdict, wanted)?;
+            let drawn = drawn_of(alloc, pieces, judged, &judged.verdict, wanted)?;
             Ok(Answer::Drawn(drawn))
         }
     }
@@ -118,7 +119,7 @@ fn answer_numbered<S: Source>(
     if number > 1 {
         return answer_later(alloc, pieces, judged, wanted, number);
     }
-    let drawn = drawn_of(alloc, pieces.shape.spec(), judged, &judged.verdict, wanted)?;
+    let drawn = drawn_of(alloc, pieces, judged, &judged.verdict, wanted)?;
     Ok(Answer::Drawn(drawn))
 }
 
@@ -138,7 +139,7 @@ fn answer_later<S: Source>(
     let faults = all_source_faults(alloc, pieces.source, pieces.shape, &judged.logs)?;
     match later_of(faults, number) {
         Ok(verdict) => {
-            let drawn = drawn_of(alloc, pieces.shape.spec(), judged, &verdict, wanted)?;
+            let drawn = drawn_of(alloc, pieces, judged, &verdict, wanted)?;
             Ok(Answer::Drawn(drawn))
         }
         Err(count) => Ok(Answer::TooFew(count)),
@@ -169,27 +170,35 @@ fn fault_of(verdict: &Verdict) -> Option<&Fault>
     }
 }
 
-/// Of the fault of this verdict, or of none at yes.
-fn drawn_of(
+/// Of the fault of this verdict, or of none at yes. The segments in which the picture's records lie are read again for their times.
+fn drawn_of<S: Source>(
     alloc: Global,
-    spec: &Spec,
+    pieces: Pieces<'_, S>,
     judged: &Judged,
     verdict: &Verdict,
     wanted: Wanted,
-) -> Result<Drawn, AllocError>
-    ensures { IfOk result (IsDrawnBy judged.now verdict.now wanted.around) }
+) -> Result<Drawn, Unlisted<S::Fault>>
+    ensures { IfOk result (IsDrawnBy (known_by (S.said pieces.entry.source.now) (S.is_log pieces.entry.source.now)) pieces.entry.shape.now.partitions judged.now verdict.now wanted.around) }
 {
     let around = wanted.around.unwrap_or(AROUND) as usize;
+    let spec = pieces.shape.spec();
     let picture = judged_picture(alloc, spec, judged, fault_of(verdict), around)?;
-    drawn_picture(alloc, &picture, verdict)
+    let times = times_of_rows(alloc, pieces.source, pieces.shape, picture.rows.as_slice())?;
+    let drawn = drawn_picture(alloc, &picture, times.as_slice(), verdict)?;
+    Ok(drawn)
 }
 
-/// This picture, with the verdict's line as its title.
-fn drawn_picture(alloc: Global, picture: &Picture, verdict: &Verdict) -> Result<Drawn, AllocError>
-    ensures { IfOk result (IsText picture.now verdict.now) }
+/// This picture, with these times and the verdict's line as its title.
+fn drawn_picture(
+    alloc: Global,
+    picture: &Picture,
+    times: &[Times],
+    verdict: &Verdict,
+) -> Result<Drawn, AllocError>
+    ensures { IfOk result (IsText picture.now times.now verdict.now) }
 {
     let title = title_of(alloc, verdict)?;
-    let drawing = drawing_of(alloc, picture, title)?;
+    let drawing = drawing_of(alloc, picture, times, title)?;
     Ok(Drawn {
         status: status_of(verdict),
         line: line_of(alloc, picture)?,

@@ -1,5 +1,8 @@
 //! Shapes that are drawn one after the other.
 
+ghost use Rattle.std.specs.Prelude.{◌≡◌, ◌++◌, ◌∷◌, [], OnOk, string_bytes};
+ghost use Rattle.eos_drawing.specs.Told.{telling, tellings};
+
 use crate::{Line, Look, Point, Shape, Size};
 use std::alloc::{AllocError, Global};
 
@@ -22,7 +25,9 @@ pub(crate) fn moved(at: Point, right: u64, down: u64) -> Point {
 }
 
 impl Canvas {
-    pub(crate) fn new(alloc: Global) -> Canvas {
+    pub(crate) fn new(alloc: Global) -> Canvas
+        ensures { tellings result.shapes.items ≡ [] }
+    {
         Canvas {
             alloc,
             shapes: Vec::new(alloc),
@@ -30,47 +35,63 @@ impl Canvas {
         }
     }
 
-    pub(crate) fn rectangle(
-        &mut self,
-        at: Point,
-        size: Size,
-        look: Look,
-    ) -> Result<(), AllocError> {
-        self.shapes.push(Shape::Rectangle { at, size, look })?;
+    /// Draws a shape of which nothing is told.
+    #[tactic(auto, using(crate::proofs::Tellings::silent))]
+    fn push(&mut self, shape: Shape) -> Result<(), AllocError>
+        requires { telling shape ≡ [] }
+        ensures { OnOk result (tellings self.new.shapes.items ≡ tellings self.old.shapes.items) }
+    {
+        self.shapes.push(shape)?;
         Ok(())
     }
 
-    pub(crate) fn diamond(&mut self, at: Point, look: Look) -> Result<(), AllocError> {
-        self.shapes.push(Shape::Diamond { at, look })?;
-        Ok(())
+    pub(crate) fn rectangle(&mut self, at: Point, size: Size, look: Look) -> Result<(), AllocError>
+        ensures { OnOk result (tellings self.new.shapes.items ≡ tellings self.old.shapes.items) }
+    {
+        self.push(Shape::Rectangle { at, size, look })
     }
 
-    pub(crate) fn line(&mut self, from: Point, to: Point, look: Look) -> Result<(), AllocError> {
-        self.shapes.push(Shape::Line {
+    pub(crate) fn diamond(&mut self, at: Point, look: Look) -> Result<(), AllocError>
+        ensures { OnOk result (tellings self.new.shapes.items ≡ tellings self.old.shapes.items) }
+    {
+        self.push(Shape::Diamond { at, look })
+    }
+
+    pub(crate) fn line(&mut self, from: Point, to: Point, look: Look) -> Result<(), AllocError>
+        ensures { OnOk result (tellings self.new.shapes.items ≡ tellings self.old.shapes.items) }
+    {
+        self.push(Shape::Line {
             line: Line { from, to },
             look,
-        })?;
-        Ok(())
+        })
     }
 
-    pub(crate) fn text(&mut self, at: Point, text: String, look: Look) -> Result<(), AllocError> {
-        self.shapes.push(Shape::Text { at, text, look })?;
-        Ok(())
+    pub(crate) fn text(&mut self, at: Point, text: String, look: Look) -> Result<(), AllocError>
+        ensures { OnOk result (tellings self.new.shapes.items ≡ tellings self.old.shapes.items) }
+    {
+        self.push(Shape::Text { at, text, look })
     }
 
-    pub(crate) fn words(&mut self, at: Point, words: &str, look: Look) -> Result<(), AllocError> {
+    pub(crate) fn words(&mut self, at: Point, words: &str, look: Look) -> Result<(), AllocError>
+        ensures { OnOk result (tellings self.new.shapes.items ≡ tellings self.old.shapes.items) }
+    {
         let text = String::from_str(self.alloc, words)?;
         self.text(at, text, look)
     }
 
     /// What is told of a shape of this size where a pointer rests on it.
-    pub(crate) fn told(&mut self, at: Point, size: Size, text: String) -> Result<(), AllocError> {
+    #[tactic(auto, using(crate::proofs::Tellings::told))]
+    pub(crate) fn told(&mut self, at: Point, size: Size, text: String) -> Result<(), AllocError>
+        ensures { OnOk result (tellings self.new.shapes.items ≡ tellings self.old.shapes.items ++ string_bytes text ∷ []) }
+    {
         self.shapes.push(Shape::Told { at, size, text })?;
         Ok(())
     }
 
     /// A ring around a shape of this size, which is a place of the fault.
-    pub(crate) fn ring(&mut self, at: Point, size: Size) -> Result<(), AllocError> {
+    pub(crate) fn ring(&mut self, at: Point, size: Size) -> Result<(), AllocError>
+        ensures { OnOk result (tellings self.new.shapes.items ≡ tellings self.old.shapes.items) }
+    {
         let corner = Point {
             x: at.x.saturating_sub(3),
             y: at.y.saturating_sub(3),
@@ -85,7 +106,9 @@ impl Canvas {
     }
 
     /// Arcs from each of these points to the next one.
-    pub(crate) fn arcs(&mut self, spots: &[Point]) -> Result<(), AllocError> {
+    pub(crate) fn arcs(&mut self, spots: &[Point]) -> Result<(), AllocError>
+        ensures { OnOk result (tellings self.new.shapes.items ≡ tellings self.old.shapes.items) }
+    {
         for i in 1..spots.len() {
             let from = spots[i - 1];
             let to = spots[i];
@@ -93,7 +116,7 @@ impl Canvas {
                 x: from.x / 2 + to.x / 2,
                 y: from.y.min(to.y).saturating_sub(44),
             };
-            self.shapes.push(Shape::Arc {
+            self.push(Shape::Arc {
                 line: Line { from, to },
                 over,
                 look: Look::FaultArc,

@@ -1,5 +1,8 @@
 //! How much a cell of a row holds, and where in it what lies.
 
+ghost use Rattle.std.specs.Prelude.{◌≡◌, ◌<◌, ◌≤◌, true, false, length, IfOk};
+ghost use Rattle.eos_drawing.specs.Titles.{mark_offset};
+
 use crate::Point;
 use crate::canvas::moved;
 use crate::plan::{LINE, Plan};
@@ -32,7 +35,9 @@ pub(crate) fn room_of(sign: &Sign) -> Room {
 }
 
 /// The offset at which the mark's record stands, if it is known.
-pub(crate) fn offset_of(mark: &Mark) -> Option<u64> {
+pub(crate) fn offset_of(mark: &Mark) -> Option<u64>
+    ensures { result ≡ mark_offset mark.now }
+{
     match &mark.sign {
         Sign::Decision { offset, .. } | Sign::Record { offset, .. } | Sign::Commit { offset, .. } =>
             Some(*offset),
@@ -63,7 +68,9 @@ const EMPTY: Cell = Cell {
 
 impl Cell {
     /// Whether there is no room for the mark.
-    pub(crate) fn is_full(self, mark: &Mark) -> bool {
+    pub(crate) fn is_full(self, mark: &Mark) -> bool
+        ensures { result ≡ true → mark.now.is_of_fault ≡ false }
+    {
         let taken = match room_of(&mark.sign) {
             Room::Box => self.boxes,
             Room::Line => self.lines,
@@ -101,21 +108,41 @@ impl Cell {
     }
 }
 
-pub(crate) fn empty_cells(alloc: Global, columns: usize) -> Result<Vec<Cell>, AllocError> {
+pub(crate) fn empty_cells(alloc: Global, columns: usize) -> Result<Vec<Cell>, AllocError>
+    ensures { IfOk result (λ cells. length cells.items ≡ columns) }
+{
     let mut cells = Vec::new(alloc);
-    for _column in 0..columns {
+    for _ in 0..columns {
         cells.push(EMPTY)?;
     }
     Ok(cells)
 }
 
+/// The place of the mark's column among so many that are drawn; the last one stands for those that aren't.
+pub(crate) fn column_in(mark: &Mark, columns: usize) -> usize
+    requires { 1 ≤ columns }
+    ensures { result < columns }
+{
+    mark.column.min(columns - 1)
+}
+
+/// Puts the mark into the cell at this place.
+pub(crate) fn put_mark(cells: &mut Vec<Cell>, column: usize, mark: &Mark)
+    requires { column < length cells.old.items }
+    ensures { length cells.new.items ≡ length cells.old.items }
+{
+    cells[column] = cells[column].with(mark);
+}
+
 /// What each cell of a row holds.
-pub(crate) fn cells_of(alloc: Global, columns: usize, row: &Row) -> Result<Vec<Cell>, AllocError> {
+pub(crate) fn cells_of(alloc: Global, columns: usize, row: &Row) -> Result<Vec<Cell>, AllocError>
+    requires { 1 ≤ columns }
+    ensures { IfOk result (λ cells. length cells.items ≡ columns) }
+{
     let mut cells = empty_cells(alloc, columns)?;
     for mark in row.marks.as_slice() {
-        if mark.column < cells.len() {
-            cells[mark.column] = cells[mark.column].with(mark);
-        }
+        let column = column_in(mark, columns);
+        put_mark(&mut cells, column, mark);
     }
     Ok(cells)
 }

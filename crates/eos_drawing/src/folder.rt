@@ -4,7 +4,7 @@ ghost use Rattle.std.specs.Prelude.{◌≡◌, ◌≢◌, ℕ, IfOk, IfErr, OnEr
 ghost use Rattle.std.specs.Io.KnownBytes.{Keeps};
 ghost use Rattle.eos_disk.specs.Putting.{IsBegun};
 ghost use Rattle.eos_drawing.specs.Drawings.{AreTooFew};
-ghost use Rattle.eos_drawing.specs.Folders.{is_later, HoldsAsRead, HoldsOf, IsDrawn, IsHalfDrawn, IsUntouched};
+ghost use Rattle.eos_drawing.specs.Folders.{is_later, HoldsAsRead, HoldsOf, HoldsAt, IsDrawn, IsHalfDrawn, IsUntouched};
 ghost use Rattle.eos_drawing.specs.steps.Answers.{IsAnswer};
 ghost use Rattle.eos_drawing.specs.declared.folder.Undrawn.TheVariants.{CannotPrint, TooFew};
 ghost use Rattle.eos_evidence.specs.Evidence.{EvidenceParts, segments_of};
@@ -60,7 +60,7 @@ fn answer_shape<D: Disk, T: Watch, R: Threads + Sync>(
     shape: &Shape,
 ) -> Result<Answer, FolderFault>
     ensures { IfOk result (λ answer. HoldsAsRead (known_at (D.holds asked.now.disk.now) asked.now.folder.now (segments_of shape.now.evidence.partitions) shape.now.forms.items) shape.now.evidence (is_later asked.now.fault)
-        (IsAnswer asked.now.fault asked.now.around answer)) }
+        (IsAnswer asked.now.fault asked.now.around answer (known_at (D.holds asked.now.disk.now) asked.now.folder.now (segments_of shape.now.evidence.partitions) shape.now.forms.items) shape.now.evidence.partitions)) }
 {
     let source = FolderSource {
         disk: asked.disk,
@@ -137,17 +137,19 @@ pub fn draw_folder_to<D: Disk, E: DiskMut, T: Watch, R: Threads + Sync, W: Write
 ) -> Result<u8, Undrawn>
     ensures some { IfOk result (λ status. HoldsOf (D.holds asked.now.disk.now) asked.now.folder.now (is_later asked.now.fault)
         (IsDrawn asked.now.fault asked.now.around asked.now.file.now (E.holds disk.old) (E.holds disk.new) (W.contents writer.old) (W.contents writer.new) status)) }
-    ensures known { (e : EvidenceParts) → AreKnown (D.holds asked.now.disk.now) asked.now.folder.now → StandsAt (D.holds asked.now.disk.now) asked.now.folder.now e
-        → IfOk result (λ status. IsDrawn asked.now.fault asked.now.around asked.now.file.now (E.holds disk.old) (E.holds disk.new) (W.contents writer.old) (W.contents writer.new) status e) }
+    ensures known { (e : EvidenceParts) → AreKnown (D.holds asked.now.disk.now) asked.now.folder.now → (at : StandsAt (D.holds asked.now.disk.now) asked.now.folder.now e)
+        → IfOk result (λ status. HoldsAt (D.holds asked.now.disk.now) asked.now.folder.now e at
+        (IsDrawn asked.now.fault asked.now.around asked.now.file.now (E.holds disk.old) (E.holds disk.new) (W.contents writer.old) (W.contents writer.new) status)) }
     ensures untouched { IfErr result (λ why. why ≢ CannotPrint → IsUntouched asked.now.file.now (E.holds disk.old) (E.holds disk.new)) }
     ensures unprinted { IfErr result (λ why. why ≢ CannotPrint → Keeps (W.contents writer.old) (W.contents writer.new)) }
-    ensures few { (count : ℕ) → result ≡ Err (TooFew count) → HoldsOf (D.holds asked.now.disk.now) asked.now.folder.now (is_later asked.now.fault) (λ e. AreTooFew e asked.now.fault count) }
+    ensures few { (count : ℕ) → result ≡ Err (TooFew count) → HoldsOf (D.holds asked.now.disk.now) asked.now.folder.now (is_later asked.now.fault) (λ _ _ e. AreTooFew e asked.now.fault count) }
     ensures known_few { (e : EvidenceParts) → AreKnown (D.holds asked.now.disk.now) asked.now.folder.now → StandsAt (D.holds asked.now.disk.now) asked.now.folder.now e
         → (count : ℕ) → result ≡ Err (TooFew count) → AreTooFew e asked.now.fault count }
     ensures front { result ≡ Err CannotPrint → HoldsOf (D.holds asked.now.disk.now) asked.now.folder.now (is_later asked.now.fault)
         (IsHalfDrawn asked.now.fault asked.now.around asked.now.file.now (E.holds disk.old) (E.holds disk.new) (W.contents writer.old) (W.contents writer.new)) }
-    ensures known_front { (e : EvidenceParts) → AreKnown (D.holds asked.now.disk.now) asked.now.folder.now → StandsAt (D.holds asked.now.disk.now) asked.now.folder.now e
-        → result ≡ Err CannotPrint → IsHalfDrawn asked.now.fault asked.now.around asked.now.file.now (E.holds disk.old) (E.holds disk.new) (W.contents writer.old) (W.contents writer.new) e }
+    ensures known_front { (e : EvidenceParts) → AreKnown (D.holds asked.now.disk.now) asked.now.folder.now → (at : StandsAt (D.holds asked.now.disk.now) asked.now.folder.now e)
+        → result ≡ Err CannotPrint → HoldsAt (D.holds asked.now.disk.now) asked.now.folder.now e at
+        (IsHalfDrawn asked.now.fault asked.now.around asked.now.file.now (E.holds disk.old) (E.holds disk.new) (W.contents writer.old) (W.contents writer.new)) }
 {
     let file = match begun(alloc, disk, asked.file) {
         Ok(file) => file,

@@ -1,5 +1,8 @@
 //! The heading of a column: which transaction it is.
 
+ghost use Rattle.std.specs.Prelude.{◌≡◌, OnOk};
+ghost use Rattle.eos_drawing.specs.Told.{tellings};
+
 use crate::canvas::{Canvas, moved};
 use crate::labels::shortened;
 use crate::{Look, Point};
@@ -78,7 +81,9 @@ pub(crate) fn heading_of(
 }
 
 /// Draws what stands above the column of what is of none of the transactions.
-pub(crate) fn draw_other_heading(canvas: &mut Canvas, at: Point) -> Result<(), AllocError> {
+pub(crate) fn draw_other_heading(canvas: &mut Canvas, at: Point) -> Result<(), AllocError>
+    ensures { OnOk result (tellings canvas.new.shapes.items ≡ tellings canvas.old.shapes.items) }
+{
     canvas.words(moved(at, 6, 28), "of none of these", Look::Remark)
 }
 
@@ -87,7 +92,9 @@ pub(crate) fn draw_heading(
     canvas: &mut Canvas,
     at: Point,
     heading: Heading,
-) -> Result<(), AllocError> {
+) -> Result<(), AllocError>
+    ensures { OnOk result (tellings canvas.new.shapes.items ≡ tellings canvas.old.shapes.items) }
+{
     let Heading {
         first,
         second,

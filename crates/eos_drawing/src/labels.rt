@@ -1,5 +1,10 @@
 //! Short texts.
 
+ghost use Rattle.std.specs.Prelude.{◌≡◌, ◌++◌, codes, OnOk, string_bytes};
+ghost use Rattle.std.specs.Fmt.{signed_decimal};
+ghost use Rattle.eos_text.specs.Adding.{Adds};
+ghost use Rattle.eos_drawing.specs.Titles.{passed_text};
+
 use eos_base::PartitionName;
 use eos_text::{push_escaped, push_text, push_value};
 use std::alloc::{AllocError, Global};
@@ -76,18 +81,39 @@ pub(crate) fn commit_label(
     Ok(out)
 }
 
+fn push_range(out: &mut String, from: i64, to: i64) -> Result<(), AllocError>
+    ensures { OnOk result (Adds (string_bytes out.old) (string_bytes out.new) ((codes "[" ++ signed_decimal from) ++ ((codes "," ++ signed_decimal to) ++ codes ")"))) }
+{
+    push_value(out, "[", &from)?;
+    push_value(out, ",", &to)?;
+    push_text(out, ")")?;
+    Ok(())
+}
+
+fn push_back(out: &mut String, from: i64, to: i64) -> Result<(), AllocError>
+    ensures { OnOk result (Adds (string_bytes out.old) (string_bytes out.new) ((codes "" ++ signed_decimal from) ++ (codes " back to " ++ signed_decimal to))) }
+{
+    push_value(out, "", &from)?;
+    push_value(out, " back to ", &to)?;
+    Ok(())
+}
+
+/// Adds the offsets that a commit passed.
+pub(crate) fn push_passed(out: &mut String, from: i64, to: i64) -> Result<(), AllocError>
+    ensures { OnOk result (Adds (string_bytes out.old) (string_bytes out.new) (passed_text from to)) }
+{
+    if from == to {
+        return push_value(out, "at ", &to);
+    }
+    if from < to {
+        return push_range(out, from, to);
+    }
+    push_back(out, from, to)
+}
+
 /// The offsets that a commit passed.
 pub(crate) fn passed_label(alloc: Global, from: i64, to: i64) -> Result<String, AllocError> {
     let mut out = String::new(alloc);
-    if from == to {
-        push_value(&mut out, "at ", &to)?;
-    } else if from < to {
-        push_value(&mut out, "[", &from)?;
-        push_value(&mut out, ",", &to)?;
-        push_text(&mut out, ")")?;
-    } else {
-        push_value(&mut out, "", &from)?;
-        push_value(&mut out, " back to ", &to)?;
-    }
+    push_passed(&mut out, from, to)?;
     Ok(out)
 }

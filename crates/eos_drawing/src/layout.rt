@@ -1,12 +1,15 @@
 //! The drawing of a picture.
 
-ghost use Rattle.std.specs.Prelude.{◌≡◌, IfOk, string_bytes};
+ghost use Rattle.std.specs.Prelude.{◌≡◌, ◌++◌, ◌≤◌, ℕ, List, IfOk, OnOk, string_bytes};
+ghost use Rattle.eos_drawing.specs.Told.{tellings, AreRowsTold, TellOf};
+ghost use Rattle.eos_drawing.specs.steps.Tellings.{times_of};
 
 use crate::canvas::Canvas;
 use crate::headings::{draw_heading, draw_other_heading, heading_of, index_of};
 use crate::legend::{ROOM, draw_legend};
 use crate::plan::{GAP, Plan, plan_of};
-use crate::rows::draw_row;
+use crate::rows::{Telling, draw_row};
+use crate::when::Times;
 use crate::{Drawing, Look, Point, Shape, Size};
 use eos_base::Listed;
 use eos_picture::Picture;
@@ -25,28 +28,41 @@ const HEADINGS: u64 = 50;
 const NO_CLOCK: &str =
     "a column is a transaction, T1 the one of the first Prepare record; partitions have no clock in common";
 
-/// Draws a text in lines of at most so many characters, and gives the height where they end.
-fn draw_title(canvas: &mut Canvas, title: &str, most: u64) -> Result<u64, AllocError> {
-    let most = most.max(1);
-    let mut line = String::new(canvas.alloc);
+/// The lines of a text in ASCII, of so many characters each.
+fn lines_of(alloc: Global, text: &str, most: u64) -> Result<Vec<String>, AllocError> {
+    let mut lines = Vec::new(alloc);
+    let mut line = String::new(alloc);
     let mut count = 0u64;
-    let mut y = GAP.saturating_add(12);
-    for byte in title.as_bytes() {
+    for byte in text.as_bytes() {
         if count == most {
-            canvas.text(Point { x: GAP, y }, line, Look::Title)?;
-            line = String::new(canvas.alloc);
+            lines.push(line)?;
+            line = String::new(alloc);
             count = 0;
-            y = y.saturating_add(TITLE_LINE);
         }
         line.push(char::from(*byte))?;
         count = count.saturating_add(1);
     }
-    canvas.text(Point { x: GAP, y }, line, Look::Title)?;
-    Ok(y.saturating_add(TITLE_LINE))
+    lines.push(line)?;
+    Ok(lines)
+}
+
+/// Draws a text in lines of at most so many characters, and gives the height where they end.
+fn draw_title(canvas: &mut Canvas, title: &str, most: u64) -> Result<u64, AllocError>
+    ensures { OnOk result (tellings canvas.new.shapes.items ≡ tellings canvas.old.shapes.items) }
+{
+    let lines = lines_of(canvas.alloc, title, most.max(1))?;
+    let mut y = GAP.saturating_add(12);
+    for line in lines {
+        canvas.text(Point { x: GAP, y }, line, Look::Title)?;
+        y = y.saturating_add(TITLE_LINE);
+    }
+    Ok(y)
 }
 
 /// Draws what stands above the columns in a drawing of this width, and gives the height where that ends.
-fn draw_head(canvas: &mut Canvas, title: &str, width: u64) -> Result<u64, AllocError> {
+fn draw_head(canvas: &mut Canvas, title: &str, width: u64) -> Result<u64, AllocError>
+    ensures { OnOk result (tellings canvas.new.shapes.items ≡ tellings canvas.old.shapes.items) }
+{
     let most = width.saturating_sub(2 * GAP) / TITLE_CHARACTER;
     let below = draw_title(canvas, title, most)?;
     canvas.words(Point { x: GAP, y: below }, NO_CLOCK, Look::Remark)?;
@@ -59,7 +75,9 @@ fn draw_headings(
     plan: &Plan,
     picture: &Picture,
     top: u64,
-) -> Result<(), AllocError> {
+) -> Result<(), AllocError>
+    ensures { OnOk result (tellings canvas.new.shapes.items ≡ tellings canvas.old.shapes.items) }
+{
     for i in 0..picture.columns.len() {
         let heading = heading_of(canvas.alloc, index_of(picture, i), &picture.columns[i])?;
         let at = Point {
@@ -78,16 +96,39 @@ fn draw_headings(
     Ok(())
 }
 
+/// Of the row at this place the times.
+#[tactic(auto, using(crate::proofs::Tellings::times_past, crate::proofs::Tellings::times_there))]
+fn times_of(times: &[Times], i: usize) -> &[(u64, i64)]
+    ensures { result.now ≡ times_of times.now i }
+{
+    if i >= times.len() {
+        return &[];
+    }
+    times[i].at.as_slice()
+}
+
 /// Draws the rows from this height on, and gives the height where they end.
 fn draw_rows(
     canvas: &mut Canvas,
     plan: &Plan,
     picture: &Picture,
+    times: &[Times],
     top: u64,
-) -> Result<u64, AllocError> {
+) -> Result<u64, AllocError>
+    requires { 1 ≤ plan.now.columns }
+    ensures { OnOk result ((texts : List (List ℕ)) × (tellings canvas.new.shapes.items ≡ tellings canvas.old.shapes.items ++ texts) × AreRowsTold picture.now.columns.items picture.now.rows.items times.now texts) }
+{
+    let columns = picture.columns.as_slice();
+    let rows = picture.rows.as_slice();
     let mut bottom = top;
-    for row in picture.rows.as_slice() {
-        bottom = draw_row(canvas, plan, bottom, row, picture)?;
+    for i in 0..rows.len() {
+        let told = Telling {
+            columns,
+            row: &rows[i],
+            times: times_of(times, i),
+        };
+        let end = draw_row(canvas, plan, bottom, told)?;
+        bottom = end;
     }
     Ok(bottom)
 }
@@ -105,7 +146,9 @@ fn draw_grounds(
     plan: &Plan,
     columns: usize,
     heights: Heights,
-) -> Result<(), AllocError> {
+) -> Result<(), AllocError>
+    ensures { OnOk result (tellings canvas.new.shapes.items ≡ tellings canvas.old.shapes.items) }
+{
     for i in 0..columns {
         let at = Point {
             x: plan.x_of(i as u64),
@@ -127,13 +170,18 @@ fn draw_ground(
     columns: usize,
     size: Size,
     heights: Heights,
-) -> Result<(), AllocError> {
+) -> Result<(), AllocError>
+    ensures { OnOk result (tellings ground.new.shapes.items ≡ tellings ground.old.shapes.items) }
+{
     ground.rectangle(Point { x: 0, y: 0 }, size, Look::Page)?;
     draw_grounds(ground, plan, columns, heights)
 }
 
 /// These shapes, and on them those of the canvas.
-fn laid_upon(ground: Canvas, canvas: Canvas) -> Result<Vec<Shape>, AllocError> {
+#[tactic(auto, using(crate::proofs::Tellings::laid))]
+fn laid_upon(ground: Canvas, canvas: Canvas) -> Result<Vec<Shape>, AllocError>
+    ensures { IfOk result (λ shapes. tellings shapes.items ≡ tellings ground.shapes.items ++ tellings canvas.shapes.items) }
+{
     let mut ground = ground;
     let mut canvas = canvas;
     ground.arcs(canvas.spots.as_slice())?;
@@ -142,19 +190,32 @@ fn laid_upon(ground: Canvas, canvas: Canvas) -> Result<Vec<Shape>, AllocError> {
     Ok(shapes)
 }
 
-/// The drawing of a picture under a title, which is in ASCII.
+/// The drawing of a picture under a title, which is in ASCII. Of each mark is told what it is, with the time of its record where its row's
+/// times have it.
 ///
 /// # Errors
 /// Only want of memory.
-pub fn drawing_of(alloc: Global, picture: &Picture, title: String) -> Result<Drawing, AllocError>
-    ensures { IfOk result (λ drawing. string_bytes drawing.title ≡ string_bytes title) }
+pub fn drawing_of(
+    alloc: Global,
+    picture: &Picture,
+    times: &[Times],
+    title: String,
+) -> Result<Drawing, AllocError>
+    ensures title { IfOk result (λ drawing. string_bytes drawing.title ≡ string_bytes title) }
+    ensures told { IfOk result (λ drawing. TellOf picture.now times.now drawing.shapes) }
 {
     let plan = plan_of(alloc, picture)?;
     let width = plan.right().max(ROOM.width).saturating_add(GAP);
     let mut canvas = Canvas::new(alloc);
     let top = draw_head(&mut canvas, title.as_str(), width)?;
     draw_headings(&mut canvas, &plan, picture, top)?;
-    let bottom = draw_rows(&mut canvas, &plan, picture, top.saturating_add(HEADINGS))?;
+    let bottom = draw_rows(
+        &mut canvas,
+        &plan,
+        picture,
+        times,
+        top.saturating_add(HEADINGS),
+    )?;
     let legend = Point {
         x: GAP,
         y: bottom.saturating_add(16),
@@ -167,9 +228,10 @@ pub fn drawing_of(alloc: Global, picture: &Picture, title: String) -> Result<Dra
     let mut ground = Canvas::new(alloc);
     let heights = Heights { top, bottom };
     draw_ground(&mut ground, &plan, picture.columns.len(), size, heights)?;
+    let shapes = laid_upon(ground, canvas)?;
     Ok(Drawing {
         size,
         title,
-        shapes: Listed::new(laid_upon(ground, canvas)?),
+        shapes: Listed::new(shapes),
     })
 }

@@ -1,5 +1,8 @@
 //! What the shapes stand for.
 
+ghost use Rattle.std.specs.Prelude.{◌≡◌, OnOk};
+ghost use Rattle.eos_drawing.specs.Told.{tellings};
+
 use crate::canvas::{Canvas, moved};
 use crate::{Look, Point, Size};
 use std::alloc::AllocError;
@@ -9,7 +12,9 @@ const SAMPLE: Size = Size {
     height: 14,
 };
 
-fn draw_sample(canvas: &mut Canvas, at: Point, look: Look, words: &str) -> Result<(), AllocError> {
+fn draw_sample(canvas: &mut Canvas, at: Point, look: Look, words: &str) -> Result<(), AllocError>
+    ensures { OnOk result (tellings canvas.new.shapes.items ≡ tellings canvas.old.shapes.items) }
+{
     canvas.rectangle(at, SAMPLE, look)?;
     canvas.words(moved(at, 22, 11), words, Look::Remark)
 }
@@ -20,7 +25,9 @@ fn last_of(at: Point) -> Point {
 }
 
 /// Draws it below the rows.
-pub(crate) fn draw_legend(canvas: &mut Canvas, at: Point) -> Result<(), AllocError> {
+pub(crate) fn draw_legend(canvas: &mut Canvas, at: Point) -> Result<(), AllocError>
+    ensures { OnOk result (tellings canvas.new.shapes.items ≡ tellings canvas.old.shapes.items) }
+{
     draw_sample(canvas, at, Look::Committed, "committed")?;
     draw_sample(canvas, moved(at, 110, 0), Look::Aborted, "aborted")?;
     draw_sample(canvas, moved(at, 205, 0), Look::Open, "open: no end marker")?;

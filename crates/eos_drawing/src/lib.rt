@@ -21,6 +21,7 @@ mod plan;
 mod rows;
 mod shape;
 mod told;
+mod when;
 
 pub use command::draw_folder;
 pub use drawing::{Drawing, svg_text};
@@ -29,3 +30,4 @@ pub use layout::drawing_of;
 pub use look::Look;
 pub use picture::judged_picture;
 pub use shape::{Line, Point, Shape, Size};
+pub use when::Times;

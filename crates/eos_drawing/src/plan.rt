@@ -1,5 +1,7 @@
 //! How wide what is.
 
+ghost use Rattle.std.specs.Prelude.{◌≤◌, IfOk};
+
 use crate::cells::offset_of;
 use crate::headings::{heading_of, index_of};
 use crate::labels::{digits, name_label};
@@ -88,7 +90,9 @@ fn has_other(marks: &[Mark], columns: &[Column]) -> bool {
 }
 
 /// How many columns there are: one more where a mark is of none of the transactions.
-pub(crate) fn columns_of(picture: &Picture) -> usize {
+pub(crate) fn columns_of(picture: &Picture) -> usize
+    ensures { 1 ≤ result }
+{
     let columns = picture.columns.as_slice();
     for row in picture.rows.as_slice() {
         if has_other(row.marks.as_slice(), columns) {
@@ -98,7 +102,9 @@ pub(crate) fn columns_of(picture: &Picture) -> usize {
     columns.len().max(1)
 }
 
-pub(crate) fn plan_of(alloc: Global, picture: &Picture) -> Result<Plan, AllocError> {
+pub(crate) fn plan_of(alloc: Global, picture: &Picture) -> Result<Plan, AllocError>
+    ensures { IfOk result (λ plan. 1 ≤ plan.columns) }
+{
     let names = name_characters(alloc, picture)?;
     let characters = heading_characters(alloc, picture)?;
     let column = width_of(characters).saturating_add(12);

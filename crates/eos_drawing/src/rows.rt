@@ -1,14 +1,22 @@
 //! The rows of a drawing.
 
+ghost use Rattle.std.specs.Prelude.{◌≡◌, ◌≤◌, ◌<◌, ◌++◌, ℕ, List, length, slice_get, OnOk};
+ghost use Rattle.std.specs.Option.{option_copied};
+ghost use Rattle.eos_drawing.specs.Titles.{mark_offset, time_at};
+ghost use Rattle.eos_drawing.specs.Told.{tellings, AreTold};
+ghost use Rattle.eos_drawing.specs.steps.Tellings.{IsToldOf, IsToldIf};
+
 use crate::canvas::{Canvas, moved};
-use crate::cells::{Cell, DrawnRow, Room, cells_of, empty_cells, offset_of, pitch_of, room_of};
+use crate::cells::{
+    Cell, DrawnRow, Room, cells_of, column_in, empty_cells, offset_of, pitch_of, put_mark, room_of,
+};
 use crate::labels::{commit_label, number_label, passed_label};
 use crate::plan::{CHARACTER, Plan, row_name};
-use crate::told::{Marked, told_of};
+use crate::told::{Marked, time_at, told_of};
 use crate::{Look, Point, Size};
 use eos_batch::Kind;
 use eos_fold::Fate;
-use eos_picture::{Mark, Picture, Row, Sign};
+use eos_picture::{Column, Mark, Row, Sign};
 use eos_text::{push_text, push_value};
 use std::alloc::{AllocError, Global};
 
@@ -90,7 +98,9 @@ fn words_of(alloc: Global, sign: &Sign, most: usize) -> Result<String, AllocErro
 // ---- marks
 
 /// A ring around a place of the fault, and its offset below it.
-fn draw_ring(canvas: &mut Canvas, at: Point, size: Size, mark: &Mark) -> Result<(), AllocError> {
+fn draw_ring(canvas: &mut Canvas, at: Point, size: Size, mark: &Mark) -> Result<(), AllocError>
+    ensures { OnOk result (tellings canvas.new.shapes.items ≡ tellings canvas.old.shapes.items) }
+{
     canvas.ring(at, size)?;
     if let Some(offset) = offset_of(mark) {
         let mut text = String::new(canvas.alloc);
@@ -101,18 +111,16 @@ fn draw_ring(canvas: &mut Canvas, at: Point, size: Size, mark: &Mark) -> Result<
     Ok(())
 }
 
-/// An end marker, by its upper corner.
+/// An end marker, by its upper corner and that of its room.
 fn draw_marker(
     canvas: &mut Canvas,
     place: DrawnRow<'_>,
     at: Point,
-    marked: Marked<'_>,
-) -> Result<(), AllocError> {
-    let mark = marked.mark;
-    let corner = Point {
-        x: at.x.saturating_sub(DIAMOND.width / 2),
-        y: at.y,
-    };
+    corner: Point,
+    mark: &Mark,
+) -> Result<(), AllocError>
+    ensures { OnOk result (tellings canvas.new.shapes.items ≡ tellings canvas.old.shapes.items) }
+{
     canvas.diamond(at, sign_look(&mark.sign, false))?;
     draw_count(
         canvas,
@@ -120,14 +128,15 @@ fn draw_marker(
         &mark.sign,
     )?;
     if mark.is_of_fault {
-        draw_ring(canvas, corner, DIAMOND, mark)?;
+        return draw_ring(canvas, corner, DIAMOND, mark);
     }
-    let told = told_of(canvas.alloc, marked, false)?;
-    canvas.told(corner, DIAMOND, told)
+    Ok(())
 }
 
 /// How many there are, where there is more than one.
-fn draw_count(canvas: &mut Canvas, at: Point, sign: &Sign) -> Result<(), AllocError> {
+fn draw_count(canvas: &mut Canvas, at: Point, sign: &Sign) -> Result<(), AllocError>
+    ensures { OnOk result (tellings canvas.new.shapes.items ≡ tellings canvas.old.shapes.items) }
+{
     if let Sign::Marker { count, .. } = sign {
         if *count > 1 {
             let mut text = String::new(canvas.alloc);
@@ -145,7 +154,9 @@ fn draw_box(
     size: Size,
     mark: &Mark,
     is_open: bool,
-) -> Result<(), AllocError> {
+) -> Result<(), AllocError>
+    ensures { OnOk result (tellings canvas.new.shapes.items ≡ tellings canvas.old.shapes.items) }
+{
     let width = size.width;
     let look = sign_look(&mark.sign, is_open);
     let text = words_of(canvas.alloc, &mark.sign, (width / CHARACTER) as usize)?;
@@ -166,56 +177,114 @@ fn box_size(plan: &Plan, mark: &Mark) -> Size {
     Size { width, height: BOX }
 }
 
-/// Draws a mark in a cell that holds so much, of which so much is drawn.
-fn draw_mark(
+/// Draws a mark in the column at this place, in a cell of which so much is drawn, and gives the corner and the size of what is drawn.
+fn draw_shape(
     canvas: &mut Canvas,
     place: DrawnRow<'_>,
-    marked: Marked<'_>,
-    all: Cell,
+    column: usize,
+    mark: &Mark,
     drawn: Cell,
-) -> Result<(), AllocError> {
-    let mark = marked.mark;
-    let column = mark.column;
-    let size = box_size(place.plan, mark);
+) -> Result<(Point, Size), AllocError>
+    requires { column < length place.cells.now }
+    ensures { OnOk result (tellings canvas.new.shapes.items ≡ tellings canvas.old.shapes.items) }
+{
+    let all = place.cells[column];
     let at = match room_of(&mark.sign) {
         Room::Box => place.next_box(column, drawn),
         Room::Line => place.next_line(column, all, drawn),
         Room::Edge => {
             let at = place.next_marker(column, drawn);
-            return draw_marker(canvas, place, at, marked);
+            let corner = Point {
+                x: at.x.saturating_sub(DIAMOND.width / 2),
+                y: at.y,
+            };
+            draw_marker(canvas, place, at, corner, mark)?;
+            return Ok((corner, DIAMOND));
         }
     };
+    let size = box_size(place.plan, mark);
     draw_box(canvas, at, size, mark, all.is_open)?;
-    let told = told_of(canvas.alloc, marked, all.is_open)?;
+    Ok((at, size))
+}
+
+/// The same, and what is told of the mark.
+#[tactic(auto, using(crate::proofs::Tellings::told_mark))]
+fn draw_mark(
+    canvas: &mut Canvas,
+    place: DrawnRow<'_>,
+    column: usize,
+    marked: Marked<'_>,
+    drawn: Cell,
+) -> Result<(), AllocError>
+    requires { column < length place.cells.now }
+    ensures { OnOk result (IsToldOf (tellings canvas.old.shapes.items) marked.entry.name.now (option_copied marked.entry.column) marked.entry.time marked.entry.mark.now (tellings canvas.new.shapes.items)) }
+{
+    let (at, size) = draw_shape(canvas, place, column, marked.mark, drawn)?;
+    let told = told_of(canvas.alloc, marked, place.cells[column].is_open)?;
     canvas.told(at, size, told)
 }
 
-fn draw_marks(
+/// A row, the transactions of its picture, and the times of its records.
+#[derive(Clone, Copy)]
+pub(crate) struct Telling<'a> {
+    pub columns: &'a [Column],
+    pub row: &'a Row,
+    pub times: &'a [(u64, i64)],
+}
+
+impl<'a> Telling<'a> {
+    /// A mark of the row, with what is told of it.
+    fn marked(self, mark: &'a Mark) -> Marked<'a>
+        ensures name { result.name.now ≡ self.entry.row.now.name }
+        ensures column { option_copied result.column ≡ slice_get self.entry.columns.now mark.now.column }
+        ensures time { result.time ≡ time_at self.entry.times.now (mark_offset mark.now) }
+        ensures mark { result.mark.now ≡ mark.now }
+    {
+        Marked {
+            name: &self.row.name,
+            mark,
+            column: self.columns.get(mark.column),
+            time: time_at(self.times, offset_of(mark)),
+        }
+    }
+}
+
+/// The same, if there is room; a mark of the fault always has some.
+fn draw_if_room(
     canvas: &mut Canvas,
     place: DrawnRow<'_>,
-    row: &Row,
-    picture: &Picture,
-) -> Result<(), AllocError> {
-    let mut drawn = empty_cells(canvas.alloc, place.cells.len())?;
-    for mark in row.marks.as_slice() {
-        let column = mark.column;
-        if column < drawn.len() && column < place.cells.len() {
-            if !drawn[column].is_full(mark) {
-                let marked = Marked {
-                    name: &row.name,
-                    mark,
-                    column: picture.columns.get(column),
-                };
-                draw_mark(canvas, place, marked, place.cells[column], drawn[column])?;
-            }
-            drawn[column] = drawn[column].with(mark);
-        }
+    column: usize,
+    marked: Marked<'_>,
+    drawn: Cell,
+) -> Result<(), AllocError>
+    requires { column < length place.cells.now }
+    ensures { OnOk result (IsToldIf (tellings canvas.old.shapes.items) marked.entry.name.now (option_copied marked.entry.column) marked.entry.time marked.entry.mark.now (tellings canvas.new.shapes.items)) }
+{
+    if drawn.is_full(marked.mark) {
+        return Ok(());
+    }
+    draw_mark(canvas, place, column, marked, drawn)
+}
+
+fn draw_marks(canvas: &mut Canvas, place: DrawnRow<'_>, told: Telling<'_>) -> Result<(), AllocError>
+    requires { 1 ≤ length place.cells.now }
+    ensures { OnOk result ((texts : List (List ℕ)) × (tellings canvas.new.shapes.items ≡ tellings canvas.old.shapes.items ++ texts) × AreTold told.entry.row.now.name told.entry.columns.now told.entry.times.now told.entry.row.now.marks.items texts) }
+{
+    let columns = place.cells.len();
+    let mut drawn = empty_cells(canvas.alloc, columns)?;
+    let marks = told.row.marks.as_slice();
+    for mark in marks {
+        let column = column_in(mark, columns);
+        draw_if_room(canvas, place, column, told.marked(mark), drawn[column])?;
+        put_mark(&mut drawn, column, mark);
     }
     Ok(())
 }
 
 /// How many are left out, in each cell where some are.
-fn draw_left_out(canvas: &mut Canvas, place: DrawnRow<'_>) -> Result<(), AllocError> {
+fn draw_left_out(canvas: &mut Canvas, place: DrawnRow<'_>) -> Result<(), AllocError>
+    ensures { OnOk result (tellings canvas.new.shapes.items ≡ tellings canvas.old.shapes.items) }
+{
     for column in 0..place.cells.len() {
         let cell = place.cells[column];
         if cell.left_out > 0 {
@@ -235,7 +304,9 @@ fn draw_frame(
     place: DrawnRow<'_>,
     row: &Row,
     bottom: u64,
-) -> Result<(), AllocError> {
+) -> Result<(), AllocError>
+    ensures { OnOk result (tellings canvas.new.shapes.items ≡ tellings canvas.old.shapes.items) }
+{
     let at = Point {
         x: 10,
         y: place.top.saturating_add(18),
@@ -255,9 +326,12 @@ pub(crate) fn draw_row(
     canvas: &mut Canvas,
     plan: &Plan,
     top: u64,
-    row: &Row,
-    picture: &Picture,
-) -> Result<u64, AllocError> {
+    told: Telling<'_>,
+) -> Result<u64, AllocError>
+    requires { 1 ≤ plan.now.columns }
+    ensures { OnOk result ((texts : List (List ℕ)) × (tellings canvas.new.shapes.items ≡ tellings canvas.old.shapes.items ++ texts) × AreTold told.entry.row.now.name told.entry.columns.now told.entry.times.now told.entry.row.now.marks.items texts) }
+{
+    let row = told.row;
     let cells = cells_of(canvas.alloc, plan.columns, row)?;
     let place = DrawnRow {
         plan,
@@ -267,7 +341,7 @@ pub(crate) fn draw_row(
     };
     let bottom = place.bottom();
     draw_frame(canvas, place, row, bottom)?;
-    draw_marks(canvas, place, row, picture)?;
+    draw_marks(canvas, place, told)?;
     draw_left_out(canvas, place)?;
     Ok(bottom)
 }

@@ -6,7 +6,6 @@ pub mod Records
 pub mod Batches
 pub mod RowLines
 pub mod Counts
-pub mod Times
 pub mod Lines
 pub mod Told
 pub mod GroupCommits

@@ -12,7 +12,7 @@ use Rattle.eos_story.specs.declared.row.Row.{Row}
 use Rattle.eos_story.specs.declared.row.Row.TheVariants as rows
 use Rattle.eos_explaining.specs.Lines.{terms_text, is_end, distinct}
 use Rattle.eos_explaining.specs.RowLines.{row_line}
-use Rattle.eos_explaining.specs.Times.{time_text}
+use Rattle.eos_sought.specs.Moments.{time_text}
 
 -- ---- the time of what a row is of
 

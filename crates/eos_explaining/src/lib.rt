@@ -16,7 +16,6 @@ mod rows;
 mod sentences;
 mod signs;
 mod story;
-mod times;
 mod told;
 mod twins;
 mod whole_story;

@@ -8,11 +8,10 @@ ghost use Rattle.eos_explaining.specs.Told.{first_time, record_time, row_time, w
 
 use crate::lines::{add_line, front_of, push_terms};
 use crate::rows::push_row;
-use crate::times::push_time;
 use eos_base::PartitionName;
 use eos_claims::Place;
 use eos_evidence::Partition;
-use eos_sought::{Find, Placed, time_of};
+use eos_sought::{Find, Placed, push_time, time_of};
 use eos_story::Row;
 use eos_text::push_text;
 use std::alloc::{AllocError, Global};

@@ -108,6 +108,14 @@ pub(crate) fn is_ended_by(column: &Column, producer: i64, epoch: i16) -> bool {
     }
 }
 
+/// Whether the transaction has such end markers.
+pub(crate) fn has_end(column: &Column, end: End) -> bool {
+    if column.decided.is_none() {
+        return column.producer == end.producer;
+    }
+    is_ended_by(column, end.producer, end.epoch)
+}
+
 // ---- where they stand
 
 /// How many data records stand before this offset; none where one stands at it.
@@ -133,6 +141,48 @@ pub(crate) fn marker_at(part: &Part, offset: u64) -> Option<Marker> {
     let place = offset.saturating_sub(before);
     let marker = part.markers().get(place as usize)?;
     Some(*marker)
+}
+
+/// Where the end marker stands that so many others precede.
+fn offset_of_end(part: &Part, place: usize) -> u64 {
+    let mut offset = place as u64;
+    let mut items = part.items().cursor();
+    while let Some(item) = items.next() {
+        if offset < item.offset() {
+            return offset;
+        }
+        offset = offset.saturating_add(1);
+    }
+    offset
+}
+
+/// Where the first end marker stands that says this.
+pub(crate) fn first_end(part: &Part, end: End) -> Option<u64> {
+    let markers = part.markers();
+    for i in 0..markers.len() {
+        if is_end(&markers[i], end) {
+            return Some(offset_of_end(part, i));
+        }
+    }
+    None
+}
+
+/// Where the first end marker of this kind stands that the transaction has: one with the epoch that was decided, or of one that nothing
+/// decided, one of its producer id.
+pub(crate) fn first_end_of(part: &Part, column: &Column, kind: Kind) -> Option<u64> {
+    let markers = part.markers();
+    for i in 0..markers.len() {
+        let marker = &markers[i];
+        let end = End {
+            producer: marker.producer,
+            epoch: marker.epoch,
+            kind,
+        };
+        if is_end(marker, end) && has_end(column, end) {
+            return Some(offset_of_end(part, i));
+        }
+    }
+    None
 }
 
 /// The producer epoch of the last data of this producer id which no end marker follows.

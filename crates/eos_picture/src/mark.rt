@@ -74,7 +74,7 @@ pub struct Mark {
     pub sign: Sign,
     /// Whether it is a place of the fault.
     pub is_of_fault: bool,
-    /// The fault's offset, where an end marker stands there.
+    /// Where an end marker stands: the fault's offset, or else that of the first of them.
     pub offset: Option<u64>,
 }
 

@@ -6,7 +6,7 @@ ghost use Rattle.eos_picture.specs.Signs.{IsOfWriter};
 ghost use Rattle.eos_picture.specs.Whole.{IsAt, Shows};
 ghost use Rattle.eos_picture.specs.steps.Kept.{Keeps};
 
-use crate::ends::{End, count_ends, is_ended_by};
+use crate::ends::{End, count_ends, first_end, first_end_of, has_end};
 use crate::mark::{Column, Mark, Sign};
 use crate::passes::Pass;
 use crate::spots::{At, Spot, is_of};
@@ -50,14 +50,6 @@ fn is_at(at: At, column: &Column, sign: &Sign) -> bool {
     }
 }
 
-/// Whether the transaction has such end markers.
-fn has_end(column: &Column, end: End) -> bool {
-    if column.decided.is_none() {
-        return column.producer == end.producer;
-    }
-    is_ended_by(column, end.producer, end.epoch)
-}
-
 fn is_within(offset: u64, from: i64, to: i64) -> bool {
     (from < 0 || from as u64 <= offset) && 0 < to && offset < to as u64
 }
@@ -84,10 +76,19 @@ pub(crate) fn is_missed(scene: Scene<'_>, part: &Part, column: &Column) -> bool 
     false
 }
 
-/// The offset of an end marker at a place of the fault.
-fn marker_offset(at: Option<At>) -> Option<u64> {
-    match at {
-        Some(At::Marker { offset, .. }) => offset,
+/// Where an end marker stands: at a place of the fault, or else where the first of them does.
+fn marker_offset(part: &Part, column: &Column, sign: &Sign, at: Option<At>) -> Option<u64> {
+    match (sign, at) {
+        (
+            Sign::Marker { .. },
+            Some(
+                At::Marker {
+                    offset: Some(offset),
+                    ..
+                },
+            ),
+        ) => Some(offset),
+        (Sign::Marker { kind, .. }, _) => first_end_of(part, column, *kind),
         _ => None,
     }
 }
@@ -109,11 +110,12 @@ pub(crate) fn push_mark(
         return Ok(());
     };
     let at = spot_of(scene, part, of, &sign);
+    let offset = marker_offset(part, of, &sign, at);
     marks.push(Mark {
         column,
         sign,
         is_of_fault: at.is_some(),
-        offset: marker_offset(at),
+        offset,
     })?;
     Ok(())
 }
@@ -241,7 +243,7 @@ fn push_stray(
             count,
         },
         is_of_fault: true,
-        offset,
+        offset: offset.or(first_end(part, end)),
     })?;
     Ok(())
 }

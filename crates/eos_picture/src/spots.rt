@@ -9,15 +9,15 @@ ghost use Rattle.eos_picture.specs.steps.Spots.{StartsAt, spot_at};
 use crate::ends::{End, count_ends, is_ended_by, marker_at, open_epoch};
 use crate::mark::Column;
 use crate::named::{clone_name, name_in, transaction_log};
+use crate::outputs::{app_of, push_output};
 use crate::window::is_named;
 use eos_base::PartitionName;
 use eos_batch::Kind;
 use eos_check::Fault;
 use eos_claims::{OutputFault, OutputKind};
-use eos_commits::{TopicSet, is_visible};
-use eos_evidence::{App, GroupId};
+use eos_evidence::App;
 use eos_fold::{PartitionFault, PartitionFaultKind};
-use eos_kept::{ItemRef, Part};
+use eos_kept::Part;
 use eos_lineage::LineageFault;
 use eos_table::{MatchFault, MatchFaultKind};
 use std::alloc::{AllocError, Global};
@@ -46,7 +46,11 @@ pub(crate) enum At {
     Near(u64),
 }
 
-fn push_offset(spots: &mut Vec<Spot>, name: PartitionName, offset: u64) -> Result<(), AllocError>
+pub(crate) fn push_offset(
+    spots: &mut Vec<Spot>,
+    name: PartitionName,
+    offset: u64,
+) -> Result<(), AllocError>
     ensures { OnOk result (spots.new.items ≡ spots.old.items ++ spot_at (record { partition = name; offset = offset }) ∷ []) }
 {
     spots.push(Spot {
@@ -231,50 +235,6 @@ fn is_meant(column: &Column, fault: &MatchFault) -> bool {
 
 // ---- outputs
 
-/// The application that the fault is of.
-fn app_of<'a>(apps: &'a [App], group: &Option<GroupId>) -> Option<&'a App> {
-    let Some(group) = group else {
-        return apps.first();
-    };
-    for app in apps {
-        if app.group == *group {
-            return Some(app);
-        }
-    }
-    None
-}
-
-/// Whether the record claims the fault's input, as the output of the fault's number where only those of one number belong together.
-fn is_claim_of(fault: &OutputFault, item: ItemRef<'_>) -> bool {
-    if !is_visible(item.fate()) {
-        return false;
-    }
-    let source = &fault.source;
-    match item.into_claim() {
-        None => false,
-        Some(claim) => {
-            claim.topic == source.partition.topic.as_slice()
-                && claim.partition == source.partition.partition
-                && claim.offset == source.offset
-                && (claim.output == fault.output
-                    || matches!(fault.kind, OutputKind::CountDisagrees))
-        }
-    }
-}
-
-fn push_claims_in(spots: &mut Vec<Spot>, fault: &OutputFault, part: &Part) -> Result<(), AllocError>
-    ensures stays { (at : Option Place) → StartsAt spots.old.items at → OnOk result (StartsAt spots.new.items at) }
-{
-    let mut items = part.items().cursor();
-    while let Some(item) = items.next() {
-        let offset = item.offset();
-        if is_claim_of(fault, item) {
-            push_offset(spots, name_of(part)?, offset)?;
-        }
-    }
-    Ok(())
-}
-
 /// The name of a partition.
 pub(crate) fn name_of(part: &Part) -> Result<PartitionName, AllocError>
     ensures { IfOk result (λ name. name ≡ part_name part.now) }
@@ -283,39 +243,6 @@ pub(crate) fn name_of(part: &Part) -> Result<PartitionName, AllocError>
         topic: part.topic().clone()?,
         partition: part.partition(),
     })
-}
-
-fn push_claims(
-    alloc: Global,
-    spots: &mut Vec<Spot>,
-    app: &App,
-    logs: &[Part],
-    fault: &OutputFault,
-) -> Result<(), AllocError>
-    ensures stays { (at : Option Place) → StartsAt spots.old.items at → OnOk result (StartsAt spots.new.items at) }
-{
-    let outputs = TopicSet::of(alloc, app.outputs.as_slice())?;
-    for part in logs {
-        if outputs.has(part.topic().as_slice()) {
-            push_claims_in(spots, fault, part)?;
-        }
-    }
-    Ok(())
-}
-
-fn push_output(
-    alloc: Global,
-    spots: &mut Vec<Spot>,
-    app: Option<&App>,
-    logs: &[Part],
-    fault: &OutputFault,
-) -> Result<(), AllocError>
-    ensures stays { (at : Option Place) → StartsAt spots.old.items at → OnOk result (StartsAt spots.new.items at) }
-{
-    match app {
-        None => Ok(()),
-        Some(app) => push_claims(alloc, spots, app, logs, fault),
-    }
 }
 
 /// The place that the fault names, and the commits that passed its input.

@@ -76,15 +76,15 @@ said_batch bytes at next s r is said = subst (Answer bytes at next) is said
 
 -- ---- the segment
 
-byte_push : (at : ℕ) (all : List Standing) (s : Standing) → byte_after at (all ++ s ∷ []) ≡ byte_after at all + s.head.size
+pub byte_push : (at : ℕ) (all : List Standing) (s : Standing) → byte_after at (all ++ s ∷ []) ≡ byte_after at all + s.head.size
 byte_push at [] s = refl
 byte_push at (x ∷ xs) s = byte_push (at + x.head.size) xs s
 
-offset_push : (next : ℕ) (all : List Standing) (s : Standing) → offset_after next (all ++ s ∷ []) ≡ offset_after next all + s.head.count
+pub offset_push : (next : ℕ) (all : List Standing) (s : Standing) → offset_after next (all ++ s ∷ []) ≡ offset_after next all + s.head.count
 offset_push next [] s = refl
 offset_push next (x ∷ xs) s = offset_push (next + x.head.count) xs s
 
-run_push : (bytes : List ℕ) (at next : ℕ) (all : List Standing) (s : Standing) → IsRun bytes at next all → s.byte ≡ byte_after at all → s.head.offset ≡ offset_after next all → IsReadAt bytes s → IsRun bytes at next (all ++ s ∷ [])
+pub run_push : (bytes : List ℕ) (at next : ℕ) (all : List Standing) (s : Standing) → IsRun bytes at next all → s.byte ≡ byte_after at all → s.head.offset ≡ offset_after next all → IsReadAt bytes s → IsRun bytes at next (all ++ s ∷ [])
 run_push bytes at next [] s run byte offset read = (byte, offset, read, tt)
 run_push bytes at next (x ∷ xs) s run byte offset read = (run.0, run.1, run.2, run_push bytes (at + x.head.size) (next + x.head.count) xs s run.3 byte offset read)
 

@@ -8,3 +8,5 @@ pub mod Wanted
 pub mod Places
 pub mod Partitions
 pub mod Times
+pub mod Moments
+pub mod Timed

@@ -1,6 +1,6 @@
 //! The data records that a fault speaks of, found in the logs: those that claim an input, the states of a transactional id or
 //! of a producer id, and the commits of a source partition; and where the batches of a partition stand, which segment and
-//! which bytes.
+//! which bytes, and when records were written.
 //!
 //! The checker keeps no byte of a batch: places that a reader can look up are found by walking over the segments anew.
 #![tactic(auto)]
@@ -8,18 +8,22 @@
 mod alike;
 mod commits;
 mod finding;
+mod moment;
 mod partition;
 mod reading;
 mod sought;
+mod timed;
 mod times;
 mod walk;
 mod wanted;
 
 pub use commits::group_of;
 pub use finding::{Find, Finds, find_records};
+pub use moment::push_time;
 pub use partition::{Placed, batches_of, partition_named};
 pub use reading::{id_of, state_of};
 pub use sought::{Epochs, Sought};
+pub use timed::times_in;
 pub use times::time_of;
 pub use walk::batches_in;
 pub use wanted::{Standing, Wanted};

@@ -36,7 +36,7 @@ fn time_of_number(batch: &Batch, number: u64, size: usize) -> Option<i64>
     Some(record_time(batch, &records[number as usize]))
 }
 
-fn time_in_bytes(
+pub(crate) fn time_in_bytes(
     alloc: Global,
     bytes: &Bytes,
     byte: usize,

@@ -26,7 +26,7 @@ fn of_the_bytes(fault: BatchFault) -> Result<(), AllocError>
 }
 
 /// The batch at this byte, where it begins at this offset; None where the segment's batches end there.
-fn next_standing(
+pub(crate) fn next_standing(
     alloc: Global,
     bytes: &Bytes,
     at: usize,
@@ -64,7 +64,7 @@ fn push_wanted(
 }
 
 /// A segment's name, the offset of its first record.
-fn begin_of(segment: &Segment) -> u64
+pub(crate) fn begin_of(segment: &Segment) -> u64
     ensures { result ≡ base_of segment.now }
 {
     segment.base.unsigned_abs()

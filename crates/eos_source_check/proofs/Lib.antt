@@ -17,3 +17,4 @@ pub mod KnownAgain
 pub mod Among
 pub mod KeptNotes
 pub mod KeptTallies
+pub mod TimesAgain

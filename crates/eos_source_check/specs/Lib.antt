@@ -5,3 +5,4 @@ pub mod LaterFaults
 pub mod Again
 pub mod Listed
 pub mod Refusals
+pub mod Times

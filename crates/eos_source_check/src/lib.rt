@@ -22,6 +22,7 @@ pub mod laws;
 pub mod list_laws;
 mod listed;
 mod partitions;
+mod times;
 
 pub use all::{all_faults, of_partitions};
 pub use fault::Unlisted;
@@ -29,3 +30,4 @@ pub use judged::{Judged, judge_source};
 pub use later::later_faults;
 pub use listed::all_source_faults;
 pub use partitions::all_partition_faults;
+pub use times::times_named;

@@ -11,6 +11,7 @@ use Rattle.eos_source_check.specs.Judged.{IsJudgedFor}
 use Rattle.eos_source_check.specs.declared.judged.Judged.{Judged}
 use Rattle.eos_source_check.specs.Again.{AreAgain, AreThere}
 use Rattle.eos_drawing.specs.declared.drawing.Drawing.{Drawing}
+use Rattle.eos_drawing.specs.declared.when.Times.{Times}
 use Rattle.eos_drawing.specs.Shapes.{svg_text}
 use Rattle.eos_drawing.specs.declared.answer.Answer.{Answer}
 use Rattle.eos_drawing.specs.declared.answer.Answer.TheVariants as answers
@@ -18,28 +19,33 @@ use Rattle.eos_drawing.specs.declared.answer.Drawn.{Drawn}
 use Rattle.eos_drawing.specs.Drawings.{fault_of, around_of, drew_line, IsDrawing, AreTooFew}
 use Rattle.eos_drawing.specs.Folders.{is_later}
 use Rattle.eos_drawing.specs.Pictures.{IsPictureOf}
+use Rattle.eos_drawing.specs.Told.{TellOf}
+use Rattle.eos_drawing.specs.Whens.{AreTimesOfRows}
 
-abbrev pub IsAnswer : Option ℕ → Option ℕ → Answer → EvidenceParts → Type 0
-IsAnswer fault around (answers.Drawn drawn) e = IsDrawing e fault around drawn.status (string_bytes drawn.line) (string_bytes drawn.text)
-IsAnswer fault around (answers.TooFew count) e = AreTooFew e fault count
+abbrev pub IsAnswer : Option ℕ → Option ℕ → Answer → (ℕ → Known) → List Partition → EvidenceParts → Type 0
+IsAnswer fault around (answers.Drawn drawn) known partitions e = IsDrawing known partitions e fault around drawn.status (string_bytes drawn.line) (string_bytes drawn.text)
+IsAnswer fault around (answers.TooFew count) known partitions e = AreTooFew e fault count
 
--- the line on this picture's size, the text of a drawing, and the status of the verdict
-pub record IsText (picture : Picture) (verdict : Verdict) (drawn : Drawn) : Type 0 where
+-- the line on this picture's size, the text of a drawing with these times, and the status of the verdict
+pub record IsText (picture : Picture) (times : List Times) (verdict : Verdict) (drawn : Drawn) : Type 0 where
   pub size : string_bytes drawn.line ≡ drew_line picture
   pub drawing : Drawing
+  pub told : TellOf picture times drawing.shapes
   pub title : string_bytes drawing.title ≡ trim_end (verdict_line verdict)
   pub says : string_bytes drawn.text ≡ svg_text drawing
   pub exit : drawn.status ≡ status_of verdict
 
--- of a picture around the fault of this verdict, of each evidence of which this was judged
-pub record IsDrawnBy (judged : Judged) (verdict : Verdict) (around : Option ℕ) (drawn : Drawn) : Type 0 where
+-- of a picture around the fault of this verdict, of each evidence of which this was judged, with the times that these partitions say
+pub record IsDrawnBy (known : ℕ → Known) (partitions : List Partition) (judged : Judged) (verdict : Verdict) (around : Option ℕ) (drawn : Drawn) : Type 0 where
   pub picture : Picture
   pub is : (e : EvidenceParts) → IsJudgedFor judged e → IsPictureOf e (fault_of verdict) (around_of around) picture
-  pub text : IsText picture verdict drawn
+  pub times : List Times
+  pub when : AreTimesOfRows known partitions picture.rows.items times
+  pub text : IsText picture times verdict drawn
 
 -- it is the answer to each evidence of this shape of which this was judged, and which has the partitions as they were read again
 pub record IsAnswerBy (known : ℕ → Known) (shape : EvidenceParts) (judged : Judged) (fault around : Option ℕ) (answer : Answer) : Type 0 where
   pub again : List (Option Partition)
   pub once : is_later fault ≡ false → again ≡ []
   pub read : AreAgain known 0 shape.partitions again
-  pub are : (e : EvidenceParts) → e.spec ≡ shape.spec → IsJudgedFor judged e → AreThere again e.partitions → IsAnswer fault around answer e
+  pub are : (e : EvidenceParts) → e.spec ≡ shape.spec → IsJudgedFor judged e → AreThere again e.partitions → IsAnswer fault around answer known shape.partitions e

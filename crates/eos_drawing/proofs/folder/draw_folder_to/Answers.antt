@@ -60,4 +60,4 @@ returns-in-Ok-TooFew-clause-known_few g c e known at count is =
     let same : c.in-Ok-TooFew.count ≡ count = cc in
     let of = few_of holds asked.folder.now asked.fault asked.around c.in-Ok-TooFew.count
     (subst (λ (a : Answer). HoldsOf holds asked.folder.now (is_later asked.fault) (IsAnswer asked.fault asked.around a)) c.in-Ok-TooFew.field-0-is c.in-Ok-TooFew.ensures) in
-    subst (AreTooFew e asked.fault) same (known_of holds asked.folder.now (is_later asked.fault) (λ x. AreTooFew x asked.fault c.in-Ok-TooFew.count) e known at of)
+    subst (AreTooFew e asked.fault) same (known_of holds asked.folder.now (is_later asked.fault) (λ _ _ x. AreTooFew x asked.fault c.in-Ok-TooFew.count) e known at of)

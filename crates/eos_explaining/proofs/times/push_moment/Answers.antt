@@ -1,7 +1,0 @@
-use Rattle.eos_text.proofs.Appended.{then}
-use Rattle.eos_explaining.specs.Times.{moment_text}
-use Rattle.eos_explaining.proofs.times.push_moment.Goals as goal
-
-pub returns : goal.returns
-unfolding moment_text
-returns c = then (rw c.date_of.ensures at c.in_ok-push_date.ensures) (then c.in_ok-push_clock.ensures c.in_ok-push_text.ensures)

@@ -1,7 +1,0 @@
-use Rattle.eos_text.proofs.Appended.{then}
-use Rattle.eos_explaining.specs.Times.{two}
-use Rattle.eos_explaining.proofs.times.push_two.Goals as goal
-
-pub returns : goal.returns
-unfolding two
-returns c = then c.in_ok-push_text.ensures (rw c.zero_before.ensures at c.in_ok-push_value.ensures)

@@ -1,0 +1,54 @@
+use Rattle.std.proofs.Common.{◌≡◌, ◌+◌, List, [], length, refl, subst, sym, ◌∙◌, ap, arith}
+use Rattle.eos_evidence.specs.declared.partition.Partition.{Partition}
+use Rattle.eos_source.specs.Said.{known_by}
+use Rattle.eos_source_check.specs.Times.{AreTimesNamed}
+use Rattle.eos_source_check.proofs.PassedAgain.{first_next, room}
+use Rattle.eos_source_check.proofs.TimesAgain.{none_ahead, named, not_named, all_ahead}
+use Rattle.eos_source_check.proofs.times.times_named.Goals as goal
+
+pub times_again-requires-after_bounds : goal.times_again-requires-after_bounds
+times_again-requires-after_bounds g c =
+    let at = c.loop-i.invariant.0 in
+    let fits = room c.args.shape.now c.partitions-partitions.result.now c.loop-i.i c.index-partitions-i.result c.partitions-partitions.ensures.value c.partitions-partitions.ensures.evidence
+    c.loop-i-test.true c.index-partitions-i.is in
+    omega (arith, at, fits)
+
+pub overflow_add-first : goal.overflow_add-first
+overflow_add-first g c =
+    let at = c.loop-i.invariant.0 in
+    let len = c.len.ensures in
+    let fits = room c.args.shape.now c.partitions-partitions.result.now c.loop-i.i c.index-partitions-i.result c.partitions-partitions.ensures.value c.partitions-partitions.ensures.evidence
+    c.loop-i-test.true c.index-partitions-i.is in
+    omega (arith, at, len, fits)
+
+pub loop-i-init : goal.loop-i-init
+loop-i-init g c = (
+  refl,
+  none_ahead (known_by (g.S.Source.said c.args.source.now) (g.S.Source.is_log c.args.source.now)) c.partitions-partitions.result.now c.args.name.now c.args.offsets.now,
+)
+
+pub loop-i-preserved : goal.loop-i-preserved
+loop-i-preserved g c =
+    let known = known_by (g.S.Source.said c.args.source.now) (g.S.Source.is_log c.args.source.now) in
+    let shapes = c.partitions-partitions.result.now in
+    let i = c.loop-i.i in
+    let p = c.index-partitions-i.result in
+    let at = c.loop-i.invariant.0 in
+    let len = c.len.ensures in
+    let next = first_next shapes i p c.loop-i-test.true c.index-partitions-i.is in (
+      omega (arith, at, len, next),
+      not_named known shapes c.args.name.now c.args.offsets.now c.loop-i.first i p c.loop-i-test.true c.index-partitions-i.is (c.loop-i.first + length p.segments) (sym c.is_named.ensures ∙ c.if-is_named.false) refl c.loop-i.invariant.1,
+    )
+
+pub returns-then-is_named : goal.returns-then-is_named
+returns-then-is_named g c =
+    let known = known_by (g.S.Source.said c.args.source.now) (g.S.Source.is_log c.args.source.now) in
+    let times = c.in_ok-times.times.items in
+    subst (λ (ps : List Partition). AreTimesNamed known 0 ps c.args.name.now c.args.offsets.now times) c.partitions-partitions.ensures.value
+    (named known c.partitions-partitions.result.now c.args.name.now c.args.offsets.now c.loop-i.first c.loop-i.i c.index-partitions-i.result c.loop-i-test.true c.index-partitions-i.is times (sym c.is_named.ensures ∙ c.if-is_named.true) c.in_ok-times.ensures
+    c.loop-i.invariant.1)
+
+pub returns : goal.returns
+returns g c =
+    let known = known_by (g.S.Source.said c.args.source.now) (g.S.Source.is_log c.args.source.now) in
+    all_ahead known c.args.shape.now.partitions c.partitions-partitions.result.now c.args.name.now c.args.offsets.now c.loop-i.first c.loop-i.i [] c.partitions-partitions.ensures.value (omega (arith, c.loop-i-test.false)) refl c.loop-i.invariant.1

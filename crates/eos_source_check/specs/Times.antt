@@ -1,0 +1,51 @@
+-- When records of a source's partition were written: the times that the batches say in which they stand, of its segments as they are read
+-- again. Of a segment that is a fold no bytes are kept, and no times; one in which none of the offsets lies isn't read.
+use Rattle.std.specs.Prelude.{◌≡◌, ◌⊎◌, ℕ, ℤ, suc, ◌+◌, List, [], ◌∷◌, ◌++◌, length, Option, None, Some, Bool, true, false, ◌&&◌, ◌||◌, nat_le, nat_lt}
+use Rattle.eos_base.specs.declared.partition_name.PartitionName.{PartitionName}
+use Rattle.eos_evidence.specs.declared.partition.Partition.{Partition}
+use Rattle.eos_evidence.specs.declared.segment.Segment.{Segment}
+use Rattle.eos_fold.specs.Fronts.{base_of}
+use Rattle.eos_sought.specs.Partitions.{is_named}
+use Rattle.eos_sought.specs.Timed.{AreTimesIn}
+use Rattle.eos_source.specs.Said.{Known}
+use Rattle.eos_source_check.specs.Again.{IsLogAgain}
+
+-- ---- a segment
+
+-- where the next segment begins, if there is one
+abbrev pub begins_next : List Segment → Option ℕ
+begins_next [] = None
+begins_next (s ∷ ss) = Some (base_of s)
+
+abbrev pub is_below : Option ℕ → ℕ → Bool
+is_below None offset = true
+is_below (Some next) offset = nat_lt offset next
+
+-- one of these offsets lies in a segment that begins here, where the next begins there
+abbrev pub some_lie_in : ℕ → Option ℕ → List ℕ → Bool
+some_lie_in base next [] = false
+some_lie_in base next (offset ∷ offsets) = (nat_le base offset && is_below next offset) || some_lie_in base next offsets
+
+-- it is read again, or isn't a log, or none of the offsets lies in it
+abbrev pub AreTimesOf : Known → Segment → Option ℕ → List ℕ → List (ℕ × ℤ) → Type 0
+AreTimesOf known name next offsets times =
+    ((segment : Segment) × IsLogAgain known name segment × AreTimesIn segment offsets times)
+    ⊎ (((known.log ≡ false) ⊎ (some_lie_in (base_of name) next offsets ≡ false)) × (times ≡ []))
+
+-- ---- a partition
+
+-- of segments of these names, one after the other, the first of which is the piece of this number
+abbrev pub AreTimesAgain : (ℕ → Known) → ℕ → List Segment → List ℕ → List (ℕ × ℤ) → Type 0
+AreTimesAgain known piece [] offsets times = times ≡ []
+AreTimesAgain known piece (name ∷ names) offsets times =
+    (here : List (ℕ × ℤ)) × (more : List (ℕ × ℤ)) × AreTimesOf (known piece) name (begins_next names) offsets here × AreTimesAgain known (suc piece) names offsets more × (times ≡ here ++ more)
+
+abbrev pub AreTimesIf : Bool → Type 0 → Type 0 → Type 0
+AreTimesIf true here others = here
+AreTimesIf false here others = others
+
+-- of the first partition of this name, if there is one
+abbrev pub AreTimesNamed : (ℕ → Known) → ℕ → List Partition → PartitionName → List ℕ → List (ℕ × ℤ) → Type 0
+AreTimesNamed known piece [] name offsets times = times ≡ []
+AreTimesNamed known piece (p ∷ ps) name offsets times =
+    AreTimesIf (is_named name p) (AreTimesAgain known piece p.segments offsets times) (AreTimesNamed known (piece + length p.segments) ps name offsets times)

@@ -1,0 +1,196 @@
+//! When records of a source's partition were written. Of what is kept of a log no times are left, so its segments are read again.
+
+ghost use Rattle.std.specs.Prelude.{◌≡◌, ◌<◌, ◌+◌, ◌≤◌, false, length, drop, IfOk, MatchOption};
+ghost use Rattle.eos_fold.specs.Fronts.{base_of};
+ghost use Rattle.eos_source.specs.Said.{Known, known_by};
+ghost use Rattle.eos_sought.specs.Partitions.{is_named};
+ghost use Rattle.eos_source_check.specs.Again.{IsLogAgain};
+ghost use Rattle.eos_source_check.specs.steps.FaultsAgain.{IsLogOf};
+ghost use Rattle.eos_source_check.specs.Times.{begins_next, is_below, some_lie_in, AreTimesOf, AreTimesAgain, AreTimesNamed};
+
+use crate::fault::Unlisted;
+use bytes::Bytes;
+use eos_base::PartitionName;
+use eos_evidence::{Evidence, Partition, Segment, read_segment};
+use eos_sought::times_in;
+use eos_source::{Piece, Source};
+use std::alloc::{AllocError, Global};
+
+/// The number of a piece, its name, and where the next one of its partition begins.
+#[derive(Clone, Copy)]
+struct Named<'a> {
+    piece: u64,
+    name: &'a Segment,
+    next: Option<u64>,
+}
+
+/// The segment's offset, which is its name.
+fn base_of(name: &Segment) -> u64
+    ensures { result ≡ base_of name.now }
+{
+    name.base.unsigned_abs()
+}
+
+/// Where the segment behind this one begins.
+fn begins_next(names: &[Segment], i: usize) -> Option<u64>
+    requires { i < length names.now }
+    ensures { result ≡ begins_next (drop (i + 1) names.now) }
+{
+    match names.get(i + 1) {
+        None => None,
+        Some(name) => Some(base_of(name)),
+    }
+}
+
+fn is_below(next: Option<u64>, offset: u64) -> bool
+    ensures { result ≡ is_below next offset }
+{
+    match next {
+        None => true,
+        Some(next) => offset < next,
+    }
+}
+
+/// Whether one of these offsets lies between where a segment begins and where the next one does.
+fn some_lie_in(base: u64, next: Option<u64>, offsets: &[u64]) -> bool
+    ensures { result ≡ some_lie_in base next offsets.now }
+{
+    for offset in offsets {
+        if base <= *offset && is_below(next, *offset) {
+            return true;
+        }
+    }
+    false
+}
+
+/// The bytes of a piece, as it is read now; none of a fold.
+fn bytes_again<S: Source>(
+    alloc: Global,
+    source: &S,
+    piece: u64,
+) -> Result<Option<Bytes>, Unlisted<S::Fault>>
+    ensures { IfOk result (λ found. MatchOption found (S.is_log source.now piece ≡ false) (IsLogOf (known_by (S.said source.now) (S.is_log source.now) piece))) }
+{
+    match source.open(alloc, piece) {
+        Ok(Piece::Log(mut reader)) => match read_segment(alloc, &mut reader) {
+            Ok(bytes) => Ok(Some(bytes)),
+            Err(why) => {
+                let fault = source.refusal(alloc, piece, &mut reader, why);
+                Err(Unlisted::Refused(fault))
+            }
+        },
+        Ok(Piece::Fold(_)) => Ok(None),
+        Err(fault) => Err(Unlisted::Refused(fault)),
+    }
+}
+
+/// The segment of this name with these bytes.
+#[tactic(auto, using(crate::proofs::LogsAgain::named_again))]
+fn segment_of(name: &Segment, bytes: Bytes) -> Result<Segment, AllocError>
+    ensures { (known : Known) → IsLogOf known bytes → IfOk result (IsLogAgain known name.now) }
+{
+    Ok(Segment {
+        topic: name.topic.clone()?,
+        partition: name.partition,
+        base: name.base,
+        bytes,
+    })
+}
+
+/// The segment, as it is read now; none where it is a fold.
+fn log_again<S: Source>(
+    alloc: Global,
+    source: &S,
+    named: Named<'_>,
+) -> Result<Option<Segment>, Unlisted<S::Fault>>
+    ensures { IfOk result (λ found. MatchOption found (S.is_log source.now named.piece ≡ false) (IsLogAgain (known_by (S.said source.now) (S.is_log source.now) named.piece) named.entry.name.now)) }
+{
+    let Some(bytes) = bytes_again(alloc, source, named.piece)? else {
+        return Ok(None);
+    };
+    let segment = segment_of(named.name, bytes)?;
+    Ok(Some(segment))
+}
+
+/// The times at these offsets of one segment.
+fn times_of<S: Source>(
+    alloc: Global,
+    source: &S,
+    named: Named<'_>,
+    offsets: &[u64],
+) -> Result<Vec<(u64, i64)>, Unlisted<S::Fault>>
+    ensures { IfOk result (λ times. AreTimesOf (known_by (S.said source.now) (S.is_log source.now) named.piece) named.entry.name.now named.next offsets.now times.items) }
+{
+    if !some_lie_in(base_of(named.name), named.next, offsets) {
+        return Ok(Vec::new(alloc));
+    }
+    match log_again(alloc, source, named)? {
+        None => Ok(Vec::new(alloc)),
+        Some(segment) => {
+            let times = times_in(alloc, &segment, offsets)?;
+            Ok(times)
+        }
+    }
+}
+
+/// The same of a partition, whose first segment is the piece of this number.
+fn times_again<S: Source>(
+    alloc: Global,
+    source: &S,
+    shape: &Partition,
+    first: u64,
+    offsets: &[u64],
+) -> Result<Vec<(u64, i64)>, Unlisted<S::Fault>>
+    requires { first + length shape.now.segments ≤ 65536 }
+    ensures { IfOk result (λ times. AreTimesAgain (known_by (S.said source.now) (S.is_log source.now)) first shape.now.segments offsets.now times.items) }
+{
+    let names = shape.segments.as_slice();
+    let mut times = Vec::new(alloc);
+    for i in 0..names.len() {
+        let named = Named {
+            piece: first + i as u64,
+            name: &names[i],
+            next: begins_next(names, i),
+        };
+        let mut more = times_of(alloc, source, named, offsets)?;
+        times.append(&mut more)?;
+    }
+    Ok(times)
+}
+
+fn is_named(partition: &Partition, name: &PartitionName) -> bool
+    ensures { result ≡ is_named name.now partition.now }
+{
+    let end = &partition.end;
+    end.topic.as_slice().cmp(name.topic.as_slice()).is_eq() && end.partition == name.partition
+}
+
+/// The times of the records of a partition that stand at these offsets, in milliseconds since 1970-01-01T00:00Z, as the batches say
+/// them, each with its offset. The partition's segments are read again for it, one after the other and only those in which an offset
+/// lies; where one changed since it was judged, they are those of what is read now. A segment that is a fold gives none.
+///
+/// Memory is that of one segment.
+///
+/// # Errors
+/// A segment isn't there any more, or can't be read; or want of memory.
+pub fn times_named<S: Source>(
+    alloc: Global,
+    source: &S,
+    shape: &Evidence,
+    name: &PartitionName,
+    offsets: &[u64],
+) -> Result<Vec<(u64, i64)>, Unlisted<S::Fault>>
+    ensures { IfOk result (λ times. AreTimesNamed (known_by (S.said source.now) (S.is_log source.now)) 0 shape.now.partitions name.now offsets.now times.items) }
+{
+    let partitions = shape.partitions();
+    let mut first = 0u64;
+    for i in 0..partitions.len() {
+        let partition = &partitions[i];
+        if is_named(partition, name) {
+            let times = times_again(alloc, source, partition, first, offsets)?;
+            return Ok(times);
+        }
+        first += partition.segments.len() as u64;
+    }
+    Ok(Vec::new(alloc))
+}
