@@ -3,8 +3,8 @@
 
     python3 -B tests/killed.py PROGRAM LIBRARY
 
-LIBRARY is tests/killed.c, built. Of `draw`, `check --report`, `simulate --history`, `init` and `fold` a run that isn't killed says what
-the file holds. After one that was killed the file isn't there, or is that one; and the next run makes it, or is refused since it is there,
+LIBRARY is tests/killed.c, built. Of `draw`, `check --report`, `check --page`, `simulate --history`, `init` and `fold` a run that isn't
+killed says what the file holds. After one that was killed the file isn't there, or is that one; and the next run makes it, or is refused since it is there,
 and leaves nothing beside it. A file that was there before stays, as does the folder that is read. The last line is
 'N passed, N failed'.
 """
@@ -17,10 +17,11 @@ import sys
 import tempfile
 
 FOLDER = os.path.abspath("tests/evidence/row-yes-2")
+FAULTY = os.path.abspath("tests/stories/04-missing-marker")
 THERE = "eoscheck: cannot write {}: it is there already\n"
 # A command: its words, for a file and for a folder that isn't there; how many calls it has at least; where in a folder of its own the file
-# is to stand, and what is put into that folder before.
-Command = collections.namedtuple("Command", "words least place before", defaults=("file", lambda scratch: None))
+# is to stand, and what is put into that folder before; its status.
+Command = collections.namedtuple("Command", "words least place before status", defaults=("file", lambda scratch: None, 0))
 
 
 def copy_logs(scratch):
@@ -43,6 +44,8 @@ def fold_words(file, _):
 COMMANDS = {
     "draw": Command(lambda file, _: ["draw", FOLDER, file], 8),
     "check --report": Command(lambda file, _: ["check", "--workers", "1", "--quiet", "--report", file, FOLDER], 8),
+    "check --page": Command(lambda file, _: ["check", "--workers", "1", "--quiet", "--page", file, FOLDER], 8),
+    "check --page of faults": Command(lambda file, _: ["check", "--all", "--workers", "1", "--quiet", "--page", file, FAULTY], 8, status=1),
     "simulate --history": Command(lambda file, folder: ["simulate", "--seed", "7", "--events", "30", "--history", file, folder], 30),
     "init": Command(lambda file, _: ["init", "--ends-from-logs", "--app", "g:in:out", os.path.dirname(file)], 4, "evidence.json", copy_logs),
     "fold": Command(fold_words, 4, "in-0/00000000000000000000.fold", make_folder),
@@ -104,7 +107,7 @@ class Tests:
             file, count = f"{scratch}/{command.place}", f"{beside}/count"
             others = {*os.listdir(os.path.dirname(file)), os.path.basename(file)}
             done = self.ran(command.words(file, f"{beside}/folder"), KILL_COUNT=count)
-            self.expect(done[0] == 0, f"{name}: {done}")
+            self.expect(done[0] == command.status, f"{name}: {done}")
             whole, calls = (told(name, read(file)), done), int(read(count))
             self.expect(set(os.listdir(os.path.dirname(file))) == others, f"{name}: something is left")
             self.expect(calls >= command.least, f"{name} has only {calls} calls")

@@ -4,14 +4,17 @@
     python3 -B tests/page.py PROGRAM [REFUSE.SO]
 
 Over the folders of tests/evidence and the stories, so over every kind of fault: the page says the verdict, the notes, how many faults there
-are of each kind, the first ten of them, and the tables, as the report of the same check has them. Its elements are balanced and none of
-them is a script, a link or a picture; it is ASCII, whatever stands in the folder's name and in ids. What can't be written, what is there
-already, and words that don't fit are refused in one line, and nothing half written is left. With REFUSE.SO (tests/refuse.c, built) the
-allocations of a run are refused, each in turn. The last line is 'N passed, N failed'.
+are of each kind, the first ten of them, and the tables, as the report of the same check has them; and of these ten what `explain` tells and
+`draw` draws, or why there is none. Its elements are balanced and none of them is a script, a link or what is fetched; it is ASCII, whatever
+stands in the folder's name and in ids. What can't be written, what is there already, and words that don't fit are refused in one line, and
+nothing half written is left. With REFUSE.SO (tests/refuse.c, built) the allocations of a run are refused, each in turn.
+The last line is 'N passed, N failed'.
 
-How a page looks is judged by no program here: where a Chromium is on the path, its width at 360 and 1,400 pixels and its print are tried.
+Where a Chromium is on the path, it lays each kind's page out at 360 and at 1,400 pixels: nothing is wider than the window but what moves
+inside its own box, and printed no picture is wider than the paper. Whether it is a pleasure to read no program judges.
 """
 import collections
+import html
 import html.parser
 import json
 import os
@@ -33,9 +36,17 @@ VOID = {"meta", "br"}
 # All that may stand in a page, with the attributes that each may have.
 ELEMENTS = {
     "html": {"lang"}, "head": set(), "meta": {"charset", "name", "content"}, "title": set(), "style": set(), "body": set(), "h1": set(),
-    "h2": set(), "p": set(), "br": set(), "pre": {"class"}, "code": set(), "div": set(), "table": set(), "tr": set(), "th": set(),
+    "h2": set(), "h3": set(), "p": set(), "br": set(), "pre": {"class"}, "code": set(), "div": set(), "table": set(), "tr": set(), "th": set(),
     "td": {"colspan"}, "ol": set(), "li": set(),
 }
+# What may stand in a picture, which has no ids, styles or references: nothing of one picture can mean another.
+LOOKS = {"class", "fill", "stroke", "stroke-width", "stroke-dasharray", "font-size", "font-weight"}
+SVG = {
+    "svg": {"xmlns", "width", "height", "viewbox", "font-family", "font-size"}, "title": set(), "path": {"d"} | LOOKS, "text": {"x", "y"} | LOOKS,
+    "rect": {"x", "y", "width", "height", "pointer-events"} | LOOKS, "line": {"x1", "y1", "x2", "y2"} | LOOKS,
+}
+NAMESPACE = 'xmlns="http://www.w3.org/2000/svg"'
+HEADING = "Where the faults come from"
 ROLES = ("source", "output", "offsets_log", "transaction_log")
 ROLE_WORDS = {"source": "source", "output": "output", "offsets_log": "offsets", "transaction_log": "transactions"}
 
@@ -64,14 +75,24 @@ class Page(html.parser.HTMLParser):
     def __init__(self, text):
         super().__init__(convert_charrefs=True)
         self.open, self.wrong, self.texts, self.rows, self.heading = [], [], collections.defaultdict(list), collections.defaultdict(list), ""
+        self.told = []
         self.feed(text)
         self.close()
         if self.open:
             self.wrong.append(f"open at the end: {self.open}")
 
+    def handle_startendtag(self, tag, attrs):
+        self.handle_starttag(tag, attrs)
+        self.handle_endtag(tag)
+
     def handle_starttag(self, tag, attrs):
-        if tag not in ELEMENTS or any(name not in ELEMENTS[tag] for name, _ in attrs):
+        may = SVG if "svg" in self.open or tag == "svg" else ELEMENTS
+        if tag not in may or any(name not in may[tag] for name, _ in attrs):
             self.wrong.append(f"{tag} with {attrs}")
+        if tag == "h3":
+            self.told.append([])
+        elif self.told and tag in ("pre", "p", "svg"):
+            self.told[-1].append(tag)
         if tag == "tr":
             self.rows[self.heading].append([])
         if tag in ("td", "th"):
@@ -139,10 +160,50 @@ def kind_rows(faults):
     return [[code, name, str(count)] for (code, name), count in sorted(counts.items(), key=lambda it: order(it[0][0]))]
 
 
+TOLD = re.compile(r"(?:<pre>(.*?)</pre>|<p>No story: (.*?)</p>)\n(?:<div>\n(.*?)</div>|<p>No picture: (.*?)</p>)\n", re.DOTALL)
+
+
+def drawn(folder, number):
+    """What `draw` makes of the fault of this number, and what it says where that is none."""
+    file = os.path.join(scratch, "drawn.svg")
+    status, _, said = run("draw", "--fault", str(number), folder, file)
+    if status == 2:
+        return None, said
+    with open(file, encoding="ascii") as made_file:
+        text = made_file.read()
+    os.remove(file)
+    return text, None
+
+
+def words_of(text):
+    """A text of a page in one line, as it is shown outside of a preformatted one."""
+    return text and " ".join(html.unescape(text).split())
+
+
+def stories(what, text, page, folder, count):
+    """The end of a page: of the first faults what `explain` tells and `draw` draws."""
+    end = text.partition(f"<h2>{HEADING}</h2>\n")[2].removesuffix("</body>\n</html>\n")
+    parts = re.split(r"<h3>Fault (\d+)</h3>\n", end)
+    want = range(1, min(count, 10) + 1)
+    same(f"{what}: the faults that are told", (parts[:1], parts[1::2], page.texts["h3"]), ([""], [str(it) for it in want], [f"Fault {it}" for it in want]))
+    for number, part in zip(want, parts[2::2]):
+        found = TOLD.fullmatch(part)
+        if not found:
+            same(f"{what}: fault {number}", part, "a story and a picture")
+            continue
+        story, no_story, picture, no_picture = found.groups()
+        status, words, refusal = run("explain", "--fault", str(number), folder)
+        wanted = (in_page(words), None) if status == 1 else (None, words_of(in_page(refusal)))
+        same(f"{what}: story {number}", (story and html.unescape(story), words_of(no_story)), wanted)
+        svg, why = drawn(folder, number)
+        same(f"{what}: picture {number}", (picture, words_of(no_picture)), (svg, why and words_of(in_page(why))))
+
+
 def right(what, text, lines, notes, report):
     """A page beside the lines and the notes of `check`, and beside its report."""
     same(f"{what}: is ASCII", text.isascii(), True)
-    same(f"{what}: nothing from outside", [word for word in ("http", "src=", "href", "url(", "@import", "javascript") if word in text.lower()], [])
+    outside = [word for word in ("http", "src=", "href", "url(", "@import", "javascript") if word in text.replace(NAMESPACE, "").lower()]
+    same(f"{what}: nothing from outside", outside, [])
     page = Page(text)
     same(f"{what}: elements", page.wrong, [])
     verdict, told = page.texts["pre"][0], page.texts["pre"][1]
@@ -159,6 +220,7 @@ def right(what, text, lines, notes, report):
         same(f"{what}: faults by kind", page.rows["Faults by kind"][1:], kind_rows(faults))
         wanted = [line[len("no "):] for line in lines.splitlines() if line.startswith("no ")]
         same(f"{what}: the first faults", page.texts["li"], wanted[:10])
+    stories(what, text, page, report["folder"], len(faults))
     same(f"{what}: partitions", page.rows["Partitions"][1:], [partition_row(row) for row in report["partitions"]])
     same(f"{what}: groups", page.rows["Groups"][1:], group_rows(report["groups"]))
     about = page.texts["p"][0]
@@ -198,6 +260,28 @@ def folders():
     same("each kind of fault", len(kinds) - len([1 for it in kinds if "." not in it]), 35)
 
 
+def over_folds():
+    """Where the logs are folds, there is no story; and the page says so, and stands."""
+    folder, folds = os.path.join(scratch, "folded"), os.path.join(scratch, "folds")
+    for name, kind in (("01-duplicate-output", "a later fault"), ("04-missing-marker", "a partition's fault")):
+        made_of = f"tests/stories/{name}"
+        shutil.copytree(made_of, folder)
+        partitions = [os.path.join(made_of, it) for it in os.listdir(made_of) if it != "evidence.json"]
+        same(f"{kind}: folds", run("fold", "--manifest", f"{made_of}/evidence.json", "--out", folds, *partitions)[0], 0)
+        for partition in os.listdir(folds):
+            for file in os.listdir(f"{folder}/{partition}"):
+                os.remove(f"{folder}/{partition}/{file}")
+            for file in os.listdir(f"{folds}/{partition}"):
+                shutil.move(f"{folds}/{partition}/{file}", f"{folder}/{partition}/{file}")
+        shutil.rmtree(folds)
+        shutil.move(folder, other)
+        text = made(f"{kind}, over folds", other)
+        same(f"{kind}, over folds: no story", (text.count("<p>No story: "), text.count("<p>No picture: "), text.count("<svg ")), (1, 0, 1))
+        if kind == "a later fault":
+            made(f"{kind}, over folds, all", other, "--all")
+        shutil.rmtree(other)
+
+
 # ---- names that mean something to HTML
 
 def odd_names():
@@ -221,6 +305,7 @@ def odd_names():
     same("markup by its number", "&#60;b&#62;&#38;&#34;&#39;%e2%80%ae%c3%a9%1b" in text, True)
     shutil.rmtree(path)
     shutil.rmtree(inner)
+    return text
 
 
 # ---- refusals
@@ -254,6 +339,10 @@ def refusals():
         same("it is written over", file.read().startswith("<!DOCTYPE html>"), True)
     os.remove(path)
     os.remove(report)
+    under, over = os.path.relpath(report), os.path.abspath(report)
+    refused("the report's file by another path", ["check", "--report", under, "--page", over, GOOD], f"eoscheck: cannot write {over}: it is there already\n")
+    refused("the same with --force", ["check", "--force", "--report", under, "--page", over, GOOD], f"eoscheck: cannot write {over}.whole: it is there already\n")
+    same("neither is left", os.listdir(scratch), [])
     absent = os.path.join(scratch, "absent", "page.html")
     refused("no such folder", ["check", "--page", absent, GOOD], f"eoscheck: cannot write {absent}: no such folder\n")
     status, out, err = run("check", "--page", path, GOOD, before=no_bytes)
@@ -265,9 +354,19 @@ def refusals():
     same("an answer that can't be written", (done.returncode, os.listdir(scratch)), (2, []))
 
 
+def lacks_for_memory(text, whole):
+    """Whether a page is this one but for stories or pictures that memory was wanting for, and says so."""
+    told = [TOLD.fullmatch(it.partition(HEADING)[2].partition("</h3>\n")[2].removesuffix("</body>\n</html>\n")) for it in (text, whole)]
+    if text.partition(HEADING)[0] != whole.partition(HEADING)[0] or not all(told):
+        return False
+    story, no_story, picture, no_picture = told[0].groups()
+    lacking = {words_of(it) for it in (no_story, no_picture) if it}
+    return lacking == {"eoscheck: out of memory"} and story in (None, told[1][1]) and picture in (None, told[1][3])
+
+
 def without_memory(library):
-    """Each refused allocation: no page and status 3, or all is well."""
-    path, told = os.path.join(scratch, "page.html"), 0
+    """Each refused allocation: no page and status 3, or all is well, but for a story or a picture that is told to be lacking."""
+    path, told, lacking = os.path.join(scratch, "page.html"), 0, 0
     words = ["check", "--all", "--quiet", "--workers", "1", "--page", path, FAULTY]
     good = run(*words)
     with open(path, encoding="utf-8") as file:
@@ -285,28 +384,88 @@ def without_memory(library):
         left = os.listdir(scratch)
         if os.path.exists(path):
             with open(path, encoding="utf-8") as file:
-                same(f"allocation {at}", (done.returncode, done.stdout, file.read(), left), (good[0], good[1], whole, ["page.html"]))
+                text = file.read()
             os.remove(path)
+            lacks = lacks_for_memory(text, whole)
+            lacking += lacks
+            same(f"allocation {at}", (done.returncode, done.stdout, text == whole or lacks, left), (good[0], good[1], True, ["page.html"]))
         else:
             same(f"allocation {at}", (done.returncode, done.stderr, left), (3, "eoscheck: out of memory\n", []))
             told += 1
-    same("refused allocations are told", told > 100, True)
+    same("refused allocations are told", (told > 100, lacking > 100), (True, True))
 
 
 # ---- how it looks
+
+# Windows of some widths with a page in each, of which a script tells how they are laid out: how wide the page's content is; which elements that
+# are no part of a box that moves by itself are wider than the window; how wide pictures are, and their boxes; and what no page may have.
+FRAMES = """<!DOCTYPE html><meta charset="utf-8"><pre id="told"></pre>
+{frames}
+<script>
+const look = frame => {{
+  const page = frame.contentDocument, root = page.documentElement;
+  const loose = [...page.body.querySelectorAll("*")].filter(it => !it.parentElement.closest("div") && it.getBoundingClientRect().right > root.clientWidth + 1);
+  const pictures = [...page.querySelectorAll("svg")].map(it => [it.getBoundingClientRect().width, it.parentElement.clientWidth, it.parentElement.scrollWidth]);
+  const tags = page.querySelectorAll("script, img, link, iframe, object, a, [id], [style]").length;
+  return {{width: root.clientWidth, content: root.scrollWidth, loose: loose.map(it => it.outerHTML.slice(0, 80)), pictures, tags, faults: page.querySelectorAll("h3").length}};
+}};
+onload = () => {{ document.getElementById("told").textContent = JSON.stringify([...document.querySelectorAll("iframe")].map(look)) + "."; }};
+</script>
+"""
+FRAME = """<iframe scrolling="no" style="width: {}px; height: 900px; border: 0" srcdoc="{}"></iframe>"""
+# A telephone's and a desk's; and a sheet of A4 with its margins, where what the style sheet says of print holds.
+WINDOWS = (360, 1400)
+SHEET = 718
+
+
+def laid_out(browser, pages):
+    """How pages are laid out, each in a window of its width."""
+    path = os.path.join(scratch, "frames.html")
+    with open(path, "w", encoding="utf-8") as file:
+        file.write(FRAMES.format(frames="\n".join(FRAME.format(width, html.escape(text)) for text, width in pages)))
+    words = [browser, "--headless", "--no-sandbox", "--disable-gpu", "--window-size=1600,1000", "--virtual-time-budget=20000", "--dump-dom", f"file://{path}"]
+    done = subprocess.run(words, capture_output=True, timeout=600)
+    os.remove(path)
+    return json.loads(html.unescape(re.search('<pre id="told">(.*?)[.]</pre>', done.stdout.decode(), re.DOTALL).group(1)))
+
+
+def look_at(browser, pages):
+    """Looks at these pages, by what they are."""
+    shown = [(what, text, width) for what, text in pages.items() for width in (*WINDOWS, SHEET)]
+    layouts = laid_out(browser, [(text.replace("@media print", "@media all") if width == SHEET else text, width) for _, text, width in shown])
+    for (what, text, width), found in zip(shown, layouts):
+        where = f"{what}, in print" if width == SHEET else f"{what}, at {width} pixels"
+        pictures = found.pop("pictures")
+        same(where, found, {"width": width, "content": width, "loose": [], "tags": 0, "faults": text.count("<h3>")})
+        if width == SHEET:
+            same(f"{where}: pictures", [it for it in pictures if it[0] > it[1] + 1], [])
+        else:
+            # a picture is as large as it is drawn, and moves inside its box
+            sizes = [int(it) for it in re.findall('<svg [^>]*? width="([0-9]+)"', text)]
+            same(f"{where}: pictures", [(round(it[0]), it[1] <= width, it[2] >= it[0] - 1) for it in pictures], [(it, True, True) for it in sizes])
+
 
 def looks():
     browser = next((it for it in ("chromium", "chromium-browser", "google-chrome") if shutil.which(it)), None)
     if not browser:
         print("skipped: how a page looks (no Chromium on the path)")
         return
-    path = os.path.join(scratch, "page.html")
+    path, pages = os.path.join(scratch, "page.html"), {"odd names": odd_text}
+    for part in ("stories", "evidence"):
+        with open(f"tests/{part}/expected.tsv", encoding="utf-8") as file:
+            names = [(line.split("\t")[0], line.split("\t")[2].split()[:2]) for line in file]
+        for name, verdict in names:
+            # one of each kind, and of a yes
+            kind = verdict[1] if verdict[0] == "no" else "yes"
+            if kind in pages:
+                continue
+            run("check", "--all", "--page", path, f"tests/{part}/{name}")
+            with open(path, encoding="utf-8") as file:
+                pages[kind] = file.read()
+            os.remove(path)
+    same("each kind is looked at", len(pages), 37)
+    look_at(browser, pages)
     run("check", "--all", "--page", path, FAULTY)
-    for width in (360, 1400):
-        picture = os.path.join(scratch, f"{width}.png")
-        words = [browser, "--headless", "--no-sandbox", "--disable-gpu", f"--window-size={width},2000", f"--screenshot={picture}", f"file://{path}"]
-        done = subprocess.run(words, capture_output=True, timeout=120)
-        same(f"at {width} pixels", (done.returncode, os.path.exists(picture)), (0, True))
     printed = os.path.join(scratch, "page.pdf")
     done = subprocess.run([browser, "--headless", "--no-sandbox", f"--print-to-pdf={printed}", f"file://{path}"], capture_output=True, timeout=120)
     same("in print", (done.returncode, os.path.exists(printed)), (0, True))
@@ -314,9 +473,11 @@ def looks():
 
 if __name__ == "__main__":
     program = os.path.abspath(sys.argv[1])
-    with tempfile.TemporaryDirectory() as scratch:
+    with tempfile.TemporaryDirectory() as scratch, tempfile.TemporaryDirectory() as beside:
+        other = os.path.join(beside, "folded")
         folders()
-        odd_names()
+        over_folds()
+        odd_text = odd_names()
         refusals()
         if len(sys.argv) > 2:
             without_memory(os.path.abspath(sys.argv[2]))

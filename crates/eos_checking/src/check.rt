@@ -47,6 +47,7 @@ pub struct Wanted<'a> {
 #[derive(Drop)]
 pub struct Made {
     pub report: Option<String>,
+    /// The page but for its end, which tells where the faults come from.
     pub page: Option<String>,
 }
 

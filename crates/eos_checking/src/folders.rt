@@ -8,8 +8,9 @@ use eos_disk::HostDisk;
 use eos_ending::{
     Ending, Meter, Progress, STANDARD, Subject, end, end_about, end_unread, say_notes,
 };
-use eos_report::About;
+use eos_report::{About, Telling, end_page};
 use eos_words::{Check, Demands, VERSION};
+use std::alloc::{AllocError, Global};
 use std::io;
 use std::io::IsTerminal;
 use std::thread::Threads;
@@ -51,24 +52,93 @@ fn misfit_of_page(words: &Check<'_>, page: &str) -> Option<&'static str> {
     }
 }
 
-/// Checks the folders of evidence that the words name, writes the report and the page of one, if that is asked for, and gives the exit
-/// status.
+/// A check whose lines are written. The files that it leaves are begun, and not ended.
+#[derive(Drop)]
+pub struct Checked<'a> {
+    files: Files<'a>,
+    done: Done,
+}
+
+impl Checked<'_> {
+    /// Whether there is a page that tells of faults, so that their stories and pictures belong into it.
+    pub fn has_faulty_page(&self) -> bool {
+        match &self.done.report {
+            Some(made) => self.done.status == 1 && made.page.is_some(),
+            None => false,
+        }
+    }
+}
+
+/// Checks the folders of evidence that the words name, and begins the report and the page of one, if that is asked for, which `end_check`
+/// ends. Otherwise says why not, and gives the exit status.
 #[inline(never)]
-pub fn check_words(rt: &HostRuntime, threads: &(impl Threads + Sync), words: &Check<'_>) -> u8 {
+pub fn check_words<'a>(
+    rt: &'a HostRuntime,
+    threads: &(impl Threads + Sync),
+    words: &Check<'a>,
+) -> Result<Checked<'a>, u8> {
     if let Some(why) = misfit(words) {
         let _ = eprint!(rt; "eoscheck: {why}\n");
-        return 2;
+        return Err(2);
     }
     let demands = match words.demands {
         Ok(demands) => demands,
-        Err(word) => return end(rt, Ending::Unfit(word, EXPECTATIONS)),
+        Err(word) => return Err(end(rt, Ending::Unfit(word, EXPECTATIONS))),
     };
     let work = Work { words, demands };
-    match begin_files(rt, words.report, words.page, words.force) {
-        Err(status) => status,
-        Ok(files) => {
-            let done = check_folders(rt, threads, work);
-            end_files(rt, files, done)
+    let files = begin_files(rt, words.report, words.page, words.force)?;
+    let done = check_folders(rt, threads, work);
+    Ok(Checked { files, done })
+}
+
+/// Ends the files of a check, its page with these stories and pictures, and gives the exit status. Where there was no memory for them,
+/// there is neither report nor page.
+pub fn end_check(
+    rt: &HostRuntime,
+    checked: Checked<'_>,
+    tellings: Result<Vec<Telling>, AllocError>,
+) -> u8 {
+    let Checked { files, done } = checked;
+    let done = match with_tellings(rt.alloc(), done, tellings) {
+        Ok(done) => done,
+        Err(_) => Done::with_status(end(rt, Ending::OutOfMemory)),
+    };
+    end_files(rt, files, done)
+}
+
+/// Ends the page with these, if there is one.
+fn with_tellings(
+    alloc: Global,
+    done: Done,
+    tellings: Result<Vec<Telling>, AllocError>,
+) -> Result<Done, AllocError> {
+    let tellings = tellings?;
+    let Done {
+        status,
+        is_last,
+        report: made,
+    } = done;
+    let report = match made {
+        Some(made) => Some(ended(alloc, made, tellings.as_slice())?),
+        None => None,
+    };
+    Ok(Done {
+        status,
+        is_last,
+        report,
+    })
+}
+
+fn ended(alloc: Global, made: Made, tellings: &[Telling]) -> Result<Made, AllocError> {
+    let Made { report, page } = made;
+    match page {
+        None => Ok(Made { report, page: None }),
+        Some(mut text) => {
+            end_page(alloc, &mut text, tellings)?;
+            Ok(Made {
+                report,
+                page: Some(text),
+            })
         }
     }
 }

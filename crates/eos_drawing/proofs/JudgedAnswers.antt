@@ -26,7 +26,7 @@ use Rattle.eos_drawing.specs.Pictures.{IsPictureOf}
 use Rattle.eos_drawing.specs.Whens.{AreTimesOfRows}
 use Rattle.eos_drawing.specs.steps.Answers.{IsAnswer, IsText, IsDrawnBy, IsAnswerBy}
 
-drawing_is : (known : ℕ → Known) (partitions : List Partition) (e : EvidenceParts) (judged : Judged) (verdict : Verdict) (fault around : Option ℕ) (drawn : Drawn) → IsJudgedFor judged e → IsShown e fault verdict
+pub drawing_is : (known : ℕ → Known) (partitions : List Partition) (e : EvidenceParts) (judged : Judged) (verdict : Verdict) (fault around : Option ℕ) (drawn : Drawn) → IsJudgedFor judged e → IsShown e fault verdict
     → IsDrawnBy known partitions judged verdict around drawn → IsDrawing known partitions e fault around drawn.status (string_bytes drawn.line) (string_bytes drawn.text)
 drawing_is known partitions e judged verdict fault around drawn j shown d = record {
   verdict = verdict;
@@ -96,12 +96,12 @@ first_shown known shape judged fault around number drawn asked first is d = reco
 
 -- ---- of a later fault
 
-never_first : (number : ℕ) → 1 < number → is_later (Some number) ≡ false → ⊥
+pub never_first : (number : ℕ) → 1 < number → is_later (Some number) ≡ false → ⊥
 never_first zero later first = omega (arith, later)
 never_first (suc zero) later first = omega (arith, later)
 never_first (suc (suc n)) later first = cc first
 
-list_of : (known : ℕ → Known) (shape e : EvidenceParts) (judged : Judged) (faults : List Fault) → (list : IsListOf known shape judged.logs faults) → e.spec ≡ shape.spec → IsJudgedFor judged e
+pub list_of : (known : ℕ → Known) (shape e : EvidenceParts) (judged : Judged) (faults : List Fault) → (list : IsListOf known shape judged.logs faults) → e.spec ≡ shape.spec → IsJudgedFor judged e
     → AreThere list.again e.partitions → AreItsFaults e faults
 list_of known shape e judged faults list spec j there = record { logs = j.logs.whole; of = j.logs.of; are = list.are e j.is_evidence spec j.logs there }
 

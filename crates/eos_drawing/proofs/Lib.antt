@@ -1,4 +1,5 @@
 mod FolderAnswers
+mod FirstOnes
 mod JudgedAnswers
 pub mod KeptPictures
 pub mod Escaped

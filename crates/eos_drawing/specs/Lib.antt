@@ -1,5 +1,6 @@
 pub mod Drawings
 pub mod Folders
+pub mod FirstPictures
 pub mod Pictures
 pub mod steps
 pub mod Escaping

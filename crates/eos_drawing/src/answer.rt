@@ -171,7 +171,7 @@ fn fault_of(verdict: &Verdict) -> Option<&Fault>
 }
 
 /// Of the fault of this verdict, or of none at yes. The segments in which the picture's records lie are read again for their times.
-fn drawn_of<S: Source>(
+pub(crate) fn drawn_of<S: Source>(
     alloc: Global,
     pieces: Pieces<'_, S>,
     judged: &Judged,

@@ -6,3 +6,4 @@ mod BothHold
 mod LinesOnce
 mod LinesShown
 mod PartsTold
+mod StoriesMore

@@ -1,4 +1,5 @@
 pub mod Explaining
+pub mod FirstStories
 pub mod Folders
 pub mod steps
 pub mod Places

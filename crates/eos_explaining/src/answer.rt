@@ -44,7 +44,7 @@ pub enum Answer {
 }
 
 /// Each fault as the verdict that names it.
-fn verdicts_of(alloc: Global, faults: Vec<Fault>) -> Result<Vec<Verdict>, AllocError>
+pub(crate) fn verdicts_of(alloc: Global, faults: Vec<Fault>) -> Result<Vec<Verdict>, AllocError>
     ensures { IfOk result (λ told. told.items ≡ map No faults.items) }
 {
     let mut told = Vec::new(alloc);
@@ -55,7 +55,11 @@ fn verdicts_of(alloc: Global, faults: Vec<Fault>) -> Result<Vec<Verdict>, AllocE
 }
 
 /// The notes of the evidence.
-fn noted(alloc: Global, evidence: &Evidence, logs: &Logs) -> Result<Vec<Note>, AllocError>
+pub(crate) fn noted(
+    alloc: Global,
+    evidence: &Evidence,
+    logs: &Logs,
+) -> Result<Vec<Note>, AllocError>
     requires { AreWholeLogs evidence.now.partitions logs.now }
     ensures { IfOk result (λ found. AreNotes evidence.now found.items) }
 {

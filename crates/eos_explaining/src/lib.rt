@@ -15,6 +15,7 @@ mod records;
 mod rows;
 mod sentences;
 mod signs;
+mod stories;
 mod story;
 mod told;
 mod twins;
@@ -22,4 +23,5 @@ mod whole_story;
 
 pub use answer::{Answer, Asked, explain};
 pub use folder::{Explained, Folder, Unexplained, Which, explain_folder, explain_folder_to};
+pub use stories::{First, first_stories, first_stories_of};
 pub use whole_story::{Story, story_text};

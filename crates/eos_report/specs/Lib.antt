@@ -11,4 +11,5 @@ pub mod Lines
 pub mod Html
 pub mod PageTables
 pub mod Pages
+pub mod Tellings
 pub mod steps

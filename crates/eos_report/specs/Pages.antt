@@ -1,5 +1,6 @@
 -- What a page says of a check, for people: the verdict and what it means, the notes, the faults that are told by their kinds and the
--- first ten of them, and the tables of partitions and groups. Only how it looks is left open: the style sheet in its head.
+-- first ten of them, and the tables of partitions and groups; it ends with the stories of these ten and their pictures. Only how it looks
+-- is left open: the style sheet in its head.
 use Rattle.std.specs.Prelude.{◌≡◌, ℕ, ℤ, List, [], ◌∷◌, ◌++◌, length, take, Bool, ◌&&◌, ◌==◌, codes, Option, None, Some}
 use Rattle.std.specs.List.{flat_map, filter, find}
 use Rattle.std.specs.Fmt.{decimal}
@@ -103,9 +104,9 @@ findings_text verdict faults notes = verdict_part verdict faults ++ (notes_part 
 unfoldable pub body_text : About → Verdict → List Fault → List Note → Tallies → List ℕ
 body_text about verdict faults notes tallies =
     codes "</head>\n<body>\n<h1>Was exactly once kept?</h1>\n" ++ (about_part about ++ (findings_text verdict faults notes
-    ++ (partitions_text tallies ++ (groups_text tallies ++ codes "</body>\n</html>\n"))))
+    ++ (partitions_text tallies ++ groups_text tallies)))
 
--- a page that says this, and looks as it may
+-- a page, but for its end, that says this, and looks as it may
 pub record IsPageText (about : About) (verdict : Verdict) (faults : List Fault) (notes : List Note) (tallies : Tallies) (text : List ℕ) : Type 0 where
   pub look : List ℕ
   pub is : text ≡ title_text about ++ (look ++ body_text about verdict faults notes tallies)

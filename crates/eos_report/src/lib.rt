@@ -16,6 +16,7 @@ mod page;
 mod page_tables;
 mod report;
 mod tally;
+mod tellings;
 
 pub use about::{About, Times};
 pub use fault::ReportFault;
@@ -24,3 +25,4 @@ pub use line::{fault_list_json, json_line};
 pub use listing::fault_list;
 pub use page::page_text;
 pub use report::{no_json, text_of_fault, verdict_json, verdict_line, write_verdict};
+pub use tellings::{Telling, Told, end_page};

@@ -18,22 +18,23 @@ use std::alloc::{AllocError, Global};
 /// How many of the faults are named one by one.
 const FIRST: usize = 10;
 
-/// How a page looks: on a telephone wide tables move by themselves, and printed nothing is cut.
+/// How a page looks: on a telephone wide tables and pictures move by themselves, and printed nothing is cut.
 const LOOK: &str = "<style>
 body { font: 1rem/1.5 sans-serif; max-width: 70rem; margin: 1rem auto; padding: 0 1rem; color: #1a1a1a; background: #fff; }
 h1 { font-size: 1.4rem; }
 h2 { font-size: 1.15rem; margin-top: 2rem; }
+h3 { font-size: 1rem; margin-top: 1.5rem; }
 pre { white-space: pre-wrap; overflow-wrap: anywhere; background: #f3f4f6; padding: 0.5rem; }
 pre.line { font-weight: bold; border-left: 0.3rem solid #1f4e9c; }
 div { overflow-x: auto; }
 table { border-collapse: collapse; font-size: 0.9rem; }
 th, td { border: 1px solid #c5c9d0; padding: 0.2rem 0.5rem; text-align: left; }
 li, p { overflow-wrap: anywhere; }
-@media print { div { overflow: visible; } tr, li { break-inside: avoid; } }
+@media print { div { overflow: visible; } svg { max-width: 100%; height: auto; } th, td { overflow-wrap: anywhere; } tr, li, svg { break-inside: avoid; } h3 { break-after: avoid; } }
 </style>
 ";
 
-/// The page of a check. It is ASCII, whatever names and ids stand in the evidence, and has no script and no link.
+/// The page of a check, which `end_page` ends. It is ASCII, whatever names and ids stand in the evidence, and has no script and no link.
 ///
 /// # Errors
 /// Only want of memory.
@@ -84,7 +85,6 @@ fn push_body(
     push_findings(alloc, out, found)?;
     push_partitions(alloc, out, found.tallies)?;
     push_groups(alloc, out, found.tallies)?;
-    push_text(out, "</body>\n</html>\n")?;
     Ok(())
 }
 

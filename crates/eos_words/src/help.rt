@@ -65,10 +65,13 @@ goes with one FOLDER.
 With --page FILE the same is written to FILE for people, as one page of HTML
 that needs nothing else and has no script, to attach to what is said of an
 incident: the verdict in words, the notes, how many faults there are of each
-kind, the first ten of them, and how much each partition holds and how far each
-group has got. With --all it counts all faults, else it has the first alone. A
-byte of a name that is no letter of ASCII stands in it as %XX. FILE is treated
-as that of --report, may not be the same, and may not be -.
+kind, the first ten of them, how much each partition holds and how far each
+group has got, and of these ten what `explain` tells and `draw` draws. With
+--all it counts all faults, else it has the first alone. A byte of a name that
+is no letter of ASCII stands in it as %XX. For the stories FOLDER is read again,
+whole, and once more for the pictures; where that is refused, the page says why
+in their place. FILE is treated as that of --report, may not be the same, and
+may not be -.
 
 With --force the report is written as FILE.whole, then what stands at FILE is
 taken away and the report gets its name; likewise the page. A run that is killed

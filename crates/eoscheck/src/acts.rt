@@ -1,6 +1,6 @@
 //! What is done: the words, the files and streams that they name, and what the outside is told.
 
-use eos_checking::check_words;
+use crate::tellings::check;
 use eos_commands::{
     answer_segment, explain_code, fold_partitions, init_folder, print_coordinators,
     verify_partitions,
@@ -60,7 +60,7 @@ fn tell_how_to_begin(rt: &HostRuntime) -> u8 {
 fn act(rt: &HostRuntime, threads: &(impl Threads + Wait + Sync), request: Request<'_>) -> u8 {
     match request {
         Request::Segment { answer, file } => answer_segment(rt, answer, file),
-        Request::Check(words) => check_words(rt, threads, &words),
+        Request::Check(words) => check(rt, threads, &words),
         Request::Draw(words) => draw_folder(rt, threads, &words),
         Request::Explain { code } => explain_code(rt, code),
         Request::Story(words) => explain_folder(rt, threads, &words),

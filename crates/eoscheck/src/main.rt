@@ -3,6 +3,7 @@
 #![tactic(auto)]
 
 mod acts;
+mod tellings;
 
 use std::process::ExitCode;
 

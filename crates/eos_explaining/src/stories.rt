@@ -1,0 +1,142 @@
+//! The stories of the first faults of an evidence, which is read once for all of them.
+
+ghost use Rattle.std.specs.Prelude.{◌≡◌, ◌≤◌, length, map, take, List, IfOk, string_bytes};
+ghost use Rattle.eos_check.specs.declared.verdict.Fault.{Fault as AFault};
+ghost use Rattle.eos_check.specs.declared.verdict.Verdict.TheVariants.{No};
+ghost use Rattle.eos_check.specs.WholeLogs.{AreWholeLogs};
+ghost use Rattle.eos_disk.specs.Reading.{IsReadWhole};
+ghost use Rattle.eos_disk.specs.Shapes.{AreKnown};
+ghost use Rattle.eos_evidence.specs.Evidence.{EvidenceParts};
+ghost use Rattle.eos_lineage.specs.EvidenceLogs.{AreLogsOf};
+ghost use Rattle.eos_notes.specs.Notes.{AreNotes};
+ghost use Rattle.eos_source.specs.Saying.{StandsAt};
+ghost use Rattle.eos_explaining.specs.FirstStories.{AreStoriesOf, AreFirstStories};
+
+use crate::answer::{noted, verdicts_of};
+use crate::folder::Folder;
+use crate::story::{About, story_at};
+use eos_base::Workers;
+use eos_board::Gate;
+use eos_check::{Verdict, logs_of};
+use eos_disk::{Disk, FolderFault, Reading, Watch, read_folder};
+use eos_evidence::Evidence;
+use eos_kept::Logs;
+use eos_source_check::all_faults;
+use eos_story::Scene;
+use std::alloc::{AllocError, Global};
+use std::sync::Wait;
+use std::thread::Threads;
+
+/// Of which faults of a folder the stories are told.
+#[derive(Clone, Copy)]
+pub struct First<'a> {
+    /// The folder of the evidence, as it was named.
+    pub folder: &'a str,
+    pub workers: Workers,
+    /// Of so many at most.
+    pub most: usize,
+}
+
+/// How many of these are the first so many.
+#[tactic(auto, using(std::proofs::lemmas::List::take_min))]
+fn count_of(told: &[Verdict], most: usize) -> usize
+    ensures inside { result ≤ length told.now }
+    ensures first { take result told.now ≡ take most told.now }
+{
+    most.min(told.len())
+}
+
+/// The stories of the first of these faults, so many.
+#[tactic(auto, using(crate::proofs::StoriesMore::story_more))]
+fn told_each(scene: &Scene<'_>, about: About<'_>, count: usize) -> Result<Vec<String>, AllocError>
+    requires logs { AreLogsOf scene.now.evidence.now.partitions scene.now.logs.now }
+    requires notes { AreNotes scene.now.evidence.now about.notes.now }
+    requires inside { count ≤ length about.told.now }
+    requires faults { (faults : List AFault) × (about.told.now ≡ map No faults) }
+    ensures { IfOk result (λ texts. AreStoriesOf about.entry.folder.now scene.now.evidence.now scene.now.logs.now about.entry.told.now (take count about.entry.told.now) (map string_bytes texts.items)) }
+{
+    let mut texts = Vec::new(scene.alloc);
+    for i in 0..count {
+        let text = story_at(scene, about, i)?;
+        texts.push(text)?;
+    }
+    Ok(texts)
+}
+
+/// The stories of the first faults of an evidence with these logs.
+fn of_logs(
+    alloc: Global,
+    evidence: &Evidence,
+    logs: &Logs,
+    first: &First<'_>,
+) -> Result<Vec<String>, AllocError>
+    requires { AreWholeLogs evidence.now.partitions logs.now }
+    ensures { IfOk result (λ texts. AreFirstStories first.now.folder.now evidence.now first.now.most (map string_bytes texts.items)) }
+{
+    let faults = all_faults(alloc, evidence, logs)?;
+    let told = verdicts_of(alloc, faults)?;
+    let found = noted(alloc, evidence, logs)?;
+    let scene = Scene {
+        alloc,
+        evidence,
+        logs: logs.parts.as_slice(),
+    };
+    let about = About {
+        folder: first.folder,
+        told: told.as_slice(),
+        notes: found.as_slice(),
+    };
+    let count = count_of(about.told, first.most);
+    let texts = told_each(&scene, about, count)?;
+    Ok(texts)
+}
+
+/// The stories of the first faults of the evidence, in the order of the list of all; so many, or all where there are fewer. The workers
+/// pass the gate.
+///
+/// # Errors
+/// Only want of memory.
+pub fn first_stories_of<G: Gate>(
+    alloc: Global,
+    rt: &(impl Threads + Wait + Sync),
+    evidence: &Evidence,
+    first: &First<'_>,
+    gate: &G,
+) -> Result<Vec<String>, AllocError>
+    ensures { IfOk result (λ texts. AreFirstStories first.now.folder.now evidence.now first.now.most (map string_bytes texts.items)) }
+{
+    let logs = logs_of(alloc, rt, evidence, first.workers, gate)?;
+    of_logs(alloc, evidence, &logs, first)
+}
+
+/// The stories of the first faults of the evidence in a folder of a disk. It is read whole, once, by at most so many threads; a yes has
+/// none.
+///
+/// # Errors
+/// Those of `explain_folder_to` before it writes.
+#[tactic(auto, using(crate::proofs::StoriesMore::known_stories))]
+pub fn first_stories<D: Disk, T: Gate + Watch, R: Threads + Wait + Sync>(
+    alloc: Global,
+    threads: &R,
+    folder: Folder<'_, D, T>,
+    workers: Workers,
+    most: usize,
+) -> Result<Vec<String>, FolderFault>
+    ensures some { IfOk result (λ texts. (e : EvidenceParts) × IsReadWhole (D.holds folder.entry.disk.now) folder.entry.path.now e
+        × AreFirstStories folder.entry.path.now e most (map string_bytes texts.items)) }
+    ensures known { (e : EvidenceParts) → AreKnown (D.holds folder.entry.disk.now) folder.entry.path.now → StandsAt (D.holds folder.entry.disk.now) folder.entry.path.now e
+        → IfOk result (λ texts. AreFirstStories folder.entry.path.now e most (map string_bytes texts.items)) }
+{
+    let reading = Reading {
+        workers,
+        watch: folder.watch,
+    };
+    let evidence = read_folder(alloc, threads, folder.disk, folder.path, reading)?;
+    let first = First {
+        folder: folder.path,
+        workers,
+        most,
+    };
+    let texts = first_stories_of(alloc, threads, &evidence, &first, folder.watch)?;
+    Ok(texts)
+}
