@@ -1,5 +1,6 @@
 pub mod Checking
 pub mod Demands
 pub mod Folders
+pub mod Refused
 pub mod Sources
 pub mod steps

@@ -1,6 +1,6 @@
 //! `check` of a folder: from the bytes of its files to the lines that are written.
 
-ghost use Rattle.std.specs.Prelude.{◌≡◌, ◌≢◌, Err, IfOk, IfErr, OnErr, string_bytes};
+ghost use Rattle.std.specs.Prelude.{◌≡◌, ◌≢◌, Err, IfOk, IfErr, OnErr, string_bytes, alloc_error};
 ghost use Rattle.std.specs.Io.KnownBytes.{Appends, Keeps};
 ghost use Rattle.eos_ending.specs.Subjects.{subject_text};
 ghost use Rattle.eos_evidence.specs.Evidence.{EvidenceParts, segments_of};
@@ -11,6 +11,10 @@ ghost use Rattle.eos_text.specs.Writing.{WritesFront, WritesFrontOf};
 ghost use Rattle.eos_checking.specs.Checking.{IsCheckAnswer};
 ghost use Rattle.eos_checking.specs.Folders.{IsToldOf, HoldsAsRead, HoldsOf};
 ghost use Rattle.eos_checking.specs.Sources.{IsAnswerFor};
+ghost use Rattle.eos_checking.specs.Refused.{IsFirst};
+ghost use Rattle.eos_source.specs.FirstRefusals.{IsOfPieces, IsFirstOfFolder, outcomes_of, pieces_of};
+ghost use Rattle.eos_source.specs.Refusals.{AreOpened};
+ghost use Rattle.eos_source_check.specs.Refusals.{IsUntold};
 ghost use Rattle.eos_checking.specs.declared.folder.Unchecked.TheVariants.{CannotWrite};
 
 use crate::check::{Asked, Said};
@@ -41,15 +45,17 @@ pub enum Unchecked {
 }
 
 /// The answer by the pieces of a source, of the first fault or of all.
-#[tactic(auto, using(crate::proofs::FolderAnswers::of_first, crate::proofs::FolderAnswers::of_list))]
+#[tactic(auto, using(crate::proofs::FolderAnswers::of_first, crate::proofs::FolderAnswers::of_list, eos_source_check::proofs::RefusalsTold::source_untold, eos_source_check::proofs::RefusalsTold::list_untold))]
 fn answer_pieces<S: Source, T: Timed, R: Threads + Sync>(
     alloc: Global,
     threads: &R,
     pieces: Pieces<'_, S>,
     asked: &Asked<'_, T>,
 ) -> Result<SourceAnswer, Unlisted<S::Fault>>
-    ensures { IfOk result (λ answer. HoldsAsRead (known_by (S.said pieces.entry.source.now) (S.is_log pieces.entry.source.now)) pieces.entry.shape.now asked.now.all
+    ensures answer { IfOk result (λ answer. HoldsAsRead (known_by (S.said pieces.entry.source.now) (S.is_log pieces.entry.source.now)) pieces.entry.shape.now asked.now.all
         (IsAnswerFor asked.now.subject asked.now.json asked.now.all asked.now.quiet asked.now.terms asked.now.report answer)) }
+    ensures opened { IfOk result (λ answer. AreOpened (S.outcomes pieces.entry.source.now) (pieces_of pieces.entry.shape.now)) }
+    ensures refused { IfErr result (IsUntold (S.outcomes pieces.entry.source.now) (S.Fault.from_gives alloc_error) (pieces_of pieces.entry.shape.now) asked.now.all) }
 {
     if asked.all {
         let answer = answer_all(alloc, threads, pieces, asked)?;
@@ -62,6 +68,7 @@ fn answer_pieces<S: Source, T: Timed, R: Threads + Sync>(
 }
 
 /// Reads the segments of a folder of this shape, and answers.
+#[tactic(auto, using(eos_source::proofs::FirstRefusals::refused_of, eos_source::proofs::FirstRefusals::fold_of, eos_source::proofs::FirstRefusals::changed_of, eos_source::proofs::FirstRefusals::memory_of))]
 fn answer_shape<D: Disk, T: Timed + Watch, R: Threads + Sync>(
     alloc: Global,
     threads: &R,
@@ -69,8 +76,10 @@ fn answer_shape<D: Disk, T: Timed + Watch, R: Threads + Sync>(
     shape: &Shape,
     asked: &Asked<'_, T>,
 ) -> Result<SourceAnswer, FolderFault>
-    ensures { IfOk result (λ answer. HoldsAsRead (known_at (D.holds folder.entry.disk.now) folder.entry.path.now (segments_of shape.now.evidence.partitions) shape.now.forms.items) shape.now.evidence asked.now.all
+    ensures answer { IfOk result (λ answer. HoldsAsRead (known_at (D.holds folder.entry.disk.now) folder.entry.path.now (segments_of shape.now.evidence.partitions) shape.now.forms.items) shape.now.evidence asked.now.all
         (IsAnswerFor asked.now.subject asked.now.json asked.now.all asked.now.quiet asked.now.terms asked.now.report answer)) }
+    ensures opened { IfOk result (λ answer. AreOpened (outcomes_of (D.holds folder.entry.disk.now) folder.entry.path.now shape.now.evidence shape.now.forms.items) (pieces_of shape.now.evidence)) }
+    ensures refused { IfErr result (IsOfPieces (outcomes_of (D.holds folder.entry.disk.now) folder.entry.path.now shape.now.evidence shape.now.forms.items) (pieces_of shape.now.evidence) asked.now.all) }
 {
     let source = FolderSource {
         disk: folder.disk,
@@ -92,15 +101,16 @@ fn answer_shape<D: Disk, T: Timed + Watch, R: Threads + Sync>(
 }
 
 /// Reads a folder, and answers. No more of it is held than its answer wants.
-#[tactic(auto, using(crate::proofs::FolderAnswers::folder_of))]
+#[tactic(auto, using(crate::proofs::FolderAnswers::folder_of, eos_source::proofs::FirstRefusals::of_manifest, eos_source::proofs::FirstRefusals::of_piece, eos_source::proofs::FirstRefusals::of_listing))]
 fn answer_folder<D: Disk, T: Timed + Watch, R: Threads + Sync>(
     alloc: Global,
     threads: &R,
     folder: Folder<'_, D>,
     asked: &Asked<'_, T>,
 ) -> Result<SourceAnswer, FolderFault>
-    ensures { IfOk result (λ answer. HoldsOf (D.holds folder.entry.disk.now) folder.entry.path.now asked.now.all
+    ensures answer { IfOk result (λ answer. HoldsOf (D.holds folder.entry.disk.now) folder.entry.path.now asked.now.all
         (IsAnswerFor asked.now.subject asked.now.json asked.now.all asked.now.quiet asked.now.terms asked.now.report answer)) }
+    ensures first { IfErr result (IsFirstOfFolder (D.holds folder.entry.disk.now) folder.entry.path.now asked.now.all) }
 {
     let shape = read_shape(alloc, folder.disk, folder.path, asked.watch)?;
     let answer = answer_shape(alloc, threads, folder, &shape, asked)?;
@@ -131,7 +141,8 @@ fn told<W: Write>(writer: &mut W, answer: SourceAnswer) -> Result<Said, WriteFau
 ///
 /// # Errors
 /// At `CannotWrite` a front of the lines was written. Before all is read and judged nothing is: `Refused` says which file or folder is no
-/// evidence or can't be read, or that memory ran out.
+/// evidence or can't be read, or that memory ran out. It is the first refusal: that of the manifest, or of the first segment that is listed
+/// and isn't read, or, where each was opened, of the listing; where all faults are told also of a segment that is read again.
 #[tactic(auto, using(crate::proofs::FolderAnswers::told_of, crate::proofs::FolderAnswers::front_of, crate::proofs::FolderAnswers::known_of))]
 pub fn check_folder_to<D: Disk, T: Timed + Watch, R: Threads + Sync, W: Write>(
     alloc: Global,
@@ -145,6 +156,7 @@ pub fn check_folder_to<D: Disk, T: Timed + Watch, R: Threads + Sync, W: Write>(
     ensures known { (e : EvidenceParts) → AreKnown (D.holds folder.entry.disk.now) folder.entry.path.now → StandsAt (D.holds folder.entry.disk.now) folder.entry.path.now e
         → IfOk result (λ said. IsToldOf asked.now.subject asked.now.json asked.now.all asked.now.quiet asked.now.terms asked.now.report (W.contents writer.old) (W.contents writer.new) said e) }
     ensures unread { IfErr result (λ why. why ≢ CannotWrite → Keeps (W.contents writer.old) (W.contents writer.new)) }
+    ensures first { IfErr result (IsFirst (D.holds folder.entry.disk.now) folder.entry.path.now asked.now.all) }
     ensures front { result ≡ Err CannotWrite → HoldsOf (D.holds folder.entry.disk.now) folder.entry.path.now asked.now.all
         (λ e. WritesFrontOf (IsCheckAnswer (subject_text asked.now.subject) e asked.now.json asked.now.all asked.now.terms.demands) (W.contents writer.old) (W.contents writer.new)) }
     ensures known_front { (e : EvidenceParts) → AreKnown (D.holds folder.entry.disk.now) folder.entry.path.now → StandsAt (D.holds folder.entry.disk.now) folder.entry.path.now e

@@ -1,13 +1,16 @@
 //! The answer of `check` for an evidence that is read from a source, chunk by chunk, of which no more is held than what it is worked
 //! out of.
 
-ghost use Rattle.std.specs.Prelude.{◌≡◌, ◌==◌, true, not, List, length, IfOk, is_some, string_bytes};
+ghost use Rattle.std.specs.Prelude.{◌≡◌, ◌==◌, true, not, List, length, IfOk, IfErr, is_some, string_bytes, alloc_error};
 ghost use Rattle.eos_check.specs.declared.verdict.Fault.{Fault};
 ghost use Rattle.eos_commits.specs.Faults.{AreInOrder};
 ghost use Rattle.eos_notes.specs.Lines.{IsAllNotesTextBy};
 ghost use Rattle.eos_notes.specs.Notes.{AreAllNotesBy};
 ghost use Rattle.eos_kept.specs.Faults.{first_of};
 ghost use Rattle.eos_source.specs.Said.{known_by};
+ghost use Rattle.eos_source.specs.Refusals.{AreOpened, IsRefusal};
+ghost use Rattle.eos_source.specs.FirstRefusals.{pieces_of};
+ghost use Rattle.eos_source_check.specs.Refusals.{IsEarned, IsUntold};
 ghost use Rattle.eos_checking.specs.Sources.{IsSourceAnswer, IsListAnswer};
 ghost use Rattle.eos_checking.specs.steps.Tellings.{AreListed, TellsOf, ReportsOf, IsNotedBy, ExitsBy, first_alone};
 
@@ -176,7 +179,9 @@ pub fn answer_source<S: Source, T: Timed, R: Threads + Sync>(
     pieces: Pieces<'_, S>,
     asked: &Asked<'_, T>,
 ) -> Result<SourceAnswer, S::Fault>
-    ensures { IfOk result (IsSourceAnswer (known_by (S.said pieces.entry.source.now) (S.is_log pieces.entry.source.now)) pieces.entry.shape.now asked.now.subject asked.now.json asked.now.quiet asked.now.terms asked.now.report) }
+    ensures answer { IfOk result (IsSourceAnswer (known_by (S.said pieces.entry.source.now) (S.is_log pieces.entry.source.now)) pieces.entry.shape.now asked.now.subject asked.now.json asked.now.quiet asked.now.terms asked.now.report) }
+    ensures opened { IfOk result (λ answer. AreOpened (S.outcomes pieces.entry.source.now) (pieces_of pieces.entry.shape.now)) }
+    ensures refused { IfErr result (IsRefusal (S.outcomes pieces.entry.source.now) (S.Fault.from_gives alloc_error) (pieces_of pieces.entry.shape.now)) }
 {
     let judged = judge_source(alloc, rt, pieces.source, pieces.shape, asked.workers)?;
     let faults = Faults {
@@ -193,7 +198,8 @@ fn listed_of<S: Source>(
     pieces: &Pieces<'_, S>,
     judged: &Judged,
 ) -> Result<Vec<Fault>, Unlisted<S::Fault>>
-    ensures { IfOk result (λ faults. AreListed (known_by (S.said pieces.now.source.now) (S.is_log pieces.now.source.now)) pieces.now.shape.now judged.now judged.now.verdict faults.items) }
+    ensures list { IfOk result (λ faults. AreListed (known_by (S.said pieces.now.source.now) (S.is_log pieces.now.source.now)) pieces.now.shape.now judged.now judged.now.verdict faults.items) }
+    ensures earned { IfErr result (IsEarned (known_by (S.said pieces.now.source.now) (S.is_log pieces.now.source.now)) (S.outcomes pieces.now.source.now) pieces.now.shape.now.partitions judged.now.logs.faults.items) }
 {
     match judged.verdict {
         Verdict::Yes(_) => Ok(Vec::new(alloc)),
@@ -208,8 +214,9 @@ fn all_told<S: Source, T: Timed>(
     judged: &Judged,
     asked: &Asked<'_, T>,
 ) -> Result<SourceAnswer, Unlisted<S::Fault>>
-    ensures { IfOk result (λ answer. (faults : List Fault) × AreListed (known_by (S.said pieces.now.source.now) (S.is_log pieces.now.source.now)) pieces.now.shape.now judged.now judged.now.verdict faults
+    ensures answer { IfOk result (λ answer. (faults : List Fault) × AreListed (known_by (S.said pieces.now.source.now) (S.is_log pieces.now.source.now)) pieces.now.shape.now judged.now judged.now.verdict faults
         × TellsOf pieces.now.shape.now.spec judged.now faults asked.now.subject asked.now.json true asked.now.quiet asked.now.terms asked.now.report answer) }
+    ensures earned { IfErr result (IsEarned (known_by (S.said pieces.now.source.now) (S.is_log pieces.now.source.now)) (S.outcomes pieces.now.source.now) pieces.now.shape.now.partitions judged.now.logs.faults.items) }
 {
     let list = listed_of(alloc, pieces, judged)?;
     let faults = Faults {
@@ -226,13 +233,16 @@ fn all_told<S: Source, T: Timed>(
 /// # Errors
 /// Those of `answer_source`; and of a partition that is read again: a piece that isn't there or is a fold, or that its least fault
 /// is another than the one that was found.
+#[tactic(auto, using(eos_source_check::proofs::RefusalsTold::source_untold, eos_source_check::proofs::RefusalsTold::earned_untold))]
 pub fn answer_all<S: Source, T: Timed, R: Threads + Sync>(
     alloc: Global,
     rt: &R,
     pieces: Pieces<'_, S>,
     asked: &Asked<'_, T>,
 ) -> Result<SourceAnswer, Unlisted<S::Fault>>
-    ensures { IfOk result (IsListAnswer (known_by (S.said pieces.entry.source.now) (S.is_log pieces.entry.source.now)) pieces.entry.shape.now asked.now.subject asked.now.json asked.now.quiet asked.now.terms asked.now.report) }
+    ensures answer { IfOk result (IsListAnswer (known_by (S.said pieces.entry.source.now) (S.is_log pieces.entry.source.now)) pieces.entry.shape.now asked.now.subject asked.now.json asked.now.quiet asked.now.terms asked.now.report) }
+    ensures opened { IfOk result (λ answer. AreOpened (S.outcomes pieces.entry.source.now) (pieces_of pieces.entry.shape.now)) }
+    ensures refused { IfErr result (IsUntold (S.outcomes pieces.entry.source.now) (S.Fault.from_gives alloc_error) (pieces_of pieces.entry.shape.now) true) }
 {
     match judge_source(alloc, rt, pieces.source, pieces.shape, asked.workers) {
         Ok(judged) => {

@@ -12,3 +12,5 @@ pub mod Saying
 pub mod SameShape
 pub mod OneEvidence
 pub mod Refused
+pub mod FirstRefusals
+mod RefusalsNamed

@@ -1,5 +1,5 @@
 -- What can become of a piece, by what its file's calls answer.
-use Rattle.std.proofs.Common.{◌≡◌, ℕ, ◌≤◌, ◌⊎◌, inl, inr, List, length, Option, None, Some, Result, Ok, Err, IfOk, refl, sym, subst, String, Global, string_bytes}
+use Rattle.std.proofs.Common.{◌≡◌, ℕ, ◌≤◌, ◌⊎◌, inl, inr, List, length, Option, None, Some, Result, Ok, Err, IfOk, IfSome, refl, sym, subst, String, Global, string_bytes}
 use Rattle.std.specs.Prelude.{slice_get}
 use Rattle.std.proofs.lemmas.Option.{slice_get_past, slice_get_within}
 use Rattle.eos_disk.specs.Entries.{Entry, Unknown, Absent, File, Folder, Leaves, MayLackFile}
@@ -14,7 +14,11 @@ use Rattle.eos_disk.specs.declared.names.Form.{Form}
 use Rattle.eos_disk.specs.declared.names.Form.TheVariants as in_form
 use Rattle.eos_disk.specs.Paths.{segment_path}
 use Rattle.eos_disk.specs.Refusals.{IsLong, IsLongPiece, IsSoAt, MayRefuse, RefusesFile, RefusesFold, RefusesPiece}
-use Rattle.eos_source.specs.FolderRefusals.{MayBeFile, OutcomeOf, OutcomeAt, IsOfAny}
+use Rattle.eos_fold_file.specs.declared.file.FoldFile.{FoldFile}
+use Rattle.eos_fold_file.specs.Reading.{read_fold}
+use Rattle.eos_source.proofs.Saying.{opened_leaves, fold_left}
+use Rattle.eos_source.specs.steps.Folds.{IsFoldIn}
+use Rattle.eos_source.specs.FolderRefusals.{IsForName, MayBePiece, OutcomeOf, OutcomeAt, IsOfAny}
 
 -- ---- the refusals of a file
 
@@ -53,35 +57,28 @@ fold_so path e OutOfMemory h = tt
 
 -- ---- of a piece
 
-pub memory_at : (holds : List ℕ → Entry) (folder : List ℕ) (names : List Segment) (forms : List Form) (piece : ℕ) (why : FolderFault) → why ≡ OutOfMemory
-    → OutcomeAt holds folder names forms piece (Some why)
-memory_at holds folder names forms piece why is = subst (λ (w : FolderFault). OutcomeAt holds folder names forms piece (Some w)) (sym is) (go (slice_get names piece) (slice_get forms piece))
-  where
-    go : (name : Option Segment) (form : Option Form) → OutcomeOf holds folder name form (Some OutOfMemory)
-    go None form = tt
-    go (Some name) None = tt
-    go (Some name) (Some form) = (tt, tt)
-
-outside : (holds : List ℕ → Entry) (folder : List ℕ) (name : Option Segment) (form : Option Form) (o : Option FolderFault) → form ≡ None → OutcomeOf holds folder name form o
-outside holds folder None form o none = tt
-outside holds folder (Some name) None o none = tt
-outside holds folder (Some name) (Some form) o none = absurd (cc none)
-
-no_form : (holds : List ℕ → Entry) (folder : List ℕ) (names : List Segment) (forms : List Form) (piece : ℕ) (o : Option FolderFault) → length forms ≤ piece
-    → OutcomeAt holds folder names forms piece o
-no_form holds folder names forms piece o past = outside holds folder (slice_get names piece) (slice_get forms piece) o (slice_get_past forms piece past)
-
--- there is no piece of this number
-pub no_piece : (holds : List ℕ → Entry) (folder : List ℕ) (names : List Segment) (forms seen : List Form) (piece : ℕ) (o : Option FolderFault) → seen ≡ forms
-    → (length names ≤ piece) ⊎ (length seen ≤ piece) → OutcomeAt holds folder names forms piece o
-no_piece holds folder names forms seen piece o same (inl past) =
-    subst (λ (n : Option Segment). OutcomeOf holds folder n (slice_get forms piece) o) (sym (slice_get_past names piece past)) tt
-no_piece holds folder names forms seen piece o same (inr past) = no_form holds folder names forms piece o (subst (λ (fs : List Form). length fs ≤ piece) same past)
-
 outcome_is : (holds : List ℕ → Entry) (folder : List ℕ) (names : List Segment) (forms : List Form) (piece : ℕ) (name : Segment) (form : Form) (o : Option FolderFault)
     → slice_get names piece ≡ Some name → slice_get forms piece ≡ Some form → OutcomeOf holds folder (Some name) (Some form) o → OutcomeAt holds folder names forms piece o
 outcome_is holds folder names forms piece name form o n f h =
     subst (λ (x : Option Segment). OutcomeOf holds folder x (slice_get forms piece) o) (sym n) (subst (λ (x : Option Form). OutcomeOf holds folder (Some name) x o) (sym f) h)
+
+pub memory_at : (holds : List ℕ → Entry) (folder : List ℕ) (names : List Segment) (forms : List Form) (piece : ℕ) (name : Segment) (form : Form) (why : FolderFault)
+    → slice_get names piece ≡ Some name → slice_get forms piece ≡ Some form → why ≡ OutOfMemory → OutcomeAt holds folder names forms piece (Some why)
+memory_at holds folder names forms piece name form why n f is =
+    subst (λ (w : FolderFault). OutcomeAt holds folder names forms piece (Some w)) (sym is) (outcome_is holds folder names forms piece name form (Some OutOfMemory) n f (tt, tt))
+
+outside : (holds : List ℕ → Entry) (folder : List ℕ) (name : Option Segment) (form : Option Form) → form ≡ None → OutcomeOf holds folder name form (Some (Limit causes.Unknown))
+outside holds folder None form none = refl
+outside holds folder (Some name) None none = refl
+outside holds folder (Some name) (Some form) none = absurd (cc none)
+
+-- there is no piece of this number
+pub no_piece : (holds : List ℕ → Entry) (folder : List ℕ) (names : List Segment) (forms seen : List Form) (piece : ℕ) → seen ≡ forms → (length names ≤ piece) ⊎ (length seen ≤ piece)
+    → OutcomeAt holds folder names forms piece (Some (Limit causes.Unknown))
+no_piece holds folder names forms seen piece same (inl past) =
+    subst (λ (n : Option Segment). OutcomeOf holds folder n (slice_get forms piece) (Some (Limit causes.Unknown))) (sym (slice_get_past names piece past)) refl
+no_piece holds folder names forms seen piece same (inr past) =
+    outside holds folder (slice_get names piece) (slice_get forms piece) (slice_get_past forms piece (subst (λ (fs : List Form). length fs ≤ piece) same past))
 
 -- its file is refused while it is read
 pub file_at : (holds : List ℕ → Entry) (folder : List ℕ) (names : List Segment) (forms : List Form) (piece : ℕ) (name : Segment) (form : Form) (path : List ℕ) (why : FolderFault)
@@ -122,19 +119,35 @@ unopened_at opened holds folder names forms piece name form asked path why n f a
       subst (λ (x : List ℕ). MayRefuse (holds x) why) a (so (holds asked) absent),
     )
 
-left_file : (e : Entry) (left : Option (List ℕ)) → Leaves e left → MayBeFile e
-left_file Unknown left l = tt
-left_file Absent left l = absurd l
-left_file (File bytes) left l = tt
-left_file (Folder names) left l = absurd l
+log_left : (name : Segment) (e : Entry) (left : Option (List ℕ)) → Leaves e left → MayBePiece name in_form.Log e
+log_left name Unknown left l = tt
+log_left name Absent left l = absurd l
+log_left name (File bytes) left l = tt
+log_left name (Folder names) left l = absurd l
 
--- it was opened
-pub opened_at : {F E : Type 0} (remains : F → Option (List ℕ)) (opened : Result F E) (file : F) (holds : List ℕ → Entry) (folder : List ℕ) (names : List Segment) (forms : List Form)
-    (piece : ℕ) (name : Segment) (form : Form) (path : List ℕ) → slice_get names piece ≡ Some name → slice_get forms piece ≡ Some form → path ≡ segment_path folder name form
+fold_there : (name : Segment) (e : Entry) (fold : FoldFile) → IsFoldIn e fold → IsForName name fold → MayBePiece name in_form.Fold e
+fold_there name Unknown fold h is = tt
+fold_there name Absent fold h is = absurd h
+fold_there name (File bytes) fold h is = (fold, h, is)
+fold_there name (Folder names) fold h is = absurd h
+
+-- its log was opened
+pub opened_log : {F E : Type 0} (remains : F → Option (List ℕ)) (opened : Result F E) (file : F) (holds : List ℕ → Entry) (folder : List ℕ) (names : List Segment) (forms : List Form)
+    (piece : ℕ) (name : Segment) (path : List ℕ) → slice_get names piece ≡ Some name → slice_get forms piece ≡ Some in_form.Log → path ≡ segment_path folder name in_form.Log
     → IfOk opened (λ f. Leaves (holds path) (remains f)) → opened ≡ Ok file → OutcomeAt holds folder names forms piece None
-opened_at remains opened file holds folder names forms piece name form path n f p l o =
-    let leaves = subst (λ r. IfOk r (λ f. Leaves (holds path) (remains f))) o l in
-    outcome_is holds folder names forms piece name form None n f (subst (λ (x : List ℕ). MayBeFile (holds x)) p (left_file (holds path) (remains file) leaves))
+opened_log remains opened file holds folder names forms piece name path n f p l o =
+    outcome_is holds folder names forms piece name in_form.Log None n f
+    (subst (λ (x : List ℕ). MayBePiece name in_form.Log (holds x)) p (log_left name (holds path) (remains file) (opened_leaves remains (holds path) opened file l o)))
+
+-- its fold was read, and says that it is of this segment
+pub opened_fold : {F E : Type 0} (remains : F → Option (List ℕ)) (opened : Result F E) (file : F) (bytes : List ℕ) (fold : FoldFile) (holds : List ℕ → Entry) (folder : List ℕ)
+    (names : List Segment) (forms : List Form) (piece : ℕ) (name : Segment) (path : List ℕ) → slice_get names piece ≡ Some name → slice_get forms piece ≡ Some in_form.Fold
+    → path ≡ segment_path folder name in_form.Fold → IfOk opened (λ f. Leaves (holds path) (remains f)) → opened ≡ Ok file → IfSome (remains file) (λ xs. bytes ≡ xs)
+    → read_fold bytes ≡ Ok fold → IsForName name fold → OutcomeAt holds folder names forms piece None
+opened_fold remains opened file bytes fold holds folder names forms piece name path n f p l o h r is =
+    let leaves = opened_leaves remains (holds path) opened file l o in
+    outcome_is holds folder names forms piece name in_form.Fold None n f
+    (subst (λ (x : List ℕ). MayBePiece name in_form.Fold (holds x)) p (fold_there name (holds path) fold (fold_left (holds path) (remains file) bytes fold leaves h r) is))
 
 -- ---- of some piece
 
@@ -142,9 +155,9 @@ any_is : (holds : List ℕ → Entry) (folder : List ℕ) (names : List Segment)
     → OutcomeAt holds folder names forms piece (Some why) → IsOfAny (OutcomeAt holds folder names forms) (length names) why
 any_is holds folder names forms piece name why n h = inl (piece, slice_get_within names piece name n, h)
 
-pub memory_any : (holds : List ℕ → Entry) (folder : List ℕ) (names : List Segment) (forms : List Form) (piece : ℕ) (name : Segment) → slice_get names piece ≡ Some name
-    → IsOfAny (OutcomeAt holds folder names forms) (length names) OutOfMemory
-memory_any holds folder names forms piece name n = any_is holds folder names forms piece name OutOfMemory n (memory_at holds folder names forms piece OutOfMemory refl)
+pub memory_any : (holds : List ℕ → Entry) (folder : List ℕ) (names : List Segment) (forms : List Form) (piece : ℕ) (name : Segment) (form : Form) → slice_get names piece ≡ Some name
+    → slice_get forms piece ≡ Some form → IsOfAny (OutcomeAt holds folder names forms) (length names) OutOfMemory
+memory_any holds folder names forms piece name form n f = any_is holds folder names forms piece name OutOfMemory n (memory_at holds folder names forms piece name form OutOfMemory n f refl)
 
 -- it isn't as it was
 pub changed_any : (holds : List ℕ → Entry) (folder : List ℕ) (names : List Segment) (forms : List Form) (piece : ℕ) (name : Segment) (form : Form) (path : String Global) (cause : Cause)

@@ -19,7 +19,7 @@ said_is : (holds : List ℕ → Entry) (folder : List ℕ) (names : List Segment
 said_is holds folder names forms piece name form n f = rw (n, f) refl
 
 -- the file that was opened
-opened_leaves : {F E : Type 0} (remains : F → Option (List ℕ)) (e : Entry) (opened : Result F E) (file : F) → IfOk opened (λ f. Leaves e (remains f)) → opened ≡ Ok file → Leaves e (remains file)
+pub opened_leaves : {F E : Type 0} (remains : F → Option (List ℕ)) (e : Entry) (opened : Result F E) (file : F) → IfOk opened (λ f. Leaves e (remains f)) → opened ≡ Ok file → Leaves e (remains file)
 opened_leaves remains e opened file l o = subst (λ r. IfOk r (λ f. Leaves e (remains f))) o l
 
 -- ---- a log
@@ -41,7 +41,7 @@ log_at remains left opened file reader holds folder names forms piece name path 
 
 -- ---- a fold
 
-fold_left : (e : Entry) (had : Option (List ℕ)) (bytes : List ℕ) (fold : FoldFile) → Leaves e had → IfSome had (λ xs. bytes ≡ xs) → read_fold bytes ≡ Ok fold → IsFoldIn e fold
+pub fold_left : (e : Entry) (had : Option (List ℕ)) (bytes : List ℕ) (fold : FoldFile) → Leaves e had → IfSome had (λ xs. bytes ≡ xs) → read_fold bytes ≡ Ok fold → IsFoldIn e fold
 fold_left Unknown had bytes fold l h r = tt
 fold_left Absent had bytes fold l h r = absurd l
 fold_left (File known) had bytes fold l h r =

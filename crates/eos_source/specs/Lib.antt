@@ -6,4 +6,6 @@ pub mod Topics
 pub mod steps
 pub mod FolderLogs
 pub mod FolderRefusals
+pub mod FirstRefusals
+pub mod Named
 pub mod Saying

@@ -8,7 +8,7 @@ ghost use Rattle.eos_fold_file.specs.Reading.{read_fold};
 ghost use Rattle.eos_disk.specs.Paths.{segment_path};
 ghost use Rattle.eos_disk.specs.Refusals.{MayRefuse, RefusesFold, RefusesPiece};
 ghost use Rattle.eos_disk.specs.declared.names.Form.TheVariants.{Fold};
-ghost use Rattle.eos_source.specs.steps.Folds.{IsForName};
+ghost use Rattle.eos_source.specs.FolderRefusals.{IsForName};
 
 use bytes::Bytes;
 use eos_disk::{Cause, FoldRefusal, FolderFault, Form, refused_at, refused_fold, segment_path};

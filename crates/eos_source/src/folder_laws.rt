@@ -1,7 +1,15 @@
 //! What stands in a folder whose files are known. These functions do nothing; their contracts are theorems.
 
-ghost use Rattle.std.specs.Prelude.{◌≡◌, ◌<◌, ℕ, List, length, true};
-ghost use Rattle.eos_disk.specs.Entries.{Entry};
+ghost use Rattle.std.specs.Prelude.{◌≡◌, ◌<◌, ℕ, Bool, List, length, true, Err};
+ghost use Rattle.eos_disk.specs.Entries.{Entry, HasBytes};
+ghost use Rattle.eos_disk.specs.Paths.{manifest_path};
+ghost use Rattle.eos_disk.specs.declared.cause.Cause.{Cause};
+ghost use Rattle.eos_disk.specs.declared.folder.FolderFault.{FolderFault};
+ghost use Rattle.eos_disk.specs.declared.folder.FolderFault.TheVariants.{Manifest};
+ghost use Rattle.eos_evidence.specs.Manifest.{spec_said_by};
+ghost use Rattle.eos_evidence.specs.declared.fault.SpecFault.{SpecFault};
+ghost use Rattle.eos_source.specs.FirstRefusals.{IsFirstOfFolder};
+ghost use Rattle.eos_source.specs.Named.{IsBelow, Names};
 ghost use Rattle.eos_evidence.specs.Evidence.{EvidenceParts, segments_of};
 ghost use Rattle.eos_disk.specs.Shapes.{AreKnown};
 ghost use Rattle.eos_disk.specs.declared.names.Form.{Form};
@@ -20,4 +28,15 @@ pub fn kept()
 pub fn one_evidence()
     ensures { (holds : List ℕ → Entry) (folder : List ℕ) (evidence other : EvidenceParts) → AreKnown holds folder → (at : StandsAt holds folder evidence)
         → ((piece : ℕ) → piece < length (segments_of at.shape.partitions) → is_log_at at.forms piece ≡ true) → StandsAt holds folder other → evidence ≡ other }
+{}
+
+/// The first refusal of a folder is that of its manifest for a fault only where just this is the fault of what stands there.
+pub fn manifest_refused()
+    ensures { (holds : List ℕ → Entry) (folder : List ℕ) (all : Bool) (fault : SpecFault) (cause : Cause) → IsFirstOfFolder holds folder all (Manifest fault cause)
+        → (text : List ℕ) × HasBytes (holds (manifest_path folder)) text × (spec_said_by text ≡ Err fault) }
+{}
+
+/// A path that the first refusal of a folder names is one below it.
+pub fn named_below()
+    ensures { (holds : List ℕ → Entry) (folder : List ℕ) (all : Bool) (why : FolderFault) (path : List ℕ) → IsFirstOfFolder holds folder all why → Names why path → IsBelow folder path }
 {}

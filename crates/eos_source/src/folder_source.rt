@@ -55,7 +55,7 @@ impl<'a, D: Disk, W: Watch> Source for FolderSource<'a, D, W> {
 
     /// Opens the file of a segment. There is no file of a number that the shape doesn't have, which is answered as a segment too
     /// many.
-    #[tactic(auto, using(crate::proofs::Saying::log_at, crate::proofs::Saying::fold_at, crate::proofs::Refused::no_piece, crate::proofs::Refused::memory_at, crate::proofs::Refused::unopened_at, crate::proofs::Refused::file_at, crate::proofs::Refused::piece_at, crate::proofs::Refused::opened_at))]
+    #[tactic(auto, using(crate::proofs::Saying::log_at, crate::proofs::Saying::fold_at, crate::proofs::Refused::no_piece, crate::proofs::Refused::memory_at, crate::proofs::Refused::unopened_at, crate::proofs::Refused::file_at, crate::proofs::Refused::piece_at, crate::proofs::Refused::opened_log, crate::proofs::Refused::opened_fold))]
     fn open(
         &self,
         alloc: Global,

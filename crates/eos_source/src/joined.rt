@@ -39,7 +39,7 @@ pub(crate) fn next_run<F: From<AllocError> + Drop>(
     ensures run { (known : ℕ → Known) (said : ℕ → Said) (topics : List (List ℕ)) (apps : List App) (topic : List ℕ) (piece : ℕ) (later : List Segment)
         → All (λ s. s.topic ≡ topic) names.now → AreSlotsOf known said topics apps piece (names.now ++ later) (into_iter_items slots.old)
         → IfOk result (λ run. AreRead known said (asking topics apps topic) piece names.now run × AreSlotsOf known said topics apps (piece + length names.now) later (into_iter_items slots.new)) }
-    ensures passed { IfOk result (λ run. ArePassed (into_iter_items slots.old) (into_iter_items slots.new)) }
+    ensures passed { IfOk result (λ run. ArePassed (length names.now) (into_iter_items slots.old) (into_iter_items slots.new)) }
     ensures refused { IfErr result (λ why. IsFirstRefused (into_iter_items slots.old) why ⊎ F.from_gives alloc_error why) }
 {
     let mut run = None;

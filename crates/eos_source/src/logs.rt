@@ -6,7 +6,7 @@ ghost use Rattle.eos_evidence.specs.Evidence.{IsPartition, segments_of};
 ghost use Rattle.eos_evidence.specs.SpecFields.{outputs_of};
 ghost use Rattle.eos_evidence.specs.declared.segment.Segment.{Segment};
 ghost use Rattle.eos_source.specs.Logs.{AreKeptLogs, tally_of};
-ghost use Rattle.eos_source.specs.Refusals.{IsRefusal};
+ghost use Rattle.eos_source.specs.Refusals.{AreOpened, IsRefusal};
 ghost use Rattle.eos_source.specs.Said.{Said, known_by};
 ghost use Rattle.eos_source.specs.steps.Partitions.{IsToldOf, AreToldOf};
 ghost use Rattle.eos_source.specs.steps.Runs.{AreSlots, AreSlotsOf, IsFirstRefused, ArePassed};
@@ -101,7 +101,7 @@ fn next_told<S: Source>(
         → AreSlotsOf (known_by (S.said plan.now.source.now) (S.is_log plan.now.source.now)) said plan.now.topics.now plan.now.shape.now.spec.apps piece (shape.now.segments ++ later) (into_iter_items slots.old)
         → IfOk result (λ told. IsToldOf (known_by (S.said plan.now.source.now) (S.is_log plan.now.source.now)) said plan.now.shape.now.spec.apps piece shape.now told
         × AreSlotsOf (known_by (S.said plan.now.source.now) (S.is_log plan.now.source.now)) said plan.now.topics.now plan.now.shape.now.spec.apps (piece + length shape.now.segments) later (into_iter_items slots.new)) }
-    ensures passed { IfOk result (λ told. ArePassed (into_iter_items slots.old) (into_iter_items slots.new)) }
+    ensures passed { IfOk result (λ told. ArePassed (length shape.now.segments) (into_iter_items slots.old) (into_iter_items slots.new)) }
     ensures refused { IfErr result (λ why. IsFirstRefused (into_iter_items slots.old) why ⊎ S.Fault.from_gives alloc_error why) }
 {
     let end = shape.end.clone()?;
@@ -111,6 +111,7 @@ fn next_told<S: Source>(
 }
 
 /// What is told of all partitions, out of the slots of all pieces.
+#[tactic(auto, using(crate::proofs::SlotsRefused::still_refused))]
 fn logs_of<S: Source>(
     alloc: Global,
     plan: &Plan<'_, S>,
@@ -121,6 +122,7 @@ fn logs_of<S: Source>(
     requires slots { AreSlots (known_by (S.said plan.now.source.now) (S.is_log plan.now.source.now)) (S.outcomes plan.now.source.now) plan.now.topics.now plan.now.shape.now.spec.apps 0 (segments_of plan.now.shape.now.partitions) slots.items }
     ensures told { IfOk result (λ logs. (said : ℕ → Said) × AreToldOf (known_by (S.said plan.now.source.now) (S.is_log plan.now.source.now)) said plan.now.shape.now.spec.apps plan.now.shape.now.partitions logs) }
     ensures drawn { IfOk result (λ logs. logs.drawn ≡ drawn) }
+    ensures opened { IfOk result (λ logs. AreOpened (S.outcomes plan.now.source.now) (length (segments_of plan.now.shape.now.partitions))) }
     ensures refused { IfErr result (λ why. IsFirstRefused slots.items why ⊎ S.Fault.from_gives alloc_error why) }
 {
     let mut logs = KeptLogs::new(alloc, drawn);
@@ -146,6 +148,7 @@ pub fn kept_logs<S: Source, R: Threads + Sync>(
 ) -> Result<KeptLogs, S::Fault>
     ensures logs { IfOk result (AreKeptLogs (known_by (S.said source.now) (S.is_log source.now)) shape.now) }
     ensures once { IfOk result (λ logs. AreBelow (length (segments_of shape.now.partitions)) logs.drawn) }
+    ensures opened { IfOk result (λ logs. AreOpened (S.outcomes source.now) (length (segments_of shape.now.partitions))) }
     ensures refused { IfErr result (IsRefusal (S.outcomes source.now) (S.Fault.from_gives alloc_error) (length (segments_of shape.now.partitions))) }
 {
     let apps = shape.spec().apps().as_slice();

@@ -18,3 +18,4 @@ pub mod Among
 pub mod KeptNotes
 pub mod KeptTallies
 pub mod TimesAgain
+pub mod RefusalsTold

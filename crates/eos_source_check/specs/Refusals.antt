@@ -1,9 +1,10 @@
 -- Why the faults of a source's evidence aren't listed.
-use Rattle.std.specs.Prelude.{◌≡◌, ◌≢◌, ℕ, ◌<◌, Bool, false, List, length, take, Option, Some, slice_get, ⊤}
+use Rattle.std.specs.Prelude.{◌≡◌, ◌≢◌, ◌⊎◌, ℕ, ◌<◌, Bool, true, false, List, length, take, Option, Some, slice_get, ⊤}
 use Rattle.eos_evidence.specs.declared.partition.Partition.{Partition}
 use Rattle.eos_evidence.specs.Evidence.{segments_of}
 use Rattle.eos_touch.specs.declared.fault.PartitionFault.{PartitionFault}
 use Rattle.eos_faults.specs.PartitionLists.{AreFaultsOf}
+use Rattle.eos_source.specs.Refusals.{AreOpened, IsRefusal}
 use Rattle.eos_source.specs.Said.{Known}
 use Rattle.eos_source_check.specs.Again.{IsAgain}
 use Rattle.eos_source_check.specs.declared.fault.Unlisted.{Unlisted}
@@ -40,3 +41,11 @@ IsEarned known outcomes shapes found (Refused fault) = (piece : ℕ) × (piece <
 IsEarned known outcomes shapes found (Fold piece) = piece < length (segments_of shapes)
 IsEarned known outcomes shapes found (Changed piece) = IsChanged known shapes found piece
 IsEarned known outcomes shapes found OutOfMemory = ⊤
+
+-- the first of so many pieces that isn't read, or want of memory; or, where all faults are told and each was opened, one that is read again
+abbrev pub IsUntold : {F : Type 0} → (ℕ → Option F → Type 0) → (F → Type 0) → ℕ → Bool → Unlisted F → Type 0
+IsUntold outcomes IsMemory pieces all (Refused why) =
+    IsRefusal outcomes IsMemory pieces why ⊎ ((all ≡ true) × AreOpened outcomes pieces × (piece : ℕ) × (piece < pieces) × outcomes piece (Some why))
+IsUntold outcomes IsMemory pieces all (Fold piece) = (all ≡ true) × AreOpened outcomes pieces × (piece < pieces)
+IsUntold outcomes IsMemory pieces all (Changed piece) = (all ≡ true) × AreOpened outcomes pieces
+IsUntold outcomes IsMemory pieces all OutOfMemory = ⊤

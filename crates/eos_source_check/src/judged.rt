@@ -2,7 +2,7 @@
 
 ghost use Rattle.std.specs.Prelude.{IfOk, IfErr, length, alloc_error};
 ghost use Rattle.eos_evidence.specs.Evidence.{segments_of};
-ghost use Rattle.eos_source.specs.Refusals.{IsRefusal};
+ghost use Rattle.eos_source.specs.Refusals.{AreOpened, IsRefusal};
 ghost use Rattle.eos_source.specs.Said.{known_by};
 ghost use Rattle.eos_source_check.specs.Judged.{IsJudgedOf};
 
@@ -41,6 +41,7 @@ pub fn judge_source<S: Source, R: Threads + Sync>(
     workers: Workers,
 ) -> Result<Judged, S::Fault>
     ensures judged { IfOk result (IsJudgedOf (known_by (S.said source.now) (S.is_log source.now)) shape.now) }
+    ensures opened { IfOk result (λ judged. AreOpened (S.outcomes source.now) (length (segments_of shape.now.partitions))) }
     ensures refused { IfErr result (IsRefusal (S.outcomes source.now) (S.Fault.from_gives alloc_error) (length (segments_of shape.now.partitions))) }
 {
     let kept = kept_logs(alloc, rt, source, shape, workers)?;

@@ -1,5 +1,5 @@
 -- What is kept of pieces, by their numbers, of which so much is known and which said this.
-use Rattle.std.specs.Prelude.{◌≡◌, ℕ, suc, ◌+◌, ◌≤◌, ◌<◌, not, List, [], ◌∷◌, length, Option, Some, None, Result, Ok, Err, IfOk, IfErr, ⊤}
+use Rattle.std.specs.Prelude.{◌≡◌, ℕ, suc, ◌+◌, ◌≤◌, ◌<◌, not, List, [], ◌∷◌, ◌++◌, length, map, Option, Some, None, Result, Ok, Err, IfOk, IfErr, ⊤}
 use Rattle.eos_evidence.specs.declared.application.App.{App}
 use Rattle.eos_evidence.specs.declared.segment.Segment.{Segment}
 use Rattle.eos_evidence.specs.Topics.{is_internal}
@@ -92,6 +92,6 @@ IsFirstRefused [] why = ⊥
 IsFirstRefused (Ok run ∷ slots) why = IsFirstRefused slots why
 IsFirstRefused (Err fault ∷ slots) why = why ≡ fault
 
--- of the slots that were passed none is a refusal
-abbrev pub ArePassed : {F : Type 0} → List (Result KeptRun F) → List (Result KeptRun F) → Type 0
-ArePassed {F} before after = (why : F) → IsFirstRefused after why → IsFirstRefused before why
+-- so many of these slots were passed, none of which is a refusal
+abbrev pub ArePassed : {F : Type 0} → ℕ → List (Result KeptRun F) → List (Result KeptRun F) → Type 0
+ArePassed count before after = (runs : List KeptRun) × (length runs ≡ count) × (before ≡ map Ok runs ++ after)

@@ -14,7 +14,7 @@ returns-in-Ok-told-clause-known g c e known at =
     let new = g.W.Write.contents c.told.new.writer in
     let t = c.in-Ok-told.ensures in
     let of = told_of (g.D.Disk.holds c.args.folder.disk.now) folder asked.subject asked.json asked.all asked.quiet asked.terms asked.report c.in-Ok.answer old new c.in-Ok-told.said t.status t.notes t.unmet t.report t.lines
-    c.in-Ok.ensures in
+    c.in-Ok.ensures.answer in
     known_of (g.D.Disk.holds c.args.folder.disk.now) folder asked.all (IsToldOf asked.subject asked.json asked.all asked.quiet asked.terms asked.report old new c.in-Ok-told.said) e known at of
 
 pub returns-in-Err-told-clause-known_front : goal.returns-in-Err-told-clause-known_front
@@ -23,5 +23,5 @@ returns-in-Err-told-clause-known_front g c e known at failed =
     let folder = c.args.folder.path.now in
     let old = g.W.Write.contents c.args.writer.now in
     let new = g.W.Write.contents c.told.new.writer in
-    let of = front_of (g.D.Disk.holds c.args.folder.disk.now) folder asked.subject asked.json asked.all asked.quiet asked.terms asked.report c.in-Ok.answer old new c.in-Err-told.ensures.front c.in-Ok.ensures in
+    let of = front_of (g.D.Disk.holds c.args.folder.disk.now) folder asked.subject asked.json asked.all asked.quiet asked.terms asked.report c.in-Ok.answer old new c.in-Err-told.ensures.front c.in-Ok.ensures.answer in
     known_of (g.D.Disk.holds c.args.folder.disk.now) folder asked.all (λ x. WritesFrontOf (IsCheckAnswer (subject_text asked.subject) x asked.json asked.all asked.terms.demands) old new) e known at of

@@ -4,10 +4,10 @@ use Rattle.eos_evidence.specs.SpecFields.{SpecFields}
 use Rattle.eos_checking.specs.steps.Tellings.{TellsOf}
 use Rattle.eos_checking.proofs.source.all_told.Goals as goal
 
-pub returns : goal.returns
-returns g c =
+pub returns-clause-answer : goal.returns-clause-answer
+returns-clause-answer g c =
     let asked = c.args.asked.now in
     let judged = c.args.judged.now in
     let tells = subst (λ (s : SpecFields). TellsOf s judged c.as_slice.result.now asked.subject asked.json true asked.quiet asked.terms asked.report c.in_ok-answer.answer) c.spec.ensures.value c.in_ok-answer.ensures in
     let of_list = subst (λ (fs : List Fault). TellsOf c.args.pieces.now.shape.now.spec judged fs asked.subject asked.json true asked.quiet asked.terms asked.report c.in_ok-answer.answer) c.as_slice.ensures.value tells in
-    (c.in_ok-list.list.items, c.in_ok-list.ensures, of_list)
+    (c.in_ok-list.list.items, c.in_ok-list.ensures.list, of_list)

@@ -5,8 +5,8 @@ use Rattle.eos_checking.specs.steps.Tellings.{TellsOf}
 use Rattle.eos_checking.proofs.SourceAnswers.{answer_is}
 use Rattle.eos_checking.proofs.source.answer_source.Goals as goal
 
-pub returns : goal.returns
-returns g c =
+pub returns-clause-answer : goal.returns-clause-answer
+returns-clause-answer g c =
     let asked = c.args.asked.now in
     let judged = c.in_ok-judged.judged in
     let tells = subst (λ (s : SpecFields). TellsOf s judged c.faults_of.result.now asked.subject asked.json false asked.quiet asked.terms asked.report c.in_ok-answer.answer) c.spec.ensures.value c.in_ok-answer.ensures in

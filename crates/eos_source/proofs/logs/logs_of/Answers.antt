@@ -1,4 +1,5 @@
-use Rattle.std.proofs.Common.{◌≡◌, ◌+◌, ℕ, List, length, take, drop, sym, subst, ◌∙◌, rules}
+use Rattle.std.proofs.Common.{◌≡◌, ◌≤◌, ◌+◌, ℕ, List, length, take, drop, sym, subst, ◌∙◌, arith, rules}
+use Rattle.std.proofs.lemmas.List.{take_all}
 use Rattle.std.specs.Vec.Iter.{into_iter_items}
 use Rattle.eos_evidence.specs.declared.partition.Partition.{Partition}
 use Rattle.eos_evidence.specs.declared.segment.Segment.{Segment}
@@ -6,7 +7,7 @@ use Rattle.eos_evidence.specs.Evidence.{segments_of}
 use Rattle.eos_source.specs.Said.{known_by}
 use Rattle.eos_source.specs.steps.Runs.{AreSlots, AreSlotsOf, ArePassed}
 use Rattle.eos_source.proofs.SlotsRead.{were_said}
-use Rattle.eos_source.proofs.SlotsRefused.{none_passed}
+use Rattle.eos_source.proofs.SlotsRefused.{none_passed, both_passed, all_opened}
 use Rattle.eos_source.proofs.PartitionsTold.{none_told, here, segments_left, pieces_taken, told_next}
 use Rattle.eos_source.proofs.logs.logs_of.Goals as goal
 
@@ -26,7 +27,7 @@ loop-i-init g c =
         subst (λ (ps : List Partition). AreSlotsOf known w.0 topics apps 0 (segments_of ps) slots) (sym c.partitions-partitions.ensures.value) w.1,
       ),
       c.new-logs.ensures.drawn,
-      subst (λ xs. ArePassed c.args.slots.items xs) (sym rest) (none_passed c.args.slots.items),
+      subst (λ xs. ArePassed 0 c.args.slots.items xs) (sym rest) (none_passed c.args.slots.items),
     )
 
 pub loop-i-preserved : goal.loop-i-preserved
@@ -50,5 +51,18 @@ loop-i-preserved g c =
         subst (λ (n : ℕ). AreSlotsOf known said topics apps n later (into_iter_items c.next_told.new.slots)) (sym (pieces_taken shapes i shape at)) next.1,
       ),
       c.push.ensures.drawn ∙ c.loop-i.invariant.1,
-      λ why r. c.loop-i.invariant.2 why (c.in_ok-next_told.ensures.passed why r),
+      subst (λ (n : ℕ). ArePassed n c.args.slots.items (into_iter_items c.next_told.new.slots)) (sym (pieces_taken shapes i shape at))
+          (both_passed piece (length shape.segments) c.args.slots.items (into_iter_items c.loop-i.slots) (into_iter_items c.next_told.new.slots) c.loop-i.invariant.2 c.in_ok-next_told.ensures.passed),
     )
+
+pub returns-clause-opened : goal.returns-clause-opened
+returns-clause-opened g c =
+    let known = known_by (g.S.Source.said c.args.plan.now.source.now) (g.S.Source.is_log c.args.plan.now.source.now) in
+    let outcomes = g.S.Source.outcomes c.args.plan.now.source.now in
+    let shapes = c.partitions-partitions.result.now in
+    let names = segments_of c.args.plan.now.shape.now.partitions in
+    let rest = into_iter_items c.loop-i.slots in
+    let past : length shapes ≤ c.loop-i.i = omega (arith, c.loop-i-test.false) in
+    let all = take_all c.loop-i.i shapes past ∙ c.partitions-partitions.ensures.value in
+    let passed = subst (λ (ps : List Partition). ArePassed (length (segments_of ps)) c.args.slots.items rest) all c.loop-i.invariant.2 in
+    all_opened known outcomes c.args.plan.now.topics.now c.args.plan.now.shape.now.spec.apps names c.args.slots.items rest c.requires.slots passed

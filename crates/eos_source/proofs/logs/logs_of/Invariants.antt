@@ -12,4 +12,4 @@ invariant-loop-i g l =
     × AreToldOf (known_by (g.S.Source.said l.plan.source.now) (g.S.Source.is_log l.plan.source.now)) said l.plan.shape.now.spec.apps (take l.i l.partitions) l.logs
     × AreSlotsOf (known_by (g.S.Source.said l.plan.source.now) (g.S.Source.is_log l.plan.source.now)) said l.plan.topics.now l.plan.shape.now.spec.apps (length (segments_of (take l.i l.partitions))) (segments_of (drop l.i l.partitions)) (into_iter_items l.slots))
     × (l.logs.drawn ≡ l.fn.drawn)
-    × ArePassed l.fn.slots.items (into_iter_items l.slots)
+    × ArePassed (length (segments_of (take l.i l.partitions))) l.fn.slots.items (into_iter_items l.slots)

@@ -8,7 +8,7 @@ use Rattle.eos_kept.specs.Parts.{IsTold}
 use Rattle.eos_reading.specs.declared.wanted.Wanted.{Wanted}
 use Rattle.eos_reading.specs.Wanted.{wanted_of}
 use Rattle.eos_source.specs.Said.{known_by}
-use Rattle.eos_source.specs.steps.Runs.{asking, AreRead, AreKeptRun, IsWantedBy, HaveClaims, AreSlotsOf}
+use Rattle.eos_source.specs.steps.Runs.{asking, AreRead, AreKeptRun, IsWantedBy, HaveClaims, AreSlotsOf, ArePassed}
 use Rattle.eos_source.proofs.ShapesFilled.{of_topic}
 use Rattle.eos_source.proofs.PartitionsTold.{as_wanted, have_claims, told_of, same_end}
 use Rattle.eos_source.proofs.logs.next_told.Goals as goal
@@ -77,3 +77,7 @@ returns-clause-told g c = λ said piece later given.
     (subst (λ (names : List (List ℕ)). AreKeptRun names segments run) (sym c.asked_of-asked.ensures.topics) kept)
     (subst (λ (e : End). AreOf e.topic e.partition segments) (sym cloned) of))) in
     (told_of known said topics apps piece shape run told c.requires.partition read is, next)
+
+pub returns-clause-passed : goal.returns-clause-passed
+returns-clause-passed g c =
+    subst (λ (xs : List Segment). ArePassed (length xs) (into_iter_items c.args.slots.now) (into_iter_items c.next_run.new.slots)) c.as_slice.ensures c.in_ok-run.ensures.passed
