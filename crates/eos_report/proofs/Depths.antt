@@ -149,6 +149,9 @@ fault_depth : (f : Fault) → depth (fault_value f) ≤ 3
 unfolding fault_value
 fault_depth f = object_depth 2 (with_where f (head f no_members)) (where_depth f (head f no_members) (head_depth f no_members (omega arith)))
 
+pub shallow_fault : (f : Fault) → depth (fault_value f) ≤ max_depth
+shallow_fault f = omega (arith, fault_depth f)
+
 -- ---- notes
 
 with_note_depth : (n : Note) (ms : Members) → members_depth ms ≤ 2 → members_depth (with_note n ms) ≤ 2

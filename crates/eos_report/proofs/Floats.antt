@@ -190,6 +190,10 @@ fault_bare f =
     let head = put (codes "phase") (count (phase_of f)) (put (codes "name") (string (name_of f)) (put (codes "code") (string (code_of f)) no_members)) in
     of_members (with_where f head) (where_plain f head (head_plain f))
 
+-- the text of its object is known word for word
+pub whole_fault : (f : Fault) → has_float (fault_value f) ≡ false
+whole_fault f = (fault_bare f).none
+
 -- ---- lines
 
 line_plain : (v : Verdict) → has_float (line_value v) ≡ false

@@ -2,3 +2,5 @@ pub mod Labelled
 pub mod Depths
 mod Floats
 mod Fresh
+mod FilledTexts
+mod FilledReports

@@ -1,2 +1,4 @@
 pub mod Held
 pub mod Fields
+pub mod Texts
+pub mod Frames

@@ -1,13 +1,14 @@
 //! The report of a check, as a text.
 
-ghost use Rattle.std.specs.Prelude.{◌≡◌, IfOk, OnOk, string_bytes};
+ghost use Rattle.std.specs.Prelude.{◌≡◌, [], IfOk, OnOk, string_bytes};
 ghost use Rattle.serde_json.specs.Data.{Data, put as with_member};
-ghost use Rattle.serde_json.specs.View.{view, items_view};
+ghost use Rattle.serde_json.specs.View.{view};
 ghost use Rattle.eos_report.specs.steps.Held.{held};
-ghost use Rattle.eos_report.specs.Reports.{counts_value, fault_items, with_verdict, program_value, with_about, report_value, AreSeconds, AreTimes, IsReportText, IsTimedReportText};
+ghost use Rattle.eos_report.specs.steps.Frames.{IsFrame};
+ghost use Rattle.eos_report.specs.Reports.{counts_value, with_verdict, program_value, with_about, report_value, AreSeconds, AreTimes, IsReportText, IsTimedReportText};
 
 use crate::about::{About, Times};
-use crate::json_fault::value_of_fault;
+use crate::json_faults::filled;
 use crate::note::values_of_notes;
 use crate::object::Object;
 use crate::tally::put_tallies;
@@ -40,10 +41,24 @@ pub fn report_text(
     ensures says { IfOk result (λ text. IsReportText about.entry found.entry.verdict.now found.entry.faults.now found.entry.notes.now found.entry.tallies.now (string_bytes text)) }
     ensures timed { IfOk result (λ text. IsTimedReportText about.entry found.entry.verdict.now found.entry.faults.now found.entry.notes.now found.entry.tallies.now times (string_bytes text)) }
 {
+    let frame = frame_of(alloc, about, found, times)?;
+    let mut text = filled(alloc, frame, found.verdict, found.faults)?;
+    text.push_str("\n")?;
+    Ok(text)
+}
+
+/// The text of the report that lists no fault.
+fn frame_of(
+    alloc: Global,
+    about: About<'_>,
+    found: Findings<'_>,
+    times: Times,
+) -> Result<String, AllocError>
+    ensures { IfOk result (λ frame. IsFrame about.entry found.entry.verdict.now found.entry.notes.now found.entry.tallies.now times (string_bytes frame)) }
+{
     let seconds = value_of_times(alloc, times)?;
     let value = value_of_report(alloc, about, found, seconds)?;
-    let mut text = value.to_string(alloc)?;
-    text.push_str("\n")?;
+    let text = value.to_string(alloc)?;
     Ok(text)
 }
 
@@ -54,11 +69,11 @@ fn value_of_report(
     found: Findings<'_>,
     seconds: Value,
 ) -> Result<Value, AllocError>
-    ensures { IfOk result (λ value. view value ≡ report_value about.entry found.entry.verdict.now found.entry.faults.now found.entry.notes.now found.entry.tallies.now (view seconds)) }
+    ensures { IfOk result (λ value. view value ≡ report_value about.entry found.entry.verdict.now [] found.entry.notes.now found.entry.tallies.now (view seconds)) }
 {
     let mut made = Object::new(alloc);
     put_about(alloc, &mut made, about)?;
-    put_verdict(alloc, &mut made, found.verdict, found.faults)?;
+    put_verdict(alloc, &mut made, found.verdict)?;
     let notes = values_of_notes(alloc, found.notes)?;
     made.put("notes", Value::Array(notes))?;
     put_tallies(alloc, &mut made, found.tallies)?;
@@ -87,14 +102,10 @@ fn value_of_program(alloc: Global, about: About<'_>) -> Result<Value, AllocError
     Ok(made.into_value())
 }
 
+/// Puts the answer in, and the counts of a yes; of a no an array that lists no fault.
 #[tactic(auto, unfolding(crate::specs::Reports::with_verdict))]
-fn put_verdict(
-    alloc: Global,
-    out: &mut Object,
-    verdict: &Verdict,
-    faults: &[Fault],
-) -> Result<(), AllocError>
-    ensures { OnOk result (held out.new ≡ with_verdict verdict.now faults.now (held out.old)) }
+fn put_verdict(alloc: Global, out: &mut Object, verdict: &Verdict) -> Result<(), AllocError>
+    ensures { OnOk result (held out.new ≡ with_verdict verdict.now [] (held out.old)) }
 {
     match verdict {
         Verdict::Yes(counts) => {
@@ -104,8 +115,7 @@ fn put_verdict(
         }
         Verdict::No(_) => {
             out.put_str("answer", "no")?;
-            let faults = values_of_faults(alloc, faults)?;
-            out.put("faults", Value::Array(faults))
+            out.put("faults", Value::Array(Vec::new(alloc)))
         }
     }
 }
@@ -119,16 +129,6 @@ fn value_of_counts(alloc: Global, counts: Counts) -> Result<Value, AllocError>
     made.put_count("outputs", counts.outputs)?;
     made.put_count("transactions", counts.transactions)?;
     Ok(made.into_value())
-}
-
-fn values_of_faults(alloc: Global, faults: &[Fault]) -> Result<Vec<Value>, AllocError>
-    ensures { IfOk result (λ values. items_view values.items ≡ fault_items faults.now) }
-{
-    let mut values = Vec::new(alloc);
-    for fault in faults {
-        values.push(value_of_fault(alloc, fault)?)?;
-    }
-    Ok(values)
 }
 
 /// The seconds of each stage.

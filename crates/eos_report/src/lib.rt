@@ -7,6 +7,7 @@ mod fault;
 mod fault_text;
 mod html;
 mod json_fault;
+mod json_faults;
 mod json_report;
 mod line;
 mod listing;

@@ -1,22 +1,26 @@
--- The text reads back as the value that was made, since that nests no deeper than it may.
-use Rattle.std.proofs.Common.{◌≤◌, ◌∙◌, sym, subst, ap, Some, string_bytes}
-use Rattle.serde_json.specs.Data.{depth}
-use Rattle.serde_json.specs.Read.{max_depth}
-use Rattle.serde_json.specs.View.{view}
+-- The text reads back as the report, since that nests no deeper than it may.
+use Rattle.std.proofs.Common.{string_bytes}
 use Rattle.eos_report.proofs.Depths.{timed_depth}
+use Rattle.eos_report.proofs.FilledReports.{may_open, reads_report}
 use Rattle.eos_report.proofs.json_report.report_text.Goals as goal
+
+pub filled-requires : goal.filled-requires
+filled-requires c =
+    let frame = c.in_ok-frame.ensures in
+    let found = c.args.found in
+    may_open c.args.about found.verdict.now found.notes.now found.tallies.now frame.seconds (string_bytes c.in_ok-frame.frame) frame.is
 
 pub returns-clause-timed : goal.returns-clause-timed
 returns-clause-timed c =
-    let seconds = view c.in_ok-seconds.seconds in
-    let shallow = subst (λ d. depth d ≤ max_depth) (sym c.in_ok-value.ensures)
-    (timed_depth c.args.about c.args.found.verdict.now c.args.found.faults.now c.args.found.notes.now c.args.found.tallies.now c.args.times seconds c.in_ok-seconds.ensures) in
+    let frame = c.in_ok-frame.ensures in
+    let found = c.args.found in
+    let shallow = timed_depth c.args.about found.verdict.now found.faults.now found.notes.now found.tallies.now c.args.times frame.seconds frame.are in
     record {
-      seconds = seconds;
-      are = c.in_ok-seconds.ensures;
+      seconds = frame.seconds;
+      are = frame.are;
       line = string_bytes c.in_ok-text.text;
       ends = c.in_ok-push_str.ensures.bytes;
-      reads = c.in_ok-text.ensures.reads_back shallow ∙ ap Some c.in_ok-value.ensures;
+      reads = reads_report c.args.about found.verdict.now found.faults.now found.notes.now found.tallies.now frame.seconds (string_bytes c.in_ok-frame.frame) _ shallow frame.is c.in_ok-text.ensures;
     }
 
 pub returns-clause-says : goal.returns-clause-says
