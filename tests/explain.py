@@ -269,7 +269,8 @@ def look_at_folder(program, folder):
     status, text, said = run(program, "check", folder)
     if status != 1:
         # (of what stands beside the kept logs alone, the leader epochs, explain tells no note)
-        told = "".join(line for line in said.splitlines(keepends=True) if not line.startswith("eoscheck: note: the leader epoch falls at "))
+        replicas = "eoscheck: note: the leader epoch falls at ", " under leader epoch "
+        told = "".join(line for line in said.splitlines(keepends=True) if not any(words in line for words in replicas))
         expect(run(program, "explain", folder) == (status, text, told), f"{folder}: not as check")
         # A yes has no fault of any number; a folder that is refused is refused first.
         wanted = (2, "", "eoscheck: there are 0 faults\n") if status == 0 else (status, text, said)

@@ -19,18 +19,27 @@ import notes_reference
 import reference
 from made_evidence import commit_record, text
 from random_evidence import Folder, Piece
-from what_you_see import COMMITS, GOOD, STATES, add_commit, add_plain, manifest, not_in_ends
+from what_you_see import COMMITS, GOOD, STATES, TOP, add_commit, add_plain, manifest, not_in_ends
 
 NOTHING, BEHIND = "group {} committed no offset of its sources", "group {} is behind: {} of {} visible inputs are below its committed offsets"
 ABSENT, GAP = "topic {} of group {} has no partition in ends", "topic {} has no partition {} in ends, but one of a greater number"
 UNLISTED, PAST = "{} isn't in ends, but group {} committed an offset of it", "group {} committed offset {} of {}, past its end {}"
 INTERNAL = "no partition of {} is in ends"
 FALLS = "the leader epoch falls at {}:{}"
+OTHER = "group {} committed offset {} of {} under leader epoch {}, but the record before it is of epoch {}"
 NO_APPLICATION = "no application is named: outputs and committed offsets aren't judged"
 
 
 def commit(group, name, offset):
     return lambda folder: add_plain(folder, COMMITS, [commit_record(random.Random(1), group.encode(), name, offset)])
+
+
+def under(group, name, offset, epoch, version=3):
+    """A commit whose value, of a version that has the field, names this leader epoch."""
+    topic, number = name.rsplit("-", 1)
+    key = struct.pack(">h", 1) + text(group.encode()) + text(topic.encode()) + struct.pack(">i", int(number))
+    value = struct.pack(">hq", version, offset) + (struct.pack(">i", epoch) if version == 3 else b"") + text(b"") + bytes(8)
+    return lambda folder: add_plain(folder, COMMITS, [(key, value, [])])
 
 
 def deleted(group, name):
@@ -153,6 +162,42 @@ CASES = [
     ("a leader epoch that falls where another log's end is wrong", both(led("in-1", 4, 3), end("in-0", 21)), [FALLS.format("in-1", 2)]),
     ("leader epochs of a log that isn't in `ends`", both(led("out-2", 4, 3), not_in_ends("out-2")), []),
     ("a leader epoch that falls, without applications", both(led("in-1", 4, 3), NO_APPS), [NO_APPLICATION, FALLS.format("in-1", 2)]),
+    # 9: another leader epoch than the record's before it, of which all have 3 in the good folder
+    ("a commit under the record's leader epoch", under("payments", "in-0", 20, 3), []),
+    ("a commit under a lesser one", under("payments", "in-0", 20, 2), [OTHER.format("payments", 20, "in-0", 2, 3)]),
+    ("a commit under a greater one", under("payments", "in-0", 20, 4), [OTHER.format("payments", 20, "in-0", 4, 3)]),
+    ("a commit under the least and the greatest", both(under("payments", "in-0", 20, 0), under("payments", "in-1", 20, 2**31 - 1)), [
+        OTHER.format("payments", 20, "in-0", 0, 3), OTHER.format("payments", 20, "in-1", 2**31 - 1, 3)]),
+    ("a commit under none", under("payments", "in-0", 20, -1), []),
+    ("a commit under -2", under("payments", "in-0", 20, -2), [OTHER.format("payments", 20, "in-0", -2, 3)]),
+    ("a commit of a version without the field", under("payments", "in-0", 20, 2, version=2), []),
+    ("a record without a leader epoch", both(led("in-0", -1), under("payments", "in-0", 20, 3)), [OTHER.format("payments", 20, "in-0", 3, -1)]),
+    ("neither has one", both(led("in-0", -1), under("payments", "in-0", 20, -1)), []),
+    ("the record before is the last of its epoch", both(led("in-1", 1, 1, 5), under("payments", "in-1", 4, 1)), [BEHIND.format("payments", 24, 40)]),
+    ("the record before is the first of its epoch", both(led("in-1", 1, 1, 5), under("payments", "in-1", 5, 1)), [
+        BEHIND.format("payments", 25, 40), OTHER.format("payments", 5, "in-1", 1, 5)]),
+    ("the record before, not the one at the offset", both(led("in-1", 1, 1, 5), under("payments", "in-1", 4, 5)), [
+        BEHIND.format("payments", 24, 40), OTHER.format("payments", 4, "in-1", 5, 1)]),
+    ("the last commit counts", both(under("payments", "in-0", 20, 2), under("payments", "in-0", 20, 3)), []),
+    ("the last commit counts, which is the other one", both(under("payments", "in-0", 20, 3), under("payments", "in-0", 20, 9)), [
+        OTHER.format("payments", 20, "in-0", 9, 3)]),
+    ("the last commit of each partition", both(under("payments", "in-0", 20, 2), under("payments", "in-1", 20, 3)), [
+        OTHER.format("payments", 20, "in-0", 2, 3)]),
+    ("no record before", under("payments", "in-1", 0, 7), [BEHIND.format("payments", 20, 40)]),
+    ("a negative offset", under("payments", "in-1", -5, 7), [BEHIND.format("payments", 20, 40)]),
+    ("a commit past the end, under another", under("payments", "in-1", 25, 9), [
+        PAST.format("payments", 25, "in-1", 20), OTHER.format("payments", 25, "in-1", 9, 3)]),
+    ("a commit of a partition without records", both(empty("in-2"), under("payments", "in-2", 0, 7)), []),
+    ("a commit of a partition that isn't in `ends`", under("payments", "in-2", 5, 7), [UNLISTED.format("in-2", "payments")]),
+    ("a commit of another group", under("payment", "in-0", 20, 2), []),
+    ("a commit of another topic", under("payments", "out-0", 3, 2), []),
+    ("commits of another group, of other letters", both(
+        two_apps(PAYMENTS, ("é", ["in"], ["y"])), empty("y-0"), under("é", "in-1", 20, 1), under("é", "in-0", 20, 2), under("payments", "in-1", 20, 1)), [
+        OTHER.format("payments", 20, "in-1", 1, 3), OTHER.format("%c3%a9", 20, "in-0", 2, 3), OTHER.format("%c3%a9", 20, "in-1", 1, 3)]),
+    ("another leader epoch, and ones that fall", both(led("in-0", 4, 3), led(STATES, 1, 0), under("payments", "in-0", 20, 4)), [
+        FALLS.format(STATES, 1), FALLS.format("in-0", 1), OTHER.format("payments", 20, "in-0", 4, 3)]),
+    ("another leader epoch where a log's end is wrong", both(under("payments", "in-1", 20, 2), end("in-0", 21)), []),
+    ("another leader epoch, without applications", both(under("payments", "in-1", 20, 2), NO_APPS), [NO_APPLICATION]),
     # phase 1
     ("another end than the log's", both(end("in-0", 21), commit("payments", "in-7", 5), commit("payments", "in-1", 21)), []),
     ("another end, and what the manifest shows", both(end("in-0", 21), manifest(group="late", outputs=["out", "x"]), empty("in-3")), [
@@ -166,6 +211,14 @@ CASES = [
         UNLISTED.format("in-9", "payments"), UNLISTED.format("out-9", "b"), PAST.format("payments", 30, "in-1", 20),
         ABSENT.format("no", "b"), ABSENT.format("y", "b"), ABSENT.format("z", "a"), GAP.format("in", 2), NOTHING.format("a"),
         INTERNAL.format("__transaction_state"), BEHIND.format("b", 0, 79), BEHIND.format("a", 0, 40)]),
+]
+
+
+# Folders that stand as files, and their lines, by hand.
+FOLDERS = [
+    ("as-brokers-write/unclean-replaced-input", [OTHER.format("g", 4, "in-0", 2, 9)]),
+    ("as-brokers-write/leader-epoch-falls", [BEHIND.format("g", 4, 5), FALLS.format("in-0", 4), OTHER.format("g", 4, "in-0", 2, 3)]),
+    ("as-brokers-write/healthy", [OTHER.format("g", 4, "in-0", 2, 3)]),
 ]
 
 
@@ -187,20 +240,26 @@ def differences(program, folder, wanted):
             yield f"the program says with --quiet {answers(program, folder, '--quiet')}"
 
 
+def tell(name, program, path, lines):
+    """Whether the folder of this path gets other lines, each difference of which is printed."""
+    wanted = "".join(f"eoscheck: note: {line}\n" for line in lines)
+    found = list(differences(program, path, wanted))
+    for difference in found:
+        print(f"{name}: {difference}, not {wanted!r}")
+    return bool(found)
+
+
 def main():
     program = os.path.abspath(sys.argv[1]) if len(sys.argv) > 1 else None
-    good, failed = Folder(GOOD), 0
+    good = Folder(GOOD)
+    failed = sum(tell(name, program, os.path.join(TOP, "tests", name), lines) for name, lines in FOLDERS)
     with tempfile.TemporaryDirectory() as scratch:
         for place, (name, change, lines) in enumerate(CASES):
             folder, path = good.copy(), os.path.join(scratch, str(place))
             change(folder)
             folder.write(path)
-            wanted = "".join(f"eoscheck: note: {line}\n" for line in lines)
-            found = list(differences(program, path, wanted))
-            failed += bool(found)
-            for difference in found:
-                print(f"{name}: {difference}, not {wanted!r}")
-    print(f"{len(CASES) - failed} passed, {failed} failed")
+            failed += tell(name, program, path, lines)
+    print(f"{len(FOLDERS) + len(CASES) - failed} passed, {failed} failed")
     sys.exit(1 if failed else 0)
 
 

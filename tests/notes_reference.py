@@ -9,6 +9,7 @@ the logs it takes, it shares no code with the program, but the same authors wrot
 import itertools
 import json
 import os
+import struct
 import sys
 
 import reference
@@ -43,14 +44,25 @@ def visible(parts, topics):
 
 
 def commits_of(parts, group, sources):
-    """The commits of a group under its source topics, in the order of the log."""
+    """The commits of a group under its source topics, in the order of the log: of each its partition, offset and leader epoch."""
     for _, _, record in visible(parts, [OFFSETS]):
         try:
             key = offset_key(record.key)
             if key and key[0] == group and key[1] in sources and record.value is not None:
-                yield key[1:], offset_value(record.value)
+                yield key[1:], offset_value(record.value), leader_epoch_of(record.value)
         except Refused:
             continue
+
+
+def leader_epoch_of(value):
+    """The field behind the version and the offset, which values have from version 3 on; -1 stands for none."""
+    version, = struct.unpack_from(">h", value)
+    return struct.unpack_from(">i", value, 10)[0] if version >= 3 else -1
+
+
+def epoch_before(part, offset):
+    """The leader epoch of the batch of the last record below this offset, as a list of one, or an empty one."""
+    return [batch.leader for batch in part.batches if batch.base < offset][-1:]
 
 
 def fall_of(part):
@@ -71,7 +83,7 @@ def notes_of(folder):
     """For each kind of the list its lines."""
     apps, ends = manifest_of(folder)
     _, parts = read_folder(folder)
-    kinds = {n: [] for n in range(9)}
+    kinds = {n: [] for n in range(10)}
     present = {topic for topic, _ in ends}
     used = {topic for _, sources, outputs in apps for topic in sources + outputs}
     if len(apps) == 0:
@@ -91,7 +103,8 @@ def notes_of(folder):
         return kinds
     for group, sources, _ in apps:
         shown, commits = reference.escaped(group), list(commits_of(parts, group, sources))
-        last = dict(commits)
+        last = {place: offset for place, offset, _ in commits}
+        under = {place: epoch for place, _, epoch in commits}
         for place in sorted(set(last) - set(ends)):
             kinds[1].append(f"{named(place)} isn't in ends, but group {shown} committed an offset of it")
         for place in sorted(ends):
@@ -103,6 +116,11 @@ def notes_of(folder):
         below = sum(offset < last.get(place, 0) for place, offset in inputs)
         if below < len(inputs):
             kinds[7].append(f"group {shown} is behind: {below} of {len(inputs)} visible inputs are below its committed offsets")
+        for part in parts:
+            for epoch in epoch_before(part, last.get(part.name, 0)):
+                if under.get(part.name, -1) not in (-1, epoch):
+                    kinds[9].append(f"group {shown} committed offset {last[part.name]} of {named(part.name)} under leader epoch "
+                        f"{under[part.name]}, but the record before it is of epoch {epoch}")
     return kinds
 
 

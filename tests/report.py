@@ -109,6 +109,8 @@ NOTES = {
     "NoInternal": lambda n: f"no partition of {n['topic']} is in ends",
     "Behind": lambda n: f"group {shown(n['group'])} is behind: {n['below']} of {n['inputs']} visible inputs are below its committed offsets",
     "EpochFalls": lambda n: f"the leader epoch falls at {partition(n)}:{n['offset']}",
+    "OtherEpoch": lambda n: f"group {shown(n['group'])} committed offset {n['offset']} of {partition(n)} under leader epoch {n['committed_epoch']}, "
+        f"but the record before it is of epoch {n['record_epoch']}",
 }
 
 

@@ -55,7 +55,7 @@ def group_rows(folder):
         return None
     groups = []
     for group, sources, _ in apps:
-        committed = dict(commits_of(parts, group, sources))
+        committed = {place: offset for place, offset, _ in commits_of(parts, group, sources)}
         rows = []
         for part in (part for part in parts if part.name[0] in sources):
             offset = committed.get(part.name, 0)

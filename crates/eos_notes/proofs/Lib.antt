@@ -7,6 +7,8 @@ pub mod PartTables
 pub mod FirstNamed
 pub mod Whole
 pub mod EpochFalls
+pub mod CommittedEpochs
+pub mod BeforeOffset
 pub mod SegmentWalks
 pub mod SegmentsPassed
 pub mod PartitionRows

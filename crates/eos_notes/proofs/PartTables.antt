@@ -25,7 +25,7 @@ use Rattle.eos_notes.proofs.PushedMore.{pushed_more}
 
 -- ---- the table
 
-offset_at : (committed : PartitionName → ℤ) (ps : List PartLog) (os : List ℤ) (i : ℕ) (x : PartLog) (d : ℤ) → i < length ps → x ≡ get_or ps i x → os ≡ map committed (map part_name ps)
+pub offset_at : (committed : PartitionName → ℤ) (ps : List PartLog) (os : List ℤ) (i : ℕ) (x : PartLog) (d : ℤ) → i < length ps → x ≡ get_or ps i x → os ≡ map committed (map part_name ps)
     → get_or os i d ≡ committed (part_name x)
 offset_at committed ps os i x d lt is are =
     let len : i < length (map part_name ps) = rw (length-map ps part_name) lt in

@@ -1,18 +1,13 @@
 -- The notes by an evidence's manifest and logs are the evidence's.
-use Rattle.std.proofs.Common.{◌≡◌, ℕ, Bool, true, false, List, [], ◌∷◌, ◌++◌, map, Option, is_some, refl, ap, ◌∙◌}
-use Rattle.eos_base.specs.declared.partition_name.PartitionName.{PartitionName}
-use Rattle.eos_evidence.specs.declared.partition.Partition.{Partition}
+use Rattle.std.proofs.Common.{ℕ, Bool, true, false, List, Option, is_some}
 use Rattle.eos_evidence.specs.Evidence.{EvidenceParts}
-use Rattle.eos_fold.specs.Parts.{PartLog, part_name}
+use Rattle.eos_fold.specs.Parts.{PartLog}
 use Rattle.eos_lineage.specs.EvidenceLogs.{AreLogsOf}
-use Rattle.eos_lineage.proofs.LogsInOrder.{name_is}
 use Rattle.eos_kept.specs.Parts.{HaveEpochs}
 use Rattle.eos_kept.specs.Faults.{AreFaultsIn, first_of}
 use Rattle.eos_touch.specs.declared.fault.PartitionFault.{PartitionFault}
 use Rattle.eos_notes.specs.declared.note.Note.{Note}
 use Rattle.eos_reading.specs.declared.epoch.EpochEntry.{EpochEntry}
-use Rattle.eos_notes.specs.CommitNotes.{end_name}
-use Rattle.eos_notes.specs.ReplicaNotes.{falls}
 use Rattle.eos_notes.specs.Notes.{AreNotesBy, AreNotes, AreAllNotesBy, AreAllNotes}
 use Rattle.eos_notes.specs.Lines.{IsNotesTextBy, IsNotesText, IsAllNotesTextBy, IsAllNotesText}
 use Rattle.eos_notes.proofs.FirstNamed.{first_named}
@@ -28,19 +23,9 @@ text_is e ls fs false text of named by = (by.0, notes_are e ls fs by.0 of named 
 
 -- ---- with those of replicas
 
-pub names_are : (ps : List Partition) (ls : List PartLog) → AreLogsOf ps ls → map part_name ls ≡ map (λ p. end_name p.end) ps
-names_are [] [] of = refl
-names_are [] (l ∷ ls) of = absurd of
-names_are (p ∷ ps) [] of = absurd of
-names_are (p ∷ ps) (l ∷ ls) of =
-    let one = name_is p l of.0 in
-    let others = names_are ps ls of.1 in
-    λ i. one i ∷ others i
-
 pub all_are : (e : EvidenceParts) (ls : List PartLog) (fs : List (Option PartitionFault)) (epochs : List (List EpochEntry)) (notes : List Note) → AreLogsOf e.partitions ls → AreFaultsIn e.partitions fs → HaveEpochs e.partitions epochs
     → AreAllNotesBy e.spec ls epochs (is_some (first_of fs)) notes → AreAllNotes e notes
-all_are e ls fs epochs notes of named have by =
-    (by.0, notes_are e ls fs by.0 of named by.1, epochs, have, by.2 ∙ ap (λ (names : List PartitionName). by.0 ++ falls names epochs) (names_are e.partitions ls of))
+all_are e ls fs epochs notes of named have by = (ls, of, first_of fs, first_named e.partitions ls of fs named, epochs, have, by)
 
 pub all_text_is : (e : EvidenceParts) (ls : List PartLog) (fs : List (Option PartitionFault)) (epochs : List (List EpochEntry)) (quiet : Bool) (text : List ℕ) → AreLogsOf e.partitions ls → AreFaultsIn e.partitions fs
     → HaveEpochs e.partitions epochs → IsAllNotesTextBy e.spec ls epochs (is_some (first_of fs)) quiet text → IsAllNotesText e quiet text

@@ -1,6 +1,7 @@
 pub mod ManifestNotes
 pub mod CommitNotes
 pub mod ReplicaNotes
+pub mod ReplacedNotes
 pub mod Notes
 pub mod Texts
 pub mod Lines

@@ -11,8 +11,9 @@ use Rattle.eos_reading.specs.declared.epoch.EpochEntry.{EpochEntry}
 use Rattle.eos_kept.specs.Parts.{HaveEpochs}
 use Rattle.eos_notes.specs.declared.note.Note.{Note}
 use Rattle.eos_notes.specs.ManifestNotes.{no_application, absent_topics, gaps, absent_internals}
-use Rattle.eos_notes.specs.CommitNotes.{end_name, AreUnlistedNotes, past_ends, nothing_committed, behind}
+use Rattle.eos_notes.specs.CommitNotes.{AreUnlistedNotes, past_ends, nothing_committed, behind}
 use Rattle.eos_notes.specs.ReplicaNotes.{falls}
+use Rattle.eos_notes.specs.ReplacedNotes.{others_unless}
 
 -- what the manifest alone shows
 abbrev pub of_manifest : SpecFields → List Note
@@ -36,9 +37,13 @@ AreNotes e notes =
 
 -- ---- with those of replicas, by the entries at which the leader epochs of the partitions change
 
+abbrev pub of_replicas : SpecFields → List PartLog → List (List EpochEntry) → Bool → List Note
+of_replicas spec logs epochs faulty = falls (map part_name logs) epochs ++ others_unless faulty logs epochs spec.apps
+
 abbrev pub AreAllNotesBy : SpecFields → List PartLog → List (List EpochEntry) → Bool → List Note → Type 0
-AreAllNotesBy spec logs epochs faulty notes = (first : List Note) × AreNotesBy spec logs faulty first × (notes ≡ first ++ falls (map part_name logs) epochs)
+AreAllNotesBy spec logs epochs faulty notes = (first : List Note) × AreNotesBy spec logs faulty first × (notes ≡ first ++ of_replicas spec logs epochs faulty)
 
 abbrev pub AreAllNotes : EvidenceParts → List Note → Type 0
 AreAllNotes e notes =
-    (first : List Note) × AreNotes e first × (epochs : List (List EpochEntry)) × HaveEpochs e.partitions epochs × (notes ≡ first ++ falls (map (λ p. end_name p.end) e.partitions) epochs)
+    (logs : List PartLog) × AreLogsOf e.partitions logs × (fault : Option PartitionFault) × IsFirstFault logs fault × (epochs : List (List EpochEntry)) × HaveEpochs e.partitions epochs
+    × AreAllNotesBy e.spec logs epochs (is_some fault) notes

@@ -23,8 +23,14 @@ abbrev pub fall_note : PartitionName → Option ℕ → List Note
 fall_note name None = []
 fall_note name (Some offset) = EpochFalls name offset ∷ []
 
+abbrev pub fall_at : PartitionName → List EpochEntry → List Note
+fall_at name entries = fall_note name (falls_at None entries)
+
 -- of partitions of these names with these entries, one after the other
+abbrev pub by_entries : (PartitionName → List EpochEntry → List Note) → List PartitionName → List (List EpochEntry) → List Note
+by_entries note [] entries = []
+by_entries note (n ∷ ns) [] = []
+by_entries note (n ∷ ns) (es ∷ ess) = note n es ++ by_entries note ns ess
+
 abbrev pub falls : List PartitionName → List (List EpochEntry) → List Note
-falls [] entries = []
-falls (n ∷ ns) [] = []
-falls (n ∷ ns) (es ∷ ess) = fall_note n (falls_at None es) ++ falls ns ess
+falls names entries = by_entries fall_at names entries

@@ -4,7 +4,7 @@ use Rattle.std.specs.Fmt.{decimal, signed_decimal}
 use Rattle.eos_text.specs.Escaping.{escaped}
 use Rattle.eos_notes.specs.ManifestNotes.{internal_name}
 use Rattle.eos_notes.specs.declared.note.Note.{Note}
-use Rattle.eos_notes.specs.declared.note.Note.TheVariants.{NoApplication, Unlisted, PastEnd, NoPartition, Gap, NothingCommitted, NoInternal, Behind, EpochFalls}
+use Rattle.eos_notes.specs.declared.note.Note.TheVariants.{NoApplication, Unlisted, PastEnd, NoPartition, Gap, NothingCommitted, NoInternal, Behind, EpochFalls, OtherEpoch}
 
 unfoldable pub note_text : Note → List ℕ
 note_text NoApplication = codes "no application is named: outputs and committed offsets aren't judged"
@@ -19,6 +19,10 @@ note_text (NoInternal topic) = (codes "no partition of " ++ internal_name topic)
 note_text (Behind group below inputs) =
     (codes "group " ++ escaped group) ++ ((codes " is behind: " ++ decimal below) ++ ((codes " of " ++ decimal inputs) ++ codes " visible inputs are below its committed offsets"))
 note_text (EpochFalls p offset) = (codes "the leader epoch falls at " ++ escaped p.topic) ++ ((codes "-" ++ signed_decimal p.partition) ++ (codes ":" ++ decimal offset))
+note_text (OtherEpoch o) =
+    (codes "group " ++ escaped o.group) ++ ((codes " committed offset " ++ signed_decimal o.offset)
+    ++ ((codes " of " ++ escaped o.partition.topic) ++ ((codes "-" ++ signed_decimal o.partition.partition)
+    ++ ((codes " under leader epoch " ++ signed_decimal o.named) ++ (codes ", but the record before it is of epoch " ++ signed_decimal o.found)))))
 
 -- the line on standard error
 unfoldable pub note_line : Note → List ℕ

@@ -3,3 +3,4 @@ pub mod Counted
 pub mod Unlisted
 pub mod TalliesCounted
 pub mod Walks
+pub mod Replaced

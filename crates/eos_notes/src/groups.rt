@@ -24,7 +24,7 @@ pub(crate) struct Count {
 }
 
 /// The offset that is committed for the part at this place.
-fn offset_at(offsets: &[i64], i: usize) -> i64
+pub(crate) fn offset_at(offsets: &[i64], i: usize) -> i64
     ensures { result ≡ get_or offsets.now i (pos 0) }
 {
     if i < offsets.len() { offsets[i] } else { 0 }
@@ -140,7 +140,8 @@ fn sum(a: u64, b: u64) -> Result<u64, AllocError>
     a.checked_add(b).ok_or(AllocError)
 }
 
-fn is_below(offset: u64, committed: i64) -> bool
+/// Whether the record at this offset is below the committed one.
+pub(crate) fn is_below(offset: u64, committed: i64) -> bool
     ensures { result ≡ int_lt (pos offset) committed }
 {
     committed > 0 && offset < committed as u64

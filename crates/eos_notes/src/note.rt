@@ -52,6 +52,21 @@ pub enum Note {
         partition: PartitionName,
         offset: u64,
     },
+    /// The last commit of the group for the partition names another leader epoch than that of the record before its offset.
+    OtherEpoch(OtherRecord),
+}
+
+/// A committed offset of a partition, and the leader epochs of the record that the group had read before it and of the one that
+/// stands there.
+#[derive(Debug, Drop)]
+pub struct OtherRecord {
+    pub group: GroupId,
+    pub offset: i64,
+    pub partition: PartitionName,
+    /// The leader epoch that the commit names.
+    pub named: i64,
+    /// The leader epoch of the record that stands there.
+    pub found: i32,
 }
 
 /// A topic in which Kafka keeps its own records.

@@ -1,14 +1,16 @@
-//! The notes of partitions whose segments are of two replicas, and all notes with these.
+//! The notes of partitions whose segments are of two replicas, and all notes with those of replicas.
 
 ghost use Rattle.std.specs.Prelude.{◌≡◌, ◌++◌, None, is_some, map, IfOk, OnOk};
 ghost use Rattle.eos_commits.specs.Faults.{AreInOrder};
 ghost use Rattle.eos_fold.specs.Parts.{part_name};
 ghost use Rattle.eos_notes.specs.Notes.{AreAllNotesBy};
+ghost use Rattle.eos_notes.specs.ReplacedNotes.{others_unless};
 ghost use Rattle.eos_notes.specs.ReplicaNotes.{is_fall, falls_at, fall_note, falls};
 ghost use Rattle.eos_kept.specs.Faults.{first_of};
 
 use crate::evidence_notes::notes;
 use crate::note::Note;
+use crate::replaced::push_others;
 use eos_base::{Listed, PartitionName};
 use eos_evidence::Spec;
 use eos_kept::{Logs, Part};
@@ -74,8 +76,27 @@ fn push_falls(
     Ok(())
 }
 
-/// The notes of an evidence as `notes` gives them, and behind them where the leader epochs of its partitions fall, by the entries at
-/// which they change: of each partition the first such offset, also where a log has a fault.
+/// Puts the notes of commits under another leader epoch at the end, unless a log has a fault.
+fn push_others_unless(
+    alloc: Global,
+    all: &mut Vec<Note>,
+    spec: &Spec,
+    logs: &Logs,
+    epochs: &[Listed<EpochEntry>],
+) -> Result<(), AllocError>
+    ensures { AreInOrder logs.now.parts.items
+        → OnOk result (all.new.items ≡ all.old.items ++ others_unless (is_some (first_of logs.now.faults.items)) logs.now.parts.items epochs.now spec.now.apps) }
+{
+    if logs.first_fault().is_some() {
+        return Ok(());
+    }
+    let apps = spec.apps().as_slice();
+    push_others(alloc, all, apps, logs.parts.as_slice(), epochs)
+}
+
+/// The notes of an evidence as `notes` gives them, and behind them two kinds of replicas, by the entries at which the leader epochs of
+/// its partitions change: where these fall, of each partition the first such offset, also where a log has a fault; and where a group's
+/// last commit of a partition names another leader epoch than that of the record before its offset.
 ///
 /// # Errors
 /// Only want of memory.
@@ -90,5 +111,6 @@ pub fn all_notes(
 {
     let mut all = notes(alloc, spec, logs)?;
     push_falls(&mut all, logs.parts.as_slice(), epochs)?;
+    push_others_unless(alloc, &mut all, spec, logs, epochs)?;
     Ok(all)
 }

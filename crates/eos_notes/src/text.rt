@@ -4,7 +4,7 @@ ghost use Rattle.std.specs.Prelude.{◌≡◌, OnOk, IfOk, string_bytes};
 ghost use Rattle.eos_text.specs.Adding.{Adds};
 ghost use Rattle.eos_notes.specs.Texts.{note_text, note_line, note_lines as lines_of};
 
-use crate::note::{InternalTopic, Note};
+use crate::note::{InternalTopic, Note, OtherRecord};
 use bytes::Bytes;
 use eos_base::PartitionName;
 use eos_evidence::GroupId;
@@ -64,6 +64,7 @@ fn push_note(alloc: Global, out: &mut String, note: &Note) -> Result<(), AllocEr
             inputs,
         } => push_behind(alloc, out, group, below, inputs),
         Note::EpochFalls { partition, offset } => push_fall(alloc, out, partition, offset),
+        Note::OtherEpoch(other) => push_other_epoch(alloc, out, other),
     }
 }
 
@@ -189,5 +190,17 @@ fn push_fall(
     )?;
     push_value(out, "-", &partition.partition)?;
     push_value(out, ":", offset)?;
+    Ok(())
+}
+
+fn push_other_epoch(alloc: Global, out: &mut String, other: &OtherRecord) -> Result<(), AllocError>
+    ensures { OnOk result (Adds (string_bytes out.old) (string_bytes out.new) (note_text (Note.OtherEpoch other.now))) }
+{
+    push_escaped(alloc, out, "group ", other.group.as_bytes())?;
+    push_value(out, " committed offset ", &other.offset)?;
+    push_escaped(alloc, out, " of ", other.partition.topic.as_slice())?;
+    push_value(out, "-", &other.partition.partition)?;
+    push_value(out, " under leader epoch ", &other.named)?;
+    push_value(out, ", but the record before it is of epoch ", &other.found)?;
     Ok(())
 }

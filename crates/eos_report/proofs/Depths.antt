@@ -165,6 +165,8 @@ with_note_depth (notes.Gap topic n) ms q = flat _ _ _ (omega arith) (texts _ top
 with_note_depth (notes.NothingCommitted group) ms q = texts _ group _ (flat _ _ ms (omega arith) q)
 with_note_depth (notes.NoInternal topic) ms q = flat _ _ _ (omega arith) (flat _ _ ms (omega arith) q)
 with_note_depth (notes.Behind group below inputs) ms q = flat _ _ _ (omega arith) (flat _ _ _ (omega arith) (texts _ group _ (flat _ _ ms (omega arith) q)))
+with_note_depth (notes.OtherEpoch o) ms q =
+    flat _ _ _ (omega arith) (flat _ _ _ (omega arith) (flat _ _ _ (omega arith) (partition_depth 2 o.partition.topic o.partition.partition _ (omega arith) (texts _ o.group _ (flat _ _ ms (omega arith) q)))))
 with_note_depth (notes.EpochFalls p offset) ms q = flat _ _ _ (omega arith) (partition_depth 2 p.topic p.partition _ (omega arith) (flat _ _ ms (omega arith) q))
 
 note_depth : (n : Note) → depth (note_value n) ≤ 3

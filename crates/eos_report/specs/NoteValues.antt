@@ -3,7 +3,7 @@ use Rattle.std.specs.Prelude.{codes}
 use Rattle.serde_json.specs.Data.{Data, Members, no_members, object, string, put}
 use Rattle.eos_notes.specs.ManifestNotes.{internal_name}
 use Rattle.eos_notes.specs.declared.note.Note.{Note}
-use Rattle.eos_notes.specs.declared.note.Note.TheVariants.{NoApplication, Unlisted, PastEnd, NoPartition, Gap, NothingCommitted, NoInternal, Behind, EpochFalls}
+use Rattle.eos_notes.specs.declared.note.Note.TheVariants.{NoApplication, Unlisted, PastEnd, NoPartition, Gap, NothingCommitted, NoInternal, Behind, EpochFalls, OtherEpoch}
 use Rattle.eos_report.specs.Values.{text_value, count, integer, with_partition}
 
 unfoldable pub with_note : Note → Members → Members
@@ -19,6 +19,9 @@ with_note (NoInternal topic) ms = put (codes "topic") (string (internal_name top
 with_note (Behind group below inputs) ms =
     put (codes "inputs") (count inputs) (put (codes "below") (count below) (put (codes "group") (text_value group) (put (codes "kind") (string (codes "Behind")) ms)))
 with_note (EpochFalls p offset) ms = put (codes "offset") (count offset) (with_partition p.topic p.partition (put (codes "kind") (string (codes "EpochFalls")) ms))
+with_note (OtherEpoch o) ms =
+    put (codes "record_epoch") (integer o.found) (put (codes "committed_epoch") (integer o.named) (put (codes "offset") (integer o.offset)
+    (with_partition o.partition.topic o.partition.partition (put (codes "group") (text_value o.group) (put (codes "kind") (string (codes "OtherEpoch")) ms)))))
 
 unfoldable pub note_value : Note → Data
 note_value note = object (with_note note no_members)

@@ -11,7 +11,7 @@ ghost use Rattle.eos_report.specs.Reports.{note_items};
 use crate::object::Object;
 use eos_base::PartitionName;
 use eos_evidence::GroupId;
-use eos_notes::Note;
+use eos_notes::{Note, OtherRecord};
 use serde_json::Value;
 use std::alloc::{AllocError, Global};
 
@@ -76,6 +76,7 @@ fn put_note(out: &mut Object, note: &Note) -> Result<(), AllocError>
             out.put_count("inputs", *inputs)
         }
         Note::EpochFalls { partition, offset } => put_fall(out, partition, *offset),
+        Note::OtherEpoch(other) => put_other(out, other),
     }
 }
 
@@ -85,6 +86,17 @@ fn put_fall(out: &mut Object, partition: &PartitionName, offset: u64) -> Result<
     out.put_str("kind", "EpochFalls")?;
     out.put_partition(partition.topic.as_slice(), partition.partition)?;
     out.put_count("offset", offset)
+}
+
+#[tactic(auto, unfolding(crate::specs::NoteValues::with_note))]
+fn put_other(out: &mut Object, other: &OtherRecord) -> Result<(), AllocError>
+    ensures { OnOk result (held out.new ≡ with_note (Note.OtherEpoch other.now) (held out.old)) }
+{
+    let partition = &other.partition;
+    put_of_partition(out, "OtherEpoch", &other.group, partition)?;
+    out.put_integer("offset", other.offset)?;
+    out.put_integer("committed_epoch", other.named)?;
+    out.put_integer("record_epoch", i64::from(other.found))
 }
 
 fn put_of_partition(

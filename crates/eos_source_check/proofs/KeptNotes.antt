@@ -15,8 +15,9 @@ use Rattle.eos_lineage.proofs.LogsInOrder.{in_order}
 use Rattle.eos_notes.specs.declared.note.Note.{Note}
 use Rattle.eos_notes.specs.CommitNotes.{AreUnlisted, AreUnlistedNotes, past_end_at, past_end_of, past_ends_in, past_ends, nothing_by, nothing_in, nothing_committed, behind_of, behind_in, behind}
 use Rattle.eos_notes.specs.ManifestNotes.{no_application, absent_topics, gaps, absent_internals}
-use Rattle.eos_notes.specs.ReplicaNotes.{falls}
-use Rattle.eos_notes.specs.Notes.{of_all, AreNotesBy, AreNotes, AreAllNotesBy, AreAllNotes}
+use Rattle.eos_notes.specs.ReplicaNotes.{falls, by_entries}
+use Rattle.eos_notes.specs.ReplacedNotes.{Committed, committed_epoch, other_at, others_in, others, others_unless}
+use Rattle.eos_notes.specs.Notes.{of_all, of_replicas, AreNotesBy, AreNotes, AreAllNotesBy, AreAllNotes}
 use Rattle.eos_notes.specs.Lines.{IsNotesTextBy, IsNotesText, IsAllNotesTextBy, IsAllNotesText}
 use Rattle.eos_notes.proofs.Whole.{notes_are, all_are}
 use Rattle.eos_kept.specs.Parts.{HaveEpochs}
@@ -28,6 +29,7 @@ use Rattle.eos_check.proofs.SeenSame.{flat_seen}
 use Rattle.eos_check.proofs.KeptLineage.{application_kept}
 use Rattle.eos_check.proofs.KeptOrder.{all_kept}
 use Rattle.eos_source_check.proofs.Among.{flat_same}
+use Rattle.eos_check.proofs.KeptEpochs.{epochs_kept}
 
 -- ---- of an application
 
@@ -87,11 +89,28 @@ names_kept : (apps : List App) (ps : List PartLog) → map part_name (wanted_log
 names_kept apps [] = refl
 names_kept apps (p ∷ ps) = ap (λ (ns : List PartitionName). part_name p ∷ ns) (names_kept apps ps)
 
+replaced_kept : (apps : List App) (ps : List PartLog) (epochs : List (List EpochEntry)) (app : App) → Has apps app → others_in (wanted_logs apps ps) epochs app ≡ others_in ps epochs app
+replaced_kept apps ps epochs app has =
+    let names = names_kept apps ps in
+    let commits = commits_kept apps ps app has in
+    let led = epochs_kept apps app.group app.sources ps in
+    λ i. by_entries (other_at app.group (λ name. (committed_offset (commits i) name, committed_epoch (led i) name))) (names i) epochs
+
+all_replaced : (spec : SpecFields) (ps : List PartLog) (epochs : List (List EpochEntry)) (faulty : Bool) → others_unless faulty (wanted_logs spec.apps ps) epochs spec.apps ≡ others_unless faulty ps epochs spec.apps
+all_replaced spec ps epochs true = refl
+all_replaced spec ps epochs false = flat_same (others_in (wanted_logs spec.apps ps) epochs) (others_in ps epochs) spec.apps (replaced_kept spec.apps ps epochs)
+
+replicas_kept : (spec : SpecFields) (ps : List PartLog) (epochs : List (List EpochEntry)) (faulty : Bool) → of_replicas spec (wanted_logs spec.apps ps) epochs faulty ≡ of_replicas spec ps epochs faulty
+replicas_kept spec ps epochs faulty =
+    let names = names_kept spec.apps ps in
+    let replaced = all_replaced spec ps epochs faulty in
+    λ i. falls (names i) epochs ++ replaced i
+
 pub whole_all : (e : EvidenceParts) (ls : List PartLog) (fs : List (Option PartitionFault)) (epochs : List (List EpochEntry)) (notes : List Note) → AreLogsOf e.partitions ls → AreFaultsIn e.partitions fs → HaveEpochs e.partitions epochs
     → AreAllNotesBy e.spec (wanted_logs e.spec.apps ls) epochs (is_some (first_of fs)) notes → AreAllNotes e notes
 whole_all e ls fs epochs notes of named have by =
     all_are e ls fs epochs notes of named have
-    (by.0, notes_kept e.spec ls (is_some (first_of fs)) by.0 by.1, by.2 ∙ ap (λ (names : List PartitionName). by.0 ++ falls names epochs) (names_kept e.spec.apps ls))
+    (by.0, notes_kept e.spec ls (is_some (first_of fs)) by.0 by.1, by.2 ∙ ap (λ (more : List Note). by.0 ++ more) (replicas_kept e.spec ls epochs (is_some (first_of fs))))
 
 pub whole_all_text : (e : EvidenceParts) (ls : List PartLog) (fs : List (Option PartitionFault)) (epochs : List (List EpochEntry)) (quiet : Bool) (text : List ℕ) → AreLogsOf e.partitions ls → AreFaultsIn e.partitions fs
     → HaveEpochs e.partitions epochs → IsAllNotesTextBy e.spec (wanted_logs e.spec.apps ls) epochs (is_some (first_of fs)) quiet text → IsAllNotesText e quiet text

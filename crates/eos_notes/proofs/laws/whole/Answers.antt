@@ -1,4 +1,5 @@
 use Rattle.eos_lineage.proofs.LogsInOrder.{in_order}
+use Rattle.eos_notes.proofs.BeforeOffset.{before_is}
 use Rattle.eos_notes.proofs.Whole.{notes_are, text_is, all_are, all_text_is}
 use Rattle.eos_notes.proofs.laws.whole.Goals as goal
 
@@ -16,3 +17,6 @@ returns-clause-all c = all_are
 
 pub returns-clause-all_text : goal.returns-clause-all_text
 returns-clause-all_text c = all_text_is
+
+pub returns-clause-before : goal.returns-clause-before
+returns-clause-before c = before_is

@@ -1,0 +1,7 @@
+use Rattle.std.proofs.Common.{◌≡◌, ◌++◌, take, flat_map}
+use Rattle.eos_commits.specs.Faults.{AreInOrder}
+use Rattle.eos_notes.specs.ReplacedNotes.{others_in}
+use Rattle.eos_notes.proofs.replaced.push_others.Given as goal
+
+abbrev pub invariant-loop-app : goal.invariant-loop-app
+invariant-loop-app l = AreInOrder l.parts → l.all.items ≡ l.fn.all.items ++ flat_map (others_in l.parts l.epochs) (take l.app-index l.apps)
