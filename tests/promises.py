@@ -18,6 +18,8 @@ from shape import COMMENTS, TESTS, TEXTS, crates, read
 PAGE = "docs/YES.md"
 README = "README.md"
 ACTS = "crates/eoscheck/src/acts.rt"
+# `check` stands apart, with what a page tells of its faults.
+TELLINGS = "crates/eoscheck/src/tellings.rt"
 # What the words of a command are carried out by.
 CARRIED_OUT = {
     "check": "check_words",
@@ -176,10 +178,10 @@ def main():
             wrong.append(why)
 
     by = program.reached(start)
-    acts, reached = read(ACTS), {}
+    acts, reached = read(ACTS) + read(TELLINGS), {}
     for command, name in CARRIED_OUT.items():
         entry = next((it for it in by if it.name == name and not it.owner), None)
-        expect(re.search(rf"=> {name}\(", acts) and entry, f"{command}: {ACTS} doesn't hand it to {name}")
+        expect(re.search(rf"(?:=>|match) {name}\(", acts) and entry, f"{command}: {ACTS} doesn't hand it to {name}")
         reached[command] = program.reached(entry) if entry else {}
     numbers = set()
     for number, *_, names, file, commands in promised(read(PAGE)):

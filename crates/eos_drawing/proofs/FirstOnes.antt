@@ -1,6 +1,7 @@
 -- The pictures that are drawn of what was judged are those of the first faults of each evidence of which it was judged.
-use Rattle.std.proofs.Common.{◌≡◌, ◌≤◌, ◌<◌, ◌+◌, ◌-◌, ℕ, zero, suc, false, List, [], ◌∷◌, ◌++◌, Option, None, Some, String, Global, cases_lt, length, map, take, slice_get, inl, inr, refl, sym, ap, ◌∙◌, subst, arith, string_bytes}
+use Rattle.std.proofs.Common.{◌≡◌, ◌≤◌, ◌<◌, ◌+◌, ◌-◌, ℕ, zero, suc, false, List, [], ◌∷◌, ◌++◌, Option, None, Some, String, Global, length, map, take, slice_get, inl, inr, refl, sym, ap, ◌∙◌, subst, arith, string_bytes}
 use Rattle.std.specs.Prelude.{◌⊎◌}
+use Rattle.std.proofs.lemmas.Bool.{cases_lt}
 use Rattle.std.proofs.lemmas.List.{map-append, length-take}
 use Rattle.eos_check.specs.declared.verdict.Counts.{Counts}
 use Rattle.eos_check.specs.declared.verdict.Fault.{Fault}
@@ -65,7 +66,7 @@ pictures_from known partitions e judged all i (f ∷ fs) (t ∷ ts) j its at by 
           (λ k g is. let next : i + suc k ≡ suc i + k = omega arith in subst (λ (n : ℕ). slice_get all n ≡ Some g) next (at (suc k) g is)) by.1,
     )
 
-in_front : (n : ℕ) (all : List Fault) (k : ℕ) (f : Fault) → slice_get (take n all) k ≡ Some f → slice_get all (0 + k) ≡ Some f
+in_front : (n : ℕ) (all : List Fault) (k : ℕ) (f : Fault) → slice_get (take n all) k ≡ Some f → slice_get all k ≡ Some f
 in_front zero all k f is = absurd cc
 in_front (suc n) [] k f is = absurd cc
 in_front (suc n) (g ∷ gs) zero f is = is
@@ -96,7 +97,7 @@ of_list known shape judged most all ts later list by = record {
   are = λ e spec j there.
       let its = list_of known shape e judged all list spec j there in
       record {
-        each = pictures_from known shape.partitions e judged all 0 (take most all) ts j its (in_front most all) by;
+        each = pictures_from known shape.partitions e judged all 0 (take most all) ts j its (λ k f is. let here : k ≡ 0 + k = omega arith in subst (λ (n : ℕ). slice_get all n ≡ Some f) here (in_front most all k f is)) by;
         many = so_many e all most (length ts) its (as_many known shape.partitions judged (take most all) ts by);
       };
 }

@@ -65,7 +65,11 @@ fn texts_around<S: Source>(
 {
     let mut texts = Vec::new(alloc);
     for fault in faults {
-        let text = text_around(alloc, pieces, judged, &Verdict::No(fault))?;
+        let again = Pieces {
+            source: pieces.source,
+            shape: pieces.shape,
+        };
+        let text = text_around(alloc, again, judged, &Verdict::No(fault))?;
         texts.push(text)?;
     }
     Ok(texts)

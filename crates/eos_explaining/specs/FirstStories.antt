@@ -1,5 +1,5 @@
 -- The stories of the first faults of an evidence, in the order of the list of all.
-use Rattle.std.specs.Prelude.{⊤, ⊥, ℕ, List, [], ◌∷◌, take}
+use Rattle.std.specs.Prelude.{⊤, ℕ, List, [], ◌∷◌, take}
 use Rattle.eos_check.specs.declared.verdict.Verdict.{Verdict}
 use Rattle.eos_evidence.specs.Evidence.{EvidenceParts}
 use Rattle.eos_fold.specs.Parts.{PartLog}

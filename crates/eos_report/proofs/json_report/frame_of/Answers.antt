@@ -10,9 +10,9 @@ returns c =
       seconds = view c.in_ok-seconds.seconds;
       are = c.in_ok-seconds.ensures;
       is = subst (λ d. IsTextOf d text) c.in_ok-value.ensures
-      (record {
-        printed = c.in_ok-text.ensures.compact;
-        order = c.in_ok-text.ensures.order;
-        reads = c.in_ok-text.ensures.reads_back;
-      });
+          (record {
+            printed = c.in_ok-text.ensures.compact;
+            order = c.in_ok-text.ensures.order;
+            reads = c.in_ok-text.ensures.reads_back;
+          });
     }
