@@ -12,10 +12,10 @@ ghost use Rattle.eos_picture.specs.steps.Kept.{Keeps};
 use crate::ends::{End, count_ends, has_data, has_no_end};
 use crate::mark::{Mark, Sign};
 use crate::marks::{Scene, is_missed, push_mark};
-use crate::transactions::is_of_transaction_log;
 use eos_batch::Kind;
 use eos_fold::Close;
 use eos_kept::Part;
+use eos_table::is_of_transaction_log;
 use std::alloc::AllocError;
 
 /// The Prepare record of the transaction at this place, if it is in the partition.

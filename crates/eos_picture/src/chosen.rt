@@ -9,10 +9,10 @@ ghost use Rattle.eos_picture.specs.steps.Standing.{IsNearYet, AreNoNearer};
 
 use crate::mark::{Column, Decided};
 use crate::order::{order_of, position_of, stand_of};
-use crate::transactions::is_of_transaction_log;
 use crate::window::is_named;
 use eos_base::PartitionName;
 use eos_kept::Part;
+use eos_table::is_of_transaction_log;
 use std::alloc::{AllocError, Global};
 
 /// What is wanted beside the transaction in the middle.

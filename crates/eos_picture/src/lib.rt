@@ -7,7 +7,6 @@
 
 mod acts;
 mod chosen;
-mod content;
 mod ends;
 pub mod laws;
 mod mark;

@@ -9,9 +9,9 @@ ghost use Rattle.eos_picture.specs.steps.Standing.{by_writer};
 
 use crate::ends::is_writer;
 use crate::mark::Column;
-use crate::transactions::is_of_transaction_log;
 use eos_base::in_order;
 use eos_kept::{ItemRef, Part};
+use eos_table::is_of_transaction_log;
 use std::alloc::{AllocError, Global};
 use std::collections::BTreeMap;
 

@@ -13,11 +13,11 @@ use crate::mark::{Mark, Row, Sign};
 use crate::marks::{Scene, push_mark, push_spots};
 use crate::passes::{commit_of, is_of_offsets_log};
 use crate::spots::name_of;
-use crate::transactions::is_of_transaction_log;
 use crate::window::column_of;
 use bytes::Bytes;
 use eos_base::PartitionName;
 use eos_kept::{ItemRef, Part};
+use eos_table::is_of_transaction_log;
 use std::alloc::{AllocError, Global};
 
 // ---- the signs

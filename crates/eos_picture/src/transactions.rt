@@ -1,41 +1,23 @@
 //! The transactions: those that the transaction log decided, in its order, and those that it didn't.
 
-ghost use Rattle.std.specs.Prelude.{◌≡◌, ◌++◌, map, Ok, Some, IfOk, OnOk, IsSorted};
+ghost use Rattle.std.specs.Prelude.{◌≡◌, ◌++◌, map, IfOk, OnOk, IsSorted};
 ghost use Rattle.std.specs.List.{flat_map};
-ghost use Rattle.std.specs.Option.{option_copied, option_map};
-ghost use Rattle.eos_table.specs.TransactionLog.{is_transaction_part, transaction_parts, kind_of_status};
+ghost use Rattle.std.specs.Option.{option_copied};
+ghost use Rattle.eos_table.specs.TransactionLog.{content_of, next_state, state_of, step_at, steps_of, all_steps, transaction_parts};
+ghost use Rattle.eos_table.specs.declared.content.Content.TheVariants.{Of};
 ghost use Rattle.eos_table.specs.steps.Keys.{pair_cmp};
-ghost use Rattle.eos_table.specs.steps.LogCandidates.{state_of};
-ghost use Rattle.eos_table.specs.steps.Gathered.{said, step_at, steps_of, all_steps, next_state};
 ghost use Rattle.eos_picture.specs.Transactions.{column_between, column_at, undecided_column, AreColumns};
 
-use crate::content::read_content;
 use crate::mark::{Column, Decided};
 use bytes::Bytes;
 use eos_base::{holds, in_order};
-use eos_batch::Kind;
 use eos_kept::{ItemRef, Part};
-use eos_txnlog::{Status, TxnValue, is_skipped};
+use eos_table::{
+    Content, LastValues, is_of_transaction_log, kind_of_status, last_value, read_content,
+};
+use eos_txnlog::{TxnValue, is_skipped};
 use std::alloc::{AllocError, Global};
 use std::collections::BTreeMap;
-
-/// The value of the last unskipped record of each transactional id of a partition; none is a tombstone.
-type LastValues = BTreeMap<Bytes, Option<TxnValue>>;
-
-fn kind_of_status(status: Status) -> Option<Kind>
-    ensures { result ≡ kind_of_status status }
-{
-    match status {
-        Status::PrepareCommit => Some(Kind::Commit),
-        Status::PrepareAbort => Some(Kind::Abort),
-        Status::Empty
-        | Status::Ongoing
-        | Status::CompleteCommit
-        | Status::CompleteAbort
-        | Status::Dead
-        | Status::PrepareEpochFence => None,
-    }
-}
 
 /// A place in the transaction log.
 #[derive(Clone, Copy)]
@@ -75,15 +57,6 @@ fn push_decided(
     Ok(())
 }
 
-fn last_value<'a>(last: &'a LastValues, id: &Bytes) -> Option<Option<&'a TxnValue>>
-    ensures { option_map option_copied result ≡ state_of last.entry.now id.now }
-{
-    match last.get(id) {
-        None => None,
-        Some(value) => Some(value.as_ref()),
-    }
-}
-
 /// What a record says of a transactional id.
 #[derive(Drop)]
 struct State {
@@ -100,8 +73,8 @@ fn take_value(
     place: TxnPlace,
     state: State,
 ) -> Result<(), AllocError>
-    ensures columns { OnOk result (columns.new.items ≡ columns.old.items ++ flat_map column_at (step_at (state_of last.old) place.partition place.offset (Ok (Some (state.id, state.value))))) }
-    ensures last { OnOk result (state_of last.new ≡ next_state (state_of last.old) (Ok (Some (state.id, state.value)))) }
+    ensures columns { OnOk result (columns.new.items ≡ columns.old.items ++ flat_map column_at (step_at (state_of last.old) place.partition place.offset (Of state.id state.value))) }
+    ensures last { OnOk result (state_of last.new ≡ next_state (state_of last.old) (Of state.id state.value)) }
 {
     let State { id, value } = state;
     let before = last_value(last, &id);
@@ -121,16 +94,16 @@ fn take_record(
     part: &Part,
     item: &ItemRef<'_>,
 ) -> Result<(), AllocError>
-    ensures columns { OnOk result (columns.new.items ≡ columns.old.items ++ flat_map column_at (step_at (state_of last.old) part.now.number item.now.offset (said item.now))) }
-    ensures last { OnOk result (state_of last.new ≡ next_state (state_of last.old) (said item.now)) }
+    ensures columns { OnOk result (columns.new.items ≡ columns.old.items ++ flat_map column_at (step_at (state_of last.old) part.now.number item.now.offset (content_of item.now))) }
+    ensures last { OnOk result (state_of last.new ≡ next_state (state_of last.old) (content_of item.now)) }
 {
     let place = TxnPlace {
         partition: part.partition(),
         offset: item.offset(),
     };
     match read_content(alloc, item)? {
-        Err(_) | Ok(None) => Ok(()),
-        Ok(Some((id, value))) => take_value(alloc, columns, last, place, State { id, value }),
+        Content::Unreadable(_) | Content::Other => Ok(()),
+        Content::Of(id, value) => take_value(alloc, columns, last, place, State { id, value }),
     }
 }
 
@@ -143,13 +116,6 @@ fn take_records(alloc: Global, columns: &mut Vec<Column>, part: &Part) -> Result
         take_record(alloc, columns, &mut last, part, &item)?;
     }
     Ok(())
-}
-
-/// Whether it is a partition of the transaction log.
-pub(crate) fn is_of_transaction_log(part: &Part) -> bool
-    ensures { result ≡ is_transaction_part part.now }
-{
-    part.topic().as_slice() == b"__transaction_state".as_slice()
 }
 
 /// The transactions that the transaction log decided, in its order, whether or not it keeps its own rule.

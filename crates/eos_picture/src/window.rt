@@ -13,9 +13,9 @@ ghost use Rattle.eos_picture.specs.steps.Spots.{StartsAt, spot_at};
 use crate::ends::{End, is_ended_by};
 use crate::mark::Column;
 use crate::spots::{At, Spot};
-use crate::transactions::is_of_transaction_log;
 use eos_base::PartitionName;
 use eos_kept::{ItemRef, Part};
+use eos_table::is_of_transaction_log;
 
 fn is_written_by(column: &Column, writer: (i64, i16)) -> bool
     ensures yes { result ≡ true → writer ≡ (column.now.producer, column.now.epoch) }

@@ -16,12 +16,12 @@ use Rattle.eos_table.specs.declared.log_fault.LogFaultKind.{LogFaultKind}
 use Rattle.eos_table.specs.declared.log_fault.LogFaultKind.TheVariants.{SplitId, SharedProducer}
 use Rattle.eos_table.specs.TransactionLog.{Id, same_id, Unskipped, all_steps, ShareProducer, AreInOrder}
 use Rattle.eos_table.specs.LogFaults.{AtStep, IsBefore, Stands}
-use Rattle.eos_table.specs.steps.LogCandidates.{fault_at, natural, producer_of, is_of_producer}
+use Rattle.eos_table.specs.steps.LogCandidates.{fault_at, natural, producer_of, mark_of, is_of_producer}
 use Rattle.eos_table.proofs.LogTables.{same, is_equal}
 use Rattle.eos_table.proofs.LogOrderly.{Ordered, all_ordered, ordered_across, stands_earlier}
-use Rattle.eos_table.specs.declared.log_mark.Mark.{Mark}
-use Rattle.eos_table.specs.declared.log_doubled.Ids.{Ids}
-use Rattle.eos_table.specs.steps.Gathered.{mark_of, lesser_home, next_home, home_in, split_at, with_id, next_ids, ids_in, shared_at, doubled_at, doubled_after}
+use Rattle.eos_table.specs.declared.mark.Mark.{Mark}
+use Rattle.eos_table.specs.declared.doubled.Ids.{Ids}
+use Rattle.eos_table.specs.steps.Doubled.{lesser_home, next_home, home_in, split_at, with_id, next_ids, ids_in, shared_at, doubled_at, doubled_after}
 
 -- ---- places in the list
 

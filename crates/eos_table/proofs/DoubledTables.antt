@@ -8,9 +8,9 @@ use Rattle.eos_base.proofs.Exact.{nat_exact}
 use Rattle.eos_table.specs.TransactionLog.{Id, same_id}
 use Rattle.eos_table.specs.steps.LogCandidates.{is_of_producer}
 use Rattle.eos_table.proofs.LogTables.{same, is_equal}
-use Rattle.eos_table.specs.declared.log_mark.Mark.{Mark}
-use Rattle.eos_table.specs.declared.log_doubled.Ids.{Ids}
-use Rattle.eos_table.specs.steps.Gathered.{AreHomes, AreIds, home_in, lesser_home, next_home, ids_in, next_ids, with_id, shared_if, shared_at}
+use Rattle.eos_table.specs.declared.mark.Mark.{Mark}
+use Rattle.eos_table.specs.declared.doubled.Ids.{Ids}
+use Rattle.eos_table.specs.steps.Doubled.{AreHomes, AreIds, home_in, lesser_home, next_home, ids_in, next_ids, with_id, shared_if, shared_at}
 
 pub homes_more : (homes new : BTreeMap Id ℤ) (before : List Mark) (t : Mark) (home : ℤ) → AreHomes homes before → home ≡ lesser_home (get (slice_cmp nat_cmp) homes t.id) t.partition
     → ((id : Id) → get (slice_cmp nat_cmp) new id ≡ cond (same_id t.id id) (Some home) (get (slice_cmp nat_cmp) homes id)) → AreHomes new (before ++ t ∷ [])

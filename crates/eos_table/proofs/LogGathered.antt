@@ -1,12 +1,13 @@
--- The least of what the pass over the transaction log gathers is the least fault that stands there.
-use Rattle.std.proofs.Common.{◌≡◌, ℕ, ℤ, List, [], ◌∷◌, ◌++◌, map, fold, Option, Some, None, Ok, Err, refl, sym, subst, ap, ◌∙◌, inl, inr, ◌⊎◌, true, false, Bool, if◌then◌else◌, cond, unsigned_abs}
+-- What is gathered of the transaction log is what stands there; so the least of it is the least that stands.
+use Rattle.std.proofs.Common.{◌≡◌, ℕ, ℤ, List, [], ◌∷◌, ◌++◌, map, fold, Option, Some, None, Ok, Err, refl, sym, subst, ap, ◌∙◌, inl, inr, ◌⊎◌, true, false, Bool, if◌then◌else◌, cond, unsigned_abs, append_assoc}
 use Rattle.std.specs.List.{flat_map}
+use Rattle.std.proofs.lemmas.List.{append-nil}
 use Rattle.std.proofs.lemmas.List.Sums.{fold-append}
 use Rattle.eos_base.specs.declared.record_fault.RecordFault.{RecordFault}
 use Rattle.eos_base.specs.Members.{Has}
-use Rattle.eos_base.specs.Least.{UpTo, IsLeastOrNone, lesser_of}
+use Rattle.eos_base.specs.Least.{IsLeastOrNone, lesser_of}
 use Rattle.eos_base.proofs.Membership.{append_cases, append_left, append_right, flat_has, has_flat, has_map, only, if_has, has_if}
-use Rattle.eos_base.proofs.LeastOf.{upto_itself, upto_same, least_by_candidates}
+use Rattle.eos_base.proofs.LeastOf.{upto_itself, least_by_candidates}
 use Rattle.eos_txnlog.specs.declared.step.TxnFault.{TxnFault}
 use Rattle.eos_txnlog.specs.Skips.{is_skipped}
 use Rattle.eos_txnlog.specs.Following.{step_verdict, StepResult}
@@ -19,10 +20,11 @@ use Rattle.eos_table.specs.declared.log_fault.LogFaultKind.{LogFaultKind}
 use Rattle.eos_table.specs.declared.log_fault.LogFaultKind.TheVariants.{BadRecord, Step, SplitId, SharedProducer, Unfinished}
 use Rattle.eos_table.specs.TransactionLog.{Id, same_id, State, nothing, flat, update, Unskipped, content_of, step_at, next_state, steps_after, state_after, steps_of, all_steps, last_of, is_unfinished, AreInOrder}
 use Rattle.eos_table.specs.LogFaults.{StandsAs, Stands, log_cmp}
-use Rattle.eos_table.specs.steps.LogCandidates.{LogRead, after, unread, fault_at, bad_at, refused_at, step_faults, faults_at, faults_after, mark_of, open_at, part_faults, doubled_after}
+use Rattle.eos_table.specs.steps.LogCandidates.{LogRead, after, unread, fault_at, bad_at, refused_at, step_faults, faults_at, faults_after, mark_of, open_at, part_faults, Faults, taken}
+use Rattle.eos_table.specs.steps.Doubled.{doubled_after, gathered}
 use Rattle.eos_table.proofs.LogOrder.{log_total, log_exact}
 use Rattle.eos_table.proofs.LogTables.{same}
-use Rattle.eos_table.proofs.LogDoubled.{doubled_sound, split_whole, shared_whole}
+use Rattle.eos_table.proofs.DoubledFaults.{doubled_sound, split_whole, shared_whole}
 
 -- ---- what a record shows by itself
 
@@ -147,9 +149,6 @@ seen p id h = elim (seen_after nothing p.number p.items id h) [ inl a ↦ absurd
 abbrev open_faults : PartLog → List LogFault
 open_faults p = flat_map (open_at (state_after nothing p.items) p.number (unsigned_abs p.end)) (map mark_of (steps_of p))
 
-abbrev pub gathered : List PartLog → List LogFault
-gathered log = flat_map part_faults log ++ doubled_after [] (map mark_of (all_steps log))
-
 is_fault : (f : LogFault) (n : ℤ) (o : ℕ) (k : LogFaultKind) → n ≡ f.partition → o ≡ f.offset → k ≡ f.kind → fault_at n o k ≡ f
 is_fault f n o k a b e = λ i. record { partition = a i; offset = b i; kind = e i }
 
@@ -166,32 +165,26 @@ part_sound log p in_log f h = elim (append_cases (faults_after nothing p.number 
 ]
 
 module _ (log : List PartLog) (are : AreInOrder log) where
-  sound : (f : LogFault) → Has (gathered log) f → (g : LogFault) × Stands log g × UpTo log_cmp g f
-  sound f h = (
-    f,
-    elim (append_cases (flat_map part_faults log) (doubled_after [] (map mark_of (all_steps log))) f h) [
-      | inl a ↦ let p = flat_has part_faults log f a in part_sound log p.0 p.1 f p.2
-      | inr b ↦ doubled_sound log are f b
-    ],
-    upto_itself log_total f,
-  )
-
-  abbrev Covered : LogFault → Type 0
-  Covered g = (h : LogFault) × Has (gathered log) h × UpTo log_cmp h g
+  pub sound : (f : LogFault) → Has (gathered log) f → Stands log f
+  sound f h = elim (append_cases (flat_map part_faults log) (doubled_after [] (map mark_of (all_steps log))) f h) [
+    | inl a ↦ let p = flat_has part_faults log f a in part_sound log p.0 p.1 f p.2
+    | inr b ↦ doubled_sound log are f b
+  ]
 
   -- shown by a partition itself, at the fault's place
-  by_part : (g h : LogFault) (p : PartLog) → Has log p → Has (part_faults p) h → h ≡ g → Covered g
-  by_part g h p in_log k e = (h, append_left (flat_map part_faults log) (doubled_after [] (map mark_of (all_steps log))) h (has_flat part_faults log p h in_log k), upto_same log_total h g e)
+  by_part : (g h : LogFault) (p : PartLog) → Has log p → Has (part_faults p) h → h ≡ g → Has (gathered log) g
+  by_part g h p in_log k e = subst (Has (gathered log)) e (append_left (flat_map part_faults log) (doubled_after [] (map mark_of (all_steps log))) h (has_flat part_faults log p h in_log k))
 
-  by_doubled : (g h : LogFault) → Has (doubled_after [] (map mark_of (all_steps log))) h → UpTo log_cmp h g → Covered g
-  by_doubled g h k le = (h, append_right (flat_map part_faults log) (doubled_after [] (map mark_of (all_steps log))) h k, le)
+  by_doubled : (g h : LogFault) → Has (doubled_after [] (map mark_of (all_steps log))) h → h ≡ g → Has (gathered log) g
+  by_doubled g h k e = subst (Has (gathered log)) e (append_right (flat_map part_faults log) (doubled_after [] (map mark_of (all_steps log))) h k)
 
-  whole : (g : LogFault) (k : LogFaultKind) → k ≡ g.kind → StandsAs log g k → Covered g
+  whole : (g : LogFault) (k : LogFaultKind) → k ≡ g.kind → StandsAs log g k → Has (gathered log) g
   whole g (BadRecord e) is st =
       let p = st.0.part in
-      let h = fault_at p.number st.0.item.offset (BadRecord e) in
-      by_part g h p st.0.has_part (append_left (faults_after nothing p.number p.items) (open_faults p) h (bad_whole nothing p.number p.items st.0.item e st.0.has_item st.1))
-      (is_fault g p.number st.0.item.offset (BadRecord e) st.0.partition st.0.offset is)
+      let x = st.0.item in
+      let h = fault_at p.number x.offset (BadRecord e) in
+      by_part g h p st.0.has_part (append_left (faults_after nothing p.number p.items) (open_faults p) h (bad_whole nothing p.number p.items x e st.0.has_item st.1))
+      (is_fault g p.number x.offset (BadRecord e) st.0.partition st.0.offset is)
   whole g (Step id why) is st =
       let s = st.0.step in
       let h = fault_at s.partition s.offset (Step s.id why) in
@@ -202,27 +195,57 @@ module _ (log : List PartLog) (are : AreInOrder log) where
       let t = st.0.step in
       let h = fault_at t.partition t.offset (SplitId t.id) in
       by_doubled g h (split_whole log are t st.1 st.0.has st.2 (st.3 ∙ sym st.0.id) st.4)
-      (upto_same log_total h g (is_fault g t.partition t.offset (SplitId t.id) st.0.partition st.0.offset (ap SplitId st.0.id ∙ is)))
+      (is_fault g t.partition t.offset (SplitId t.id) st.0.partition st.0.offset (ap SplitId st.0.id ∙ is))
   whole g (SharedProducer id) is st =
       let t = st.0.step in
-      let same = is_fault g t.partition t.offset (SharedProducer t.id) st.0.partition st.0.offset (ap SharedProducer st.0.id ∙ is) in
-      let r = shared_whole log are t st.1 st.0.has st.2 (λ q. st.3 (q ∙ st.0.id)) st.4 st.5 in
-      by_doubled g r.0 r.1 (subst (UpTo log_cmp r.0) same r.2)
+      let h = fault_at t.partition t.offset (SharedProducer t.id) in
+      by_doubled g h (shared_whole log are t st.1 st.0.has st.2 (λ q. st.3 (q ∙ st.0.id)) st.4 st.5)
+      (is_fault g t.partition t.offset (SharedProducer t.id) st.0.partition st.0.offset (ap SharedProducer st.0.id ∙ is))
   whole g (Unfinished id) is st =
       let p = st.0.part in
       let s = seen p id st.1 in
       let o = unsigned_abs p.end in
       let h = fault_at p.number o (Unfinished s.0.id) in
       let state = state_after nothing p.items in
-      let left : is_unfinished (flat (state s.0.id)) ≡ true = subst (λ z. is_unfinished (last_of p.items z) ≡ true) (sym s.2) st.1 in
+      let left : is_unfinished (flat (state s.0.id)) ≡ true = subst (λ z. is_unfinished (flat (state z)) ≡ true) (sym s.2) st.1 in
       by_part g h p st.0.has (append_right (faults_after nothing p.number p.items) (open_faults p) h
       (has_flat (open_at state p.number o) (map mark_of (steps_of p)) (mark_of s.0) h (has_map mark_of (steps_of p) s.0 s.1) (has_if (is_unfinished (flat (state s.0.id))) (h ∷ []) h left (inl refl))))
       (is_fault g p.number o (Unfinished s.0.id) st.0.partition st.0.offset (ap Unfinished s.2 ∙ is))
 
-  -- the one pass after the other
-  pub read_answer : (r : LogRead) (best : Option LogFault) → r ≡ after unread (all_steps log) (flat_map part_faults log)
-      → best ≡ fold (lesser_of log_cmp) r.best (doubled_after [] r.marks) → IsLeastOrNone log_cmp (Stands log) best
-  read_answer r best read e =
-      let L : Option LogFault → LogFault → Option LogFault = lesser_of log_cmp in
-      let all : best ≡ fold L None (gathered log) = e ∙ (ap (λ (z : LogRead). fold L z.best (doubled_after [] z.marks)) read ∙ sym (fold-append L None (flat_map part_faults log) (doubled_after [] (map mark_of (all_steps log))))) in
-      least_by_candidates log_total log_exact (Stands log) (gathered log) sound (λ g st. whole g g.kind refl st) best all
+  pub all_whole : (g : LogFault) → Stands log g → Has (gathered log) g
+  all_whole g st = whole g g.kind refl st
+
+-- ---- what is kept of it
+
+abbrev only_least : Option LogFault → Faults
+only_least best = record { keeps_all = false; least = best; all = [] }
+
+abbrev every : List LogFault → Faults
+every faults = record { keeps_all = true; least = None; all = faults }
+
+least_kept : (fs : List LogFault) (best : Option LogFault) → (fold taken (only_least best) fs).least ≡ fold (lesser_of log_cmp) best fs
+least_kept [] best = refl
+least_kept (f ∷ fs) best = least_kept fs (lesser_of log_cmp best f)
+
+all_kept : (fs before : List LogFault) → (fold taken (every before) fs).all ≡ before ++ fs
+all_kept [] before = sym (append-nil before)
+all_kept (f ∷ fs) before = all_kept fs (before ++ f ∷ []) ∙ append_assoc before (f ∷ []) fs
+
+-- where all is kept, it is what is gathered
+pub judged_all : (log : List PartLog) (first last : Faults) (found : List LogFault) → first ≡ every [] → last ≡ fold taken first (gathered log) → found ≡ last.all → found ≡ gathered log
+judged_all log first last found start is e =
+    e ∙ (ap (λ (z : Faults). z.all) is ∙ (ap (λ (z : Faults). (fold taken z (gathered log)).all) start ∙ all_kept (gathered log) []))
+
+-- where only the least is kept, it is the least that stands
+pub judged_least : (log : List PartLog) → AreInOrder log → (first last : Faults) (best : Option LogFault) → first ≡ only_least None → last ≡ fold taken first (gathered log) → best ≡ last.least
+    → IsLeastOrNone log_cmp (Stands log) best
+judged_least log are first last best start is e = least_by_candidates log_total log_exact (Stands log) (gathered log)
+    (λ f h. (f, sound log are f h, upto_itself log_total f)) (λ g st. (g, all_whole log are g st, upto_itself log_total g)) best
+    (e ∙ (ap (λ (z : Faults). z.least) is ∙ (ap (λ (z : Faults). (fold taken z (gathered log)).least) start ∙ least_kept (gathered log) None)))
+
+-- ---- the one pass after the other
+
+pub judged : (log : List PartLog) (first last : Faults) (r : LogRead) → r ≡ after (unread first) (all_steps log) (flat_map part_faults log)
+    → last ≡ fold taken r.faults (doubled_after [] r.marks) → last ≡ fold taken first (gathered log)
+judged log first last r read e =
+    e ∙ (ap (λ (z : LogRead). fold taken z.faults (doubled_after [] z.marks)) read ∙ sym (fold-append taken first (flat_map part_faults log) (doubled_after [] (map mark_of (all_steps log)))))

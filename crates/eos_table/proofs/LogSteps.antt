@@ -10,7 +10,6 @@ use Rattle.std.proofs.Common.{Bor}
 use Rattle.std.proofs.lemmas.List.{append-nil, map-append, take_rest}
 use Rattle.std.proofs.lemmas.List.Concat.{flat_map-append}
 use Rattle.std.proofs.lemmas.List.Sums.{fold-append}
-use Rattle.eos_base.specs.Least.{lesser_of}
 use Rattle.eos_txnlog.specs.declared.value.TxnValue.{TxnValue}
 use Rattle.eos_txnlog.specs.Skips.{is_skipped}
 use Rattle.eos_fold.specs.declared.item.Item.{Item}
@@ -18,23 +17,22 @@ use Rattle.eos_fold.specs.Parts.{PartLog}
 use Rattle.eos_table.specs.declared.content.Content.TheVariants.{Of}
 use Rattle.eos_table.specs.declared.mark.Mark.{Mark}
 use Rattle.eos_table.specs.declared.log_fault.LogFault.{LogFault}
-use Rattle.eos_table.specs.TransactionLog.{Id, State, nothing, flat, Unskipped, content_of, step_at, steps_after, next_state, state_after, steps_of, decision_of}
-use Rattle.eos_table.specs.LogFaults.{log_cmp}
-use Rattle.eos_table.specs.steps.LogCandidates.{LogRead, state_of, open_at, after, step_of, step_faults, faults_at, faults_after, part_faults, mark_of}
+use Rattle.eos_table.specs.TransactionLog.{Id, State, nothing, flat, Unskipped, content_of, step_at, steps_after, next_state, state_after, steps_of, decision_of, state_of}
+use Rattle.eos_table.specs.steps.LogCandidates.{LogRead, Faults, taken, open_at, after, step_of, step_faults, faults_at, faults_after, part_faults, mark_of}
 
 -- one after the other is both at once
 pub after_after : (r : LogRead) (s t : List Unskipped) (f g : List LogFault) → after (after r s f) t g ≡ after r (s ++ t) (f ++ g)
 after_after r s t f g =
     let marks : (r.marks ++ map mark_of s) ++ map mark_of t ≡ r.marks ++ map mark_of (s ++ t) = append_assoc r.marks (map mark_of s) (map mark_of t) ∙ ap (λ z. r.marks ++ z) (sym (map-append mark_of s t)) in
     let decisions : (r.decisions ++ flat_map decision_of s) ++ flat_map decision_of t ≡ r.decisions ++ flat_map decision_of (s ++ t) = append_assoc r.decisions (flat_map decision_of s) (flat_map decision_of t) ∙ ap (λ z. r.decisions ++ z) (sym (flat_map-append decision_of s t)) in
-    let best : fold (lesser_of log_cmp) (fold (lesser_of log_cmp) r.best f) g ≡ fold (lesser_of log_cmp) r.best (f ++ g) = sym (fold-append (lesser_of log_cmp) r.best f g) in
-    λ i. record { marks = marks i; decisions = decisions i; best = best i }
+    let faults : fold taken (fold taken r.faults f) g ≡ fold taken r.faults (f ++ g) = sym (fold-append taken r.faults f g) in
+    λ i. record { marks = marks i; decisions = decisions i; faults = faults i }
 
 pub after_nothing : (r : LogRead) → after r [] [] ≡ r
 after_nothing r =
     let marks = append-nil r.marks in
     let decisions = append-nil r.decisions in
-    λ i. record { marks = marks i; decisions = decisions i; best = r.best }
+    λ i. record { marks = marks i; decisions = decisions i; faults = r.faults }
 
 -- a record of an id that isn't skipped
 pub unskipped_step : (last : State) (n : ℤ) (o : ℕ) (id : Id) (b v : Option TxnValue) (old new : LogRead) → is_skipped (last id) v ≡ false → b ≡ flat (last id)
@@ -71,31 +69,31 @@ lent_flat r f w e h = ap option_copied e ∙ (go r ∙ ap flat h)
     go None = refl
     go (Some x) = refl
 
-abbrev pub with_best : LogRead → Option LogFault → LogRead
-with_best r best = record { marks = r.marks; decisions = r.decisions; best = best }
+abbrev pub with_faults : LogRead → Faults → LogRead
+with_faults r faults = record { marks = r.marks; decisions = r.decisions; faults = faults }
 
 -- a partition, with what is left unfinished at its end
-pub one_part : (p : PartLog) (old mid : LogRead) (st st2 : State) (from o : ℕ) (n : ℤ) (best : Option LogFault) (ms : List Mark) → st ≡ nothing
+pub one_part : (p : PartLog) (old mid : LogRead) (st st2 : State) (from o : ℕ) (n : ℤ) (faults : Faults) (ms : List Mark) → st ≡ nothing
     → mid ≡ after old (steps_after st p.number p.items) (faults_after st p.number p.items) → st2 ≡ state_after st p.items
     → from ≡ length old.marks → n ≡ p.number → o ≡ unsigned_abs p.end → ms ≡ mid.marks
-    → best ≡ fold (lesser_of log_cmp) mid.best (flat_map (open_at st2 n o) (take (length ms - from) (drop from ms)))
-    → with_best mid best ≡ after old (steps_of p) (part_faults p)
-one_part p old mid st st2 from o n best ms start read state first number end marks opened =
-    let L : Option LogFault → LogFault → Option LogFault = lesser_of log_cmp in
+    → faults ≡ fold taken mid.faults (flat_map (open_at st2 n o) (take (length ms - from) (drop from ms)))
+    → with_faults mid faults ≡ after old (steps_of p) (part_faults p)
+one_part p old mid st st2 from o n faults ms start read state first number end marks opened =
+    let L : Faults → LogFault → Faults = taken in
     let F : List LogFault = faults_after nothing p.number p.items in
     let own : List Mark = map mark_of (steps_of p) in
     let m : mid ≡ after old (steps_of p) F = read ∙ ap (λ z. after old (steps_after z p.number p.items) (faults_after z p.number p.items)) start in
     let s : st2 ≡ state_after nothing p.items = state ∙ ap (λ z. state_after z p.items) start in
     let tail : List Mark = take (length ms - from) (drop from ms) in
     let d : tail ≡ own = from_there old.marks own ms from (marks ∙ ap (λ z. z.marks) m) first in
-    let b : best ≡ fold L old.best (part_faults p) =
-    opened ∙ (ap (λ z. fold L z.best (flat_map (open_at st2 n o) tail)) m
-    ∙ (ap (λ z. fold L (fold L old.best F) (flat_map (open_at z n o) tail)) s
-    ∙ (ap (λ z. fold L (fold L old.best F) (flat_map (open_at (state_after nothing p.items) z o) tail)) number
-    ∙ (ap (λ z. fold L (fold L old.best F) (flat_map (open_at (state_after nothing p.items) p.number z) tail)) end
-    ∙ (ap (λ z. fold L (fold L old.best F) (flat_map (open_at (state_after nothing p.items) p.number (unsigned_abs p.end)) z)) d
-    ∙ sym (fold-append L old.best F (flat_map (open_at (state_after nothing p.items) p.number (unsigned_abs p.end)) own))))))) in
-    λ i. record { marks = (m i).marks; decisions = (m i).decisions; best = b i }
+    let b : faults ≡ fold L old.faults (part_faults p) =
+    opened ∙ (ap (λ z. fold L z.faults (flat_map (open_at st2 n o) tail)) m
+    ∙ (ap (λ z. fold L (fold L old.faults F) (flat_map (open_at z n o) tail)) s
+    ∙ (ap (λ z. fold L (fold L old.faults F) (flat_map (open_at (state_after nothing p.items) z o) tail)) number
+    ∙ (ap (λ z. fold L (fold L old.faults F) (flat_map (open_at (state_after nothing p.items) p.number z) tail)) end
+    ∙ (ap (λ z. fold L (fold L old.faults F) (flat_map (open_at (state_after nothing p.items) p.number (unsigned_abs p.end)) z)) d
+    ∙ sym (fold-append L old.faults F (flat_map (open_at (state_after nothing p.items) p.number (unsigned_abs p.end)) own))))))) in
+    λ i. record { marks = (m i).marks; decisions = (m i).decisions; faults = b i }
 
 pub empty_state : (last : BTreeMap Id (Option TxnValue)) → IsEmpty last → state_of last ≡ nothing
 empty_state last e = λ i id. lookup (is_at (slice_cmp nat_cmp id)) (e i)

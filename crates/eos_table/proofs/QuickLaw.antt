@@ -1,5 +1,5 @@
 -- Where the quick walk says yes, no fault stands.
-use Rattle.std.proofs.Common.{◌≡◌, ◌<◌, ◌≤◌, ◌%◌, ℕ, zero, suc, ℤ, List, [], ◌∷◌, length, map, Some, None, Vec, Global, IsPermutation, IsSorted, refl, sym, subst, ap, ◌∙◌, inl, inr, arith}
+use Rattle.std.proofs.Common.{◌≡◌, ◌<◌, ◌%◌, ℕ, zero, suc, ℤ, List, [], ◌∷◌, length, Some, None, Vec, Global, IsPermutation, IsSorted, refl, sym, subst, ap, ◌∙◌, inl, inr, arith}
 use Rattle.std.specs.Prelude.{slice_get, slice_index_or}
 use Rattle.std.proofs.Math.Nat.{mod-lt}
 use Rattle.std.proofs.lemmas.Option.{slice_get_within, get_or_from_slice_get}
@@ -12,13 +12,13 @@ use Rattle.eos_txnlog.specs.declared.decision.Decision.{Decision}
 use Rattle.eos_txnlog.specs.PartitionSets.{names_of}
 use Rattle.eos_fold.specs.declared.close.Close.{Close}
 use Rattle.eos_fold.specs.Parts.{part_name, PartLog}
-use Rattle.eos_table.specs.Atomic.{IsOf, EndsAs, Ends, AreOfOne, NoTwo, Atomic}
+use Rattle.eos_table.specs.Atomic.{IsOf, EndsAs, Ends, AreOfOne, NoTwo}
 use Rattle.eos_table.specs.declared.match_fault.MatchFault.{MatchFault}
 use Rattle.eos_table.specs.declared.match_fault.MatchFaultKind.TheVariants.{TwiceDecided}
-use Rattle.eos_table.specs.MatchFaults.{deciders, Stands}
+use Rattle.eos_table.specs.MatchFaults.{Stands}
 use Rattle.eos_table.specs.steps.Keys.{decided, pair_cmp}
 use Rattle.eos_table.specs.steps.Candidates.{fault_of, IsTwice}
-use Rattle.eos_table.specs.steps.Wanted.{Lists, wanted_close, wish, wishes_of, wishes, IsAt, StandsAt, Have, marker_end, close_end, Agrees, AgreesAt, IsOnce, IsGood}
+use Rattle.eos_table.specs.steps.Wanted.{Lists, wanted_close, wish, wishes_of, wishes, Have, marker_end, close_end, Agrees, AgreesAt, IsOnce, IsGood}
 use Rattle.eos_table.proofs.AtomicLaw.{once_from, law}
 use Rattle.eos_table.proofs.ShardLaw.{shard_of}
 use Rattle.eos_table.proofs.MatchSound.{is_mine, mine_is}

@@ -2,6 +2,7 @@
 -- rule that the log keeps. A part here is a partition of `__transaction_state`.
 use Rattle.std.specs.Prelude.{◌≡◌, ◌<ℤ◌, ◌≤ℤ◌, ℕ, ℤ, pos, Bool, false, Option, Some, None, List, [], ◌∷◌, ◌++◌, if◌then◌else◌, cond, Result, Ok, Err, codes}
 use Rattle.std.specs.List.{flat_map, filter, AllPairs}
+use Rattle.std.specs.BTreeMap.{BTreeMap, get}
 use Rattle.std.specs.Ordering.{nat_cmp, is_eq}
 use Rattle.std.specs.Cmp.Lexicographic.{slice_cmp}
 use Rattle.eos_base.specs.declared.record_fault.RecordFault.{RecordFault}
@@ -67,6 +68,10 @@ State = Id → Option (Option TxnValue)
 
 abbrev pub nothing : State
 nothing id = None
+
+-- what a table of them says
+abbrev pub state_of : BTreeMap Id (Option TxnValue) → State
+state_of last id = get (slice_cmp nat_cmp) last id
 
 abbrev pub update : State → Id → Option TxnValue → State
 update last id value other = cond (same_id id other) (Some value) (last other)

@@ -4,7 +4,6 @@ pub mod Keys
 pub mod LogCandidates
 pub mod OneShard
 pub mod Wanted
-pub mod Gathered
+pub mod Doubled
 pub mod Deciders
-pub mod Recorded
 pub mod Shown

@@ -11,9 +11,9 @@ use eos_kept::ItemRef;
 use eos_txnlog::{TxnValue, decode_key, decode_value};
 use std::alloc::{AllocError, Global};
 
-/// What a record says.
+/// What a data record of the transaction log says.
 #[derive(Drop)]
-pub(crate) enum Content {
+pub enum Content {
     /// It has no key, or its key or its value doesn't read.
     Unreadable(RecordFault),
     /// Its key is of another version.
@@ -56,8 +56,11 @@ fn content_of_id(alloc: Global, id: Bytes, value: Option<&[u8]>) -> Result<Conte
     }
 }
 
-/// Reads a record.
-pub(crate) fn read_content(alloc: Global, item: &ItemRef<'_>) -> Result<Content, AllocError>
+/// Reads a data record of the transaction log.
+///
+/// # Errors
+/// Only want of memory; what doesn't read is an answer.
+pub fn read_content(alloc: Global, item: &ItemRef<'_>) -> Result<Content, AllocError>
     ensures { IfOk result (λ content. content ≡ content_of item.now) }
 {
     let Some(key) = item.key() else {

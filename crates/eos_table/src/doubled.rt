@@ -1,26 +1,35 @@
 //! The unskipped records of the transaction log against those before: an id in two partitions, two ids of one producer id.
 
-ghost use Rattle.std.specs.Prelude.{◌≡◌, ℕ, List, ◌∷◌, [], ◌++◌, fold, IfOk, OnOk};
+ghost use Rattle.std.specs.Prelude.{◌≡◌, List, ◌∷◌, [], ◌++◌, fold, IfOk, OnOk};
+ghost use Rattle.std.specs.Option.{option_copied};
 ghost use Rattle.std.specs.Ordering.{nat_cmp};
 ghost use Rattle.std.specs.Cmp.Lexicographic.{slice_cmp};
 ghost use Rattle.std.specs.BTreeMap.{get};
-ghost use Rattle.eos_base.specs.Least.{lesser_of};
+ghost use Rattle.eos_table.specs.TransactionLog.{same_id};
 ghost use Rattle.eos_table.specs.declared.mark.Mark.{Mark};
-ghost use Rattle.eos_table.specs.LogFaults.{log_cmp};
-ghost use Rattle.eos_table.specs.steps.LogCandidates.{AreHomes, AreOwners, home_in, owner_of, split_at, shared_at, doubled_after};
+ghost use Rattle.eos_table.specs.steps.LogCandidates.{taken};
+ghost use Rattle.eos_table.specs.steps.Doubled.{AreHomes, AreIds, home_in, lesser_home, with_id, split_at, shared_if, shared_at, doubled_after};
 
-use crate::log_fault::{LogFault, LogFaultKind};
+use crate::log_fault::LogFaultKind;
+use crate::log_faults::LogFaults;
 use crate::mark::{Mark, Place};
 use bytes::Bytes;
-use eos_base::offer;
 use std::alloc::{AllocError, Global};
 use std::collections::BTreeMap;
 
-/// The partition of the first record of each transactional id.
+/// The transactional ids of a producer id.
+#[derive(Drop)]
+pub(crate) struct Ids {
+    pub first: Bytes,
+    /// There was another one.
+    pub is_shared: bool,
+}
+
+/// The least partition of each transactional id.
 type Homes = BTreeMap<Bytes, i32>;
 
-/// The transactional id of the first record of each producer id.
-type Owners = BTreeMap<u64, Bytes>;
+/// The transactional ids of each producer id.
+type Producers = BTreeMap<u64, Ids>;
 
 fn place_of(mark: &Mark) -> Place
     ensures partition { result.partition ≡ mark.now.partition }
@@ -32,73 +41,113 @@ fn place_of(mark: &Mark) -> Place
     }
 }
 
-/// The record's id in a lesser partition.
-fn after_home(best: &mut Option<LogFault>, homes: &mut Homes, mark: &Mark) -> Result<(), AllocError>
-    ensures best { (before : List Mark) → AreHomes homes.old before → OnOk result (best.new ≡ fold (lesser_of log_cmp) best.old (split_at mark.now (home_in before mark.now.id))) }
-    ensures homes { (before : List Mark) → AreHomes homes.old before → OnOk result (AreHomes homes.new (before ++ mark.now ∷ [])) }
+fn home_of(homes: &Homes, id: &Bytes) -> Option<i32>
+    ensures { result ≡ get (slice_cmp nat_cmp) homes.now id.now }
 {
-    let id = mark.id.clone()?;
-    match homes.get(&mark.id) {
-        None => {
-            homes.insert(id, mark.partition)?;
-            Ok(())
-        }
-        Some(home) => {
-            if *home < mark.partition {
-                let kind = LogFaultKind::SplitId { id };
-                offer(best, LogFault::at(place_of(mark), kind));
-                Ok(())
-            } else {
-                Ok(())
-            }
-        }
+    homes.get(id).copied()
+}
+
+fn lesser_home(home: Option<i32>, partition: i32) -> i32
+    ensures { result ≡ lesser_home home partition }
+{
+    match home {
+        None => partition,
+        Some(home) => { if home < partition { home } else { partition } }
     }
 }
 
+fn push_split(faults: &mut LogFaults, mark: &Mark, home: Option<i32>) -> Result<(), AllocError>
+    ensures { OnOk result (faults.new ≡ fold taken faults.old (split_at mark.now home)) }
+{
+    let Some(home) = home else {
+        return Ok(());
+    };
+    if home < mark.partition {
+        let kind = LogFaultKind::SplitId {
+            id: mark.id.clone()?,
+        };
+        return faults.take(place_of(mark), kind);
+    }
+    Ok(())
+}
+
+/// The record's id in a lesser partition.
+fn take_home(faults: &mut LogFaults, homes: &mut Homes, mark: &Mark) -> Result<(), AllocError>
+    ensures faults { (before : List Mark) → AreHomes homes.old before → OnOk result (faults.new ≡ fold taken faults.old (split_at mark.now (home_in before mark.now.id))) }
+    ensures homes { (before : List Mark) → AreHomes homes.old before → OnOk result (AreHomes homes.new (before ++ mark.now ∷ [])) }
+{
+    let home = home_of(homes, &mark.id);
+    push_split(faults, mark, home)?;
+    let key = mark.id.clone()?;
+    homes.insert(key, lesser_home(home, mark.partition))?;
+    Ok(())
+}
+
+fn is_same(id: &Bytes, other: &Bytes) -> bool
+    ensures { result ≡ same_id id.now other.now }
+{
+    *id == *other
+}
+
+fn with_id(known: Option<&Ids>, id: &Bytes) -> Result<Ids, AllocError>
+    ensures { IfOk result (λ ids. ids ≡ with_id (option_copied known.entry) id.now) }
+{
+    match known {
+        None => Ok(Ids {
+            first: id.clone()?,
+            is_shared: false,
+        }),
+        Some(ids) => Ok(Ids {
+            first: ids.first.clone()?,
+            is_shared: ids.is_shared || !is_same(&ids.first, id),
+        }),
+    }
+}
+
+fn push_shared(faults: &mut LogFaults, mark: &Mark, is_shared: bool) -> Result<(), AllocError>
+    ensures { OnOk result (faults.new ≡ fold taken faults.old (shared_if mark.now is_shared)) }
+{
+    if is_shared {
+        let kind = LogFaultKind::SharedProducer {
+            id: mark.id.clone()?,
+        };
+        return faults.take(place_of(mark), kind);
+    }
+    Ok(())
+}
+
 /// The record's producer id under another id.
-fn after_owner(
-    best: &mut Option<LogFault>,
-    owners: &mut Owners,
+fn take_producer(
+    faults: &mut LogFaults,
+    producers: &mut Producers,
     mark: &Mark,
 ) -> Result<(), AllocError>
-    ensures best { (before : List Mark) → AreOwners owners.old before → OnOk result (best.new ≡ fold (lesser_of log_cmp) best.old (shared_at mark.now (owner_of before mark.now.producer))) }
-    ensures owners { (before : List Mark) → AreOwners owners.old before → OnOk result (AreOwners owners.new (before ++ mark.now ∷ [])) }
+    ensures faults { (before : List Mark) → AreIds producers.old before → OnOk result (faults.new ≡ fold taken faults.old (shared_at before mark.now mark.now.producer)) }
+    ensures producers { (before : List Mark) → AreIds producers.old before → OnOk result (AreIds producers.new (before ++ mark.now ∷ [])) }
 {
     let Some(producer) = mark.producer else {
         return Ok(());
     };
-    let id = mark.id.clone()?;
-    match owners.get(&producer) {
-        None => {
-            owners.insert(producer, id)?;
-            Ok(())
-        }
-        Some(owner) => {
-            if *owner == mark.id {
-                Ok(())
-            } else {
-                let kind = LogFaultKind::SharedProducer { id };
-                offer(best, LogFault::at(place_of(mark), kind));
-                Ok(())
-            }
-        }
-    }
+    let ids = with_id(producers.get(&producer), &mark.id)?;
+    let is_shared = ids.is_shared;
+    producers.insert(producer, ids)?;
+    push_shared(faults, mark, is_shared)?;
+    Ok(())
 }
 
-/// The lesser of the least so far and what the records show against those before them.
-pub(crate) fn least_doubled(
+/// Takes up what the records show against those before them.
+pub(crate) fn push_doubled(
     alloc: Global,
-    best: Option<LogFault>,
+    faults: &mut LogFaults,
     marks: &[Mark],
-) -> Result<Option<LogFault>, AllocError>
-    ensures { IfOk result (λ o. o ≡ fold (lesser_of log_cmp) best (doubled_after [] marks.now)) }
+) -> Result<(), AllocError>
+    ensures { OnOk result (faults.new ≡ fold taken faults.old (doubled_after [] marks.now)) }
 {
-    let mut best = best;
     let mut homes = BTreeMap::new(alloc);
-    let mut owners = BTreeMap::new(alloc);
+    let mut producers = BTreeMap::new(alloc);
     for mark in marks {
-        after_home(&mut best, &mut homes, mark)?;
-        after_owner(&mut best, &mut owners, mark)?;
+        take_home(faults, &mut homes, mark)?;
+        take_producer(faults, &mut producers, mark)?;
     }
-    Ok(best)
+    Ok(())
 }

@@ -1,22 +1,20 @@
 //! One pass over the records of the transaction log.
 
-ghost use Rattle.std.specs.Prelude.{◌≡◌, [], ◌∷◌, ◌++◌, fold, unsigned_abs, OnOk};
+ghost use Rattle.std.specs.Prelude.{◌≡◌, [], ◌∷◌, ◌++◌, fold, unsigned_abs, OnOk, IfOk};
 ghost use Rattle.std.specs.List.{flat_map};
-ghost use Rattle.std.specs.Option.{option_copied, option_map};
-ghost use Rattle.eos_base.specs.Least.{lesser_of};
-ghost use Rattle.eos_table.specs.TransactionLog.{content_of, flat, step_at, steps_after, steps_of, next_state, state_after, decision_between, kind_of_status, is_unfinished};
+ghost use Rattle.std.specs.Option.{option_copied};
+ghost use Rattle.eos_table.specs.TransactionLog.{content_of, state_of, step_at, steps_after, steps_of, all_steps, next_state, state_after, decision_between, transaction_parts};
 ghost use Rattle.eos_table.specs.declared.content.Content.TheVariants.{Of};
-ghost use Rattle.eos_table.specs.LogFaults.{log_cmp};
-ghost use Rattle.eos_table.specs.steps.LogCandidates.{after, unread, open_at, step_faults, faults_at, faults_after, part_faults, state_of, step_of};
+ghost use Rattle.eos_table.specs.steps.LogCandidates.{after, unread, taken, open_at, step_faults, faults_at, faults_after, part_faults, step_of};
 
 use crate::content::{Content, read_content};
-use crate::log_fault::{LogFault, LogFaultKind};
+use crate::last_values::{LastValues, is_of_transaction_log, is_open, kind_of_status, last_value};
+use crate::log_fault::LogFaultKind;
+use crate::log_faults::LogFaults;
 use crate::mark::{Mark, Place, producer_of};
 use bytes::Bytes;
-use eos_base::offer;
-use eos_batch::Kind;
 use eos_kept::{ItemRef, Part};
-use eos_txnlog::{Decision, Status, TxnValue, is_skipped, step_ok};
+use eos_txnlog::{Decision, TxnValue, is_skipped, step_ok};
 use std::alloc::{AllocError, Global};
 use std::collections::BTreeMap;
 use std::marker::Model;
@@ -27,8 +25,8 @@ pub(crate) struct LogReading {
     /// Its unskipped records.
     pub marks: Vec<Mark>,
     pub decisions: Vec<Decision>,
-    /// The least fault that a record or the end of a partition shows by itself.
-    pub best: Option<LogFault>,
+    /// The faults that a record or the end of a partition shows by itself.
+    pub faults: LogFaults,
 }
 
 impl Model for LogReading {
@@ -36,7 +34,7 @@ impl Model for LogReading {
 
     ghost Value = { LogRead };
 
-    ghost view = { λ r. record { marks = r.marks.items; decisions = r.decisions.items; best = r.best } };
+    ghost view = { λ r. record { marks = r.marks.items; decisions = r.decisions.items; faults = r.faults } };
 }
 
 /// A record of a transactional id: where it stands, and its value; none is a tombstone.
@@ -45,24 +43,6 @@ struct TxnRecord {
     place: Place,
     id: Bytes,
     value: Option<TxnValue>,
-}
-
-/// The value of the last unskipped record of each transactional id of a partition; none is a tombstone.
-type LastValues = BTreeMap<Bytes, Option<TxnValue>>;
-
-fn kind_of_status(status: Status) -> Option<Kind>
-    ensures { result ≡ kind_of_status status }
-{
-    match status {
-        Status::PrepareCommit => Some(Kind::Commit),
-        Status::PrepareAbort => Some(Kind::Abort),
-        Status::Empty
-        | Status::Ongoing
-        | Status::CompleteCommit
-        | Status::CompleteAbort
-        | Status::Dead
-        | Status::PrepareEpochFence => None,
-    }
 }
 
 /// Puts what a record decides at the end.
@@ -108,7 +88,7 @@ fn take_step(
             id: id.clone()?,
             why,
         };
-        offer(&mut reading.best, LogFault::at(place, kind));
+        reading.faults.take(place, kind)?;
     }
     reading.marks.push(Mark {
         partition: place.partition,
@@ -117,15 +97,6 @@ fn take_step(
         producer: producer_of(value),
     })?;
     Ok(())
-}
-
-fn last_value<'a>(last: &'a LastValues, id: &Bytes) -> Option<Option<&'a TxnValue>>
-    ensures { option_map option_copied result ≡ state_of last.entry.now id.now }
-{
-    match last.get(id) {
-        None => None,
-        Some(value) => Some(value.as_ref()),
-    }
 }
 
 /// Takes up a record of a transactional id, unless it is skipped.
@@ -167,8 +138,7 @@ fn take_record(
     match read_content(alloc, item)? {
         Content::Unreadable(record) => {
             let kind = LogFaultKind::BadRecord { record };
-            offer(&mut reading.best, LogFault::at(place, kind));
-            Ok(())
+            reading.faults.take(place, kind)
         }
         Content::Other => Ok(()),
         Content::Of(id, value) => {
@@ -205,55 +175,75 @@ fn end_of(part: &Part) -> Place
     }
 }
 
-/// The lesser of the least so far and what is left unfinished at the end of a partition.
-fn least_open(
-    best: &mut Option<LogFault>,
+fn push_open_id(
+    faults: &mut LogFaults,
     last: &LastValues,
-    marks: &[Mark],
+    mark: &Mark,
     end: Place,
 ) -> Result<(), AllocError>
-    ensures { OnOk result (best.new ≡ fold (lesser_of log_cmp) best.old (flat_map (open_at (state_of last.now) end.partition end.offset) marks.now)) }
+    ensures { OnOk result (faults.new ≡ fold taken faults.old (open_at (state_of last.now) end.partition end.offset mark.now)) }
 {
-    for mark in marks {
-        if is_open(last, &mark.id) {
-            let kind = LogFaultKind::Unfinished {
-                id: mark.id.clone()?,
-            };
-            offer(best, LogFault::at(end, kind));
-        }
+    if is_open(last, &mark.id) {
+        let kind = LogFaultKind::Unfinished {
+            id: mark.id.clone()?,
+        };
+        return faults.take(end, kind);
     }
     Ok(())
 }
 
-fn is_open(last: &LastValues, id: &Bytes) -> bool
-    ensures { result ≡ is_unfinished (flat (state_of last.now id.now)) }
+/// Takes up what is left unfinished at the end of a partition.
+fn push_open(
+    faults: &mut LogFaults,
+    last: &LastValues,
+    marks: &[Mark],
+    end: Place,
+) -> Result<(), AllocError>
+    ensures { OnOk result (faults.new ≡ fold taken faults.old (flat_map (open_at (state_of last.now) end.partition end.offset) marks.now)) }
 {
-    match last.get(id) {
-        Some(Some(value)) => value.status.is_open(),
-        _ => false,
+    for mark in marks {
+        push_open_id(faults, last, mark, end)?;
     }
+    Ok(())
 }
 
 impl LogReading {
-    /// Nothing is read.
-    pub fn new(alloc: Global) -> LogReading
-        ensures { result ≡ unread }
+    /// Nothing is read, and the faults to come are kept so.
+    fn new(alloc: Global, faults: LogFaults) -> LogReading
+        ensures { result ≡ unread faults }
     {
         LogReading {
             marks: Vec::new(alloc),
             decisions: Vec::new(alloc),
-            best: None,
+            faults,
         }
     }
 
     /// Takes up a partition of the log.
-    pub fn take_part(&mut self, alloc: Global, part: &Part) -> Result<(), AllocError>
+    fn take_part(&mut self, alloc: Global, part: &Part) -> Result<(), AllocError>
         ensures { OnOk result (self.new ≡ after self.old (steps_of part.now) (part_faults part.now)) }
     {
         let from = self.marks.as_slice().len();
         let mut last = BTreeMap::new(alloc);
         take_records(alloc, self, &mut last, part)?;
-        least_open(&mut self.best, &last, &self.marks[from..], end_of(part))?;
+        push_open(&mut self.faults, &last, &self.marks[from..], end_of(part))?;
         Ok(())
     }
+}
+
+/// Reads the partitions of the log, of these of all topics.
+pub(crate) fn read_log(
+    alloc: Global,
+    parts: &[Part],
+    faults: LogFaults,
+) -> Result<LogReading, AllocError>
+    ensures { IfOk result (λ reading. reading ≡ after (unread faults) (all_steps (transaction_parts parts.now)) (flat_map part_faults (transaction_parts parts.now))) }
+{
+    let mut reading = LogReading::new(alloc, faults);
+    for part in parts {
+        if is_of_transaction_log(part) {
+            reading.take_part(alloc, part)?;
+        }
+    }
+    Ok(reading)
 }

@@ -10,9 +10,9 @@ ghost use Rattle.eos_table.specs.MatchPlaces.{at_decision, at_closes, at_markers
 use crate::MatchFault;
 use crate::decided::deciders_of;
 use crate::key::{ended_keys, listed_keys, marked_keys, name_keys};
-use crate::match_reading::read_decisions;
 use crate::one_shard::Shard;
 use crate::places::{push_closes, push_decisions, push_markers, push_names};
+use crate::transaction_log::decisions_in;
 use eos_base::distinct_in_order;
 use eos_kept::Part;
 use eos_txnlog::Decision;
@@ -90,7 +90,7 @@ fn found(
 pub fn all_match_faults(alloc: Global, parts: &[Part]) -> Result<Vec<MatchFault>, AllocError>
     ensures { let ds = decisions_of (transaction_parts parts.now) in IfOk result (λ faults. IsAllOf fault_cmp (Stands ds parts.now) faults.items) }
 {
-    let decisions = read_decisions(alloc, parts)?;
+    let decisions = decisions_in(alloc, parts)?;
     let faults = found(alloc, decisions.as_slice(), parts)?;
     Ok(distinct_in_order(faults))
 }

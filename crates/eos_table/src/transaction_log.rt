@@ -1,36 +1,46 @@
-//! The decisions of the transaction log.
+//! The decisions of the transaction log, and where it breaks its own rule.
 
-ghost use Rattle.std.specs.Prelude.{◌≡◌, IfOk, OnOk, MatchResult};
-ghost use Rattle.std.specs.List.{flat_map};
+ghost use Rattle.std.specs.Prelude.{◌≡◌, fold, IfOk, MatchResult};
+ghost use Rattle.eos_base.specs.AllOf.{IsAllOf};
 ghost use Rattle.eos_base.specs.Least.{NoneStands, IsLeast};
-ghost use Rattle.eos_table.specs.TransactionLog.{is_transaction_part, transaction_parts, AreInOrder, all_steps, decisions_of};
+ghost use Rattle.eos_table.specs.TransactionLog.{transaction_parts, AreInOrder, decisions_of};
 ghost use Rattle.eos_table.specs.LogFaults.{log_cmp, Stands as StandsInLog};
-ghost use Rattle.eos_table.specs.steps.LogCandidates.{after, unread, part_faults};
+ghost use Rattle.eos_table.specs.steps.LogCandidates.{taken};
+ghost use Rattle.eos_table.specs.steps.Doubled.{gathered};
 
-use crate::doubled::least_doubled;
+use crate::doubled::push_doubled;
 use crate::log_fault::LogFault;
-use crate::log_reading::LogReading;
+use crate::log_faults::LogFaults;
+use crate::log_reading::{LogReading, read_log};
+use eos_base::distinct_in_order;
 use eos_kept::Part;
 use eos_txnlog::Decision;
 use std::alloc::{AllocError, Global};
 
-/// Is it a partition of the transaction log?
-fn is_of_log(part: &Part) -> bool
-    ensures { result ≡ is_transaction_part part.now }
+/// What the log decided, also where it breaks its own rule.
+pub(crate) fn decisions_in(alloc: Global, parts: &[Part]) -> Result<Vec<Decision>, AllocError>
+    ensures { IfOk result (λ ds. ds.items ≡ decisions_of (transaction_parts parts.now)) }
 {
-    part.topic().as_slice() == b"__transaction_state".as_slice()
+    let LogReading { decisions, .. } = read_log(alloc, parts, LogFaults::only_least(alloc))?;
+    Ok(decisions)
 }
 
-fn read_log(alloc: Global, parts: &[Part]) -> Result<LogReading, AllocError>
-    ensures { IfOk result (λ reading. reading ≡ after unread (all_steps (transaction_parts parts.now)) (flat_map part_faults (transaction_parts parts.now))) }
+/// What the log decided, and the faults that its records show, by themselves and against each other.
+fn judge_log(
+    alloc: Global,
+    parts: &[Part],
+    faults: LogFaults,
+) -> Result<(Vec<Decision>, LogFaults), AllocError>
+    ensures decisions { IfOk result (λ judged. judged.0.items ≡ decisions_of (transaction_parts parts.now)) }
+    ensures faults { IfOk result (λ judged. judged.1 ≡ fold taken faults (gathered (transaction_parts parts.now))) }
 {
-    let mut reading = LogReading::new(alloc);
-    for part in parts {
-        if is_of_log(part) {
-            reading.take_part(alloc, part)?;
-        }
-    }
-    Ok(reading)
+    let LogReading {
+        marks,
+        decisions,
+        mut faults,
+    } = read_log(alloc, parts, faults)?;
+    push_doubled(alloc, &mut faults, marks.as_slice())?;
+    Ok((decisions, faults))
 }
 
 /// What the transaction log decided, in its order: the Prepare records among the unskipped ones of the partitions of
@@ -45,9 +55,25 @@ pub fn txn_log(alloc: Global, parts: &[Part]) -> Result<Result<Vec<Decision>, Lo
     ensures { let log = transaction_parts parts.now in AreInOrder log → IfOk result (λ answer. MatchResult answer
         (λ ds. NoneStands (StandsInLog log) × (ds.items ≡ decisions_of log)) (IsLeast log_cmp (StandsInLog log))) }
 {
-    let reading = read_log(alloc, parts)?;
-    match least_doubled(alloc, reading.best, reading.marks.as_slice())? {
-        None => Ok(Ok(reading.decisions)),
+    let (decisions, faults) = judge_log(alloc, parts, LogFaults::only_least(alloc))?;
+    match faults.into_least() {
+        None => Ok(Ok(decisions)),
         Some(fault) => Ok(Err(fault)),
     }
+}
+
+/// Every fault of the transaction log that stands, in the order in which the least of them counts, each once: where an id
+/// has a record in a lesser partition, each of its records in this one has a fault, and so on for each kind and place.
+/// None where the log keeps its rule; else the first is that of `txn_log`.
+///
+/// The parts are those of all topics, without a fault of their own, ordered by name. The work is that of `txn_log` and a
+/// sort of the faults; the memory is that of `txn_log` and of the faults.
+///
+/// # Errors
+/// Only want of memory.
+pub fn all_log_faults(alloc: Global, parts: &[Part]) -> Result<Vec<LogFault>, AllocError>
+    ensures { let log = transaction_parts parts.now in AreInOrder log → IfOk result (λ faults. IsAllOf log_cmp (StandsInLog log) faults.items) }
+{
+    let (_, faults) = judge_log(alloc, parts, LogFaults::every(alloc))?;
+    Ok(distinct_in_order(faults.into_all()))
 }

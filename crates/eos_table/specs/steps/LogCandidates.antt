@@ -1,10 +1,8 @@
--- What one pass over the transaction log gathers: the faults that a record or the end of a partition shows by itself, the
--- decisions, and of each unskipped record what later ones are held against.
-use Rattle.std.specs.Prelude.{◌≡◌, ℕ, ℤ, pos, negsuc, Bool, false, Option, Some, None, List, [], ◌∷◌, ◌++◌, map, fold, if◌then◌else◌, Ok, Err, unsigned_abs, int_lt}
+-- What one pass over the transaction log gathers: the faults that a record or the end of a partition shows by itself, of which all
+-- are kept or the least; the decisions; and of each unskipped record what later ones are held against.
+use Rattle.std.specs.Prelude.{ℕ, ℤ, pos, negsuc, Bool, false, Option, Some, None, List, [], ◌∷◌, ◌++◌, map, fold, if◌then◌else◌, Ok, Err, unsigned_abs}
 use Rattle.std.specs.List.{flat_map}
-use Rattle.std.specs.BTreeMap.{BTreeMap, get}
 use Rattle.std.specs.Ordering.{nat_cmp, is_eq}
-use Rattle.std.specs.Cmp.Lexicographic.{slice_cmp}
 use Rattle.eos_base.specs.Least.{lesser_of}
 use Rattle.eos_txnlog.specs.declared.value.TxnValue.{TxnValue}
 use Rattle.eos_txnlog.specs.declared.decision.Decision.{Decision}
@@ -16,16 +14,12 @@ use Rattle.eos_table.specs.declared.content.Content.TheVariants.{Unreadable, Oth
 use Rattle.eos_table.specs.declared.mark.Mark.{Mark}
 use Rattle.eos_table.specs.declared.log_fault.LogFault.{LogFault}
 use Rattle.eos_table.specs.declared.log_fault.LogFaultKind.{LogFaultKind}
-use Rattle.eos_table.specs.declared.log_fault.LogFaultKind.TheVariants.{BadRecord, Step, SplitId, SharedProducer, Unfinished}
-use Rattle.eos_table.specs.TransactionLog.{Id, same_id, State, nothing, flat, Unskipped, content_of, step_at, next_state, state_after, steps_of, decision_of, is_unfinished}
+use Rattle.eos_table.specs.declared.log_fault.LogFaultKind.TheVariants.{BadRecord, Step, Unfinished}
+use Rattle.eos_table.specs.TransactionLog.{Id, State, nothing, flat, Unskipped, content_of, step_at, next_state, state_after, steps_of, decision_of, is_unfinished}
 use Rattle.eos_table.specs.LogFaults.{log_cmp}
 
 abbrev pub fault_at : ℤ → ℕ → LogFaultKind → LogFault
 fault_at n o kind = record { partition = n; offset = o; kind = kind }
-
--- what a table of the last unskipped records says
-abbrev pub state_of : BTreeMap Id (Option TxnValue) → State
-state_of last id = get (slice_cmp nat_cmp) last id
 
 abbrev pub step_of : ℤ → ℕ → Id → Option TxnValue → Option TxnValue → Unskipped
 step_of n o id before value = record { partition = n; offset = o; id = id; before = before; value = value }
@@ -67,60 +61,34 @@ abbrev pub part_faults : PartLog → List LogFault
 part_faults p = faults_after nothing p.number p.items
     ++ flat_map (open_at (state_after nothing p.items) p.number (unsigned_abs p.end)) (map mark_of (steps_of p))
 
--- of the first record that a test accepts
-abbrev pub first_of : {X : Type 0} → (Mark → Bool) → (Mark → X) → List Mark → Option X
-first_of test part [] = None
-first_of test part (s ∷ ss) = if test s then Some (part s) else first_of test part ss
+-- what is kept of the faults that are found: all of them, or the least
+pub record Faults : Type 0 where
+  pub keeps_all : Bool
+  pub least : Option LogFault
+  pub all : List LogFault
 
--- the partition of the first record of an id
-abbrev pub home_in : List Mark → Id → Option ℤ
-home_in before id = first_of (λ s. same_id s.id id) (λ s. s.partition) before
-
-abbrev pub is_of_producer : ℕ → Option ℕ → Bool
-is_of_producer p None = false
-is_of_producer p (Some q) = is_eq (nat_cmp q p)
-
--- the id of the first record of a producer id
-abbrev pub owner_in : List Mark → ℕ → Option Id
-owner_in before p = first_of (λ s. is_of_producer p s.producer) (λ s. s.id) before
-
-abbrev pub owner_of : List Mark → Option ℕ → Option Id
-owner_of before None = None
-owner_of before (Some p) = owner_in before p
-
-abbrev pub split_at : Mark → Option ℤ → List LogFault
-split_at t None = []
-split_at t (Some home) = if int_lt home t.partition then fault_at t.partition t.offset (SplitId t.id) ∷ [] else []
-
-abbrev pub shared_at : Mark → Option Id → List LogFault
-shared_at t None = []
-shared_at t (Some owner) = if same_id owner t.id then [] else fault_at t.partition t.offset (SharedProducer t.id) ∷ []
-
-abbrev pub doubled_at : List Mark → Mark → List LogFault
-doubled_at before t = split_at t (home_in before t.id) ++ shared_at t (owner_of before t.producer)
-
-abbrev pub doubled_after : List Mark → List Mark → List LogFault
-doubled_after before [] = []
-doubled_after before (t ∷ ts) = doubled_at before t ++ doubled_after (before ++ t ∷ []) ts
+-- with one more
+abbrev pub taken : Faults → LogFault → Faults
+taken kept f =
+    if kept.keeps_all then record { keeps_all = kept.keeps_all; least = kept.least; all = kept.all ++ f ∷ [] }
+    else record { keeps_all = kept.keeps_all; least = lesser_of log_cmp kept.least f; all = kept.all }
 
 pub record LogRead : Type 0 where
   pub marks : List Mark
   pub decisions : List Decision
-  pub best : Option LogFault
+  pub faults : Faults
 
 -- with some more unskipped records and faults
 abbrev pub after : LogRead → List Unskipped → List LogFault → LogRead
 after r steps faults = record {
   marks = r.marks ++ map mark_of steps;
   decisions = r.decisions ++ flat_map decision_of steps;
-  best = fold (lesser_of log_cmp) r.best faults;
+  faults = fold taken r.faults faults;
 }
 
-abbrev pub unread : LogRead
-unread = record { marks = []; decisions = []; best = None }
+abbrev pub unread : Faults → LogRead
+unread faults = record { marks = []; decisions = []; faults = faults }
 
-abbrev pub AreHomes : BTreeMap Id ℤ → List Mark → Type 0
-AreHomes homes before = (id : Id) → get (slice_cmp nat_cmp) homes id ≡ home_in before id
-
-abbrev pub AreOwners : BTreeMap ℕ Id → List Mark → Type 0
-AreOwners owners before = (p : ℕ) → get nat_cmp owners p ≡ owner_in before p
+abbrev pub is_of_producer : ℕ → Option ℕ → Bool
+is_of_producer p None = false
+is_of_producer p (Some q) = is_eq (nat_cmp q p)

@@ -1,7 +1,6 @@
 use Rattle.std.proofs.Common.{◌≡◌, ◌++◌, drop}
 use Rattle.std.specs.List.{flat_map}
-use Rattle.eos_table.specs.TransactionLog.{transaction_parts}
-use Rattle.eos_table.specs.steps.Gathered.{all_steps}
+use Rattle.eos_table.specs.TransactionLog.{all_steps, transaction_parts}
 use Rattle.eos_picture.specs.Transactions.{column_at}
 use Rattle.eos_picture.proofs.transactions.decided.Given as goal
 

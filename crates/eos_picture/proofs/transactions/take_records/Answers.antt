@@ -1,7 +1,6 @@
 use Rattle.std.proofs.Common.{◌≡◌, ◌++◌, subst}
 use Rattle.std.specs.List.{flat_map}
-use Rattle.eos_table.specs.steps.LogCandidates.{state_of}
-use Rattle.eos_table.specs.steps.Gathered.{steps_after, steps_of}
+use Rattle.eos_table.specs.TransactionLog.{state_of, steps_after, steps_of}
 use Rattle.eos_picture.specs.Transactions.{column_at}
 use Rattle.eos_picture.proofs.Steps.{one_record}
 use Rattle.eos_picture.proofs.transactions.take_records.Goals as goal

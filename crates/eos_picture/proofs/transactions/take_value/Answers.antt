@@ -1,8 +1,7 @@
 use Rattle.std.proofs.Common.{◌≡◌, ◌++◌, sym, ap, ◌∙◌}
 use Rattle.std.specs.Option.{option_map, option_copied}
 use Rattle.eos_txnlog.specs.Skips.{is_skipped}
-use Rattle.eos_table.specs.TransactionLog.{flat}
-use Rattle.eos_table.specs.steps.LogCandidates.{state_of}
+use Rattle.eos_table.specs.TransactionLog.{flat, state_of}
 use Rattle.eos_table.proofs.LogSteps.{lent_flat}
 use Rattle.eos_picture.specs.Transactions.{column_between}
 use Rattle.eos_picture.proofs.Steps.{unskipped_step}

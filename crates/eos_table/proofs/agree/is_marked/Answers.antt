@@ -1,4 +1,4 @@
-use Rattle.std.proofs.Common.{List, map, sym, subst, IsPermutation}
+use Rattle.std.proofs.Common.{List, map, subst, IsPermutation}
 use Rattle.eos_batch.specs.declared.marker.Marker.{Marker}
 use Rattle.eos_fold.specs.declared.close.Close.{Close}
 use Rattle.eos_table.specs.steps.Wanted.{marker_end, close_end, AreWithin}

@@ -1,7 +1,6 @@
 use Rattle.std.proofs.Common.{◌≡◌, sym, subst, ◌∙◌}
 use Rattle.std.specs.Result.{OnOk}
-use Rattle.eos_table.specs.TransactionLog.{next_state}
-use Rattle.eos_table.specs.steps.LogCandidates.{state_of}
+use Rattle.eos_table.specs.TransactionLog.{next_state, state_of}
 use Rattle.eos_table.proofs.log_reading.take_record.Goals as goal
 
 pub returns-in-Of-clause-last : goal.returns-in-Of-clause-last

@@ -1,6 +1,6 @@
 use Rattle.std.proofs.Common.{◌≡◌, length}
-use Rattle.eos_table.specs.TransactionLog.{steps_after, state_after}
-use Rattle.eos_table.specs.steps.LogCandidates.{after, faults_after, state_of}
+use Rattle.eos_table.specs.TransactionLog.{steps_after, state_after, state_of}
+use Rattle.eos_table.specs.steps.LogCandidates.{after, faults_after}
 use Rattle.eos_table.proofs.log_reading.take_records.Given as goal
 
 -- what is left to read

@@ -1,8 +1,8 @@
 use Rattle.std.proofs.Common.{◌≡◌, [], ◌∷◌, sym, ap, ◌∙◌}
 use Rattle.std.specs.Option.{option_map, option_copied}
 use Rattle.eos_txnlog.specs.Skips.{is_skipped}
-use Rattle.eos_table.specs.TransactionLog.{flat}
-use Rattle.eos_table.specs.steps.LogCandidates.{state_of, after, step_of, step_faults}
+use Rattle.eos_table.specs.TransactionLog.{flat, state_of}
+use Rattle.eos_table.specs.steps.LogCandidates.{after, step_of, step_faults}
 use Rattle.eos_table.proofs.LogSteps.{unskipped_step, lent_flat}
 use Rattle.eos_table.proofs.log_reading.take_value.Goals as goal
 

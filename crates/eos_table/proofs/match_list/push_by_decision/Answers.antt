@@ -1,4 +1,4 @@
-use Rattle.std.proofs.Common.{◌++◌, map, sym, ap, subst, ◌∙◌, IsPermutation, append_assoc}
+use Rattle.std.proofs.Common.{◌++◌, map, ap, subst, ◌∙◌, IsPermutation, append_assoc}
 use Rattle.std.specs.List.{flat_map}
 use Rattle.eos_table.specs.MatchPlaces.{at_decision, at_closes}
 use Rattle.eos_table.specs.steps.Keys.{listed, plain_listed}

@@ -1,4 +1,4 @@
-use Rattle.std.proofs.Common.{◌++◌, map, sym, ap, subst, ◌∙◌, IsPermutation}
+use Rattle.std.proofs.Common.{◌++◌, map, ap, subst, ◌∙◌, IsPermutation}
 use Rattle.eos_table.specs.steps.Keys.{ended, plain_ended}
 use Rattle.eos_table.specs.steps.OneShard.{OneShard}
 use Rattle.eos_table.proofs.TablesShown.{all_markers}

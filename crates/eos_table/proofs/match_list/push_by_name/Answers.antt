@@ -1,5 +1,5 @@
-use Rattle.std.proofs.Common.{◌++◌, map, sym, ap, subst, ◌∙◌, IsPermutation}
-use Rattle.eos_table.specs.steps.Keys.{names, plain_name, marked, plain_ended}
+use Rattle.std.proofs.Common.{◌++◌, map, ap, subst, ◌∙◌, IsPermutation}
+use Rattle.eos_table.specs.steps.Keys.{plain_name, marked, plain_ended}
 use Rattle.eos_table.specs.steps.OneShard.{OneShard}
 use Rattle.eos_table.proofs.TablesShown.{all_names}
 use Rattle.eos_table.proofs.match_list.push_by_name.Goals as goal

@@ -1,4 +1,4 @@
-use Rattle.std.proofs.Common.{◌≡◌, List, Some, Vec, Global, true, sym, subst}
+use Rattle.std.proofs.Common.{◌≡◌, List, Vec, Global, true, sym, subst}
 use Rattle.std.specs.Prelude.{IfSome}
 use Rattle.std.proofs.lemmas.Result.{IfOk-weaker}
 use Rattle.eos_base.specs.Least.{NoneStands}

@@ -1,4 +1,3 @@
-use Rattle.std.proofs.Common.{subst}
 use Rattle.eos_table.proofs.WantedLists.{decision_had}
 use Rattle.eos_table.proofs.wanted.wanted_of.Goals as goal
 

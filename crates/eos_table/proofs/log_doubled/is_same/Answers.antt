@@ -1,6 +1,0 @@
-use Rattle.std.proofs.Common.{sym, ◌∙◌}
-use Rattle.std.proofs.lemmas.Map.Text.{is_eq-slice_cmp}
-use Rattle.eos_table.proofs.log_doubled.is_same.Goals as goal
-
-pub returns : goal.returns
-returns c = c.eq.ensures ∙ sym (is_eq-slice_cmp c.args.id.now c.args.other.now)

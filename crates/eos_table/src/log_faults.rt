@@ -1,0 +1,77 @@
+//! The faults of the transaction log as they are found: all are kept, or only the least.
+
+ghost use Rattle.std.specs.Prelude.{◌≡◌, [], None, true, false, OnOk};
+ghost use Rattle.eos_table.specs.steps.LogCandidates.{fault_at, taken};
+
+use crate::log_fault::{LogFault, LogFaultKind};
+use crate::mark::Place;
+use eos_base::offer;
+use std::alloc::{AllocError, Global};
+use std::marker::Model;
+
+/// What is kept of the faults that are found.
+#[derive(Drop)]
+pub(crate) struct LogFaults {
+    keeps_all: bool,
+    least: Option<LogFault>,
+    all: Vec<LogFault>,
+}
+
+impl Model for LogFaults {
+    ghost use Rattle.eos_table.specs.steps.LogCandidates.{Faults};
+
+    ghost Value = { Faults };
+
+    ghost view = { λ f. record { keeps_all = f.keeps_all; least = f.least; all = f.all.items } };
+}
+
+impl LogFaults {
+    /// Of those to come only the least is kept.
+    pub fn only_least(alloc: Global) -> LogFaults
+        ensures { result ≡ record { keeps_all = false; least = None; all = [] } }
+    {
+        LogFaults {
+            keeps_all: false,
+            least: None,
+            all: Vec::new(alloc),
+        }
+    }
+
+    /// All of those to come are kept.
+    pub fn every(alloc: Global) -> LogFaults
+        ensures { result ≡ record { keeps_all = true; least = None; all = [] } }
+    {
+        LogFaults {
+            keeps_all: true,
+            least: None,
+            all: Vec::new(alloc),
+        }
+    }
+
+    /// Takes up a fault at a place.
+    pub fn take(&mut self, place: Place, kind: LogFaultKind) -> Result<(), AllocError>
+        ensures { OnOk result (self.new ≡ taken self.old (fault_at place.partition place.offset kind)) }
+    {
+        let fault = LogFault::at(place, kind);
+        if self.keeps_all {
+            self.all.push(fault)?;
+        } else {
+            offer(&mut self.least, fault);
+        }
+        Ok(())
+    }
+
+    /// The least, if only that was to be kept; none where none was found.
+    pub fn into_least(self) -> Option<LogFault>
+        ensures { result ≡ self.least }
+    {
+        self.least
+    }
+
+    /// All, if they were to be kept, in the order in which they were found, one perhaps more than once.
+    pub fn into_all(self) -> Vec<LogFault>
+        ensures { result.items ≡ self.all }
+    {
+        self.all
+    }
+}
