@@ -3,7 +3,6 @@
 ghost use Rattle.std.specs.Prelude.{◌≡◌, ◌++◌, false, IfOk, OnOk, string_bytes};
 ghost use Rattle.std.specs.Str.{IsCharBoundary};
 ghost use Rattle.serde_json.specs.Written.{compact_text, comma_if, items_text};
-ghost use Rattle.eos_text.specs.Adding.{Adds};
 ghost use Rattle.eos_report.specs.FaultValues.{fault_value};
 ghost use Rattle.eos_report.specs.Reports.{fault_items};
 ghost use Rattle.eos_report.specs.steps.Texts.{array_end, IsRead, AreRead};
@@ -11,7 +10,6 @@ ghost use Rattle.eos_report.specs.steps.Frames.{with_faults, Opens, IsFilled};
 
 use crate::json_fault::value_of_fault;
 use eos_check::{Fault, Verdict};
-use eos_text::push_text;
 use std::alloc::{AllocError, Global};
 
 /// What stands before the first fault in the report of a no, whose members stand in the order of their names.
@@ -42,13 +40,13 @@ fn with_faults(alloc: Global, frame: &str, faults: &[Fault]) -> Result<String, A
     let (_, rest) = frame.split_at(26);
     let mut text = String::from_str(alloc, HEAD)?;
     push_items(alloc, &mut text, faults)?;
-    push_text(&mut text, rest)?;
+    text.push_str(rest)?;
     Ok(text)
 }
 
 /// Adds the objects of faults, and the bracket that closes their array.
 fn push_items(alloc: Global, out: &mut String, faults: &[Fault]) -> Result<(), AllocError>
-    ensures text { OnOk result (Adds (string_bytes out.old) (string_bytes out.new) (items_text false (fault_items faults.now))) }
+    ensures text { OnOk result (string_bytes out.new ≡ string_bytes out.old ++ items_text false (fault_items faults.now)) }
     ensures read { OnOk result (AreRead (fault_items faults.now)) }
 {
     let mut later = false;
@@ -56,18 +54,18 @@ fn push_items(alloc: Global, out: &mut String, faults: &[Fault]) -> Result<(), A
         push_item(alloc, out, later, fault)?;
         later = true;
     }
-    push_text(out, "]")
+    out.push_str("]")
 }
 
 /// Adds the object of a fault, after a comma where another stands before it.
 fn push_item(alloc: Global, out: &mut String, later: bool, fault: &Fault) -> Result<(), AllocError>
-    ensures text { OnOk result (Adds (string_bytes out.old) (string_bytes out.new) (comma_if later ++ compact_text (fault_value fault.now))) }
+    ensures text { OnOk result (string_bytes out.new ≡ string_bytes out.old ++ (comma_if later ++ compact_text (fault_value fault.now))) }
     ensures read { OnOk result (IsRead (fault_value fault.now)) }
 {
     let object = text_of_fault(alloc, fault)?;
     let comma = if later { "," } else { "" };
-    push_text(out, comma)?;
-    push_text(out, object.as_str())
+    out.push_str(comma)?;
+    out.push_str(object.as_str())
 }
 
 fn text_of_fault(alloc: Global, fault: &Fault) -> Result<String, AllocError>
