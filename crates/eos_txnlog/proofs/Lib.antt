@@ -3,3 +3,4 @@ pub mod FieldTexts
 pub mod ValueTexts
 pub mod Appended
 pub mod WrittenTexts
+mod SameLists

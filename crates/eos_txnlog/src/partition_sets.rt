@@ -72,8 +72,15 @@ fn are_same(xs: &[PartitionName], ys: &[PartitionName]) -> bool
     are_within(xs, ys) && are_within(ys, xs)
 }
 
-/// Whether two lists of partitions are one set. What they list is put in order, so that no list is walked for each item of
-/// the other.
+/// Whether both list the same in one order, as a record does that stands twice.
+fn are_alike(a: &[TopicPartitions], b: &[TopicPartitions]) -> bool
+    ensures { result ≡ true → a.now ≡ b.now }
+{
+    a == b
+}
+
+/// Whether two lists of partitions are one set. Where they aren't one list, what they list is put in order, so that no list is
+/// walked for each item of the other.
 ///
 /// # Errors
 /// Want of memory alone.
@@ -85,6 +92,9 @@ pub fn is_same_set(
     ensures value { IfOk result (λ same. same ≡ is_same_set a.now b.now) }
     ensures meaning { IfOk result (λ same. (same ≡ true) ↔ IsSameSet a.now b.now) }
 {
+    if are_alike(a, b) {
+        return Ok(true);
+    }
     let xs = in_order(names_of(alloc, a)?);
     let ys = in_order(names_of(alloc, b)?);
     Ok(are_same(xs.as_slice(), ys.as_slice()))
