@@ -34,6 +34,19 @@ impl<'a> HostDisk<'a> {
         }
     }
 
+    /// Trusted: what stands at the first path stands at the second too. No part of its caller, nor is `rename`: each path of a call takes
+    /// 4 KiB of the stack.
+    #[inline(never)]
+    fn link(&self, from: &str, to: &str) -> io::Result<()> {
+        fs::hard_link(self.rt, from, to)
+    }
+
+    /// Trusted: what stood at the first path stands at the second.
+    #[inline(never)]
+    fn rename(&self, from: &str, to: &str) -> io::Result<()> {
+        fs::rename(self.rt, from, to)
+    }
+
     /// Trusted: an open folder. No part of its caller, so that no stack holds twice what it moves: 8 KiB for names.
     #[inline(never)]
     fn open_folder(&self, path: &str) -> io::Result<ReadDir> {
@@ -107,13 +120,13 @@ impl<'a> DiskMut for HostDisk<'a> {
 
     /// Trusted: nothing is written over where the files' system knows second names. Where it doesn't the file is renamed.
     fn publish(&mut self, _: Global, from: &str, to: &str) -> Result<(), ChangeFault> {
-        match fs::hard_link(self.rt, from, to) {
+        match self.link(from, to) {
             Ok(()) => {
                 let _ = fs::remove_file(self.rt, from);
                 Ok(())
             }
             Err(_) if self.stands(to) => Err(ChangeFault::ThereAlready),
-            Err(_) => Ok(fs::rename(self.rt, from, to)?),
+            Err(_) => Ok(self.rename(from, to)?),
         }
     }
 
