@@ -36,7 +36,7 @@ one_batch : (offset : ℤ) (n : ℕ) (last found : Option ℤ) (epoch : ℤ) (es
 one_batch offset n last found epoch es true below c q agree = ap (λ (b : Bool). epoch_below offset (if b then Some epoch else found) es) q
 one_batch offset n last found epoch es false false c q agree = refl
 one_batch offset n last found epoch es false true c q (inl same) = ap (λ (x : Option ℤ). epoch_below offset x es) (sym same ∙ unchanged last epoch c)
-one_batch offset n last found epoch es false true c q (inr no) = absurd (let h : true ≡ false = sym q ∙ no in cc)
+one_batch offset n last found epoch es false true c q (inr none) = absurd (let h : true ≡ false = sym q ∙ none in cc)
 
 agree_on : (offset : ℤ) (n k : ℕ) (found : Option ℤ) (epoch : ℤ) (below : Bool) → int_lt (pos n) offset ≡ below → Agree offset (n + k) (Some epoch) (if below then Some epoch else found)
 agree_on offset n k found epoch true q = inl refl
@@ -44,7 +44,7 @@ agree_on offset n k found epoch false q = inr (later offset n k q)
 
 by_batches : (offset : ℤ) (n : ℕ) (last found : Option ℤ) (bs : List Batch) → ContinuesFrom n bs → Agree offset n last found → epoch_below offset found (epoch_entries last bs) ≡ epoch_before offset found bs
 by_batches offset n last found [] h agree = refl
-by_batches offset n last found (b ∷ bs) h agree = go (int_lt (pos n) offset) refl
+by_batches offset n last found (b ∷ bs) h agree = go (λ x g. by_batches offset (n + length b.records) (Some b.leader_epoch) x bs h.1 g) (int_lt (pos n) offset) refl
   where
     at : offset_of b ≡ n
     at = ap unsigned_abs h.0
@@ -52,11 +52,11 @@ by_batches offset n last found (b ∷ bs) h agree = go (int_lt (pos n) offset) r
     rest : List EpochEntry
     rest = epoch_entries (Some b.leader_epoch) bs
 
-    go : (below : Bool) → int_lt (pos n) offset ≡ below → epoch_below offset found (epoch_entries last (b ∷ bs)) ≡ epoch_before offset found (b ∷ bs)
-    go below q =
+    go : ((x : Option ℤ) → Agree offset (n + length b.records) (Some b.leader_epoch) x → epoch_below offset x rest ≡ epoch_before offset x bs) → (below : Bool) → int_lt (pos n) offset ≡ below → epoch_below offset found (epoch_entries last (b ∷ bs)) ≡ epoch_before offset found (b ∷ bs)
+    go more below q =
         ap (λ (m : ℕ). epoch_below offset found (entry_at (is_change last b.leader_epoch) m b.leader_epoch ++ rest)) at
         ∙ (one_batch offset n last found b.leader_epoch rest (is_change last b.leader_epoch) below refl q agree
-        ∙ (by_batches offset (n + length b.records) (Some b.leader_epoch) (if below then Some b.leader_epoch else found) bs h.1 (agree_on offset n (length b.records) found b.leader_epoch below q)
+        ∙ (more (if below then Some b.leader_epoch else found) (agree_on offset n (length b.records) found b.leader_epoch below q)
         ∙ sym (ap (λ (m : ℕ). epoch_before offset (if int_lt (pos m) offset then Some b.leader_epoch else found) bs) at
         ∙ ap (λ (t : Bool). epoch_before offset (if t then Some b.leader_epoch else found) bs) q)))
 

@@ -28,7 +28,7 @@ renamed_is (c ∷ cs) = ap (λ (xs : List Commit). plain_commit (renamed c) ∷ 
 epoch_is : (name : PartitionName) (d : ℤ) (cs : List EpochCommit)
     → last_offset d (filter (λ (c : Commit). is_eq (name_cmp c.partition name)) (map with_epoch cs)) ≡ last_epoch d (filter (λ (c : EpochCommit). is_eq (name_cmp c.commit.partition name)) cs)
 epoch_is name d [] = refl
-epoch_is name d (c ∷ cs) = go (is_eq (name_cmp c.commit.partition name))
+epoch_is name d (c ∷ cs) = go (is_eq (name_cmp c.commit.partition name)) (epoch_is name c.leader_epoch cs) (epoch_is name d cs)
   where
     few : List Commit
     few = filter (λ (x : Commit). is_eq (name_cmp x.partition name)) (map with_epoch cs)
@@ -36,9 +36,9 @@ epoch_is name d (c ∷ cs) = go (is_eq (name_cmp c.commit.partition name))
     named : List EpochCommit
     named = filter (λ (x : EpochCommit). is_eq (name_cmp x.commit.partition name)) cs
 
-    go : (b : Bool) → last_offset d (cond b (with_epoch c ∷ few) few) ≡ last_epoch d (cond b (c ∷ named) named)
-    go true = epoch_is name c.leader_epoch cs
-    go false = epoch_is name d cs
+    go : (b : Bool) → last_offset c.leader_epoch few ≡ last_epoch c.leader_epoch named → last_offset d few ≡ last_epoch d named → last_offset d (cond b (with_epoch c ∷ few) few) ≡ last_epoch d (cond b (c ∷ named) named)
+    go true here past = here
+    go false here past = past
 
 all_epochs : (cs : List EpochCommit) (names : List PartitionName) → map (committed_offset (map with_epoch cs)) names ≡ map (committed_epoch cs) names
 all_epochs cs [] = refl

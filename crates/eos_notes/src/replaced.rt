@@ -99,8 +99,8 @@ fn push_each(
     logs: Led<'_>,
     committed: Committed<'_>,
 ) -> Result<(), AllocError>
-    ensures { OnOk result ((of : CommittedOf) → AreCommitted of (map part_name logs.parts.now) committed.offsets.now committed.epochs.now
-        → all.new.items ≡ all.old.items ++ by_entries (other_at group.now of) (map part_name logs.parts.now) logs.epochs.now) }
+    ensures { OnOk result ((of : CommittedOf) → AreCommitted of (map part_name logs.entry.parts.now) committed.entry.offsets.now committed.entry.epochs.now
+        → all.new.items ≡ all.old.items ++ by_entries (other_at group.now of) (map part_name logs.entry.parts.now) logs.entry.epochs.now) }
 {
     let parts = logs.parts;
     let epochs = logs.epochs;
@@ -119,7 +119,7 @@ fn push_each(
 
 /// The commit with the leader epoch that it names in place of its offset.
 fn with_epoch<'a>(commit: CommitRef<'a>) -> CommitRef<'a>
-    ensures { result ≡ renamed commit }
+    ensures { result ≡ renamed commit.entry }
 {
     CommitRef {
         offset: i64::from(commit.leader_epoch),
@@ -146,7 +146,7 @@ fn push_app(
     table: &CommitTable<'_>,
 ) -> Result<(), AllocError>
     requires { (apps : List AppOf) × IsTableOf apps logs.parts.now table.now × Has apps app.now }
-    ensures { AreInOrder logs.parts.now → OnOk result (all.new.items ≡ all.old.items ++ others_in logs.parts.now logs.epochs.now app.now) }
+    ensures { AreInOrder logs.entry.parts.now → OnOk result (all.new.items ≡ all.old.items ++ others_in logs.entry.parts.now logs.entry.epochs.now app.now) }
 {
     let commits = table.commits_of(alloc, app)?;
     let offsets = committed_offsets(alloc, logs.parts, commits.as_slice())?;
