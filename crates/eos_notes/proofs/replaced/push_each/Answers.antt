@@ -13,10 +13,10 @@ loop-i-preserved c = λ of are.
     let epochs = c.args.committed.epochs.now in
     let name = part_name c.index-parts-i.result in
     let o = to_z w64 (of_z w64 c.offset_at.result) in
-    let e = to_z w64 (of_z w64 c.offset_at-2.result) in
+    let e = to_z w64 (of_z w64 c.offset_at-in-loop-i.result) in
     let read : o ≡ get_or offsets c.loop-i.i (pos 0) = search rules in
     let read' : e ≡ get_or epochs c.loop-i.i (pos 0) = search rules in
-    let pushed = c.in_ok-push_other.ensures ∙ ap (λ (es : List EpochEntry). c.loop-i.all.items ++ other_note group name o e (epoch_below o None es)) c.as_slice.ensures.value in
+    let pushed = c.in_ok-push_other.ensures ∙ ap (λ (es : List EpochEntry). c.loop-i.all.items ++ other_note group name o e (epoch_below o None es)) c.as_slice.ensures in
     each_on group of c.args.logs.parts.now c.args.logs.epochs.now offsets epochs c.loop-i.i c.index-parts-i.result c.index-epochs-i.result o e c.loop-i.all.items c.push_other.new.all.items _ c.loop-i-test.true
     c.if-i-epochs.false c.index-parts-i.is c.index-epochs-i.is read read' are pushed (c.loop-i.invariant of are)
 
