@@ -4,16 +4,18 @@
     python3 -B tests/pictures.py PROGRAM
 
 Each folder is made here, of transactions of a few producers in named partitions, with a marker lost, exchanged, doubled or of a wrong
-epoch, a record of the transaction log that doesn't read, long transactional ids, or fifty partitions of that log. What is looked for is
-written by hand: which transactions are shown and in which order, in which row and which transaction's column a mark stands, of which class
-it is, and what is told of it, with its time, also where that is none of a calendar's years. Where rsvg-convert or chromium is there, the pictures are rendered, and the marks looked for by their colour.
-Run it in the repository's top folder.
+epoch, a record of the transaction log that doesn't read, an output without headers, one that is lost or has no commit, long transactional
+ids, or fifty partitions of that log. What is looked for is written by hand: which transactions are shown and in which order, in which row
+and which transaction's column a mark stands, of which class it is, and what is told of it, with its time, also where that is none of a
+calendar's years. Where rsvg-convert or chromium is there, the pictures are rendered, and the marks and the rings around the fault's places
+looked for by their colour. Run it in the repository's top folder.
 The last line is 'N passed, N failed'.
 """
 import os
 import random
 import re
 import shutil
+import struct
 import subprocess
 import sys
 import tempfile
@@ -21,12 +23,12 @@ import xml.etree.ElementTree as xml
 
 import made_evidence
 from draw import SPACE, pixels_of
-from made_evidence import STATES
+from made_evidence import OFFSETS, STATES, commit_record
 from random_evidence import Folder, Piece, sealed
 from story_lines import TIMES, time_text, with_times
 
 COMMIT, ABORT = 1, 0
-RED, BLUE, WHITE = (0xD0, 0, 0), (0, 0x72, 0xB2), (255, 255, 255)
+BLUE, WHITE, GREY = (0, 0x72, 0xB2), (255, 255, 255), (0xD4, 0xD4, 0xD4)
 
 passed = failed = 0
 
@@ -46,6 +48,9 @@ class Always:
     def choice(self, those):
         return those[0]
 
+    def randrange(self, count):
+        return 0
+
     def random(self):
         return 0.9
 
@@ -61,7 +66,7 @@ class Cluster:
             held.clear()
         for name in (*names, *self.homes):
             self.maker.logs[name], self.maker.lengths[name], self.maker.visible[name], self.maker.open[name] = [], 0, [], {}
-        self.epochs = {}
+        self.epochs, self.apps = {}, []
 
     def state(self, producer, epoch, status, listed=()):
         name = b"id-%d" % producer if producer not in self.ids else self.ids[producer]
@@ -94,12 +99,25 @@ class Cluster:
 
     def write(self, path, change=lambda folder: None):
         folder = Folder.__new__(Folder)
-        folder.manifest = {"version": 2, "apps": [], "ends": dict(self.maker.lengths)}
+        folder.manifest = {"version": 2, "apps": self.apps, "ends": dict(self.maker.lengths)}
         folder.logs = {name: [Piece(it) for it in log] or [Piece(b"", 0)] for name, log in self.maker.logs.items()}
         for log in folder.logs.values():
             log[0].name = 0
         change(folder)
         folder.write(path)
+
+    def process(self, producer, *records, commits=()):
+        """A transaction writes these records into out-0, and commits these offsets of the sources' partitions."""
+        names = [name for name, some in (("out-0", records), (GROUPS, commits)) if some]
+        epoch = self.epochs.setdefault(producer, 0)
+        if epoch == 0:
+            self.state(producer, 0, 0)
+        self.state(producer, epoch, 1, names)
+        if records:
+            self.maker.append("out-0", list(records), producer, epoch, 16)
+        if commits:
+            self.maker.append(GROUPS, [commit_record(self.maker.rng, b"g", *it) for it in commits], producer, epoch, 16)
+        self.end(producer, *names)
 
 
 # ---- the folders, and what their pictures have to show: the place's row, the producer id and epoch of the column, the class, what is told
@@ -210,6 +228,54 @@ def bad_state_of_many(cluster):
     cluster.maker.append(cluster.homes[9], [(b"\0\0\0\1x", b"\0\x09", [])])
 
 
+GROUPS = OFFSETS + "-0"
+
+
+def output_of(source, offset):
+    topic, number = source.split("-")
+    headers = [(b"eo.topic", topic.encode()), (b"eo.partition", struct.pack(">i", int(number))), (b"eo.offset", struct.pack(">q", offset))]
+    return None, b"out", headers + [(b"eo.output", struct.pack(">i", 1)), (b"eo.of", struct.pack(">i", 1))]
+
+
+def in_turns(cluster, odd):
+    """An application of three producers works on thirty inputs in turns; what is odd comes in place of the twenty-first, or beside it."""
+    cluster.apps = [{"group": "g", "sources": ["in"], "outputs": ["out"]}]
+    cluster.maker.append("in-0", [(None, b"x", [])] * 30)
+    cluster.maker.append("in-1", [(None, b"x", [])])
+    for n in range(30):
+        if n == 20:
+            odd(7 + n % 3, n)
+        else:
+            cluster.process(7 + n % 3, output_of("in-0", n), commits=[("in-0", n + 1)])
+
+
+def lost_output(cluster):
+    in_turns(cluster, lambda producer, n: cluster.process(producer, commits=[("in-0", n + 1)]))
+
+
+def lost_commit(cluster):
+    """Its transaction works on an input of in-1 too, and commits nothing of that."""
+    in_turns(cluster, lambda producer, n: cluster.process(producer, output_of("in-0", n), output_of("in-1", 0), commits=[("in-0", n + 1)]))
+
+
+def without_headers(cluster):
+    in_turns(cluster, lambda producer, n: cluster.process(producer, output_of("in-0", n), (None, b"out", []), commits=[("in-0", n + 1)]))
+
+
+def deleted_offset(cluster):
+    """The transaction deletes the group's offset, by a record without a value, after it committed it."""
+    key = commit_record(cluster.maker.rng, b"g", "in-0", 0)[0]
+
+    def odd(producer, n):
+        cluster.begin(producer, "out-1")
+        cluster.maker.append("out-0", [output_of("in-0", n)], producer, n // 3, 16)
+        cluster.maker.append(GROUPS, [commit_record(cluster.maker.rng, b"g", "in-0", n + 1), (key, None, [])], producer, n // 3, 16)
+        cluster.state(producer, n // 3, 1, ["out-1", "out-0", GROUPS])
+        cluster.end(producer, "out-1", "out-0", GROUPS)
+
+    in_turns(cluster, odd)
+
+
 CASES = {
     "lost": (lost, "no 1.6 EpochWhileOpen out-0 offset=5 producer=7", [
         ("out-0", "7/0", "missing", "missing: the end marker COMMIT"), ("out-0", "7/0", "open", "out-0:0 data record, open: its own"),
@@ -239,11 +305,23 @@ CASES = {
     "take_turns": (take_turns, "no 1.11 OpenAtEnd out-0 offset=26 producer=8", [("out-0", "8/4", "missing", "a place of the fault")]),
     "bad_state_of_many": (bad_state_of_many, "no 2.1 BadRecord __transaction_state-9 offset=8", [
         (STATES + "-9", "none", "page", "a place of the fault")]),
+    "without_headers": (without_headers, "no 4.1 BadLineage out-0 offset=41", [
+        ("out-0", "9/6", "committed", "out-0:41 data record, committed, pid 9 epoch 6"), ("out-0", "9/6", "committed", "a place of the fault")]),
+    "deleted_offset": (deleted_offset, "no 4.4 OffsetDeleted __consumer_offsets-0 offset=41", [
+        (GROUPS, "9/6", "committed", "a place of the fault")]),
+    "lost_output": (lost_output, "no 5.11 Missing source=in-0:20 output=1", [
+        (GROUPS, "9/6", "committed", "commit of in-0 at 21, committed, pid 9 epoch 6"), (GROUPS, "9/6", "committed", "a place of the fault"),
+        ("in-0", "9/6", "passed", "inputs passed by its commit: [20,21)")]),
+    "lost_commit": (lost_commit, "no 5.7 Early source=in-1:0 output=1 at=out-0:41", [
+        ("out-0", "9/6", "committed", "out-0:41 data record, committed, pid 9 epoch 6"), ("out-0", "9/6", "committed", "a place of the fault")]),
 }
+# the transactions around the twenty-first
+IN_TURNS = [f"{7 + n % 3}/{n // 3}" for n in range(14, 27)]
 # the partitions of the transaction log, where there are more than one
 HOMES = {"many_homes": 50, "bad_state_of_many": 50, "take_turns": 2}
 # the transactions that share a partition with the fault, in the order of its log
 COLUMNS = {
+    **{name: IN_TURNS for name in ("without_headers", "deleted_offset", "lost_output", "lost_commit")},
     "many_homes": ["109/0", "119/0", "129/0", "139/0", "149/0", "159/0"],
     "take_turns": ["7/1", "8/1", "7/2", "8/2", "7/3", "8/3", "8/4"],
     "bad_state_of_many": ["109/0", "159/0"],
@@ -313,7 +391,7 @@ class Picture:
 
 def check(name, make, line, wanted):
     folder, path = os.path.join(scratch, name), os.path.join(scratch, name + ".svg")
-    cluster = Cluster("out-0", "out-1", homes=HOMES.get(name, 1))
+    cluster = Cluster("out-0", "out-1", *(["in-0", "in-1", GROUPS] if name in COLUMNS and COLUMNS[name] is IN_TURNS else []), homes=HOMES.get(name, 1))
     make(cluster)
     cluster.write(folder)
     answer = subprocess.run([program, "check", "--quiet", folder], capture_output=True, timeout=100).stdout.decode().strip()
@@ -350,7 +428,7 @@ def check_times():
         for appended in False, True:
             name = f"time {time} {appended}"
             folder, path = os.path.join(scratch, name), os.path.join(scratch, name + ".svg")
-            cluster = Cluster("out-0", "out-1")
+            cluster = Cluster("out-0")
             both_kinds(cluster)
             cluster.write(folder, with_times(sealed, 7 if appended else time, time if appended else 7, appended))
             done = subprocess.run([program, "draw", folder, path], capture_output=True, timeout=100)
@@ -378,7 +456,8 @@ def renderers():
 
 
 def look_at(name, path, picture):
-    """Of each marker the colour of its middle, and at the edge of one that is missing some red and some of the ground."""
+    """Of each marker the colour of its middle, and at the edge of one that is missing some red and some of the ground; of each box the
+    colour of its corner; and of each ring, that of the legend too, some red of its upper edge."""
     width, height = int(picture.root.get("width")), int(picture.root.get("height"))
     for tool, command in ways:
         image = path + ".png"
@@ -391,10 +470,17 @@ def look_at(name, path, picture):
             if look in ("commit-marker", "abort-marker", "missing"):
                 want = {"commit-marker": BLUE, "abort-marker": WHITE, "missing": WHITE}[look]
                 same(f"{name}, {tool}: the middle of {look} of {writer}", rows[y + 7][x + 7], want)
+            elif look in ("committed", "aborted", "open"):
+                want = {"committed": BLUE, "aborted": GREY, "open": WHITE}[look]
+                same(f"{name}, {tool}: the corner of {look} of {writer}", rows[y + 2][x + 2], want)
             if look == "missing":
                 edge = [rows[y + abs(7 - k)][x + k] for k in range(15)] + [rows[y + 14 - abs(7 - k)][x + k] for k in range(15)]
                 reds = sum(1 for r, g, b in edge if r > 150 and g < 130 and b < 130)
                 same(f"{name}, {tool}: the dashes of what is missing of {writer}, {reds} of {len(edge)}", 3 < reds < len(edge), True)
+        for it in picture.root.iter(SPACE + "rect"):
+            if it.get("class") == "fault":
+                r, g, b = rows[int(it.get("y"))][int(it.get("x")) + 8]
+                same(f"{name}, {tool}: the ring at {it.get('x')},{it.get('y')}", r > 180 and g < 60 and b < 60, True)
         os.remove(image)
 
 
