@@ -11,7 +11,8 @@ nothing half written is left. With REFUSE.SO (tests/refuse.c, built) the allocat
 The last line is 'N passed, N failed'.
 
 Where a Chromium is on the path, it lays each kind's page out at 360 and at 1,400 pixels: nothing is wider than the window but what moves
-inside its own box, and printed no picture is wider than the paper. Whether it is a pleasure to read no program judges.
+inside its own box, and printed no picture is wider than the paper; and the tree that it reads is the page's own, with nothing mended. Where
+Python's html5lib (Debian's python3-html5lib) or `tidy` is there, neither finds an error. Whether it is a pleasure to read no program judges.
 """
 import collections
 import html
@@ -395,6 +396,62 @@ def without_memory(library):
     same("refused allocations are told", (told > 100, lacking > 100), (True, True))
 
 
+# ---- how browsers read it
+
+class Tree(html.parser.HTMLParser):
+    """A page as a list of its tags, with what they are given, and of its texts but for spaces; tables have the part that each browser adds."""
+
+    def __init__(self, text):
+        super().__init__(convert_charrefs=True)
+        self.parts, self.held = [], []
+        self.feed(text)
+        self.close()
+        self.flush()
+
+    def flush(self):
+        words = "".join(self.held).split()
+        self.parts += [" ".join(words)] if words else []
+        self.held = []
+
+    def handle_starttag(self, tag, attrs):
+        self.flush()
+        self.parts += [" ".join([f"<{tag}", *sorted(f'{name}="{value}"' for name, value in attrs)]), *(["<tbody"] if tag == "table" else [])]
+        if tag in VOID:
+            self.parts.append(f"</{tag}")
+
+    def handle_startendtag(self, tag, attrs):
+        self.handle_starttag(tag, attrs)
+        self.handle_endtag(tag)
+
+    def handle_endtag(self, tag):
+        self.flush()
+        self.parts += [*(["</tbody"] if tag == "table" else []), f"</{tag}"]
+
+    def handle_data(self, data):
+        self.held.append(data)
+
+
+def valid(pages):
+    """Each page, by what it is, by what reads HTML to the letter, as far as it is there."""
+    try:
+        import html5lib
+    except ImportError:
+        print("skipped: html5lib over each page (Debian's python3-html5lib isn't there)")
+    else:
+        for what, text in pages.items():
+            reader = html5lib.HTMLParser()
+            reader.parse(text)
+            same(f"{what}: html5lib", reader.errors, [])
+    if not shutil.which("tidy"):
+        print("skipped: tidy over each page (no tidy on the path)")
+        return
+    for what, text in pages.items():
+        done = subprocess.run(["tidy", "-errors", "-quiet", "-utf8"], input=text.encode(), capture_output=True, timeout=60)
+        # what it warns of is good HTML: an empty text, and attributes of SVG that it doesn't know
+        said = [line for line in done.stderr.decode().splitlines() if not re.search("trimming empty <pre>|proprietary attribute .font-", line)]
+        same(f"{what}: tidy", (done.returncode < 2, said), (True, []))
+
+
 # ---- how it looks
 
 # Windows of some widths with a page in each, of which a script tells how they are laid out: how wide the page's content is; which elements that
@@ -407,7 +464,21 @@ const look = frame => {{
   const loose = [...page.body.querySelectorAll("*")].filter(it => !it.parentElement.closest("div") && it.getBoundingClientRect().right > root.clientWidth + 1);
   const pictures = [...page.querySelectorAll("svg")].map(it => [it.getBoundingClientRect().width, it.parentElement.clientWidth, it.parentElement.scrollWidth]);
   const tags = page.querySelectorAll("script, img, link, iframe, object, a, [id], [style]").length;
-  return {{width: root.clientWidth, content: root.scrollWidth, loose: loose.map(it => it.outerHTML.slice(0, 80)), pictures, tags, faults: page.querySelectorAll("h3").length}};
+  const parts = [];
+  let held = "";
+  const flush = () => {{ if (held.trim()) parts.push(held.trim().split(/[ \\n]+/).join(" ")); held = ""; }};
+  const walk = it => {{
+    if (it.nodeType === 3) held += it.data;
+    if (it.nodeType !== 1) return;
+    flush();
+    const name = it.localName.toLowerCase();
+    parts.push(["<" + name, ...[...it.attributes].map(of => of.name.toLowerCase() + '="' + of.value + '"').sort()].join(" "));
+    [...it.childNodes].forEach(walk);
+    flush();
+    parts.push("</" + name);
+  }};
+  walk(root);
+  return {{width: root.clientWidth, content: root.scrollWidth, loose: loose.map(it => it.outerHTML.slice(0, 80)), pictures, tags, faults: page.querySelectorAll("h3").length, parts, mode: page.compatMode}};
 }};
 onload = () => {{ document.getElementById("told").textContent = JSON.stringify([...document.querySelectorAll("iframe")].map(look)) + "."; }};
 </script>
@@ -435,8 +506,12 @@ def look_at(browser, pages):
     layouts = laid_out(browser, [(text.replace("@media print", "@media all") if width == SHEET else text, width) for _, text, width in shown])
     for (what, text, width), found in zip(shown, layouts):
         where = f"{what}, in print" if width == SHEET else f"{what}, at {width} pixels"
-        pictures = found.pop("pictures")
-        same(where, found, {"width": width, "content": width, "loose": [], "tags": 0, "faults": text.count("<h3>")})
+        pictures, parts = found.pop("pictures"), found.pop("parts")
+        same(where, found, {"width": width, "content": width, "loose": [], "tags": 0, "faults": text.count("<h3>"), "mode": "CSS1Compat"})
+        if width == WINDOWS[0]:
+            wanted = Tree(text).parts
+            other = next((pair for pair in zip(parts, wanted) if pair[0] != pair[1]), None)
+            same(f"{what}: the tree that a browser reads", (other, len(parts)), (None, len(wanted)))
         if width == SHEET:
             same(f"{where}: pictures", [it for it in pictures if it[0] > it[1] + 1], [])
         else:
@@ -445,11 +520,8 @@ def look_at(browser, pages):
             same(f"{where}: pictures", [(round(it[0]), it[1] <= width, it[2] >= it[0] - 1) for it in pictures], [(it, True, True) for it in sizes])
 
 
-def looks():
-    browser = next((it for it in ("chromium", "chromium-browser", "google-chrome") if shutil.which(it)), None)
-    if not browser:
-        print("skipped: how a page looks (no Chromium on the path)")
-        return
+def each_kind():
+    """A page of each kind of fault and of a yes, and the one with odd names."""
     path, pages = os.path.join(scratch, "page.html"), {"odd names": odd_text}
     for part in ("stories", "evidence"):
         with open(f"tests/{part}/expected.tsv", encoding="utf-8") as file:
@@ -463,8 +535,17 @@ def looks():
             with open(path, encoding="utf-8") as file:
                 pages[kind] = file.read()
             os.remove(path)
-    same("each kind is looked at", len(pages), 37)
+    same("each kind has a page", len(pages), 37)
+    return pages
+
+
+def looks(pages):
+    browser = next((it for it in ("chromium", "chromium-browser", "google-chrome") if shutil.which(it)), None)
+    if not browser:
+        print("skipped: how a page looks (no Chromium on the path)")
+        return
     look_at(browser, pages)
+    path = os.path.join(scratch, "page.html")
     run("check", "--all", "--page", path, FAULTY)
     printed = os.path.join(scratch, "page.pdf")
     done = subprocess.run([browser, "--headless", "--no-sandbox", f"--print-to-pdf={printed}", f"file://{path}"], capture_output=True, timeout=120)
@@ -481,6 +562,8 @@ if __name__ == "__main__":
         refusals()
         if len(sys.argv) > 2:
             without_memory(os.path.abspath(sys.argv[2]))
-        looks()
+        kinds = each_kind()
+        valid(kinds)
+        looks(kinds)
     print(f"{passed} passed, {failed} failed")
     sys.exit(1 if failed else 0)
