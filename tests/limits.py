@@ -4,9 +4,10 @@
     tests/limits.py PROGRAM
 
 Runs `dump` and `chain` with a bound on the address space or on the time, and compares what they print with the plain
-reading of tests/mutants.py; and of evidence that is large looks how much memory `check` and `draw` take. Prints what is wrong, and as its
+reading of tests/mutants.py; and of evidence that is large looks how much memory `check`, `draw` and a report take. Prints what is wrong, and as its
 last line 'N passed, N failed'.
 """
+import json
 import os
 import resource
 import shutil
@@ -204,7 +205,29 @@ def answers_evidence_in_little_memory(cases):
     done = subprocess.run([sys.executable, "-c", PEAK, *words], capture_output=True)
     right = done.returncode == 0 and done.stdout.startswith(b"drew columns=12 ") and int(done.stderr) * 1024 < 0.7 * 256 * MIB
     cases.tell("a picture of it", None if right else f"{done.returncode} {done.stdout!r} {done.stderr!r} KiB at the peak")
+    reports_a_million_faults(cases, path)
     shutil.rmtree(path)
+
+
+def reports_a_million_faults(cases, path):
+    """In the same evidence of a group that never committed each output is a fault: their list and their report take at most 1 GB."""
+    manifest, report = os.path.join(path, "evidence.json"), os.path.join(cases.folder, "report.json")
+    with open(manifest, encoding="utf-8") as file:
+        value = json.load(file)
+    for of in [value, *value.get("applications", [])]:
+        of.update({"group": "another"} if "group" in of else {})
+    with open(manifest, "w", encoding="utf-8") as file:
+        json.dump(value, file)
+    words = [cases.program, "check", "--all", "--quiet", "--report", report, path]
+    with open(os.path.join(cases.folder, "lines"), "w+b") as lines:
+        done = subprocess.run([sys.executable, "-c", PEAK, *words], stdout=lines, stderr=subprocess.PIPE)
+        lines.seek(-40, os.SEEK_END)
+        faults = int(lines.read().rpartition(b"faults=")[2])
+    with open(report, encoding="utf-8") as file:
+        listed = file.read().count('{"code":"5.')
+    right = done.returncode == 1 and listed == faults > 1_000_000 and int(done.stderr) * 1024 < 10**9
+    cases.tell("a report of a million faults", None if right else f"{done.returncode}, {listed} of {faults} faults, {done.stderr!r} KiB at the peak")
+    os.remove(report)
 
 
 def main():

@@ -180,6 +180,22 @@ fn of_shape<D: Disk, T: Watch, R: Threads + Sync>(
     }
 }
 
+/// Reads a folder, and draws.
+#[tactic(auto, using(crate::proofs::FolderAnswers::folder_of))]
+fn of_folder<D: Disk, T: Watch, R: Threads + Sync>(
+    alloc: Global,
+    threads: &R,
+    folder: Folder<'_, D, T>,
+    first: &First,
+) -> Result<Vec<String>, FolderFault>
+    ensures { IfOk result (λ texts. HoldsOf (D.holds folder.entry.disk.now) folder.entry.path.now (is_later (Some first.now.most)) (λ known partitions e. AreFirstPictures known partitions e first.now.most (map string_bytes texts.items))) }
+{
+    let shape = read_shape(alloc, folder.disk, folder.path, folder.watch)?;
+    let texts = of_shape(alloc, threads, folder, &shape, first)?;
+    shape.listed?;
+    Ok(texts)
+}
+
 /// The pictures around the first faults of the evidence in a folder of a disk, in the order of the list of all, as the texts that `draw`
 /// writes of them; so many, or all where there are fewer. A yes has none.
 ///
@@ -189,7 +205,6 @@ fn of_shape<D: Disk, T: Watch, R: Threads + Sync>(
 ///
 /// # Errors
 /// Those of `draw_folder_to` that are of the folder.
-#[tactic(auto, using(crate::proofs::FolderAnswers::folder_of))]
 pub fn first_pictures<D: Disk, T: Watch, R: Threads + Sync>(
     alloc: Global,
     threads: &R,
@@ -200,8 +215,6 @@ pub fn first_pictures<D: Disk, T: Watch, R: Threads + Sync>(
     ensures known { (e : EvidenceParts) → AreKnown (D.holds folder.entry.disk.now) folder.entry.path.now → (at : StandsAt (D.holds folder.entry.disk.now) folder.entry.path.now e)
         → IfOk result (λ texts. HoldsAt (D.holds folder.entry.disk.now) folder.entry.path.now e at (λ known partitions e. AreFirstPictures known partitions e first.now.most (map string_bytes texts.items))) }
 {
-    let shape = read_shape(alloc, folder.disk, folder.path, folder.watch)?;
-    let texts = of_shape(alloc, threads, folder, &shape, first)?;
-    shape.listed?;
+    let texts = of_folder(alloc, threads, folder, first)?;
     Ok(texts)
 }

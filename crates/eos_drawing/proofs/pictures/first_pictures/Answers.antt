@@ -5,4 +5,6 @@ use Rattle.eos_drawing.proofs.FolderAnswers.{known_of}
 use Rattle.eos_drawing.proofs.pictures.first_pictures.Goals as goal
 
 pub returns-clause-known : goal.returns-clause-known
-returns-clause-known g c e known at = ?
+returns-clause-known g c e known at =
+    known_of (g.D.Disk.holds c.args.folder.disk.now) c.args.folder.path.now (is_later (Some c.args.first.now.most))
+    (λ known partitions x. AreFirstPictures known partitions x c.args.first.now.most (map string_bytes c.in_ok-texts.texts.items)) e known at c.in_ok-texts.ensures
