@@ -224,7 +224,7 @@ def reports_a_million_faults(cases, path):
         lines.seek(-40, os.SEEK_END)
         faults = int(lines.read().rpartition(b"faults=")[2])
     with open(report, encoding="utf-8") as file:
-        listed = file.read().count('{"code":"5.')
+        listed = file.read().count('"code":"5.')
     right = done.returncode == 1 and listed == faults > 1_000_000 and int(done.stderr) * 1024 < 10**9
     cases.tell("a report of a million faults", None if right else f"{done.returncode}, {listed} of {faults} faults, {done.stderr!r} KiB at the peak")
     os.remove(report)
