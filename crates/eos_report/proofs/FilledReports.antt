@@ -2,6 +2,7 @@
 use Rattle.std.proofs.Common.{◌≡◌, ◌≤◌, ◌∙◌, ◌++◌, ℕ, List, [], Some, codes, refl, sym, ap, subst}
 use Rattle.serde_json.specs.Data.{Data, object, array, string, Members, no_members, member, depth}
 use Rattle.serde_json.specs.Read.{read, max_depth}
+use Rattle.serde_json.specs.Written.{members_outline}
 use Rattle.eos_check.specs.declared.verdict.Fault.{Fault}
 use Rattle.eos_check.specs.declared.verdict.Verdict.{Verdict}
 use Rattle.eos_check.specs.declared.verdict.Verdict.TheVariants.{Yes, No}
@@ -13,7 +14,7 @@ use Rattle.eos_report.specs.Reports.{note_items, fault_items, with_verdict, prog
 use Rattle.eos_report.specs.TallyValues.{partition_items, groups_value, with_tallies}
 use Rattle.eos_report.specs.steps.Texts.{IsTextOf}
 use Rattle.eos_report.specs.steps.Frames.{Opens, IsFilled}
-use Rattle.eos_report.proofs.FilledTexts.{opens, reads_filled}
+use Rattle.eos_report.proofs.FilledTexts.{AreAbove, opens, reads_filled}
 
 -- what stands behind the faults of a no
 abbrev rest_of : About → List Note → Tallies → Data → Members
@@ -21,6 +22,9 @@ rest_of about ns t seconds =
     member (codes "folder") (string about.folder.now) (member (codes "groups") (groups_value t.groups) (member (codes "notes") (array (note_items ns))
     (member (codes "partitions") (array (partition_items t.partitions)) (member (codes "program") (program_value about) (member (codes "schema") (count 1)
     (member (codes "seconds") seconds (member (codes "workers") (count about.workers) no_members)))))))
+
+above_rest : (about : About) (ns : List Note) (t : Tallies) (seconds : Data) → AreAbove (members_outline (rest_of about ns t seconds))
+above_rest about ns t seconds = (refl, refl, (refl, refl, (refl, refl, (refl, refl, (refl, refl, (refl, refl, (refl, refl, (refl, refl, tt))))))))
 
 no_value : (about : About) (f : Fault) (fs : List Fault) (ns : List Note) (t : Tallies) (seconds : Data)
     → report_value about (No f) fs ns t seconds ≡ object (member (codes "answer") (string (codes "no")) (member (codes "faults") (array (fault_items fs)) (rest_of about ns t seconds)))
@@ -44,8 +48,7 @@ reads_report about (Yes counts) fs ns t seconds frame text shallow h is =
     ap read is ∙ h.reads (subst (λ d. depth d ≤ max_depth) (sym same) shallow) ∙ ap Some same
 reads_report about (No f) fs ns t seconds frame text shallow h is =
     let whole = no_value about f fs ns t seconds in
-    let above = (refl, refl, (refl, refl, (refl, refl, (refl, refl, (refl, refl, (refl, refl, (refl, refl, (refl, refl, tt)))))))) in
     ap read is.0
-    ∙ reads_filled (rest_of about ns t seconds) (fault_items fs) frame above (subst (λ d. depth d ≤ max_depth) whole shallow)
+    ∙ reads_filled (rest_of about ns t seconds) (fault_items fs) frame (above_rest about ns t seconds) (subst (λ d. depth d ≤ max_depth) whole shallow)
     (subst (λ d. IsTextOf d frame) (no_value about f [] ns t seconds) h) is.1
     ∙ ap Some (sym whole)
