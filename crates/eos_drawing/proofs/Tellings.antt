@@ -85,10 +85,15 @@ module _ (name : PartitionName) (columns : List Column) (times : List (ℕ × �
 pub all_passed : (name : PartitionName) (columns : List Column) (times : List (ℕ × ℤ)) (marks of : List Mark) (before : List (List ℕ)) (i : ℕ) (now : List (List ℕ)) → marks ≡ of → length marks ≤ i
     → Passed name columns times marks before i now → (texts : List (List ℕ)) × (now ≡ before ++ texts) × AreTold name columns times of texts
 all_passed name columns times marks of before i now same le p =
-    let e : drop i marks ≡ [] = drop_all marks i le in
+    let e : drop i marks ≡ [] = drop_all i marks le in
     let last = p.on [] (subst (λ (ms : List Mark). AreTold name columns times ms []) (sym e) refl) in
     let whole = subst (λ (xs : List (List ℕ)). AreTold name columns times marks xs) (append-nil p.texts) last in
     (p.texts, p.so_far, subst (λ (ms : List Mark). AreTold name columns times ms p.texts) same whole)
+
+-- what was told of a row's marks, between what tells nothing
+pub row_told : (old frame marks left : List (List ℕ)) (T : List (List ℕ) → Type 0) → frame ≡ old → (texts : List (List ℕ)) × (marks ≡ frame ++ texts) × T texts → left ≡ marks
+    → (texts : List (List ℕ)) × (left ≡ old ++ texts) × T texts
+row_told old frame marks left T a t b = (t.0, b ∙ (t.1 ∙ ap (λ (xs : List (List ℕ)). xs ++ t.0) a), t.2)
 
 -- ---- rows
 
@@ -103,19 +108,19 @@ pub record RowsPassed (columns : List Column) (rows : List Row) (times : List Ti
 pub no_rows_passed : (columns : List Column) (rows : List Row) (times : List Times) (before now : List (List ℕ)) → now ≡ before → RowsPassed columns rows times before 0 now
 no_rows_passed columns rows times before now same = record { texts = []; so_far = same ∙ sym (append-nil before); on = λ more h. h }
 
-pub times_past : (times : List Times) (i : ℕ) → length times ≤ i → [] ≡ times_of times i
+pub times_past : (times : List Times) (i : ℕ) → length times ≤ i → times_of times i ≡ []
 times_past [] i le = refl
 times_past (t ∷ ts) zero le = absurd (omega (arith, le))
 times_past (t ∷ ts) (suc i) le = times_past ts i (omega (arith, le))
 
-pub times_there : (times : List Times) (i : ℕ) (t : Times) → i < length times → t ≡ get_or times i t → t.at ≡ times_of times i
+pub times_there : (times : List Times) (i : ℕ) (t : Times) → i < length times → t ≡ get_or times i t → times_of times i ≡ t.at
 times_there [] i t lt is = absurd (omega (arith, lt))
-times_there (x ∷ xs) zero t lt is = ap (λ (y : Times). y.at) is
+times_there (x ∷ xs) zero t lt is = ap (λ (y : Times). y.at) (sym is)
 times_there (x ∷ xs) (suc i) t lt is = times_there xs i t (omega (arith, lt)) is
 
 -- the times of the row at this place, where there are some, and those of the rows behind it
 times_left : (times : List Times) (i : ℕ) → ((t : Times) × (drop i times ≡ t ∷ drop (i + 1) times) × (times_of times i ≡ t.at)) ⊎ ((drop i times ≡ []) × (drop (i + 1) times ≡ []) × (times_of times i ≡ []))
-times_left [] i = inr (drop_all [] i (omega arith), drop_all [] (i + 1) (omega arith), refl)
+times_left [] i = inr (drop_all i [] (omega arith), drop_all (i + 1) [] (omega arith), refl)
 times_left (t ∷ ts) zero = inl (t, refl, refl)
 times_left (t ∷ ts) (suc i) = elim (times_left ts i) [
   | inl h ↦ inl (h.0, h.1, h.2)
@@ -151,7 +156,7 @@ no_more_rows columns (t ∷ ts) = refl
 pub all_rows_passed : (columns all : List Column) (rows of : List Row) (times : List Times) (before : List (List ℕ)) (i : ℕ) (now : List (List ℕ)) → columns ≡ all → rows ≡ of → length rows ≤ i
     → RowsPassed columns rows times before i now → (texts : List (List ℕ)) × (now ≡ before ++ texts) × AreRowsTold all of times texts
 all_rows_passed columns all rows of times before i now those same le p =
-    let e : drop i rows ≡ [] = drop_all rows i le in
+    let e : drop i rows ≡ [] = drop_all i rows le in
     let last = p.on [] (subst (λ (rs : List Row). AreRowsTold columns rs (drop i times) []) (sym e) (no_more_rows columns (drop i times))) in
     let whole = subst (λ (xs : List (List ℕ)). AreRowsTold columns rows times xs) (append-nil p.texts) last in
     (p.texts, p.so_far, subst (λ (cs : List Column). AreRowsTold cs of times p.texts) those (subst (λ (rs : List Row). AreRowsTold columns rs times p.texts) same whole))

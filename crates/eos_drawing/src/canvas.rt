@@ -36,7 +36,6 @@ impl Canvas {
     }
 
     /// Draws a shape of which nothing is told.
-    #[tactic(auto, using(crate::proofs::Tellings::silent))]
     fn push(&mut self, shape: Shape) -> Result<(), AllocError>
         requires { telling shape ≡ [] }
         ensures { OnOk result (tellings self.new.shapes.items ≡ tellings self.old.shapes.items) }
@@ -80,7 +79,6 @@ impl Canvas {
     }
 
     /// What is told of a shape of this size where a pointer rests on it.
-    #[tactic(auto, using(crate::proofs::Tellings::told))]
     pub(crate) fn told(&mut self, at: Point, size: Size, text: String) -> Result<(), AllocError>
         ensures { OnOk result (tellings self.new.shapes.items ≡ tellings self.old.shapes.items ++ string_bytes text ∷ []) }
     {

@@ -102,5 +102,6 @@ pub(crate) fn draw_heading(
     } = heading;
     canvas.text(moved(at, 6, 14), first, Look::Heading)?;
     canvas.text(moved(at, 6, 28), second, Look::Words)?;
-    canvas.text(moved(at, 6, 42), third, Look::Words)
+    canvas.text(moved(at, 6, 42), third, Look::Words)?;
+    Ok(())
 }

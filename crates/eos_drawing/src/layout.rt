@@ -174,11 +174,11 @@ fn draw_ground(
     ensures { OnOk result (tellings ground.new.shapes.items ≡ tellings ground.old.shapes.items) }
 {
     ground.rectangle(Point { x: 0, y: 0 }, size, Look::Page)?;
-    draw_grounds(ground, plan, columns, heights)
+    draw_grounds(ground, plan, columns, heights)?;
+    Ok(())
 }
 
 /// These shapes, and on them those of the canvas.
-#[tactic(auto, using(crate::proofs::Tellings::laid))]
 fn laid_upon(ground: Canvas, canvas: Canvas) -> Result<Vec<Shape>, AllocError>
     ensures { IfOk result (λ shapes. tellings shapes.items ≡ tellings ground.shapes.items ++ tellings canvas.shapes.items) }
 {

@@ -16,7 +16,8 @@ fn draw_sample(canvas: &mut Canvas, at: Point, look: Look, words: &str) -> Resul
     ensures { OnOk result (tellings canvas.new.shapes.items ≡ tellings canvas.old.shapes.items) }
 {
     canvas.rectangle(at, SAMPLE, look)?;
-    canvas.words(moved(at, 22, 11), words, Look::Remark)
+    canvas.words(moved(at, 22, 11), words, Look::Remark)?;
+    Ok(())
 }
 
 /// Where its last line begins.
@@ -53,7 +54,8 @@ pub(crate) fn draw_legend(canvas: &mut Canvas, at: Point) -> Result<(), AllocErr
         last_of(at),
         Look::Fault,
         "a place of the fault, its offset below",
-    )
+    )?;
+    Ok(())
 }
 
 /// How much room it takes.

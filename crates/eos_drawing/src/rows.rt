@@ -128,7 +128,7 @@ fn draw_marker(
         &mark.sign,
     )?;
     if mark.is_of_fault {
-        return draw_ring(canvas, corner, DIAMOND, mark);
+        draw_ring(canvas, corner, DIAMOND, mark)?;
     }
     Ok(())
 }
@@ -208,7 +208,6 @@ fn draw_shape(
 }
 
 /// The same, and what is told of the mark.
-#[tactic(auto, using(crate::proofs::Tellings::told_mark))]
 fn draw_mark(
     canvas: &mut Canvas,
     place: DrawnRow<'_>,
@@ -220,8 +219,9 @@ fn draw_mark(
     ensures { OnOk result (IsToldOf (tellings canvas.old.shapes.items) marked.entry.name.now (option_copied marked.entry.column) marked.entry.time marked.entry.mark.now (tellings canvas.new.shapes.items)) }
 {
     let (at, size) = draw_shape(canvas, place, column, marked.mark, drawn)?;
-    let told = told_of(canvas.alloc, marked, place.cells[column].is_open)?;
-    canvas.told(at, size, told)
+    let text = told_of(canvas.alloc, marked, place.cells[column].is_open)?;
+    canvas.told(at, size, text)?;
+    Ok(())
 }
 
 /// A row, the transactions of its picture, and the times of its records.
@@ -263,7 +263,8 @@ fn draw_if_room(
     if drawn.is_full(marked.mark) {
         return Ok(());
     }
-    draw_mark(canvas, place, column, marked, drawn)
+    draw_mark(canvas, place, column, marked, drawn)?;
+    Ok(())
 }
 
 fn draw_marks(canvas: &mut Canvas, place: DrawnRow<'_>, told: Telling<'_>) -> Result<(), AllocError>
@@ -318,7 +319,8 @@ fn draw_frame(
         x: place.plan.right(),
         y: bottom,
     };
-    canvas.line(from, to, Look::Row)
+    canvas.line(from, to, Look::Row)?;
+    Ok(())
 }
 
 /// Draws a row from this height on, and gives the height where it ends.
