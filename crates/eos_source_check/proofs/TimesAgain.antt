@@ -51,7 +51,7 @@ one_passed known first names offsets i name next before here after lt is behind 
 pub all_passed : (known : ℕ → Known) (first : ℕ) (names segments : List Segment) (offsets : List ℕ) (i : ℕ) (times : List (ℕ × ℤ)) → names ≡ segments → length names ≤ i → Passed known first names offsets i times
     → AreTimesAgain known first segments offsets times
 all_passed known first names segments offsets i times same le passed =
-    let e : drop i names ≡ [] = drop_all names i le in
+    let e : drop i names ≡ [] = drop_all i names le in
     let last = passed [] (subst (λ (ns : List Segment). AreTimesAgain known (first + i) ns offsets []) (sym e) refl) in
     subst (λ (ns : List Segment). AreTimesAgain known first ns offsets times) same (subst (λ (ts : List (ℕ × ℤ)). AreTimesAgain known first names offsets ts) (append-nil times) last)
 
@@ -82,5 +82,5 @@ module _ (known : ℕ → Known) (partitions : List Partition) (name : Partition
 pub all_ahead : (known : ℕ → Known) (shapes partitions : List Partition) (name : PartitionName) (offsets : List ℕ) (first i : ℕ) (times : List (ℕ × ℤ)) → partitions ≡ shapes → length partitions ≤ i → times ≡ []
     → IsAhead known partitions name offsets first i → AreTimesNamed known 0 shapes name offsets times
 all_ahead known shapes partitions name offsets first i times same le none ahead =
-    let e : drop i partitions ≡ [] = drop_all partitions i le in
+    let e : drop i partitions ≡ [] = drop_all i partitions le in
     subst (λ (ps : List Partition). AreTimesNamed known 0 ps name offsets times) same (ahead times (subst (λ (ps : List Partition). AreTimesNamed known first ps name offsets times) (sym e) none))

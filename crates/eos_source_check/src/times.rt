@@ -103,7 +103,7 @@ fn log_again<S: Source>(
     source: &S,
     named: Named<'_>,
 ) -> Result<Option<Segment>, Unlisted<S::Fault>>
-    ensures { IfOk result (λ found. MatchOption found (S.is_log source.now named.piece ≡ false) (IsLogAgain (known_by (S.said source.now) (S.is_log source.now) named.piece) named.entry.name.now)) }
+    ensures { IfOk result (λ found. MatchOption found (S.is_log source.now named.entry.piece ≡ false) (IsLogAgain (known_by (S.said source.now) (S.is_log source.now) named.entry.piece) named.entry.name.now)) }
 {
     let Some(bytes) = bytes_again(alloc, source, named.piece)? else {
         return Ok(None);
@@ -119,7 +119,7 @@ fn times_of<S: Source>(
     named: Named<'_>,
     offsets: &[u64],
 ) -> Result<Vec<(u64, i64)>, Unlisted<S::Fault>>
-    ensures { IfOk result (λ times. AreTimesOf (known_by (S.said source.now) (S.is_log source.now) named.piece) named.entry.name.now named.next offsets.now times.items) }
+    ensures { IfOk result (λ times. AreTimesOf (known_by (S.said source.now) (S.is_log source.now) named.entry.piece) named.entry.name.now named.entry.next offsets.now times.items) }
 {
     if !some_lie_in(base_of(named.name), named.next, offsets) {
         return Ok(Vec::new(alloc));

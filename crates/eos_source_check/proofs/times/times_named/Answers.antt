@@ -1,4 +1,4 @@
-use Rattle.std.proofs.Common.{◌≡◌, ◌+◌, List, [], length, refl, subst, sym, ◌∙◌, ap, arith}
+use Rattle.std.proofs.Common.{◌≡◌, ◌+◌, ℕ, List, [], length, refl, subst, sym, ◌∙◌, ap, arith}
 use Rattle.eos_evidence.specs.declared.partition.Partition.{Partition}
 use Rattle.eos_source.specs.Said.{known_by}
 use Rattle.eos_source_check.specs.Times.{AreTimesNamed}
@@ -37,7 +37,7 @@ loop-i-preserved g c =
     let len = c.len.ensures in
     let next = first_next shapes i p c.loop-i-test.true c.index-partitions-i.is in (
       omega (arith, at, len, next),
-      not_named known shapes c.args.name.now c.args.offsets.now c.loop-i.first i p c.loop-i-test.true c.index-partitions-i.is (c.loop-i.first + length p.segments) (sym c.is_named.ensures ∙ c.if-is_named.false) refl c.loop-i.invariant.1,
+      not_named known shapes c.args.name.now c.args.offsets.now c.loop-i.first i p c.loop-i-test.true c.index-partitions-i.is (c.loop-i.first + c.len.result) (sym c.is_named.ensures ∙ c.if-is_named.false) (ap (λ (n : ℕ). c.loop-i.first + n) c.len.ensures) c.loop-i.invariant.1,
     )
 
 pub returns-then-is_named : goal.returns-then-is_named
