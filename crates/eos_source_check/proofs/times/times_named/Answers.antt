@@ -51,4 +51,4 @@ returns-then-is_named g c =
 pub returns : goal.returns
 returns g c =
     let known = known_by (g.S.Source.said c.args.source.now) (g.S.Source.is_log c.args.source.now) in
-    all_ahead known c.args.shape.now.partitions c.partitions-partitions.result.now c.args.name.now c.args.offsets.now c.loop-i.first c.loop-i.i [] c.partitions-partitions.ensures.value (omega (arith, c.loop-i-test.false)) refl c.loop-i.invariant.1
+    all_ahead known c.args.shape.now.partitions c.partitions-partitions.result.now c.args.name.now c.args.offsets.now c.loop-i.first c.loop-i.i c.new.result.items c.partitions-partitions.ensures.value (omega (arith, c.loop-i-test.false)) c.new.ensures.items c.loop-i.invariant.1
