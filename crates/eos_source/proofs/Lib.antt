@@ -13,4 +13,4 @@ pub mod SameShape
 pub mod OneEvidence
 pub mod Refused
 pub mod FirstRefusals
-mod RefusalsNamed
+pub mod RefusalsNamed

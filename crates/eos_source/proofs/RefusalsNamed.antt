@@ -1,5 +1,5 @@
 -- What a refusal says that is the first of a folder: a path that it names is below the folder, and the manifest is refused by what stands there.
-use Rattle.std.proofs.Common.{◌≡◌, inl, inr, ℕ, ℤ, Bool, List, [], ◌∷◌, ◌++◌, Option, None, Some, Err, codes, string_bytes, refl, sym, ap, subst, ◌∙◌, append_assoc}
+use Rattle.std.proofs.Common.{◌≡◌, inl, inr, ℕ, ℤ, Bool, List, [], ◌∷◌, ◌++◌, length, Option, None, Some, Err, codes, refl, sym, ap, subst, ◌∙◌, append_assoc}
 use Rattle.eos_disk.specs.Entries.{Entry, HasBytes}
 use Rattle.eos_disk.specs.Paths.{manifest_path, partition_path, path_of_end, file_path, segment_path, padded_base, ending_of}
 use Rattle.eos_disk.specs.Refusals.{IsLong, IsLongPiece, IsUnread, RefusesManifest, RefusesPiece}
@@ -8,7 +8,6 @@ use Rattle.eos_disk.specs.declared.cause.Cause.{Cause}
 use Rattle.eos_disk.specs.declared.cause.Cause.TheVariants as causes
 use Rattle.eos_disk.specs.declared.folder.FolderFault.{FolderFault}
 use Rattle.eos_disk.specs.declared.folder.FolderFault.TheVariants.{CannotRead, Manifest, Limit, Fold, OutOfMemory}
-use Rattle.eos_disk.specs.declared.names.FileName.{FileName}
 use Rattle.eos_disk.specs.declared.names.Form.{Form}
 use Rattle.eos_disk.specs.declared.names.Form.TheVariants as in_form
 use Rattle.eos_evidence.specs.declared.fault.SpecFault.{SpecFault}
@@ -35,13 +34,13 @@ below_more folder path rest b = (
 below_manifest : (folder : List ℕ) → IsBelow folder (manifest_path folder)
 below_manifest folder = (codes "evidence.json", refl)
 
-below_partition : (folder topic : List ℕ) (number : ℤ) → IsBelow folder (partition_path folder topic number)
+pub below_partition : (folder topic : List ℕ) (number : ℤ) → IsBelow folder (partition_path folder topic number)
 below_partition folder topic number = (utf8_lossy topic ++ (codes "-" ++ signed_decimal number), refl)
 
 below_file : (folder path : List ℕ) (base : ℤ) (form : Form) → IsBelow folder path → IsBelow folder (file_path path base form)
 below_file folder path base form b = below_more folder path (codes "/" ++ (padded_base base ++ ending_of form)) b
 
-below_segment : (folder : List ℕ) (name : Segment) (form : Form) → IsBelow folder (segment_path folder name form)
+pub below_segment : (folder : List ℕ) (name : Segment) (form : Form) → IsBelow folder (segment_path folder name form)
 below_segment folder name form = below_file folder (partition_path folder name.topic name.partition) name.base form (below_partition folder name.topic name.partition)
 
 -- ---- what is named
@@ -136,7 +135,7 @@ unread_named path p (Manifest fault cause) h n = absurd h
 unread_named path p (Fold named name cause) h n = absurd h
 unread_named path p OutOfMemory h n = absurd n
 
-next_below : (folder path p : List ℕ) (many : ℕ) (files : List FileName) (why : FolderFault) → IsBelow folder path → IsNextRefused path many files why → Names why p → IsBelow folder p
+next_below : (folder path p : List ℕ) (many : ℕ) (files : List _) (why : FolderFault) → IsBelow folder path → IsNextRefused path many files why → Names why p → IsBelow folder p
 next_below folder path p many files (Limit cause) b h n =
     let file = h.0 in
     subst (IsBelow folder) (sym (many_named (file_path path file.base file.form) p cause h.4 n)) (below_file folder path file.base file.form b)
@@ -145,7 +144,7 @@ next_below folder path p many files (CannotRead named cause) b h n = absurd h
 next_below folder path p many files (Manifest fault cause) b h n = absurd h
 next_below folder path p many files OutOfMemory b h n = absurd n
 
-stopped_below : (holds : List ℕ → Entry) (folder path p : List ℕ) (many : ℕ) (taken : List FileName) (why : FolderFault) → IsBelow folder path → IsStopped holds path many taken why → Names why p
+stopped_below : (holds : List ℕ → Entry) (folder path p : List ℕ) (many : ℕ) (taken : List _) (why : FolderFault) → IsBelow folder path → IsStopped holds path many taken why → Names why p
     → IsBelow folder p
 stopped_below holds folder path p many taken why b (inl unread) n = subst (IsBelow folder) (sym (unread_named path p why unread.1 n)) b
 stopped_below holds folder path p many taken why b (inr next) n = next_below folder path p many next.0 why b next.2 n
@@ -182,7 +181,7 @@ pieces_other : (holds : List ℕ → Entry) (folder : List ℕ) (names : List Se
 pieces_other holds folder names forms pieces all fault cause (inl first) = first_other holds folder names forms pieces fault cause first
 pieces_other holds folder names forms pieces all fault cause (inr again) = any_other holds folder names forms pieces fault cause again.2
 
-stopped_other : (holds : List ℕ → Entry) (path : List ℕ) (many : ℕ) (taken : List FileName) (fault : SpecFault) (cause : Cause) → IsStopped holds path many taken (Manifest fault cause) → ⊥
+stopped_other : (holds : List ℕ → Entry) (path : List ℕ) (many : ℕ) (taken : List _) (fault : SpecFault) (cause : Cause) → IsStopped holds path many taken (Manifest fault cause) → ⊥
 stopped_other holds path many taken fault cause (inl unread) = unread.1
 stopped_other holds path many taken fault cause (inr next) = next.2
 
@@ -195,4 +194,4 @@ pub manifest_refused : (holds : List ℕ → Entry) (folder : List ℕ) (all : B
     → (text : List ℕ) × HasBytes (holds (manifest_path folder)) text × (spec_said_by text ≡ Err fault)
 manifest_refused holds folder all fault cause (inl manifest) = manifest
 manifest_refused holds folder all fault cause (inr (inl piece)) = absurd (pieces_other holds folder (segments_of piece.shape.partitions) piece.forms _ all fault cause piece.refused)
-manifest_refused holds folder all fault cause (inr (inr listing)) = absurd (listing_other holds folder _ fault cause listing.shape.partitions listing.forms listing.is.listed)
+manifest_refused holds folder all fault cause (inr (inr listing)) = absurd (listing_other holds folder (length listing.forms) fault cause listing.shape.partitions listing.forms listing.is.listed)

@@ -111,7 +111,6 @@ fn next_told<S: Source>(
 }
 
 /// What is told of all partitions, out of the slots of all pieces.
-#[tactic(auto, using(crate::proofs::SlotsRefused::still_refused))]
 fn logs_of<S: Source>(
     alloc: Global,
     plan: &Plan<'_, S>,

@@ -1,5 +1,6 @@
-use Rattle.std.proofs.Common.{◌≡◌, ◌≤◌, ◌+◌, ℕ, List, length, take, drop, sym, subst, ◌∙◌, arith, rules}
+use Rattle.std.proofs.Common.{◌≡◌, ◌≤◌, ◌+◌, ℕ, List, length, take, drop, inr, sym, subst, ◌∙◌, arith, rules}
 use Rattle.std.proofs.lemmas.List.{take_all}
+use Rattle.std.proofs.lemmas.Result.{err_from_is_err_and}
 use Rattle.std.specs.Vec.Iter.{into_iter_items}
 use Rattle.eos_evidence.specs.declared.partition.Partition.{Partition}
 use Rattle.eos_evidence.specs.declared.segment.Segment.{Segment}
@@ -7,7 +8,7 @@ use Rattle.eos_evidence.specs.Evidence.{segments_of}
 use Rattle.eos_source.specs.Said.{known_by}
 use Rattle.eos_source.specs.steps.Runs.{AreSlots, AreSlotsOf, ArePassed}
 use Rattle.eos_source.proofs.SlotsRead.{were_said}
-use Rattle.eos_source.proofs.SlotsRefused.{none_passed, both_passed, all_opened}
+use Rattle.eos_source.proofs.SlotsRefused.{none_passed, both_passed, still_refused, all_opened}
 use Rattle.eos_source.proofs.PartitionsTold.{none_told, here, segments_left, pieces_taken, told_next}
 use Rattle.eos_source.proofs.logs.logs_of.Goals as goal
 
@@ -66,3 +67,14 @@ returns-clause-opened g c =
     let all = take_all c.loop-i.i shapes past ∙ c.partitions-partitions.ensures.value in
     let passed = subst (λ (ps : List Partition). ArePassed (length (segments_of ps)) c.args.slots.items rest) all c.loop-i.invariant.2 in
     all_opened known outcomes c.args.plan.now.topics.now c.args.plan.now.shape.now.spec.apps names c.args.slots.items rest c.requires.slots passed
+
+pub returns-in_err-next_told-clause-refused : goal.returns-in_err-next_told-clause-refused
+returns-in_err-next_told-clause-refused g c =
+    let p = err_from_is_err_and c.from_residual.result c.from_residual.ensures.1 in
+    let piece = length (segments_of (take c.loop-i.i c.partitions-partitions.result.now)) in
+    rw (p.1, p.2) (still_refused piece c.args.slots.items (into_iter_items c.loop-i.slots) c.in_err-next_told.field-0.0 _ c.loop-i.invariant.2 c.in_err-next_told.ensures.refused)
+
+pub returns-in_err-push-clause-refused : goal.returns-in_err-push-clause-refused
+returns-in_err-push-clause-refused g c =
+    let p = err_from_is_err_and c.from_residual-in_err-push.result c.from_residual-in_err-push.ensures.1 in
+    rw p.1 (inr p.2)
