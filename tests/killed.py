@@ -1,14 +1,19 @@
 #!/usr/bin/env -S python3 -B
-"""Runs that are killed before each of their system calls that change files: a file that they leave is whole or not there.
+"""Runs that are killed before each of their system calls that change files, or of which one such call fails: a file that they leave is
+whole or not there.
 
-    python3 -B tests/killed.py PROGRAM LIBRARY
+    python3 -B tests/killed.py PROGRAM LIBRARY [COMMAND ..]
 
 LIBRARY is tests/killed.c, built. Of `draw`, `check --report`, `check --page`, `simulate --history`, `init` and `fold` a run that isn't
 killed says what the file holds. After one that was killed the file isn't there, or is that one; and the next run makes it, or is refused since it is there,
-and leaves nothing beside it. A file that was there before stays, as does the folder that is read. The last line is
-'N passed, N failed'.
+and leaves nothing beside it. A file that was there before stays, as does the folder that is read.
+
+Where a call fails, as on a broken or a full device or past a quota, the run says so in a line and leaves nothing, or goes on to the same end:
+the bytes of each file that it makes are synced before the file has its name, so that what `close` would refuse is told. The
+last line is 'N passed, N failed'.
 """
 import collections
+import errno
 import json
 import os
 import shutil
@@ -19,6 +24,11 @@ import tempfile
 FOLDER = os.path.abspath("tests/evidence/row-yes-2")
 FAULTY = os.path.abspath("tests/stories/04-missing-marker")
 THERE = "eoscheck: cannot write {}: it is there already\n"
+FAILURES = errno.EIO, errno.ENOSPC, errno.EDQUOT
+# The calls whose failure no run may pass over.
+TOLD = {"write", "fsync", "mkdir"}
+# Those that take something away: where one fails, it stays.
+TAKES_AWAY = {"unlink", "unlinkat"}
 # A command: its words, for a file and for a folder that isn't there; how many calls it has at least; where in a folder of its own the file
 # is to stand, and what is put into that folder before; its status.
 Command = collections.namedtuple("Command", "words least place before status", defaults=("file", lambda scratch: None, 0))
@@ -101,6 +111,33 @@ class Tests:
             left = {it.replace(os.path.basename(file), "file", 1) for it in set(os.listdir(os.path.dirname(file))) - others}
             self.expect(left == {"file"} or is_there and left == {"file", "file.new"}, f"{said_of}: {left} are left")
 
+    def failed_call(self, name, command, at, call, whole):
+        """Of a command the run of which this call fails, by each error where something is written."""
+        for error in FAILURES if call in TOLD else FAILURES[:1]:
+            said_of = f"{name}, whose call {at}, {call}, fails by {errno.errorcode[error]}"
+            with tempfile.TemporaryDirectory() as scratch:
+                command.before(scratch)
+                file, folder = f"{scratch}/{command.place}", f"{scratch}/first"
+                others = set(os.listdir(os.path.dirname(file)))
+                status, out, said = self.ran(command.words(file, folder), KILL_AT=str(at), FAIL_BY=str(error))
+                left = set(os.listdir(os.path.dirname(file))) - others - {os.path.basename(file), "first"}
+                if call in TAKES_AWAY:
+                    left -= {f"{os.path.basename(file)}.new"}
+                self.expect(not left, f"{said_of}: {left} are left")
+                if (status, out, said) == whole[1] and call not in TOLD:
+                    self.expect(os.path.lexists(file) and told(name, read(file)) == whole[0], f"{said_of}: another file")
+                    continue
+                is_told = status == 2 and said.startswith(("eoscheck: cannot write ", "eoscheck: cannot read "))
+                self.expect(is_told and out in ("", whole[1][1]), f"{said_of}: {status} {out} {said}")
+                # (the line about a file that stands is printed last)
+                if said == "eoscheck: cannot write -\n" and os.path.lexists(file):
+                    self.expect(told(name, read(file)) == whole[0], f"{said_of}: half a file")
+                    continue
+                self.expect(not os.path.lexists(file) and not os.path.lexists(folder), f"{said_of}: something is there")
+                if call == "fsync":
+                    places = scratch if "simulate" in name else file
+                    self.expect(said.startswith(f"eoscheck: cannot write {places}"), f"{said_of}: {said}")
+
     def of(self, name, command):
         with tempfile.TemporaryDirectory() as scratch, tempfile.TemporaryDirectory() as beside:
             command.before(scratch)
@@ -108,21 +145,23 @@ class Tests:
             others = {*os.listdir(os.path.dirname(file)), os.path.basename(file)}
             done = self.ran(command.words(file, f"{beside}/folder"), KILL_COUNT=count)
             self.expect(done[0] == command.status, f"{name}: {done}")
-            whole, calls = (told(name, read(file)), done), int(read(count))
+            whole, calls = (told(name, read(file)), done), read(count).decode().split()
             self.expect(set(os.listdir(os.path.dirname(file))) == others, f"{name}: something is left")
-            self.expect(calls >= command.least, f"{name} has only {calls} calls")
+            self.expect(len(calls) >= command.least and "fsync" in calls and "close" in calls, f"{name} has only {calls}")
             with open(file, "w", encoding="utf-8") as other:
                 other.write("other")
             done = self.ran(command.words(file, f"{beside}/third"))
             self.expect(done == (2, "", THERE.format(file)) and read(file) == b"other", f"{name} over a file: {done}")
-        for at in range(1, calls + 1):
+        for at, call in enumerate(calls, 1):
             self.killed(name, command, at, whole)
+            self.failed_call(name, command, at, call, whole)
 
 
 def main():
-    tests = Tests(*map(os.path.abspath, sys.argv[1:]))
+    tests = Tests(*map(os.path.abspath, sys.argv[1:3]))
     for name, command in COMMANDS.items():
-        tests.of(name, command)
+        if name in (sys.argv[3:] or COMMANDS):
+            tests.of(name, command)
     print(f"{tests.passed} passed, {tests.failed} failed")
     return 1 if tests.failed else 0
 

@@ -7,6 +7,7 @@ pub mod JustWritten
 pub mod InMemory
 pub mod ListedBack
 mod OnePlace
+mod LeftBehind
 mod Unknown
 mod AddedOne
 mod FileNames

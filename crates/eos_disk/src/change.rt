@@ -59,6 +59,14 @@ impl From<Error> for ChangeFault {
     }
 }
 
+/// What is told of a file whose bytes were sent to where they are kept: nothing, where its system knows no such call.
+pub(crate) fn synced(told: Result<(), Error>) -> Result<(), Error> {
+    match told {
+        Err(e) if e.kind() == ErrorKind::InvalidInput => Ok(()),
+        told => told,
+    }
+}
+
 /// What files are written to. What is known of it stays known, and where a call is refused nothing changed, if it doesn't say
 /// otherwise.
 pub trait DiskMut: Disk {

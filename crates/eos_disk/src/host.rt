@@ -1,15 +1,14 @@
 //! The disk of the system: all that names the kit's files. No contract says what stands on it, so each call is trusted for what its words
 //! here say, and its clauses say nothing of a disk of which nothing is known.
 
-use crate::change::{ChangeFault, DiskMut};
+use crate::change::{ChangeFault, DiskMut, synced};
 use crate::disk::Disk;
 use crate::fault::{DiskFault, push_listed};
 use bytes::Bytes;
 use std::alloc::Global;
-use std::fs::{File, ReadDir, TryLockError};
-use std::io::{ErrorKind, Write};
+use std::fs::{self, File, ReadDir, TryLockError};
+use std::io::{self, Write};
 use std::os::unix::fs::{FileTypeExt, MetadataExt};
-use std::{fs, io};
 
 /// The system's files, of which nothing is known. Trusted: that they stand still while they are read.
 #[derive(Drop)]
@@ -18,12 +17,6 @@ pub struct HostDisk<'a> {
 }
 
 impl<'a> HostDisk<'a> {
-    /// Trusted: nothing stands at this path, no link either. Where the system doesn't tell, something may.
-    #[inline(never)]
-    fn is_absent(&self, path: &str) -> bool {
-        fs::symlink_metadata(self.rt, path).is_err_and(|e| e.kind() == ErrorKind::NotFound)
-    }
-
     /// Locks an open file, and says whether it is the one that stands at this path, and no other run has locked it. Trusted: a run that
     /// ends, however it ends, has locked nothing any more.
     fn holds_at(&self, path: &str, file: &File) -> bool {
@@ -75,7 +68,7 @@ impl<'a> Disk for HostDisk<'a> {
     fn list(&self, alloc: Global, path: &str) -> Result<Vec<Bytes>, DiskFault> {
         let mut names = Vec::new(alloc);
         match &mut self.open_folder(path) {
-            Err(e) => return Err(DiskFault::of_listing(alloc, path, e, self.is_absent(path))),
+            Err(e) => return Err(DiskFault::of_listing(alloc, path, e, !self.stands(path))),
             Ok(folder) => {
                 for entry in folder {
                     push_listed(alloc, &mut names, entry.as_ref().map(|it| it.file_name()))?;
@@ -105,13 +98,14 @@ impl<'a> DiskMut for HostDisk<'a> {
         Ok(fs::create_dir_all(self.rt, path)?)
     }
 
-    /// Trusted: all bytes are handed to the system, and what it refuses is told; but at the closing nothing is. What can't be written is taken away.
+    /// Trusted: all bytes are handed to the system and through it to where they are kept, and what is refused on this way is told, which at
+    /// the closing wouldn't be. What can't be written is taken away.
     fn write_new(&mut self, _: Global, path: &str, bytes: &[u8]) -> Result<File, ChangeFault> {
         let mut file = File::create_new(self.rt, path)?;
         if !self.holds_at(path, &file) {
             return Err(ChangeFault::ThereAlready);
         }
-        let written = file.write_all(bytes);
+        let written = file.write_all(bytes).and_then(|()| synced(file.sync_all()));
         if written.is_err() {
             let _ = fs::remove_file(self.rt, path);
         }
@@ -119,12 +113,9 @@ impl<'a> DiskMut for HostDisk<'a> {
     }
 
     /// Trusted: nothing is written over where the files' system knows second names. Where it doesn't the file is renamed.
-    fn publish(&mut self, _: Global, from: &str, to: &str) -> Result<(), ChangeFault> {
+    fn publish(&mut self, alloc: Global, from: &str, to: &str) -> Result<(), ChangeFault> {
         match self.link(from, to) {
-            Ok(()) => {
-                let _ = fs::remove_file(self.rt, from);
-                Ok(())
-            }
+            Ok(()) => self.remove(alloc, from).or(Ok(())),
             Err(_) if self.stands(to) => Err(ChangeFault::ThereAlready),
             Err(_) => Ok(self.rename(from, to)?),
         }

@@ -139,7 +139,7 @@ pub fn begin_file<D: DiskMut>(
 ///
 /// # Errors
 /// As `put_file` says.
-#[tactic(auto, using(crate::proofs::OnePlace::apart))]
+#[tactic(auto, using(crate::proofs::OnePlace::apart, crate::proofs::LeftBehind::cleared))]
 pub fn end_file<D: DiskMut>(
     alloc: Global,
     disk: &mut D,
@@ -151,7 +151,22 @@ pub fn end_file<D: DiskMut>(
 {
     let NewFile { path, by, held } = file;
     let_go(held);
-    put_by(alloc, disk, by.as_str(), path.as_str(), bytes)
+    if let Err(fault) = put_by(alloc, disk, by.as_str(), path.as_str(), bytes) {
+        clear(alloc, disk, by.as_str());
+        return Err(fault);
+    }
+    Ok(())
+}
+
+/// Takes a file away that was begun and couldn't be ended, if no other run holds it meanwhile and it can be.
+#[tactic(auto, using(crate::proofs::OnePlace::gone, crate::proofs::OnePlace::stays))]
+fn clear<D: DiskMut>(alloc: Global, disk: &mut D, by: &str)
+    ensures { IsTakenBy (D.holds disk.old) by.now (D.holds disk.new) }
+{
+    match disk.remove_stale(alloc, by) {
+        Ok(()) => {}
+        Err(_fault) => {}
+    }
 }
 
 /// From now on the file counts as one that a killed run left.
