@@ -218,7 +218,8 @@ CASES = [
 FOLDERS = [
     ("as-brokers-write/unclean-replaced-input", [OTHER.format("g", 4, "in-0", 2, 9)]),
     ("as-brokers-write/leader-epoch-falls", [BEHIND.format("g", 4, 5), FALLS.format("in-0", 4), OTHER.format("g", 4, "in-0", 2, 3)]),
-    ("as-brokers-write/healthy", [OTHER.format("g", 4, "in-0", 2, 3)]),
+    *((f"as-brokers-write/{name}", [OTHER.format("g", 4, "in-0", 2, 3)])
+      for name in ("healthy", "tv1-trial", "deleted-topic", "recreated-topic", "failed-append-then-abort")),
 ]
 
 
