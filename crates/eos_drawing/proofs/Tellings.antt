@@ -1,5 +1,5 @@
 -- What is told of shapes that are drawn one after the other.
-use Rattle.std.proofs.Common.{◌≡◌, ◌<◌, ◌≤◌, ℕ, ℤ, zero, suc, ◌+◌, List, [], ◌∷◌, ◌++◌, length, drop, get_or, flat_map, Option, None, Some, Bool, false, true, refl, sym, ap, subst, ◌∙◌, append_assoc, append-nil, arith, inl, inr, string_bytes}
+use Rattle.std.proofs.Common.{◌≡◌, ◌<◌, ◌≤◌, ◌⊎◌, ℕ, ℤ, zero, suc, ◌+◌, List, [], ◌∷◌, ◌++◌, length, drop, get_or, flat_map, Option, None, Some, Bool, false, true, refl, sym, ap, subst, ◌∙◌, append_assoc, append-nil, arith, inl, inr, string_bytes}
 use Rattle.std.proofs.lemmas.Grind.{flat_map-append}
 use Rattle.std.proofs.lemmas.List.{drop_more, drop_all}
 use Rattle.std.specs.Prelude.{slice_get}
@@ -91,9 +91,9 @@ all_passed name columns times marks of before i now same le p =
     (p.texts, p.so_far, subst (λ (ms : List Mark). AreTold name columns times ms p.texts) same whole)
 
 -- what was told of a row's marks, between what tells nothing
-pub row_told : (old frame marks left : List (List ℕ)) (T : List (List ℕ) → Type 0) → frame ≡ old → (texts : List (List ℕ)) × (marks ≡ frame ++ texts) × T texts → left ≡ marks
-    → (texts : List (List ℕ)) × (left ≡ old ++ texts) × T texts
-row_told old frame marks left T a t b = (t.0, b ∙ (t.1 ∙ ap (λ (xs : List (List ℕ)). xs ++ t.0) a), t.2)
+pub row_told : (old frame marks behind : List (List ℕ)) (T : List (List ℕ) → Type 0) → frame ≡ old → (texts : List (List ℕ)) × (marks ≡ frame ++ texts) × T texts → behind ≡ marks
+    → (texts : List (List ℕ)) × (behind ≡ old ++ texts) × T texts
+row_told old frame marks behind T a t b = (t.0, b ∙ (t.1 ∙ ap (λ (xs : List (List ℕ)). xs ++ t.0) a), t.2)
 
 -- ---- rows
 

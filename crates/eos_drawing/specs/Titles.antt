@@ -70,7 +70,7 @@ abbrev pub sign_text : Sign → Bool → List ℕ
 sign_text (signs.Decision offset kind) lacks = codes "Prepare record: " ++ kind_words kind
 sign_text (signs.Record offset fate) lacks = codes "data record, " ++ fate_words fate lacks
 sign_text (signs.Commit offset fate source committed) lacks = commit_text source committed ++ fate_words fate lacks
-sign_text (signs.Passed fate from to) lacks = (codes "inputs passed by its commit: " ++ passed_text from to) ++ (codes ", " ++ fate_words fate false)
+sign_text (signs.Passed fate from to) lacks = codes "inputs passed by its commit: " ++ (passed_text from to ++ (codes ", " ++ fate_words fate false))
 sign_text (signs.Marker kind count) lacks = (codes "end marker " ++ kind_words kind) ++ times_text count
 sign_text (signs.Missing kind) lacks = codes "missing: the end marker " ++ kind_words kind
 sign_text (signs.Spot offset) lacks = codes "what stands or is missing here"

@@ -81,38 +81,38 @@ pub(crate) fn commit_label(
     Ok(out)
 }
 
-fn push_range(out: &mut String, from: i64, to: i64) -> Result<(), AllocError>
-    ensures { OnOk result (Adds (string_bytes out.old) (string_bytes out.new) ((codes "[" ++ signed_decimal from) ++ ((codes "," ++ signed_decimal to) ++ codes ")"))) }
+fn push_range(out: &mut String, from: &i64, to: &i64) -> Result<(), AllocError>
+    ensures { OnOk result (Adds (string_bytes out.old) (string_bytes out.new) ((codes "[" ++ signed_decimal from.now) ++ ((codes "," ++ signed_decimal to.now) ++ codes ")"))) }
 {
-    push_value(out, "[", &from)?;
-    push_value(out, ",", &to)?;
+    push_value(out, "[", from)?;
+    push_value(out, ",", to)?;
     push_text(out, ")")?;
     Ok(())
 }
 
-fn push_back(out: &mut String, from: i64, to: i64) -> Result<(), AllocError>
-    ensures { OnOk result (Adds (string_bytes out.old) (string_bytes out.new) ((codes "" ++ signed_decimal from) ++ (codes " back to " ++ signed_decimal to))) }
+fn push_back(out: &mut String, from: &i64, to: &i64) -> Result<(), AllocError>
+    ensures { OnOk result (Adds (string_bytes out.old) (string_bytes out.new) ((codes "" ++ signed_decimal from.now) ++ (codes " back to " ++ signed_decimal to.now))) }
 {
-    push_value(out, "", &from)?;
-    push_value(out, " back to ", &to)?;
+    push_value(out, "", from)?;
+    push_value(out, " back to ", to)?;
     Ok(())
 }
 
 /// Adds the offsets that a commit passed.
-pub(crate) fn push_passed(out: &mut String, from: i64, to: i64) -> Result<(), AllocError>
-    ensures { OnOk result (Adds (string_bytes out.old) (string_bytes out.new) (passed_text from to)) }
+pub(crate) fn push_passed(out: &mut String, from: &i64, to: &i64) -> Result<(), AllocError>
+    ensures { OnOk result (Adds (string_bytes out.old) (string_bytes out.new) (passed_text from.now to.now)) }
 {
-    if from == to {
-        return push_value(out, "at ", &to);
+    if *from == *to {
+        return push_value(out, "at ", to);
     }
-    if from < to {
+    if *from < *to {
         return push_range(out, from, to);
     }
     push_back(out, from, to)
 }
 
 /// The offsets that a commit passed.
-pub(crate) fn passed_label(alloc: Global, from: i64, to: i64) -> Result<String, AllocError> {
+pub(crate) fn passed_label(alloc: Global, from: &i64, to: &i64) -> Result<String, AllocError> {
     let mut out = String::new(alloc);
     push_passed(&mut out, from, to)?;
     Ok(out)

@@ -89,7 +89,7 @@ fn words_of(alloc: Global, sign: &Sign, most: usize) -> Result<String, AllocErro
             committed,
             ..
         } => commit_label(alloc, source, *committed, most),
-        Sign::Passed { from, to, .. } => passed_label(alloc, *from, *to),
+        Sign::Passed { from, to, .. } => passed_label(alloc, from, to),
         Sign::Spot(Some(offset)) => number_label(alloc, *offset),
         Sign::Spot(None) | Sign::Marker { .. } | Sign::Missing(_) => String::from_str(alloc, "?"),
     }

@@ -95,13 +95,13 @@ fn push_commit(
     alloc: Global,
     out: &mut String,
     source: &PartitionName,
-    committed: i64,
+    committed: &i64,
 ) -> Result<(), AllocError>
-    ensures { OnOk result (Adds (string_bytes out.old) (string_bytes out.new) (commit_text source.now committed)) }
+    ensures { OnOk result (Adds (string_bytes out.old) (string_bytes out.new) (commit_text source.now committed.now)) }
 {
     push_escaped(alloc, out, "commit of ", source.topic.as_slice())?;
     push_value(out, "-", &source.partition)?;
-    push_value(out, " at ", &committed)?;
+    push_value(out, " at ", committed)?;
     push_text(out, ", ")?;
     Ok(())
 }
@@ -126,8 +126,8 @@ fn push_count(out: &mut String, count: u64) -> Result<(), AllocError>
     Ok(())
 }
 
-fn push_inputs(out: &mut String, fate: Fate, from: i64, to: i64) -> Result<(), AllocError>
-    ensures { OnOk result (Adds (string_bytes out.old) (string_bytes out.new) ((codes "inputs passed by its commit: " ++ passed_text from to) ++ (codes ", " ++ fate_words fate false))) }
+fn push_inputs(out: &mut String, fate: Fate, from: &i64, to: &i64) -> Result<(), AllocError>
+    ensures { OnOk result (Adds (string_bytes out.old) (string_bytes out.new) (codes "inputs passed by its commit: " ++ (passed_text from.now to.now ++ (codes ", " ++ fate_words fate false)))) }
 {
     push_text(out, "inputs passed by its commit: ")?;
     push_passed(out, from, to)?;
@@ -147,11 +147,11 @@ fn push_sign(alloc: Global, out: &mut String, sign: &Sign, is_open: bool) -> Res
             committed,
             ..
         } => {
-            push_commit(alloc, out, source, *committed)?;
+            push_commit(alloc, out, source, committed)?;
             push_text(out, fate_words(*fate, is_open))?;
             Ok(())
         }
-        Sign::Passed { fate, from, to } => push_inputs(out, *fate, *from, *to),
+        Sign::Passed { fate, from, to } => push_inputs(out, *fate, from, to),
         Sign::Marker { kind, count } => {
             push_words(out, "end marker ", kind_words(*kind))?;
             push_count(out, *count)?;
@@ -210,6 +210,23 @@ fn fault_words(is_of_fault: bool) -> &'static str
     }
 }
 
+fn push_told(
+    alloc: Global,
+    out: &mut String,
+    marked: Marked<'_>,
+    is_open: bool,
+) -> Result<(), AllocError>
+    ensures { OnOk result (Adds (string_bytes out.old) (string_bytes out.new) (title_of marked.entry.name.now (option_copied marked.entry.column) marked.entry.time is_open marked.entry.mark.now)) }
+{
+    let mark = marked.mark;
+    push_place(alloc, out, marked.name, offset_of(mark))?;
+    push_sign(alloc, out, &mark.sign, is_open)?;
+    push_column(alloc, out, marked.column)?;
+    push_when(out, marked.time)?;
+    push_text(out, fault_words(mark.is_of_fault))?;
+    Ok(())
+}
+
 /// The words.
 pub(crate) fn told_of(
     alloc: Global,
@@ -218,12 +235,7 @@ pub(crate) fn told_of(
 ) -> Result<String, AllocError>
     ensures { IfOk result (λ text. string_bytes text ≡ title_of marked.entry.name.now (option_copied marked.entry.column) marked.entry.time is_open marked.entry.mark.now) }
 {
-    let mark = marked.mark;
     let mut out = String::new(alloc);
-    push_place(alloc, &mut out, marked.name, offset_of(mark))?;
-    push_sign(alloc, &mut out, &mark.sign, is_open)?;
-    push_column(alloc, &mut out, marked.column)?;
-    push_when(&mut out, marked.time)?;
-    push_text(&mut out, fault_words(mark.is_of_fault))?;
+    push_told(alloc, &mut out, marked, is_open)?;
     Ok(out)
 }

@@ -13,7 +13,7 @@ loop-i-preserved c =
     let columns = c.as_slice-columns.result.now in
     let row = c.index-rows-i.result in
     let t = c.in_ok-end.ensures in
-    row_passed columns c.as_slice-rows.result.now c.args.times.now (tellings c.args.canvas.now.shapes.items) c.loop-i.i row (tellings c.loop-i.canvas.shapes.items) (tellings c.draw_row-end.new.canvas.shapes.items) c.loop-i-test.true
+    row_passed columns c.as_slice-rows.result.now c.args.times.now (tellings c.args.canvas.now.shapes.items) c.loop-i.i row (tellings c.loop-i.canvas.shapes.items) (tellings c.draw_row.new.canvas.shapes.items) c.loop-i-test.true
     c.index-rows-i.is c.loop-i.invariant (t.0, t.1, subst (λ (times : List (ℕ × ℤ)). AreTold row.name columns times row.marks.items t.0) c.times_of.ensures t.2)
 
 pub returns : goal.returns

@@ -6,4 +6,4 @@ use Rattle.eos_drawing.proofs.rows.draw_mark.Goals as goal
 pub returns : goal.returns
 returns c =
     told_mark (tellings c.args.canvas.now.shapes.items) (tellings c.draw_shape.new.canvas.shapes.items) _ c.args.marked.name.now (option_copied c.args.marked.column) c.args.marked.time c.args.marked.mark.now _ _
-    c.in_ok-draw_shape.ensures c.in_ok-text.ensures c.in_ok-told.ensures
+    c.in_ok-at.ensures c.in_ok-text.ensures c.in_ok-told.ensures
