@@ -19,3 +19,8 @@ pub mod AddedEvidence
 pub mod CoveredBytes
 pub mod ItemTexts
 pub mod LeftEvidence
+mod OneEvidence
+mod LeftFolders
+mod MadeRuns
+mod ScheduleTexts
+mod HistoryLines

@@ -2,6 +2,8 @@ pub mod Simulated
 pub mod Settings
 pub mod Histories
 pub mod Replays
+pub mod HistoryTexts
+pub mod Folders
 pub mod steps
 pub mod Schedules
 pub mod Leaving

@@ -2,6 +2,7 @@
 
 ghost use Rattle.std.specs.Prelude.{◌≡◌, min, bytes_eq, true, false, None, IfSome, IfOk, option_map, unwrap_or};
 ghost use Rattle.eos_simulate.specs.Settings.{config_said, rates_said, is_named, switches_said};
+ghost use Rattle.eos_simulate.specs.steps.Heads.{head_of};
 ghost use Rattle.eos_machine.specs.Switching.{switch_name, any_on};
 
 use crate::making::SimulationFault;
@@ -77,7 +78,9 @@ impl Course {
     }
 
     /// The first line of its history.
-    pub(crate) fn head(&self) -> Head {
+    pub(crate) fn head(&self) -> Head
+        ensures { result ≡ head_of self.now }
+    {
         Head {
             config: self.config,
             switches: self.switches,

@@ -1,7 +1,8 @@
 //! The text of a history's file.
 
-ghost use Rattle.std.specs.Prelude.{◌≡◌, IfOk};
-ghost use Rattle.eos_simulate.specs.Histories.{act_of, note_of, reply_of, act_said, reply_said, FitsTotals};
+ghost use Rattle.std.specs.Prelude.{◌≡◌, ◌++◌, IfOk, OnOk, string_bytes};
+ghost use Rattle.eos_simulate.specs.Histories.{note_of, FitsTotals};
+ghost use Rattle.eos_simulate.specs.HistoryTexts.{IsHistoryText, deed_said, lines_bytes};
 
 use bytes::Bytes;
 use eos_drive::History;
@@ -13,20 +14,28 @@ pub(crate) fn history_text(
     alloc: Global,
     head: &Head,
     history: &History,
-) -> Result<String, AllocError> {
+) -> Result<String, AllocError>
+    ensures { IfOk result (λ text. IsHistoryText head.now history.now (string_bytes text)) }
+{
     let mut text = head_text(alloc, head)?;
-    let mut number = 0u64;
-    for deed in history.deeds() {
-        number = number.saturating_add(1);
-        let line = Line {
-            number,
-            deed: said(deed)?,
-        };
-        text.push_str(line_text(alloc, &line)?.as_str())?;
-    }
+    push_lines(alloc, &mut text, history.deeds())?;
     let tail = totals(alloc, history)?;
     text.push_str(tail_text(alloc, &tail)?.as_str())?;
     Ok(text)
+}
+
+/// Adds a line for each of these, numbered from 1.
+fn push_lines(alloc: Global, text: &mut String, deeds: &[eos_drive::Deed]) -> Result<(), AllocError>
+    ensures { OnOk result (string_bytes text.new ≡ string_bytes text.old ++ lines_bytes 1 deeds.now) }
+{
+    for place in 0..deeds.len() {
+        let line = Line {
+            number: place as u64 + 1,
+            deed: said(&deeds[place])?,
+        };
+        text.push_str(line_text(alloc, &line)?.as_str())?;
+    }
+    Ok(())
 }
 
 /// The totals of a history.
@@ -44,8 +53,7 @@ pub(crate) fn totals(alloc: Global, history: &History) -> Result<Tail, AllocErro
 
 /// What a line says of what was done.
 fn said(deed: &eos_drive::Deed) -> Result<Deed, AllocError>
-    ensures act { IfOk result (λ said. act_said said ≡ act_of deed.now) }
-    ensures reply { IfOk result (λ said. reply_said said ≡ reply_of deed.now) }
+    ensures { IfOk result (λ said. said ≡ deed_said deed.now) }
 {
     match deed {
         eos_drive::Deed::Asked { event, reply } => Ok(Deed::Asked {

@@ -1,95 +1,76 @@
 //! The file of a schedule.
 
-use crate::replaying::ReplayFault;
+ghost use Rattle.std.specs.Prelude.{◌≡◌, IfOk, string_bytes};
+ghost use Rattle.eos_disk.specs.Entries.{HasBytes};
+ghost use Rattle.eos_simulate.specs.Folders.{is_standard, IsTextOf, IsScheduleAt};
+
 use bytes::Bytes;
-use eos_disk::{Cause, Disk, DiskFault, HostDisk};
-use eos_ending::{Ending, STANDARD, end};
-use eos_evidence::{ReadFault, read_segment};
-use eos_history_lines::{Line, LineFault, Schedule, ScheduleFault, line_text, schedule_of};
-use std::alloc::AllocError;
+use eos_disk::{Disk, FolderFault, open_file, refusal_of};
+use eos_evidence::read_segment;
+use eos_history_lines::{Schedule, ScheduleFault, schedule_of};
+use std::alloc::Global;
+use std::io::Read;
 
-/// The schedule in this file, or on standard input where the name is `-`. Otherwise says why there is none, and gives the exit
-/// status.
-pub(crate) fn read_schedule(rt: &HostRuntime, path: &str) -> Result<Schedule, u8> {
-    let text = match read_text(rt, path) {
-        Ok(text) => text,
-        Err(fault) => return Err(end_unread(rt, path, fault)),
-    };
-    match schedule_of(rt.alloc(), text.as_slice()) {
-        Ok(schedule) => Ok(schedule),
-        Err(fault) => Err(end_refused(rt, path, fault)),
-    }
+/// Why there is no schedule.
+#[derive(Drop)]
+pub(crate) enum Unread {
+    /// Its file can't be read, or memory was refused.
+    File(FolderFault),
+    /// A line of it is refused.
+    Refused(ScheduleFault),
 }
 
-/// The bytes of a file, at most 2^30.
-fn read_text(rt: &HostRuntime, path: &str) -> Result<Bytes, ReadFault> {
-    if path == STANDARD {
-        return read_segment(rt.alloc(), &mut rt.reader());
-    }
-    match (HostDisk { rt }).open(rt.alloc(), path) {
-        Ok(mut file) => read_segment(rt.alloc(), &mut file),
-        Err(DiskFault::OutOfMemory) => Err(ReadFault::OutOfMemory),
-        Err(_) => Err(ReadFault::Read),
-    }
-}
-
-/// Says why a file isn't read.
-fn end_unread(rt: &HostRuntime, path: &str, fault: ReadFault) -> u8 {
-    match fault {
-        ReadFault::Read => {
-            let cause = if path == STANDARD {
-                Cause::of_reader(rt.alloc(), &mut rt.reader())
-            } else {
-                Cause::of_file(rt.alloc(), &HostDisk { rt }, path)
-            };
-            end(rt, Ending::CannotRead(path, &cause))
-        }
-        ReadFault::Limit => {
-            let cause = Cause::long_file(rt.alloc(), path);
-            end(rt, Ending::Limit(&cause))
-        }
-        ReadFault::OutOfMemory => end(rt, Ending::OutOfMemory),
-    }
-}
-
-/// Says which line of a file is refused, and why.
-fn end_refused(rt: &HostRuntime, path: &str, fault: ScheduleFault) -> u8 {
-    if matches!(fault.fault, LineFault::OutOfMemory) {
-        return end(rt, Ending::OutOfMemory);
-    }
-    let _ = eprint!(rt; "eoscheck: {path}: {fault}\n");
-    2
-}
-
-/// Says why a schedule leaves no evidence.
-pub(crate) fn end_unreplayed(
-    rt: &HostRuntime,
+/// The schedule in this file, or that the input says where the name is `-`.
+#[tactic(auto, using(crate::proofs::ScheduleTexts::says))]
+pub(crate) fn read_schedule<D: Disk, R: Read>(
+    alloc: Global,
+    disk: &D,
     path: &str,
-    schedule: &Schedule,
-    fault: ReplayFault,
-) -> u8 {
-    match fault {
-        ReplayFault::NotAtRest => end(rt, Ending::NotAtRest),
-        ReplayFault::Limit => end(rt, Ending::Limit(&Cause::Unknown)),
-        ReplayFault::OutOfMemory => end(rt, Ending::OutOfMemory),
-        ReplayFault::Totals(name, said, counted) => {
-            let line = schedule.lines.len().saturating_add(2);
-            let _ = eprint!(rt;
-                "eoscheck: {path}: line {line}: {name} is {said}, and the lines come to {counted}\n"
-            );
-            2
-        }
-        ReplayFault::Otherwise(line) => match tell_otherwise(rt, path, &line) {
-            Ok(()) => 1,
-            Err(_) => end(rt, Ending::OutOfMemory),
-        },
+    input: &mut R,
+) -> Result<Schedule, Unread>
+    ensures { IfOk result (IsScheduleAt (D.holds disk.now) path.now (R.remaining input.old) (R.remaining input.new)) }
+{
+    let text = match read_text(alloc, disk, path, input) {
+        Ok(text) => text,
+        Err(fault) => return Err(Unread::File(fault)),
+    };
+    match schedule_of(alloc, text.as_slice()) {
+        Ok(schedule) => Ok(schedule),
+        Err(fault) => Err(Unread::Refused(fault)),
     }
 }
 
-/// Says that a line is answered otherwise than it says, and how.
-fn tell_otherwise(rt: &HostRuntime, path: &str, line: &Line) -> Result<(), AllocError> {
-    let number = line.number;
-    let text = line_text(rt.alloc(), line)?;
-    let _ = eprint!(rt; "eoscheck: {path}: number {number} is answered otherwise: {text}");
-    Ok(())
+/// Whether the path names the standard input.
+fn is_standard(path: &str) -> bool
+    ensures { result ≡ is_standard path.now }
+{
+    path.as_bytes() == b"-".as_slice()
+}
+
+/// The bytes of a file, or of the input where it is named `-`: at most 2^30.
+fn read_text<D: Disk, R: Read>(
+    alloc: Global,
+    disk: &D,
+    path: &str,
+    input: &mut R,
+) -> Result<Bytes, FolderFault>
+    ensures { IfOk result (IsTextOf (is_standard path.now) (D.holds disk.now) path.now (R.remaining input.old) (R.remaining input.new)) }
+{
+    let own = String::from_str(alloc, path)?;
+    if !is_standard(path) {
+        return Ok(read_file(alloc, disk, own)?);
+    }
+    match read_segment(alloc, input) {
+        Ok(bytes) => Ok(bytes),
+        Err(why) => Err(refusal_of(alloc, own, input, why)),
+    }
+}
+
+/// The bytes of the file of this path.
+#[tactic(auto, using(crate::proofs::ScheduleTexts::left_stands))]
+fn read_file<D: Disk>(alloc: Global, disk: &D, path: String) -> Result<Bytes, FolderFault>
+    ensures { IfOk result (HasBytes (D.holds disk.now (string_bytes path))) }
+{
+    let named = open_file(alloc, disk, path)?;
+    named.read_whole(alloc)
 }

@@ -1,0 +1,318 @@
+//! `simulate` on a disk: the folder of a simulated cluster's evidence and the file of its history, both whole, or neither; and then the
+//! printed line.
+
+ghost use Rattle.std.specs.Prelude.{◌≡◌, ◌≢◌, Err, IfOk, IfErr, OnOk, is_some, option_map, string_bytes};
+ghost use Rattle.std.specs.Io.KnownBytes.{Appends, Keeps};
+ghost use Rattle.eos_disk.specs.Changes.{IsMade};
+ghost use Rattle.eos_disk.specs.Reading.{IsReadWhole};
+ghost use Rattle.eos_disk.specs.Shapes.{AreKnown};
+ghost use Rattle.eos_disk.specs.Writing.{IsEvidenceWritten};
+ghost use Rattle.eos_disk.specs.Written.{IsEmptyAt, HasListings};
+ghost use Rattle.eos_evidence.specs.Evidence.{EvidenceParts};
+ghost use Rattle.eos_text.specs.Writing.{WritesFront};
+ghost use Rattle.eos_simulate.specs.Folders.{IsBegunIf, IsEndedIf, IsOfWords, IsOfLines, IsRun, IsSimulated};
+ghost use Rattle.eos_simulate.specs.Simulated.{wrote_line};
+ghost use Rattle.eos_simulate.specs.declared.leaving.Unsimulated.TheVariants.{CannotPrint};
+
+use crate::course::Course;
+use crate::made::{Made, by_lines, by_script};
+use crate::making::{SimulationFault, told_to};
+use crate::replaying::ReplayFault;
+use crate::schedule_file::{Unread, read_schedule};
+use eos_disk::{
+    ChangeFault, DiskMut, FolderFault, NewFile, WritingFault, Written, begin_file, drop_file,
+    make_folder, write_whole,
+};
+use eos_ending::leave_file;
+use eos_evidence::Evidence;
+use eos_history_lines::{Schedule, ScheduleFault};
+use eos_segment::RunFault;
+use eos_words::Simulation;
+use std::alloc::Global;
+use std::io::{Read, Write};
+
+/// Why nothing is left of a simulated cluster.
+#[derive(Drop)]
+pub enum Unleft {
+    /// The history's file can't be begun or written.
+    History(ChangeFault),
+    /// The schedule can't be read.
+    Unread(FolderFault),
+    /// A line of the schedule is refused.
+    Refused(ScheduleFault),
+    /// The schedule, which has so many lines of what is done, leaves no evidence.
+    Unreplayed(ReplayFault, u64),
+    /// The words leave no evidence.
+    Unmade(SimulationFault),
+    /// Something stands at the folder's place.
+    ThereAlready,
+    /// The folder, or a file in it, can't be written; or memory was refused.
+    Unwritten(WritingFault),
+}
+
+/// Why a simulated cluster isn't left, or isn't told of.
+#[derive(Drop)]
+pub enum Unsimulated {
+    /// Nothing is left, and nothing was printed.
+    Unleft(Unleft),
+    /// All is left, and a front of the line was written.
+    CannotPrint,
+}
+
+impl Unleft {
+    fn of_reading(fault: Unread) -> Unleft {
+        match fault {
+            Unread::File(fault) => Unleft::Unread(fault),
+            Unread::Refused(fault) => Unleft::Refused(fault),
+        }
+    }
+}
+
+// ---- the folder and the run
+
+/// Makes the folder in which the evidence is to stand.
+fn begin_folder<D: DiskMut>(
+    alloc: Global,
+    disk: &mut D,
+    folder: &str,
+    written: &mut Written,
+) -> Result<(), Unleft>
+    ensures { OnOk result (IsMade (D.holds disk.old) folder.now (D.holds disk.new)) }
+{
+    match make_folder(alloc, disk, written, folder) {
+        Ok(()) => Ok(()),
+        Err(WritingFault::CannotWrite(_)) if disk.stands(folder) => Err(Unleft::ThereAlready),
+        Err(fault) => Err(Unleft::Unwritten(fault)),
+    }
+}
+
+/// Makes the folder, and runs what the words say. Words that don't fit leave no folder.
+#[tactic(auto, using(crate::proofs::LeftFolders::of_words))]
+fn make_by_words<D: DiskMut>(
+    alloc: Global,
+    disk: &mut D,
+    words: &Simulation<'_>,
+    written: &mut Written,
+) -> Result<Made, Unleft>
+    ensures run { IfOk result (λ made. IsOfWords words.now (is_some words.now.history) made.evidence (option_map string_bytes made.history)) }
+    ensures folder { OnOk result (IsMade (D.holds disk.old) words.now.folder.now (D.holds disk.new)) }
+{
+    let course = match Course::of_words(alloc, words) {
+        Ok(course) => course,
+        Err(fault) => return Err(Unleft::Unmade(fault)),
+    };
+    if let Err(why) = begin_folder(alloc, disk, words.folder, written) {
+        return Err(why);
+    }
+    match by_script(alloc, &course, words.history.is_some()) {
+        Ok(made) => Ok(made),
+        Err(fault) => Err(Unleft::Unmade(fault)),
+    }
+}
+
+/// Makes the folder, and runs what a schedule says.
+fn make_by_lines<D: DiskMut>(
+    alloc: Global,
+    disk: &mut D,
+    words: &Simulation<'_>,
+    schedule: &Schedule,
+    written: &mut Written,
+) -> Result<Made, Unleft>
+    ensures run { IfOk result (λ made. IsOfLines schedule.now (is_some words.now.history) made.evidence (option_map string_bytes made.history)) }
+    ensures folder { OnOk result (IsMade (D.holds disk.old) words.now.folder.now (D.holds disk.new)) }
+{
+    if let Err(why) = begin_folder(alloc, disk, words.folder, written) {
+        return Err(why);
+    }
+    match by_lines(alloc, schedule, words.history.is_some()) {
+        Ok(made) => Ok(made),
+        Err(fault) => Err(Unleft::Unreplayed(fault, schedule.lines.len() as u64)),
+    }
+}
+
+/// Makes the folder, and runs what is asked for.
+fn make<D: DiskMut, R: Read>(
+    alloc: Global,
+    disk: &mut D,
+    words: &Simulation<'_>,
+    input: &mut R,
+    written: &mut Written,
+) -> Result<Made, Unleft>
+    ensures run { IfOk result (λ made. IsRun words.now (D.holds disk.old) (R.remaining input.old) (R.remaining input.new) made.evidence (option_map string_bytes made.history)) }
+    ensures folder { OnOk result (IsMade (D.holds disk.old) words.now.folder.now (D.holds disk.new)) }
+{
+    let Some(path) = words.schedule else {
+        return make_by_words(alloc, disk, words, written);
+    };
+    match read_schedule(alloc, &*disk, path, input) {
+        Ok(schedule) => make_by_lines(alloc, disk, words, &schedule, written),
+        Err(fault) => Err(Unleft::of_reading(fault)),
+    }
+}
+
+// ---- the history and the evidence
+
+/// Begins the file of the history, if one is wanted. A path names no file where it is empty or ends in a slash, whatever stands there.
+fn begun<D: DiskMut>(
+    alloc: Global,
+    disk: &mut D,
+    path: Option<&str>,
+) -> Result<Option<NewFile<D::Held>>, ChangeFault>
+    ensures { IfOk result (λ file. IsBegunIf path.entry file (D.holds disk.old) (D.holds disk.new)) }
+{
+    let Some(path) = path else {
+        return Ok(None);
+    };
+    if path.is_empty() {
+        return Err(ChangeFault::NoFolder);
+    }
+    if path.ends_with('/') {
+        return Err(ChangeFault::Refused);
+    }
+    match begin_file(alloc, disk, path) {
+        Ok(file) => Ok(Some(file)),
+        Err(fault) => Err(fault),
+    }
+}
+
+/// Ends the file that was begun by this text, or drops it where there is none.
+fn ended<D: DiskMut>(
+    alloc: Global,
+    disk: &mut D,
+    file: Option<NewFile<D::Held>>,
+    text: Option<String>,
+) -> Result<(), ChangeFault>
+    ensures { OnOk result (IsEndedIf file (option_map string_bytes text) (D.holds disk.old) (D.holds disk.new)) }
+{
+    match file {
+        Some(file) => leave_file(alloc, disk, file, text),
+        None => Ok(()),
+    }
+}
+
+/// Takes the history away that was written.
+fn take_history<D: DiskMut>(alloc: Global, disk: &mut D, path: Option<&str>) {
+    if let Some(path) = path {
+        let _ = disk.remove(alloc, path);
+    }
+}
+
+/// Drops the file that was begun.
+fn dropped<D: DiskMut>(alloc: Global, disk: &mut D, file: Option<NewFile<D::Held>>) {
+    if let Some(file) = file {
+        drop_file(alloc, disk, file);
+    }
+}
+
+/// Writes the evidence into its folder. Where it can't be written, the history that was goes too.
+fn write_last<D: DiskMut>(
+    alloc: Global,
+    disk: &mut D,
+    words: &Simulation<'_>,
+    evidence: &Evidence,
+    written: &mut Written,
+) -> Result<(), Unleft>
+    ensures written { OnOk result (IsEvidenceWritten (D.holds disk.old) words.now.folder.now evidence.now (D.holds disk.new)) }
+    ensures back { IsEmptyAt (D.holds disk.old) words.now.folder.now → AreKnown (D.holds disk.new) words.now.folder.now → HasListings (D.holds disk.new)
+        → OnOk result (IsReadWhole (D.holds disk.new) words.now.folder.now evidence.now) }
+{
+    match write_whole(alloc, disk, written, words.folder, evidence) {
+        Ok(()) => Ok(()),
+        Err(fault) => {
+            take_history(alloc, disk, words.history);
+            Err(Unleft::Unwritten(fault))
+        }
+    }
+}
+
+/// Runs what is asked for, and leaves its evidence and its history.
+///
+/// # Errors
+/// Of the evidence some may have been written, which is among what was written.
+fn leave<D: DiskMut, R: Read>(
+    alloc: Global,
+    disk: &mut D,
+    words: &Simulation<'_>,
+    input: &mut R,
+    written: &mut Written,
+) -> Result<Evidence, Unleft>
+    ensures { IfOk result (IsSimulated words.now (R.remaining input.old) (R.remaining input.new) (D.holds disk.old) (D.holds disk.new)) }
+{
+    let file = match begun(alloc, disk, words.history) {
+        Ok(file) => file,
+        Err(fault) => return Err(Unleft::History(fault)),
+    };
+    let Made { evidence, history } = match make(alloc, disk, words, input, written) {
+        Ok(made) => made,
+        Err(why) => {
+            dropped(alloc, disk, file);
+            return Err(why);
+        }
+    };
+    if let Err(fault) = ended(alloc, disk, file, history) {
+        return Err(Unleft::History(fault));
+    }
+    match write_last(alloc, disk, words, &evidence, written) {
+        Ok(()) => Ok(evidence),
+        Err(why) => Err(why),
+    }
+}
+
+// ---- the line
+
+/// Prints how many partitions the evidence has.
+fn tell<W: Write>(alloc: Global, evidence: &Evidence, writer: &mut W) -> Result<u8, Unsimulated>
+    ensures ok { IfOk result (λ status. (status ≡ 0) × Appends (W.contents writer.old) (W.contents writer.new) (wrote_line evidence.now)) }
+    ensures front { result ≡ Err CannotPrint → WritesFront (W.contents writer.old) (W.contents writer.new) (wrote_line evidence.now) }
+    ensures unprinted { IfErr result (λ why. why ≢ CannotPrint → Keeps (W.contents writer.old) (W.contents writer.new)) }
+{
+    match told_to(alloc, evidence, writer) {
+        Ok(status) => Ok(status),
+        Err(RunFault::Write) => Err(Unsimulated::CannotPrint),
+        Err(RunFault::OutOfMemory) => Err(Unsimulated::Unleft(Unleft::Unwritten(
+            WritingFault::OutOfMemory,
+        ))),
+        Err(RunFault::Read) => unreachable!(),
+        Err(RunFault::Limit) => unreachable!(),
+    }
+}
+
+/// Runs a simulated cluster as the words say, leaves its evidence as a new folder and its history, if one is wanted, as a new file, and
+/// prints how many partitions the evidence has. A schedule is read from its file, or from the input where that is named `-`.
+///
+/// The file of the history is begun before the schedule is read, and both before the folder is made. Where nothing stood below the folder,
+/// and the history doesn't lie there, just the evidence's files do then, and from a disk that is known `eos_disk::read_folder` reads it back.
+///
+/// # Errors
+/// But for `CannotPrint` nothing was printed; and what was written was taken away, as far as the disk let it go.
+pub fn simulate_to<D: DiskMut, R: Read, W: Write>(
+    alloc: Global,
+    disk: &mut D,
+    words: &Simulation<'_>,
+    input: &mut R,
+    writer: &mut W,
+) -> Result<u8, Unsimulated>
+    ensures ok { IfOk result (λ status. (e : EvidenceParts) × IsSimulated words.now (R.remaining input.old) (R.remaining input.new) (D.holds disk.old) (D.holds disk.new) e
+        × (status ≡ 0) × Appends (W.contents writer.old) (W.contents writer.new) (wrote_line e)) }
+    ensures front { result ≡ Err CannotPrint → (e : EvidenceParts) × IsSimulated words.now (R.remaining input.old) (R.remaining input.new) (D.holds disk.old) (D.holds disk.new) e
+        × WritesFront (W.contents writer.old) (W.contents writer.new) (wrote_line e) }
+    ensures unprinted { IfErr result (λ why. why ≢ CannotPrint → Keeps (W.contents writer.old) (W.contents writer.new)) }
+{
+    let mut written = Written::new(alloc);
+    let evidence = match leave(alloc, disk, words, input, &mut written) {
+        Ok(evidence) => evidence,
+        Err(why) => {
+            written.remove(alloc, disk);
+            return Err(Unsimulated::Unleft(why));
+        }
+    };
+    match tell(alloc, &evidence, writer) {
+        Ok(status) => Ok(status),
+        Err(Unsimulated::CannotPrint) => Err(Unsimulated::CannotPrint),
+        Err(Unsimulated::Unleft(why)) => {
+            written.remove(alloc, disk);
+            take_history(alloc, disk, words.history);
+            Err(Unsimulated::Unleft(why))
+        }
+    }
+}

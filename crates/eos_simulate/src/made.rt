@@ -1,0 +1,70 @@
+//! What a run makes: the evidence, and the text of its history.
+
+ghost use Rattle.std.specs.Prelude.{IfOk, option_map, string_bytes};
+ghost use Rattle.eos_simulate.specs.Folders.{IsOfScript, IsOfLines};
+ghost use Rattle.eos_simulate.specs.HistoryTexts.{IsHistoryIf};
+ghost use Rattle.eos_simulate.specs.steps.Heads.{head_of};
+
+use crate::course::Course;
+use crate::history_file::history_text;
+use crate::kept::simulate;
+use crate::making::SimulationFault;
+use crate::replaying::{ReplayFault, replay};
+use eos_drive::History;
+use eos_evidence::Evidence;
+use eos_history_lines::{Head, Schedule};
+use std::alloc::{AllocError, Global};
+
+/// What a cluster left: the evidence, and the text of its history, if that was asked for.
+#[derive(Drop)]
+pub(crate) struct Made {
+    pub(crate) evidence: Evidence,
+    pub(crate) history: Option<String>,
+}
+
+/// What a script leaves.
+#[tactic(auto, using(crate::proofs::MadeRuns::of_script))]
+pub(crate) fn by_script(
+    alloc: Global,
+    course: &Course,
+    keeps: bool,
+) -> Result<Made, SimulationFault>
+    ensures { IfOk result (λ made. IsOfScript course.now.config course.now.switches (head_of course.now) keeps made.evidence (option_map string_bytes made.history)) }
+{
+    let mut history = History::new(alloc);
+    let evidence = simulate(alloc, course, &mut history)?;
+    let history = text_if(alloc, keeps, &course.head(), &history)?;
+    Ok(Made { evidence, history })
+}
+
+/// What the lines of a schedule leave.
+#[tactic(auto, using(crate::proofs::MadeRuns::of_lines))]
+pub(crate) fn by_lines(alloc: Global, schedule: &Schedule, keeps: bool) -> Result<Made, ReplayFault>
+    ensures { IfOk result (λ made. IsOfLines schedule.now keeps made.evidence (option_map string_bytes made.history)) }
+{
+    let mut history = History::new(alloc);
+    let evidence = match replay(alloc, schedule, &mut history) {
+        Ok(evidence) => evidence,
+        Err(fault) => return Err(fault),
+    };
+    match text_if(alloc, keeps, &schedule.head, &history) {
+        Ok(history) => Ok(Made { evidence, history }),
+        Err(_) => Err(ReplayFault::OutOfMemory),
+    }
+}
+
+/// The text of a history, if it is wanted.
+fn text_if(
+    alloc: Global,
+    keeps: bool,
+    head: &Head,
+    history: &History,
+) -> Result<Option<String>, AllocError>
+    ensures { IfOk result (λ text. IsHistoryIf keeps head.now history.now (option_map string_bytes text)) }
+{
+    if keeps {
+        let text = history_text(alloc, head, history)?;
+        return Ok(Some(text));
+    }
+    Ok(None)
+}
