@@ -119,16 +119,13 @@ times_there (x ∷ xs) zero t lt is = ap (λ (y : Times). y.at) (sym is)
 times_there (x ∷ xs) (suc i) t lt is = times_there xs i t (omega (arith, lt)) is
 
 -- the times of the row at this place, where there are some, and those of the rows behind it
-times_left : (times : List Times) (i : ℕ) → ((t : Times) × (drop i times ≡ t ∷ drop (i + 1) times) × (times_of times i ≡ t.at)) ⊎ ((drop i times ≡ []) × (drop (i + 1) times ≡ []) × (times_of times i ≡ []))
-times_left [] i = inr (drop_all i [] (omega arith), drop_all (i + 1) [] (omega arith), refl)
+times_left : (times : List Times) (i : ℕ) → ((t : Times) × (drop i times ≡ t ∷ drop (suc i) times) × (times_of times i ≡ t.at)) ⊎ ((drop i times ≡ []) × (drop (suc i) times ≡ []) × (times_of times i ≡ []))
+times_left [] i = inr (drop_all i [] (omega arith), drop_all (suc i) [] (omega arith), refl)
 times_left (t ∷ ts) zero = inl (t, refl, refl)
-times_left (t ∷ ts) (suc i) = elim (times_left ts i) [
-  | inl h ↦ inl (h.0, h.1, h.2)
-  | inr h ↦ inr (h.0, h.1, h.2)
-]
+times_left (t ∷ ts) (suc i) = times_left ts i
 
 told_with : (columns : List Column) (row : Row) (rows : List Row) (times : List Times) (i : ℕ) (here more : List (List ℕ)) → AreTold row.name columns (times_of times i) row.marks.items here
-    → AreRowsTold columns rows (drop (i + 1) times) more → AreRowsTold columns (row ∷ rows) (drop i times) (here ++ more)
+    → AreRowsTold columns rows (drop (suc i) times) more → AreRowsTold columns (row ∷ rows) (drop i times) (here ++ more)
 told_with columns row rows times i here more a h = elim (times_left times i) [
   | inl l ↦ subst (λ (ts : List Times). AreRowsTold columns (row ∷ rows) ts (here ++ more)) (sym l.1)
       (here, more, subst (λ (x : List (ℕ × ℤ)). AreTold row.name columns x row.marks.items here) l.2 a, h, refl)
@@ -144,7 +141,9 @@ row_passed columns rows times before i row now after lt is p t =
       texts = p.texts ++ t.0;
       so_far = t.1 ∙ (ap (λ (xs : List (List ℕ)). xs ++ t.0) p.so_far ∙ append_assoc before p.texts t.0);
       on = λ more h.
-          let whole = told_with columns row (drop (i + 1) rows) times i t.0 more t.2 h in
+          let z : i + 1 ≡ suc i = omega arith in
+          let behind = subst (λ (n : ℕ). AreRowsTold columns (drop (i + 1) rows) (drop n times) more) z h in
+          let whole = told_with columns row (drop (i + 1) rows) times i t.0 more t.2 behind in
           let there = p.on (t.0 ++ more) (subst (λ (rs : List Row). AreRowsTold columns rs (drop i times) (t.0 ++ more)) (sym left) whole) in
           subst (λ (xs : List (List ℕ)). AreRowsTold columns rows times xs) (sym (append_assoc p.texts t.0 more)) there;
     }
