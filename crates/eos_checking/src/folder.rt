@@ -45,7 +45,7 @@ pub enum Unchecked {
 }
 
 /// The answer by the pieces of a source, of the first fault or of all.
-#[tactic(auto, using(crate::proofs::FolderAnswers::of_first, crate::proofs::FolderAnswers::of_list, eos_source_check::proofs::RefusalsTold::source_untold, eos_source_check::proofs::RefusalsTold::list_untold))]
+#[tactic(auto, using(crate::proofs::FolderAnswers::of_first, crate::proofs::FolderAnswers::of_list))]
 fn answer_pieces<S: Source, T: Timed, R: Threads + Sync>(
     alloc: Global,
     threads: &R,
@@ -68,7 +68,6 @@ fn answer_pieces<S: Source, T: Timed, R: Threads + Sync>(
 }
 
 /// Reads the segments of a folder of this shape, and answers.
-#[tactic(auto, using(eos_source::proofs::FirstRefusals::refused_of, eos_source::proofs::FirstRefusals::fold_of, eos_source::proofs::FirstRefusals::changed_of, eos_source::proofs::FirstRefusals::memory_of))]
 fn answer_shape<D: Disk, T: Timed + Watch, R: Threads + Sync>(
     alloc: Global,
     threads: &R,
@@ -101,7 +100,7 @@ fn answer_shape<D: Disk, T: Timed + Watch, R: Threads + Sync>(
 }
 
 /// Reads a folder, and answers. No more of it is held than its answer wants.
-#[tactic(auto, using(crate::proofs::FolderAnswers::folder_of, eos_source::proofs::FirstRefusals::of_manifest, eos_source::proofs::FirstRefusals::of_piece, eos_source::proofs::FirstRefusals::of_listing))]
+#[tactic(auto, using(crate::proofs::FolderAnswers::folder_of))]
 fn answer_folder<D: Disk, T: Timed + Watch, R: Threads + Sync>(
     alloc: Global,
     threads: &R,

@@ -233,7 +233,6 @@ fn all_told<S: Source, T: Timed>(
 /// # Errors
 /// Those of `answer_source`; and of a partition that is read again: a piece that isn't there or is a fold, or that its least fault
 /// is another than the one that was found.
-#[tactic(auto, using(eos_source_check::proofs::RefusalsTold::source_untold, eos_source_check::proofs::RefusalsTold::earned_untold))]
 pub fn answer_all<S: Source, T: Timed, R: Threads + Sync>(
     alloc: Global,
     rt: &R,

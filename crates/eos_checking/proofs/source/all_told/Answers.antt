@@ -1,4 +1,5 @@
 use Rattle.std.proofs.Common.{true, List, subst}
+use Rattle.std.proofs.lemmas.Result.{err_from_is_err_and}
 use Rattle.eos_check.specs.declared.verdict.Fault.{Fault}
 use Rattle.eos_evidence.specs.SpecFields.{SpecFields}
 use Rattle.eos_checking.specs.steps.Tellings.{TellsOf}
@@ -11,3 +12,8 @@ returns-clause-answer g c =
     let tells = subst (λ (s : SpecFields). TellsOf s judged c.as_slice.result.now asked.subject asked.json true asked.quiet asked.terms asked.report c.in_ok-answer.answer) c.spec.ensures.value c.in_ok-answer.ensures in
     let of_list = subst (λ (fs : List Fault). TellsOf c.args.pieces.now.shape.now.spec judged fs asked.subject asked.json true asked.quiet asked.terms asked.report c.in_ok-answer.answer) c.as_slice.ensures.value tells in
     (c.in_ok-list.list.items, c.in_ok-list.ensures.list, of_list)
+
+pub returns-in_err-list-clause-earned : goal.returns-in_err-list-clause-earned
+returns-in_err-list-clause-earned g c =
+    let p = err_from_is_err_and c.from_residual.result c.from_residual.ensures.1 in
+    rw (p.1, p.2) c.in_err-list.ensures.earned

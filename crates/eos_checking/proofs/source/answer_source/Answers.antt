@@ -1,4 +1,5 @@
 use Rattle.std.proofs.Common.{false, List, subst}
+use Rattle.std.proofs.lemmas.Result.{err_from_is_err_and}
 use Rattle.eos_check.specs.declared.verdict.Fault.{Fault}
 use Rattle.eos_evidence.specs.SpecFields.{SpecFields}
 use Rattle.eos_checking.specs.steps.Tellings.{TellsOf}
@@ -12,3 +13,8 @@ returns-clause-answer g c =
     let tells = subst (λ (s : SpecFields). TellsOf s judged c.faults_of.result.now asked.subject asked.json false asked.quiet asked.terms asked.report c.in_ok-answer.answer) c.spec.ensures.value c.in_ok-answer.ensures in
     let of_first = subst (λ (fs : List Fault). TellsOf c.args.pieces.shape.now.spec judged fs asked.subject asked.json false asked.quiet asked.terms asked.report c.in_ok-answer.answer) c.faults_of.ensures tells in
     answer_is _ c.args.pieces.shape.now asked.subject asked.json asked.quiet asked.terms asked.report judged _ c.in_ok-judged.ensures.judged of_first
+
+pub returns-in_err-judged-clause-refused : goal.returns-in_err-judged-clause-refused
+returns-in_err-judged-clause-refused g c =
+    let p = err_from_is_err_and c.from_residual.result c.from_residual.ensures.1 in
+    rw (p.1, p.2) c.in_err-judged.ensures.refused
