@@ -24,4 +24,4 @@ rows_more known partitions rows i row before after t lt is h one pushed =
     (subst (λ (rs : List Row). AreTimesOfRows known partitions rs (before ++ t ∷ [])) more (rows_push known partitions (take i rows) before row t h one))
 
 pub rows_all : (known : ℕ → Known) (partitions : List Partition) (rows : List Row) (i : ℕ) (times : List Times) → length rows ≤ i → AreTimesOfRows known partitions (take i rows) times → AreTimesOfRows known partitions rows times
-rows_all known partitions rows i times le h = subst (λ (rs : List Row). AreTimesOfRows known partitions rs times) (take_all rows i le) h
+rows_all known partitions rows i times le h = subst (λ (rs : List Row). AreTimesOfRows known partitions rs times) (take_all i rows le) h
