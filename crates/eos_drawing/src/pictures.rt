@@ -181,7 +181,6 @@ fn of_shape<D: Disk, T: Watch, R: Threads + Sync>(
 }
 
 /// Reads a folder, and draws.
-#[tactic(auto, using(crate::proofs::FolderAnswers::folder_of))]
 fn of_folder<D: Disk, T: Watch, R: Threads + Sync>(
     alloc: Global,
     threads: &R,
