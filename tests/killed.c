@@ -69,7 +69,6 @@ void _exit(int status) {
         return real(__VA_ARGS__);                                         \
     }
 
-CALLS(ssize_t, write, (int file, const void *bytes, size_t size), file, bytes, size)
 CALLS(int, fsync, (int file), file)
 CALLS(int, flock, (int file, int operation), file, operation)
 CALLS(int, link, (const char *from, const char *to), from, to)
@@ -108,4 +107,11 @@ int close(int file) {
     if (!fails) return told;
     errno = why;
     return -1;
+}
+
+/* What is printed is told apart. */
+ssize_t write(int file, const void *bytes, size_t size) {
+    static ssize_t (*real)(int, const void *, size_t);
+    if (!real) real = dlsym(RTLD_NEXT, "write");
+    return next(file > 2 ? "write" : "print") ? -1 : real(file, bytes, size);
 }

@@ -230,6 +230,54 @@ def reports_a_million_faults(cases, path):
     os.remove(report)
 
 
+def state(status, producer, epoch, numbers):
+    """The value of a transaction's state, which lists these partitions of a topic without logs."""
+    listed = struct.pack(f">ih5si{len(numbers)}i", 1, 5, b"other", len(numbers), *numbers) if numbers else struct.pack(">i", 0)
+    return struct.pack(">hqhib", 0, producer, epoch, 60000, status) + listed + struct.pack(">qq", 0, 0)
+
+
+def transactions(count, numbers, others):
+    """The records of so many transactions, of ten producers in turns: begun with these partitions, and prepared with the same, as this order has them."""
+    for at in range(count):
+        producer, epoch = 1000 + at % 10, at // 10
+        key = text(b"\0\0" + struct.pack(">h", 4) + b"%d" % producer)
+        for status, raised, listed in [(0, 0, [])] * (at < 10) + [(1, 0, numbers), (2, 1, others), (4, 1, [])]:
+            yield key, text(state(status, producer, epoch + raised, listed))
+
+
+def timed(cases, name, count, *listed):
+    """The seconds of a check of a transaction log of so many transactions, whose partitions have no folder."""
+    path, base = os.path.join(cases.folder, "listed"), 0
+    os.makedirs(f"{path}/__transaction_state-0")
+    records = list(transactions(count, *listed))
+    with open(f"{path}/__transaction_state-0/{0:020}.log", "wb") as log:
+        while base < len(records):
+            part = [record(place, key, value) for place, (key, value) in enumerate(records[base : base + 100])]
+            log.write(at_offset(batch(part), base))
+            base += len(part)
+    with open(f"{path}/evidence.json", "w", encoding="utf-8") as manifest:
+        manifest.write('{"version":2,"apps":[],"ends":{"__transaction_state-0":%d}}' % base)
+    spent = []
+    for _ in range(3):
+        begun = resource.getrusage(resource.RUSAGE_CHILDREN).ru_utime
+        said = cases.run([cases.program, "check", "--quiet", "--workers", "1", path])
+        spent.append(resource.getrusage(resource.RUSAGE_CHILDREN).ru_utime - begun)
+        wanted = 1, b"no 3.6 AbsentPartition producer=1000 epoch=0 partition=other-0\n", ""
+        cases.tell(name, None if said == wanted else f"{said}, not {wanted}")
+    shutil.rmtree(path)
+    return min(spent)
+
+
+def answers_many_listed_partitions(cases):
+    """Partitions that transactions list, as many in long lists as there are records with one: they take no longer, in the same order or another."""
+    count, each = 400_000, 1000
+    numbers = list(range(each))
+    records = timed(cases, f"{count} records", count // 3, [0], [0])
+    for order, others in ("the same order", numbers), ("another order", numbers[::-1]):
+        listed = timed(cases, f"{count} listed partitions in {order}", count // (2 * each), numbers, others)
+        cases.tell(f"{count} listed partitions in {order}", None if listed <= records + 0.05 else f"{listed:.2f} s, and as many records {records:.2f} s")
+
+
 def main():
     with tempfile.TemporaryDirectory() as folder:
         cases = Cases(os.path.abspath(sys.argv[1]), folder)
@@ -238,6 +286,7 @@ def main():
         answers_many_batches(cases)
         answers_the_largest(cases)
         answers_evidence_in_little_memory(cases)
+        answers_many_listed_partitions(cases)
     print(f"{cases.passed} passed, {cases.failed} failed")
     sys.exit(1 if cases.failed else 0)
 
