@@ -284,7 +284,8 @@ fn tell<W: Write>(alloc: Global, evidence: &Evidence, writer: &mut W) -> Result<
 /// and the history doesn't lie there, just the evidence's files do then, and from a disk that is known `eos_disk::read_folder` reads it back.
 ///
 /// # Errors
-/// But for `CannotPrint` nothing was printed; and what was written was taken away, as far as the disk let it go.
+/// Where the line can't be printed, or no memory is left for it, the folder and the history stay, whole. Else what was written was taken away,
+/// as far as the disk let it go. But for `CannotPrint` nothing was printed.
 pub fn simulate_to<D: DiskMut, R: Read, W: Write>(
     alloc: Global,
     disk: &mut D,
@@ -306,13 +307,5 @@ pub fn simulate_to<D: DiskMut, R: Read, W: Write>(
             return Err(Unsimulated::Unleft(why));
         }
     };
-    match tell(alloc, &evidence, writer) {
-        Ok(status) => Ok(status),
-        Err(Unsimulated::CannotPrint) => Err(Unsimulated::CannotPrint),
-        Err(Unsimulated::Unleft(why)) => {
-            written.remove(alloc, disk);
-            take_history(alloc, disk, words.history);
-            Err(Unsimulated::Unleft(why))
-        }
-    }
+    tell(alloc, &evidence, writer)
 }
