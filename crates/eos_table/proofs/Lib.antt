@@ -23,6 +23,8 @@ pub mod QuickLaw
 pub mod CloseWalks
 pub mod DoubledTables
 pub mod DoubledMore
+pub mod ApartSteps
+pub mod SettledIds
 pub mod DoubledFaults
 pub mod PlaceTests
 pub mod PlacesSound

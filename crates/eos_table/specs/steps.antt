@@ -5,5 +5,6 @@ pub mod LogCandidates
 pub mod OneShard
 pub mod Wanted
 pub mod Doubled
+pub mod Apart
 pub mod Deciders
 pub mod Shown

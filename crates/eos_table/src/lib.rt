@@ -3,6 +3,7 @@
 #![tactic(auto)]
 
 mod agree;
+mod apart;
 mod best;
 mod content;
 mod decided;
@@ -24,6 +25,7 @@ mod ordered;
 mod pass;
 mod places;
 mod quick;
+mod settled;
 mod shard;
 mod table;
 mod transaction_log;

@@ -12,6 +12,7 @@ use crate::last_values::{LastValues, is_of_transaction_log, is_open, kind_of_sta
 use crate::log_fault::LogFaultKind;
 use crate::log_faults::LogFaults;
 use crate::mark::{Mark, Place, producer_of};
+use crate::settled::are_settled;
 use bytes::Bytes;
 use eos_kept::{ItemRef, Part};
 use eos_txnlog::{Decision, TxnValue, is_skipped, step_ok};
@@ -192,7 +193,7 @@ fn push_open_id(
     Ok(())
 }
 
-/// Takes up what is left unfinished at the end of a partition.
+/// Takes up what is left unfinished at the end of a partition. Its records are looked at only where something is.
 fn push_open(
     faults: &mut LogFaults,
     last: &LastValues,
@@ -201,6 +202,9 @@ fn push_open(
 ) -> Result<(), AllocError>
     ensures { OnOk result (faults.new ≡ fold taken faults.old (flat_map (open_at (state_of last.now) end.partition end.offset) marks.now)) }
 {
+    if are_settled(last) {
+        return Ok(());
+    }
     for mark in marks {
         push_open_id(faults, last, mark, end)?;
     }
