@@ -2,6 +2,7 @@
 use Rattle.std.proofs.Common.{◌≡◌, ◌<◌, ◌%◌, ℕ, zero, suc, ℤ, List, [], ◌∷◌, length, Some, None, Vec, Global, IsPermutation, IsSorted, refl, sym, subst, ap, ◌∙◌, inl, inr, arith}
 use Rattle.std.specs.Prelude.{slice_get, slice_index_or}
 use Rattle.std.proofs.Math.Nat.{mod-lt}
+use Rattle.std.proofs.lemmas.Bool.{cases_lt}
 use Rattle.std.proofs.lemmas.Option.{slice_get_within, get_or_from_slice_get}
 use Rattle.eos_base.specs.declared.partition_name.PartitionName.{PartitionName}
 use Rattle.eos_base.specs.Members.{Has}
@@ -50,6 +51,12 @@ one_there {X} xs i x y e f = inside x y (sym e ∙ f)
     inside : (a b : X) → Some a ≡ Some b → a ≡ b
     inside a b e = cc
 
+-- whatever stands for one that isn't there
+one_within : (xs : List ℕ) (i d e : ℕ) → i < length xs → slice_index_or xs i d ≡ slice_index_or xs i e
+one_within [] i d e lt = absurd (omega (arith, lt))
+one_within (x ∷ xs) zero d e lt = refl
+one_within (x ∷ xs) (suc i) d e lt = one_within xs i d e (omega (arith, lt))
+
 -- ---- wishes
 
 wished : (ds : List Decision) (c : Close) (name : PartitionName) → Has (wishes ds) (wish c name) → (d : Decision) × Has ds d × (wanted_close d ≡ c) × Has (names_of d.partitions) name
@@ -63,11 +70,19 @@ wishes_have ds d name hd hn = has_flat wishes_of ds d (wish (wanted_close d) nam
 
 -- ---- all that is wanted is there, and no more
 
-module _ (ds : List Decision) (ps : List PartLog) (lists : Lists) (have : Have ps (wishes ds) lists) (threads : ℕ) (some : 0 < threads) (good : (rest : ℕ) → rest < threads → IsGood threads rest ds lists ps) where
+module _ (ds : List Decision) (ps : List PartLog) (lists : Lists) (have : Have ps (wishes ds) lists) (owners : List ℕ) (threads : ℕ) (some : 0 < threads) (good : (rest : ℕ) → rest < threads → IsGood threads rest ds owners lists ps) where
+  owned : (i : ℕ) → i < length ps → AgreesAt lists ps i
+  owned i lt = elim (cases_lt i (length owners)) [
+    | inl inside ↦
+        let owner = slice_index_or owners i 0 in
+        (good (owner % threads) (mod-lt owner some)).agree i lt (λ d l. ap (λ n. n % threads) (one_within owners i d 0 inside))
+    | inr past ↦ (good 0 some).agree i lt (λ d l. absurd (omega (arith, l, past)))
+  ]
+
   agree : (i : ℕ) (p : PartLog) (list : Vec Close Global) → slice_get ps i ≡ Some p → slice_get lists i ≡ Some list → Agrees list.items p
   agree i p list at is =
       let lt = slice_get_within ps i p at in
-      let a : AgreesAt lists ps i = (good (i % threads) (mod-lt i some)).agree i lt refl in
+      let a : AgreesAt lists ps i = owned i lt in
       subst (λ (l : Vec Close Global). Agrees l.items p) (get_or_from_slice_get lists i list list is)
       (subst (Agrees (slice_index_or lists i list).items) (get_or_from_slice_get ps i p p at) (a list p (slice_get_within lists i list is)))
 

@@ -22,6 +22,7 @@ pub mod match_laws;
 mod match_list;
 mod one_shard;
 mod ordered;
+mod owners;
 mod pass;
 mod places;
 mod quick;

@@ -1,13 +1,14 @@
 //! The quick walk of the matching: a comparison of numbers in order, which finds that nothing is wrong or says nothing.
 
-ghost use Rattle.std.specs.Prelude.{◌≡◌, ◌<◌, ◌%◌, ℕ, Bool, true, length, slice_index_or, IfOk};
+ghost use Rattle.std.specs.Prelude.{◌≡◌, ◌<◌, ℕ, Bool, true, length, slice_index_or, IfOk};
 ghost use Rattle.eos_base.specs.Least.{NoneStands};
 ghost use Rattle.eos_table.specs.MatchFaults.{Stands};
-ghost use Rattle.eos_table.specs.steps.Wanted.{IsOnce, AgreesAt, AgreeAt, IsGood};
+ghost use Rattle.eos_table.specs.steps.Wanted.{IsOnce, IsMine, AgreesAt, AgreeAt, IsGood};
 
 use crate::agree::agrees;
 use crate::key::decided_keys;
 use crate::one_shard::Shard;
+use crate::owners::owners_of;
 use crate::shard::twice_found;
 use crate::table::TxnTable;
 use crate::wanted::wanted_of;
@@ -19,12 +20,13 @@ use std::alloc::{AllocError, Global};
 use std::thread;
 use std::thread::Threads;
 
-/// What threads walk over: the decisions, and for each part the closes that they want there.
+/// What threads walk over: the decisions, and for each part the closes that they want there, and which thread looks at it.
 #[derive(Clone, Copy)]
-struct Ground<'d, 'p, 'l> {
+struct Ground<'d, 'p, 'l, 'o> {
     decisions: &'d [Decision],
     parts: &'p [Part],
     lists: &'l [Vec<Close>],
+    owners: &'o [usize],
 }
 
 /// Whether no two decisions of the shard have one producer id and epoch.
@@ -39,19 +41,27 @@ fn is_once(alloc: Global, decisions: &[Decision], shard: Shard) -> Result<bool, 
     }
 }
 
-/// Whether the log of the part at this place is as is wanted there; or the place leaves another rest after a division by the number
-/// of threads, so that the part is another thread's.
+/// Whether the part at this place is of the thread with this rest after a division of its owner's number by the number of threads, or
+/// has no owner.
+fn is_mine(owners: &[usize], threads: usize, rest: usize, i: usize) -> bool
+    requires { 0 < threads }
+    ensures { IsMine threads rest owners.now i → result ≡ true }
+{
+    i >= owners.len() || owners[i] % threads == rest
+}
+
+/// Whether the log of the part at this place is as is wanted there, or the part is another thread's.
 fn agrees_at(
     alloc: Global,
-    ground: &Ground<'_, '_, '_>,
+    ground: &Ground<'_, '_, '_, '_>,
     threads: usize,
     rest: usize,
     i: usize,
 ) -> Result<bool, AllocError>
     requires { (0 < threads) × (i < length ground.now.parts.now) }
-    ensures { IfOk result (λ yes. yes ≡ true → i % threads ≡ rest → AgreesAt ground.now.lists.now ground.now.parts.now i) }
+    ensures { IfOk result (λ yes. yes ≡ true → IsMine threads rest ground.now.owners.now i → AgreesAt ground.now.lists.now ground.now.parts.now i) }
 {
-    if i % threads != rest {
+    if !is_mine(ground.owners, threads, rest, i) {
         return Ok(true);
     }
     if i >= ground.lists.len() {
@@ -61,15 +71,15 @@ fn agrees_at(
     Ok(agree)
 }
 
-/// Whether the logs of all parts with this rest are as is wanted there.
+/// Whether the logs of all of a thread's parts are as is wanted there.
 fn agree_at(
     alloc: Global,
-    ground: &Ground<'_, '_, '_>,
+    ground: &Ground<'_, '_, '_, '_>,
     threads: usize,
     rest: usize,
 ) -> Result<bool, AllocError>
     requires { 0 < threads }
-    ensures { IfOk result (λ yes. yes ≡ true → AgreeAt threads rest ground.now.lists.now ground.now.parts.now) }
+    ensures { IfOk result (λ yes. yes ≡ true → AgreeAt threads rest ground.now.owners.now ground.now.lists.now ground.now.parts.now) }
 {
     for i in 0..ground.parts.len() {
         let agree = agrees_at(alloc, ground, threads, rest, i)?;
@@ -83,12 +93,12 @@ fn agree_at(
 /// What one thread looks at: the decisions of its shard, and its parts.
 fn is_good(
     alloc: Global,
-    ground: &Ground<'_, '_, '_>,
+    ground: &Ground<'_, '_, '_, '_>,
     threads: u32,
     rest: u32,
 ) -> Result<bool, AllocError>
     requires { rest < threads }
-    ensures { IfOk result (λ yes. yes ≡ true → IsGood threads rest ground.now.decisions.now ground.now.lists.now ground.now.parts.now) }
+    ensures { IfOk result (λ yes. yes ≡ true → IsGood threads rest ground.now.decisions.now ground.now.owners.now ground.now.lists.now ground.now.parts.now) }
 {
     let once = is_once(alloc, ground.decisions, Shard::new(rest, threads))?;
     if !once {
@@ -99,9 +109,9 @@ fn is_good(
 }
 
 /// The same; no where memory is short.
-fn answer_at(alloc: Global, ground: &Ground<'_, '_, '_>, threads: u32, rest: u32) -> bool
+fn answer_at(alloc: Global, ground: &Ground<'_, '_, '_, '_>, threads: u32, rest: u32) -> bool
     requires { rest < threads }
-    ensures { result ≡ true → IsGood threads rest ground.now.decisions.now ground.now.lists.now ground.now.parts.now }
+    ensures { result ≡ true → IsGood threads rest ground.now.decisions.now ground.now.owners.now ground.now.lists.now ground.now.parts.now }
 {
     match is_good(alloc, ground, threads, rest) {
         Ok(good) => good,
@@ -124,10 +134,10 @@ fn are_good<R: Threads + Sync>(
     alloc: Global,
     rt: &R,
     workers: Workers,
-    ground: &Ground<'_, '_, '_>,
+    ground: &Ground<'_, '_, '_, '_>,
 ) -> Result<bool, AllocError>
     ensures { IfOk result (λ yes. yes ≡ true → (threads : ℕ) × (0 < threads) × ((rest : ℕ) → rest < threads
-        → IsGood threads rest ground.now.decisions.now ground.now.lists.now ground.now.parts.now)) }
+        → IsGood threads rest ground.now.decisions.now ground.now.owners.now ground.now.lists.now ground.now.parts.now)) }
 {
     let threads = workers.get() as u32;
     let answers = thread::map_indices(
@@ -160,10 +170,13 @@ pub fn are_matched<R: Threads + Sync>(
     let Some(lists) = wanted else {
         return Ok(false);
     };
+    let there = lists.as_slice();
+    let owners = owners_of(alloc, there, workers.get() as usize)?;
     let ground = Ground {
         decisions,
         parts,
-        lists: lists.as_slice(),
+        lists: there,
+        owners: owners.as_slice(),
     };
     are_good(alloc, rt, workers, &ground)
 }

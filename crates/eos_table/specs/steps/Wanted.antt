@@ -80,9 +80,12 @@ pub record Agrees (wanted : List Close) (part : PartLog) : Type 0 where
 abbrev pub AgreesAt : Lists → List PartLog → ℕ → Type 0
 AgreesAt lists ps i = (l : Vec Close Global) (p : PartLog) → i < length lists → Agrees (slice_index_or lists i l).items (slice_index_or ps i p)
 
--- those whose place leaves this rest
-abbrev pub AgreeAt : ℕ → ℕ → Lists → List PartLog → Type 0
-AgreeAt threads rest lists ps = (i : ℕ) → i < length ps → i % threads ≡ rest → AgreesAt lists ps i
+-- a thread's parts are those whose owner's number leaves this rest, and those that have no owner
+abbrev pub IsMine : ℕ → ℕ → List ℕ → ℕ → Type 0
+IsMine threads rest owners i = (d : ℕ) → i < length owners → slice_index_or owners i d % threads ≡ rest
+
+abbrev pub AgreeAt : ℕ → ℕ → List ℕ → Lists → List PartLog → Type 0
+AgreeAt threads rest owners lists ps = (i : ℕ) → i < length ps → IsMine threads rest owners i → AgreesAt lists ps i
 
 -- ---- a thread
 
@@ -90,6 +93,6 @@ AgreeAt threads rest lists ps = (i : ℕ) → i < length ps → i % threads ≡ 
 abbrev pub IsOnce : ℕ → ℕ → List Decision → Type 0
 IsOnce n s ds = (producer epoch : ℤ) → mine n s producer ≡ true → 2 ≤ length (deciders ds producer epoch) → ⊥
 
-pub record IsGood (threads rest : ℕ) (ds : List Decision) (lists : Lists) (ps : List PartLog) : Type 0 where
+pub record IsGood (threads rest : ℕ) (ds : List Decision) (owners : List ℕ) (lists : Lists) (ps : List PartLog) : Type 0 where
   pub once : IsOnce threads rest ds
-  pub agree : AgreeAt threads rest lists ps
+  pub agree : AgreeAt threads rest owners lists ps

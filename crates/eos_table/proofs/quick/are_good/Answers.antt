@@ -5,7 +5,7 @@ use Rattle.eos_table.proofs.quick.are_good.Goals as goal
 
 -- what a thread found
 found : (g : Over) (c : goal.After-drop-answers g) (rest : ℕ) → rest < c.get.result → get_or c.in_ok-answers.answers.items rest true ≡ true
-    → IsGood c.get.result rest c.args.ground.now.decisions.now c.args.ground.now.lists.now c.args.ground.now.parts.now
+    → IsGood c.get.result rest c.args.ground.now.decisions.now c.args.ground.now.owners.now c.args.ground.now.lists.now c.args.ground.now.parts.now
 found g c rest lt =
     let met = (c.in_ok-answers.ensures.each rest true lt).1.met in
     search rules

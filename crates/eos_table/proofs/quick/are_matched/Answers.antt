@@ -14,7 +14,7 @@ returns g c =
     let ds = c.decisions-decisions.result.now in
     let ps = c.args.parts.now in
     let have : Have ps (wishes ds) c.in-Some.lists.items = subst (λ o. IfSome o (λ (ls : Vec (Vec Close Global) Global). Have ps (wishes ds) ls.items)) c.in-Some.is c.in_ok-wanted.ensures in
-    let lent : Have ps (wishes ds) c.as_slice.result.now = subst (λ (ls : Lists). Have ps (wishes ds) ls) (sym c.as_slice.ensures.value) have in
+    let lent : Have ps (wishes ds) c.as_slice-there.result.now = subst (λ (ls : Lists). Have ps (wishes ds) ls) (sym c.as_slice-there.ensures.value) have in
     IfOk-weaker c.are_good.result _ (λ yes. yes ≡ true → NoneStands (Stands c.args.table.now ps))
-    (λ yes h is. let r = h is in subst (λ (xs : List Decision). NoneStands (Stands xs ps)) c.decisions-decisions.ensures (none_stands ds ps c.as_slice.result.now lent r.0 r.1 r.2))
+    (λ yes h is. let r = h is in subst (λ (xs : List Decision). NoneStands (Stands xs ps)) c.decisions-decisions.ensures (none_stands ds ps c.as_slice-there.result.now lent c.as_slice.result.now r.0 r.1 r.2))
     c.are_good.ensures
