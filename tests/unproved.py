@@ -157,6 +157,7 @@ def main():
     # (here, since they import this module)
     import chunks
     import join_orders
+    import quick_walk
     import random_schedules
     import refuse_each
     import round_trips
@@ -166,7 +167,7 @@ def main():
 
     if words:
         return tell([together("tables", list(map(tables.asked, words))), refuse_each.asked(words)])
-    scripts = tables, refuse_each, work_once, threads, round_trips, join_orders, chunks, random_schedules
+    scripts = tables, refuse_each, work_once, threads, round_trips, join_orders, chunks, quick_walk, random_schedules
     return tell(it for asks in scripts for it in asks.all_asked())
 
 
