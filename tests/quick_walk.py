@@ -15,6 +15,7 @@ import tempfile
 
 import random_evidence
 import reference
+from mutants import LAST_OFFSET
 from unproved import Asked, tell
 
 # How many evidences are asked in one run of the program, whose answers have little room.
@@ -25,8 +26,10 @@ def word_of(path, name, end):
     """A partition as a word of tests/rows."""
     segments = []
     for file in sorted(glob.glob(f"{glob.escape(path)}/{name}/{'[0-9]' * 20}.log")):
-        with open(file, "rb") as opened:
-            segments.append(f"{int(os.path.basename(file)[:20])}/{opened.read().hex() or '-'}")
+        base = int(os.path.basename(file)[:20])
+        if base <= LAST_OFFSET:
+            with open(file, "rb") as opened:
+                segments.append(f"{base}/{opened.read().hex() or '-'}")
     return f"{name}:{end}:{','.join(segments)}"
 
 
