@@ -184,7 +184,7 @@ _eoscheck() {
       return ;;
     esac
     case $word in
-    -*) mapfile -t COMPREPLY < <(compgen -W '--seed --events --applications --inputs --outputs --transaction-logs --segment-records --batch-records --chain --lose --repeat --abandon --members --restart-broker --restart-coordinator --abort --switch --switch-at --mishap --history --schedule -h --help' -- "$word") ;;
+    -*) mapfile -t COMPREPLY < <(compgen -W '--seed --events --applications --inputs --outputs --transaction-logs --segment-records --batch-records --chain --lose --repeat --abandon --members --restart-broker --restart-coordinator --abort --switch --switch-at --no-tail --mishap --history --schedule -h --help' -- "$word") ;;
     *) mapfile -t COMPREPLY < <(compgen -d -- "$word") ;;
     esac ;;
   esac

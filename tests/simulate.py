@@ -404,6 +404,10 @@ def chained_mishap(seed):
     return None
 
 
+# Of 20 seeds with 1,000 words and the switch on from the first word, at how many a fault is found at least, if not at 19.
+LEAST_UNTAILED = {}
+
+
 def rates():
     """Each rate is heard: with the same seed its least and its most make other logs. And where nothing is lost, given up, moved,
     restarted or aborted, no transaction is.
@@ -423,6 +427,23 @@ def aborted(folder):
     """How many abort markers the logs of a folder have."""
     paths = (os.path.join(path, name) for path, _, names in os.walk(folder) for name in names if name.endswith(".log"))
     return sum(line.endswith(" abort") for path in paths for line in run("dump", path)[1].splitlines())
+
+
+def untailed():
+    """Without its tail a run with a switch is the same up to where the tail begins, and most are found all the same."""
+    for name in SWITCHES:
+        found = 0
+        for seed in range(1, 21):
+            folder, other = (os.path.join(scratch, f"{it}-{name}-{seed}") for it in ("tail", "no-tail"))
+            words = ["--switch", name, "--switch-at", 0, "--history"]
+            made = simulate(seed, 1000, folder, *words, f"{folder}.jsonl"), simulate(seed, 1000, other, "--no-tail", *words, f"{other}.jsonl")
+            if name != "hide-listing" or made[1][0] == 0:
+                expect(made == ((0, WROTE, ""), (0, WROTE, "")), f"{name}, seed {seed}: {made}")
+                with open(f"{folder}.jsonl", encoding="utf-8") as whole, open(f"{other}.jsonl", encoding="utf-8") as front:
+                    whole, front = whole.readlines(), front.readlines()
+                expect(front[:-1] == whole[: len(front) - 1] and '"set":' in front[-2] and len(front) < len(whole), f"{name}, seed {seed}: another run")
+                found += told(other).startswith("no ")
+        expect(found >= LEAST_UNTAILED.get(name, 19), f"{name} without a tail: {found} of 20 are found")
 
 
 def several():
@@ -615,7 +636,7 @@ def bad_words():
         ["--seed", "x", "--events", "7", folder],
         ["--seed", "-1", "--events", "7", folder],
         ["--seed", "18446744073709551616", "--events", "7", folder],
-        ["--seed", "7", "--events", "10001", folder],
+        ["--seed", "7", "--events", "1000001", folder],
         ["--seed", "7", "--events", "-1", folder],
         ["--seed", "7", "--events", "7", "--switch", "no-such", folder],
         ["--seed", "7", "--events", "7", "--applications", "0", folder],
@@ -628,7 +649,7 @@ def bad_words():
         ["--seed", "7", "--events", "7", "--batch-records", "1001", folder],
         ["--seed", "7", "--events", "7", "--lose", "1001", folder],
         ["--seed", "7", "--events", "7", "--abort", "x", folder],
-        ["--seed", "7", "--events", "7", "--switch-at", "10001", folder],
+        ["--seed", "7", "--events", "7", "--switch-at", "1000001", folder],
         ["--seed", "7", "--events", "7", folder, "more"],
     ]:
         status, out, said = run("simulate", *words)
@@ -638,6 +659,8 @@ def bad_words():
         (["--repeat", "500", "--abort", "460"], "rates: more than 1000 in all"),
         (["--switch-at", "3"], "--switch-at: no --switch"),
         (["--switch", "no-bump", "--switch-at", "8"], "--switch-at: more than --events"),
+        (["--switch", "no-bump", "--no-tail"], "--no-tail: no --switch-at"),
+        (["--no-tail"], "--no-tail: no --switch-at"),
         (["--mishap", "no-such"], "--mishap: no mishap, or not NAME@TOPIC-N:O"),
         (["--mishap", "lost-output@out-0:1"], "--mishap: no mishap, or not NAME@TOPIC-N:O"),
         (["--mishap", "lost-output@in-00:1"], "--mishap: no mishap, or not NAME@TOPIC-N:O"),
@@ -717,6 +740,7 @@ def main():
         expect(not wrong, f"switches with two groups: {wrong}")
         wrong = [it for it in pool.map(chained_mishap, seeds[: 20 if wide else 8]) if it]
         expect(not wrong, f"the mishap of the second group: {wrong}")
+    untailed()
     worked()
     rates()
     several()

@@ -53,7 +53,7 @@ same 'chain of an absent file' 2 "$scratch/nothing" "$scratch/message"
 unread "$scratch" 'a folder'
 run dump "$scratch"
 same 'dump of a folder' 2 "$scratch/nothing" "$scratch/message"
-for words in 'dump' 'dump a b' 'check' 'check --workers 0 x' 'check --workers 65 x' 'check --workers x x' 'check --quiet' 'check --progress' 'check --strict' 'check --expect inputs=1' 'check --expect inputs x' 'check --force x' 'dump --strict x' 'explain --expect inputs=1 x' 'dump --quiet x' 'fold' 'fold x' 'fold --manifest x' 'fold --verify x' 'fold --verify x --manifest y z' 'fold --verify x --out y z' 'simulate x' 'simulate --seed 7 --events 10001 x' '--no-such-word' 'dump --no-such-word x'; do
+for words in 'dump' 'dump a b' 'check' 'check --workers 0 x' 'check --workers 65 x' 'check --workers x x' 'check --quiet' 'check --progress' 'check --strict' 'check --expect inputs=1' 'check --expect inputs x' 'check --force x' 'dump --strict x' 'explain --expect inputs=1 x' 'dump --quiet x' 'fold' 'fold x' 'fold --manifest x' 'fold --verify x' 'fold --verify x --manifest y z' 'fold --verify x --out y z' 'simulate x' 'simulate --seed 7 --events 1000001 x' '--no-such-word' 'dump --no-such-word x'; do
   # shellcheck disable=SC2086
   run $words
   if [ "$status" = 2 ] && [ ! -s "$scratch/out" ] && [ -s "$scratch/err" ]; then ok; else bad "bad words: $words"; fi

@@ -1,6 +1,6 @@
 //! What a simulated cluster does, as the words of the command line say.
 
-ghost use Rattle.std.specs.Prelude.{◌≡◌, min, bytes_eq, true, false, None, IfSome, IfOk, option_map, unwrap_or};
+ghost use Rattle.std.specs.Prelude.{◌≡◌, min, bytes_eq, not, true, false, None, IfSome, IfOk, option_map, unwrap_or};
 ghost use Rattle.eos_simulate.specs.Settings.{config_said, rates_said, is_named, switches_said};
 ghost use Rattle.eos_simulate.specs.steps.Heads.{head_of};
 ghost use Rattle.eos_machine.specs.Switching.{switch_name, any_on};
@@ -34,6 +34,8 @@ pub struct Course {
     pub(crate) switches: Switches,
     /// After how many words the switches are on, if not after the script.
     switch_at: Option<u64>,
+    /// Whether a few events after the script show them.
+    pub(crate) is_shown: bool,
     mishaps: Vec<ChosenMishap>,
 }
 
@@ -45,6 +47,7 @@ impl Course {
         ensures rates { IfOk result (λ course. course.rates ≡ rates_said words.now.rates) }
         ensures switches { IfOk result (λ course. course.switches ≡ switches_said words.now.switches.items) }
         ensures turning { IfOk result (λ course. course.switch_at ≡ words.now.switch_at) }
+        ensures shown { IfOk result (λ course. course.is_shown ≡ not words.now.no_tail) }
     {
         let rates = rates_of(&words.rates);
         if !rates.fit() {
@@ -57,6 +60,8 @@ impl Course {
             if at > words.events {
                 return Err(SimulationFault::Unfit("--switch-at", "more than --events"));
             }
+        } else if words.no_tail {
+            return Err(SimulationFault::Unfit("--no-tail", "no --switch-at"));
         }
         let Some(switches) = switches_named(words.switches.as_slice()) else {
             return Err(SimulationFault::Unfit("--switch", "no such rule"));
@@ -73,6 +78,7 @@ impl Course {
             rates,
             switches,
             switch_at: words.switch_at,
+            is_shown: !words.no_tail,
             mishaps,
         })
     }

@@ -15,8 +15,8 @@ use eos_evidence::Evidence;
 use std::alloc::{AllocError, Global};
 
 /// What a cluster leaves that is driven by the words of a seed's script. With switches it breaks these rules, if not inside the
-/// script then afterwards, in a few further events each; without one its logs have no fault. A history that began with nothing in it
-/// has what was done.
+/// script then afterwards, in a few further events each, if they are to be shown; without one its logs have no fault. A history that
+/// began with nothing in it has what was done.
 pub fn simulate(
     alloc: Global,
     course: &Course,
@@ -41,7 +41,7 @@ fn broken(alloc: Global, course: &Course, history: &mut History) -> Result<Clust
     ensures rules { OnOk result (HasBroken course.now.switches history.new) }
 {
     let mut cluster = driven(alloc, course, history)?;
-    break_rules(alloc, &mut cluster, history, course.switches)?;
+    break_rules(alloc, &mut cluster, history, course)?;
     Ok(cluster)
 }
 
@@ -57,23 +57,39 @@ fn driven(alloc: Global, course: &Course, history: &mut History) -> Result<Clust
     Ok(cluster)
 }
 
-/// Sets the switches, if any is on, and drives the cluster by the events that show those which are.
+/// Sets the switches, if any is on, and drives the cluster by the events that show those which are, unless these are left out.
 #[tactic(auto, using(crate::proofs::Deeds::kept_on, crate::proofs::Deeds::kept_still, crate::proofs::Deeds::set_stays))]
 fn break_rules(
     alloc: Global,
     cluster: &mut Cluster,
     history: &mut History,
-    switches: Switches,
+    course: &Course,
 ) -> Result<(), AllocError>
     ensures kept { IsKept cluster.old history.old cluster.new history.new }
-    ensures honest { any_on switches ≡ false → cluster.new.honest ≡ cluster.old.honest }
-    ensures rules { OnOk result (HasBroken switches history.new) }
+    ensures honest { any_on course.now.switches ≡ false → cluster.new.honest ≡ cluster.old.honest }
+    ensures rules { OnOk result (HasBroken course.now.switches history.new) }
 {
-    if !switches.any_on() {
+    if !course.switches.any_on() {
         return Ok(());
     }
-    history.set(cluster, switches)?;
-    show(alloc, cluster, history, switches)
+    history.set(cluster, course.switches)?;
+    show_if(alloc, cluster, history, course)
+}
+
+/// Drives the cluster by the events that show the switches, unless these are left out.
+#[tactic(auto, using(crate::proofs::Deeds::kept_still))]
+fn show_if(
+    alloc: Global,
+    cluster: &mut Cluster,
+    history: &mut History,
+    course: &Course,
+) -> Result<(), AllocError>
+    ensures { IsKept cluster.old history.old cluster.new history.new }
+{
+    if course.is_shown {
+        return show(alloc, cluster, history, course.switches);
+    }
+    Ok(())
 }
 
 #[tactic(auto, using(crate::proofs::Deeds::kept_on, crate::proofs::Deeds::kept_still))]

@@ -335,6 +335,7 @@ fn read_simulate<'a>(
         rates: read_rates(inner),
         switches: read_all(alloc, inner, "switch")?,
         switch_at: inner.get_one::<u64>("switch-at"),
+        no_tail: inner.get_flag("no-tail"),
         mishaps: read_all(alloc, inner, "mishap")?,
         history: inner.get_str("history"),
         schedule: inner.get_str("schedule"),

@@ -103,7 +103,7 @@ pub struct Draw<'a> {
 pub struct Simulation<'a> {
     /// The seed of its script, or 0 where a schedule is run.
     pub seed: u64,
-    /// The number of the script's words, at most 10,000, or 0 where a schedule is run.
+    /// The number of the script's words, at most 1,000,000, or 0 where a schedule is run.
     pub events: u64,
     /// How large the cluster is.
     pub sizes: Sizes,
@@ -113,6 +113,8 @@ pub struct Simulation<'a> {
     pub switches: Vec<&'a str>,
     /// After how many words it breaks them, if not after the script.
     pub switch_at: Option<u64>,
+    /// Whether the few events after the script are left out that show these rules broken.
+    pub no_tail: bool,
     /// The words of the mistakes that the applications make.
     pub mishaps: Vec<&'a str>,
     /// The file that is made of what happens, if one is wanted.

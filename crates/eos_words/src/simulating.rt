@@ -33,10 +33,11 @@ const SCHEDULED: &[&str] = &[
     "abort",
     "switch",
     "switch-at",
+    "no-tail",
     "mishap",
 ];
 
-static SIMULATE_ARGUMENTS: [Argument; 22] = [
+static SIMULATE_ARGUMENTS: [Argument; 23] = [
     Argument {
         name: "seed",
         help: "What the script is drawn from, 0 to 2^64 - 1",
@@ -45,9 +46,9 @@ static SIMULATE_ARGUMENTS: [Argument; 22] = [
     },
     Argument {
         name: "events",
-        help: "How many words the script has, 0 to 10000",
+        help: "How many words the script has, 0 to 1000000",
         presence: Presence::Required,
-        form: Form::Valued("N", ValueParser::Unsigned(0, 10_000)),
+        form: Form::Valued("N", ValueParser::Unsigned(0, 1_000_000)),
     },
     Argument {
         name: "applications",
@@ -143,7 +144,13 @@ static SIMULATE_ARGUMENTS: [Argument; 22] = [
         name: "switch-at",
         help: "Breaks them after so many words, not after the script",
         presence: Presence::Optional,
-        form: Form::Valued("WORD", ValueParser::Unsigned(0, 10_000)),
+        form: Form::Valued("WORD", ValueParser::Unsigned(0, 1_000_000)),
+    },
+    Argument {
+        name: "no-tail",
+        help: "With --switch-at, nothing after the script shows them",
+        presence: Presence::Optional,
+        form: Form::Flag,
     },
     Argument {
         name: "mishap",
@@ -202,9 +209,10 @@ committed in `out`, and writes `fin`, which has as many partitions. The manifest
 is then one of version 2, of two groups.
 
 With --switch the cluster breaks a rule, as a bad broker or coordinator would:
-in a few events after the script, or from a word on that --switch-at gives.
-`check` then says no, by this fault. Below it stands what may be behind it, in
-all phases, and what may come before it inside a script:
+in a few events after the script, and from a word on that --switch-at gives;
+with --no-tail from there alone. `check` then says no, by this fault. Below it
+stands what may be behind it, in all phases, and what may come before it inside
+a script:
 
   keep-duplicates    1.4 Sequence     a record that came twice stands twice
                      behind it 5.6, 5.8, 5.10, 5.12
@@ -240,10 +248,9 @@ the fault of a mishap stands at most the same, of its input's other output:
 With --history all that happens is written to FILE, which must not be there, as
 JSON lines (docs/SIMULATOR.md): what the cluster is, each event with its reply,
 and the totals. --schedule runs the lines of such a file, so that they can be
-cut, edited and run again. It says what --seed, --events, the sizes, the rates,
---switch, --switch-at and --mishap would say, so none of them goes with it; a
-reply may be left out, and one that comes out differently is told with its
-number (status 1).
+cut, edited and run again. It says what the other options would say but for
+--history, so none of them goes with it; a reply may be left out, and one that
+comes out differently is told with its number (status 1).
 
 It shows what a fault looks like and that the checker finds it, and says nothing
 of real brokers.
