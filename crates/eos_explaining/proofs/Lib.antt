@@ -7,3 +7,4 @@ mod LinesOnce
 mod LinesShown
 mod PartsTold
 mod StoriesMore
+mod EpochsRead

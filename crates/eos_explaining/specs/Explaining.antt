@@ -13,8 +13,8 @@ use Rattle.eos_evidence.specs.Evidence.{EvidenceParts}
 use Rattle.eos_fold.specs.Parts.{PartLog}
 use Rattle.eos_lineage.specs.EvidenceLogs.{AreLogsOf}
 use Rattle.eos_source_check.specs.AllFaults.{AreAllFaults}
-use Rattle.eos_notes.specs.Lines.{IsNotesText}
-use Rattle.eos_notes.specs.Notes.{AreNotes}
+use Rattle.eos_notes.specs.Lines.{IsAllNotesText}
+use Rattle.eos_notes.specs.Notes.{AreAllNotes}
 use Rattle.eos_report.specs.VerdictTexts.{verdict_line}
 use Rattle.eos_story.specs.PlaceOfFault.{place_in}
 use Rattle.eos_story.specs.declared.row.Row.{Row}
@@ -51,7 +51,7 @@ pub record IsStoryOf (folder : List ℕ) (e : EvidenceParts) (logs : List PartLo
   pub whole : AreWhole e logs verdict story.rows.now
   pub page : HasItsPage verdict (option_copied story.page)
   pub list : story.told.now ≡ told
-  pub notes : AreNotes e story.notes.now
+  pub notes : AreAllNotes e story.notes.now
   pub says : text ≡ story_text story
 
 -- all faults of the evidence, each as a verdict names it
@@ -85,7 +85,7 @@ pub record IsYes (e : EvidenceParts) (line notes : List ℕ) : Type 0 where
   pub counts : Counts
   pub is : IsVerdict e (Yes counts)
   pub says : line ≡ verdict_line (Yes counts)
-  pub noted : IsNotesText e false notes
+  pub noted : IsAllNotesText e false notes
 
 abbrev pub IsAnswer : List ℕ → EvidenceParts → ℕ → Answer → Type 0
 IsAnswer folder e number (answers.Yes line notes) = IsYes e (string_bytes line) (string_bytes notes)

@@ -7,12 +7,13 @@ ghost use Rattle.eos_check.specs.WholeLogs.{AreWholeLogs};
 ghost use Rattle.eos_disk.specs.Reading.{IsReadWhole};
 ghost use Rattle.eos_disk.specs.Shapes.{AreKnown};
 ghost use Rattle.eos_evidence.specs.Evidence.{EvidenceParts};
+ghost use Rattle.eos_kept.specs.Parts.{HaveEpochs};
 ghost use Rattle.eos_lineage.specs.EvidenceLogs.{AreLogsOf};
-ghost use Rattle.eos_notes.specs.Notes.{AreNotes};
+ghost use Rattle.eos_notes.specs.Notes.{AreAllNotes};
 ghost use Rattle.eos_source.specs.Saying.{StandsAt};
 ghost use Rattle.eos_explaining.specs.FirstStories.{AreStoriesOf, AreFirstStories};
 
-use crate::answer::{noted, verdicts_of};
+use crate::answer::{Whole, epochs_of, noted, verdicts_of};
 use crate::folder::Folder;
 use crate::story::{About, story_at};
 use eos_base::Workers;
@@ -20,7 +21,6 @@ use eos_board::Gate;
 use eos_check::{Verdict, logs_of};
 use eos_disk::{Disk, FolderFault, Reading, Watch, read_folder};
 use eos_evidence::Evidence;
-use eos_kept::Logs;
 use eos_source_check::all_faults;
 use eos_story::Scene;
 use std::alloc::{AllocError, Global};
@@ -50,7 +50,7 @@ fn count_of(told: &[Verdict], most: usize) -> usize
 #[tactic(auto, using(crate::proofs::StoriesMore::story_more))]
 fn told_each(scene: &Scene<'_>, about: About<'_>, count: usize) -> Result<Vec<String>, AllocError>
     requires logs { AreLogsOf scene.now.evidence.now.partitions scene.now.logs.now }
-    requires notes { AreNotes scene.now.evidence.now about.notes.now }
+    requires notes { AreAllNotes scene.now.evidence.now about.notes.now }
     requires inside { count ≤ length about.told.now }
     requires faults { (faults : List AFault) × (about.told.now ≡ map No faults) }
     ensures { IfOk result (λ texts. AreStoriesOf about.entry.folder.now scene.now.evidence.now scene.now.logs.now about.entry.told.now (take count about.entry.told.now) (map string_bytes texts.items)) }
@@ -67,19 +67,20 @@ fn told_each(scene: &Scene<'_>, about: About<'_>, count: usize) -> Result<Vec<St
 fn of_logs(
     alloc: Global,
     evidence: &Evidence,
-    logs: &Logs,
+    whole: Whole<'_>,
     first: &First<'_>,
 ) -> Result<Vec<String>, AllocError>
-    requires { AreWholeLogs evidence.now.partitions logs.now }
+    requires logs { AreWholeLogs evidence.now.partitions whole.logs.now }
+    requires epochs { HaveEpochs evidence.now.partitions whole.epochs.now }
     ensures { IfOk result (λ texts. AreFirstStories first.now.folder.now evidence.now first.now.most (map string_bytes texts.items)) }
 {
-    let faults = all_faults(alloc, evidence, logs)?;
+    let faults = all_faults(alloc, evidence, whole.logs)?;
     let told = verdicts_of(alloc, faults)?;
-    let found = noted(alloc, evidence, logs)?;
+    let found = noted(alloc, evidence, whole)?;
     let scene = Scene {
         alloc,
         evidence,
-        logs: logs.parts.as_slice(),
+        logs: whole.logs.parts.as_slice(),
     };
     let about = About {
         folder: first.folder,
@@ -105,8 +106,13 @@ pub fn first_stories_of<G: Gate>(
 ) -> Result<Vec<String>, AllocError>
     ensures { IfOk result (λ texts. AreFirstStories first.now.folder.now evidence.now first.now.most (map string_bytes texts.items)) }
 {
+    let epochs = epochs_of(alloc, rt, evidence, first.workers)?;
     let logs = logs_of(alloc, rt, evidence, first.workers, gate)?;
-    of_logs(alloc, evidence, &logs, first)
+    let whole = Whole {
+        logs: &logs,
+        epochs: epochs.as_slice(),
+    };
+    of_logs(alloc, evidence, whole, first)
 }
 
 /// The stories of the first faults of the evidence in a folder of a disk. It is read whole, once, by at most so many threads; a yes has

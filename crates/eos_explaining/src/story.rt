@@ -7,7 +7,7 @@ ghost use Rattle.eos_check.specs.declared.verdict.Fault.{Fault as AFault};
 ghost use Rattle.eos_check.specs.declared.verdict.Verdict.{Verdict as Named};
 ghost use Rattle.eos_check.specs.declared.verdict.Verdict.TheVariants.{No};
 ghost use Rattle.eos_lineage.specs.EvidenceLogs.{AreLogsOf};
-ghost use Rattle.eos_notes.specs.Notes.{AreNotes};
+ghost use Rattle.eos_notes.specs.Notes.{AreAllNotes};
 ghost use Rattle.eos_explaining.specs.Explaining.{IsStoryOf, code_of};
 
 use crate::{Story, story_text};
@@ -43,7 +43,7 @@ fn told_of(
     fault: &Fault,
 ) -> Result<String, AllocError>
     requires logs { AreLogsOf scene.now.evidence.now.partitions scene.now.logs.now }
-    requires notes { AreNotes scene.now.evidence.now about.notes.now }
+    requires notes { AreAllNotes scene.now.evidence.now about.notes.now }
     requires names { verdict.now ≡ No fault.now }
     ensures { IfOk result (λ text. IsStoryOf about.entry.folder.now scene.now.evidence.now scene.now.logs.now about.entry.told.now verdict.now (string_bytes text)) }
 {
@@ -69,7 +69,7 @@ fn told_of(
 /// Only want of memory.
 pub(crate) fn story_at(scene: &Scene<'_>, about: About<'_>, i: usize) -> Result<String, AllocError>
     requires logs { AreLogsOf scene.now.evidence.now.partitions scene.now.logs.now }
-    requires notes { AreNotes scene.now.evidence.now about.notes.now }
+    requires notes { AreAllNotes scene.now.evidence.now about.notes.now }
     requires inside { i < length about.told.now }
     requires faults { (faults : List AFault) × (about.told.now ≡ map No faults) }
     ensures { IfOk result (λ text. (verdict : Named) × (slice_get about.entry.told.now i ≡ Some verdict) × IsStoryOf about.entry.folder.now scene.now.evidence.now scene.now.logs.now about.entry.told.now verdict (string_bytes text)) }

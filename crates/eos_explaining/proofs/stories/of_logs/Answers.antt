@@ -8,8 +8,8 @@ returns c =
     let told = c.as_slice-2.result.now in
     let texts = rw c.as_slice.ensures.value at c.in_ok-texts.ensures in
     record {
-      logs = c.args.logs.now.parts.items;
+      logs = c.args.whole.logs.now.parts.items;
       told = told;
-      are = record { faults = c.in_ok-faults.faults.items; of = c.requires.parts; are = c.in_ok-faults.ensures c.requires.parts c.requires.faults; named = c.as_slice-2.ensures.value ∙ c.in_ok-told.ensures };
-      each = subst (λ (vs : List Verdict). AreStoriesOf c.args.first.now.folder.now c.args.evidence.now c.args.logs.now.parts.items told vs (map string_bytes c.in_ok-texts.texts.items)) c.count_of-count.ensures.first texts;
+      are = record { faults = c.in_ok-faults.faults.items; of = c.requires.logs.parts; are = c.in_ok-faults.ensures c.requires.logs.parts c.requires.logs.faults; named = c.as_slice-2.ensures.value ∙ c.in_ok-told.ensures };
+      each = subst (λ (vs : List Verdict). AreStoriesOf c.args.first.now.folder.now c.args.evidence.now c.args.whole.logs.now.parts.items told vs (map string_bytes c.in_ok-texts.texts.items)) c.count_of-count.ensures.first texts;
     }
