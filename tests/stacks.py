@@ -2,10 +2,11 @@
 """Small stacks: each command answers as it does with a large one, down to 128 KiB for the main thread, of which the C library gives as
 much to each further thread.
 
-    python3 -B tests/stacks.py PROGRAM
+    python3 -B tests/stacks.py PROGRAM [--least]
 
 CONTRIBUTING.md names the largest frames. What a run prints and leaves has to be what it prints and leaves
-with 8 MiB; of two the words are also those that stand here. The last line is 'N passed, N failed'.
+with 8 MiB; of two the words are also those that stand here. The last line is 'N passed, N failed'. With --least it prints instead how
+many KiB each command wants, to 4.
 """
 import os
 import resource
@@ -93,16 +94,37 @@ def answer(program, words, path, size):
     return done.returncode, done.stdout.decode(), done.stderr.decode(), left_at(path)
 
 
-def main(program):
+def run(program, room, at, size):
+    """The words of a command, and its answer with so many KiB."""
+    cleared(room)
+    prepare(program, room)
+    words, path = commands(room)[at]
+    return words, answer(program, words, path, size)
+
+
+def tell_least(program, room, at):
+    """Prints how many KiB a command wants."""
+    words, wanted = run(program, room, at, LARGE)
+    few, enough = 16, LARGE
+    while enough - few > 4:
+        half = (few + enough) // 8 * 4
+        if run(program, room, at, half)[1] == wanted:
+            enough = half
+        else:
+            few = half
+    print(enough, " ".join(os.path.relpath(it, room) if it.startswith(room) else it for it in words[:6]), flush=True)
+
+
+def main(program, least=None):
     with tempfile.TemporaryDirectory() as scratch:
         room = f"{scratch}/room"
         for at in range(len(commands(room))):
+            if least:
+                tell_least(program, room, at)
+                continue
             wanted = None
             for size in (LARGE, *SMALL):
-                cleared(room)
-                prepare(program, room)
-                words, path = commands(room)[at]
-                found = answer(program, words, path, size)
+                words, found = run(program, room, at, size)
                 what = f"{' '.join(words[:2])} with {size} KiB of stack"
                 if size == LARGE:
                     wanted = found
@@ -126,4 +148,4 @@ def prepare(program, room):
 
 
 if __name__ == "__main__":
-    sys.exit(main(sys.argv[1]))
+    sys.exit(main(*sys.argv[1:3]))
