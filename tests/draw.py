@@ -622,7 +622,8 @@ def refusals():
     folds = folds_in(bad)
     made = over_folds(bad, folds, "bad-folds")
     refused("a later fault, over folds", ["draw", "--fault", "2", made, new], "eoscheck: there is 1 fault")
-    same("the first fault, over folds", drawn(made, "--fault", "1"), drawn(bad))
+    over, of_logs = drawn(made, "--fault", "1"), drawn(bad)
+    same("the first fault, over folds", (*over[:3], without_times(over[3])), (*of_logs[:3], without_times(of_logs[3])))
     for folder in [*refused_folders(good), *damaged_folds(good)]:
         status, printed, told = run("check", folder)
         same(f"{folder}: check refuses it", (status, printed, told.startswith("eoscheck: ")), (2, "", True))
