@@ -171,6 +171,7 @@ where no batch begins at byte B:
 Examples:
   eoscheck dump FOLDER/in-0/00000000000000000000.log
   eoscheck dump --headers --from 100 --to 200 FILE
+  eoscheck dump --decode FOLDER/__transaction_state-0/00000000000000000000.log
   eoscheck dump --as offsets - < FILE";
 
 pub(crate) const CHAIN: &str =

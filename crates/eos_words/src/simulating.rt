@@ -258,4 +258,6 @@ of real brokers.
 Examples:
   eoscheck simulate --seed 7 --events 200 FOLDER
   eoscheck simulate --seed 7 --events 200 --switch no-fence FOLDER
+  eoscheck simulate --seed 7 --events 200 --chain --mishap lost-output FOLDER
+  eoscheck simulate --seed 7 --events 200 --history history.jsonl FOLDER
   eoscheck simulate --schedule history.jsonl FOLDER";
