@@ -31,3 +31,8 @@ returns-clause-ok g c =
     let asked = c.args.asked in
     subst (λ (bs : List ℤ). Folded (g.D.Disk.holds c.args.disk.now) asked.topics.now asked.out.now (map (item_of asked.wanted c.args.folder.now) bs) (g.D.Disk.holds c.loop-base.disk))
     (take_all c.loop-base.base-index bases c.loop-base-test.false ∙ c.as_slice-base-items.ensures.value) c.loop-base.invariant
+
+pub returns-in_err-fold_segment-clause-refused : goal.returns-in_err-fold_segment-clause-refused
+returns-in_err-fold_segment-clause-refused g c =
+    let p = err_from_is_err_and c.from_residual.result c.from_residual.ensures.1 in
+    rw (p.1, p.2) c.in_err-fold_segment.ensures.refused
