@@ -1,6 +1,6 @@
 //! A cluster that takes events one by one.
 
-ghost use Rattle.std.specs.Prelude.{◌≡◌, ◌↔◌, ◌≤◌, ◌<◌, ◌^◌, ◌&&◌, not, true, [], Err, IfOk};
+ghost use Rattle.std.specs.Prelude.{◌≡◌, ◌↔◌, ◌≤◌, ◌<◌, ◌^◌, ◌&&◌, not, true, [], Err, IfOk, slice_get};
 ghost use Rattle.eos_evidence.specs.Evidence.{IsEvidence};
 ghost use Rattle.eos_machine.specs.LogIndexes.{IsConfig, output_index};
 ghost use Rattle.eos_machine.specs.World.{opening, log_at};
@@ -11,8 +11,10 @@ ghost use Rattle.eos_cluster.specs.declared.evidence.EvidenceRefusal.{EvidenceRe
 ghost use Rattle.eos_machine.specs.Evidences.{IsEvidenceOf, HasRoomForAll};
 ghost use Rattle.eos_machine.specs.Schedules.{IsOfSchedule};
 ghost use Rattle.eos_machine.specs.Switching.{none, any_on};
+ghost use Rattle.eos_cluster.specs.Breaches.{is_refused, is_altered, log_of};
 ghost use Rattle.eos_cluster.specs.Courses.{IsStep, IsStepUnder, IsCounted};
 
+use crate::breaches::{alters_message, log_of_message, takes_message};
 use crate::evidence::{EvidenceRefusal, evidence_of};
 use crate::happens::happen;
 use eos_broker::Store;
@@ -61,6 +63,7 @@ impl Model for Cluster {
     ghost use Rattle.eos_machine.specs.LogIndexes.{IsConfig};
     ghost use Rattle.std.specs.Prelude.{◌≡◌, ◌≤◌, ◌^◌, true};
     ghost use Rattle.eos_machine.specs.Switching.{none};
+    ghost use Rattle.eos_cluster.specs.Breaches.{is_refused, is_altered, log_of};
     ghost use Rattle.eos_cluster.specs.Courses.{Course, IsReached, IsReachedUnder};
 
     ghost Value = { Course };
@@ -153,6 +156,33 @@ impl Cluster {
     {
         self.switches = switches;
         self.is_honest = self.is_honest && !switches.any_on();
+    }
+
+    /// Whether a cluster that keeps its rules refuses the message of this number here.
+    #[tactic(auto, using(crate::proofs::Reaching::named_there, crate::proofs::LetPass::refused_full, crate::proofs::LetPass::refused_there))]
+    pub fn is_refused(&self, number: u64) -> bool
+        ensures { result ≡ is_refused self.now.config self.now.world number }
+    {
+        if self.store.events() == MAX_EVENTS {
+            return true;
+        }
+        !takes_message(&self.store, number)
+    }
+
+    /// Whether the switches that are set change what is written of the message of this number.
+    #[tactic(auto, using(crate::proofs::Reaching::named_there))]
+    pub fn is_altered(&self, number: u64) -> bool
+        ensures { result ≡ is_altered self.now.switches self.now.config (slice_get self.now.world.messages number) }
+    {
+        alters_message(&self.store, self.switches, number)
+    }
+
+    /// In which log the message of this number is to stand, by its place among all logs; for an end, which stands in none, 0.
+    #[tactic(auto, using(crate::proofs::Reaching::named_there))]
+    pub fn log_of(&self, number: u64) -> usize
+        ensures { result ≡ log_of self.now.config (slice_get self.now.world.messages number) }
+    {
+        log_of_message(&self.store, number)
     }
 
     /// Whether no switch was ever on.

@@ -1,9 +1,10 @@
 //! The end of a transaction arrives at the coordinator.
 
-ghost use Rattle.std.specs.Prelude.{◌≡◌, ◌+◌, ◌-◌, ◌≤◌, ◌<◌, [], length, OnOk, OnErr, IfOk};
+ghost use Rattle.std.specs.Prelude.{◌≡◌, ◌+◌, ◌-◌, ◌≤◌, ◌<◌, [], length, OnOk, OnErr, IfOk, false, IfSome};
 ghost use Rattle.eos_machine.specs.declared.switches.Switches.{Switches};
 ghost use Rattle.eos_machine.specs.World.{coord_at, prepared, finished};
 ghost use Rattle.eos_machine.specs.Deliveries.{deliver_end};
+ghost use Rattle.eos_cluster.specs.Breaches.{is_done};
 ghost use Rattle.eos_cluster.specs.steps.Taken.{ended};
 
 use eos_batch::Kind;
@@ -14,8 +15,14 @@ use std::alloc::AllocError;
 
 /// Why the coordinator refuses the end of a transaction, if it does.
 #[tactic(auto, unfolding(eos_machine::specs::Answers::when))]
-fn end_refusal(store: &Store, application: usize, epoch: u16, kind: Kind) -> Option<Reply>
-    ensures { (u : Switches) → deliver_end u store.now.config store.now.world application epoch kind ≡ ended u store.now.config store.now.world application kind result }
+pub(crate) fn end_refusal(
+    store: &Store,
+    application: usize,
+    epoch: u16,
+    kind: Kind,
+) -> Option<Reply>
+    ensures refused { IfSome result (λ r. is_done r ≡ false) }
+    ensures answer { (u : Switches) → deliver_end u store.now.config store.now.world application epoch kind ≡ ended u store.now.config store.now.world application kind result }
 {
     let status = store.status(application);
     if is_decided(status, kind) && is_next(store.epoch(application), epoch) {

@@ -1,10 +1,11 @@
 //! An offset arrives at the broker of the offsets, and its transaction at the coordinator.
 
-ghost use Rattle.std.specs.Prelude.{◌≡◌, ℕ, ◌<◌, Option, IfOk};
+ghost use Rattle.std.specs.Prelude.{◌≡◌, ℕ, ◌<◌, Option, IfOk, false, IfErr};
 ghost use Rattle.eos_machine.specs.LogIndexes.{application_count, offsets_index};
 ghost use Rattle.eos_machine.specs.declared.item.Item.TheVariants.{Offset};
 ghost use Rattle.eos_machine.specs.Rules.{is_stale};
 ghost use Rattle.eos_machine.specs.Deliveries.{deliver_offset};
+ghost use Rattle.eos_cluster.specs.Breaches.{is_done};
 ghost use Rattle.eos_cluster.specs.steps.Taken.{judged, taken, IsFromIf};
 
 use crate::accept::{Arrival, Request, fence};
@@ -42,7 +43,7 @@ fn is_stale(switches: Switches, generation: u64, now: u64) -> bool
 
 /// What the broker and the coordinator make of an offset: whether the transaction lists its partition, or the refusal.
 #[tactic(auto, unfolding(eos_machine::specs::Answers::when))]
-fn judge_offset(
+pub(crate) fn judge_offset(
     store: &Store,
     switches: Switches,
     request: Request,
@@ -50,7 +51,8 @@ fn judge_offset(
 ) -> Result<bool, Reply>
     requires application { request.application < application_count store.now.config }
     requires place { request.place ≡ offsets_index }
-    ensures { (q : ℕ) (v : Option ℕ) → deliver_offset switches store.now.config store.now.world request.number request.application request.epoch generation q v
+    ensures refused { IfErr result (λ r. is_done r ≡ false) }
+    ensures answer { (q : ℕ) (v : Option ℕ) → deliver_offset switches store.now.config store.now.world request.number request.application request.epoch generation q v
         ≡ judged switches store.now.config store.now.world request (Offset request.application request.epoch q v store.now.world.events) result }
 {
     let Request {

@@ -1,12 +1,13 @@
 //! A record arrives at a broker, and its transaction at the coordinator.
 
-ghost use Rattle.std.specs.Prelude.{◌≡◌, ℕ, ◌<◌, Option, IfOk};
+ghost use Rattle.std.specs.Prelude.{◌≡◌, ℕ, ◌<◌, Option, IfOk, false, IfErr};
 ghost use Rattle.eos_machine.specs.LogIndexes.{application_count};
 ghost use Rattle.eos_machine.specs.declared.item.Item.TheVariants.{Output};
 ghost use Rattle.eos_machine.specs.declared.item.Claim.{Claim};
 ghost use Rattle.eos_machine.specs.declared.state.Producer.{Producer};
 ghost use Rattle.eos_machine.specs.Rules.{is_repeated, is_out_of_order};
 ghost use Rattle.eos_machine.specs.Deliveries.{deliver_output};
+ghost use Rattle.eos_cluster.specs.Breaches.{is_done};
 ghost use Rattle.eos_cluster.specs.steps.Taken.{judged, taken, IsFromIf};
 
 use crate::accept::{Arrival, Request, fence};
@@ -54,14 +55,15 @@ fn is_out_of_order(switches: Switches, producer: Producer, epoch: u16, sequence:
 
 /// What a broker and the coordinator make of a record: whether the transaction lists its partition, or the refusal.
 #[tactic(auto, unfolding(eos_machine::specs::Answers::when))]
-fn judge_output(
+pub(crate) fn judge_output(
     store: &Store,
     switches: Switches,
     request: Request,
     sequence: u32,
 ) -> Result<bool, Reply>
     requires { request.application < application_count store.now.config }
-    ensures { (x : Option Claim) (v : ℕ) → deliver_output switches store.now.config store.now.world request.number request.application request.epoch request.place sequence x v
+    ensures refused { IfErr result (λ r. is_done r ≡ false) }
+    ensures answer { (x : Option Claim) (v : ℕ) → deliver_output switches store.now.config store.now.world request.number request.application request.epoch request.place sequence x v
         ≡ judged switches store.now.config store.now.world request (Output request.application request.epoch sequence x v store.now.world.events) result }
 {
     let Request {

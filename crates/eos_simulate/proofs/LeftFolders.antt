@@ -21,7 +21,7 @@ use Rattle.eos_machine.specs.declared.config.Config.{Config}
 use Rattle.eos_machine.specs.declared.switches.Switches.{Switches}
 use Rattle.eos_history_lines.specs.declared.line.Head.{Head}
 use Rattle.eos_simulate.specs.declared.course.Course.{Course}
-use Rattle.eos_simulate.specs.Folders.{head_said, IsOfScript, IsOfWords, IsRun, IsRunBy, IsBegunIf, IsEndedIf, IsBelow, IsApartFrom, IsThereIf, IsSimulated}
+use Rattle.eos_simulate.specs.Folders.{head_said, IsOfScript, IsOfWords, IsRun, IsRunBy, IsBegunIf, IsEndedIf, IsBelow, IsApartFrom, AreApart, IsThereIf, IsWantedIf, IsSimulated}
 use Rattle.eos_simulate.specs.HistoryTexts.{IsHistoryIf}
 use Rattle.eos_simulate.specs.Settings.{config_said, switches_said}
 use Rattle.eos_simulate.specs.steps.Heads.{head_of}
@@ -86,13 +86,19 @@ ended_aside (Some path) (Some file) None old begun made new folder name apart b 
 ended_aside (Some path) (Some file) (Some text) old begun made new folder name apart b h =
     h.others (below folder name) (λ e. apart.0 (name, sym (e ∙ b.0))) (λ e. apart.1 (name, sym (e ∙ ap beside b.0)))
 
-empty_still : (history : Option (Bor (List ℕ))) (file text : Option (List ℕ)) (old begun made ended : List ℕ → Entry) (folder : List ℕ) → IsApartFrom folder history → IsBegunIf history file old begun
-    → IsMade begun folder made → IsEndedIf file text made ended → IsEmptyAt old folder → IsEmptyAt ended folder
-empty_still history file text old begun made ended folder apart b m e empty name =
-    absent_same (ended (below folder name)) (old (below folder name))
-    (ended_aside history file text old begun made ended folder name apart b e
-    ∙ (m.others (below folder name) (not_itself folder name) ∙ begun_aside history file old begun folder name apart b))
-    (empty name)
+-- nothing stands below the folder after what nothing stood there before
+empty_on : (old new : List ℕ → Entry) (folder : List ℕ) → ((name : List ℕ) → bare (new (below folder name)) ≡ bare (old (below folder name))) → IsEmptyAt old folder → IsEmptyAt new folder
+empty_on old new folder same empty name = absent_same (new (below folder name)) (old (below folder name)) (same name) (empty name)
+
+empty_still : (history labels : Option (Bor (List ℕ))) (file other text lines : Option (List ℕ)) (old begun ready made labelled ended : List ℕ → Entry) (folder : List ℕ)
+    → IsApartFrom folder history × IsApartFrom folder labels → IsBegunIf history file old begun → IsBegunIf labels other begun ready → IsMade ready folder made → IsEndedIf other lines made labelled
+    → IsEndedIf file text labelled ended → IsEmptyAt old folder → IsEmptyAt ended folder
+empty_still history labels file other text lines old begun ready made labelled ended folder apart b c m l e empty =
+    empty_on labelled ended folder (λ name. ended_aside history file text old begun labelled ended folder name apart.0 b e)
+    (empty_on made labelled folder (λ name. ended_aside labels other lines begun ready made labelled folder name apart.1 c l)
+    (empty_on ready made folder (λ name. m.others (below folder name) (not_itself folder name))
+    (empty_on begun ready folder (λ name. begun_aside labels other begun ready folder name apart.1 c)
+    (empty_on old begun folder (λ name. begun_aside history file old begun folder name apart.0 b) empty))))
 
 -- ---- the history is there
 
@@ -121,18 +127,37 @@ history_there (Some path) (Some file) (Some text) old begun made ended new folde
 
 -- ---- all of it
 
-pub simulated : (words : Simulation) (left rest : Option (List ℕ)) (old begun made ended new : List ℕ → Entry) (file text : Option (List ℕ)) (e : EvidenceParts) → IsBegunIf words.history file old begun
-    → IsRun words begun left rest e text → IsMade begun words.folder.now made → IsEndedIf file text made ended → IsEvidenceWritten ended words.folder.now e new
+pub simulated : (words : Simulation) (left rest : Option (List ℕ)) (old begun ready made labelled ended new : List ℕ → Entry) (file other text lines : Option (List ℕ)) (e : EvidenceParts)
+    → IsBegunIf words.history file old begun → IsBegunIf words.labels other begun ready → IsRun words ready left rest e text → IsWantedIf (is_some words.labels) lines
+    → IsMade ready words.folder.now made → IsEndedIf other lines made labelled → IsEndedIf file text labelled ended → IsEvidenceWritten ended words.folder.now e new
     → (IsEmptyAt ended words.folder.now → AreKnown new words.folder.now → HasListings new → IsReadWhole new words.folder.now e) → IsSimulated words left rest old new e
-simulated words left rest old begun made ended new file text e begins run folder ends written back =
-    let empty = λ (none : IsEmptyAt old words.folder.now) (apart : IsApartFrom words.folder.now words.history).
-    empty_still words.history file text old begun made ended words.folder.now apart begins folder ends none in
+simulated words left rest old begun ready made labelled ended new file other text lines e begins begins_labels run wanted folder ends_labels ends written back =
+    let empty = λ (none : IsEmptyAt old words.folder.now) (apart : AreApart words).
+    empty_still words.history words.labels file other text lines old begun ready made labelled ended words.folder.now apart begins begins_labels folder ends_labels ends none in
     record {
-      is = record { begun = begun; made = made; ended = ended; file = file; text = text; begins = begins; run = run; folder = folder; ends = ends; written = written };
+      is = record {
+        begun = begun;
+        ready = ready;
+        made = made;
+        labelled = labelled;
+        ended = ended;
+        file = file;
+        other = other;
+        text = text;
+        labels = lines;
+        begins = begins;
+        begins_labels = begins_labels;
+        run = run;
+        wanted = wanted;
+        folder = folder;
+        ends_labels = ends_labels;
+        ends = ends;
+        written = written;
+      };
       just = λ none apart. just_written ended new words.folder.now e (empty none apart) written;
       back = λ none apart. back (empty none apart);
-      kept = λ apart. history_there words.history file text old begun made ended new words.folder.now e begins
-          (run_said words.schedule words (is_some words.history) begun left rest e text run) ends written apart;
+      kept = λ apart. history_there words.history file text old begun labelled ended new words.folder.now e begins
+          (run_said words.schedule words (is_some words.history) ready left rest e text run) ends written apart.0;
     }
 
 -- ---- the run by words

@@ -91,23 +91,38 @@ abbrev pub IsEndedIf : Option (List ℕ) → Option (List ℕ) → (List ℕ →
 IsEndedIf None text old new = new ≡ old
 IsEndedIf (Some file) text old new = IsLeftAs old file text new
 
--- one after the other: the history's file is begun, the run reads its schedule, the folder is made, the history is written, and then the evidence
+-- a text is there exactly if it is wanted
+abbrev pub IsWantedIf : Bool → Option (List ℕ) → Type 0
+IsWantedIf true None = ⊥
+IsWantedIf true (Some text) = ⊤
+IsWantedIf false None = ⊤
+IsWantedIf false (Some text) = ⊥
+
+-- one after the other: the files of the history and of the labels are begun, the run reads its schedule, the folder is made, the labels and
+-- the history are written, and then the evidence
 pub record IsLeft (words : Simulation) (left rest : Option (List ℕ)) (old : List ℕ → Entry) (e : EvidenceParts) (new : List ℕ → Entry) : Type 0 where
   pub begun : List ℕ → Entry
+  pub ready : List ℕ → Entry
   pub made : List ℕ → Entry
+  pub labelled : List ℕ → Entry
   pub ended : List ℕ → Entry
   pub file : Option (List ℕ)
+  pub other : Option (List ℕ)
   pub text : Option (List ℕ)
+  pub labels : Option (List ℕ)
   pub begins : IsBegunIf words.history file old begun
-  pub run : IsRun words begun left rest e text
-  pub folder : IsMade begun words.folder.now made
-  pub ends : IsEndedIf file text made ended
+  pub begins_labels : IsBegunIf words.labels other begun ready
+  pub run : IsRun words ready left rest e text
+  pub wanted : IsWantedIf (is_some words.labels) labels
+  pub folder : IsMade ready words.folder.now made
+  pub ends_labels : IsEndedIf other labels made labelled
+  pub ends : IsEndedIf file text labelled ended
   pub written : IsEvidenceWritten ended words.folder.now e new
 
 abbrev pub IsBelow : List ℕ → List ℕ → Type 0
 IsBelow folder path = (name : List ℕ) × (path ≡ below folder name)
 
--- neither the history nor what is written beside it first lies below the folder
+-- neither this file nor what is written beside it first lies below the folder
 abbrev pub IsApartFrom : List ℕ → Option (Bor (List ℕ)) → Type 0
 IsApartFrom folder None = ⊤
 IsApartFrom folder (Some path) = (IsBelow folder path.now → ⊥) × (IsBelow folder (beside path.now) → ⊥)
@@ -118,11 +133,13 @@ IsThereIf None text new = ⊤
 IsThereIf (Some path) None new = ⊥
 IsThereIf (Some path) (Some text) new = HasBytes (new path.now) text
 
+abbrev pub AreApart : Simulation → Type 0
+AreApart words = IsApartFrom words.folder.now words.history × IsApartFrom words.folder.now words.labels
+
 -- this evidence was left. Where nothing stood below the folder, just its files do now, from which it is read back if the disk is known;
 -- and the history stands at its path
 pub record IsSimulated (words : Simulation) (left rest : Option (List ℕ)) (old new : List ℕ → Entry) (e : EvidenceParts) : Type 0 where
   pub is : IsLeft words left rest old e new
-  pub just : IsEmptyAt old words.folder.now → IsApartFrom words.folder.now words.history → HoldsJust new words.folder.now e
-  pub back : IsEmptyAt old words.folder.now → IsApartFrom words.folder.now words.history → AreKnown new words.folder.now → HasListings new
-      → IsReadWhole new words.folder.now e
-  pub kept : IsApartFrom words.folder.now words.history → IsThereIf words.history is.text new
+  pub just : IsEmptyAt old words.folder.now → AreApart words → HoldsJust new words.folder.now e
+  pub back : IsEmptyAt old words.folder.now → AreApart words → AreKnown new words.folder.now → HasListings new → IsReadWhole new words.folder.now e
+  pub kept : AreApart words → IsThereIf words.history is.text new

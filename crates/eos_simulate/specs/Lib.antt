@@ -3,6 +3,7 @@ pub mod Settings
 pub mod Histories
 pub mod Replays
 pub mod HistoryTexts
+pub mod Labels
 pub mod Folders
 pub mod steps
 pub mod Schedules

@@ -33,6 +33,7 @@ fn end_unleft(rt: &HostRuntime, words: &Simulation<'_>, why: Unleft) -> u8 {
     let schedule = words.schedule.unwrap_or(STANDARD);
     match why {
         Unleft::History(fault) => end_unchanged(rt, words.history.unwrap_or(STANDARD), fault),
+        Unleft::Labels(fault) => end_unchanged(rt, words.labels.unwrap_or(STANDARD), fault),
         Unleft::Unread(fault) => end_unread(rt, Subject::Only, &fault),
         Unleft::Refused(fault) => end_refused(rt, schedule, fault),
         Unleft::Unreplayed(fault, lines) => end_unreplayed(rt, schedule, lines, fault),

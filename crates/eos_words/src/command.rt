@@ -338,6 +338,7 @@ fn read_simulate<'a>(
         no_tail: inner.get_flag("no-tail"),
         mishaps: read_all(alloc, inner, "mishap")?,
         history: inner.get_str("history"),
+        labels: inner.get_str("labels"),
         schedule: inner.get_str("schedule"),
         folder,
     })))
