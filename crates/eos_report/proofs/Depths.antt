@@ -3,7 +3,7 @@ use Rattle.std.proofs.Common.{◌≤◌, ℕ, List, [], ◌∷◌, Bool, true, f
 use Rattle.std.specs.Cmp.Lexicographic.{slice_cmp}
 use Rattle.std.specs.Ordering.{match_ordering}
 use Rattle.std.specs.Str.{is_utf8}
-use Rattle.serde_json.specs.Data.{Data, Num, Items, no_items, item, Members, no_members, member, put, depth, items_depth, members_depth, string, object, array, number, null}
+use Rattle.serde_json.specs.Data.{Data, Num, Items, Members, no_members, member, put, depth, items_depth, members_depth, string, object, array, number, null}
 use Rattle.serde_json.specs.Read.{max_depth}
 use Rattle.eos_base.specs.declared.partition_name.PartitionName.{PartitionName}
 use Rattle.eos_touch.specs.declared.fault.PartitionFaultKind.{PartitionFaultKind}

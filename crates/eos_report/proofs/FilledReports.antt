@@ -1,5 +1,5 @@
 -- The report of a verdict, with its faults in the text of the report that lists none.
-use Rattle.std.proofs.Common.{◌≡◌, ◌≤◌, ◌∙◌, ◌++◌, ℕ, List, [], Some, codes, refl, sym, ap, subst}
+use Rattle.std.proofs.Common.{◌≡◌, ◌≤◌, ◌∙◌, ℕ, List, [], Some, codes, refl, sym, ap, subst}
 use Rattle.serde_json.specs.Data.{Data, object, array, string, Members, no_members, member, depth}
 use Rattle.serde_json.specs.Read.{read, max_depth}
 use Rattle.serde_json.specs.Written.{members_outline}

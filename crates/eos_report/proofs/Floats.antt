@@ -1,5 +1,5 @@
 -- The object of a fault has no float, so that its text is known word for word.
-use Rattle.std.proofs.Common.{◌≡◌, codes, ℕ, ℤ, pos, negsuc, List, [], Bool, true, false, ◌||◌, Option, None, Some, Ordering, Less, Equal, Greater, cond, refl, subst}
+use Rattle.std.proofs.Common.{◌≡◌, codes, ℕ, ℤ, pos, negsuc, List, Bool, true, false, ◌||◌, Option, None, Some, Ordering, Less, Equal, Greater, cond, refl, subst}
 use Rattle.std.specs.Cmp.Lexicographic.{slice_cmp}
 use Rattle.std.specs.Ordering.{nat_cmp, match_ordering}
 use Rattle.std.specs.Str.{is_utf8}
