@@ -245,9 +245,9 @@ def transactions(count, numbers, others):
             yield key, text(state(status, producer, epoch + raised, listed))
 
 
-def timed(cases, name, count, *listed):
-    """The seconds of a check of a transaction log of so many transactions, whose partitions have no folder."""
-    path, base = os.path.join(cases.folder, "listed"), 0
+def lay_transactions(path, count, *listed):
+    """A folder of evidence of just a transaction log of so many transactions, whose partitions have no folder."""
+    base = 0
     os.makedirs(f"{path}/__transaction_state-0")
     records = list(transactions(count, *listed))
     with open(f"{path}/__transaction_state-0/{0:020}.log", "wb") as log:
@@ -257,25 +257,29 @@ def timed(cases, name, count, *listed):
             base += len(part)
     with open(f"{path}/evidence.json", "w", encoding="utf-8") as manifest:
         manifest.write('{"version":2,"apps":[],"ends":{"__transaction_state-0":%d}}' % base)
-    spent = []
-    for _ in range(3):
-        begun = resource.getrusage(resource.RUSAGE_CHILDREN).ru_utime
-        said = cases.run([cases.program, "check", "--quiet", "--workers", "1", path])
-        spent.append(resource.getrusage(resource.RUSAGE_CHILDREN).ru_utime - begun)
-        wanted = 1, b"no 3.6 AbsentPartition producer=1000 epoch=0 partition=other-0\n", ""
-        cases.tell(name, None if said == wanted else f"{said}, not {wanted}")
-    shutil.rmtree(path)
-    return min(spent)
+
+
+# What check says of it.
+ABSENT = b"no 3.6 AbsentPartition producer=1000 epoch=0 partition=other-0\n"
+
+
+def many_listed(count):
+    """By name what transactions list: as many records with one partition as partitions in long lists, in the same order or another."""
+    each = 1000
+    numbers = list(range(each))
+    yield f"{count} records", (count // 3, [0], [0])
+    yield f"{count} listed partitions in the same order", (count // (2 * each), numbers, numbers)
+    yield f"{count} listed partitions in another order", (count // (2 * each), numbers, numbers[::-1])
 
 
 def answers_many_listed_partitions(cases):
-    """Partitions that transactions list, as many in long lists as there are records with one: they take no longer, in the same order or another."""
-    count, each = 400_000, 1000
-    numbers = list(range(each))
-    records = timed(cases, f"{count} records", count // 3, [0], [0])
-    for order, others in ("the same order", numbers), ("another order", numbers[::-1]):
-        listed = timed(cases, f"{count} listed partitions in {order}", count // (2 * each), numbers, others)
-        cases.tell(f"{count} listed partitions in {order}", None if listed <= records + 0.05 else f"{listed:.2f} s, and as many records {records:.2f} s")
+    """Of how long these take tells bench/run --listed."""
+    path = os.path.join(cases.folder, "listed")
+    for name, made in many_listed(40_000):
+        lay_transactions(path, *made)
+        said = cases.run([cases.program, "check", "--quiet", "--workers", "1", path])
+        cases.tell(name, None if said == (1, ABSENT, "") else f"{said}, not {ABSENT!r}")
+        shutil.rmtree(path)
 
 
 def main():
