@@ -40,7 +40,7 @@ TABLE = {
             verify_folds write_fold
         eos_disk: FoldRefusal first_fold refused_fold
         eos_fold: ByteFold fold
-        eos_fold_file: FoldFault FoldFile FoldHead FoldKept FoldText FoldTexts decode_fold encode_fold fold fold_of read_fold write_fold
+        eos_fold_file: FoldFault FoldField FoldFile FoldHead FoldKept FoldText FoldTexts decode_fold encode_fold fold fold_of read_fold write_fold
         eos_kept: SegmentFold fold
         eos_source: fold read_fold
         eos_words: FOLD FOLDS FOLD_USAGE FOLD_WRITES Fold fold_arguments read_fold

@@ -29,3 +29,4 @@ pub mod ClaimLimits
 pub mod EachSoFar
 pub mod FoldSaid
 pub mod RunsTaken
+mod RefusedFields

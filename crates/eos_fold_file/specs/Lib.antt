@@ -8,6 +8,7 @@ pub mod Stops
 pub mod Files
 pub mod Folds
 pub mod Reading
+pub mod Refusals
 pub mod Legal
 pub mod Batches
 pub mod steps

@@ -1,5 +1,6 @@
 -- What only private functions promise: steps towards what the public calls say.
 pub mod Faults
+pub mod Refusals
 pub mod Counts
 pub mod Widths
 pub mod Walks

@@ -41,28 +41,28 @@ use std::alloc::Global;
 
 /// What stands before the batches.
 #[derive(Drop)]
-struct Front {
-    wanted: Wanted,
-    topic: Bytes,
-    partition: i32,
-    base: i64,
-    bytes: u64,
-    batches: u32,
+pub(crate) struct Front {
+    pub(crate) wanted: Wanted,
+    pub(crate) topic: Bytes,
+    pub(crate) partition: i32,
+    pub(crate) base: i64,
+    pub(crate) bytes: u64,
+    pub(crate) batches: u32,
 }
 
 /// What the batches of a front are together.
 #[derive(Clone, Copy)]
-struct Counted {
+pub(crate) struct Counted {
     /// The offset after their last record.
-    next: u64,
+    pub(crate) next: u64,
     /// The number of their data records.
-    records: u64,
+    pub(crate) records: u64,
     /// The number of their bytes.
-    size: u64,
+    pub(crate) size: u64,
 }
 
 #[tactic(auto, unfolding(crate::specs::Reading::magic_from))]
-fn read_magic<'a>(rest: &mut Cursor<'a>) -> Result<Cursor<'a>, FoldFault>
+pub(crate) fn read_magic<'a>(rest: &mut Cursor<'a>) -> Result<Cursor<'a>, FoldFault>
     ensures { Gives result rest.new (magic_from rest.old) }
 {
     let found = rest.take(7).ok_or(FoldFault::Short)?;
@@ -73,7 +73,7 @@ fn read_magic<'a>(rest: &mut Cursor<'a>) -> Result<Cursor<'a>, FoldFault>
 }
 
 #[tactic(auto, unfolding(crate::specs::Reading::version_from))]
-fn read_version(rest: &mut Cursor<'_>) -> Result<i8, FoldFault>
+pub(crate) fn read_version(rest: &mut Cursor<'_>) -> Result<i8, FoldFault>
     ensures { Gives result rest.new (version_from rest.old) }
 {
     let version = read_kind(rest)?;
@@ -84,7 +84,7 @@ fn read_version(rest: &mut Cursor<'_>) -> Result<i8, FoldFault>
 }
 
 #[tactic(auto, unfolding(crate::specs::Reading::wanted_from))]
-fn read_wanted(rest: &mut Cursor<'_>) -> Result<Wanted, FoldFault>
+pub(crate) fn read_wanted(rest: &mut Cursor<'_>) -> Result<Wanted, FoldFault>
     ensures { Gives result rest.new (wanted_from rest.old) }
 {
     match read_kind(rest)? {
@@ -96,7 +96,7 @@ fn read_wanted(rest: &mut Cursor<'_>) -> Result<Wanted, FoldFault>
 }
 
 #[tactic(auto, unfolding(crate::specs::Reading::batches_from))]
-fn read_batches(rest: &mut Cursor<'_>) -> Result<u32, FoldFault>
+pub(crate) fn read_batches(rest: &mut Cursor<'_>) -> Result<u32, FoldFault>
     ensures { Gives result rest.new (batches_from rest.old) }
 {
     rest.u32().ok_or(FoldFault::Short)
@@ -148,7 +148,7 @@ fn count_records(begin: u64, heads: &[FoldHead]) -> Counted
 
 /// The heads of a segment of this name and of so many bytes.
 #[tactic(auto, unfolding(crate::specs::Reading::heads_from), using(crate::proofs::HeadTotals::offsets_past, crate::proofs::HeadTotals::sizes_past, crate::proofs::HeadTotals::both_fit, crate::proofs::HeadTotals::counted_are, crate::proofs::HeadTotals::counted_within))]
-fn read_heads(
+pub(crate) fn read_heads(
     alloc: Global,
     rest: &mut Cursor<'_>,
     base: i64,
@@ -171,7 +171,7 @@ fn read_heads(
 
 /// The leader epochs of a front that begins here and has these heads.
 #[tactic(auto, unfolding(crate::specs::Reading::epochs_from))]
-fn read_epochs(
+pub(crate) fn read_epochs(
     alloc: Global,
     rest: &mut Cursor<'_>,
     begin: u64,
@@ -217,7 +217,7 @@ fn read_kept_texts(alloc: Global, rest: &mut Cursor<'_>, count: u64) -> Result<F
     Ok(FoldKept::Texts(texts))
 }
 
-fn read_kept(
+pub(crate) fn read_kept(
     alloc: Global,
     rest: &mut Cursor<'_>,
     wanted: Wanted,
