@@ -23,9 +23,9 @@ use Rattle.eos_fold.specs.LeastFaults.{IsFaultOf, IsFirstFault}
 use Rattle.eos_fold.specs.Parts.{PartLog}
 use Rattle.eos_fold.specs.Standing.{IsPartitionFault}
 use Rattle.eos_fold.specs.Standing as folds
-use Rattle.eos_lineage.specs.EvidenceLogs.{IsLogOf, AreLogsOf}
+use Rattle.eos_commits.specs.EvidenceLogs.{IsLogOf, AreLogsOf}
 use Rattle.eos_check.specs.Verdicts.{StandsInPartitions, partition_cmp, name_in}
-use Rattle.eos_lineage.proofs.LogsInOrder.{ends_of, end_name}
+use Rattle.eos_commits.proofs.LogsInOrder.{ends_of, end_name}
 use Rattle.eos_check.proofs.FrontsUnique.{one_front}
 
 -- a fault that stands in one partition is of it

@@ -10,13 +10,13 @@ use Rattle.eos_table.proofs.LogLaw.{law as log_law}
 use Rattle.eos_table.proofs.AtomicLaw.{law as atomic_law}
 use Rattle.eos_lineage.proofs.LineageLaw.{law as lineage_law}
 use Rattle.eos_check.specs.declared.verdict.Fault.TheVariants.{Partition as InPartition, Log, Match, Lineage}
-use Rattle.eos_lineage.specs.EvidenceLogs.{IsLogOf, AreLogsOf}
+use Rattle.eos_commits.specs.EvidenceLogs.{IsLogOf, AreLogsOf}
 use Rattle.eos_check.specs.PartitionRules.{KeepsRules}
 use Rattle.eos_check.specs.Good.{IsKeptLog, AreKeptLogs, Good}
 use Rattle.eos_check.specs.Verdicts.{StandsInPartitions, StandsInLog, StandsInMatching, Stands}
 use Rattle.eos_check.proofs.RulesLaw.{law as rules_law}
 use Rattle.eos_check.proofs.WholeTexts.{same_front}
-use Rattle.eos_lineage.proofs.LogsInOrder.{in_order}
+use Rattle.eos_commits.proofs.LogsInOrder.{in_order}
 use Rattle.eos_check.proofs.TransactionLogInOrder.{log_in_order}
 
 -- the rules are kept by the batches of the front

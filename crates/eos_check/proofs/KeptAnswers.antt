@@ -13,14 +13,14 @@ use Rattle.eos_table.specs.LogFaults as logs
 use Rattle.eos_table.specs.MatchFaults as matches
 use Rattle.eos_lineage.specs.declared.fault.LineageFault.{LineageFault}
 use Rattle.eos_lineage.specs.Faults as lineage
-use Rattle.eos_lineage.specs.EvidenceLogs.{AreLogsOf}
+use Rattle.eos_commits.specs.EvidenceLogs.{AreLogsOf}
 use Rattle.eos_check.specs.declared.verdict.Fault.TheVariants.{Partition as InPartition, Log, Match, Lineage}
 use Rattle.eos_check.specs.declared.verdict.Counts.{Counts}
 use Rattle.eos_check.specs.declared.verdict.Verdict.{Verdict}
 use Rattle.eos_check.specs.declared.verdict.Verdict.TheVariants.{Yes, No}
 use Rattle.eos_check.specs.Verdicts.{StandsInPartitions, StandsInLog, StandsInMatching, Stands, partition_cmp, verdict_cmp, AreCounts, IsVerdictOf}
 use Rattle.eos_check.specs.Judged.{IsVerdictOver, IsJudged}
-use Rattle.eos_lineage.proofs.LogsInOrder.{in_order}
+use Rattle.eos_commits.proofs.LogsInOrder.{in_order}
 use Rattle.eos_check.proofs.GoodLaw.{law as good_law}
 use Rattle.eos_check.proofs.NamedFaults.{least_named}
 use Rattle.eos_check.proofs.VerdictsMade.{no_partition, no_log, no_match, no_lineage, yes}

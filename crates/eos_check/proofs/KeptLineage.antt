@@ -14,7 +14,8 @@ use Rattle.eos_claims.specs.Faults as outputs
 use Rattle.eos_fold.specs.declared.item.Item.{Item}
 use Rattle.eos_fold.specs.Parts.{part_name, PartLog}
 use Rattle.eos_commits.specs.Commits.{Group, Topic, is_offsets_part, key_of, is_of, commit_under, commit_in, commits_in, commits_of}
-use Rattle.eos_lineage.specs.Lineage.{is_part_of, parts_of, place_in, inputs_in, claims_with, claims_at, claims_in, application_of, LineageKept, inputs_below, outputs_in, count_inputs, count_outputs}
+use Rattle.eos_commits.specs.Applications.{is_part_of, parts_of, place_in, inputs_in, claims_with, claims_at, claims_in, application_of, inputs_below}
+use Rattle.eos_lineage.specs.Lineage.{LineageKept, outputs_in, count_inputs, count_outputs}
 use Rattle.eos_lineage.specs.declared.fault.LineageFault.TheVariants.{Record, Output}
 use Rattle.eos_lineage.specs.Faults.{StandsInOutputs, Stands}
 use Rattle.eos_lineage.proofs.LineageLaw.{law as lineage_law}

@@ -15,7 +15,7 @@ use Rattle.eos_fold.specs.Parts.{PartLog, Ascends}
 use Rattle.eos_fold.specs.Settling.{data_in}
 use Rattle.eos_batch.specs.Marker.{markers_of}
 use Rattle.eos_fold.proofs.ClosesOnce.{close_total}
-use Rattle.eos_lineage.specs.EvidenceLogs.{IsLogOf, AreLogsOf}
+use Rattle.eos_commits.specs.EvidenceLogs.{IsLogOf, AreLogsOf}
 use Rattle.eos_check.proofs.FrontsUnique.{one_front}
 
 -- ---- ascending lists of the same members

@@ -7,8 +7,8 @@ use Rattle.eos_evidence.specs.Evidence.{EvidenceParts, IsEvidence}
 use Rattle.eos_touch.specs.declared.fault.PartitionFault.{PartitionFault}
 use Rattle.eos_fold.specs.LeastFaults.{IsFaultIn, IsFaultOf, IsFirstFault}
 use Rattle.eos_fold.specs.Parts.{PartLog}
-use Rattle.eos_lineage.specs.EvidenceLogs.{IsLogOf, AreLogsOf}
-use Rattle.eos_lineage.proofs.LogsInOrder.{sorted}
+use Rattle.eos_commits.specs.EvidenceLogs.{IsLogOf, AreLogsOf}
+use Rattle.eos_commits.proofs.LogsInOrder.{sorted}
 use Rattle.eos_check.specs.Verdicts.{StandsInPartitions, partition_cmp}
 use Rattle.eos_check.proofs.FirstFault.{least_of_first}
 use Rattle.eos_check.proofs.RunsMade.{take_next}

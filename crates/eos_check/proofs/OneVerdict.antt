@@ -13,10 +13,10 @@ use Rattle.eos_check.specs.declared.verdict.Fault.{Fault}
 use Rattle.eos_check.specs.declared.verdict.Fault.TheVariants.{Partition as InPartition, Log, Match, Lineage}
 use Rattle.eos_check.specs.declared.verdict.Verdict.{Verdict}
 use Rattle.eos_check.specs.declared.verdict.Verdict.TheVariants.{Yes, No}
-use Rattle.eos_lineage.specs.EvidenceLogs.{AreLogsOf}
+use Rattle.eos_commits.specs.EvidenceLogs.{AreLogsOf}
 use Rattle.eos_check.specs.Verdicts.{StandsInPartitions, StandsInLog, StandsInMatching, Stands, partition_cmp, verdict_cmp, AreCounts, IsVerdictOf, IsVerdict}
 use Rattle.eos_check.proofs.GoodLaw.{law}
-use Rattle.eos_lineage.proofs.LogsInOrder.{sorted}
+use Rattle.eos_commits.proofs.LogsInOrder.{sorted}
 use Rattle.eos_check.proofs.LogsUnique.{one_logs}
 use Rattle.eos_check.proofs.VerdictsUnique.{same_standing, one_partition_fault}
 

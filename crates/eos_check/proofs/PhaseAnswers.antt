@@ -21,12 +21,12 @@ use Rattle.eos_check.specs.declared.verdict.Fault.{Fault}
 use Rattle.eos_check.specs.declared.verdict.Fault.TheVariants.{Partition as InPartition, Log, Match, Lineage}
 use Rattle.eos_check.specs.declared.verdict.Verdict.{Verdict}
 use Rattle.eos_check.specs.declared.verdict.Verdict.TheVariants.{Yes, No}
-use Rattle.eos_lineage.specs.EvidenceLogs.{AreLogsOf}
+use Rattle.eos_commits.specs.EvidenceLogs.{AreLogsOf}
 use Rattle.eos_check.specs.Verdicts.{StandsInPartitions, StandsInLog, StandsInMatching, partition_cmp, IsVerdictOf, IsVerdict}
 use Rattle.eos_check.specs.Judged.{IsVerdictOver, IsJudged}
 use Rattle.eos_check.specs.WholeLogs.{AreWholeLogs}
 use Rattle.eos_check.specs.steps.Phases.{IsMatched, IsTransacted}
-use Rattle.eos_lineage.proofs.LogsInOrder.{in_order}
+use Rattle.eos_commits.proofs.LogsInOrder.{in_order}
 use Rattle.eos_check.proofs.NamedFaults.{least_named}
 use Rattle.eos_check.proofs.TransactionLogInOrder.{log_in_order}
 use Rattle.eos_check.proofs.VerdictsMade.{no_partition, no_log, no_match, no_lineage, yes}

@@ -17,7 +17,7 @@ use Rattle.eos_fold.specs.Standing.{AreOf}
 use Rattle.eos_fold.specs.Sums.{NamedView, OneTopic, IsFit}
 use Rattle.eos_fold.specs.Whole.{segments_in}
 use Rattle.eos_fold.specs.Parts.{PartLog}
-use Rattle.eos_lineage.specs.EvidenceLogs.{IsLogOf, AreLogsOf}
+use Rattle.eos_commits.specs.EvidenceLogs.{IsLogOf, AreLogsOf}
 use Rattle.eos_check.specs.steps.Runs.{AreOwn, IsBehind, IsRunOf, IsRunTo}
 
 -- ---- the segments of a partition

@@ -16,7 +16,7 @@ use Rattle.eos_fold.specs.Parts.{PartLog}
 use Rattle.eos_table.specs.TransactionLog.{is_transaction_part, transaction_parts}
 use Rattle.eos_table.specs.TransactionLog as table
 use Rattle.eos_commits.specs.Faults as commits
-use Rattle.eos_lineage.proofs.LogsInOrder.{Below}
+use Rattle.eos_commits.proofs.LogsInOrder.{Below}
 
 less_is : (x y : ℤ) → int_cmp x y ≡ Less → x <ℤ y
 less_is x y e = grind (arith, ints)

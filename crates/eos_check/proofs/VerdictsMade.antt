@@ -14,7 +14,7 @@ use Rattle.eos_check.specs.declared.verdict.Fault.{Fault}
 use Rattle.eos_check.specs.declared.verdict.Fault.TheVariants.{Partition as InPartition, Log, Match, Lineage}
 use Rattle.eos_check.specs.declared.verdict.Counts.{Counts}
 use Rattle.eos_check.specs.declared.verdict.Verdict.TheVariants.{Yes, No}
-use Rattle.eos_lineage.specs.EvidenceLogs.{AreLogsOf}
+use Rattle.eos_commits.specs.EvidenceLogs.{AreLogsOf}
 use Rattle.eos_check.specs.Verdicts.{StandsInPartitions, StandsInLog, StandsInMatching, Stands, partition_cmp, verdict_cmp, AreCounts, IsVerdictOf}
 use Rattle.eos_check.proofs.GoodLaw.{law}
 

@@ -27,11 +27,11 @@ use Rattle.eos_touch.specs.declared.fault.PartitionFaultKind.TheVariants.{BadBat
 use Rattle.eos_touch.specs.FaultNames.{number_of}
 use Rattle.eos_fold.specs.Parts.{PartLog}
 use Rattle.eos_fold.specs.Standing as folds
-use Rattle.eos_lineage.specs.EvidenceLogs.{IsLogOf, AreLogsOf}
+use Rattle.eos_commits.specs.EvidenceLogs.{IsLogOf, AreLogsOf}
 use Rattle.eos_check.specs.Verdicts.{StandsInPartitions, partition_cmp, name_in}
 use Rattle.eos_check.proofs.FirstFault.{of_partition, later}
 use Rattle.eos_check.proofs.FrontsUnique.{one_front}
-use Rattle.eos_lineage.proofs.LogsInOrder.{ends_of, end_name}
+use Rattle.eos_commits.proofs.LogsInOrder.{ends_of, end_name}
 
 -- what stands in the partitions doesn't depend on how their logs are read
 pub same_standing : (ps : List Partition) (ls ms : List PartLog) (of : AreLogsOf ps ls) (are : AreLogsOf ps ms) (f : PartitionFault)

@@ -22,7 +22,7 @@ use Rattle.eos_fold.specs.Parts.{PartLog}
 use Rattle.eos_fold.specs.Settling.{ending_by, resolved, data_after, data_in}
 use Rattle.eos_fold.proofs.SteadyFronts.{IsSteady, front_steady}
 use Rattle.eos_commits.specs.Visible.{is_visible}
-use Rattle.eos_lineage.specs.EvidenceLogs.{IsLogOf}
+use Rattle.eos_commits.specs.EvidenceLogs.{IsLogOf}
 use Rattle.eos_check.specs.VisibleRecords.{IsMarker, IsNextMarker, IsCommittedAt, IsVisibleAt, VisibleByMarkers}
 use Rattle.eos_check.proofs.NextMarkers.{Rising, front_rises, same_batch, rest_rises, stands_behind, behind_greater, first_found, none_found}
 

@@ -25,7 +25,7 @@ use Rattle.eos_check.specs.declared.verdict.Fault.TheVariants.{Partition as InPa
 use Rattle.eos_check.specs.declared.verdict.Verdict.{Verdict}
 use Rattle.eos_check.specs.declared.verdict.Verdict.TheVariants.{Yes, No}
 use Rattle.eos_check.specs.declared.verdict.Counts.{Counts}
-use Rattle.eos_lineage.specs.EvidenceLogs.{AreLogsOf}
+use Rattle.eos_commits.specs.EvidenceLogs.{AreLogsOf}
 use Rattle.eos_check.specs.Good.{Good}
 
 -- ---- the phases

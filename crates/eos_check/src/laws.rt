@@ -3,7 +3,7 @@
 ghost use Rattle.std.specs.Prelude.{◌≡◌, ◌↔◌, ℕ, ℤ, List};
 ghost use Rattle.eos_base.specs.Least.{NoneStands};
 ghost use Rattle.eos_batch.specs.declared.batch.Batch.{Batch};
-ghost use Rattle.eos_lineage.specs.EvidenceLogs.{AreLogsOf, IsLogOf};
+ghost use Rattle.eos_commits.specs.EvidenceLogs.{AreLogsOf, IsLogOf};
 ghost use Rattle.eos_check.specs.Good.{Good};
 ghost use Rattle.eos_check.specs.PartitionRules.{AreTexts, KeepsRules};
 ghost use Rattle.eos_check.specs.Verdicts.{Stands, IsVerdict};

@@ -2,7 +2,7 @@
 //! thread's own work. Whose segments a run has is known by its type, so that only the numbers of its pieces are looked at.
 
 ghost use Rattle.std.specs.Prelude.{◌≡◌, ◌+◌, ◌<◌, ◌^◌, ◌++◌, [], ◌∷◌, length, IfOk, IfSome, IsTrue};
-ghost use Rattle.eos_lineage.specs.EvidenceLogs.{IsLogOf};
+ghost use Rattle.eos_commits.specs.EvidenceLogs.{IsLogOf};
 ghost use Rattle.eos_board.specs.Ties.{IsPiece};
 ghost use Rattle.eos_check.specs.WholeLogs.{AreWholeLogs};
 ghost use Rattle.eos_check.specs.steps.Runs.{AreAt, AreOwn, IsBehind, IsRunOf};

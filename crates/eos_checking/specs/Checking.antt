@@ -6,7 +6,7 @@ use Rattle.eos_check.specs.declared.verdict.Verdict.TheVariants.{Yes, No}
 use Rattle.eos_check.specs.Verdicts.{IsVerdict}
 use Rattle.eos_evidence.specs.Evidence.{EvidenceParts}
 use Rattle.eos_fold.specs.Parts.{PartLog}
-use Rattle.eos_lineage.specs.EvidenceLogs.{AreLogsOf}
+use Rattle.eos_commits.specs.EvidenceLogs.{AreLogsOf}
 use Rattle.eos_source_check.specs.AllFaults.{AreAllFaults}
 use Rattle.eos_report.specs.Lines.{json_line, list_json}
 use Rattle.eos_report.specs.Pages.{IsPageText}

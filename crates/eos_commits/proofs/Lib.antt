@@ -11,3 +11,8 @@ pub mod EntryOrder
 pub mod Spots
 pub mod JudgedSpot
 pub mod FirstFault
+pub mod MappedMore
+pub mod NameSearch
+pub mod CommittedTable
+pub mod LogsInOrder
+pub mod NamesAscend

@@ -1,6 +1,9 @@
 pub mod Visible
 pub mod Commits
 pub mod EpochCommits
+pub mod EvidenceLogs
+pub mod Applications
+pub mod NameTables
 pub mod Kept
 pub mod Faults
 pub mod Plain

@@ -4,3 +4,4 @@ pub mod Walks
 pub mod Settled
 pub mod CommitLists
 pub mod Entries
+pub mod SetOffsets

@@ -11,7 +11,7 @@ use Rattle.eos_check.specs.Verdicts.{IsVerdict}
 use Rattle.eos_evidence.specs.declared.partition.Partition.{Partition}
 use Rattle.eos_evidence.specs.Evidence.{EvidenceParts}
 use Rattle.eos_fold.specs.Parts.{PartLog}
-use Rattle.eos_lineage.specs.EvidenceLogs.{AreLogsOf}
+use Rattle.eos_commits.specs.EvidenceLogs.{AreLogsOf}
 use Rattle.eos_picture.specs.declared.mark.Picture.{Picture}
 use Rattle.eos_report.specs.VerdictTexts.{verdict_line, status_of}
 use Rattle.eos_source.specs.Said.{Known}

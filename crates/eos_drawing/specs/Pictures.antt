@@ -4,7 +4,7 @@ use Rattle.std.specs.Prelude.{ℕ, List, Option}
 use Rattle.eos_check.specs.declared.verdict.Fault.{Fault}
 use Rattle.eos_evidence.specs.Evidence.{EvidenceParts}
 use Rattle.eos_fold.specs.Parts.{PartLog}
-use Rattle.eos_lineage.specs.EvidenceLogs.{AreLogsOf}
+use Rattle.eos_commits.specs.EvidenceLogs.{AreLogsOf}
 use Rattle.eos_picture.specs.Marks.{HasTrueRows}
 use Rattle.eos_picture.specs.Whole.{HasWholeRows}
 use Rattle.eos_picture.specs.Window.{IsWindow}

@@ -11,7 +11,7 @@ use Rattle.eos_check.specs.Verdicts.{IsVerdict, phase_of, number_of}
 use Rattle.eos_check.specs.declared.verdict.Counts.{Counts}
 use Rattle.eos_evidence.specs.Evidence.{EvidenceParts}
 use Rattle.eos_fold.specs.Parts.{PartLog}
-use Rattle.eos_lineage.specs.EvidenceLogs.{AreLogsOf}
+use Rattle.eos_commits.specs.EvidenceLogs.{AreLogsOf}
 use Rattle.eos_source_check.specs.AllFaults.{AreAllFaults}
 use Rattle.eos_notes.specs.Lines.{IsAllNotesText}
 use Rattle.eos_notes.specs.Notes.{AreAllNotes}

@@ -8,7 +8,7 @@ ghost use Rattle.eos_disk.specs.Reading.{IsReadWhole};
 ghost use Rattle.eos_disk.specs.Shapes.{AreKnown};
 ghost use Rattle.eos_evidence.specs.Evidence.{EvidenceParts};
 ghost use Rattle.eos_kept.specs.Parts.{HaveEpochs};
-ghost use Rattle.eos_lineage.specs.EvidenceLogs.{AreLogsOf};
+ghost use Rattle.eos_commits.specs.EvidenceLogs.{AreLogsOf};
 ghost use Rattle.eos_notes.specs.Notes.{AreAllNotes};
 ghost use Rattle.eos_source.specs.Saying.{StandsAt};
 ghost use Rattle.eos_explaining.specs.FirstStories.{AreStoriesOf, AreFirstStories};

@@ -6,7 +6,7 @@ ghost use Rattle.eos_text.specs.Catalogue.{IsPageOf};
 ghost use Rattle.eos_check.specs.declared.verdict.Fault.{Fault as AFault};
 ghost use Rattle.eos_check.specs.declared.verdict.Verdict.{Verdict as Named};
 ghost use Rattle.eos_check.specs.declared.verdict.Verdict.TheVariants.{No};
-ghost use Rattle.eos_lineage.specs.EvidenceLogs.{AreLogsOf};
+ghost use Rattle.eos_commits.specs.EvidenceLogs.{AreLogsOf};
 ghost use Rattle.eos_notes.specs.Notes.{AreAllNotes};
 ghost use Rattle.eos_explaining.specs.Explaining.{IsStoryOf, code_of};
 

@@ -24,7 +24,7 @@ use Rattle.eos_commits.specs.Commits.{Group}
 use Rattle.eos_commits.specs.Faults as records
 use Rattle.eos_lineage.specs.declared.fault.LineageFault.{LineageFault}
 use Rattle.eos_lineage.specs.declared.fault.LineageFault.TheVariants.{Record, Output}
-use Rattle.eos_lineage.specs.Lineage.{application_of}
+use Rattle.eos_commits.specs.Applications.{application_of}
 use Rattle.eos_lineage.specs.Faults.{named_group, Stands, place_of, lineage_cmp}
 use Rattle.eos_lineage.proofs.FirstFault.{place_is}
 use Rattle.eos_faults.specs.OneInput.{OfOneInput}

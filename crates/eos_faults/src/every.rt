@@ -7,7 +7,7 @@ ghost use Rattle.eos_commits.specs.Faults.{AreInOrder, Stands as StandsAtRecord}
 ghost use Rattle.eos_commits.specs.Tables.{IsTableOf};
 ghost use Rattle.eos_evidence.specs.declared.application.App.{App};
 ghost use Rattle.eos_lineage.specs.Faults.{named_group};
-ghost use Rattle.eos_lineage.specs.Lineage.{application_of};
+ghost use Rattle.eos_commits.specs.Applications.{application_of};
 ghost use Rattle.eos_faults.specs.LineageFaults.{AreLineageFaults};
 ghost use Rattle.eos_faults.specs.steps.OutputFaultsGathered.{AreOutputFaults};
 ghost use Rattle.eos_faults.specs.steps.Taken.{in_group};

@@ -23,7 +23,7 @@ use Rattle.eos_claims.proofs.ClaimTests.{below_is, is_input_has, is_less_int}
 use Rattle.eos_claims.proofs.ClaimOrder.{both_from}
 use Rattle.eos_claims.proofs.FaultOrder.{place_total, place_exact, claim_total}
 use Rattle.eos_lineage.specs.steps.Walks.{claim_order, by_claim, is_below}
-use Rattle.eos_lineage.proofs.NameSearch.{has_index}
+use Rattle.eos_commits.proofs.NameSearch.{has_index}
 
 pub order_total : IsTotalOrder claim_order
 order_total = then_total (on_total (λ c. c.source) place_total) (then_total (on_total (λ c. c.output) nat_cmp_total) (then_total (on_total (λ c. c.at) place_total) (on_total (λ c. c.of) nat_cmp_total)))
@@ -114,12 +114,3 @@ filter_all p (x ∷ xs) all = let t = all x (inl refl) in let r = filter_all p x
 
 pub all_below : (a : Application) → ((c : PlacedClaim) → Has a.claims c → IsBelow a c.source) → filter (is_below a) a.claims ≡ a.claims
 all_below a named = filter_all (is_below a) a.claims (λ c h. is_below_true a c (named c h))
-
-pub length_mapped : {X Y : Type 0} (q : Y → Bool) (f : X → Y) (xs : List X) → length (filter q (map f xs)) ≡ length (filter (λ x. q (f x)) xs)
-length_mapped q f [] = refl
-length_mapped q f (x ∷ xs) = go (q (f x)) (length_mapped q f xs)
-  where
-    go : (b : Bool) → length (filter q (map f xs)) ≡ length (filter (λ x. q (f x)) xs)
-        → length (cond b (f x ∷ filter q (map f xs)) (filter q (map f xs))) ≡ length (cond b (x ∷ filter (λ x. q (f x)) xs) (filter (λ x. q (f x)) xs))
-    go true r = omega (arith, r)
-    go false r = r

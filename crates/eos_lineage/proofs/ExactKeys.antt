@@ -21,7 +21,7 @@ use Rattle.eos_claims.specs.Candidates.{is_committed}
 use Rattle.eos_claims.proofs.ClaimTests.{less_is, is_less_int, passed_is}
 use Rattle.eos_claims.proofs.FaultOrder.{place_total}
 use Rattle.eos_claims.proofs.OutputsLaw.{law}
-use Rattle.eos_lineage.specs.Lineage.{inputs_below}
+use Rattle.eos_commits.specs.Applications.{inputs_below}
 use Rattle.eos_lineage.specs.declared.books.Books.{Books}
 use Rattle.eos_lineage.specs.steps.Keys.{KeysView, LeftView, spot, key_at, key_of, no_keys, Told, Climbs, IsKeyed, HasKeyed, HasTaken, AreBooks}
 use Rattle.eos_lineage.specs.steps.Walks.{IsOutputsAnswer}

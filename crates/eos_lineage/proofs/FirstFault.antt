@@ -23,11 +23,12 @@ use Rattle.eos_commits.specs.declared.fault.VisibleFault.{VisibleFault}
 use Rattle.eos_commits.specs.Faults as records
 use Rattle.eos_lineage.specs.declared.fault.LineageFault.{LineageFault}
 use Rattle.eos_lineage.specs.declared.fault.LineageFault.TheVariants.{Record, Output}
-use Rattle.eos_lineage.specs.Lineage.{application_of, count_inputs, count_outputs, inputs_below, outputs_in}
+use Rattle.eos_commits.specs.Applications.{application_of, inputs_below}
+use Rattle.eos_lineage.specs.Lineage.{count_inputs, count_outputs, outputs_in}
 use Rattle.eos_lineage.specs.Faults.{named_group, Stands, place_of_group, place_of, lineage_cmp, IsAnswer}
 use Rattle.eos_lineage.specs.steps.Walks.{IsOutputsAnswer}
 use Rattle.eos_lineage.proofs.LineageLaw.{true_same}
-use Rattle.eos_lineage.proofs.NameSearch.{has_index}
+use Rattle.eos_commits.proofs.NameSearch.{has_index}
 
 -- ---- places of groups
 

@@ -13,10 +13,10 @@ use Rattle.eos_claims.specs.Candidates.{passes}
 use Rattle.eos_lineage.specs.Lineage.{is_note}
 use Rattle.eos_lineage.specs.declared.keys.Keys.{Keys}
 use Rattle.eos_lineage.specs.steps.Keys.{KeysView, key_at, key_of, plain_keys, no_keys, joined_keys, IsKeyed, HasKeyed, EachKeyed, in_turn}
-use Rattle.eos_lineage.specs.steps.Tables.{AreAscending}
+use Rattle.eos_commits.specs.NameTables.{AreAscending}
 use Rattle.eos_lineage.specs.steps.Walks.{one_if}
 use Rattle.eos_lineage.proofs.NamePlaces.{place_at}
-use Rattle.eos_lineage.proofs.NameSearch.{get_has}
+use Rattle.eos_commits.proofs.NameSearch.{get_has}
 
 -- ---- one after the other
 

@@ -3,13 +3,10 @@ pub mod SoFar
 pub mod BelowClaims
 pub mod ClaimWalk
 pub mod KeysJoined
-pub mod CommittedTable
 pub mod ExactKeys
 pub mod FirstFault
 pub mod LineageLaw
-pub mod LogsInOrder
 pub mod NamePlaces
-pub mod NameSearch
 pub mod OutputsTally
 pub mod PartsLineage
 pub mod PassSearch

@@ -30,7 +30,8 @@ use Rattle.eos_commits.proofs.RecordsLaw.{law as records_law}
 use Rattle.eos_commits.proofs.VisibleOrder.{visible_total, visible_exact}
 use Rattle.eos_lineage.specs.declared.fault.LineageFault.{LineageFault}
 use Rattle.eos_lineage.specs.declared.fault.LineageFault.TheVariants.{Record, Output}
-use Rattle.eos_lineage.specs.Lineage.{is_part_of, parts_of, place_in, inputs_in, application_of, ExactOutputs, LineageKept}
+use Rattle.eos_commits.specs.Applications.{is_part_of, parts_of, place_in, inputs_in, application_of}
+use Rattle.eos_lineage.specs.Lineage.{ExactOutputs, LineageKept}
 use Rattle.eos_lineage.specs.Faults.{named_group, StandsInOutputs, Stands, place_of_group, place_of, lineage_cmp}
 
 -- ---- inputs are of source topics

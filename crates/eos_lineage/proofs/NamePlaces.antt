@@ -13,8 +13,8 @@ use Rattle.eos_base.proofs.NamesInOrder.{name_total, name_exact}
 use Rattle.eos_claims.specs.declared.place.Place.{Place}
 use Rattle.eos_claims.proofs.FaultOrder.{place_is}
 use Rattle.eos_lineage.specs.steps.Keys.{place_among, spot}
-use Rattle.eos_lineage.specs.steps.Tables.{AreAscending}
-use Rattle.eos_lineage.proofs.NameSearch.{get_has, pairs_head, pairs_tail}
+use Rattle.eos_commits.specs.NameTables.{AreAscending}
+use Rattle.eos_commits.proofs.NameSearch.{get_has, pairs_head, pairs_tail}
 
 -- where names ascend, each stands at its place
 pub place_at : (ns : List PartitionName) (k : ℕ) (n : PartitionName) → AreAscending ns → slice_get ns k ≡ Some n → place_among ns n ≡ k

@@ -24,9 +24,11 @@ use Rattle.eos_claims.proofs.CandidatesWhole.{least}
 use Rattle.eos_claims.proofs.OutputsLaw.{law}
 use Rattle.eos_claims.proofs.ClaimTests.{any_has, has_any, less_is}
 use Rattle.eos_claims.proofs.ClaimOrder.{same_place_true, true_same_place}
-use Rattle.eos_lineage.specs.Lineage.{inputs_below, outputs_in}
+use Rattle.eos_commits.specs.Applications.{inputs_below}
+use Rattle.eos_lineage.specs.Lineage.{outputs_in}
 use Rattle.eos_lineage.specs.steps.Walks.{HasWalked, begun, is_below, is_no_note, by_claim, by_source, is_named, AreNamed, IsOutputsAnswer, one_if}
-use Rattle.eos_lineage.proofs.BelowClaims.{are_below, all_below, length_mapped, is_below_true, moved, moved_back}
+use Rattle.eos_lineage.proofs.BelowClaims.{are_below, all_below, is_below_true, moved, moved_back}
+use Rattle.eos_commits.proofs.MappedMore.{length_mapped}
 
 -- ---- an input
 

@@ -27,11 +27,11 @@ use Rattle.eos_claims.proofs.ClaimOrder.{nat_less}
 use Rattle.eos_claims.proofs.FaultOrder.{place_total}
 use Rattle.eos_commits.specs.Visible.{is_visible, visible}
 use Rattle.eos_commits.specs.Faults.{AreInOrder}
-use Rattle.eos_lineage.specs.Lineage.{Topic, is_part_of, parts_of, place_in, inputs_in, claims_with, claims_at, claims_in, placed, application_of}
+use Rattle.eos_commits.specs.Applications.{Topic, is_part_of, parts_of, place_in, inputs_in, claims_with, claims_at, claims_in, placed, application_of}
 use Rattle.eos_lineage.specs.steps.Keys.{Climbs}
-use Rattle.eos_lineage.specs.steps.Tables.{AreAscending}
+use Rattle.eos_commits.specs.NameTables.{AreAscending}
 use Rattle.eos_lineage.specs.steps.Walks.{input_at, inputs_at, claims_of_part, by_place}
-use Rattle.eos_lineage.proofs.NameSearch.{pairs_head, pairs_tail}
+use Rattle.eos_commits.proofs.NameSearch.{pairs_head, pairs_tail}
 
 -- ---- lists that are made of parts
 
@@ -73,24 +73,6 @@ inputs_same topics set ps perm =
     ∙ sym (flat_filter inputs_in (is_part_of topics) ps)
 
 -- ---- names
-
-get_mapped : {X Y : Type 0} (f : X → Y) (xs : List X) (k : ℕ) (d : Y) (e : X) → k < length (map f xs) → slice_index_or (map f xs) k d ≡ f (slice_index_or xs k e)
-get_mapped f [] k d e lt = absurd (omega (arith, lt))
-get_mapped f (x ∷ xs) zero d e lt = refl
-get_mapped f (x ∷ xs) (suc k) d e lt = get_mapped f xs k d e (omega (arith, lt))
-
-length_mapped : {X Y : Type 0} (f : X → Y) (xs : List X) → length (map f xs) ≡ length xs
-length_mapped f [] = refl
-length_mapped f (x ∷ xs) = let r = length_mapped f xs in omega (arith, r)
-
-pub names_ascend : (ps : List PartLog) → AreInOrder ps → AreAscending (map part_name ps)
-names_ascend [] are = λ i j d lt le. absurd (omega (arith, le))
-names_ascend (p ∷ ps) are = λ i j d lt le.
-    let n = length_mapped part_name (p ∷ ps) in
-    let a = get_mapped part_name (p ∷ ps) i d p (omega (arith, lt, le)) in
-    let b = get_mapped part_name (p ∷ ps) j d p le in
-    let r = are.names i j p lt (omega (arith, le, n)) in
-    subst (λ x. name_cmp x (slice_index_or (map part_name (p ∷ ps)) j d) ≡ Less) (sym a) (subst (λ y. name_cmp (part_name (slice_index_or (p ∷ ps) i p)) y ≡ Less) (sym b) r)
 
 pub input_named : (app : App) (ps : List PartLog) (i : Place) → Has (application_of app ps).inputs i → Has (map part_name ps) i.partition
 input_named app ps i h =

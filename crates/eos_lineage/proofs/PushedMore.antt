@@ -20,10 +20,3 @@ pieces_more {Z = Z} g before after xs i x lt is so_far pushed =
     let all : flat_map g (take (i + 1) xs) ≡ flat_map g (take i xs) ++ g x =
     ap (flat_map g) taken ∙ (flat_map-append g (take i xs) (x ∷ []) ∙ ap (λ (zs : List Z). flat_map g (take i xs) ++ zs) (append-nil (g x))) in
     pushed ∙ (ap (λ (zs : List Z). zs ++ g x) so_far ∙ sym all)
-
-pub mapped_more : {X Z : Type 0} (v : X → Z) (before after : List Z) (xs : List X) (i : ℕ) (d : X) → i < length xs
-    → before ≡ map v (take i xs) → after ≡ before ++ v (get_or xs i d) ∷ [] → after ≡ map v (take (i + 1) xs)
-mapped_more {Z = Z} v before after xs i d lt so_far pushed =
-    let x = v (get_or xs i d) in
-    let all : map v (take (i + 1) xs) ≡ map v (take i xs) ++ x ∷ [] = ap (map v) (take_more xs i d lt) ∙ map-append v (take i xs) (get_or xs i d ∷ []) in
-    pushed ∙ (ap (λ (zs : List Z). zs ++ x ∷ []) so_far ∙ sym all)

@@ -8,7 +8,7 @@ use Rattle.std.proofs.lemmas.List.Sums.{sum_by-cons, sum_by-append}
 use Rattle.eos_base.specs.declared.partition_name.PartitionName.{PartitionName}
 use Rattle.eos_claims.specs.declared.place.Place.{Place}
 use Rattle.eos_claims.specs.Outputs.{Application}
-use Rattle.eos_lineage.specs.Lineage.{inputs_below}
+use Rattle.eos_commits.specs.Applications.{inputs_below}
 use Rattle.eos_lineage.specs.declared.books.Books.{Books}
 use Rattle.eos_lineage.specs.declared.shares.Share.{Share}
 use Rattle.eos_lineage.specs.steps.Keys.{spot, keys_for, Told, AreBooks, HasTaken}

@@ -20,7 +20,7 @@ use Rattle.eos_claims.specs.Faults.{place_cmp}
 use Rattle.eos_claims.specs.Candidates.{is_input, is_by, passes}
 use Rattle.eos_claims.specs.Plain.{plain_place}
 use Rattle.eos_claims.proofs.ClaimTests.{input_is}
-use Rattle.eos_lineage.specs.declared.name.IndexedName.{IndexedName}
+use Rattle.eos_commits.specs.declared.name.IndexedName.{IndexedName}
 use Rattle.eos_lineage.specs.declared.tables.Tables.{Tables}
 use Rattle.eos_lineage.specs.declared.tables.Known.{Known}
 use Rattle.eos_lineage.specs.steps.Tables.{Passed, key_of, pass_with, passes_of, reaches, is_reached}

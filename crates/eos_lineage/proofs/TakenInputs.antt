@@ -13,13 +13,13 @@ use Rattle.eos_claims.specs.declared.place.Place.{Place}
 use Rattle.eos_claims.specs.Outputs.{Application, committed_offset}
 use Rattle.eos_claims.specs.Candidates.{is_committed}
 use Rattle.eos_commits.specs.Visible.{is_visible}
-use Rattle.eos_lineage.specs.Lineage.{Topic, is_part_of, place_in, inputs_below}
+use Rattle.eos_commits.specs.Applications.{Topic, is_part_of, place_in, inputs_below}
 use Rattle.eos_lineage.specs.declared.books.Books.{Books}
 use Rattle.eos_lineage.specs.steps.Keys.{LeftView, keys_for, spot, below_at, place_among, Told, AreBooks, HasTaken}
 use Rattle.eos_lineage.specs.steps.Shares.{below_of, inputs_between}
 use Rattle.eos_lineage.specs.steps.Walks.{input_at, inputs_at}
 use Rattle.eos_lineage.proofs.NamePlaces.{place_at}
-use Rattle.eos_lineage.proofs.NameSearch.{get_map}
+use Rattle.eos_commits.proofs.NameSearch.{get_map}
 use Rattle.eos_lineage.proofs.PartsLineage.{partition_of}
 use Rattle.eos_lineage.proofs.Stretches.{one_further, all_between}
 

@@ -14,7 +14,8 @@ use Rattle.eos_commits.specs.Faults as records
 use Rattle.eos_lineage.specs.declared.counts.LineageCounts.{LineageCounts}
 use Rattle.eos_lineage.specs.declared.fault.LineageFault.{LineageFault}
 use Rattle.eos_lineage.specs.declared.fault.LineageFault.TheVariants.{Record, Output}
-use Rattle.eos_lineage.specs.Lineage.{application_of, count_inputs, count_outputs}
+use Rattle.eos_commits.specs.Applications.{application_of}
+use Rattle.eos_lineage.specs.Lineage.{count_inputs, count_outputs}
 
 -- the group is named where there is more than one application
 abbrev pub named_group : List App → App → Option Group

@@ -1,4 +1,3 @@
-pub mod EvidenceLogs
 pub mod Lineage
 pub mod Faults
 pub mod steps

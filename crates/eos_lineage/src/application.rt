@@ -6,7 +6,7 @@ ghost use Rattle.eos_claims.specs.Outputs.{Application, ReadsSources};
 ghost use Rattle.eos_claims.specs.Faults.{fault_cmp};
 ghost use Rattle.eos_claims.specs.Candidates.{AreApart, unclaimed};
 ghost use Rattle.eos_claims.specs.Plain.{plain_place, plain_source, plain_fault, plain_claim};
-ghost use Rattle.eos_lineage.specs.Lineage.{inputs_below};
+ghost use Rattle.eos_commits.specs.Applications.{inputs_below};
 ghost use Rattle.eos_lineage.specs.steps.Walks.{one_if, AreTables, AreNamed, by_source, is_named, output_claims, is_no_note, IsOutputsAnswer};
 
 use crate::claims::{Output, take_outputs};

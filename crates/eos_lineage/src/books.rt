@@ -1,8 +1,7 @@
 //! What an application's outputs are held against.
 
-use crate::name::Names;
 use crate::passes::PassTable;
-use eos_commits::TopicSet;
+use eos_commits::{Names, TopicSet};
 use eos_kept::Part;
 
 /// The logs, and what an application reads and commits there.

@@ -3,8 +3,8 @@
 ghost use Rattle.std.specs.Prelude.{◌≡◌, map, IfOk};
 ghost use Rattle.eos_fold.specs.Parts.{part_name};
 
-use crate::name::Names;
 use eos_base::PartitionName;
+use eos_commits::Names;
 use eos_kept::Part;
 use std::alloc::{AllocError, Global};
 use std::marker::Model;

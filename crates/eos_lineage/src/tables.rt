@@ -1,6 +1,6 @@
 //! What is known of the place that a claim names, by the tables of one application.
 
-ghost use Rattle.std.specs.Prelude.{◌≡◌, IsSorted, slice_get};
+ghost use Rattle.std.specs.Prelude.{◌≡◌, IsSorted, slice_get, int_lt, pos};
 ghost use Rattle.eos_base.specs.Members.{Has, is_found};
 ghost use Rattle.eos_claims.specs.declared.place.Place.{Place};
 ghost use Rattle.eos_claims.specs.Outputs.{Application};
@@ -8,11 +8,9 @@ ghost use Rattle.eos_claims.specs.Candidates.{is_committed as is_committed_in};
 ghost use Rattle.eos_claims.specs.Plain.{plain_source, plain_place};
 ghost use Rattle.eos_lineage.specs.steps.Walks.{AreTables, KnowsPlace, AreTests, by_place, is_below_in, flags_of};
 
-use crate::name::Names;
-use crate::offsets::is_before;
 use crate::passes::{PassMarks, PassTable};
 use eos_claims::{PlaceRef, SourceRef, SourceTests};
-use eos_commits::TopicSet;
+use eos_commits::{Names, TopicSet};
 
 /// What an application reads and commits, in order for look-ups. Each table is lent for a time of its own; the names and
 /// topics in them are lent for 'a.
@@ -43,6 +41,13 @@ fn is_input(inputs: &[PlaceRef<'_>], place: &PlaceRef<'_>) -> bool
     ensures { IsSorted by_place inputs.now → result ≡ is_found by_place inputs.now place.now }
 {
     inputs.binary_search(place).is_ok()
+}
+
+/// Whether the offset is below the committed one.
+pub(crate) fn is_before(offset: u64, committed: i64) -> bool
+    ensures { result ≡ int_lt (pos offset) committed }
+{
+    committed > 0 && offset < committed as u64
 }
 
 /// Whether the offset is below the one that stands at this place.

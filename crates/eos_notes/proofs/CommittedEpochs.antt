@@ -11,7 +11,7 @@ use Rattle.eos_commits.specs.declared.commits.CommitRef.{CommitRef}
 use Rattle.eos_commits.specs.Commits.{Group}
 use Rattle.eos_commits.specs.EpochCommits.{EpochCommit, epoch_commits_of}
 use Rattle.eos_commits.specs.Plain.{plain_commit, epoch_commit}
-use Rattle.eos_lineage.specs.EvidenceLogs.{commits_for}
+use Rattle.eos_commits.specs.EvidenceLogs.{commits_for}
 use Rattle.eos_reading.specs.declared.epoch.EpochEntry.{EpochEntry}
 use Rattle.eos_notes.specs.declared.note.Note.{Note}
 use Rattle.eos_notes.specs.ReplacedNotes.{Committed, last_epoch, committed_epoch, committed_by, epoch_below, other_note, other_at}

@@ -15,10 +15,10 @@ use Rattle.eos_claims.specs.Candidates.{is_committed}
 use Rattle.eos_commits.specs.Commits.{Group, Topic}
 use Rattle.eos_commits.specs.Visible.{visible}
 use Rattle.eos_commits.proofs.RoleSearch.{found_in_order}
-use Rattle.eos_lineage.specs.Lineage.{is_part_of, parts_of, inputs_in, place_in}
-use Rattle.eos_lineage.proofs.BelowClaims.{length_mapped}
+use Rattle.eos_commits.specs.Applications.{is_part_of, parts_of, inputs_in, place_in}
+use Rattle.eos_commits.proofs.MappedMore.{length_mapped}
 use Rattle.eos_notes.specs.declared.note.Note.{Note}
-use Rattle.eos_lineage.specs.EvidenceLogs.{commits_for}
+use Rattle.eos_commits.specs.EvidenceLogs.{commits_for}
 use Rattle.eos_notes.specs.CommitNotes.{past_end_at, past_end_of, past_ends_in}
 use Rattle.eos_notes.specs.steps.Counted.{past_end_if, count_visible, count_below}
 use Rattle.eos_notes.proofs.PushedMore.{pushed_more}

@@ -13,7 +13,7 @@ use Rattle.eos_fold.specs.Parts.{PartLog}
 use Rattle.eos_touch.specs.declared.fault.PartitionFault.{PartitionFault}
 use Rattle.eos_commits.specs.Commits.{Topic}
 use Rattle.eos_commits.proofs.RoleSearch.{found_in_order}
-use Rattle.eos_lineage.proofs.PushedMore.{mapped_more}
+use Rattle.eos_commits.proofs.MappedMore.{mapped_more}
 use Rattle.eos_notes.specs.declared.tally.Counted.{Counted}
 use Rattle.eos_notes.specs.declared.tally.TopicRoles.{TopicRoles}
 use Rattle.eos_notes.specs.declared.tally.PartitionTally.{PartitionTally}

@@ -9,7 +9,7 @@ use Rattle.eos_base.specs.declared.partition_name.PartitionName.{PartitionName}
 use Rattle.eos_fold.specs.Parts.{PartLog, part_name}
 use Rattle.eos_commits.specs.Commits.{Topic}
 use Rattle.eos_commits.proofs.RoleSearch.{found_in_order}
-use Rattle.eos_lineage.specs.Lineage.{is_part_of}
+use Rattle.eos_commits.specs.Applications.{is_part_of}
 use Rattle.eos_notes.specs.declared.tally.SourceTally.{SourceTally}
 use Rattle.eos_notes.specs.GroupTallies.{source_tally}
 use Rattle.eos_notes.specs.steps.TalliesCounted.{source_if}

@@ -5,7 +5,7 @@ use Rattle.eos_evidence.specs.Evidence.{EvidenceParts}
 use Rattle.eos_fold.specs.Parts.{PartLog}
 use Rattle.eos_touch.specs.declared.fault.PartitionFault.{PartitionFault}
 use Rattle.eos_commits.specs.Commits.{Topic}
-use Rattle.eos_lineage.specs.EvidenceLogs.{AreLogsOf}
+use Rattle.eos_commits.specs.EvidenceLogs.{AreLogsOf}
 use Rattle.eos_kept.specs.Faults.{AreFaultsIn, first_of}
 use Rattle.eos_notes.specs.declared.tally.Counted.{Counted}
 use Rattle.eos_notes.specs.declared.tally.TopicRoles.{TopicRoles}

@@ -6,7 +6,7 @@ use Rattle.eos_evidence.specs.declared.application.App.{App}
 use Rattle.eos_evidence.specs.declared.ends.End.{End}
 use Rattle.eos_fold.specs.Parts.{PartLog}
 use Rattle.eos_notes.specs.declared.note.Note.{Note}
-use Rattle.eos_lineage.specs.EvidenceLogs.{commits_for}
+use Rattle.eos_commits.specs.EvidenceLogs.{commits_for}
 use Rattle.eos_notes.specs.CommitNotes.{unlisted_note, AreUnlisted, AreUnlistedNotes}
 
 behind_all : (ends : List End) (logs : List PartLog) (apps : List App) (app : App) (before : List Note) (names : List PartitionName) → AreUnlistedNotes ends logs apps before

@@ -11,8 +11,8 @@ use Rattle.eos_evidence.specs.declared.ends.End.{End}
 use Rattle.eos_fold.specs.Parts.{PartLog, part_name}
 use Rattle.eos_claims.specs.Outputs.{Application, Commit, committed_offset}
 use Rattle.eos_commits.specs.Commits.{Group}
-use Rattle.eos_lineage.specs.EvidenceLogs.{commits_for}
-use Rattle.eos_lineage.specs.Lineage.{application_of, inputs_below, parts_of}
+use Rattle.eos_commits.specs.EvidenceLogs.{commits_for}
+use Rattle.eos_commits.specs.Applications.{application_of, inputs_below, parts_of}
 use Rattle.eos_notes.specs.declared.note.Note.{Note}
 use Rattle.eos_notes.specs.declared.note.Note.TheVariants.{Unlisted, PastEnd, NothingCommitted, Behind}
 

@@ -9,8 +9,8 @@ use Rattle.eos_fold.specs.LeastFaults.{IsFirstFault}
 use Rattle.eos_fold.specs.Parts.{PartLog, part_name}
 use Rattle.eos_claims.specs.Outputs.{committed_offset}
 use Rattle.eos_commits.specs.Visible.{visible}
-use Rattle.eos_lineage.specs.Lineage.{parts_of}
-use Rattle.eos_lineage.specs.EvidenceLogs.{commits_for}
+use Rattle.eos_commits.specs.Applications.{parts_of}
+use Rattle.eos_commits.specs.EvidenceLogs.{commits_for}
 use Rattle.eos_notes.specs.declared.tally.SourceTally.{SourceTally}
 use Rattle.eos_notes.specs.declared.tally.GroupTally.{GroupTally}
 

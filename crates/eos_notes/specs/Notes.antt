@@ -6,7 +6,7 @@ use Rattle.eos_evidence.specs.SpecFields.{SpecFields}
 use Rattle.eos_touch.specs.declared.fault.PartitionFault.{PartitionFault}
 use Rattle.eos_fold.specs.LeastFaults.{IsFirstFault}
 use Rattle.eos_fold.specs.Parts.{PartLog, part_name}
-use Rattle.eos_lineage.specs.EvidenceLogs.{AreLogsOf}
+use Rattle.eos_commits.specs.EvidenceLogs.{AreLogsOf}
 use Rattle.eos_reading.specs.declared.epoch.EpochEntry.{EpochEntry}
 use Rattle.eos_kept.specs.Parts.{HaveEpochs}
 use Rattle.eos_notes.specs.declared.note.Note.{Note}

@@ -13,7 +13,7 @@ use Rattle.eos_fold.specs.Parts.{PartLog, part_name}
 use Rattle.eos_claims.specs.Outputs.{committed_offset}
 use Rattle.eos_commits.specs.Commits.{Group}
 use Rattle.eos_commits.specs.EpochCommits.{EpochCommit, epoch_commits_of}
-use Rattle.eos_lineage.specs.EvidenceLogs.{commits_for}
+use Rattle.eos_commits.specs.EvidenceLogs.{commits_for}
 use Rattle.eos_reading.specs.declared.epoch.EpochEntry.{EpochEntry}
 use Rattle.eos_notes.specs.declared.note.Note.{Note}
 use Rattle.eos_notes.specs.declared.note.Note.TheVariants.{OtherEpoch}

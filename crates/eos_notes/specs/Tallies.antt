@@ -2,7 +2,7 @@
 use Rattle.std.specs.Prelude.{List}
 use Rattle.eos_evidence.specs.Evidence.{EvidenceParts}
 use Rattle.eos_fold.specs.Parts.{PartLog}
-use Rattle.eos_lineage.specs.EvidenceLogs.{AreLogsOf}
+use Rattle.eos_commits.specs.EvidenceLogs.{AreLogsOf}
 use Rattle.eos_notes.specs.declared.tally.Tallies.{Tallies}
 use Rattle.eos_notes.specs.PartitionTallies.{roles_of, ArePartitionTallies}
 use Rattle.eos_notes.specs.GroupTallies.{AreGroupTallies}

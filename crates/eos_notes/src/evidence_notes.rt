@@ -2,7 +2,7 @@
 
 ghost use Rattle.std.specs.Prelude.{◌≡◌, ◌++◌, [], false, is_some, List, map, IfOk, OnOk, IsPermutation};
 ghost use Rattle.eos_base.specs.Members.{Has};
-ghost use Rattle.eos_lineage.specs.EvidenceLogs.{commits_for};
+ghost use Rattle.eos_commits.specs.EvidenceLogs.{commits_for};
 ghost use Rattle.eos_commits.specs.Faults.{AreInOrder};
 ghost use Rattle.eos_commits.specs.Plain.{plain_commit};
 ghost use Rattle.eos_commits.specs.Tables.{IsTableOf};
@@ -17,10 +17,9 @@ use crate::groups::{count_inputs, push_behind, push_nothing, push_past_ends};
 use crate::manifest::{push_absent_topics, push_gaps, push_internals, push_no_application};
 use crate::note::Note;
 use crate::unlisted::unlisted_notes;
-use eos_commits::{CommitRef, CommitTable, TopicSet};
+use eos_commits::{CommitRef, CommitTable, TopicSet, committed_offsets};
 use eos_evidence::{App, End, Spec};
 use eos_kept::{Logs, Part};
-use eos_lineage::committed_offsets;
 use std::alloc::{AllocError, Global};
 
 /// What was found of what groups have committed, by the kind of note.

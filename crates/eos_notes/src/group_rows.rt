@@ -5,8 +5,8 @@ ghost use Rattle.eos_base.specs.declared.partition_name.PartitionName.{Partition
 ghost use Rattle.eos_claims.specs.Outputs.{committed_offset};
 ghost use Rattle.eos_commits.specs.Faults.{AreInOrder};
 ghost use Rattle.eos_fold.specs.Parts.{part_name};
-ghost use Rattle.eos_lineage.specs.Lineage.{is_part_of};
-ghost use Rattle.eos_lineage.specs.EvidenceLogs.{commits_for};
+ghost use Rattle.eos_commits.specs.Applications.{is_part_of};
+ghost use Rattle.eos_commits.specs.EvidenceLogs.{commits_for};
 ghost use Rattle.eos_kept.specs.Faults.{first_of};
 ghost use Rattle.eos_notes.specs.GroupTallies.{source_tally, group_tally as tally_of_group};
 ghost use Rattle.eos_notes.specs.TalliesByLogs.{group_tallies};
@@ -15,10 +15,9 @@ ghost use Rattle.eos_notes.specs.steps.TalliesCounted.{source_if};
 use crate::records::count_below;
 use crate::tally::{GroupTally, SourceTally};
 use eos_base::Listed;
-use eos_commits::{TopicSet, commits_of};
+use eos_commits::{TopicSet, commits_of, committed_offsets};
 use eos_evidence::App;
 use eos_kept::{Logs, Part};
-use eos_lineage::committed_offsets;
 use std::alloc::{AllocError, Global};
 
 /// Puts a partition at the end, if it is of one of these topics.

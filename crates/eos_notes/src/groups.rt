@@ -5,7 +5,7 @@ ghost use Rattle.eos_base.specs.declared.partition_name.PartitionName.{Partition
 ghost use Rattle.eos_claims.specs.Outputs.{Application, committed_offset};
 ghost use Rattle.eos_commits.specs.Plain.{plain_commit};
 ghost use Rattle.eos_fold.specs.Parts.{part_name};
-ghost use Rattle.eos_lineage.specs.Lineage.{is_part_of, inputs_in, inputs_below, parts_of};
+ghost use Rattle.eos_commits.specs.Applications.{is_part_of, inputs_in, inputs_below, parts_of};
 ghost use Rattle.eos_notes.specs.CommitNotes.{past_end_at, nothing_by, behind_by};
 ghost use Rattle.eos_notes.specs.steps.Counted.{past_end_if, count_visible, count_below};
 

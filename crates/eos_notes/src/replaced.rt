@@ -13,10 +13,9 @@ ghost use Rattle.eos_notes.specs.steps.Replaced.{renamed, AreCommitted};
 use crate::groups::{is_below, offset_at};
 use crate::note::{Note, OtherRecord};
 use eos_base::{Listed, PartitionName};
-use eos_commits::{CommitRef, CommitTable};
+use eos_commits::{CommitRef, CommitTable, committed_offsets};
 use eos_evidence::{App, GroupId};
 use eos_kept::Part;
-use eos_lineage::committed_offsets;
 use eos_reading::EpochEntry;
 use std::alloc::{AllocError, Global};
 

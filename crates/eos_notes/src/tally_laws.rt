@@ -4,7 +4,7 @@ ghost use Rattle.std.specs.Prelude.{List, Option};
 ghost use Rattle.eos_commits.specs.Faults.{AreInOrder};
 ghost use Rattle.eos_evidence.specs.Evidence.{EvidenceParts, IsEvidence};
 ghost use Rattle.eos_fold.specs.Parts.{PartLog};
-ghost use Rattle.eos_lineage.specs.EvidenceLogs.{AreLogsOf};
+ghost use Rattle.eos_commits.specs.EvidenceLogs.{AreLogsOf};
 ghost use Rattle.eos_kept.specs.Faults.{AreFaultsIn};
 ghost use Rattle.eos_notes.specs.Counts.{AreCounted};
 ghost use Rattle.eos_notes.specs.Tallies.{AreTallies};

@@ -21,10 +21,10 @@ use Rattle.eos_check.specs.declared.verdict.Fault.{Fault}
 use Rattle.eos_check.specs.declared.verdict.Fault.TheVariants.{Partition as InPartition, Log, Match, Lineage}
 use Rattle.eos_check.specs.declared.verdict.Verdict.{Verdict}
 use Rattle.eos_check.specs.declared.verdict.Verdict.TheVariants.{Yes, No}
-use Rattle.eos_lineage.specs.EvidenceLogs.{AreLogsOf}
+use Rattle.eos_commits.specs.EvidenceLogs.{AreLogsOf}
 use Rattle.eos_check.specs.Verdicts.{Stands, IsVerdict, IsVerdictOf}
 use Rattle.eos_check.proofs.GoodLaw.{none_from}
-use Rattle.eos_lineage.proofs.LogsInOrder.{in_order}
+use Rattle.eos_commits.proofs.LogsInOrder.{in_order}
 use Rattle.eos_check.proofs.TransactionLogInOrder.{log_in_order}
 use Rattle.eos_machine.specs.Schedules.{IsOfSchedule}
 use Rattle.eos_simulate.specs.Schedules.{AreRight, HaveNoFault, HasRightLogs, HasNoFaultInLogs, IsOfOutputs, AccusesNoLog}

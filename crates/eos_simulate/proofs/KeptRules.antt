@@ -34,7 +34,7 @@ use Rattle.eos_machine.specs.World.{World, log_at}
 use Rattle.eos_machine.specs.Rest.{NeighboursFit, AllAtomic, StepsFit, IsAtRest, decisions_of}
 use Rattle.eos_machine.proofs.Good.{Good}
 use Rattle.eos_check.specs.PartitionRules.{KeepsRules}
-use Rattle.eos_lineage.specs.EvidenceLogs.{IsLogOf, AreLogsOf}
+use Rattle.eos_commits.specs.EvidenceLogs.{IsLogOf, AreLogsOf}
 use Rattle.eos_check.specs.Good.{IsKeptLog, AreKeptLogs}
 use Rattle.eos_check.proofs.FrontsUnique.{one_front}
 use Rattle.eos_check.proofs.PairFaults.{EachHasRecords, touches_have_records, no_pair}

@@ -8,7 +8,7 @@ use Rattle.eos_evidence.specs.Evidence.{EvidenceParts}
 use Rattle.eos_fold.specs.Parts.{PartLog}
 use Rattle.eos_table.specs.TransactionLog.{IsTransactionLog, transaction_parts, decisions_of}
 use Rattle.eos_table.specs.Atomic.{Atomic}
-use Rattle.eos_lineage.specs.EvidenceLogs.{AreLogsOf}
+use Rattle.eos_commits.specs.EvidenceLogs.{AreLogsOf}
 use Rattle.eos_check.specs.Good.{AreKeptLogs}
 use Rattle.eos_check.specs.Verdicts.{StandsInPartitions, StandsInLog, StandsInMatching}
 use Rattle.eos_check.specs.declared.verdict.Fault.{Fault}

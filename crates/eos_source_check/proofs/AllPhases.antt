@@ -20,8 +20,8 @@ use Rattle.eos_commits.specs.Faults as records
 use Rattle.eos_lineage.specs.declared.fault.LineageFault.{LineageFault}
 use Rattle.eos_lineage.specs.declared.fault.LineageFault.TheVariants.{Record, Output}
 use Rattle.eos_lineage.specs.Faults as lineage
-use Rattle.eos_lineage.specs.EvidenceLogs.{AreLogsOf}
-use Rattle.eos_lineage.proofs.LogsInOrder.{sorted}
+use Rattle.eos_commits.specs.EvidenceLogs.{AreLogsOf}
+use Rattle.eos_commits.proofs.LogsInOrder.{sorted}
 use Rattle.eos_check.specs.declared.verdict.Fault.TheVariants.{Partition as InPartition, Log, Match}
 use Rattle.eos_check.specs.Verdicts.{StandsInPartitions, StandsInLog, StandsInMatching, partition_cmp}
 use Rattle.eos_check.proofs.FirstFault.{least_of_first}

@@ -28,7 +28,7 @@ use Rattle.eos_commits.specs.Faults.{visible_cmp}
 use Rattle.eos_commits.proofs.VisibleOrder.{visible_total}
 use Rattle.eos_lineage.specs.declared.fault.LineageFault.TheVariants.{Record, Output}
 use Rattle.eos_lineage.specs.Faults.{place_of}
-use Rattle.eos_lineage.specs.EvidenceLogs.{AreLogsOf}
+use Rattle.eos_commits.specs.EvidenceLogs.{AreLogsOf}
 use Rattle.eos_check.specs.declared.verdict.Fault.{Fault}
 use Rattle.eos_check.specs.declared.verdict.Fault.TheVariants.{Partition as InPartition, Log, Match, Lineage}
 use Rattle.eos_check.specs.declared.verdict.Verdict.TheVariants.{No}

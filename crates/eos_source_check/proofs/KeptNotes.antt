@@ -9,9 +9,9 @@ use Rattle.eos_evidence.specs.SpecFields.{SpecFields}
 use Rattle.eos_evidence.specs.declared.application.App.{App}
 use Rattle.eos_evidence.specs.declared.ends.End.{End}
 use Rattle.eos_fold.specs.Parts.{PartLog, part_name}
-use Rattle.eos_lineage.specs.EvidenceLogs.{AreLogsOf, commits_for}
-use Rattle.eos_lineage.specs.Lineage.{is_part_of, parts_of}
-use Rattle.eos_lineage.proofs.LogsInOrder.{in_order}
+use Rattle.eos_commits.specs.EvidenceLogs.{AreLogsOf, commits_for}
+use Rattle.eos_commits.specs.Applications.{is_part_of, parts_of}
+use Rattle.eos_commits.proofs.LogsInOrder.{in_order}
 use Rattle.eos_notes.specs.declared.note.Note.{Note}
 use Rattle.eos_notes.specs.CommitNotes.{AreUnlisted, AreUnlistedNotes, past_end_at, past_end_of, past_ends_in, past_ends, nothing_by, nothing_in, nothing_committed, behind_of, behind_in, behind}
 use Rattle.eos_notes.specs.ManifestNotes.{no_application, absent_topics, gaps, absent_internals}

@@ -13,9 +13,9 @@ use Rattle.eos_evidence.specs.Evidence.{EvidenceParts}
 use Rattle.eos_evidence.specs.declared.application.App.{App}
 use Rattle.eos_fold.specs.Parts.{PartLog, part_name}
 use Rattle.eos_fold.specs.declared.item.Item.{Item}
-use Rattle.eos_lineage.specs.EvidenceLogs.{AreLogsOf, commits_for}
-use Rattle.eos_lineage.specs.Lineage.{is_part_of, parts_of}
-use Rattle.eos_lineage.proofs.BelowClaims.{length_mapped}
+use Rattle.eos_commits.specs.EvidenceLogs.{AreLogsOf, commits_for}
+use Rattle.eos_commits.specs.Applications.{is_part_of, parts_of}
+use Rattle.eos_commits.proofs.MappedMore.{length_mapped}
 use Rattle.eos_kept.specs.Faults.{AreFaultsIn, first_of}
 use Rattle.eos_touch.specs.declared.fault.PartitionFault.{PartitionFault}
 use Rattle.eos_notes.specs.declared.tally.Counted.{Counted}

@@ -12,7 +12,7 @@ use Rattle.eos_fold.specs.LeastFaults.{IsFaultIn, IsFirstFault}
 use Rattle.eos_fold.specs.Parts.{PartLog}
 use Rattle.eos_kept.specs.declared.logs.Logs.{Logs}
 use Rattle.eos_kept.specs.Faults as named
-use Rattle.eos_lineage.proofs.LogsInOrder.{sorted, in_order}
+use Rattle.eos_commits.proofs.LogsInOrder.{sorted, in_order}
 use Rattle.eos_commits.specs.Faults.{AreInOrder}
 use Rattle.eos_check.specs.declared.verdict.Fault.{Fault}
 use Rattle.eos_check.specs.declared.verdict.Fault.TheVariants.{Partition as InPartition}

@@ -17,8 +17,8 @@ use Rattle.eos_touch.specs.declared.fault.PartitionFault.{PartitionFault}
 use Rattle.eos_fold.specs.declared.stop.Stop.{Stop}
 use Rattle.eos_fold.specs.Parts.{PartLog}
 use Rattle.eos_fold.specs.Standing as folds
-use Rattle.eos_lineage.specs.EvidenceLogs.{IsLogOf, AreLogsOf}
-use Rattle.eos_lineage.proofs.LogsInOrder.{ends_of}
+use Rattle.eos_commits.specs.EvidenceLogs.{IsLogOf, AreLogsOf}
+use Rattle.eos_commits.proofs.LogsInOrder.{ends_of}
 use Rattle.eos_check.specs.Verdicts.{StandsInPartitions, partition_cmp, name_in}
 use Rattle.eos_check.proofs.FirstFault.{of_partition, later}
 use Rattle.eos_check.proofs.FrontsUnique.{one_front}

@@ -13,7 +13,7 @@ use Rattle.eos_table.specs.LogFaults.{log_cmp}
 use Rattle.eos_table.specs.MatchFaults.{fault_cmp}
 use Rattle.eos_lineage.specs.declared.fault.LineageFault.{LineageFault}
 use Rattle.eos_lineage.specs.declared.fault.LineageFault.TheVariants.{Record, Output}
-use Rattle.eos_lineage.specs.EvidenceLogs.{AreLogsOf}
+use Rattle.eos_commits.specs.EvidenceLogs.{AreLogsOf}
 use Rattle.eos_check.specs.declared.verdict.Fault.{Fault}
 use Rattle.eos_check.specs.declared.verdict.Fault.TheVariants.{Partition as InPartition, Log, Match, Lineage}
 use Rattle.eos_check.specs.Verdicts.{StandsInPartitions, StandsInLog, StandsInMatching, Stands, partition_cmp, verdict_cmp}

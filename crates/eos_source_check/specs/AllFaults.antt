@@ -10,7 +10,7 @@ use Rattle.eos_claims.specs.declared.fault.OutputFault.{OutputFault}
 use Rattle.eos_commits.specs.Commits.{Group}
 use Rattle.eos_lineage.specs.declared.fault.LineageFault.{LineageFault}
 use Rattle.eos_lineage.specs.declared.fault.LineageFault.TheVariants.{Record, Output}
-use Rattle.eos_lineage.specs.EvidenceLogs.{AreLogsOf}
+use Rattle.eos_commits.specs.EvidenceLogs.{AreLogsOf}
 use Rattle.eos_faults.specs.OneInput.{OfOneInput}
 use Rattle.eos_check.specs.declared.verdict.Fault.{Fault}
 use Rattle.eos_check.specs.declared.verdict.Fault.TheVariants.{Partition as InPartition, Log, Match, Lineage}

@@ -4,7 +4,7 @@
 use Rattle.std.specs.Prelude.{◌≡◌, ℕ, List}
 use Rattle.eos_evidence.specs.Evidence.{EvidenceParts, IsEvidence}
 use Rattle.eos_fold.specs.Parts.{PartLog}
-use Rattle.eos_lineage.specs.EvidenceLogs.{AreLogsOf}
+use Rattle.eos_commits.specs.EvidenceLogs.{AreLogsOf}
 use Rattle.eos_check.specs.Verdicts.{IsVerdict}
 use Rattle.eos_kept.specs.Parts.{HaveEpochs}
 use Rattle.eos_kept.specs.Faults.{AreFaultsIn}

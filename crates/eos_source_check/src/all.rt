@@ -1,7 +1,7 @@
 //! All faults of an evidence: the list of the first phase that has one.
 
 ghost use Rattle.std.specs.Prelude.{◌≡◌, IfOk, map};
-ghost use Rattle.eos_lineage.specs.EvidenceLogs.{AreLogsOf};
+ghost use Rattle.eos_commits.specs.EvidenceLogs.{AreLogsOf};
 ghost use Rattle.eos_check.specs.declared.verdict.Fault.TheVariants.{Partition as InPartition};
 ghost use Rattle.eos_kept.specs.Faults.{AreFaultsIn};
 ghost use Rattle.eos_source_check.specs.AllFaults.{AreAllFaults};

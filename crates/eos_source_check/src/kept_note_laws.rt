@@ -8,7 +8,7 @@ ghost use Rattle.eos_evidence.specs.Evidence.{EvidenceParts, IsEvidence};
 ghost use Rattle.eos_evidence.specs.SpecFields.{SpecFields};
 ghost use Rattle.eos_evidence.specs.declared.application.App.{App};
 ghost use Rattle.eos_fold.specs.Parts.{PartLog};
-ghost use Rattle.eos_lineage.specs.EvidenceLogs.{AreLogsOf};
+ghost use Rattle.eos_commits.specs.EvidenceLogs.{AreLogsOf};
 ghost use Rattle.eos_notes.specs.Lines.{IsNotesTextBy, IsNotesText, IsAllNotesTextBy, IsAllNotesText};
 ghost use Rattle.eos_notes.specs.Notes.{AreNotesBy, AreNotes, AreAllNotesBy, AreAllNotes};
 ghost use Rattle.eos_notes.specs.declared.note.Note.{Note};

@@ -11,7 +11,7 @@ ghost use Rattle.eos_table.specs.declared.match_fault.MatchFault.{MatchFault};
 ghost use Rattle.eos_table.specs.LogFaults.{log_cmp};
 ghost use Rattle.eos_table.specs.MatchFaults.{fault_cmp};
 ghost use Rattle.eos_lineage.specs.declared.fault.LineageFault.{LineageFault};
-ghost use Rattle.eos_lineage.specs.EvidenceLogs.{AreLogsOf};
+ghost use Rattle.eos_commits.specs.EvidenceLogs.{AreLogsOf};
 ghost use Rattle.eos_check.specs.declared.verdict.Fault.{Fault};
 ghost use Rattle.eos_check.specs.declared.verdict.Fault.TheVariants.{Partition as InPartition, Log, Match, Lineage};
 ghost use Rattle.eos_check.specs.declared.verdict.Verdict.TheVariants.{No};

@@ -2,7 +2,7 @@
 
 ghost use Rattle.std.specs.Prelude.{List, IfOk};
 ghost use Rattle.eos_fold.specs.Parts.{PartLog};
-ghost use Rattle.eos_lineage.specs.EvidenceLogs.{AreLogsOf};
+ghost use Rattle.eos_commits.specs.EvidenceLogs.{AreLogsOf};
 ghost use Rattle.eos_check.specs.Verdicts.{StandsInPartitions, partition_cmp};
 ghost use Rattle.eos_base.specs.AllOf.{IsAllOf};
 ghost use Rattle.eos_source_check.specs.steps.InPartitions.{AreFaultsIn};

@@ -7,7 +7,7 @@ use Rattle.eos_claims.specs.declared.fault.OutputFault.{OutputFault}
 use Rattle.eos_commits.specs.Commits.{Group}
 use Rattle.eos_lineage.specs.declared.fault.LineageFault.{LineageFault}
 use Rattle.eos_lineage.specs.declared.fault.LineageFault.TheVariants.{Output}
-use Rattle.eos_lineage.specs.Lineage.{application_of}
+use Rattle.eos_commits.specs.Applications.{application_of}
 use Rattle.eos_lineage.specs.Faults.{named_group}
 use Rattle.eos_faults.specs.steps.OutputFaultsGathered.{AreOutputFaults}
 

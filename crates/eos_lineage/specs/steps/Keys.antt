@@ -13,11 +13,13 @@ use Rattle.eos_claims.specs.Outputs.{PlacedClaim, Application, committed_offset}
 use Rattle.eos_claims.specs.Candidates.{passes}
 use Rattle.eos_claims.specs.Faults.{place_cmp}
 use Rattle.eos_commits.specs.Visible.{is_visible}
-use Rattle.eos_lineage.specs.Lineage.{place_in, is_note}
+use Rattle.eos_commits.specs.Applications.{place_in}
+use Rattle.eos_lineage.specs.Lineage.{is_note}
 use Rattle.eos_lineage.specs.declared.books.Books.{Books}
 use Rattle.eos_lineage.specs.declared.exact.Left.{Left}
 use Rattle.eos_lineage.specs.declared.keys.Keys.{Keys}
-use Rattle.eos_lineage.specs.steps.Tables.{AreAscending, passes_of}
+use Rattle.eos_commits.specs.NameTables.{AreAscending}
+use Rattle.eos_lineage.specs.steps.Tables.{passes_of}
 use Rattle.eos_lineage.specs.steps.Walks.{inputs_at}
 
 -- ---- numbers

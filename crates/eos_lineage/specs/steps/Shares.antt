@@ -4,7 +4,7 @@ use Rattle.std.specs.List.{sum}
 use Rattle.eos_fold.specs.Parts.{part_name, PartLog}
 use Rattle.eos_claims.specs.declared.place.Place.{Place}
 use Rattle.eos_claims.specs.Outputs.{Application, committed_offset}
-use Rattle.eos_lineage.specs.Lineage.{Topic, is_part_of}
+use Rattle.eos_commits.specs.Applications.{Topic, is_part_of}
 use Rattle.eos_lineage.specs.declared.books.Books.{Books}
 use Rattle.eos_lineage.specs.declared.shares.Share.{Share}
 use Rattle.eos_lineage.specs.steps.Keys.{LeftView, below_at, HasTaken}

@@ -1,27 +1,15 @@
 -- The tables in which claims and inputs are looked up.
-use Rattle.std.specs.Prelude.{◌≡◌, ℕ, ◌-◌, ℤ, pos, Bool, false, ◌&&◌, not, nat_lt, List, [], ◌∷◌, Option, Some, None, if◌then◌else◌, int_lt, unsigned_abs}
-use Rattle.std.specs.List.{AllPairs, list_any}
+use Rattle.std.specs.Prelude.{◌≡◌, ℕ, ◌-◌, ℤ, pos, Bool, false, ◌&&◌, not, nat_lt, List, Option, Some, None, if◌then◌else◌, int_lt, unsigned_abs}
+use Rattle.std.specs.List.{list_any}
 use Rattle.std.specs.Option.{option_to_list}
 use Rattle.std.specs.Ordering.{nat_cmp, int_cmp, is_eq, then_cmp, on}
 use Rattle.std.specs.Cmp.Lexicographic.{slice_cmp}
 use Rattle.std.specs.declared.cmp.Ordering.{Ordering}
-use Rattle.std.specs.declared.cmp.Ordering.TheVariants.{Less}
 use Rattle.eos_base.specs.declared.partition_name.PartitionName.{PartitionName}
-use Rattle.eos_base.specs.PartitionNames.{name_cmp}
 use Rattle.eos_claims.specs.declared.place.Place.{Place}
 use Rattle.eos_claims.specs.Outputs.{Writer, Commit}
-use Rattle.eos_lineage.specs.declared.name.NameRef.{NameRef}
 use Rattle.eos_lineage.specs.declared.passes.Pass.{Pass}
 use Rattle.eos_lineage.specs.declared.passes.PassKey.{PassKey}
-
--- ---- the partitions' names
-
-abbrev pub plain_name : NameRef → PartitionName
-plain_name n = record { topic = n.topic.now; partition = n.partition }
-
--- each below those after it
-abbrev pub AreAscending : List PartitionName → Type 0
-AreAscending = AllPairs (λ n m. name_cmp n m ≡ Less)
 
 -- ---- what transactions passed
 
@@ -81,11 +69,3 @@ reaches k p = is_eq (key_cmp p.key k.key) && not (nat_lt p.last k.last)
 abbrev pub is_reached : List Passed → Option Writer → Place → Bool
 is_reached ps None i = false
 is_reached ps (Some w) i = list_any (reaches (record { key = key_of w i.partition; last = i.offset })) ps
-
--- ---- the committed offsets
-
--- these offsets, with that of the commit's partition set, if it is one of these names
-abbrev pub set_named : List PartitionName → Commit → List ℤ → List ℤ
-set_named [] m os = os
-set_named (n ∷ ns) m [] = []
-set_named (n ∷ ns) m (o ∷ os) = (if is_eq (name_cmp m.partition n) then m.offset else o) ∷ set_named ns m os

@@ -22,14 +22,16 @@ use Rattle.eos_claims.specs.Plain.{plain_place, plain_fault, plain_claim}
 use Rattle.eos_commits.specs.Commits.{commits_of}
 use Rattle.eos_commits.specs.Plain.{plain_commit}
 use Rattle.eos_commits.specs.Visible.{is_visible}
-use Rattle.eos_lineage.specs.Lineage.{Topic, is_part_of, place_in, claims_at, inputs_below, outputs_in}
+use Rattle.eos_commits.specs.Applications.{Topic, is_part_of, place_in, claims_at, inputs_below}
+use Rattle.eos_lineage.specs.Lineage.{outputs_in}
 use Rattle.eos_lineage.specs.declared.tables.Tables.{Tables}
 use Rattle.eos_lineage.specs.declared.tables.Known.{Known}
 use Rattle.eos_lineage.specs.declared.claims.Walk.{Walk}
 use Rattle.eos_lineage.specs.declared.claims.Output.{Output}
 use Rattle.eos_lineage.specs.declared.claims.PlacedRef.{PlacedRef}
 use Rattle.eos_lineage.specs.declared.pipeline.Pipeline.{Pipeline}
-use Rattle.eos_lineage.specs.steps.Tables.{AreAscending, passes_of}
+use Rattle.eos_commits.specs.NameTables.{AreAscending}
+use Rattle.eos_lineage.specs.steps.Tables.{passes_of}
 
 -- ---- what records give
 

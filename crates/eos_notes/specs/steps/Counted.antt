@@ -7,8 +7,8 @@ use Rattle.eos_fold.specs.declared.item.Item.{Item}
 use Rattle.eos_fold.specs.Parts.{PartLog, part_name}
 use Rattle.eos_commits.specs.Commits.{Group, Topic}
 use Rattle.eos_commits.specs.Visible.{is_visible}
-use Rattle.eos_lineage.specs.EvidenceLogs.{commits_for}
-use Rattle.eos_lineage.specs.Lineage.{is_part_of}
+use Rattle.eos_commits.specs.EvidenceLogs.{commits_for}
+use Rattle.eos_commits.specs.Applications.{is_part_of}
 use Rattle.eos_notes.specs.declared.note.Note.{Note}
 use Rattle.eos_notes.specs.CommitNotes.{past_end_at}
 

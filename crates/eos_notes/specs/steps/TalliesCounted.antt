@@ -4,7 +4,7 @@ use Rattle.eos_fold.specs.declared.item.Item.{Item}
 use Rattle.eos_fold.specs.Parts.{PartLog}
 use Rattle.eos_commits.specs.Commits.{Topic}
 use Rattle.eos_commits.specs.Visible.{is_visible}
-use Rattle.eos_lineage.specs.Lineage.{is_part_of}
+use Rattle.eos_commits.specs.Applications.{is_part_of}
 use Rattle.eos_notes.specs.declared.tally.SourceTally.{SourceTally}
 use Rattle.eos_notes.specs.GroupTallies.{is_below, source_tally_at}
 

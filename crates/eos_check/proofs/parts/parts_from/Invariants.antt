@@ -1,6 +1,6 @@
 use Rattle.std.proofs.Common.{◌≡◌, length, take}
 use Rattle.eos_evidence.specs.Evidence.{segments_of}
-use Rattle.eos_lineage.specs.EvidenceLogs.{AreLogsOf}
+use Rattle.eos_commits.specs.EvidenceLogs.{AreLogsOf}
 use Rattle.eos_kept.specs.Faults.{AreFaultsIn}
 use Rattle.eos_check.proofs.parts.parts_from.Given as goal
 

@@ -1,6 +1,6 @@
 use Rattle.std.proofs.Common.{is_some, subst}
 use Rattle.eos_evidence.specs.SpecFields.{SpecFields}
-use Rattle.eos_lineage.proofs.LogsInOrder.{in_order}
+use Rattle.eos_commits.proofs.LogsInOrder.{in_order}
 use Rattle.eos_notes.specs.Notes.{AreAllNotesBy}
 use Rattle.eos_notes.proofs.Whole.{all_are}
 use Rattle.eos_kept.specs.Faults.{first_of}

@@ -1,6 +1,6 @@
 use Rattle.std.proofs.Common.{false, is_some, subst, string_bytes}
 use Rattle.eos_evidence.specs.SpecFields.{SpecFields}
-use Rattle.eos_lineage.proofs.LogsInOrder.{in_order}
+use Rattle.eos_commits.proofs.LogsInOrder.{in_order}
 use Rattle.eos_notes.specs.Lines.{IsAllNotesTextBy}
 use Rattle.eos_notes.proofs.Whole.{all_text_is}
 use Rattle.eos_kept.specs.Faults.{first_of}

@@ -1,7 +1,7 @@
 use Rattle.std.proofs.Common.{◌∙◌, ap, subst, map, List, IsPermutation}
 use Rattle.eos_commits.specs.declared.commits.CommitRef.{CommitRef}
 use Rattle.eos_commits.specs.Plain.{plain_commit}
-use Rattle.eos_lineage.specs.Lineage.{application_of}
+use Rattle.eos_commits.specs.Applications.{application_of}
 use Rattle.eos_lineage.proofs.LineageLaw.{reads}
 use Rattle.eos_lineage.proofs.PartsLineage.{claims_same, inputs_same, apart}
 use Rattle.eos_faults.specs.declared.lent.VisibleClaim.{VisibleClaim}

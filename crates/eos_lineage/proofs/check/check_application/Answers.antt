@@ -8,12 +8,14 @@ use Rattle.eos_claims.specs.Plain.{plain_place}
 use Rattle.eos_commits.specs.declared.commits.CommitRef.{CommitRef}
 use Rattle.eos_commits.specs.Plain.{plain_commit}
 use Rattle.eos_lineage.specs.declared.claims.Output.{Output}
-use Rattle.eos_lineage.specs.Lineage.{application_of}
+use Rattle.eos_commits.specs.Applications.{application_of}
 use Rattle.eos_lineage.specs.steps.Keys.{Climbs}
-use Rattle.eos_lineage.specs.steps.Tables.{AreAscending, passes_of}
+use Rattle.eos_commits.specs.NameTables.{AreAscending}
+use Rattle.eos_lineage.specs.steps.Tables.{passes_of}
 use Rattle.eos_lineage.specs.steps.Walks.{by_place, claims_of_part, inputs_at, output_claims}
 use Rattle.eos_lineage.proofs.LineageLaw.{reads}
-use Rattle.eos_lineage.proofs.PartsLineage.{claims_same, inputs_same, names_ascend, input_named, apart, inputs_climb, sorted_inputs}
+use Rattle.eos_lineage.proofs.PartsLineage.{claims_same, inputs_same, input_named, apart, inputs_climb, sorted_inputs}
+use Rattle.eos_commits.proofs.NamesAscend.{names_ascend}
 use Rattle.eos_lineage.proofs.check.check_application.Goals as goal
 
 pub returns-in-Some : goal.returns-in-Some

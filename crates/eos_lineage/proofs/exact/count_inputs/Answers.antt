@@ -1,5 +1,5 @@
 use Rattle.std.proofs.Common.{List, [], length, sym, subst}
-use Rattle.eos_lineage.specs.Lineage.{inputs_below}
+use Rattle.eos_commits.specs.Applications.{inputs_below}
 use Rattle.eos_lineage.specs.declared.shares.Share.{Share}
 use Rattle.eos_lineage.specs.steps.Keys.{HasTaken}
 use Rattle.eos_lineage.specs.steps.Shares.{Follow, AddUp}

@@ -1,5 +1,5 @@
 use Rattle.std.proofs.Common.{List, [], ℕ, flat_map, refl, subst}
-use Rattle.eos_lineage.specs.Lineage.{inputs_below}
+use Rattle.eos_commits.specs.Applications.{inputs_below}
 use Rattle.eos_lineage.specs.steps.Keys.{plain_keys, HasTaken}
 use Rattle.eos_lineage.specs.steps.Walks.{output_claims}
 use Rattle.eos_lineage.proofs.ExactKeys.{settled}

@@ -5,7 +5,7 @@ use Rattle.std.proofs.lemmas.Bool.{ltb-true}
 use Rattle.std.specs.List.{flat_map}
 use Rattle.eos_base.specs.Members.{is_found}
 use Rattle.eos_fold.specs.Parts.{part_name}
-use Rattle.eos_lineage.specs.Lineage.{is_part_of}
+use Rattle.eos_commits.specs.Applications.{is_part_of}
 use Rattle.eos_lineage.specs.declared.exact.Left.{Left}
 use Rattle.eos_lineage.specs.steps.Keys.{plain_left, HasTaken}
 use Rattle.eos_lineage.specs.steps.Shares.{untaken, below_of, inputs_between}

@@ -1,8 +1,8 @@
 use Rattle.std.proofs.Common.{◌++◌, ◌∙◌, ap, List}
 use Rattle.eos_claims.specs.Outputs.{committed_offset}
-use Rattle.eos_lineage.specs.Lineage.{application_of}
+use Rattle.eos_commits.specs.Applications.{application_of}
 use Rattle.eos_notes.specs.declared.note.Note.{Note}
-use Rattle.eos_lineage.specs.EvidenceLogs.{commits_for}
+use Rattle.eos_commits.specs.EvidenceLogs.{commits_for}
 use Rattle.eos_notes.specs.CommitNotes.{behind_by}
 use Rattle.eos_notes.proofs.PartTables.{past_filtered, same_inputs}
 use Rattle.eos_notes.proofs.evidence_notes.take_commits.Goals as goal

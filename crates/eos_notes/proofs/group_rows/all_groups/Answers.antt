@@ -1,5 +1,5 @@
 use Rattle.std.proofs.Common.{◌≡◌, ◌++◌, ◌∷◌, [], get_or, ap, ◌∙◌}
-use Rattle.eos_lineage.proofs.PushedMore.{mapped_more}
+use Rattle.eos_commits.proofs.MappedMore.{mapped_more}
 use Rattle.eos_notes.specs.declared.tally.GroupTally.{GroupTally}
 use Rattle.eos_notes.specs.GroupTallies.{group_tally}
 use Rattle.eos_notes.proofs.group_rows.all_groups.Goals as goal

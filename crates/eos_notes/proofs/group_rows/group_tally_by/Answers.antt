@@ -1,7 +1,7 @@
 use Rattle.std.proofs.Common.{◌∙◌, map, ap}
 use Rattle.std.specs.List.{filter}
 use Rattle.eos_claims.specs.Outputs.{committed_offset}
-use Rattle.eos_lineage.specs.EvidenceLogs.{commits_for}
+use Rattle.eos_commits.specs.EvidenceLogs.{commits_for}
 use Rattle.eos_notes.specs.GroupTallies.{source_tally}
 use Rattle.eos_notes.proofs.SourceRows.{same_parts}
 use Rattle.eos_notes.proofs.group_rows.group_tally_by.Goals as goal

@@ -2,7 +2,7 @@ use Rattle.std.proofs.Common.{◌≡◌, take, map, ℤ}
 use Rattle.std.specs.List.{filter}
 use Rattle.eos_base.specs.declared.partition_name.PartitionName.{PartitionName}
 use Rattle.eos_fold.specs.Parts.{part_name}
-use Rattle.eos_lineage.specs.Lineage.{is_part_of}
+use Rattle.eos_commits.specs.Applications.{is_part_of}
 use Rattle.eos_notes.specs.GroupTallies.{source_tally}
 use Rattle.eos_notes.proofs.group_rows.source_tallies.Given as goal
 

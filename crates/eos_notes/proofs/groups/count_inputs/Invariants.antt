@@ -3,7 +3,7 @@ use Rattle.std.specs.List.{filter}
 use Rattle.eos_claims.specs.Outputs.{Application, committed_offset}
 use Rattle.eos_claims.specs.Candidates.{is_committed}
 use Rattle.eos_fold.specs.Parts.{part_name}
-use Rattle.eos_lineage.specs.Lineage.{inputs_in, parts_of}
+use Rattle.eos_commits.specs.Applications.{inputs_in, parts_of}
 use Rattle.eos_notes.proofs.groups.count_inputs.Given as goal
 
 abbrev pub invariant-loop-i : goal.invariant-loop-i

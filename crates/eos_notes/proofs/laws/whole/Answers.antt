@@ -1,4 +1,4 @@
-use Rattle.eos_lineage.proofs.LogsInOrder.{in_order}
+use Rattle.eos_commits.proofs.LogsInOrder.{in_order}
 use Rattle.eos_notes.proofs.BeforeOffset.{before_is}
 use Rattle.eos_notes.proofs.Whole.{notes_are, text_is, all_are, all_text_is}
 use Rattle.eos_notes.proofs.laws.whole.Goals as goal

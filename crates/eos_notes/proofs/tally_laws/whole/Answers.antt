@@ -1,4 +1,4 @@
-use Rattle.eos_lineage.proofs.LogsInOrder.{in_order}
+use Rattle.eos_commits.proofs.LogsInOrder.{in_order}
 use Rattle.eos_notes.proofs.TalliesWhole.{tallies_are}
 use Rattle.eos_notes.proofs.tally_laws.whole.Goals as goal
 

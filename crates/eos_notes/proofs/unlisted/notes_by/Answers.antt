@@ -3,7 +3,7 @@ use Rattle.eos_claims.specs.Outputs.{Commit}
 use Rattle.eos_commits.specs.declared.commits.CommitRef.{CommitRef}
 use Rattle.eos_commits.specs.Plain.{plain_commit}
 use Rattle.eos_commits.proofs.PushedMore.{item_has}
-use Rattle.eos_lineage.specs.EvidenceLogs.{commits_for}
+use Rattle.eos_commits.specs.EvidenceLogs.{commits_for}
 use Rattle.eos_notes.specs.CommitNotes.{AreUnlisted}
 use Rattle.eos_notes.proofs.UnlistedNotes.{one_more}
 use Rattle.eos_notes.proofs.unlisted.notes_by.Goals as goal

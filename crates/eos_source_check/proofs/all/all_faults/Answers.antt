@@ -2,7 +2,7 @@ use Rattle.std.proofs.Common.{◌≡◌, Some, None, sym, subst, rules}
 use Rattle.eos_evidence.specs.SpecFields.{SpecFields}
 use Rattle.eos_fold.specs.LeastFaults.{IsFirstFault}
 use Rattle.eos_kept.specs.Faults.{first_of}
-use Rattle.eos_lineage.proofs.LogsInOrder.{in_order}
+use Rattle.eos_commits.proofs.LogsInOrder.{in_order}
 use Rattle.eos_check.proofs.NamedFaults.{first_named}
 use Rattle.eos_source_check.specs.AllFaults.{AreAllFaults}
 use Rattle.eos_source_check.specs.LaterFaults.{AreLaterFaults}

@@ -1,5 +1,5 @@
 use Rattle.std.proofs.Common.{subst}
-use Rattle.eos_lineage.proofs.LogsInOrder.{sorted}
+use Rattle.eos_commits.proofs.LogsInOrder.{sorted}
 use Rattle.eos_source_check.specs.steps.InPartitions.{AreFaultsIn}
 use Rattle.eos_source_check.proofs.PartitionsListed.{listed}
 use Rattle.eos_source_check.proofs.partitions.all_partition_faults.Goals as goal

@@ -14,8 +14,8 @@ use Rattle.eos_base.specs.PartitionNames.{name_cmp}
 use Rattle.eos_base.proofs.NamesInOrder.{name_total, name_exact}
 use Rattle.eos_base.proofs.SortedSearch.{found_or_not}
 use Rattle.eos_base.proofs.Membership.{found_by, has_found}
-use Rattle.eos_lineage.specs.declared.name.NameRef.{NameRef}
-use Rattle.eos_lineage.specs.steps.Tables.{plain_name, AreAscending}
+use Rattle.eos_commits.specs.declared.name.NameRef.{NameRef}
+use Rattle.eos_commits.specs.NameTables.{plain_name, AreAscending}
 
 abbrev pub by_name : NameRef → NameRef → Ordering
 by_name a b = name_cmp (plain_name a) (plain_name b)

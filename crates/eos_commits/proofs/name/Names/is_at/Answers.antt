@@ -1,10 +1,10 @@
 use Rattle.std.proofs.Common.{rules, ◌≡◌, subst, length, List, ℕ, ℤ, true, w32, to_z, of_z}
 use Rattle.std.specs.Prelude.{nat_lt, slice_index_or}
 use Rattle.eos_base.specs.declared.partition_name.PartitionName.{PartitionName}
-use Rattle.eos_lineage.specs.declared.name.NameRef.{NameRef}
-use Rattle.eos_lineage.specs.steps.Tables.{plain_name}
-use Rattle.eos_lineage.proofs.NameSearch.{named_at}
-use Rattle.eos_lineage.proofs.name.Names.is_at.Goals as goal
+use Rattle.eos_commits.specs.declared.name.NameRef.{NameRef}
+use Rattle.eos_commits.specs.NameTables.{plain_name}
+use Rattle.eos_commits.proofs.NameSearch.{named_at}
+use Rattle.eos_commits.proofs.name.Names.is_at.Goals as goal
 
 abbrev name_with : List ℕ → ℤ → PartitionName
 name_with topic number = record { topic = topic; partition = number }

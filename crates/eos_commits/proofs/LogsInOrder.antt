@@ -15,7 +15,7 @@ use Rattle.eos_evidence.specs.Ends.{end_cmp}
 use Rattle.eos_evidence.specs.Evidence.{EvidenceParts, IsEvidence}
 use Rattle.eos_fold.specs.Parts.{part_name, PartLog, Rises}
 use Rattle.eos_commits.specs.Faults as commits
-use Rattle.eos_lineage.specs.EvidenceLogs.{IsLogOf, AreLogsOf}
+use Rattle.eos_commits.specs.EvidenceLogs.{IsLogOf, AreLogsOf}
 
 abbrev pub ends_of : List Partition → List End
 ends_of = map (λ p. p.end)

@@ -3,9 +3,9 @@ use Rattle.std.proofs.lemmas.Result.{IfOk-weaker}
 use Rattle.eos_claims.specs.Outputs.{committed_offset}
 use Rattle.eos_commits.specs.Plain.{plain_commit}
 use Rattle.eos_fold.specs.Parts.{part_name}
-use Rattle.eos_lineage.specs.steps.Tables.{AreAscending}
-use Rattle.eos_lineage.proofs.PartsLineage.{names_ascend}
-use Rattle.eos_lineage.proofs.offsets.committed_offsets.Goals as goal
+use Rattle.eos_commits.specs.NameTables.{AreAscending}
+use Rattle.eos_commits.proofs.NamesAscend.{names_ascend}
+use Rattle.eos_commits.proofs.offsets.committed_offsets.Goals as goal
 
 pub returns : goal.returns
 returns c =

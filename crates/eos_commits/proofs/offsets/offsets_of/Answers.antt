@@ -4,9 +4,9 @@ use Rattle.eos_base.specs.declared.partition_name.PartitionName.{PartitionName}
 use Rattle.eos_claims.specs.Outputs.{Commit, committed_offset}
 use Rattle.eos_commits.specs.declared.commits.CommitRef.{CommitRef}
 use Rattle.eos_commits.specs.Plain.{plain_commit}
-use Rattle.eos_lineage.specs.steps.Tables.{set_named}
-use Rattle.eos_lineage.proofs.CommittedTable.{set_more, taken, length_of_map, none_committed}
-use Rattle.eos_lineage.proofs.offsets.offsets_of.Goals as goal
+use Rattle.eos_commits.specs.steps.SetOffsets.{set_named}
+use Rattle.eos_commits.proofs.CommittedTable.{set_more, taken, length_of_map, none_committed}
+use Rattle.eos_commits.proofs.offsets.offsets_of.Goals as goal
 
 pub loop-commit-init : goal.loop-commit-init
 loop-commit-init c =

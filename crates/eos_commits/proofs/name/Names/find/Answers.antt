@@ -2,10 +2,10 @@ use Rattle.std.proofs.Common.{rules, ◌≡◌, ap, ◌∙◌, Some, subst, map,
 use Rattle.std.specs.Prelude.{slice_get}
 use Rattle.eos_base.specs.declared.partition_name.PartitionName.{PartitionName}
 use Rattle.eos_base.specs.Members.{Has}
-use Rattle.eos_lineage.specs.declared.name.NameRef.{NameRef}
-use Rattle.eos_lineage.specs.steps.Tables.{plain_name, AreAscending}
-use Rattle.eos_lineage.proofs.NameSearch.{found_named, not_there}
-use Rattle.eos_lineage.proofs.name.Names.find.Goals as goal
+use Rattle.eos_commits.specs.declared.name.NameRef.{NameRef}
+use Rattle.eos_commits.specs.NameTables.{plain_name, AreAscending}
+use Rattle.eos_commits.proofs.NameSearch.{found_named, not_there}
+use Rattle.eos_commits.proofs.name.Names.find.Goals as goal
 
 abbrev name_with : List ℕ → ℤ → PartitionName
 name_with topic number = record { topic = topic; partition = number }

@@ -13,8 +13,9 @@ use Rattle.eos_base.specs.PartitionNames.{name_cmp}
 use Rattle.eos_base.proofs.NamesInOrder.{name_total, name_exact}
 use Rattle.eos_base.proofs.Exact.{is_tied}
 use Rattle.eos_claims.specs.Outputs.{Commit, last_offset, committed_offset}
-use Rattle.eos_lineage.specs.steps.Tables.{AreAscending, set_named}
-use Rattle.eos_lineage.proofs.NameSearch.{get_has, pairs_head, pairs_tail}
+use Rattle.eos_commits.specs.NameTables.{AreAscending}
+use Rattle.eos_commits.specs.steps.SetOffsets.{set_named}
+use Rattle.eos_commits.proofs.NameSearch.{get_has, pairs_head, pairs_tail}
 
 abbrev is_for : PartitionName → Commit → Bool
 is_for n m = is_eq (name_cmp m.partition n)

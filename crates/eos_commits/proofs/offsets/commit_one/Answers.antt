@@ -3,8 +3,8 @@ use Rattle.std.specs.Prelude.{slice_get, slice_set}
 use Rattle.eos_base.specs.declared.partition_name.PartitionName.{PartitionName}
 use Rattle.eos_base.specs.Members.{Has}
 use Rattle.eos_commits.specs.Plain.{plain_commit}
-use Rattle.eos_lineage.proofs.CommittedTable.{set_at, set_none}
-use Rattle.eos_lineage.proofs.offsets.commit_one.Goals as goal
+use Rattle.eos_commits.proofs.CommittedTable.{set_at, set_none}
+use Rattle.eos_commits.proofs.offsets.commit_one.Goals as goal
 
 abbrev name_with : List ℕ → ℤ → PartitionName
 name_with topic number = record { topic = topic; partition = number }

@@ -3,7 +3,7 @@
 ghost use Rattle.std.specs.Prelude.{◌≡◌, true, Some, map, slice_get, IfOk, IfSome, IfNone};
 ghost use Rattle.eos_base.specs.Members.{Has};
 ghost use Rattle.eos_fold.specs.Parts.{part_name};
-ghost use Rattle.eos_lineage.specs.steps.Tables.{plain_name, AreAscending};
+ghost use Rattle.eos_commits.specs.NameTables.{plain_name, AreAscending};
 
 use eos_base::PartitionName;
 use eos_kept::Part;
@@ -19,7 +19,7 @@ struct NameRef<'a> {
 
 /// The names of partitions, which contracts see as a list.
 #[derive(Drop)]
-pub(crate) struct Names<'a> {
+pub struct Names<'a> {
     names: &'a [PartitionName],
     refs: Vec<NameRef<'a>>,
 }
@@ -27,7 +27,7 @@ pub(crate) struct Names<'a> {
 impl<'a> Model for Names<'a> {
     ghost use Rattle.std.specs.Prelude.{◌≡◌, List, map};
     ghost use Rattle.eos_base.specs.declared.partition_name.PartitionName.{PartitionName};
-    ghost use Rattle.eos_lineage.specs.steps.Tables.{plain_name};
+    ghost use Rattle.eos_commits.specs.NameTables.{plain_name};
 
     ghost Value = { List PartitionName };
 
@@ -45,13 +45,17 @@ fn is_named(name: &NameRef<'_>, topic: &[u8], partition: i32) -> bool
 
 /// A partition's index among the names, and its name.
 #[derive(Clone, Copy)]
-pub(crate) struct IndexedName<'a> {
-    pub(crate) place: usize,
-    pub(crate) name: &'a PartitionName,
+pub struct IndexedName<'a> {
+    /// Its index.
+    pub place: usize,
+    pub name: &'a PartitionName,
 }
 
 /// The name of each part, in their order.
-pub(crate) fn names_of(alloc: Global, parts: &[Part]) -> Result<Vec<PartitionName>, AllocError>
+///
+/// # Errors
+/// Only want of memory.
+pub fn names_of(alloc: Global, parts: &[Part]) -> Result<Vec<PartitionName>, AllocError>
     ensures { IfOk result (λ names. names.items ≡ map part_name parts.now) }
 {
     let mut names = Vec::new(alloc);
@@ -79,7 +83,10 @@ fn refs_of<'a>(alloc: Global, names: &'a [PartitionName]) -> Result<Vec<NameRef<
 
 impl<'a> Names<'a> {
     /// These names, in their order.
-    pub(crate) fn of(alloc: Global, names: &'a [PartitionName]) -> Result<Names<'a>, AllocError>
+    ///
+    /// # Errors
+    /// Only want of memory.
+    pub fn of(alloc: Global, names: &'a [PartitionName]) -> Result<Names<'a>, AllocError>
         ensures { IfOk result (λ n. n ≡ names.entry.now) }
     {
         let refs = refs_of(alloc, names)?;
@@ -87,14 +94,14 @@ impl<'a> Names<'a> {
     }
 
     /// The names.
-    pub(crate) fn as_slice(&self) -> &'a [PartitionName]
+    pub fn as_slice(&self) -> &'a [PartitionName]
         ensures { result.now ≡ self.now }
     {
         self.names
     }
 
     /// The partition of this name, by a binary search: where names ascend, there is none only where it isn't among them.
-    pub(crate) fn find(&self, topic: &[u8], partition: i32) -> Option<IndexedName<'a>>
+    pub fn find(&self, topic: &[u8], partition: i32) -> Option<IndexedName<'a>>
         ensures found { IfSome result (λ p. slice_get self.now p.place ≡ Some p.name.now) }
         ensures named { IfSome result (λ p. slice_get self.now p.place ≡ Some (record { topic = topic.now; partition = partition })) }
         ensures absent { IfNone result (AreAscending self.now → Has self.now (record { topic = topic.now; partition = partition }) → ⊥) }
@@ -122,7 +129,7 @@ impl<'a> Names<'a> {
 
     /// The index of this name, looked for first where the last one stood. The mark is where the last such look-up ended; it
     /// may be any.
-    pub(crate) fn index_near(&self, mark: &mut usize, topic: &[u8], partition: i32) -> Option<usize>
+    pub fn index_near(&self, mark: &mut usize, topic: &[u8], partition: i32) -> Option<usize>
         ensures { IfSome result (λ place. slice_get self.now place ≡ Some (record { topic = topic.now; partition = partition })) }
     {
         if self.is_at(*mark, topic, partition) {

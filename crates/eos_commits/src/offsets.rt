@@ -1,14 +1,15 @@
 //! The committed offset of each partition.
 
-ghost use Rattle.std.specs.Prelude.{◌≡◌, ◌<◌, map, length, slice_set, int_lt, pos, IfOk};
+ghost use Rattle.std.specs.Prelude.{◌≡◌, ◌<◌, map, length, slice_set, IfOk};
 ghost use Rattle.eos_claims.specs.Outputs.{committed_offset};
 ghost use Rattle.eos_commits.specs.Faults.{AreInOrder};
 ghost use Rattle.eos_commits.specs.Plain.{plain_commit};
 ghost use Rattle.eos_fold.specs.Parts.{part_name};
-ghost use Rattle.eos_lineage.specs.steps.Tables.{AreAscending, set_named};
+ghost use Rattle.eos_commits.specs.NameTables.{AreAscending};
+ghost use Rattle.eos_commits.specs.steps.SetOffsets.{set_named};
 
+use crate::commits::CommitRef;
 use crate::name::{Names, names_of};
-use eos_commits::CommitRef;
 use eos_kept::Part;
 use std::alloc::{AllocError, Global};
 
@@ -31,7 +32,10 @@ fn commit_one(offsets: &mut Vec<i64>, names: &Names<'_>, commit: &CommitRef<'_>)
 }
 
 /// The committed offset of each partition, in the order of the names.
-pub(crate) fn offsets_of(
+///
+/// # Errors
+/// Only want of memory.
+pub fn offsets_of(
     alloc: Global,
     names: &Names<'_>,
     commits: &[CommitRef<'_>],
@@ -61,11 +65,4 @@ pub fn committed_offsets(
     let all = names_of(alloc, parts)?;
     let names = Names::of(alloc, all.as_slice())?;
     offsets_of(alloc, &names, commits)
-}
-
-/// Whether the offset is below the committed one.
-pub(crate) fn is_before(offset: u64, committed: i64) -> bool
-    ensures { result ≡ int_lt (pos offset) committed }
-{
-    committed > 0 && offset < committed as u64
 }
