@@ -54,6 +54,10 @@ OF_THE_CHECKER = (
     ("eos_table.specs.MatchFaults", None),
     ("eos_commits.specs.Faults", None),
     ("eos_claims.specs.Faults", None),
+    ("eos_verdict.specs.LogNames", None),
+    ("eos_verdict.specs.MatchNames", None),
+    ("eos_verdict.specs.VisibleNames", None),
+    ("eos_verdict.specs.LineageNames", None),
     ("eos_lineage.specs.Faults", None),
 )
 

@@ -30,10 +30,11 @@ TABLE = {
         eos_lineage: own_place_if
         eos_picture: TxnPlace name_of_place
         eos_reading: places
-        eos_report: push_place put_place value_of_place
+        eos_report: put_place value_of_place
         eos_sought: names_place
         eos_story: place copy_place place_at place_of push_place
         eos_table: Place place_of places
+        eos_verdict: push_place
         """,
     "fold": """
         eos_commands: FOLD FoldGiven fold fold_all fold_fault fold_folder fold_folders fold_partitions fold_segment fold_writing read_fold

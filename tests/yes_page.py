@@ -49,9 +49,9 @@ def main():
     for phase, path, first in (
         ("1", "crates/eos_touch/specs/FaultNames.antt", "row_of"),
         ("1", "crates/eos_touch/specs/Pair.antt", "row_of"),
-        ("2", "crates/eos_table/specs/LogFaults.antt", "row_of"),
-        ("3", "crates/eos_table/specs/MatchFaults.antt", "row_of"),
-        ("4", "crates/eos_commits/specs/Faults.antt", "row_of"),
+        ("2", "crates/eos_verdict/specs/LogNames.antt", "row_of"),
+        ("3", "crates/eos_verdict/specs/MatchNames.antt", "row_of"),
+        ("4", "crates/eos_verdict/specs/VisibleNames.antt", "row_of"),
         ("5", "crates/eos_claims/specs/Faults.antt", "row_of"),
     ):
         with open(path, encoding="utf-8") as file:

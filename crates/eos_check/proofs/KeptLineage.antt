@@ -16,7 +16,7 @@ use Rattle.eos_fold.specs.Parts.{part_name, PartLog}
 use Rattle.eos_commits.specs.Commits.{Group, Topic, is_offsets_part, key_of, is_of, commit_under, commit_in, commits_in, commits_of}
 use Rattle.eos_commits.specs.Applications.{is_part_of, parts_of, place_in, inputs_in, claims_with, claims_at, claims_in, application_of, inputs_below}
 use Rattle.eos_lineage.specs.Lineage.{LineageKept, outputs_in, count_inputs, count_outputs}
-use Rattle.eos_lineage.specs.declared.fault.LineageFault.TheVariants.{Record, Output}
+use Rattle.eos_verdict.specs.declared.lineage_fault.LineageFault.TheVariants.{Record, Output}
 use Rattle.eos_lineage.specs.Faults.{StandsInOutputs, Stands}
 use Rattle.eos_lineage.proofs.LineageLaw.{law as lineage_law}
 use Rattle.eos_reading.specs.Wanted.{wanted_item, wanted_of, kept_log, wanted_logs}

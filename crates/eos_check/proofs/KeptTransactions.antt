@@ -5,9 +5,9 @@ use Rattle.eos_base.specs.Members.{Has}
 use Rattle.eos_evidence.specs.declared.application.App.{App}
 use Rattle.eos_fold.specs.declared.item.Item.{Item}
 use Rattle.eos_fold.specs.Parts.{PartLog}
-use Rattle.eos_table.specs.declared.log_fault.LogFault.{LogFault}
-use Rattle.eos_table.specs.declared.log_fault.LogFaultKind.{LogFaultKind}
-use Rattle.eos_table.specs.declared.log_fault.LogFaultKind.TheVariants.{BadRecord, Step, SplitId, SharedProducer, Unfinished}
+use Rattle.eos_verdict.specs.declared.log_fault.LogFault.{LogFault}
+use Rattle.eos_verdict.specs.declared.log_fault.LogFaultKind.{LogFaultKind}
+use Rattle.eos_verdict.specs.declared.log_fault.LogFaultKind.TheVariants.{BadRecord, Step, SplitId, SharedProducer, Unfinished}
 use Rattle.eos_table.specs.LogFaults.{AtStep, StandsAs, Stands}
 use Rattle.eos_table.specs.TransactionLog.{Id, State, Unskipped, nothing, flat, content_at, content_of, next_state, step_at, steps_after, state_after, steps_of, all_steps, last_of, decision_of, decisions_of, is_unfinished, IsTransactionLog, is_transaction_part, transaction_parts}
 use Rattle.eos_reading.specs.Wanted.{wanted_item, wanted_log, kept_log, wanted_logs}

@@ -9,9 +9,9 @@ use Rattle.eos_claims.specs.declared.claim.Claim.{Claim}
 use Rattle.eos_claims.specs.Headers.{claim_of}
 use Rattle.eos_fold.specs.declared.item.Item.{Item}
 use Rattle.eos_fold.specs.Parts.{part_name, PartLog}
-use Rattle.eos_commits.specs.declared.fault.VisibleFault.{VisibleFault}
-use Rattle.eos_commits.specs.declared.fault.VisibleFaultKind.{VisibleFaultKind}
-use Rattle.eos_commits.specs.declared.fault.VisibleFaultKind.TheVariants.{BadLineage, BadOffset, SplitGroup, OffsetDeleted}
+use Rattle.eos_verdict.specs.declared.visible_fault.VisibleFault.{VisibleFault}
+use Rattle.eos_verdict.specs.declared.visible_fault.VisibleFaultKind.{VisibleFaultKind}
+use Rattle.eos_verdict.specs.declared.visible_fault.VisibleFaultKind.TheVariants.{BadLineage, BadOffset, SplitGroup, OffsetDeleted}
 use Rattle.eos_commits.specs.Visible.{visible, VisibleIn}
 use Rattle.eos_commits.specs.Commits.{Group, is_offsets_part, offsets_parts, key_at, key_of, value_of, IsUnderGroup}
 use Rattle.eos_commits.specs.Kept.{is_output_part, output_parts}

@@ -8,11 +8,11 @@ use Rattle.eos_fold.specs.Parts.{PartLog}
 use Rattle.eos_table.proofs.LogOrder.{log_total, log_exact}
 use Rattle.eos_table.proofs.MatchOrder.{fault_total, fault_exact}
 use Rattle.eos_lineage.proofs.LineageLaw.{unique}
-use Rattle.eos_check.specs.declared.verdict.Counts.{Counts}
-use Rattle.eos_check.specs.declared.verdict.Fault.{Fault}
-use Rattle.eos_check.specs.declared.verdict.Fault.TheVariants.{Partition as InPartition, Log, Match, Lineage}
-use Rattle.eos_check.specs.declared.verdict.Verdict.{Verdict}
-use Rattle.eos_check.specs.declared.verdict.Verdict.TheVariants.{Yes, No}
+use Rattle.eos_verdict.specs.declared.verdict.Counts.{Counts}
+use Rattle.eos_verdict.specs.declared.verdict.Fault.{Fault}
+use Rattle.eos_verdict.specs.declared.verdict.Fault.TheVariants.{Partition as InPartition, Log, Match, Lineage}
+use Rattle.eos_verdict.specs.declared.verdict.Verdict.{Verdict}
+use Rattle.eos_verdict.specs.declared.verdict.Verdict.TheVariants.{Yes, No}
 use Rattle.eos_commits.specs.EvidenceLogs.{AreLogsOf}
 use Rattle.eos_check.specs.Verdicts.{StandsInPartitions, StandsInLog, StandsInMatching, Stands, partition_cmp, verdict_cmp, AreCounts, IsVerdictOf, IsVerdict}
 use Rattle.eos_check.proofs.GoodLaw.{law}

@@ -13,14 +13,14 @@ use Rattle.eos_table.specs.TransactionLog as table
 use Rattle.eos_table.specs.MatchFaults as matches
 use Rattle.eos_commits.specs.Faults.{AreInOrder}
 use Rattle.eos_lineage.specs.declared.counts.LineageCounts.{LineageCounts}
-use Rattle.eos_lineage.specs.declared.fault.LineageFault.{LineageFault}
+use Rattle.eos_verdict.specs.declared.lineage_fault.LineageFault.{LineageFault}
 use Rattle.eos_lineage.specs.Faults.{IsAnswer}
 use Rattle.eos_kept.specs.declared.logs.Logs.{Logs}
 use Rattle.eos_kept.specs.Faults.{first_of}
-use Rattle.eos_check.specs.declared.verdict.Fault.{Fault}
-use Rattle.eos_check.specs.declared.verdict.Fault.TheVariants.{Partition as InPartition, Log, Match, Lineage}
-use Rattle.eos_check.specs.declared.verdict.Verdict.{Verdict}
-use Rattle.eos_check.specs.declared.verdict.Verdict.TheVariants.{Yes, No}
+use Rattle.eos_verdict.specs.declared.verdict.Fault.{Fault}
+use Rattle.eos_verdict.specs.declared.verdict.Fault.TheVariants.{Partition as InPartition, Log, Match, Lineage}
+use Rattle.eos_verdict.specs.declared.verdict.Verdict.{Verdict}
+use Rattle.eos_verdict.specs.declared.verdict.Verdict.TheVariants.{Yes, No}
 use Rattle.eos_commits.specs.EvidenceLogs.{AreLogsOf}
 use Rattle.eos_check.specs.Verdicts.{StandsInPartitions, StandsInLog, StandsInMatching, partition_cmp, IsVerdictOf, IsVerdict}
 use Rattle.eos_check.specs.Judged.{IsVerdictOver, IsJudged}

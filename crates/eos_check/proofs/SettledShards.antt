@@ -6,7 +6,7 @@ use Rattle.eos_base.specs.Members.{Has}
 use Rattle.eos_base.proofs.LeastOf.{IsLeastAmong, fold_least}
 use Rattle.eos_txnlog.specs.declared.decision.Decision.{Decision}
 use Rattle.eos_fold.specs.Parts.{PartLog}
-use Rattle.eos_table.specs.declared.match_fault.MatchFault.{MatchFault}
+use Rattle.eos_verdict.specs.declared.match_fault.MatchFault.{MatchFault}
 use Rattle.eos_table.specs.MatchFaults.{fault_cmp, Stands}
 use Rattle.eos_table.specs.Shards.{IsAnswer, AreAnswers}
 use Rattle.eos_table.proofs.MatchOrder.{fault_total}

@@ -8,9 +8,9 @@ use Rattle.eos_commits.specs.Faults.{AreInOrder}
 use Rattle.eos_table.specs.LogFaults.{log_cmp}
 use Rattle.eos_table.specs.MatchFaults.{fault_cmp}
 use Rattle.eos_lineage.specs.Faults as lineage
-use Rattle.eos_check.specs.declared.verdict.Fault.TheVariants.{Partition as InPartition, Log, Match, Lineage}
-use Rattle.eos_check.specs.declared.verdict.Verdict.{Verdict}
-use Rattle.eos_check.specs.declared.verdict.Verdict.TheVariants.{Yes, No}
+use Rattle.eos_verdict.specs.declared.verdict.Fault.TheVariants.{Partition as InPartition, Log, Match, Lineage}
+use Rattle.eos_verdict.specs.declared.verdict.Verdict.{Verdict}
+use Rattle.eos_verdict.specs.declared.verdict.Verdict.TheVariants.{Yes, No}
 use Rattle.eos_check.specs.Verdicts.{StandsInLog, StandsInMatching, AreCounts}
 
 -- over logs of which none has a fault by itself: the least fault of the first phase that has one, or how much was checked

@@ -1,6 +1,6 @@
 -- The verdict: yes with three counts where the evidence is good, else no with the first fault. The faults of a phase stand only
 -- where none of the phases before does.
-use Rattle.std.specs.Prelude.{◌≡◌, ◌⊎◌, ℕ, List, [], ◌∷◌, length}
+use Rattle.std.specs.Prelude.{◌≡◌, ◌⊎◌, List, [], ◌∷◌, length}
 use Rattle.std.specs.Ordering.{on, then_cmp}
 use Rattle.std.specs.declared.cmp.Ordering.{Ordering}
 use Rattle.std.specs.declared.cmp.Ordering.TheVariants.{Less, Greater}
@@ -12,19 +12,18 @@ use Rattle.eos_evidence.specs.Evidence.{EvidenceParts}
 use Rattle.eos_touch.specs.declared.fault.PartitionFault.{PartitionFault}
 use Rattle.eos_fold.specs.Parts.{PartLog}
 use Rattle.eos_fold.specs.Standing as folds
-use Rattle.eos_touch.specs.FaultNames as fold_names
-use Rattle.eos_table.specs.declared.log_fault.LogFault.{LogFault}
-use Rattle.eos_table.specs.declared.match_fault.MatchFault.{MatchFault}
+use Rattle.eos_verdict.specs.declared.log_fault.LogFault.{LogFault}
+use Rattle.eos_verdict.specs.declared.match_fault.MatchFault.{MatchFault}
 use Rattle.eos_table.specs.TransactionLog.{transaction_parts, decisions_of}
 use Rattle.eos_table.specs.LogFaults as logs
 use Rattle.eos_table.specs.MatchFaults as matches
 use Rattle.eos_lineage.specs.Faults as lineage
 use Rattle.eos_lineage.specs.Lineage.{count_inputs, count_outputs}
-use Rattle.eos_check.specs.declared.verdict.Fault.{Fault}
-use Rattle.eos_check.specs.declared.verdict.Fault.TheVariants.{Partition as InPartition, Log, Match, Lineage}
-use Rattle.eos_check.specs.declared.verdict.Verdict.{Verdict}
-use Rattle.eos_check.specs.declared.verdict.Verdict.TheVariants.{Yes, No}
-use Rattle.eos_check.specs.declared.verdict.Counts.{Counts}
+use Rattle.eos_verdict.specs.declared.verdict.Fault.{Fault}
+use Rattle.eos_verdict.specs.declared.verdict.Fault.TheVariants.{Partition as InPartition, Log, Match, Lineage}
+use Rattle.eos_verdict.specs.declared.verdict.Verdict.{Verdict}
+use Rattle.eos_verdict.specs.declared.verdict.Verdict.TheVariants.{Yes, No}
+use Rattle.eos_verdict.specs.declared.verdict.Counts.{Counts}
 use Rattle.eos_commits.specs.EvidenceLogs.{AreLogsOf}
 use Rattle.eos_check.specs.Good.{Good}
 
@@ -95,23 +94,3 @@ IsVerdictOf e ls of (No fault) = IsLeast (verdict_cmp e.spec.apps) (Stands e ls 
 
 abbrev pub IsVerdict : EvidenceParts → Verdict → Type 0
 IsVerdict e verdict = (logs : List PartLog) × (of : AreLogsOf e.partitions logs) × IsVerdictOf e logs of verdict
-
--- ---- the names of faults
-
-abbrev pub phase_of : Fault → ℕ
-phase_of (InPartition f) = 1
-phase_of (Log f) = 2
-phase_of (Match f) = 3
-phase_of (Lineage f) = lineage.phase_of f
-
-abbrev pub number_of : Fault → ℕ
-number_of (InPartition f) = fold_names.number_of f.kind
-number_of (Log f) = logs.number_of f.kind
-number_of (Match f) = matches.number_of f.kind
-number_of (Lineage f) = lineage.number_of f
-
-abbrev pub name_of : Fault → List ℕ
-name_of (InPartition f) = fold_names.name_of f.kind
-name_of (Log f) = logs.name_of f.kind
-name_of (Match f) = matches.name_of f.kind
-name_of (Lineage f) = lineage.name_of f

@@ -9,11 +9,11 @@ ghost use Rattle.eos_lineage.specs.Faults.{IsAnswer};
 ghost use Rattle.eos_kept.specs.Faults.{first_of};
 
 use crate::phases::{copied, transactions};
-use crate::verdict::{Counts, Fault, Verdict};
 use eos_base::Workers;
 use eos_evidence::Spec;
 use eos_kept::Logs;
 use eos_lineage::{LineageCounts, LineageFault, check_lineage_by};
+use eos_verdict::{Counts, Fault, Verdict};
 use std::alloc::{AllocError, Global};
 use std::thread::Threads;
 

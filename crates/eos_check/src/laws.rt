@@ -8,7 +8,7 @@ ghost use Rattle.eos_check.specs.Good.{Good};
 ghost use Rattle.eos_check.specs.PartitionRules.{AreTexts, KeepsRules};
 ghost use Rattle.eos_check.specs.Verdicts.{Stands, IsVerdict};
 ghost use Rattle.eos_check.specs.VisibleRecords.{VisibleByMarkers};
-ghost use Rattle.eos_check.specs.declared.verdict.Verdict.{Verdict};
+ghost use Rattle.eos_verdict.specs.declared.verdict.Verdict.{Verdict};
 ghost use Rattle.eos_evidence.specs.Evidence.{EvidenceParts, IsEvidence};
 ghost use Rattle.eos_evidence.specs.declared.partition.Partition.{Partition};
 ghost use Rattle.eos_evidence.specs.declared.segment.Segment.{Segment};

@@ -13,10 +13,9 @@ mod phases;
 mod pool;
 mod shards;
 mod tied_evidence;
-mod verdict;
 mod workers;
 
+pub use eos_verdict::{Counts, Fault, Verdict};
 pub use judging::judge;
 pub use one_thread::{check_one, verdict_of};
-pub use verdict::{Counts, Fault, Verdict};
 pub use workers::{check, logs_of};

@@ -5,12 +5,12 @@ ghost use Rattle.eos_check.specs.steps.Phases.{IsMatched, IsTransacted};
 ghost use Rattle.eos_commits.specs.Faults.{AreInOrder};
 
 use crate::shards::least_fault;
-use crate::verdict::Fault;
 use eos_base::Workers;
 use eos_fold::PartitionFault;
 use eos_kept::Part;
 use eos_table::{TxnTable, txn_log};
 use eos_txnlog::Decision;
+use eos_verdict::Fault;
 use std::alloc::{AllocError, Global};
 use std::thread::Threads;
 

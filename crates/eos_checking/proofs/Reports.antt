@@ -1,7 +1,7 @@
 -- A report by logs, whole or kept ones, is one on the evidence whose logs they are.
 use Rattle.std.proofs.Common.{◌≡◌, Bool, List, Option, Some, None, is_some, sym, subst, ◌∙◌}
-use Rattle.eos_check.specs.declared.verdict.Fault.{Fault}
-use Rattle.eos_check.specs.declared.verdict.Verdict.{Verdict}
+use Rattle.eos_verdict.specs.declared.verdict.Fault.{Fault}
+use Rattle.eos_verdict.specs.declared.verdict.Verdict.{Verdict}
 use Rattle.eos_check.specs.Verdicts.{IsVerdict}
 use Rattle.eos_evidence.specs.Evidence.{EvidenceParts}
 use Rattle.eos_evidence.specs.SpecFields.{SpecFields}

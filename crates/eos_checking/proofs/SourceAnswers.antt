@@ -1,8 +1,8 @@
 -- What is told of kept logs is true of the evidence whose logs they are kept of.
 use Rattle.std.proofs.Common.{◌≡◌, ℕ, Bool, true, false, List, [], Option, is_some, refl, sym, subst, string_bytes}
-use Rattle.eos_check.specs.declared.verdict.Fault.{Fault}
-use Rattle.eos_check.specs.declared.verdict.Verdict.{Verdict}
-use Rattle.eos_check.specs.declared.verdict.Verdict.TheVariants.{Yes, No}
+use Rattle.eos_verdict.specs.declared.verdict.Fault.{Fault}
+use Rattle.eos_verdict.specs.declared.verdict.Verdict.{Verdict}
+use Rattle.eos_verdict.specs.declared.verdict.Verdict.TheVariants.{Yes, No}
 use Rattle.eos_commits.specs.Faults.{AreInOrder}
 use Rattle.eos_ending.specs.declared.subject.Subject.{Subject}
 use Rattle.eos_evidence.specs.declared.partition.Partition.{Partition}

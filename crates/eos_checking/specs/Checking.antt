@@ -1,8 +1,8 @@
 -- What `check` prints for an evidence: the line of its verdict, or the lines of all its faults, as text or as JSON.
 use Rattle.std.specs.Prelude.{◌≡◌, ℕ, List, [], ◌∷◌, ◌++◌, Bool, true, false, Option, None, Some, option_map, string_bytes, if◌then◌else◌}
-use Rattle.eos_check.specs.declared.verdict.Fault.{Fault}
-use Rattle.eos_check.specs.declared.verdict.Verdict.{Verdict}
-use Rattle.eos_check.specs.declared.verdict.Verdict.TheVariants.{Yes, No}
+use Rattle.eos_verdict.specs.declared.verdict.Fault.{Fault}
+use Rattle.eos_verdict.specs.declared.verdict.Verdict.{Verdict}
+use Rattle.eos_verdict.specs.declared.verdict.Verdict.TheVariants.{Yes, No}
 use Rattle.eos_check.specs.Verdicts.{IsVerdict}
 use Rattle.eos_evidence.specs.Evidence.{EvidenceParts}
 use Rattle.eos_fold.specs.Parts.{PartLog}
@@ -13,7 +13,7 @@ use Rattle.eos_report.specs.Pages.{IsPageText}
 use Rattle.eos_report.specs.Reports.{IsReportText}
 use Rattle.eos_notes.specs.declared.note.Note.{Note}
 use Rattle.eos_notes.specs.Notes.{AreAllNotes}
-use Rattle.eos_report.specs.VerdictTexts.{verdict_line}
+use Rattle.eos_verdict.specs.VerdictTexts.{verdict_line}
 use Rattle.eos_report.specs.FaultLists.{list_text}
 use Rattle.eos_notes.specs.declared.tally.Tallies.{Tallies}
 use Rattle.eos_notes.specs.Tallies.{AreTallies}

@@ -2,7 +2,7 @@
 //! out of.
 
 ghost use Rattle.std.specs.Prelude.{◌≡◌, ◌==◌, true, not, List, length, IfOk, IfErr, is_some, string_bytes, alloc_error};
-ghost use Rattle.eos_check.specs.declared.verdict.Fault.{Fault};
+ghost use Rattle.eos_verdict.specs.declared.verdict.Fault.{Fault};
 ghost use Rattle.eos_commits.specs.Faults.{AreInOrder};
 ghost use Rattle.eos_notes.specs.Lines.{IsAllNotesTextBy};
 ghost use Rattle.eos_notes.specs.Notes.{AreAllNotesBy};

@@ -17,9 +17,9 @@ use Rattle.eos_claims.proofs.ClaimTests.{less_is, is_less_int}
 use Rattle.eos_evidence.specs.declared.application.App.{App}
 use Rattle.eos_evidence.specs.SpecFields.{outputs_of}
 use Rattle.eos_fold.specs.Parts.{part_name, PartLog}
-use Rattle.eos_commits.specs.declared.fault.VisibleFault.{VisibleFault}
-use Rattle.eos_commits.specs.declared.fault.VisibleFaultKind.{VisibleFaultKind}
-use Rattle.eos_commits.specs.declared.fault.VisibleFaultKind.TheVariants.{SplitGroup}
+use Rattle.eos_verdict.specs.declared.visible_fault.VisibleFault.{VisibleFault}
+use Rattle.eos_verdict.specs.declared.visible_fault.VisibleFaultKind.{VisibleFaultKind}
+use Rattle.eos_verdict.specs.declared.visible_fault.VisibleFaultKind.TheVariants.{SplitGroup}
 use Rattle.eos_commits.specs.Commits.{Group, is_same, is_offsets_part}
 use Rattle.eos_commits.specs.Faults.{visible_cmp, Stands, AreInOrder}
 use Rattle.eos_commits.specs.steps.Roles.{RoleSets, source_cmp, sources_of}

@@ -4,7 +4,7 @@ use Rattle.eos_fold.specs.declared.item.Item.{Item}
 use Rattle.eos_claims.specs.Headers.{claim_of}
 use Rattle.eos_fold.specs.Parts.{PartLog}
 use Rattle.eos_commits.specs.declared.judge.PartRole.{PartRole}
-use Rattle.eos_commits.specs.declared.fault.VisibleFaultKind.TheVariants.{BadLineage}
+use Rattle.eos_verdict.specs.declared.visible_fault.VisibleFaultKind.TheVariants.{BadLineage}
 use Rattle.eos_commits.specs.Commits.{key_of, value_of}
 use Rattle.eos_commits.specs.Visible.{is_visible}
 use Rattle.eos_commits.specs.steps.Roles.{RoleSets}

@@ -8,11 +8,11 @@ use Rattle.eos_base.specs.PartitionNames.{name_cmp}
 use Rattle.eos_base.proofs.RecordFaults.{record_exact}
 use Rattle.eos_base.proofs.Exact.{then_parts, nat_exact}
 use Rattle.eos_base.proofs.NamesInOrder.{name_exact}
-use Rattle.eos_commits.specs.declared.fault.VisibleFaultKind.{VisibleFaultKind}
-use Rattle.eos_commits.specs.declared.fault.VisibleFaultKind.TheVariants.{BadLineage, BadOffset, SplitGroup, OffsetDeleted}
-use Rattle.eos_commits.specs.contracts.fault.VisibleFaultKindOrd.TheImpl.{ghosts as kind_ghosts}
-use Rattle.eos_commits.specs.contracts.fault.VisibleFaultKindOrd.TheImpl.Laws.{total-law as kind-total}
-use Rattle.eos_commits.specs.contracts.fault.VisibleFaultOrd.TheImpl.Laws.{total-law}
+use Rattle.eos_verdict.specs.declared.visible_fault.VisibleFaultKind.{VisibleFaultKind}
+use Rattle.eos_verdict.specs.declared.visible_fault.VisibleFaultKind.TheVariants.{BadLineage, BadOffset, SplitGroup, OffsetDeleted}
+use Rattle.eos_verdict.specs.contracts.visible_fault.VisibleFaultKindOrd.TheImpl.{ghosts as kind_ghosts}
+use Rattle.eos_verdict.specs.contracts.visible_fault.VisibleFaultKindOrd.TheImpl.Laws.{total-law as kind-total}
+use Rattle.eos_verdict.specs.contracts.visible_fault.VisibleFaultOrd.TheImpl.Laws.{total-law}
 use Rattle.eos_commits.specs.Faults.{visible_cmp}
 
 abbrev pub kind_cmp : VisibleFaultKind → VisibleFaultKind → Ordering

@@ -1,5 +1,5 @@
 -- The faults of visible records, what each of them says, and their order.
-use Rattle.std.specs.Prelude.{◌≡◌, ◌⊎◌, ◌<ℤ◌, ℕ, Some, None, Err, List, codes}
+use Rattle.std.specs.Prelude.{◌≡◌, ◌⊎◌, ◌<ℤ◌, Some, None, Err, List}
 use Rattle.std.specs.List.{AllPairs}
 use Rattle.std.specs.declared.cmp.Ordering.{Ordering}
 use Rattle.std.specs.declared.cmp.Ordering.TheVariants.{Less}
@@ -10,10 +10,10 @@ use Rattle.eos_evidence.specs.declared.application.App.{App}
 use Rattle.eos_fold.specs.declared.item.Item.{Item}
 use Rattle.eos_fold.specs.Parts.{part_name, PartLog, Rises}
 use Rattle.eos_claims.specs.Headers.{claim_of}
-use Rattle.eos_commits.specs.declared.fault.VisibleFault.{VisibleFault}
-use Rattle.eos_commits.specs.declared.fault.VisibleFaultKind.{VisibleFaultKind}
-use Rattle.eos_commits.specs.declared.fault.VisibleFaultKind.TheVariants.{BadLineage, BadOffset, SplitGroup, OffsetDeleted}
-use Rattle.eos_commits.specs.contracts.fault.VisibleFaultOrd.TheImpl.{ghosts}
+use Rattle.eos_verdict.specs.declared.visible_fault.VisibleFault.{VisibleFault}
+use Rattle.eos_verdict.specs.declared.visible_fault.VisibleFaultKind.{VisibleFaultKind}
+use Rattle.eos_verdict.specs.declared.visible_fault.VisibleFaultKind.TheVariants.{BadLineage, BadOffset, SplitGroup, OffsetDeleted}
+use Rattle.eos_verdict.specs.contracts.visible_fault.VisibleFaultOrd.TheImpl.{ghosts}
 use Rattle.eos_commits.specs.Visible.{VisibleIn}
 use Rattle.eos_commits.specs.Commits.{Group, offsets_parts, key_of, value_of, IsUnderGroup}
 use Rattle.eos_commits.specs.Kept.{output_parts}
@@ -50,19 +50,6 @@ Stands apps parts fault = StandsAs apps parts fault fault.kind
 -- refusal that is printed
 abbrev pub visible_cmp : VisibleFault → VisibleFault → Ordering
 visible_cmp = ghosts.cmp
-
--- number and name, a line for each kind
-abbrev pub row_of : VisibleFaultKind → ℕ × List ℕ
-row_of BadLineage = (1, codes "BadLineage")
-row_of (BadOffset refusal) = (2, codes "BadOffset")
-row_of SplitGroup = (3, codes "SplitGroup")
-row_of OffsetDeleted = (4, codes "OffsetDeleted")
-
-abbrev pub number_of : VisibleFaultKind → ℕ
-number_of kind = (row_of kind).0
-
-abbrev pub name_of : VisibleFaultKind → List ℕ
-name_of kind = (row_of kind).1
 
 -- ---- the partitions in order
 

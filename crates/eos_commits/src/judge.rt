@@ -9,7 +9,6 @@ ghost use Rattle.eos_commits.specs.Faults.{Stands, visible_cmp, AreInOrder};
 ghost use Rattle.eos_commits.specs.steps.Settled.{is_settled as is_settled_part, AreSettled};
 ghost use Rattle.eos_commits.specs.steps.Walks.{Homes as HomeList, is_none, kind_of_value as value_kind, judge_key, judge_visible as judge_record, judge_item as judge_any, role_of as role_in, walk_part, named, walk, Meets, plain_found};
 
-use crate::fault::{VisibleFault, VisibleFaultKind};
 use crate::homes::Homes;
 use crate::roles::Roles;
 use crate::settled::are_settled;
@@ -18,6 +17,7 @@ use eos_base::{PartitionName, RecordFault, Workers};
 use eos_evidence::App;
 use eos_kept::{ItemRef, Part};
 use eos_offsets::{view_key, view_value};
+use eos_verdict::{VisibleFault, VisibleFaultKind};
 use std::alloc::{AllocError, Global};
 use std::thread::Threads;
 

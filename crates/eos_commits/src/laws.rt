@@ -4,7 +4,7 @@ ghost use Rattle.std.specs.Prelude.{◌≡◌, ◌↔◌, List};
 ghost use Rattle.eos_base.specs.Least.{NoneStands, IsLeast};
 ghost use Rattle.eos_evidence.specs.declared.application.App.{App};
 ghost use Rattle.eos_fold.specs.Parts.{PartLog};
-ghost use Rattle.eos_commits.specs.declared.fault.VisibleFault.{VisibleFault};
+ghost use Rattle.eos_verdict.specs.declared.visible_fault.VisibleFault.{VisibleFault};
 ghost use Rattle.eos_commits.specs.Kept.{RecordsKept};
 ghost use Rattle.eos_commits.specs.Faults.{visible_cmp, Stands};
 

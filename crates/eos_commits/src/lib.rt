@@ -6,7 +6,6 @@
 #![tactic(auto)]
 
 mod commits;
-mod fault;
 mod homes;
 mod judge;
 pub mod laws;
@@ -18,7 +17,7 @@ mod table;
 mod visible;
 
 pub use commits::{CommitRef, last_committed};
-pub use fault::{VisibleFault, VisibleFaultKind};
+pub use eos_verdict::{VisibleFault, VisibleFaultKind};
 pub use judge::{least_visible_fault, least_visible_fault_by};
 pub use name::{IndexedName, Names, names_of};
 pub use offsets::{committed_offsets, offsets_of};

@@ -1,6 +1,6 @@
 -- A picture of what is kept of an evidence's logs is one of the evidence.
 use Rattle.std.proofs.Common.{ℕ, List, Option, subst}
-use Rattle.eos_check.specs.declared.verdict.Fault.{Fault}
+use Rattle.eos_verdict.specs.declared.verdict.Fault.{Fault}
 use Rattle.eos_evidence.specs.Evidence.{EvidenceParts}
 use Rattle.eos_fold.specs.Parts.{PartLog}
 use Rattle.eos_picture.specs.Marks.{HasTrueRows}

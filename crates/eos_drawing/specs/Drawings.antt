@@ -3,17 +3,17 @@ use Rattle.std.specs.Prelude.{◌≡◌, ◌≤◌, ◌<◌, ◌⊎◌, ◌-◌,
 use Rattle.std.specs.Fmt.{decimal}
 use Rattle.std.specs.Str.{trim_end}
 use Rattle.eos_source_check.specs.AllFaults.{AreAllFaults}
-use Rattle.eos_check.specs.declared.verdict.Counts.{Counts}
-use Rattle.eos_check.specs.declared.verdict.Fault.{Fault}
-use Rattle.eos_check.specs.declared.verdict.Verdict.{Verdict}
-use Rattle.eos_check.specs.declared.verdict.Verdict.TheVariants.{Yes, No}
+use Rattle.eos_verdict.specs.declared.verdict.Counts.{Counts}
+use Rattle.eos_verdict.specs.declared.verdict.Fault.{Fault}
+use Rattle.eos_verdict.specs.declared.verdict.Verdict.{Verdict}
+use Rattle.eos_verdict.specs.declared.verdict.Verdict.TheVariants.{Yes, No}
 use Rattle.eos_check.specs.Verdicts.{IsVerdict}
 use Rattle.eos_evidence.specs.declared.partition.Partition.{Partition}
 use Rattle.eos_evidence.specs.Evidence.{EvidenceParts}
 use Rattle.eos_fold.specs.Parts.{PartLog}
 use Rattle.eos_commits.specs.EvidenceLogs.{AreLogsOf}
 use Rattle.eos_picture.specs.declared.mark.Picture.{Picture}
-use Rattle.eos_report.specs.VerdictTexts.{verdict_line, status_of}
+use Rattle.eos_verdict.specs.VerdictTexts.{verdict_line, status_of}
 use Rattle.eos_source.specs.Said.{Known}
 use Rattle.eos_drawing.specs.declared.drawing.Drawing.{Drawing}
 use Rattle.eos_drawing.specs.declared.when.Times.{Times}

@@ -1,7 +1,7 @@
 -- A picture of an evidence: what it shows stands in the evidence's logs, nothing of the transactions that are shown is left out, and
 -- these are the ones around the fault.
 use Rattle.std.specs.Prelude.{ℕ, List, Option}
-use Rattle.eos_check.specs.declared.verdict.Fault.{Fault}
+use Rattle.eos_verdict.specs.declared.verdict.Fault.{Fault}
 use Rattle.eos_evidence.specs.Evidence.{EvidenceParts}
 use Rattle.eos_fold.specs.Parts.{PartLog}
 use Rattle.eos_commits.specs.EvidenceLogs.{AreLogsOf}

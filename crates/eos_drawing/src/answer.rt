@@ -3,24 +3,23 @@
 ghost use Rattle.std.specs.Prelude.{◌≡◌, ◌<◌, ◌-◌, length, Some, IfOk, IfErr, slice_get, string_bytes};
 ghost use Rattle.std.specs.Option.{option_copied};
 ghost use Rattle.std.specs.Str.{trim_end};
-ghost use Rattle.eos_check.specs.declared.verdict.Fault.{Fault as AFault};
-ghost use Rattle.eos_check.specs.declared.verdict.Verdict.TheVariants.{No};
+ghost use Rattle.eos_verdict.specs.declared.verdict.Fault.{Fault as AFault};
+ghost use Rattle.eos_verdict.specs.declared.verdict.Verdict.TheVariants.{No};
 ghost use Rattle.eos_drawing.specs.Drawings.{fault_of, drew_line};
 ghost use Rattle.eos_drawing.specs.Folders.{is_later, HoldsAsRead};
 ghost use Rattle.eos_drawing.specs.steps.Answers.{IsAnswer, IsText, IsDrawnBy, IsAnswerBy};
-ghost use Rattle.eos_report.specs.VerdictTexts.{verdict_line, status_of};
+ghost use Rattle.eos_verdict.specs.VerdictTexts.{verdict_line, status_of};
 ghost use Rattle.eos_source.specs.Said.{known_by};
 
 use crate::picture::judged_picture;
 use crate::when::{Times, times_of_rows};
 use crate::{drawing_of, svg_text};
 use eos_base::Workers;
-use eos_check::{Fault, Verdict};
 use eos_evidence::Evidence;
 use eos_picture::Picture;
-use eos_report::verdict_line;
 use eos_source::Source;
 use eos_source_check::{Judged, Unlisted, all_source_faults, judge_source};
+use eos_verdict::{Fault, Verdict, verdict_line};
 use std::alloc::{AllocError, Global};
 use std::thread::Threads;
 

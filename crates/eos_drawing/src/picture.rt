@@ -6,10 +6,10 @@ ghost use Rattle.eos_drawing.specs.Pictures.{IsPictureOf};
 ghost use Rattle.eos_evidence.specs.Evidence.{EvidenceParts};
 ghost use Rattle.eos_source_check.specs.Judged.{IsJudgedFor};
 
-use eos_check::Fault;
 use eos_evidence::Spec;
 use eos_picture::{Picture, picture_of};
 use eos_source_check::Judged;
+use eos_verdict::Fault;
 use std::alloc::{AllocError, Global};
 
 /// The picture around a fault, with so many transactions on each side, or without a fault of the first transactions, twice so many.

@@ -1,8 +1,8 @@
 //! The pictures around the first faults of a folder, as texts. The folder is read once for all of them.
 
 ghost use Rattle.std.specs.Prelude.{◌≡◌, ◌≤◌, ◌<◌, map, Some, IfOk, string_bytes};
-ghost use Rattle.eos_check.specs.declared.verdict.Fault.{Fault as AFault};
-ghost use Rattle.eos_check.specs.declared.verdict.Verdict.TheVariants.{No};
+ghost use Rattle.eos_verdict.specs.declared.verdict.Fault.{Fault as AFault};
+ghost use Rattle.eos_verdict.specs.declared.verdict.Verdict.TheVariants.{No};
 ghost use Rattle.eos_disk.specs.Shapes.{AreKnown};
 ghost use Rattle.eos_evidence.specs.Evidence.{EvidenceParts, segments_of};
 ghost use Rattle.eos_source.specs.Said.{known_by};
@@ -13,10 +13,10 @@ ghost use Rattle.eos_drawing.specs.steps.Pictures.{IsTextBy, AreTextsBy, ArePict
 
 use crate::answer::{Pieces, Wanted, drawn_of};
 use eos_base::Workers;
-use eos_check::{Fault, Verdict};
 use eos_disk::{Disk, FolderFault, Shape, Watch, read_shape};
 use eos_source::{FolderSource, Source};
 use eos_source_check::{Judged, Unlisted, all_source_faults, judge_source};
+use eos_verdict::{Fault, Verdict};
 use std::alloc::Global;
 use std::thread::Threads;
 

@@ -1,9 +1,9 @@
 -- Verdicts that name faults.
 use Rattle.std.proofs.Common.{◌≡◌, ℕ, suc, zero, ◌<◌, List, [], ◌∷◌, length, map, get_or, subst, arith}
-use Rattle.eos_check.specs.declared.verdict.Counts.{Counts}
-use Rattle.eos_check.specs.declared.verdict.Fault.{Fault}
-use Rattle.eos_check.specs.declared.verdict.Verdict.{Verdict}
-use Rattle.eos_check.specs.declared.verdict.Verdict.TheVariants.{Yes, No}
+use Rattle.eos_verdict.specs.declared.verdict.Counts.{Counts}
+use Rattle.eos_verdict.specs.declared.verdict.Fault.{Fault}
+use Rattle.eos_verdict.specs.declared.verdict.Verdict.{Verdict}
+use Rattle.eos_verdict.specs.declared.verdict.Verdict.TheVariants.{Yes, No}
 
 pub no_yes : (faults : List Fault) (told : List Verdict) (i : ℕ) (v : Verdict) (counts : Counts) → told ≡ map No faults → i < length told → v ≡ get_or told i v → v ≡ Yes counts → ⊥
 no_yes faults told i v counts are lt is e = go faults i v (subst (λ (ts : List Verdict). i < length ts) are lt) (subst (λ (ts : List Verdict). v ≡ get_or ts i v) are is) e

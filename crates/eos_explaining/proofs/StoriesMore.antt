@@ -1,7 +1,7 @@
 -- Stories that are told one after the other.
 use Rattle.std.proofs.Common.{◌≡◌, ◌<◌, ◌+◌, ℕ, zero, suc, List, [], ◌∷◌, ◌++◌, Option, None, Some, String, Global, length, map, take, slice_get, refl, sym, ap, ◌∙◌, subst, arith, string_bytes}
 use Rattle.std.proofs.lemmas.List.{map-append}
-use Rattle.eos_check.specs.declared.verdict.Verdict.{Verdict}
+use Rattle.eos_verdict.specs.declared.verdict.Verdict.{Verdict}
 use Rattle.eos_disk.specs.Entries.{Entry}
 use Rattle.eos_disk.specs.Reading.{IsReadWhole}
 use Rattle.eos_disk.specs.Shapes.{AreKnown}

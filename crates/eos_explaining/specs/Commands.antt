@@ -7,7 +7,7 @@ use Rattle.std.specs.List.{list_any}
 use Rattle.eos_base.specs.declared.partition_name.PartitionName.{PartitionName}
 use Rattle.eos_claims.specs.declared.place.Place.{Place}
 use Rattle.eos_sought.specs.declared.partition.Placed.{Placed}
-use Rattle.eos_report.specs.FaultTexts.{name_text}
+use Rattle.eos_verdict.specs.FaultTexts.{name_text}
 use Rattle.eos_story.specs.declared.row.Row.{Row}
 use Rattle.eos_story.specs.declared.row.Row.TheVariants as rows
 use Rattle.eos_explaining.specs.Places.{is_there}

@@ -1,9 +1,9 @@
 -- How many faults there are, and of which kinds, by their numbers.
 use Rattle.std.specs.Prelude.{ℕ, List, [], ◌∷◌, ◌++◌, Option, Some, None, Bool, false, ◌==◌, codes, length, filter, flat_map, if◌then◌else◌}
 use Rattle.std.specs.Fmt.{decimal}
-use Rattle.eos_check.specs.declared.verdict.Verdict.{Verdict}
-use Rattle.eos_check.specs.declared.verdict.Verdict.TheVariants.{Yes, No}
-use Rattle.eos_check.specs.Verdicts.{phase_of, number_of, name_of}
+use Rattle.eos_verdict.specs.declared.verdict.Verdict.{Verdict}
+use Rattle.eos_verdict.specs.declared.verdict.Verdict.TheVariants.{Yes, No}
+use Rattle.eos_verdict.specs.VerdictNames.{phase_of, number_of, name_of}
 
 abbrev pub has_number : ℕ → Verdict → Bool
 has_number n (Yes counts) = false

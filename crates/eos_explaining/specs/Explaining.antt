@@ -4,18 +4,19 @@ use Rattle.std.specs.Fmt.{decimal}
 use Rattle.std.specs.Option.{option_copied}
 use Rattle.eos_text.specs.Catalogue.{IsPageOf}
 use Rattle.eos_text.specs.declared.page.Page.{Page}
-use Rattle.eos_check.specs.declared.verdict.Fault.{Fault}
-use Rattle.eos_check.specs.declared.verdict.Verdict.{Verdict}
-use Rattle.eos_check.specs.declared.verdict.Verdict.TheVariants.{Yes, No}
-use Rattle.eos_check.specs.Verdicts.{IsVerdict, phase_of, number_of}
-use Rattle.eos_check.specs.declared.verdict.Counts.{Counts}
+use Rattle.eos_verdict.specs.declared.verdict.Fault.{Fault}
+use Rattle.eos_verdict.specs.declared.verdict.Verdict.{Verdict}
+use Rattle.eos_verdict.specs.declared.verdict.Verdict.TheVariants.{Yes, No}
+use Rattle.eos_check.specs.Verdicts.{IsVerdict}
+use Rattle.eos_verdict.specs.VerdictNames.{phase_of, number_of}
+use Rattle.eos_verdict.specs.declared.verdict.Counts.{Counts}
 use Rattle.eos_evidence.specs.Evidence.{EvidenceParts}
 use Rattle.eos_fold.specs.Parts.{PartLog}
 use Rattle.eos_commits.specs.EvidenceLogs.{AreLogsOf}
 use Rattle.eos_source_check.specs.AllFaults.{AreAllFaults}
 use Rattle.eos_notes.specs.Lines.{IsAllNotesText}
 use Rattle.eos_notes.specs.Notes.{AreAllNotes}
-use Rattle.eos_report.specs.VerdictTexts.{verdict_line}
+use Rattle.eos_verdict.specs.VerdictTexts.{verdict_line}
 use Rattle.eos_story.specs.PlaceOfFault.{place_in}
 use Rattle.eos_story.specs.declared.row.Row.{Row}
 use Rattle.eos_story.specs.Rows.{IsTrue}

@@ -1,6 +1,6 @@
 -- The stories of the first faults of an evidence, in the order of the list of all.
 use Rattle.std.specs.Prelude.{⊤, ℕ, List, [], ◌∷◌, take}
-use Rattle.eos_check.specs.declared.verdict.Verdict.{Verdict}
+use Rattle.eos_verdict.specs.declared.verdict.Verdict.{Verdict}
 use Rattle.eos_evidence.specs.Evidence.{EvidenceParts}
 use Rattle.eos_fold.specs.Parts.{PartLog}
 use Rattle.eos_explaining.specs.Explaining.{AreTold, IsStoryOf}

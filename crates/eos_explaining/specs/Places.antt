@@ -6,7 +6,7 @@ use Rattle.eos_base.specs.declared.partition_name.PartitionName.{PartitionName}
 use Rattle.eos_claims.specs.declared.place.Place.{Place}
 use Rattle.eos_commits.specs.Commits.{is_same}
 use Rattle.eos_sought.specs.declared.partition.Placed.{Placed}
-use Rattle.eos_report.specs.FaultTexts.{name_text}
+use Rattle.eos_verdict.specs.FaultTexts.{name_text}
 
 abbrev pub at_text : PartitionName → ℕ → List ℕ
 at_text name offset = name_text name.topic name.partition ++ (codes ":" ++ decimal offset)

@@ -5,7 +5,7 @@ use Rattle.eos_base.specs.declared.partition_name.PartitionName.{PartitionName}
 use Rattle.eos_claims.specs.declared.place.Place.{Place}
 use Rattle.eos_sought.specs.declared.partition.Placed.{Placed}
 use Rattle.eos_sought.specs.declared.wanted.Wanted.{Wanted}
-use Rattle.eos_report.specs.FaultTexts.{name_text}
+use Rattle.eos_verdict.specs.FaultTexts.{name_text}
 use Rattle.eos_story.specs.declared.headers.HeaderName.{HeaderName}
 use Rattle.eos_story.specs.declared.headers.HeaderName.TheVariants.{Topic, Partition, Offset, Output, Of}
 use Rattle.eos_story.specs.declared.row.Row.{Row}

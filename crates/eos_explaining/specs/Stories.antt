@@ -5,7 +5,7 @@ use Rattle.eos_text.specs.declared.page.Page.{Page}
 use Rattle.eos_claims.specs.declared.place.Place.{Place}
 use Rattle.eos_notes.specs.declared.note.Note.{Note}
 use Rattle.eos_notes.specs.Texts.{note_lines}
-use Rattle.eos_report.specs.VerdictTexts.{verdict_line}
+use Rattle.eos_verdict.specs.VerdictTexts.{verdict_line}
 use Rattle.eos_story.specs.declared.row.Row.{Row}
 use Rattle.eos_explaining.specs.declared.whole_story.Story.{Story}
 use Rattle.eos_explaining.specs.Counts.{counts_line}

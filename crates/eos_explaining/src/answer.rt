@@ -1,7 +1,7 @@
 //! The answer of `explain` for an evidence.
 
 ghost use Rattle.std.specs.Prelude.{◌≡◌, ◌<◌, false, IfOk, OnErr, Err, map, string_bytes};
-ghost use Rattle.eos_check.specs.declared.verdict.Verdict.TheVariants.{No};
+ghost use Rattle.eos_verdict.specs.declared.verdict.Verdict.TheVariants.{No};
 ghost use Rattle.eos_check.specs.Verdicts.{IsVerdict};
 ghost use Rattle.eos_check.specs.WholeLogs.{AreWholeLogs};
 ghost use Rattle.eos_evidence.specs.Evidence.{IsEvidence};
@@ -18,10 +18,10 @@ use eos_evidence::Evidence;
 use eos_kept::Logs;
 use eos_notes::{Note, all_lines, all_notes};
 use eos_reading::EpochEntry;
-use eos_report::verdict_line;
 use eos_source::{KeptLogs, MemorySource, kept_logs};
 use eos_source_check::all_faults;
 use eos_story::Scene;
+use eos_verdict::verdict_line;
 use std::alloc::{AllocError, Global};
 use std::sync::Wait;
 use std::thread::Threads;

@@ -3,7 +3,7 @@
 ghost use Rattle.std.specs.Prelude.{◌≡◌, ◌++◌, OnOk, string_bytes};
 ghost use Rattle.std.specs.Option.{option_copied};
 ghost use Rattle.eos_commits.specs.Commits.{is_same as is_same_text};
-ghost use Rattle.eos_report.specs.FaultTexts.{name_text};
+ghost use Rattle.eos_verdict.specs.FaultTexts.{name_text};
 ghost use Rattle.eos_text.specs.Adding.{Adds};
 ghost use Rattle.eos_explaining.specs.Places.{at_text, spot_text, is_there, mark_of};
 

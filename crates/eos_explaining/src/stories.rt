@@ -1,8 +1,8 @@
 //! The stories of the first faults of an evidence, which is read once for all of them.
 
 ghost use Rattle.std.specs.Prelude.{◌≡◌, ◌≤◌, length, map, take, List, IfOk, string_bytes};
-ghost use Rattle.eos_check.specs.declared.verdict.Fault.{Fault as AFault};
-ghost use Rattle.eos_check.specs.declared.verdict.Verdict.TheVariants.{No};
+ghost use Rattle.eos_verdict.specs.declared.verdict.Fault.{Fault as AFault};
+ghost use Rattle.eos_verdict.specs.declared.verdict.Verdict.TheVariants.{No};
 ghost use Rattle.eos_check.specs.WholeLogs.{AreWholeLogs};
 ghost use Rattle.eos_disk.specs.Reading.{IsReadWhole};
 ghost use Rattle.eos_disk.specs.Shapes.{AreKnown};

@@ -3,9 +3,9 @@
 ghost use Rattle.std.specs.Prelude.{◌≡◌, ◌<◌, length, map, List, IfOk, Some, slice_get, string_bytes};
 ghost use Rattle.std.specs.Option.{option_copied};
 ghost use Rattle.eos_text.specs.Catalogue.{IsPageOf};
-ghost use Rattle.eos_check.specs.declared.verdict.Fault.{Fault as AFault};
-ghost use Rattle.eos_check.specs.declared.verdict.Verdict.{Verdict as Named};
-ghost use Rattle.eos_check.specs.declared.verdict.Verdict.TheVariants.{No};
+ghost use Rattle.eos_verdict.specs.declared.verdict.Fault.{Fault as AFault};
+ghost use Rattle.eos_verdict.specs.declared.verdict.Verdict.{Verdict as Named};
+ghost use Rattle.eos_verdict.specs.declared.verdict.Verdict.TheVariants.{No};
 ghost use Rattle.eos_commits.specs.EvidenceLogs.{AreLogsOf};
 ghost use Rattle.eos_notes.specs.Notes.{AreAllNotes};
 ghost use Rattle.eos_explaining.specs.Explaining.{IsStoryOf, code_of};

@@ -4,7 +4,7 @@ ghost use Rattle.std.specs.Prelude.{◌≡◌, OnOk, IfOk, take, string_bytes};
 ghost use Rattle.std.specs.Option.{option_copied};
 ghost use Rattle.eos_text.specs.Adding.{Adds};
 ghost use Rattle.eos_notes.specs.Texts.{note_lines as lines_of};
-ghost use Rattle.eos_report.specs.VerdictTexts.{verdict_line};
+ghost use Rattle.eos_verdict.specs.VerdictTexts.{verdict_line};
 ghost use Rattle.eos_explaining.specs.Lines.{AreAmong, AreDistinct};
 ghost use Rattle.eos_explaining.specs.Stories.{lines_of_first, lines_of_story, rows_text, rest_text, page_text, notes_text, next_text, story_text};
 
@@ -19,9 +19,9 @@ use eos_check::Verdict;
 use eos_claims::Place;
 use eos_evidence::Partition;
 use eos_notes::{Note, note_lines};
-use eos_report::verdict_line;
 use eos_story::Row;
 use eos_text::{Page, push_text};
+use eos_verdict::verdict_line;
 use std::alloc::{AllocError, Global};
 
 /// How many lines of rows there are at most, and of notes.

@@ -22,8 +22,8 @@ use Rattle.eos_claims.specs.Faults as outputs
 use Rattle.eos_claims.proofs.ClaimOrder.{nat_less, nat_tied, then_equal}
 use Rattle.eos_commits.specs.Commits.{Group}
 use Rattle.eos_commits.specs.Faults as records
-use Rattle.eos_lineage.specs.declared.fault.LineageFault.{LineageFault}
-use Rattle.eos_lineage.specs.declared.fault.LineageFault.TheVariants.{Record, Output}
+use Rattle.eos_verdict.specs.declared.lineage_fault.LineageFault.{LineageFault}
+use Rattle.eos_verdict.specs.declared.lineage_fault.LineageFault.TheVariants.{Record, Output}
 use Rattle.eos_commits.specs.Applications.{application_of}
 use Rattle.eos_lineage.specs.Faults.{named_group, Stands, place_of, lineage_cmp}
 use Rattle.eos_lineage.proofs.FirstFault.{place_is}

@@ -10,9 +10,9 @@ use Rattle.eos_base.specs.Members.{Has}
 use Rattle.eos_base.proofs.Membership.{append_cases, append_left, append_right, if_has, has_if, only}
 use Rattle.eos_base.proofs.NamesInOrder.{name_total}
 use Rattle.eos_fold.specs.Parts.{part_name}
-use Rattle.eos_commits.specs.declared.fault.VisibleFault.{VisibleFault}
-use Rattle.eos_commits.specs.declared.fault.VisibleFaultKind.{VisibleFaultKind}
-use Rattle.eos_commits.specs.declared.fault.VisibleFaultKind.TheVariants.{BadLineage, BadOffset, SplitGroup, OffsetDeleted}
+use Rattle.eos_verdict.specs.declared.visible_fault.VisibleFault.{VisibleFault}
+use Rattle.eos_verdict.specs.declared.visible_fault.VisibleFaultKind.{VisibleFaultKind}
+use Rattle.eos_verdict.specs.declared.visible_fault.VisibleFaultKind.TheVariants.{BadLineage, BadOffset, SplitGroup, OffsetDeleted}
 use Rattle.eos_commits.specs.Faults.{visible_cmp}
 use Rattle.eos_commits.proofs.Spots.{Spot, fault_of}
 use Rattle.eos_commits.proofs.VisibleOrder.{kind_cmp}

@@ -5,8 +5,8 @@ use Rattle.std.proofs.lemmas.List.Sums.{fold-append}
 use Rattle.eos_fold.specs.declared.item.Item.{Item}
 use Rattle.eos_fold.specs.Parts.{PartLog}
 use Rattle.eos_claims.specs.Headers.{claim_of}
-use Rattle.eos_commits.specs.declared.fault.VisibleFault.{VisibleFault}
-use Rattle.eos_commits.specs.declared.fault.VisibleFaultKind.TheVariants.{BadLineage}
+use Rattle.eos_verdict.specs.declared.visible_fault.VisibleFault.{VisibleFault}
+use Rattle.eos_verdict.specs.declared.visible_fault.VisibleFaultKind.TheVariants.{BadLineage}
 use Rattle.eos_commits.specs.Visible.{is_visible}
 use Rattle.eos_commits.specs.steps.Roles.{RoleSets}
 use Rattle.eos_commits.specs.steps.Walks.{is_none}

@@ -7,8 +7,8 @@ use Rattle.eos_evidence.specs.declared.application.App.{App}
 use Rattle.eos_fold.specs.Parts.{PartLog}
 use Rattle.eos_claims.specs.declared.fault.OutputFault.{OutputFault}
 use Rattle.eos_commits.specs.Commits.{Group}
-use Rattle.eos_lineage.specs.declared.fault.LineageFault.{LineageFault}
-use Rattle.eos_lineage.specs.declared.fault.LineageFault.TheVariants.{Record, Output}
+use Rattle.eos_verdict.specs.declared.lineage_fault.LineageFault.{LineageFault}
+use Rattle.eos_verdict.specs.declared.lineage_fault.LineageFault.TheVariants.{Record, Output}
 use Rattle.eos_lineage.specs.Faults as lineage
 use Rattle.eos_faults.specs.OneInput.{OfOneInput}
 

@@ -19,10 +19,10 @@ use Rattle.eos_claims.specs.declared.fault.OutputFault.{OutputFault}
 use Rattle.eos_claims.specs.Faults as outputs
 use Rattle.eos_claims.proofs.ClaimOrder.{nat_less}
 use Rattle.eos_commits.specs.Commits.{Group, is_same}
-use Rattle.eos_commits.specs.declared.fault.VisibleFault.{VisibleFault}
+use Rattle.eos_verdict.specs.declared.visible_fault.VisibleFault.{VisibleFault}
 use Rattle.eos_commits.specs.Faults as records
-use Rattle.eos_lineage.specs.declared.fault.LineageFault.{LineageFault}
-use Rattle.eos_lineage.specs.declared.fault.LineageFault.TheVariants.{Record, Output}
+use Rattle.eos_verdict.specs.declared.lineage_fault.LineageFault.{LineageFault}
+use Rattle.eos_verdict.specs.declared.lineage_fault.LineageFault.TheVariants.{Record, Output}
 use Rattle.eos_commits.specs.Applications.{application_of, inputs_below}
 use Rattle.eos_lineage.specs.Lineage.{count_inputs, count_outputs, outputs_in}
 use Rattle.eos_lineage.specs.Faults.{named_group, Stands, place_of_group, place_of, lineage_cmp, IsAnswer}

@@ -25,11 +25,11 @@ use Rattle.eos_claims.proofs.FaultOrder.{fault_total, fault_exact}
 use Rattle.eos_commits.specs.Visible.{visible}
 use Rattle.eos_commits.specs.Commits.{Group, is_same}
 use Rattle.eos_commits.specs.Faults as records
-use Rattle.eos_commits.specs.declared.fault.VisibleFault.{VisibleFault}
+use Rattle.eos_verdict.specs.declared.visible_fault.VisibleFault.{VisibleFault}
 use Rattle.eos_commits.proofs.RecordsLaw.{law as records_law}
 use Rattle.eos_commits.proofs.VisibleOrder.{visible_total, visible_exact}
-use Rattle.eos_lineage.specs.declared.fault.LineageFault.{LineageFault}
-use Rattle.eos_lineage.specs.declared.fault.LineageFault.TheVariants.{Record, Output}
+use Rattle.eos_verdict.specs.declared.lineage_fault.LineageFault.{LineageFault}
+use Rattle.eos_verdict.specs.declared.lineage_fault.LineageFault.TheVariants.{Record, Output}
 use Rattle.eos_commits.specs.Applications.{is_part_of, parts_of, place_in, inputs_in, application_of}
 use Rattle.eos_lineage.specs.Lineage.{ExactOutputs, LineageKept}
 use Rattle.eos_lineage.specs.Faults.{named_group, StandsInOutputs, Stands, place_of_group, place_of, lineage_cmp}

@@ -12,8 +12,8 @@ use Rattle.eos_claims.specs.Faults as outputs
 use Rattle.eos_commits.specs.Commits.{Group, is_same}
 use Rattle.eos_commits.specs.Faults as records
 use Rattle.eos_lineage.specs.declared.counts.LineageCounts.{LineageCounts}
-use Rattle.eos_lineage.specs.declared.fault.LineageFault.{LineageFault}
-use Rattle.eos_lineage.specs.declared.fault.LineageFault.TheVariants.{Record, Output}
+use Rattle.eos_verdict.specs.declared.lineage_fault.LineageFault.{LineageFault}
+use Rattle.eos_verdict.specs.declared.lineage_fault.LineageFault.TheVariants.{Record, Output}
 use Rattle.eos_commits.specs.Applications.{application_of}
 use Rattle.eos_lineage.specs.Lineage.{count_inputs, count_outputs}
 
@@ -50,20 +50,6 @@ lineage_cmp apps (Record f) (Record g) = records.visible_cmp f g
 lineage_cmp apps (Record f) (Output h g) = Less
 lineage_cmp apps (Output h f) (Record g) = Greater
 lineage_cmp apps (Output h f) (Output i g) = ordering_then (nat_cmp (place_of apps h) (place_of apps i)) (outputs.fault_cmp f g)
-
--- ---- their names
-
-abbrev pub phase_of : LineageFault → ℕ
-phase_of (Record f) = 4
-phase_of (Output group f) = 5
-
-abbrev pub number_of : LineageFault → ℕ
-number_of (Record f) = records.number_of f.kind
-number_of (Output group f) = outputs.number_of f.kind
-
-abbrev pub name_of : LineageFault → List ℕ
-name_of (Record f) = records.name_of f.kind
-name_of (Output group f) = outputs.name_of f.kind
 
 -- ---- the answer
 

@@ -15,7 +15,6 @@ use crate::books::Books;
 use crate::claims::outputs_of;
 use crate::counts::LineageCounts;
 use crate::exact::exact_tally;
-use crate::fault::LineageFault;
 use crate::inputs::inputs_of;
 use crate::logs::Logs;
 use crate::passes::PassTable;
@@ -25,6 +24,7 @@ use eos_base::Workers;
 use eos_commits::{CommitTable, least_visible_fault_by, names_of, offsets_of};
 use eos_evidence::{App, GroupId, Spec};
 use eos_kept::Part;
+use eos_verdict::LineageFault;
 use std::alloc::{AllocError, Global};
 use std::thread::Threads;
 

@@ -5,7 +5,7 @@ ghost use Rattle.eos_base.specs.Least.{NoneStands, IsLeast};
 ghost use Rattle.eos_evidence.specs.declared.application.App.{App};
 ghost use Rattle.eos_fold.specs.Parts.{PartLog};
 ghost use Rattle.eos_claims.specs.declared.fault.OutputFault.{OutputFault};
-ghost use Rattle.eos_lineage.specs.declared.fault.LineageFault.{LineageFault};
+ghost use Rattle.eos_verdict.specs.declared.lineage_fault.LineageFault.{LineageFault};
 ghost use Rattle.eos_lineage.specs.Lineage.{ExactOutputs, LineageKept};
 ghost use Rattle.eos_lineage.specs.Faults.{StandsInOutputs, Stands, lineage_cmp};
 

@@ -9,9 +9,9 @@ use Rattle.eos_fold.specs.declared.item.Item.{Item}
 use Rattle.eos_fold.specs.Parts.{PartLog, part_name}
 use Rattle.eos_table.specs.TransactionLog.{is_transaction_part}
 use Rattle.eos_claims.specs.declared.place.Place.{Place}
-use Rattle.eos_lineage.specs.declared.fault.LineageFault.TheVariants as lineage
-use Rattle.eos_check.specs.declared.verdict.Fault.{Fault}
-use Rattle.eos_check.specs.declared.verdict.Fault.TheVariants as faults
+use Rattle.eos_verdict.specs.declared.lineage_fault.LineageFault.TheVariants as lineage
+use Rattle.eos_verdict.specs.declared.verdict.Fault.{Fault}
+use Rattle.eos_verdict.specs.declared.verdict.Fault.TheVariants as faults
 use Rattle.eos_picture.specs.declared.mark.Column.{Column}
 use Rattle.eos_picture.specs.declared.mark.Picture.{Picture}
 use Rattle.eos_picture.specs.Order.{IsOrderOf, near_to}

@@ -3,7 +3,7 @@
 //! In each of them `apps` are any applications and `logs` any logs; what is kept of these is `wanted_logs apps logs`.
 
 ghost use Rattle.std.specs.Prelude.{◌↔◌, ℕ, List, Option};
-ghost use Rattle.eos_check.specs.declared.verdict.Fault.{Fault};
+ghost use Rattle.eos_verdict.specs.declared.verdict.Fault.{Fault};
 ghost use Rattle.eos_evidence.specs.declared.application.App.{App};
 ghost use Rattle.eos_fold.specs.Parts.{PartLog};
 ghost use Rattle.eos_picture.specs.Marks.{HasTrueRows};

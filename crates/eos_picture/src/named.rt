@@ -6,10 +6,9 @@ ghost use Rattle.eos_picture.specs.Window.{name_at, name_of as name_of_fault_lin
 
 use bytes::Bytes;
 use eos_base::PartitionName;
-use eos_check::Fault;
 use eos_claims::Place;
 use eos_fold::PartitionFault;
-use eos_lineage::LineageFault;
+use eos_verdict::{Fault, LineageFault};
 use std::alloc::{AllocError, Global};
 
 pub(crate) fn clone_name(name: &PartitionName) -> Result<PartitionName, AllocError>

@@ -16,9 +16,9 @@ use crate::rows::rows_of;
 use crate::spots::{Spot, spots_of};
 use crate::transactions::columns_of;
 use crate::window::middle_of;
-use eos_check::Fault;
 use eos_evidence::App;
 use eos_kept::Part;
+use eos_verdict::Fault;
 use std::alloc::{AllocError, Global};
 
 fn spots_in(

@@ -13,13 +13,12 @@ use crate::outputs::{app_of, push_output};
 use crate::window::is_named;
 use eos_base::PartitionName;
 use eos_batch::Kind;
-use eos_check::Fault;
 use eos_claims::{OutputFault, OutputKind};
 use eos_evidence::App;
 use eos_fold::{PartitionFault, PartitionFaultKind};
 use eos_kept::Part;
-use eos_lineage::LineageFault;
 use eos_table::{MatchFault, MatchFaultKind};
+use eos_verdict::{Fault, LineageFault};
 use std::alloc::{AllocError, Global};
 
 /// A place of a fault, in one partition.

@@ -10,22 +10,22 @@ use Rattle.eos_batch.specs.Names as batches
 use Rattle.eos_base.specs.declared.partition_name.PartitionName.{PartitionName}
 use Rattle.eos_touch.specs.declared.fault.PartitionFaultKind.{PartitionFaultKind}
 use Rattle.eos_touch.specs.declared.fault.PartitionFaultKind.TheVariants.{BadBatch, Gap, Pair, End, OpenAtEnd}
-use Rattle.eos_table.specs.declared.log_fault.LogFaultKind.{LogFaultKind}
-use Rattle.eos_table.specs.declared.log_fault.LogFaultKind.TheVariants.{BadRecord, Step}
-use Rattle.eos_table.specs.LogFaults.{id_of}
-use Rattle.eos_table.specs.declared.match_fault.MatchFault.{MatchFault}
+use Rattle.eos_verdict.specs.declared.log_fault.LogFaultKind.{LogFaultKind}
+use Rattle.eos_verdict.specs.declared.log_fault.LogFaultKind.TheVariants.{BadRecord, Step}
+use Rattle.eos_verdict.specs.LogNames.{id_of}
+use Rattle.eos_verdict.specs.declared.match_fault.MatchFault.{MatchFault}
 use Rattle.eos_txnlog.specs.Names.{step_fault_name}
 use Rattle.eos_claims.specs.declared.fault.OutputFault.{OutputFault}
 use Rattle.eos_claims.specs.declared.place.Place.{Place}
-use Rattle.eos_commits.specs.declared.fault.VisibleFaultKind.{VisibleFaultKind}
-use Rattle.eos_commits.specs.declared.fault.VisibleFaultKind.TheVariants.{BadOffset}
-use Rattle.eos_lineage.specs.declared.fault.LineageFault.TheVariants as lineage
-use Rattle.eos_check.specs.declared.verdict.Fault.{Fault}
-use Rattle.eos_check.specs.declared.verdict.Fault.TheVariants.{Partition as InPartition, Log, Match, Lineage}
-use Rattle.eos_check.specs.declared.verdict.Verdict.{Verdict}
-use Rattle.eos_check.specs.declared.verdict.Verdict.TheVariants.{Yes, No}
-use Rattle.eos_check.specs.Verdicts.{phase_of, name_of}
-use Rattle.eos_report.specs.FaultTexts.{fault_text}
+use Rattle.eos_verdict.specs.declared.visible_fault.VisibleFaultKind.{VisibleFaultKind}
+use Rattle.eos_verdict.specs.declared.visible_fault.VisibleFaultKind.TheVariants.{BadOffset}
+use Rattle.eos_verdict.specs.declared.lineage_fault.LineageFault.TheVariants as lineage
+use Rattle.eos_verdict.specs.declared.verdict.Fault.{Fault}
+use Rattle.eos_verdict.specs.declared.verdict.Fault.TheVariants.{Partition as InPartition, Log, Match, Lineage}
+use Rattle.eos_verdict.specs.declared.verdict.Verdict.{Verdict}
+use Rattle.eos_verdict.specs.declared.verdict.Verdict.TheVariants.{Yes, No}
+use Rattle.eos_verdict.specs.VerdictNames.{phase_of, name_of}
+use Rattle.eos_verdict.specs.FaultTexts.{fault_text}
 use Rattle.eos_report.specs.Values.{count, integer, text_value, with_partition, with_place, place_value}
 use Rattle.eos_report.specs.FaultValues.{with_details, with_partition_fault, with_id, with_refusal, with_log_fault, with_found, with_match_fault, with_visible_details, with_visible_fault, with_claim, with_group, with_output_fault, with_where, code_of, fault_value}
 use Rattle.eos_report.specs.Lines.{line_value}

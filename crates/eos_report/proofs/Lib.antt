@@ -1,4 +1,3 @@
-pub mod Labelled
 pub mod Depths
 mod Floats
 mod Fresh

@@ -3,9 +3,9 @@
 use Rattle.std.specs.Prelude.{ℕ, List, ◌++◌, codes, length}
 use Rattle.std.specs.List.{flat_map}
 use Rattle.std.specs.Fmt.{decimal}
-use Rattle.eos_check.specs.declared.verdict.Fault.{Fault}
-use Rattle.eos_check.specs.declared.verdict.Verdict.TheVariants.{No}
-use Rattle.eos_report.specs.VerdictTexts.{verdict_line}
+use Rattle.eos_verdict.specs.declared.verdict.Fault.{Fault}
+use Rattle.eos_verdict.specs.declared.verdict.Verdict.TheVariants.{No}
+use Rattle.eos_verdict.specs.VerdictTexts.{verdict_line}
 
 unfoldable pub fault_line : List ℕ → Fault → List ℕ
 fault_line about f = about ++ verdict_line (No f)

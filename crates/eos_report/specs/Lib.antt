@@ -1,6 +1,5 @@
 pub mod Faults
-pub mod FaultTexts
-pub mod VerdictTexts
+pub mod VerdictValues
 pub mod FaultLists
 pub mod Values
 pub mod FaultValues

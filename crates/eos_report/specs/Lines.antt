@@ -3,11 +3,11 @@ use Rattle.std.specs.Prelude.{ℕ, List, ◌++◌, codes, length}
 use Rattle.std.specs.List.{flat_map}
 use Rattle.serde_json.specs.Data.{Data, object, member, no_members, put, string, number, unsigned}
 use Rattle.serde_json.specs.Written.{compact_text}
-use Rattle.eos_check.specs.declared.verdict.Fault.{Fault}
-use Rattle.eos_check.specs.declared.verdict.Verdict.{Verdict}
-use Rattle.eos_check.specs.declared.verdict.Verdict.TheVariants.{Yes, No}
-use Rattle.eos_report.specs.FaultTexts.{fault_text}
-use Rattle.eos_report.specs.VerdictTexts.{verdict_value}
+use Rattle.eos_verdict.specs.declared.verdict.Fault.{Fault}
+use Rattle.eos_verdict.specs.declared.verdict.Verdict.{Verdict}
+use Rattle.eos_verdict.specs.declared.verdict.Verdict.TheVariants.{Yes, No}
+use Rattle.eos_verdict.specs.FaultTexts.{fault_text}
+use Rattle.eos_report.specs.VerdictValues.{verdict_value}
 use Rattle.eos_report.specs.FaultValues.{fault_value}
 
 -- ---- a verdict

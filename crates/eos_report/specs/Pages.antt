@@ -4,15 +4,15 @@
 use Rattle.std.specs.Prelude.{◌≡◌, ℕ, ℤ, List, [], ◌∷◌, ◌++◌, length, take, Bool, ◌&&◌, ◌==◌, codes, Option, None, Some}
 use Rattle.std.specs.List.{flat_map, filter, find}
 use Rattle.std.specs.Fmt.{decimal}
-use Rattle.eos_check.specs.declared.verdict.Counts.{Counts}
-use Rattle.eos_check.specs.declared.verdict.Fault.{Fault}
-use Rattle.eos_check.specs.declared.verdict.Verdict.{Verdict}
-use Rattle.eos_check.specs.declared.verdict.Verdict.TheVariants.{Yes, No}
-use Rattle.eos_check.specs.Verdicts.{phase_of, number_of, name_of}
+use Rattle.eos_verdict.specs.declared.verdict.Counts.{Counts}
+use Rattle.eos_verdict.specs.declared.verdict.Fault.{Fault}
+use Rattle.eos_verdict.specs.declared.verdict.Verdict.{Verdict}
+use Rattle.eos_verdict.specs.declared.verdict.Verdict.TheVariants.{Yes, No}
+use Rattle.eos_verdict.specs.VerdictNames.{phase_of, number_of, name_of}
 use Rattle.eos_notes.specs.declared.note.Note.{Note}
 use Rattle.eos_notes.specs.Texts.{note_lines}
-use Rattle.eos_report.specs.FaultTexts.{fault_text}
-use Rattle.eos_report.specs.VerdictTexts.{verdict_line}
+use Rattle.eos_verdict.specs.FaultTexts.{fault_text}
+use Rattle.eos_verdict.specs.VerdictTexts.{verdict_line}
 use Rattle.eos_notes.specs.declared.tally.Tallies.{Tallies}
 use Rattle.eos_report.specs.declared.about.About.{About}
 use Rattle.eos_report.specs.Html.{html}

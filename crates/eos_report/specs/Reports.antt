@@ -7,10 +7,10 @@ use Rattle.serde_json.specs.Data.{Data, Members, no_members, Items, object, arra
 use Rattle.serde_json.specs.Find.{of_float}
 use Rattle.serde_json.specs.Read.{read}
 use Rattle.serde_json.specs.View.{items_of}
-use Rattle.eos_check.specs.declared.verdict.Counts.{Counts}
-use Rattle.eos_check.specs.declared.verdict.Fault.{Fault}
-use Rattle.eos_check.specs.declared.verdict.Verdict.{Verdict}
-use Rattle.eos_check.specs.declared.verdict.Verdict.TheVariants.{Yes, No}
+use Rattle.eos_verdict.specs.declared.verdict.Counts.{Counts}
+use Rattle.eos_verdict.specs.declared.verdict.Fault.{Fault}
+use Rattle.eos_verdict.specs.declared.verdict.Verdict.{Verdict}
+use Rattle.eos_verdict.specs.declared.verdict.Verdict.TheVariants.{Yes, No}
 use Rattle.eos_notes.specs.declared.note.Note.{Note}
 use Rattle.eos_report.specs.declared.about.About.{About}
 use Rattle.eos_report.specs.declared.about.Times.{Times}

@@ -8,13 +8,12 @@ ghost use Rattle.eos_report.specs.FaultValues.{with_details, with_partition_faul
 use crate::object::Object;
 use bytes::Bytes;
 use eos_base::PartitionName;
-use eos_check::Fault;
 use eos_claims::{OutputFault, Place};
 use eos_commits::{VisibleFault, VisibleFaultKind};
 use eos_evidence::GroupId;
 use eos_fold::{PartitionFault, PartitionFaultKind};
-use eos_lineage::LineageFault;
 use eos_table::{LogFault, LogFaultKind, MatchFault};
+use eos_verdict::{Fault, LineageFault};
 use serde_json::Value;
 use std::alloc::{AllocError, Global};
 

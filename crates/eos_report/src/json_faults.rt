@@ -9,7 +9,7 @@ ghost use Rattle.eos_report.specs.steps.Texts.{array_end, IsRead, AreRead};
 ghost use Rattle.eos_report.specs.steps.Frames.{with_faults, Opens, IsFilled};
 
 use crate::json_fault::value_of_fault;
-use eos_check::{Fault, Verdict};
+use eos_verdict::{Fault, Verdict};
 use std::alloc::{AllocError, Global};
 
 /// What stands before the first fault in the report of a no, whose members stand in the order of their names.

@@ -4,7 +4,6 @@
 
 mod about;
 mod fault;
-mod fault_text;
 mod html;
 mod json_fault;
 mod json_faults;
@@ -20,10 +19,11 @@ mod tally;
 mod tellings;
 
 pub use about::{About, Times};
+pub use eos_verdict::{text_of_fault, verdict_line};
 pub use fault::ReportFault;
 pub use json_report::{Findings, report_text};
 pub use line::{fault_list_json, json_line};
 pub use listing::fault_list;
 pub use page::page_text;
-pub use report::{no_json, text_of_fault, verdict_json, verdict_line, write_verdict};
+pub use report::{no_json, verdict_json, write_verdict};
 pub use tellings::{Telling, Told, end_page};

@@ -11,8 +11,8 @@ ghost use Rattle.eos_report.specs.steps.Fields.{with_fields};
 use crate::json_fault::value_of_fault;
 use crate::object::Object;
 use crate::{no_json, verdict_json};
-use eos_check::{Fault, Verdict};
 use eos_text::push_text;
+use eos_verdict::{Fault, Verdict};
 use serde_json::{Value, json};
 use std::alloc::{AllocError, Global};
 

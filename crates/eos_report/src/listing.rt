@@ -5,9 +5,8 @@ ghost use Rattle.std.specs.List.{flat_map};
 ghost use Rattle.eos_text.specs.Adding.{Adds};
 ghost use Rattle.eos_report.specs.FaultLists.{fault_line, count_line, list_text};
 
-use crate::report::push_no;
-use eos_check::Fault;
 use eos_text::{push_text, push_value};
+use eos_verdict::{Fault, push_no};
 use std::alloc::{AllocError, Global};
 
 /// For each fault the line of the verdict that names it, and then the line `faults=N`, each after the words on which folder it

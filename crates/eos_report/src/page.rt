@@ -9,10 +9,9 @@ use crate::about::About;
 use crate::html::push_html;
 use crate::json_report::Findings;
 use crate::page_tables::{push_groups, push_partitions};
-use crate::{text_of_fault, verdict_line};
-use eos_check::{Counts, Fault, Verdict};
 use eos_notes::{Note, note_lines};
 use eos_text::{push_text, push_value};
+use eos_verdict::{Counts, Fault, Verdict, text_of_fault, verdict_line};
 use std::alloc::{AllocError, Global};
 
 /// How many of the faults are named one by one.

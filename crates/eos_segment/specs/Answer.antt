@@ -6,7 +6,7 @@ use Rattle.eos_touch.specs.declared.fault.PartitionFault.{PartitionFault}
 use Rattle.eos_touch.specs.FaultNames.{number_of, name_of}
 use Rattle.eos_fold.specs.Good.{IsGood}
 use Rattle.eos_fold.specs.ChainFaults.{IsLeastFault}
-use Rattle.eos_segment.specs.Details.{details}
+use Rattle.eos_verdict.specs.Details.{details}
 
 unfoldable pub good_line : Chain → List ℕ
 good_line chain = (codes "ok batches=" ++ decimal chain.batches) ++ ((codes " producers=" ++ decimal chain.producers) ++ codes "\n")

@@ -1,6 +1,5 @@
 pub mod Answer
 pub mod Choosing
-pub mod Details
 pub mod Faults
 pub mod Files
 pub mod HeaderLines

@@ -8,10 +8,10 @@ ghost use Rattle.eos_text.specs.Adding.{Adds};
 ghost use Rattle.eos_segment.specs.Answer.{IsChainAnswer, good_line, fault_line};
 ghost use Rattle.eos_segment.specs.Running.{Ran};
 
-use crate::details::push_details;
 use crate::fault::RunFault;
 use eos_fold::{Chain, PartitionFault, chain_from};
 use eos_text::{finish, push_text, push_value};
+use eos_verdict::push_details;
 use std::alloc::{AllocError, Global};
 use std::io::{Read, Write};
 

@@ -6,7 +6,6 @@ mod chain;
 mod chosen;
 mod claim;
 mod commit;
-mod details;
 mod dump;
 mod fault;
 mod file;
@@ -20,8 +19,8 @@ mod text;
 mod transaction;
 
 pub use chain::chain_to;
-pub use details::push_details;
 pub use dump::dump_to;
+pub use eos_verdict::push_details;
 pub use fault::RunFault;
 pub use file::{chain_file, dump_file};
 pub use line::push_decoded;

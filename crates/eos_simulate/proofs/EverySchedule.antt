@@ -17,10 +17,10 @@ use Rattle.eos_machine.proofs.GoodEvents.{good_run}
 use Rattle.eos_machine.proofs.Resting.{good_opening, rest_is_atomic}
 use Rattle.eos_machine.proofs.StepRules.{all_steps}
 use Rattle.eos_machine.proofs.TouchRules.{keeps_sequences, neighbours_fit}
-use Rattle.eos_check.specs.declared.verdict.Fault.{Fault}
-use Rattle.eos_check.specs.declared.verdict.Fault.TheVariants.{Partition as InPartition, Log, Match, Lineage}
-use Rattle.eos_check.specs.declared.verdict.Verdict.{Verdict}
-use Rattle.eos_check.specs.declared.verdict.Verdict.TheVariants.{Yes, No}
+use Rattle.eos_verdict.specs.declared.verdict.Fault.{Fault}
+use Rattle.eos_verdict.specs.declared.verdict.Fault.TheVariants.{Partition as InPartition, Log, Match, Lineage}
+use Rattle.eos_verdict.specs.declared.verdict.Verdict.{Verdict}
+use Rattle.eos_verdict.specs.declared.verdict.Verdict.TheVariants.{Yes, No}
 use Rattle.eos_commits.specs.EvidenceLogs.{AreLogsOf}
 use Rattle.eos_check.specs.Verdicts.{Stands, IsVerdict, IsVerdictOf}
 use Rattle.eos_check.proofs.GoodLaw.{none_from}

@@ -2,7 +2,7 @@
 //! the laws.
 
 ghost use Rattle.eos_evidence.specs.Evidence.{EvidenceParts, IsEvidence};
-ghost use Rattle.eos_check.specs.declared.verdict.Verdict.{Verdict};
+ghost use Rattle.eos_verdict.specs.declared.verdict.Verdict.{Verdict};
 ghost use Rattle.eos_check.specs.Verdicts.{IsVerdict};
 ghost use Rattle.eos_machine.specs.Schedules.{IsOfSchedule};
 ghost use Rattle.eos_simulate.specs.Schedules.{HasRightLogs, HasNoFaultInLogs, AccusesNoLog};

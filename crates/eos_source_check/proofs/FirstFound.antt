@@ -8,8 +8,8 @@ use Rattle.eos_evidence.specs.Evidence.{EvidenceParts}
 use Rattle.eos_touch.specs.declared.fault.PartitionFault.{PartitionFault}
 use Rattle.eos_kept.specs.declared.logs.Logs.{Logs}
 use Rattle.eos_kept.specs.Faults.{first_of}
-use Rattle.eos_check.specs.declared.verdict.Fault.{Fault}
-use Rattle.eos_check.specs.declared.verdict.Fault.TheVariants.{Partition as InPartition}
+use Rattle.eos_verdict.specs.declared.verdict.Fault.{Fault}
+use Rattle.eos_verdict.specs.declared.verdict.Fault.TheVariants.{Partition as InPartition}
 use Rattle.eos_source.specs.Said.{Known}
 use Rattle.eos_source_check.specs.Listed.{BeginsAsFound}
 use Rattle.eos_source_check.specs.steps.FaultsAgain.{HasFaultsIfFound, BeginsIfFound}

@@ -26,12 +26,12 @@ use Rattle.eos_claims.proofs.FaultOrder.{place_total, fault_total as output_tota
 use Rattle.eos_commits.specs.Commits.{Group}
 use Rattle.eos_commits.specs.Faults.{visible_cmp}
 use Rattle.eos_commits.proofs.VisibleOrder.{visible_total}
-use Rattle.eos_lineage.specs.declared.fault.LineageFault.TheVariants.{Record, Output}
+use Rattle.eos_verdict.specs.declared.lineage_fault.LineageFault.TheVariants.{Record, Output}
 use Rattle.eos_lineage.specs.Faults.{place_of}
 use Rattle.eos_commits.specs.EvidenceLogs.{AreLogsOf}
-use Rattle.eos_check.specs.declared.verdict.Fault.{Fault}
-use Rattle.eos_check.specs.declared.verdict.Fault.TheVariants.{Partition as InPartition, Log, Match, Lineage}
-use Rattle.eos_check.specs.declared.verdict.Verdict.TheVariants.{No}
+use Rattle.eos_verdict.specs.declared.verdict.Fault.{Fault}
+use Rattle.eos_verdict.specs.declared.verdict.Fault.TheVariants.{Partition as InPartition, Log, Match, Lineage}
+use Rattle.eos_verdict.specs.declared.verdict.Verdict.TheVariants.{No}
 use Rattle.eos_check.specs.Verdicts.{Stands, partition_cmp, name_in, verdict_cmp, IsVerdictOf}
 use Rattle.eos_base.proofs.WholeList.{first_less, less_upto, same_list}
 use Rattle.eos_faults.specs.OneInput.{OfOneInput}

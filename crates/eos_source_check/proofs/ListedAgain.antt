@@ -14,8 +14,8 @@ use Rattle.eos_kept.specs.declared.logs.Logs.{Logs}
 use Rattle.eos_kept.specs.Faults as named
 use Rattle.eos_commits.proofs.LogsInOrder.{sorted, in_order}
 use Rattle.eos_commits.specs.Faults.{AreInOrder}
-use Rattle.eos_check.specs.declared.verdict.Fault.{Fault}
-use Rattle.eos_check.specs.declared.verdict.Fault.TheVariants.{Partition as InPartition}
+use Rattle.eos_verdict.specs.declared.verdict.Fault.{Fault}
+use Rattle.eos_verdict.specs.declared.verdict.Fault.TheVariants.{Partition as InPartition}
 use Rattle.eos_check.specs.Verdicts.{StandsInPartitions, partition_cmp}
 use Rattle.eos_check.proofs.NamedFaults.{first_named}
 use Rattle.eos_base.specs.AllOf.{IsAllOf}

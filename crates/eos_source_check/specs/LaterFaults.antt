@@ -5,8 +5,8 @@ use Rattle.eos_base.specs.Least.{NoneStands}
 use Rattle.eos_evidence.specs.declared.application.App.{App}
 use Rattle.eos_fold.specs.Parts.{PartLog}
 use Rattle.eos_lineage.specs.Faults as lineage
-use Rattle.eos_check.specs.declared.verdict.Fault.{Fault}
-use Rattle.eos_check.specs.declared.verdict.Fault.TheVariants.{Partition as InPartition, Log, Match, Lineage}
+use Rattle.eos_verdict.specs.declared.verdict.Fault.{Fault}
+use Rattle.eos_verdict.specs.declared.verdict.Fault.TheVariants.{Partition as InPartition, Log, Match, Lineage}
 use Rattle.eos_check.specs.Verdicts.{StandsInLog, StandsInMatching}
 use Rattle.eos_source_check.specs.AllFaults.{AreAllOf}
 

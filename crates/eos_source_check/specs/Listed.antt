@@ -5,8 +5,8 @@ use Rattle.eos_evidence.specs.declared.partition.Partition.{Partition}
 use Rattle.eos_evidence.specs.Evidence.{EvidenceParts, IsEvidence}
 use Rattle.eos_kept.specs.declared.logs.Logs.{Logs}
 use Rattle.eos_kept.specs.Faults.{first_of}
-use Rattle.eos_check.specs.declared.verdict.Fault.{Fault}
-use Rattle.eos_check.specs.declared.verdict.Fault.TheVariants.{Partition as InPartition}
+use Rattle.eos_verdict.specs.declared.verdict.Fault.{Fault}
+use Rattle.eos_verdict.specs.declared.verdict.Fault.TheVariants.{Partition as InPartition}
 use Rattle.eos_source_check.specs.AllFaults.{AreAllFaults}
 use Rattle.eos_source.specs.Said.{Known}
 use Rattle.eos_source_check.specs.Judged.{AreKeptOf}

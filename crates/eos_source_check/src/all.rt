@@ -2,7 +2,7 @@
 
 ghost use Rattle.std.specs.Prelude.{◌≡◌, IfOk, map};
 ghost use Rattle.eos_commits.specs.EvidenceLogs.{AreLogsOf};
-ghost use Rattle.eos_check.specs.declared.verdict.Fault.TheVariants.{Partition as InPartition};
+ghost use Rattle.eos_verdict.specs.declared.verdict.Fault.TheVariants.{Partition as InPartition};
 ghost use Rattle.eos_kept.specs.Faults.{AreFaultsIn};
 ghost use Rattle.eos_source_check.specs.AllFaults.{AreAllFaults};
 

@@ -3,8 +3,8 @@
 ghost use Rattle.std.specs.Prelude.{◌≡◌, IfOk, map};
 ghost use Rattle.eos_base.specs.Least.{NoneStands};
 ghost use Rattle.eos_commits.specs.Faults.{AreInOrder};
-ghost use Rattle.eos_lineage.specs.declared.fault.LineageFault.TheVariants.{Record};
-ghost use Rattle.eos_check.specs.declared.verdict.Fault.TheVariants.{Log, Match, Lineage};
+ghost use Rattle.eos_verdict.specs.declared.lineage_fault.LineageFault.TheVariants.{Record};
+ghost use Rattle.eos_verdict.specs.declared.verdict.Fault.TheVariants.{Log, Match, Lineage};
 ghost use Rattle.eos_check.specs.Verdicts.{StandsInLog, StandsInMatching};
 ghost use Rattle.eos_faults.specs.LineageFaults.{AreLineageFaults};
 ghost use Rattle.eos_source_check.specs.LaterFaults.{AreLaterFaults};

@@ -17,10 +17,10 @@ use crate::scene::Scene;
 use crate::states::{push_from, push_last, push_states};
 use bytes::Bytes;
 use eos_base::PartitionName;
-use eos_check::Fault;
 use eos_claims::Place;
 use eos_sought::{Sought, Wanted};
 use eos_table::{LogFault, MatchFault, MatchFaultKind};
+use eos_verdict::Fault;
 use std::alloc::AllocError;
 
 fn log_rows(scene: &Scene<'_>, rows: &mut Vec<Row>, fault: &LogFault) -> Result<(), AllocError>

@@ -19,8 +19,8 @@ use bytes::Bytes;
 use eos_claims::{OutputFault, Place};
 use eos_commits::{VisibleFault, VisibleFaultKind};
 use eos_evidence::GroupId;
-use eos_lineage::LineageFault;
 use eos_sought::{Find, Sought, group_of};
+use eos_verdict::LineageFault;
 use std::alloc::{AllocError, Global};
 
 // ---- phase 4

@@ -5,9 +5,8 @@ ghost use Rattle.eos_story.specs.PlaceOfFault.{place_of as place_of_fault};
 
 use bytes::Bytes;
 use eos_base::PartitionName;
-use eos_check::Fault;
 use eos_claims::Place;
-use eos_lineage::LineageFault;
+use eos_verdict::{Fault, LineageFault};
 use std::alloc::{AllocError, Global};
 
 fn place_at(topic: Bytes, partition: i32, offset: u64) -> Place

@@ -5,7 +5,7 @@ ghost use Rattle.eos_sought.specs.declared.partition.Placed.{Placed as Batch};
 ghost use Rattle.eos_sought.specs.declared.sought.Sought.TheVariants.{OfId, OfProducer, Before as IsBefore};
 ghost use Rattle.eos_story.specs.Questions.{Latest, states_from, states_near, state_said, last_of, markers_epoch, of_state, by_producer, by_holder, states_of};
 ghost use Rattle.eos_story.specs.steps.Telling.{TellsEach};
-ghost use Rattle.eos_table.specs.declared.log_fault.LogFaultKind.TheVariants.{SplitId, SharedProducer, Unfinished};
+ghost use Rattle.eos_verdict.specs.declared.log_fault.LogFaultKind.TheVariants.{SplitId, SharedProducer, Unfinished};
 
 use crate::copies::{copy_bytes, copy_place};
 use crate::decisions::{bytes_of, epoch_after, push_markers};

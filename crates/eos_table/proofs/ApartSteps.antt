@@ -12,8 +12,8 @@ use Rattle.std.proofs.lemmas.List.Sums.{fold-append}
 use Rattle.std.proofs.lemmas.Cmp.{nat_list_cmp_total, tied_itself}
 use Rattle.eos_base.proofs.Exact.{nat_exact}
 use Rattle.eos_table.specs.TransactionLog.{Id, same_id}
-use Rattle.eos_table.specs.declared.log_fault.LogFault.{LogFault}
-use Rattle.eos_table.specs.declared.log_fault.LogFaultKind.TheVariants.{SplitId}
+use Rattle.eos_verdict.specs.declared.log_fault.LogFault.{LogFault}
+use Rattle.eos_verdict.specs.declared.log_fault.LogFaultKind.TheVariants.{SplitId}
 use Rattle.eos_table.specs.declared.mark.Mark.{Mark}
 use Rattle.eos_table.specs.declared.doubled.Ids.{Ids}
 use Rattle.eos_table.specs.declared.apart.Owner.{Owner}

@@ -11,9 +11,9 @@ use Rattle.eos_base.proofs.Decides.{differs}
 use Rattle.eos_base.proofs.Exact.{nat_exact}
 use Rattle.eos_txnlog.specs.declared.value.TxnValue.{TxnValue}
 use Rattle.eos_fold.specs.Parts.{PartLog}
-use Rattle.eos_table.specs.declared.log_fault.LogFault.{LogFault}
-use Rattle.eos_table.specs.declared.log_fault.LogFaultKind.{LogFaultKind}
-use Rattle.eos_table.specs.declared.log_fault.LogFaultKind.TheVariants.{SplitId, SharedProducer}
+use Rattle.eos_verdict.specs.declared.log_fault.LogFault.{LogFault}
+use Rattle.eos_verdict.specs.declared.log_fault.LogFaultKind.{LogFaultKind}
+use Rattle.eos_verdict.specs.declared.log_fault.LogFaultKind.TheVariants.{SplitId, SharedProducer}
 use Rattle.eos_table.specs.TransactionLog.{Id, same_id, Unskipped, all_steps, ShareProducer, AreInOrder}
 use Rattle.eos_table.specs.LogFaults.{AtStep, IsBefore, Stands}
 use Rattle.eos_table.specs.steps.LogCandidates.{fault_at, natural, producer_of, mark_of, is_of_producer}

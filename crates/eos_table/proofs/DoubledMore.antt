@@ -2,7 +2,7 @@
 use Rattle.std.proofs.Common.{◌≡◌, ℕ, suc, ◌+◌, ◌<◌, List, [], ◌∷◌, ◌++◌, length, get_or, take, drop, fold, sym, ap, subst, ◌∙◌, drop-cons, add-one}
 use Rattle.std.proofs.lemmas.List.{take_more}
 use Rattle.std.proofs.lemmas.List.Sums.{fold-append}
-use Rattle.eos_table.specs.declared.log_fault.LogFault.{LogFault}
+use Rattle.eos_verdict.specs.declared.log_fault.LogFault.{LogFault}
 use Rattle.eos_table.specs.declared.mark.Mark.{Mark}
 use Rattle.eos_table.specs.steps.LogCandidates.{Faults, taken}
 use Rattle.eos_table.specs.steps.Doubled.{home_in, split_at, shared_at, doubled_after}

@@ -4,7 +4,7 @@ use Rattle.std.specs.declared.cmp.Ordering.TheVariants.{Less}
 use Rattle.std.proofs.lemmas.Cmp.{tied_itself, int_cmp_total}
 use Rattle.eos_base.specs.declared.partition_name.PartitionName.{PartitionName}
 use Rattle.eos_base.specs.Least.{UpTo}
-use Rattle.eos_table.specs.declared.match_fault.MatchFaultKind.{MatchFaultKind}
+use Rattle.eos_verdict.specs.declared.match_fault.MatchFaultKind.{MatchFaultKind}
 use Rattle.eos_table.specs.MatchFaults.{fault_cmp}
 use Rattle.eos_table.specs.steps.Candidates.{fault_of}
 use Rattle.eos_table.proofs.MatchOrder.{kind_cmp}

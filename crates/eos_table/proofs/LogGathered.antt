@@ -15,9 +15,9 @@ use Rattle.eos_fold.specs.declared.item.Item.{Item}
 use Rattle.eos_fold.specs.Parts.{PartLog}
 use Rattle.eos_table.specs.declared.content.Content.{Content}
 use Rattle.eos_table.specs.declared.content.Content.TheVariants.{Unreadable, Other, Of}
-use Rattle.eos_table.specs.declared.log_fault.LogFault.{LogFault}
-use Rattle.eos_table.specs.declared.log_fault.LogFaultKind.{LogFaultKind}
-use Rattle.eos_table.specs.declared.log_fault.LogFaultKind.TheVariants.{BadRecord, Step, SplitId, SharedProducer, Unfinished}
+use Rattle.eos_verdict.specs.declared.log_fault.LogFault.{LogFault}
+use Rattle.eos_verdict.specs.declared.log_fault.LogFaultKind.{LogFaultKind}
+use Rattle.eos_verdict.specs.declared.log_fault.LogFaultKind.TheVariants.{BadRecord, Step, SplitId, SharedProducer, Unfinished}
 use Rattle.eos_table.specs.TransactionLog.{Id, same_id, State, nothing, flat, update, Unskipped, content_of, step_at, next_state, steps_after, state_after, steps_of, all_steps, last_of, is_unfinished, AreInOrder}
 use Rattle.eos_table.specs.LogFaults.{StandsAs, Stands, log_cmp}
 use Rattle.eos_table.specs.steps.LogCandidates.{LogRead, after, unread, fault_at, bad_at, refused_at, step_faults, faults_at, faults_after, mark_of, open_at, part_faults, Faults, taken}

@@ -13,9 +13,9 @@ use Rattle.eos_txnlog.specs.declared.value.TxnValue.{TxnValue}
 use Rattle.eos_txnlog.specs.declared.step.TxnFault.{TxnFault}
 use Rattle.eos_txnlog.specs.Following.{step_verdict, StepResult}
 use Rattle.eos_fold.specs.Parts.{PartLog}
-use Rattle.eos_table.specs.declared.log_fault.LogFault.{LogFault}
-use Rattle.eos_table.specs.declared.log_fault.LogFaultKind.{LogFaultKind}
-use Rattle.eos_table.specs.declared.log_fault.LogFaultKind.TheVariants.{BadRecord, Step, SplitId, SharedProducer, Unfinished}
+use Rattle.eos_verdict.specs.declared.log_fault.LogFault.{LogFault}
+use Rattle.eos_verdict.specs.declared.log_fault.LogFaultKind.{LogFaultKind}
+use Rattle.eos_verdict.specs.declared.log_fault.LogFaultKind.TheVariants.{BadRecord, Step, SplitId, SharedProducer, Unfinished}
 use Rattle.eos_table.specs.TransactionLog.{Id, Unskipped, all_steps, last_of, is_unfinished, ShareProducer, IsTransactionLog, AreInOrder}
 use Rattle.eos_table.specs.LogFaults.{AtStep, IsBefore, StandsAs, Stands}
 use Rattle.eos_table.proofs.LogPlaces.{one_place}

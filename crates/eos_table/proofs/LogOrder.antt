@@ -9,9 +9,9 @@ use Rattle.eos_base.proofs.RecordFaults.{record_exact}
 use Rattle.eos_base.proofs.Exact.{then_parts, nat_exact, int_exact, bytes_exact}
 use Rattle.eos_txnlog.specs.declared.step.TxnFault.TheVariants as steps
 use Rattle.eos_txnlog.specs.contracts.step.TxnFaultOrd.TheImpl.{ghosts as why_ghosts}
-use Rattle.eos_table.specs.declared.log_fault.LogFaultKind.TheVariants.{BadRecord, Step, SplitId, SharedProducer, Unfinished}
-use Rattle.eos_table.specs.contracts.log_fault.LogFaultKindOrd.TheImpl.{ghosts as kind_ghosts}
-use Rattle.eos_table.specs.contracts.log_fault.LogFaultOrd.TheImpl.Laws.{total-law}
+use Rattle.eos_verdict.specs.declared.log_fault.LogFaultKind.TheVariants.{BadRecord, Step, SplitId, SharedProducer, Unfinished}
+use Rattle.eos_verdict.specs.contracts.log_fault.LogFaultKindOrd.TheImpl.{ghosts as kind_ghosts}
+use Rattle.eos_verdict.specs.contracts.log_fault.LogFaultOrd.TheImpl.Laws.{total-law}
 use Rattle.eos_table.specs.LogFaults.{log_cmp}
 
 less_apart : {X : Type 0} → Less ≡ Equal → X

@@ -16,7 +16,7 @@ use Rattle.eos_fold.specs.declared.item.Item.{Item}
 use Rattle.eos_fold.specs.Parts.{PartLog}
 use Rattle.eos_table.specs.declared.content.Content.TheVariants.{Of}
 use Rattle.eos_table.specs.declared.mark.Mark.{Mark}
-use Rattle.eos_table.specs.declared.log_fault.LogFault.{LogFault}
+use Rattle.eos_verdict.specs.declared.log_fault.LogFault.{LogFault}
 use Rattle.eos_table.specs.TransactionLog.{Id, State, nothing, flat, Unskipped, content_of, step_at, steps_after, next_state, state_after, steps_of, decision_of, state_of}
 use Rattle.eos_table.specs.steps.LogCandidates.{LogRead, Faults, taken, open_at, after, step_of, step_faults, faults_at, faults_after, part_faults, mark_of}
 

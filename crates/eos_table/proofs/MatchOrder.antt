@@ -10,12 +10,12 @@ use Rattle.eos_base.proofs.Exact.{then_parts, int_exact, option_exact}
 use Rattle.eos_base.proofs.NamesInOrder.{name_exact}
 use Rattle.eos_table.specs.declared.best.Found.{Found}
 use Rattle.eos_table.specs.declared.key.NameRef.{NameRef}
-use Rattle.eos_table.specs.declared.match_fault.MatchFaultKind.{MatchFaultKind}
-use Rattle.eos_table.specs.declared.match_fault.MatchFaultKind.TheVariants.{TwiceDecided, Undecided, WrongKind, NotListed, StrayMarker, AbsentPartition, MissingMarker}
+use Rattle.eos_verdict.specs.declared.match_fault.MatchFaultKind.{MatchFaultKind}
+use Rattle.eos_verdict.specs.declared.match_fault.MatchFaultKind.TheVariants.{TwiceDecided, Undecided, WrongKind, NotListed, StrayMarker, AbsentPartition, MissingMarker}
 use Rattle.eos_table.specs.contracts.best.FoundOrd.TheImpl.{ghosts as found_ghosts}
 use Rattle.eos_table.specs.contracts.key.NameRefOrd.TheImpl.{ghosts as name_ghosts}
-use Rattle.eos_table.specs.contracts.match_fault.MatchFaultKindOrd.TheImpl.{ghosts as kind_ghosts}
-use Rattle.eos_table.specs.contracts.match_fault.MatchFaultOrd.TheImpl.Laws.{total-law}
+use Rattle.eos_verdict.specs.contracts.match_fault.MatchFaultKindOrd.TheImpl.{ghosts as kind_ghosts}
+use Rattle.eos_verdict.specs.contracts.match_fault.MatchFaultOrd.TheImpl.Laws.{total-law}
 use Rattle.eos_table.specs.MatchFaults.{fault_cmp}
 use Rattle.eos_table.specs.steps.Keys.{plain_name}
 use Rattle.eos_table.specs.steps.Candidates.{plain}

@@ -16,7 +16,7 @@ use Rattle.eos_txnlog.specs.declared.decision.Decision.{Decision}
 use Rattle.eos_txnlog.specs.PartitionSets.{names_of}
 use Rattle.eos_fold.specs.declared.close.Close.{Close}
 use Rattle.eos_fold.specs.Parts.{part_name, PartLog}
-use Rattle.eos_table.specs.declared.match_fault.MatchFault.{MatchFault}
+use Rattle.eos_verdict.specs.declared.match_fault.MatchFault.{MatchFault}
 use Rattle.eos_table.specs.Atomic.{EndsAs, Ends}
 use Rattle.eos_table.specs.MatchPlaces.{unless, lists_name, ends_as, ends, has_marker}
 

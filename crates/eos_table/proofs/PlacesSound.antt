@@ -13,9 +13,9 @@ use Rattle.eos_txnlog.specs.declared.decision.Decision.{Decision}
 use Rattle.eos_txnlog.specs.PartitionSets.{names_of}
 use Rattle.eos_fold.specs.declared.close.Close.{Close}
 use Rattle.eos_fold.specs.Parts.{part_name, PartLog}
-use Rattle.eos_table.specs.declared.match_fault.MatchFault.{MatchFault}
-use Rattle.eos_table.specs.declared.match_fault.MatchFaultKind.{MatchFaultKind}
-use Rattle.eos_table.specs.declared.match_fault.MatchFaultKind.TheVariants.{TwiceDecided, Undecided, WrongKind, NotListed, StrayMarker, AbsentPartition, MissingMarker}
+use Rattle.eos_verdict.specs.declared.match_fault.MatchFault.{MatchFault}
+use Rattle.eos_verdict.specs.declared.match_fault.MatchFaultKind.{MatchFaultKind}
+use Rattle.eos_verdict.specs.declared.match_fault.MatchFaultKind.TheVariants.{TwiceDecided, Undecided, WrongKind, NotListed, StrayMarker, AbsentPartition, MissingMarker}
 use Rattle.eos_table.specs.MatchFaults.{deciders, AtData, AtListed, Stands}
 use Rattle.eos_table.specs.MatchPlaces.{fault_of, unless, lists_name, ends_as, ends, at_decision, of_deciders, at_close, at_marker, has_marker, at_listed, at_closes, at_markers, at_names, gathered}
 use Rattle.eos_table.proofs.PlaceTests.{both_true, has_any, unless_has, is_ends_as, is_ends, is_lists, is_marker}

@@ -14,8 +14,8 @@ use Rattle.eos_txnlog.specs.PartitionSets.{names_of}
 use Rattle.eos_fold.specs.declared.close.Close.{Close}
 use Rattle.eos_fold.specs.Parts.{part_name, PartLog}
 use Rattle.eos_table.specs.Atomic.{IsOf, EndsAs, Ends, AreOfOne, NoTwo}
-use Rattle.eos_table.specs.declared.match_fault.MatchFault.{MatchFault}
-use Rattle.eos_table.specs.declared.match_fault.MatchFaultKind.TheVariants.{TwiceDecided}
+use Rattle.eos_verdict.specs.declared.match_fault.MatchFault.{MatchFault}
+use Rattle.eos_verdict.specs.declared.match_fault.MatchFaultKind.TheVariants.{TwiceDecided}
 use Rattle.eos_table.specs.MatchFaults.{Stands}
 use Rattle.eos_table.specs.steps.Keys.{decided, pair_cmp}
 use Rattle.eos_table.specs.steps.Candidates.{fault_of, IsTwice}

@@ -6,8 +6,8 @@ use Rattle.std.specs.BTreeMap.{BTreeMap, is_at}
 use Rattle.std.specs.Ordering.{nat_cmp}
 use Rattle.std.specs.Cmp.Lexicographic.{slice_cmp}
 use Rattle.eos_txnlog.specs.declared.value.TxnValue.{TxnValue}
-use Rattle.eos_table.specs.declared.log_fault.LogFault.{LogFault}
-use Rattle.eos_table.specs.declared.log_fault.LogFaultKind.TheVariants.{Unfinished}
+use Rattle.eos_verdict.specs.declared.log_fault.LogFault.{LogFault}
+use Rattle.eos_verdict.specs.declared.log_fault.LogFaultKind.TheVariants.{Unfinished}
 use Rattle.eos_table.specs.declared.mark.Mark.{Mark}
 use Rattle.eos_table.specs.TransactionLog.{Id, State, same_id, flat, state_of, is_unfinished}
 use Rattle.eos_table.specs.steps.LogCandidates.{fault_at, open_at}

@@ -3,16 +3,15 @@ use Rattle.std.proofs.Common.{◌≡◌, ℕ, ℤ, List, [], ◌∷◌, ◌++◌
 use Rattle.std.proofs.lemmas.List.Sums.{fold-append}
 use Rattle.eos_base.specs.declared.partition_name.PartitionName.{PartitionName}
 use Rattle.eos_base.specs.Members.{Has}
-use Rattle.eos_base.specs.Least.{UpTo}
+use Rattle.eos_base.specs.Least.{UpTo, lesser_of}
 use Rattle.eos_batch.specs.declared.marker.Kind.{Kind}
 use Rattle.eos_txnlog.specs.declared.decision.Decision.{Decision}
 use Rattle.eos_fold.specs.declared.close.Close.{Close}
 use Rattle.eos_fold.specs.Parts.{PartLog}
-use Rattle.eos_table.specs.declared.match_fault.MatchFault.{MatchFault}
+use Rattle.eos_verdict.specs.declared.match_fault.MatchFault.{MatchFault}
 use Rattle.eos_table.specs.MatchFaults.{StandsAs, fault_cmp}
 use Rattle.eos_table.specs.Shards.{StandsIn, IsAnswer}
 use Rattle.eos_table.specs.steps.Keys.{decided, pair_cmp}
-use Rattle.eos_base.specs.Least.{lesser_of}
 use Rattle.eos_table.specs.steps.Candidates.{at_closes, at_markers, at_names, IsTwice}
 use Rattle.eos_base.proofs.LeastOf.{least_by_candidates}
 use Rattle.eos_base.proofs.Membership.{append_cases, append_left, append_right}

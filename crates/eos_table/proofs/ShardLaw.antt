@@ -5,7 +5,7 @@ use Rattle.eos_base.specs.Least.{UpTo, NoneStands, IsLeast}
 use Rattle.eos_base.proofs.LeastOf.{upto_trans}
 use Rattle.eos_txnlog.specs.declared.decision.Decision.{Decision}
 use Rattle.eos_fold.specs.Parts.{PartLog}
-use Rattle.eos_table.specs.declared.match_fault.MatchFault.{MatchFault}
+use Rattle.eos_verdict.specs.declared.match_fault.MatchFault.{MatchFault}
 use Rattle.eos_table.specs.MatchFaults.{fault_cmp, Stands}
 use Rattle.eos_table.specs.Shards.{InShard, StandsIn, IsAnswer, AreAnswers}
 use Rattle.eos_table.proofs.MatchOrder.{fault_total}

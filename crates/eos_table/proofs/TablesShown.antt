@@ -15,7 +15,7 @@ use Rattle.eos_txnlog.specs.declared.decision.Decision.{Decision}
 use Rattle.eos_txnlog.specs.PartitionSets.{names_of}
 use Rattle.eos_fold.specs.declared.close.Close.{Close}
 use Rattle.eos_fold.specs.Parts.{part_name, PartLog}
-use Rattle.eos_table.specs.declared.match_fault.MatchFaultKind.TheVariants.{TwiceDecided, WrongKind, NotListed, AbsentPartition, MissingMarker, StrayMarker}
+use Rattle.eos_verdict.specs.declared.match_fault.MatchFaultKind.TheVariants.{TwiceDecided, WrongKind, NotListed, AbsentPartition, MissingMarker, StrayMarker}
 use Rattle.eos_table.specs.MatchFaults.{is_of, deciders}
 use Rattle.eos_table.specs.Atomic.{Ends}
 use Rattle.eos_table.proofs.AtomicLaw.{true_is_of, is_of_true}

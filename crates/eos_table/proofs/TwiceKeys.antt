@@ -15,8 +15,8 @@ use Rattle.std.proofs.lemmas.List.MinMax.{ranks_by}
 use Rattle.eos_base.specs.Least.{UpTo}
 use Rattle.eos_txnlog.specs.declared.decision.Decision.{Decision}
 use Rattle.eos_fold.specs.Parts.{PartLog}
-use Rattle.eos_table.specs.declared.match_fault.MatchFault.{MatchFault}
-use Rattle.eos_table.specs.declared.match_fault.MatchFaultKind.TheVariants.{TwiceDecided}
+use Rattle.eos_verdict.specs.declared.match_fault.MatchFault.{MatchFault}
+use Rattle.eos_verdict.specs.declared.match_fault.MatchFaultKind.TheVariants.{TwiceDecided}
 use Rattle.eos_table.specs.MatchFaults.{deciders, is_of, Stands, StandsAs, fault_cmp}
 use Rattle.eos_table.specs.Shards.{InShard}
 use Rattle.eos_table.specs.steps.Keys.{mine, decided, pair_cmp}

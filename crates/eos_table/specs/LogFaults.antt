@@ -1,14 +1,14 @@
 -- The faults of the transaction log, what each of them says, and their order.
-use Rattle.std.specs.Prelude.{◌≡◌, ◌≢◌, ◌⊎◌, ◌<◌, ◌<ℤ◌, ℕ, List, Option, Some, None, true, codes, Err, unsigned_abs}
+use Rattle.std.specs.Prelude.{◌≡◌, ◌≢◌, ◌⊎◌, ◌<◌, ◌<ℤ◌, ℕ, List, true, Err, unsigned_abs}
 use Rattle.std.specs.declared.cmp.Ordering.{Ordering}
 use Rattle.eos_base.specs.Members.{Has}
 use Rattle.eos_txnlog.specs.Following.{step_verdict}
 use Rattle.eos_fold.specs.declared.item.Item.{Item}
 use Rattle.eos_fold.specs.Parts.{PartLog}
-use Rattle.eos_table.specs.declared.log_fault.LogFault.{LogFault}
-use Rattle.eos_table.specs.declared.log_fault.LogFaultKind.{LogFaultKind}
-use Rattle.eos_table.specs.declared.log_fault.LogFaultKind.TheVariants.{BadRecord, Step, SplitId, SharedProducer, Unfinished}
-use Rattle.eos_table.specs.contracts.log_fault.LogFaultOrd.TheImpl.{ghosts}
+use Rattle.eos_verdict.specs.declared.log_fault.LogFault.{LogFault}
+use Rattle.eos_verdict.specs.declared.log_fault.LogFaultKind.{LogFaultKind}
+use Rattle.eos_verdict.specs.declared.log_fault.LogFaultKind.TheVariants.{BadRecord, Step, SplitId, SharedProducer, Unfinished}
+use Rattle.eos_verdict.specs.contracts.log_fault.LogFaultOrd.TheImpl.{ghosts}
 use Rattle.eos_table.specs.declared.content.Content.TheVariants.{Unreadable}
 use Rattle.eos_table.specs.TransactionLog.{Id, content_of, Unskipped, all_steps, last_of, is_unfinished, ShareProducer}
 
@@ -56,20 +56,3 @@ Stands log fault = StandsAs log fault fault.kind
 -- transactional id and then by the refusal
 abbrev pub log_cmp : LogFault → LogFault → Ordering
 log_cmp = ghosts.cmp
-
--- number, name and the transactional id that is named, a line for each kind
-abbrev pub row_of : LogFaultKind → ℕ × List ℕ × Option Id
-row_of (BadRecord refusal) = (1, codes "BadRecord", None)
-row_of (Step id why) = (2, codes "Step", Some id)
-row_of (SplitId id) = (3, codes "SplitId", Some id)
-row_of (SharedProducer id) = (4, codes "SharedProducer", Some id)
-row_of (Unfinished id) = (5, codes "Unfinished", Some id)
-
-abbrev pub number_of : LogFaultKind → ℕ
-number_of kind = (row_of kind).0
-
-abbrev pub name_of : LogFaultKind → List ℕ
-name_of kind = (row_of kind).1
-
-abbrev pub id_of : LogFaultKind → Option Id
-id_of kind = (row_of kind).2

@@ -1,5 +1,5 @@
 -- The faults between decisions and logs, what each of them says, and their order.
-use Rattle.std.specs.Prelude.{◌≡◌, ◌≢◌, ◌≤◌, ◌&&◌, ℕ, ℤ, List, [], ◌∷◌, Some, None, length, Bool, codes}
+use Rattle.std.specs.Prelude.{◌≡◌, ◌≢◌, ◌≤◌, ◌&&◌, ℤ, List, [], ◌∷◌, Some, None, length, Bool}
 use Rattle.std.specs.List.{filter}
 use Rattle.std.specs.Ordering.{int_eq}
 use Rattle.std.specs.declared.cmp.Ordering.{Ordering}
@@ -9,10 +9,10 @@ use Rattle.eos_batch.specs.declared.marker.Marker.{Marker}
 use Rattle.eos_txnlog.specs.declared.decision.Decision.{Decision}
 use Rattle.eos_fold.specs.declared.close.Close.{Close}
 use Rattle.eos_fold.specs.Parts.{part_name, PartLog}
-use Rattle.eos_table.specs.declared.match_fault.MatchFault.{MatchFault}
-use Rattle.eos_table.specs.declared.match_fault.MatchFaultKind.{MatchFaultKind}
-use Rattle.eos_table.specs.declared.match_fault.MatchFaultKind.TheVariants.{TwiceDecided, Undecided, WrongKind, NotListed, StrayMarker, AbsentPartition, MissingMarker}
-use Rattle.eos_table.specs.contracts.match_fault.MatchFaultOrd.TheImpl.{ghosts}
+use Rattle.eos_verdict.specs.declared.match_fault.MatchFault.{MatchFault}
+use Rattle.eos_verdict.specs.declared.match_fault.MatchFaultKind.{MatchFaultKind}
+use Rattle.eos_verdict.specs.declared.match_fault.MatchFaultKind.TheVariants.{TwiceDecided, Undecided, WrongKind, NotListed, StrayMarker, AbsentPartition, MissingMarker}
+use Rattle.eos_verdict.specs.contracts.match_fault.MatchFaultOrd.TheImpl.{ghosts}
 use Rattle.eos_txnlog.specs.PartitionSets.{names_of}
 use Rattle.eos_table.specs.Atomic.{EndsAs, Ends}
 
@@ -73,19 +73,3 @@ Stands decisions parts fault = StandsAs decisions parts fault fault.kind
 -- the derived order: by the fields as they stand, producer id, epoch, kind and partition; kinds as they stand there too
 abbrev pub fault_cmp : MatchFault → MatchFault → Ordering
 fault_cmp = ghosts.cmp
-
--- number and name, a line for each kind
-abbrev pub row_of : MatchFaultKind → ℕ × List ℕ
-row_of TwiceDecided = (1, codes "TwiceDecided")
-row_of Undecided = (2, codes "Undecided")
-row_of WrongKind = (3, codes "WrongKind")
-row_of NotListed = (4, codes "NotListed")
-row_of StrayMarker = (5, codes "StrayMarker")
-row_of AbsentPartition = (6, codes "AbsentPartition")
-row_of MissingMarker = (7, codes "MissingMarker")
-
-abbrev pub number_of : MatchFaultKind → ℕ
-number_of kind = (row_of kind).0
-
-abbrev pub name_of : MatchFaultKind → List ℕ
-name_of kind = (row_of kind).1

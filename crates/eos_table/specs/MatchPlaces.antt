@@ -12,9 +12,9 @@ use Rattle.eos_txnlog.specs.declared.decision.Decision.{Decision}
 use Rattle.eos_txnlog.specs.PartitionSets.{names_of}
 use Rattle.eos_fold.specs.declared.close.Close.{Close}
 use Rattle.eos_fold.specs.Parts.{part_name, PartLog}
-use Rattle.eos_table.specs.declared.match_fault.MatchFault.{MatchFault}
-use Rattle.eos_table.specs.declared.match_fault.MatchFaultKind.{MatchFaultKind}
-use Rattle.eos_table.specs.declared.match_fault.MatchFaultKind.TheVariants.{TwiceDecided, Undecided, WrongKind, NotListed, StrayMarker, AbsentPartition, MissingMarker}
+use Rattle.eos_verdict.specs.declared.match_fault.MatchFault.{MatchFault}
+use Rattle.eos_verdict.specs.declared.match_fault.MatchFaultKind.{MatchFaultKind}
+use Rattle.eos_verdict.specs.declared.match_fault.MatchFaultKind.TheVariants.{TwiceDecided, Undecided, WrongKind, NotListed, StrayMarker, AbsentPartition, MissingMarker}
 use Rattle.eos_table.specs.MatchFaults.{deciders}
 
 abbrev pub fault_of : ℤ → ℤ → Option PartitionName → MatchFaultKind → MatchFault

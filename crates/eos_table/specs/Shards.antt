@@ -4,7 +4,7 @@ use Rattle.std.specs.Int.{int_rem_euclid}
 use Rattle.eos_base.specs.Least.{IsLeastOrNone}
 use Rattle.eos_txnlog.specs.declared.decision.Decision.{Decision}
 use Rattle.eos_fold.specs.Parts.{PartLog}
-use Rattle.eos_table.specs.declared.match_fault.MatchFault.{MatchFault}
+use Rattle.eos_verdict.specs.declared.match_fault.MatchFault.{MatchFault}
 use Rattle.eos_table.specs.MatchFaults.{fault_cmp, Stands}
 
 abbrev pub InShard : ℕ → ℕ → MatchFault → Type 0

@@ -1,7 +1,7 @@
 //! A fault that stands in a shard, as the least is looked for.
 
 use crate::key::NameRef;
-use crate::match_fault::MatchFaultKind;
+use eos_verdict::MatchFaultKind;
 
 /// A fault that stands, and the name where it lies, in the order of faults.
 #[derive(Clone, Copy, PartialEq, Eq, PartialOrd, Ord)]

@@ -11,10 +11,10 @@ ghost use Rattle.eos_table.specs.steps.LogCandidates.{taken};
 ghost use Rattle.eos_table.specs.steps.Doubled.{AreHomes, AreIds, home_in, lesser_home, with_id, split_at, shared_if, shared_at, doubled_after};
 
 use crate::apart::are_apart;
-use crate::log_fault::LogFaultKind;
 use crate::log_faults::LogFaults;
 use crate::mark::{Mark, Place};
 use bytes::Bytes;
+use eos_verdict::LogFaultKind;
 use std::alloc::{AllocError, Global};
 use std::collections::BTreeMap;
 

@@ -4,8 +4,8 @@ ghost use Rattle.std.specs.Prelude.{◌≡◌, ◌<◌, ◌↔◌, ℕ, List, Op
 ghost use Rattle.eos_base.specs.Least.{UpTo, NoneStands, IsLeast};
 ghost use Rattle.eos_txnlog.specs.declared.decision.Decision.{Decision};
 ghost use Rattle.eos_fold.specs.Parts.{PartLog};
-ghost use Rattle.eos_table.specs.declared.log_fault.LogFault.{LogFault};
-ghost use Rattle.eos_table.specs.declared.match_fault.MatchFault.{MatchFault};
+ghost use Rattle.eos_verdict.specs.declared.log_fault.LogFault.{LogFault};
+ghost use Rattle.eos_verdict.specs.declared.match_fault.MatchFault.{MatchFault};
 ghost use Rattle.eos_table.specs.TransactionLog.{IsTransactionLog, AreInOrder};
 ghost use Rattle.eos_table.specs.LogFaults.{log_cmp, Stands as StandsInLog};
 ghost use Rattle.eos_table.specs.Atomic.{Atomic};

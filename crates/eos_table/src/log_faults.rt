@@ -3,9 +3,9 @@
 ghost use Rattle.std.specs.Prelude.{◌≡◌, [], None, true, false, OnOk};
 ghost use Rattle.eos_table.specs.steps.LogCandidates.{fault_at, taken};
 
-use crate::log_fault::{LogFault, LogFaultKind};
 use crate::mark::Place;
 use eos_base::offer;
+use eos_verdict::{LogFault, LogFaultKind};
 use std::alloc::{AllocError, Global};
 use std::marker::Model;
 
@@ -23,6 +23,17 @@ impl Model for LogFaults {
     ghost Value = { Faults };
 
     ghost view = { λ f. record { keeps_all = f.keeps_all; least = f.least; all = f.all.items } };
+}
+
+/// A fault at a place.
+fn fault_at(place: Place, kind: LogFaultKind) -> LogFault
+    ensures { result ≡ fault_at place.partition place.offset kind }
+{
+    LogFault {
+        partition: place.partition,
+        offset: place.offset,
+        kind,
+    }
 }
 
 impl LogFaults {
@@ -52,7 +63,7 @@ impl LogFaults {
     pub fn take(&mut self, place: Place, kind: LogFaultKind) -> Result<(), AllocError>
         ensures { OnOk result (self.new ≡ taken self.old (fault_at place.partition place.offset kind)) }
     {
-        let fault = LogFault::at(place, kind);
+        let fault = fault_at(place, kind);
         if self.keeps_all {
             self.all.push(fault)?;
         } else {

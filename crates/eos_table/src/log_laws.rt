@@ -3,7 +3,7 @@
 ghost use Rattle.std.specs.Prelude.{List, [], ◌∷◌};
 ghost use Rattle.eos_base.specs.Least.{NoneStands, IsLeast};
 ghost use Rattle.eos_fold.specs.Parts.{PartLog};
-ghost use Rattle.eos_table.specs.declared.log_fault.LogFault.{LogFault};
+ghost use Rattle.eos_verdict.specs.declared.log_fault.LogFault.{LogFault};
 ghost use Rattle.eos_table.specs.LogFaults.{log_cmp, Stands as StandsInLog};
 ghost use Rattle.eos_base.specs.AllOf.{IsAllOf};
 

@@ -9,13 +9,13 @@ ghost use Rattle.eos_table.specs.steps.LogCandidates.{after, unread, taken, open
 
 use crate::content::{Content, read_content};
 use crate::last_values::{LastValues, is_of_transaction_log, is_open, kind_of_status, last_value};
-use crate::log_fault::LogFaultKind;
 use crate::log_faults::LogFaults;
 use crate::mark::{Mark, Place, producer_of};
 use crate::settled::are_settled;
 use bytes::Bytes;
 use eos_kept::{ItemRef, Part};
 use eos_txnlog::{Decision, TxnValue, is_skipped, step_ok};
+use eos_verdict::LogFaultKind;
 use std::alloc::{AllocError, Global};
 use std::collections::BTreeMap;
 use std::marker::Model;

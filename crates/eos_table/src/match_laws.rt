@@ -6,7 +6,7 @@ ghost use Rattle.eos_base.specs.Least.{NoneStands, IsLeast};
 ghost use Rattle.eos_base.specs.Members.{Has};
 ghost use Rattle.eos_txnlog.specs.declared.decision.Decision.{Decision};
 ghost use Rattle.eos_fold.specs.Parts.{PartLog};
-ghost use Rattle.eos_table.specs.declared.match_fault.MatchFault.{MatchFault};
+ghost use Rattle.eos_verdict.specs.declared.match_fault.MatchFault.{MatchFault};
 ghost use Rattle.eos_table.specs.MatchFaults.{fault_cmp, Stands};
 ghost use Rattle.eos_base.specs.AllOf.{IsAllOf};
 ghost use Rattle.eos_table.specs.MatchPlaces.{gathered};

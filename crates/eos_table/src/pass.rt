@@ -11,7 +11,6 @@ ghost use Rattle.eos_table.specs.steps.Candidates.{plain, faults_of, kind_at_clo
 use crate::best::Found;
 use crate::key::{Ended, Listed, NameRef, name_in, name_of_part};
 use crate::look::{is_decided, is_ended, is_judged, is_listed, is_name};
-use crate::match_fault::MatchFaultKind;
 use crate::one_shard::Shard;
 use crate::ordered::{DataKeys, PresentKeys};
 use eos_base::{Sorted, lesser};
@@ -19,6 +18,7 @@ use eos_batch::Marker;
 use eos_fold::Close;
 use eos_kept::Part;
 use eos_txnlog::{Decision, TopicPartitions};
+use eos_verdict::MatchFaultKind;
 
 /// The least so far, with what one place gives.
 fn with<'a>(

@@ -7,7 +7,6 @@ ghost use Rattle.eos_table.specs.Shards.{IsAnswer};
 use crate::best::Found;
 use crate::key::ended_keys;
 use crate::look::first_twice;
-use crate::match_fault::{MatchFault, MatchFaultKind};
 use crate::one_shard::Shard;
 use crate::ordered::{data_keys, present_keys};
 use crate::pass::{closes_of, markers_of, names_of};
@@ -15,6 +14,7 @@ use crate::table::TxnTable;
 use eos_base::PartitionName;
 use eos_kept::Part;
 use eos_txnlog::Decision;
+use eos_verdict::{MatchFault, MatchFaultKind};
 use std::alloc::{AllocError, Global};
 
 /// The least that was decided twice.

@@ -9,12 +9,12 @@ ghost use Rattle.eos_table.specs.steps.LogCandidates.{taken};
 ghost use Rattle.eos_table.specs.steps.Doubled.{gathered};
 
 use crate::doubled::push_doubled;
-use crate::log_fault::LogFault;
 use crate::log_faults::LogFaults;
 use crate::log_reading::{LogReading, read_log};
 use eos_base::distinct_in_order;
 use eos_kept::Part;
 use eos_txnlog::Decision;
+use eos_verdict::LogFault;
 use std::alloc::{AllocError, Global};
 
 /// What the log decided, also where it breaks its own rule.

@@ -4,12 +4,12 @@ use Rattle.eos_base.specs.Least.{NoneStands, IsLeast}
 use Rattle.eos_evidence.specs.declared.application.App.{App}
 use Rattle.eos_fold.specs.Parts.{PartLog}
 use Rattle.eos_txnlog.specs.declared.decision.Decision.{Decision}
-use Rattle.eos_table.specs.declared.match_fault.MatchFault.{MatchFault}
+use Rattle.eos_verdict.specs.declared.match_fault.MatchFault.{MatchFault}
 use Rattle.eos_table.specs.MatchFaults as matches
 use Rattle.eos_table.specs.TransactionLog.{transaction_parts, decisions_of}
-use Rattle.eos_check.specs.declared.verdict.Fault.{Fault}
-use Rattle.eos_check.specs.declared.verdict.Fault.TheVariants.{Match}
-use Rattle.eos_check.specs.declared.verdict.Verdict.TheVariants.{No}
+use Rattle.eos_verdict.specs.declared.verdict.Fault.{Fault}
+use Rattle.eos_verdict.specs.declared.verdict.Fault.TheVariants.{Match}
+use Rattle.eos_verdict.specs.declared.verdict.Verdict.TheVariants.{No}
 use Rattle.eos_check.specs.Judged.{IsVerdictOver}
 use Rattle.eos_check.specs.Verdicts.{StandsInLog, StandsInMatching}
 

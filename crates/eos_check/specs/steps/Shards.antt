@@ -2,7 +2,7 @@
 use Rattle.std.specs.Prelude.{◌≡◌, List, fold, All, Option, Some, None, Result, Ok, Err, ⊤}
 use Rattle.std.specs.declared.alloc.AllocError.{AllocError}
 use Rattle.eos_base.specs.Least.{lesser_of}
-use Rattle.eos_table.specs.declared.match_fault.MatchFault.{MatchFault}
+use Rattle.eos_verdict.specs.declared.match_fault.MatchFault.{MatchFault}
 use Rattle.eos_table.specs.MatchFaults.{fault_cmp}
 
 abbrev pub Answer : Type 0

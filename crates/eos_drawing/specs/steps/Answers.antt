@@ -1,11 +1,11 @@
 -- What is drawn of what was judged, of whatever evidence that is.
 use Rattle.std.specs.Prelude.{◌≡◌, ℕ, List, [], Option, false, string_bytes}
 use Rattle.std.specs.Str.{trim_end}
-use Rattle.eos_check.specs.declared.verdict.Verdict.{Verdict}
+use Rattle.eos_verdict.specs.declared.verdict.Verdict.{Verdict}
 use Rattle.eos_evidence.specs.declared.partition.Partition.{Partition}
 use Rattle.eos_evidence.specs.Evidence.{EvidenceParts}
 use Rattle.eos_picture.specs.declared.mark.Picture.{Picture}
-use Rattle.eos_report.specs.VerdictTexts.{verdict_line, status_of}
+use Rattle.eos_verdict.specs.VerdictTexts.{verdict_line, status_of}
 use Rattle.eos_source.specs.Said.{Known}
 use Rattle.eos_source_check.specs.Judged.{IsJudgedFor}
 use Rattle.eos_source_check.specs.declared.judged.Judged.{Judged}

@@ -9,9 +9,9 @@ use Rattle.eos_offsets.specs.declared.key.OffsetKey.{OffsetKey}
 use Rattle.eos_fold.specs.declared.item.Item.{Item}
 use Rattle.eos_fold.specs.Parts.{part_name, PartLog}
 use Rattle.eos_claims.specs.Headers.{claim_of}
-use Rattle.eos_commits.specs.declared.fault.VisibleFault.{VisibleFault}
-use Rattle.eos_commits.specs.declared.fault.VisibleFaultKind.{VisibleFaultKind}
-use Rattle.eos_commits.specs.declared.fault.VisibleFaultKind.TheVariants.{BadLineage, BadOffset, SplitGroup, OffsetDeleted}
+use Rattle.eos_verdict.specs.declared.visible_fault.VisibleFault.{VisibleFault}
+use Rattle.eos_verdict.specs.declared.visible_fault.VisibleFaultKind.{VisibleFaultKind}
+use Rattle.eos_verdict.specs.declared.visible_fault.VisibleFaultKind.TheVariants.{BadLineage, BadOffset, SplitGroup, OffsetDeleted}
 use Rattle.eos_commits.specs.Visible.{is_visible}
 use Rattle.eos_commits.specs.Commits.{Group, Topic, is_same, is_offsets_part, key_of, value_of}
 use Rattle.eos_commits.specs.steps.Roles.{Source, RoleSets, source_cmp}

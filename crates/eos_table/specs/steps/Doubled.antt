@@ -6,8 +6,8 @@ use Rattle.std.specs.BTreeMap.{BTreeMap, get}
 use Rattle.std.specs.Ordering.{nat_cmp}
 use Rattle.std.specs.Cmp.Lexicographic.{slice_cmp}
 use Rattle.eos_fold.specs.Parts.{PartLog}
-use Rattle.eos_table.specs.declared.log_fault.LogFault.{LogFault}
-use Rattle.eos_table.specs.declared.log_fault.LogFaultKind.TheVariants.{SplitId, SharedProducer}
+use Rattle.eos_verdict.specs.declared.log_fault.LogFault.{LogFault}
+use Rattle.eos_verdict.specs.declared.log_fault.LogFaultKind.TheVariants.{SplitId, SharedProducer}
 use Rattle.eos_table.specs.TransactionLog.{Id, same_id, all_steps}
 use Rattle.eos_table.specs.steps.LogCandidates.{fault_at, is_of_producer, mark_of, part_faults}
 use Rattle.eos_table.specs.declared.mark.Mark.{Mark}

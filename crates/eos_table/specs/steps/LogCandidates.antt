@@ -12,9 +12,9 @@ use Rattle.eos_fold.specs.Parts.{PartLog}
 use Rattle.eos_table.specs.declared.content.Content.{Content}
 use Rattle.eos_table.specs.declared.content.Content.TheVariants.{Unreadable, Other, Of}
 use Rattle.eos_table.specs.declared.mark.Mark.{Mark}
-use Rattle.eos_table.specs.declared.log_fault.LogFault.{LogFault}
-use Rattle.eos_table.specs.declared.log_fault.LogFaultKind.{LogFaultKind}
-use Rattle.eos_table.specs.declared.log_fault.LogFaultKind.TheVariants.{BadRecord, Step, Unfinished}
+use Rattle.eos_verdict.specs.declared.log_fault.LogFault.{LogFault}
+use Rattle.eos_verdict.specs.declared.log_fault.LogFaultKind.{LogFaultKind}
+use Rattle.eos_verdict.specs.declared.log_fault.LogFaultKind.TheVariants.{BadRecord, Step, Unfinished}
 use Rattle.eos_table.specs.TransactionLog.{Id, State, nothing, flat, Unskipped, content_of, step_at, next_state, state_after, steps_of, decision_of, is_unfinished}
 use Rattle.eos_table.specs.LogFaults.{log_cmp}
 

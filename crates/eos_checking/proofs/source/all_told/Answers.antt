@@ -1,6 +1,6 @@
 use Rattle.std.proofs.Common.{true, List, subst}
 use Rattle.std.proofs.lemmas.Result.{err_from_is_err_and}
-use Rattle.eos_check.specs.declared.verdict.Fault.{Fault}
+use Rattle.eos_verdict.specs.declared.verdict.Fault.{Fault}
 use Rattle.eos_evidence.specs.SpecFields.{SpecFields}
 use Rattle.eos_checking.specs.steps.Tellings.{TellsOf}
 use Rattle.eos_checking.proofs.source.all_told.Goals as goal

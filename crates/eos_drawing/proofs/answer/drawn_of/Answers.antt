@@ -1,5 +1,5 @@
 use Rattle.std.proofs.Common.{◌≡◌, ◌∙◌, ℕ, List, Option, subst}
-use Rattle.eos_check.specs.declared.verdict.Fault.{Fault}
+use Rattle.eos_verdict.specs.declared.verdict.Fault.{Fault}
 use Rattle.eos_picture.specs.declared.mark.Row.{Row}
 use Rattle.eos_source.specs.Said.{known_by}
 use Rattle.eos_drawing.specs.Drawings.{fault_of, around_of}

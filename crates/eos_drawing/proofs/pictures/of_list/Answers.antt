@@ -1,6 +1,6 @@
 use Rattle.std.proofs.Common.{List, subst, map, string_bytes}
 use Rattle.eos_source.specs.Said.{known_by}
-use Rattle.eos_check.specs.declared.verdict.Fault.{Fault}
+use Rattle.eos_verdict.specs.declared.verdict.Fault.{Fault}
 use Rattle.eos_drawing.specs.steps.Pictures.{AreTextsBy}
 use Rattle.eos_drawing.proofs.FirstOnes.{of_list}
 use Rattle.eos_drawing.proofs.pictures.of_list.Goals as goal

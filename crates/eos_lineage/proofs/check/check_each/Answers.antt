@@ -6,7 +6,7 @@ use Rattle.eos_commits.specs.Tables.{IsTableOf}
 use Rattle.eos_commits.proofs.PushedMore.{item_has}
 use Rattle.eos_claims.specs.declared.fault.OutputFault.{OutputFault}
 use Rattle.eos_claims.specs.Faults as outputs
-use Rattle.eos_lineage.specs.declared.fault.LineageFault.TheVariants.{Output}
+use Rattle.eos_verdict.specs.declared.lineage_fault.LineageFault.TheVariants.{Output}
 use Rattle.eos_commits.specs.Applications.{application_of}
 use Rattle.eos_lineage.specs.Faults.{named_group, lineage_cmp, Stands}
 use Rattle.eos_lineage.specs.steps.Walks.{IsOutputsAnswer}

@@ -3,7 +3,7 @@ use Rattle.eos_base.specs.Least.{IsLeast, IsLeastOrNone}
 use Rattle.eos_evidence.specs.declared.application.App.{App}
 use Rattle.eos_evidence.specs.SpecFields.{groups_of}
 use Rattle.eos_evidence.specs.Topics.{are_unequal}
-use Rattle.eos_commits.specs.declared.fault.VisibleFault.{VisibleFault}
+use Rattle.eos_verdict.specs.declared.visible_fault.VisibleFault.{VisibleFault}
 use Rattle.eos_commits.specs.Faults.{visible_cmp, Stands}
 use Rattle.eos_lineage.proofs.FirstFault.{least_record, unequal_groups}
 use Rattle.eos_lineage.proofs.check.check_lineage_by.Goals as goal

@@ -1,5 +1,5 @@
 use Rattle.std.proofs.Common.{◌++◌, ◌∷◌, [], ap, ◌∙◌}
-use Rattle.eos_check.specs.declared.verdict.Fault.TheVariants as faults
+use Rattle.eos_verdict.specs.declared.verdict.Fault.TheVariants as faults
 use Rattle.eos_base.specs.declared.partition_name.PartitionName.{PartitionName}
 use Rattle.eos_picture.specs.Window.{place_of}
 use Rattle.eos_picture.specs.steps.Spots.{spot_at}

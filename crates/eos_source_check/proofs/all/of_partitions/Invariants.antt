@@ -1,5 +1,5 @@
 use Rattle.std.proofs.Common.{◌≡◌, map}
-use Rattle.eos_check.specs.declared.verdict.Fault.TheVariants.{Partition as InPartition}
+use Rattle.eos_verdict.specs.declared.verdict.Fault.TheVariants.{Partition as InPartition}
 use Rattle.eos_source_check.proofs.all.of_partitions.Given as goal
 
 abbrev pub invariant-loop-fault : goal.invariant-loop-fault

@@ -1,9 +1,8 @@
 use Rattle.std.proofs.Common.{◌≡◌, option_map, fold, take, map}
 use Rattle.eos_base.specs.Least.{lesser_of}
 use Rattle.eos_table.specs.MatchFaults.{fault_cmp}
-use Rattle.eos_table.specs.steps.Candidates.{plain}
+use Rattle.eos_table.specs.steps.Candidates.{plain, at_markers}
 use Rattle.eos_table.specs.steps.Keys.{plain_ended}
-use Rattle.eos_table.specs.steps.Candidates.{at_markers}
 use Rattle.eos_table.proofs.pass.markers_of.Given as goal
 
 abbrev pub invariant-loop-part : goal.invariant-loop-part

@@ -1,10 +1,9 @@
 use Rattle.std.proofs.Common.{◌≡◌, option_map, fold, take, map}
 use Rattle.eos_base.specs.Least.{lesser_of}
 use Rattle.eos_table.specs.MatchFaults.{fault_cmp}
-use Rattle.eos_table.specs.steps.Candidates.{plain}
+use Rattle.eos_table.specs.steps.Candidates.{plain, marker_faults}
 use Rattle.eos_fold.specs.Parts.{part_name}
 use Rattle.eos_table.specs.steps.Keys.{plain_ended}
-use Rattle.eos_table.specs.steps.Candidates.{marker_faults}
 use Rattle.eos_table.proofs.pass.markers_of_part.Given as goal
 
 abbrev pub invariant-loop-marker : goal.invariant-loop-marker
