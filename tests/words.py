@@ -24,15 +24,14 @@ SAID = re.compile(r"^ *(?:pub(?:\([a-z]+\))? )?(?:fn|struct|enum|type|trait|mod|
 TABLE = {
     "place": """
         eos_claims: place Place PlaceRef
-        eos_drawing: push_place
-        eos_explaining: push_first_place push_place_command push_row_place push_segment_place is_same_place
+        eos_explaining: push_first_place push_place_command push_row_place push_segment_place
         eos_faults: LentPlace OutputPlaces lesser_place own_place place_in places_of take_place
         eos_lineage: own_place_if
-        eos_picture: TxnPlace name_of_place
+        eos_picture: TxnPlace name_of_place push_place
         eos_reading: places
         eos_report: put_place value_of_place
         eos_sought: names_place
-        eos_story: place copy_place place_at place_of push_place
+        eos_story: place copy_place place_at place_of push_place is_same_place
         eos_table: Place place_of places
         eos_verdict: push_place
         """,

@@ -5,7 +5,7 @@ use Rattle.eos_evidence.specs.declared.application.App.{App}
 use Rattle.eos_evidence.specs.declared.ends.End.{End}
 use Rattle.eos_evidence.specs.Manifest.{spec_said_by}
 use Rattle.eos_evidence.specs.SpecFields.{SpecFields}
-use Rattle.eos_source.specs.Topics.{AreSourceTopics}
+use Rattle.eos_commits.specs.SourceTopics.{AreSourceTopics}
 use Rattle.eos_commands.specs.Folding.{AreFoldersAt, Folded, items_of}
 use Rattle.eos_commands.specs.declared.folder.PartitionFolder.{PartitionFolder}
 

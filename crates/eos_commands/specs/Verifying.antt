@@ -14,7 +14,7 @@ use Rattle.eos_disk.specs.declared.names.Form.{Form}
 use Rattle.eos_disk.specs.declared.names.Form.TheVariants.{Log, Fold}
 use Rattle.eos_disk.specs.Paths.{segment_path}
 use Rattle.eos_disk.specs.Shapes.{IsShapeAt}
-use Rattle.eos_source.specs.Topics.{AreSourceTopics}
+use Rattle.eos_commits.specs.SourceTopics.{AreSourceTopics}
 use Rattle.eos_reading.specs.declared.wanted.Wanted.{Wanted}
 use Rattle.eos_reading.specs.Wanted.{wanted_of}
 use Rattle.eos_commands.specs.declared.found.Likeness.{Likeness}

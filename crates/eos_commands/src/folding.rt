@@ -6,7 +6,7 @@ ghost use Rattle.eos_evidence.specs.Manifest.{spec_said_by};
 ghost use Rattle.eos_evidence.specs.SpecFields.{SpecFields};
 ghost use Rattle.eos_fold_file.specs.Legal.{IsRight};
 ghost use Rattle.eos_disk.specs.Refusals.{RefusesFile};
-ghost use Rattle.eos_source.specs.Topics.{AreSourceTopics};
+ghost use Rattle.eos_commits.specs.SourceTopics.{AreSourceTopics};
 ghost use Rattle.eos_commands.specs.Folding.{item_of, items_in, items_of, AreFoldersAt, IsFoldAt, IsFoldPut, IsFoldLeft, Folded as AreFolded, FoldedInPart};
 ghost use Rattle.eos_commands.specs.declared.folder.PartitionFolder.{PartitionFolder};
 
@@ -14,11 +14,11 @@ use crate::fold_fault::FoldingFault;
 use crate::fold_writing::write_fold;
 use crate::folder::{PartitionFolder, find_folders};
 use bytes::Bytes;
+use eos_commits::source_topics;
 use eos_disk::{Disk, DiskMut, FolderFault, NamedFile, open_log, read_manifest, refusal_of};
 use eos_evidence::{App, ReadFault};
 use eos_fold_file::{FoldFile, encode_fold, fold_of};
 use eos_reading::{Wanted, Wants};
-use eos_source::source_topics;
 use std::alloc::Global;
 use std::io::Read;
 

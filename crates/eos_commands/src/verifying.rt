@@ -7,13 +7,14 @@ ghost use Rattle.eos_disk.specs.Entries.{HasBytes, MayLackFile};
 ghost use Rattle.eos_evidence.specs.Evidence.{segments_of};
 ghost use Rattle.eos_disk.specs.Paths.{segment_path};
 ghost use Rattle.eos_disk.specs.declared.names.Form.TheVariants.{Log, Fold};
-ghost use Rattle.eos_source.specs.Topics.{AreSourceTopics};
+ghost use Rattle.eos_commits.specs.SourceTopics.{AreSourceTopics};
 ghost use Rattle.eos_commands.specs.Verifying.{IsFoldText, HasFold, IsOfFront, IsLike, HaveNone, IsFound, AreOfOne, AreFound, AreVerified};
 ghost use Rattle.eos_commands.specs.declared.found.Found.{Found};
 
 use crate::folding::refused;
 use crate::found::{Found, Likeness};
 use bytes::Bytes;
+use eos_commits::source_topics;
 use eos_disk::{
     Disk, DiskFault, FolderFault, Form, NamedFile, Shape, Watch, bases_in, open_segment,
     read_shape, segment_path,
@@ -21,7 +22,6 @@ use eos_disk::{
 use eos_evidence::{ReadFault, Segment};
 use eos_fold_file::{FoldFault, decode_fold, encode_fold, fold_of};
 use eos_reading::{Wanted, Wants};
-use eos_source::source_topics;
 use std::alloc::{AllocError, Global};
 use std::io::Read;
 

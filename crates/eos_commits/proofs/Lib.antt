@@ -16,3 +16,4 @@ pub mod NameSearch
 pub mod CommittedTable
 pub mod LogsInOrder
 pub mod NamesAscend
+pub mod TopicsOnce

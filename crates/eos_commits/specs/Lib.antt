@@ -4,6 +4,7 @@ pub mod EpochCommits
 pub mod EvidenceLogs
 pub mod Applications
 pub mod NameTables
+pub mod SourceTopics
 pub mod Kept
 pub mod Faults
 pub mod Plain

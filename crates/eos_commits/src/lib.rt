@@ -14,6 +14,7 @@ mod offsets;
 mod roles;
 mod settled;
 mod table;
+mod topics;
 mod visible;
 
 pub use commits::{CommitRef, last_committed};
@@ -23,4 +24,5 @@ pub use name::{IndexedName, Names, names_of};
 pub use offsets::{committed_offsets, offsets_of};
 pub use roles::TopicSet;
 pub use table::{CommitTable, commits_of, committed};
+pub use topics::source_topics;
 pub use visible::is_visible;

@@ -19,7 +19,7 @@ use Rattle.eos_source_check.specs.Listed.{IsListOf}
 use Rattle.eos_drawing.specs.declared.answer.Answer.{Answer}
 use Rattle.eos_drawing.specs.declared.answer.Answer.TheVariants as answers
 use Rattle.eos_drawing.specs.declared.answer.Drawn.{Drawn}
-use Rattle.eos_drawing.specs.declared.when.Times.{Times}
+use Rattle.eos_picture.specs.declared.times.Times.{Times}
 use Rattle.eos_drawing.specs.Drawings.{fault_of, around_of, AreItsFaults, IsShown, IsDrawing, AreTooFew}
 use Rattle.eos_drawing.specs.Folders.{is_later, HoldsAsRead}
 use Rattle.eos_drawing.specs.Pictures.{IsPictureOf}

@@ -5,7 +5,7 @@ use Rattle.eos_evidence.specs.declared.partition.Partition.{Partition}
 use Rattle.eos_picture.specs.declared.mark.Row.{Row}
 use Rattle.eos_source.specs.Said.{Known}
 use Rattle.eos_source_check.specs.Times.{AreTimesNamed}
-use Rattle.eos_drawing.specs.declared.when.Times.{Times}
+use Rattle.eos_picture.specs.declared.times.Times.{Times}
 use Rattle.eos_drawing.specs.Whens.{offsets_of, AreTimesOfRows}
 
 rows_push : (known : ℕ → Known) (partitions : List Partition) (rows : List Row) (times : List Times) (row : Row) (t : Times) → AreTimesOfRows known partitions rows times

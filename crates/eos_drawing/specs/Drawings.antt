@@ -15,11 +15,11 @@ use Rattle.eos_commits.specs.EvidenceLogs.{AreLogsOf}
 use Rattle.eos_picture.specs.declared.mark.Picture.{Picture}
 use Rattle.eos_verdict.specs.VerdictTexts.{verdict_line, status_of}
 use Rattle.eos_source.specs.Said.{Known}
-use Rattle.eos_drawing.specs.declared.drawing.Drawing.{Drawing}
-use Rattle.eos_drawing.specs.declared.when.Times.{Times}
-use Rattle.eos_drawing.specs.Shapes.{svg_text}
+use Rattle.eos_picture.specs.declared.drawing.Drawing.{Drawing}
+use Rattle.eos_picture.specs.declared.times.Times.{Times}
+use Rattle.eos_picture.specs.Shapes.{svg_text}
 use Rattle.eos_drawing.specs.Pictures.{IsPictureOf}
-use Rattle.eos_drawing.specs.Told.{TellOf}
+use Rattle.eos_picture.specs.Told.{TellOf}
 use Rattle.eos_drawing.specs.Whens.{AreTimesOfRows}
 
 -- the fault that a verdict names

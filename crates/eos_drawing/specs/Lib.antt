@@ -3,10 +3,4 @@ pub mod Folders
 pub mod FirstPictures
 pub mod Pictures
 pub mod steps
-pub mod Escaping
-pub mod CharacterData
-pub mod Looks
-pub mod Shapes
-pub mod Titles
-pub mod Told
 pub mod Whens

@@ -6,8 +6,8 @@ use Rattle.eos_picture.specs.declared.mark.Mark.{Mark}
 use Rattle.eos_picture.specs.declared.mark.Row.{Row}
 use Rattle.eos_source.specs.Said.{Known}
 use Rattle.eos_source_check.specs.Times.{AreTimesNamed}
-use Rattle.eos_drawing.specs.declared.when.Times.{Times}
-use Rattle.eos_drawing.specs.Titles.{mark_offset}
+use Rattle.eos_picture.specs.declared.times.Times.{Times}
+use Rattle.eos_picture.specs.Titles.{mark_offset}
 
 abbrev pub listed : Option ℕ → List ℕ
 listed None = []

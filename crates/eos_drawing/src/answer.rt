@@ -12,11 +12,10 @@ ghost use Rattle.eos_verdict.specs.VerdictTexts.{verdict_line, status_of};
 ghost use Rattle.eos_source.specs.Said.{known_by};
 
 use crate::picture::judged_picture;
-use crate::when::{Times, times_of_rows};
-use crate::{drawing_of, svg_text};
+use crate::when::times_of_rows;
 use eos_base::Workers;
 use eos_evidence::Evidence;
-use eos_picture::Picture;
+use eos_picture::{Picture, Times, drawing_of, svg_text};
 use eos_source::Source;
 use eos_source_check::{Judged, Unlisted, all_source_faults, judge_source};
 use eos_verdict::{Fault, Verdict, verdict_line};

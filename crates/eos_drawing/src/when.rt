@@ -3,22 +3,15 @@
 ghost use Rattle.std.specs.Prelude.{◌≡◌, ◌++◌, IfOk, OnOk};
 ghost use Rattle.eos_source.specs.Said.{known_by};
 ghost use Rattle.eos_source_check.specs.Times.{AreTimesNamed};
-ghost use Rattle.eos_drawing.specs.Titles.{mark_offset};
+ghost use Rattle.eos_picture.specs.Titles.{mark_offset};
 ghost use Rattle.eos_drawing.specs.Whens.{listed, offsets_of, AreTimesOfRows};
 
-use crate::cells::offset_of;
 use eos_base::Listed;
 use eos_evidence::Evidence;
-use eos_picture::{Mark, Row};
+use eos_picture::{Mark, Row, Times, offset_of};
 use eos_source::Source;
 use eos_source_check::{Unlisted, times_named};
 use std::alloc::{AllocError, Global};
-
-/// The times of the records at a row's marks, in milliseconds since 1970-01-01T00:00Z, each with its offset.
-#[derive(Drop)]
-pub struct Times {
-    pub at: Listed<(u64, i64)>,
-}
 
 fn push_offset(offsets: &mut Vec<u64>, mark: &Mark) -> Result<(), AllocError>
     ensures { OnOk result (offsets.new.items ≡ offsets.old.items ++ listed (mark_offset mark.now)) }

@@ -11,7 +11,7 @@ use Rattle.eos_sought.specs.declared.partition.Placed.{Placed}
 use Rattle.eos_sought.specs.declared.wanted.Wanted.{Wanted}
 use Rattle.eos_sought.specs.declared.wanted.Wanted.TheVariants.{Holding, Between, Of, Ending, Marking, Data, Open}
 use Rattle.eos_verdict.specs.FaultTexts.{name_text}
-use Rattle.eos_explaining.specs.Places.{at_text, spot_text, is_there, mark_of}
+use Rattle.eos_story.specs.Places.{at_text, spot_text, is_there, mark_of}
 
 abbrev pub kind_role : Wanted → List ℕ
 kind_role (Holding offset) = codes " before   "

@@ -10,7 +10,7 @@ use Rattle.eos_sought.specs.declared.partition.Placed.{Placed}
 use Rattle.eos_verdict.specs.FaultTexts.{name_text}
 use Rattle.eos_story.specs.declared.row.Row.{Row}
 use Rattle.eos_story.specs.declared.row.Row.TheVariants as rows
-use Rattle.eos_explaining.specs.Places.{is_there}
+use Rattle.eos_story.specs.Places.{is_there}
 
 -- ---- paths
 

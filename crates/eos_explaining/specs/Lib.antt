@@ -2,15 +2,11 @@ pub mod Explaining
 pub mod FirstStories
 pub mod Folders
 pub mod steps
-pub mod Places
 pub mod Records
 pub mod Batches
 pub mod RowLines
-pub mod Counts
 pub mod Lines
 pub mod Told
-pub mod GroupCommits
-pub mod Signs
 pub mod Sentences
 pub mod Commands
 pub mod Stories

@@ -16,7 +16,7 @@ use Rattle.eos_sought.specs.declared.finding.Find.{Find}
 use Rattle.eos_sought.specs.declared.sought.Sought.{Sought}
 use Rattle.eos_sought.specs.declared.sought.Sought.TheVariants.{At, Claiming, Hidden, Alike, OfId, Before, OfProducer, Within, Deciding, OfGroup, Passing, UpTo, Passed}
 use Rattle.eos_text.specs.Escaping.{escaped}
-use Rattle.eos_explaining.specs.Places.{at_text, spot_text, is_there, mark_of}
+use Rattle.eos_story.specs.Places.{at_text, spot_text, is_there, mark_of}
 
 abbrev pub role_of : Sought → List ℕ
 role_of (At place) = codes " record   "

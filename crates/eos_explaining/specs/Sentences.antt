@@ -10,8 +10,8 @@ use Rattle.eos_sought.specs.declared.partition.Placed.{Placed}
 use Rattle.eos_verdict.specs.FaultTexts.{name_text}
 use Rattle.eos_story.specs.declared.row.Row.{Row}
 use Rattle.eos_story.specs.declared.row.Row.TheVariants as rows
-use Rattle.eos_explaining.specs.Places.{at_text}
-use Rattle.eos_explaining.specs.Signs.{bearer}
+use Rattle.eos_story.specs.Places.{at_text}
+use Rattle.eos_story.specs.Signs.{bearer}
 
 -- ---- the place of a row
 

@@ -8,7 +8,7 @@ use Rattle.eos_notes.specs.Texts.{note_lines}
 use Rattle.eos_verdict.specs.VerdictTexts.{verdict_line}
 use Rattle.eos_story.specs.declared.row.Row.{Row}
 use Rattle.eos_explaining.specs.declared.whole_story.Story.{Story}
-use Rattle.eos_explaining.specs.Counts.{counts_line}
+use Rattle.eos_verdict.specs.Counts.{counts_line}
 use Rattle.eos_explaining.specs.Lines.{joined}
 use Rattle.eos_explaining.specs.RowLines.{more_line}
 use Rattle.eos_explaining.specs.Sentences.{sentences_text, shown_of}

@@ -6,11 +6,11 @@ ghost use Rattle.std.specs.Option.{option_copied};
 ghost use Rattle.eos_text.specs.Adding.{Adds};
 ghost use Rattle.eos_explaining.specs.Batches.{kind_role, end_text, data_text, content_text, touch_text, batch_line, no_batch_text, no_batch_line};
 
-use crate::names::{is_there, mark, push_at, push_name, push_spot};
 use eos_base::PartitionName;
 use eos_batch::{BatchHead, Kind, Marker};
 use eos_claims::Place;
 use eos_sought::{Placed, Wanted};
+use eos_story::{is_there, mark, push_at, push_name, push_spot};
 use eos_text::{push_text, push_value};
 use std::alloc::{AllocError, Global};
 

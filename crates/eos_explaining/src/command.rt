@@ -5,13 +5,11 @@ ghost use Rattle.std.specs.Option.{option_copied};
 ghost use Rattle.eos_text.specs.Adding.{Adds};
 ghost use Rattle.eos_explaining.specs.Commands.{offset_after, span_text, place_command, spot_command, first_command, segment_command, folder_command, row_command, is_spotted, is_fault_row, spotted, fault_row, is_end_row, ended, command_of, known_command, fault_command, command_line};
 
-use crate::names::is_there;
 use crate::paths::{push_partition_path, push_path};
-use crate::signs::Told;
 use eos_base::PartitionName;
 use eos_claims::Place;
 use eos_sought::Placed;
-use eos_story::Row;
+use eos_story::{Row, Told, is_there};
 use eos_text::{push_text, push_value};
 use std::alloc::{AllocError, Global};
 

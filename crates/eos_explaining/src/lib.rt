@@ -5,20 +5,15 @@
 mod answer;
 mod batches;
 mod command;
-mod counts;
 mod folder;
 mod lines;
-mod moves;
-mod names;
 mod paths;
 mod records;
 mod rows;
 mod sentences;
-mod signs;
 mod stories;
 mod story;
 mod told;
-mod twins;
 mod whole_story;
 
 pub use answer::{Answer, Asked, explain};

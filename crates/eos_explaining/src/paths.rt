@@ -6,8 +6,8 @@ ghost use Rattle.std.specs.List.{list_any};
 ghost use Rattle.eos_text.specs.Adding.{Adds};
 ghost use Rattle.eos_explaining.specs.Commands.{is_odd, is_unsaid, folder_quote, folder_text, zeros_before, number_text, path_text, partition_path};
 
-use crate::names::push_name;
 use eos_base::PartitionName;
+use eos_story::push_name;
 use eos_text::push_text;
 use std::alloc::{AllocError, Global};
 

@@ -7,12 +7,12 @@ ghost use Rattle.eos_sought.specs.declared.sought.Sought.TheVariants.{Alike, Bef
 ghost use Rattle.eos_text.specs.Adding.{Adds};
 ghost use Rattle.eos_explaining.specs.Records.{role_of, reading_at, reading_of, writer_text, fate_text, said_text, record_of, record_line, absent_text, no_record_line};
 
-use crate::names::{is_there, mark, push_at, push_spot};
 use eos_batch::Record;
 use eos_claims::Place;
 use eos_fold::{Fate, Item};
 use eos_segment::{Reading, push_decoded};
 use eos_sought::{Epochs, Find, Placed, Sought};
+use eos_story::{is_there, mark, push_at, push_spot};
 use eos_text::{push_escaped, push_text, push_value};
 use std::alloc::{AllocError, Global};
 

@@ -7,13 +7,12 @@ ghost use Rattle.eos_text.specs.Adding.{Adds};
 ghost use Rattle.eos_explaining.specs.RowLines.{width_of, bytes_text, more_line, segment_line, end_line, is_below_zero, value_text, values_text, header_line, first_line, row_line};
 
 use crate::batches::{kind_role, push_batch, push_no_batch};
-use crate::names::push_name;
 use crate::records::{push_no_record, push_record, role_of};
 use bytes::Bytes;
 use eos_base::PartitionName;
 use eos_claims::Place;
 use eos_sought::{Placed, Wanted};
-use eos_story::{HeaderName, Row};
+use eos_story::{HeaderName, Row, push_name};
 use eos_text::{push_text, push_value};
 use std::alloc::{AllocError, Global};
 

@@ -5,11 +5,9 @@ ghost use Rattle.std.specs.Option.{option_copied};
 ghost use Rattle.eos_text.specs.Adding.{Adds};
 ghost use Rattle.eos_explaining.specs.Sentences.{row_place, first_place, segment_place, case_text, kind_text, sentences_text, shown_by, shown_of};
 
-use crate::names::{push_at, push_name};
-use crate::signs::{Told, bearer};
 use eos_base::PartitionName;
 use eos_sought::Placed;
-use eos_story::Row;
+use eos_story::{Row, Told, bearer, push_at, push_name};
 use eos_text::{Case, Page, push_text, push_value};
 use std::alloc::{AllocError, Global};
 

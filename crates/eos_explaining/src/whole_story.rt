@@ -9,19 +9,17 @@ ghost use Rattle.eos_explaining.specs.Lines.{AreAmong, AreDistinct};
 ghost use Rattle.eos_explaining.specs.Stories.{lines_of_first, lines_of_story, rows_text, rest_text, page_text, notes_text, next_text, story_text};
 
 use crate::command::push_command;
-use crate::counts::push_counts;
 use crate::lines::push_joined;
 use crate::rows::push_more;
 use crate::sentences::{push_sentences, shown_of};
-use crate::signs::Told;
 use crate::told::told_lines;
 use eos_check::Verdict;
 use eos_claims::Place;
 use eos_evidence::Partition;
 use eos_notes::{Note, note_lines};
-use eos_story::Row;
+use eos_story::{Row, Told};
 use eos_text::{Page, push_text};
-use eos_verdict::verdict_line;
+use eos_verdict::{push_counts, verdict_line};
 use std::alloc::{AllocError, Global};
 
 /// How many lines of rows there are at most, and of notes.

@@ -1,5 +1,5 @@
 -- The sorted claims of inputs below their committed offsets.
-use Rattle.std.proofs.Common.{◌≡◌, ◌≤◌, ◌<◌, ℕ, suc, List, [], ◌∷◌, length, map, refl, sym, subst, ◌∙◌, inl, inr, true, false, Bool, arith, IsPermutation, IsSorted, cond}
+use Rattle.std.proofs.Common.{◌≡◌, ◌≤◌, ◌<◌, ℕ, suc, List, [], ◌∷◌, length, map, refl, sym, subst, ◌∙◌, inl, inr, true, false, Bool, arith, IsPermutation, IsSorted}
 use Rattle.std.specs.Prelude.{slice_index_or}
 use Rattle.std.specs.List.{filter}
 use Rattle.std.specs.Ordering.{nat_cmp, is_eq, is_lt, is_gt, ordering_then, ordering_reverse}

@@ -29,7 +29,6 @@ use Rattle.eos_commits.specs.Visible.{is_visible, visible}
 use Rattle.eos_commits.specs.Faults.{AreInOrder}
 use Rattle.eos_commits.specs.Applications.{Topic, is_part_of, parts_of, place_in, inputs_in, claims_with, claims_at, claims_in, placed, application_of}
 use Rattle.eos_lineage.specs.steps.Keys.{Climbs}
-use Rattle.eos_commits.specs.NameTables.{AreAscending}
 use Rattle.eos_lineage.specs.steps.Walks.{input_at, inputs_at, claims_of_part, by_place}
 use Rattle.eos_commits.proofs.NameSearch.{pairs_head, pairs_tail}
 

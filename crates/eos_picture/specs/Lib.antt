@@ -5,4 +5,10 @@ pub mod Marks
 pub mod Whole
 pub mod Order
 pub mod Window
+pub mod Escaping
+pub mod CharacterData
+pub mod Looks
+pub mod Shapes
+pub mod Titles
+pub mod Told
 pub mod steps

@@ -4,3 +4,4 @@ pub mod Found
 pub mod Kept
 pub mod Spots
 pub mod Standing
+pub mod Tellings

@@ -1,6 +1,7 @@
-//! What a picture promises of kept logs, it promises of the logs. These functions do nothing; their contracts are theorems.
+//! What a picture promises of kept logs, it promises of the logs; and what is so of the text of each drawing. These functions do nothing;
+//! their contracts are theorems.
 //!
-//! In each of them `apps` are any applications and `logs` any logs; what is kept of these is `wanted_logs apps logs`.
+//! In the first two `apps` are any applications and `logs` any logs; what is kept of these is `wanted_logs apps logs`.
 
 ghost use Rattle.std.specs.Prelude.{◌↔◌, ℕ, List, Option};
 ghost use Rattle.eos_verdict.specs.declared.verdict.Fault.{Fault};
@@ -14,6 +15,8 @@ ghost use Rattle.eos_picture.specs.declared.mark.Column.{Column};
 ghost use Rattle.eos_picture.specs.declared.mark.Picture.{Picture};
 ghost use Rattle.eos_picture.specs.declared.mark.Row.{Row};
 ghost use Rattle.eos_reading.specs.Wanted.{wanted_logs};
+ghost use Rattle.eos_picture.specs.Escaping.{xml_text};
+ghost use Rattle.eos_picture.specs.CharacterData.{IsCharacterData};
 
 /// Rows are true of kept logs exactly where they are true of the logs, and leave nothing of them out exactly where they leave nothing
 /// of the logs out.
@@ -31,4 +34,10 @@ pub fn window()
         → AreColumns (wanted_logs apps logs) columns ↔ AreColumns logs columns }
     ensures window { (apps : List App) (logs : List PartLog) (fault : Option Fault) (around : ℕ) (picture : Picture)
         → IsWindow (wanted_logs apps logs) fault around picture → IsWindow logs fault around picture }
+{}
+
+/// Whatever bytes a text has, it is written as character data: it ends no tag and no attribute, and has only characters that XML
+/// 1.0 allows.
+pub fn texts_stay_texts()
+    ensures { (bytes : List ℕ) → IsCharacterData (xml_text bytes) }
 {}

@@ -6,7 +6,6 @@ mod ShapesFilled
 mod SlotsFilled
 mod SlotsRead
 mod SlotsRefused
-mod TopicsOnce
 pub mod FoldBounds
 pub mod Saying
 pub mod SameShape

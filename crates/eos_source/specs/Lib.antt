@@ -2,7 +2,6 @@ pub mod Logs
 pub mod Refusals
 pub mod Said
 pub mod Shapes
-pub mod Topics
 pub mod steps
 pub mod FolderLogs
 pub mod FolderRefusals

@@ -21,11 +21,10 @@ mod seats;
 mod slots;
 mod source;
 mod told;
-mod topics;
 
+pub use eos_commits::source_topics;
 pub use folder_source::FolderSource;
 pub use logs::{KeptLogs, Tally, kept_logs};
 pub use memory::{MemoryFault, MemorySource};
 pub use reader::SegmentReader;
 pub use source::{Piece, Source};
-pub use topics::source_topics;

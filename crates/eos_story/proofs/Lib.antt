@@ -6,3 +6,4 @@ pub mod BatchesTold
 pub mod PairsTold
 pub mod EndsTold
 pub mod ListedTold
+pub mod BothHold

@@ -5,4 +5,7 @@ pub mod PlaceOfFault
 pub mod Questions
 pub mod Rows
 pub mod Wholeness
+pub mod Places
+pub mod GroupCommits
+pub mod Signs
 pub mod steps

@@ -6,3 +6,4 @@ pub mod VerdictNames
 pub mod Details
 pub mod FaultTexts
 pub mod VerdictTexts
+pub mod Counts

@@ -3,6 +3,7 @@
 //! What a fault says of logs, and which is the first, the crates of the phases say.
 #![tactic(auto)]
 
+mod counts;
 mod details;
 mod fault_text;
 mod line;
@@ -12,6 +13,7 @@ mod match_fault;
 mod verdict;
 mod visible_fault;
 
+pub use counts::push_counts;
 pub use details::push_details;
 pub use line::{push_no, text_of_fault, verdict_line};
 pub use lineage_fault::LineageFault;

@@ -10,16 +10,16 @@ use Rattle.eos_source.specs.Said.{Known}
 use Rattle.eos_source_check.specs.Judged.{IsJudgedFor}
 use Rattle.eos_source_check.specs.declared.judged.Judged.{Judged}
 use Rattle.eos_source_check.specs.Again.{AreAgain, AreThere}
-use Rattle.eos_drawing.specs.declared.drawing.Drawing.{Drawing}
-use Rattle.eos_drawing.specs.declared.when.Times.{Times}
-use Rattle.eos_drawing.specs.Shapes.{svg_text}
+use Rattle.eos_picture.specs.declared.drawing.Drawing.{Drawing}
+use Rattle.eos_picture.specs.declared.times.Times.{Times}
+use Rattle.eos_picture.specs.Shapes.{svg_text}
 use Rattle.eos_drawing.specs.declared.answer.Answer.{Answer}
 use Rattle.eos_drawing.specs.declared.answer.Answer.TheVariants as answers
 use Rattle.eos_drawing.specs.declared.answer.Drawn.{Drawn}
 use Rattle.eos_drawing.specs.Drawings.{fault_of, around_of, drew_line, IsDrawing, AreTooFew}
 use Rattle.eos_drawing.specs.Folders.{is_later}
 use Rattle.eos_drawing.specs.Pictures.{IsPictureOf}
-use Rattle.eos_drawing.specs.Told.{TellOf}
+use Rattle.eos_picture.specs.Told.{TellOf}
 use Rattle.eos_drawing.specs.Whens.{AreTimesOfRows}
 
 abbrev pub IsAnswer : Option ℕ → Option ℕ → Answer → (ℕ → Known) → List Partition → EvidenceParts → Type 0

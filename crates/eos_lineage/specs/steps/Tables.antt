@@ -1,5 +1,5 @@
 -- The tables in which claims and inputs are looked up.
-use Rattle.std.specs.Prelude.{◌≡◌, ℕ, ◌-◌, ℤ, pos, Bool, false, ◌&&◌, not, nat_lt, List, Option, Some, None, if◌then◌else◌, int_lt, unsigned_abs}
+use Rattle.std.specs.Prelude.{ℕ, ◌-◌, ℤ, pos, Bool, false, ◌&&◌, not, nat_lt, List, Option, Some, None, if◌then◌else◌, int_lt, unsigned_abs}
 use Rattle.std.specs.List.{list_any}
 use Rattle.std.specs.Option.{option_to_list}
 use Rattle.std.specs.Ordering.{nat_cmp, int_cmp, is_eq, then_cmp, on}

@@ -6,7 +6,7 @@ use Rattle.eos_drawing.specs.Drawings.{fault_of, around_of}
 use Rattle.eos_drawing.specs.Pictures.{IsPictureOf}
 use Rattle.eos_drawing.specs.Whens.{AreTimesOfRows}
 use Rattle.eos_drawing.specs.steps.Answers.{IsText}
-use Rattle.eos_drawing.specs.declared.when.Times.{Times}
+use Rattle.eos_picture.specs.declared.times.Times.{Times}
 use Rattle.eos_drawing.proofs.JudgedAnswers.{many_around, drawn_by}
 use Rattle.eos_drawing.proofs.answer.drawn_of.Goals as goal
 

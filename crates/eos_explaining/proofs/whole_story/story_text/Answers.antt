@@ -1,7 +1,7 @@
 use Rattle.std.proofs.Common.{◌∙◌, ap, sym, subst, ◌++◌, ℕ, List, map, take}
 use Rattle.std.specs.Option.{option_copied}
 use Rattle.eos_text.proofs.Appended.{then}
-use Rattle.eos_explaining.specs.Counts.{counts_line}
+use Rattle.eos_verdict.specs.Counts.{counts_line}
 use Rattle.eos_explaining.specs.Lines.{AreAmong}
 use Rattle.eos_explaining.specs.Stories.{lines_of_story, rows_text, page_text, notes_text, next_text, story_text}
 use Rattle.eos_explaining.specs.Told.{told_line}

@@ -1,6 +1,0 @@
-use Rattle.std.proofs.Common.{refl}
-use Rattle.eos_drawing.proofs.Tellings.{told}
-use Rattle.eos_drawing.proofs.canvas.Canvas.told.Goals as goal
-
-pub returns : goal.returns
-returns c = told c.args.self.now.shapes.items _ _ _ refl c.in_ok-push.ensures.items

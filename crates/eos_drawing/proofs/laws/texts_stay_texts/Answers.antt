@@ -1,5 +1,0 @@
-use Rattle.eos_drawing.proofs.Escaped.{all_data}
-use Rattle.eos_drawing.proofs.laws.texts_stay_texts.Goals as goal
-
-pub returns : goal.returns
-returns c = all_data

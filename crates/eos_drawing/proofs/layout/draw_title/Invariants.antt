@@ -1,6 +1,0 @@
-use Rattle.std.proofs.Common.{◌≡◌}
-use Rattle.eos_drawing.specs.Told.{tellings}
-use Rattle.eos_drawing.proofs.layout.draw_title.Given as goal
-
-abbrev pub invariant-loop-line : goal.invariant-loop-line
-invariant-loop-line l = tellings l.canvas.shapes.items ≡ tellings l.fn.canvas.shapes.items

@@ -1,6 +1,0 @@
-use Rattle.std.proofs.Common.{◌≡◌}
-use Rattle.eos_drawing.specs.Told.{tellings}
-use Rattle.eos_drawing.proofs.rows.draw_left_out.Given as goal
-
-abbrev pub invariant-loop-column : goal.invariant-loop-column
-invariant-loop-column l = tellings l.canvas.shapes.items ≡ tellings l.fn.canvas.shapes.items

@@ -1,0 +1,7 @@
+use Rattle.eos_text.proofs.Appended.{then}
+use Rattle.eos_picture.specs.Titles.{commit_text}
+use Rattle.eos_picture.proofs.told.push_commit.Goals as goal
+
+pub returns : goal.returns
+unfolding commit_text
+returns c = then (rw c.as_slice.ensures at c.in_ok-push_escaped.ensures) (then c.in_ok-push_value.ensures (then c.in_ok-push_value-2.ensures c.in_ok-push_text.ensures))

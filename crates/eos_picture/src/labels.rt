@@ -1,0 +1,119 @@
+//! Short texts.
+
+ghost use Rattle.std.specs.Prelude.{◌≡◌, ◌++◌, codes, OnOk, string_bytes};
+ghost use Rattle.std.specs.Fmt.{signed_decimal};
+ghost use Rattle.eos_text.specs.Adding.{Adds};
+ghost use Rattle.eos_picture.specs.Titles.{passed_text};
+
+use eos_base::PartitionName;
+use eos_text::{push_escaped, push_text, push_value};
+use std::alloc::{AllocError, Global};
+
+/// How many digits a number has.
+pub(crate) fn digits(number: u64) -> u64 {
+    let mut left = number;
+    let mut count = 1u64;
+    for _ in 0..19 {
+        if left >= 10 {
+            left /= 10;
+            count = count.saturating_add(1);
+        }
+    }
+    count
+}
+
+/// A text in ASCII of at most so many characters: of a longer one the first and the last ones, with two dots between.
+pub(crate) fn shortened(alloc: Global, text: &str, most: usize) -> Result<String, AllocError> {
+    let bytes = text.as_bytes();
+    let mut out = String::new(alloc);
+    if bytes.len() <= most {
+        push_bytes(&mut out, bytes)?;
+        return Ok(out);
+    }
+    let kept = most.saturating_sub(2);
+    let last = kept / 2;
+    push_bytes(&mut out, &bytes[..(kept - last).min(bytes.len())])?;
+    push_text(&mut out, "..")?;
+    push_bytes(&mut out, &bytes[bytes.len().saturating_sub(last)..])?;
+    Ok(out)
+}
+
+fn push_bytes(out: &mut String, bytes: &[u8]) -> Result<(), AllocError> {
+    for byte in bytes {
+        out.push(char::from(*byte))?;
+    }
+    Ok(())
+}
+
+/// A partition's name, of at most so many characters: the topic is shortened where it is longer.
+pub(crate) fn name_label(
+    alloc: Global,
+    name: &PartitionName,
+    most: usize,
+) -> Result<String, AllocError> {
+    let mut topic = String::new(alloc);
+    push_escaped(alloc, &mut topic, "", name.topic.as_slice())?;
+    let mut number = String::new(alloc);
+    push_value(&mut number, "-", &name.partition)?;
+    let mut out = shortened(alloc, topic.as_str(), most.saturating_sub(number.len()))?;
+    push_text(&mut out, number.as_str())?;
+    Ok(out)
+}
+
+/// A number.
+pub(crate) fn number_label(alloc: Global, number: u64) -> Result<String, AllocError> {
+    let mut out = String::new(alloc);
+    push_value(&mut out, "", &number)?;
+    Ok(out)
+}
+
+/// A partition and the offset that is committed of it.
+pub(crate) fn commit_label(
+    alloc: Global,
+    source: &PartitionName,
+    committed: i64,
+    most: usize,
+) -> Result<String, AllocError> {
+    let mut offset = String::new(alloc);
+    push_value(&mut offset, " -> ", &committed)?;
+    let mut out = name_label(alloc, source, most.saturating_sub(offset.len()))?;
+    push_text(&mut out, offset.as_str())?;
+    Ok(out)
+}
+
+fn push_range(out: &mut String, from: &i64, to: &i64) -> Result<(), AllocError>
+    ensures { OnOk result (Adds (string_bytes out.old) (string_bytes out.new) ((codes "[" ++ signed_decimal from.now) ++ ((codes "," ++ signed_decimal to.now) ++ codes ")"))) }
+{
+    push_value(out, "[", from)?;
+    push_value(out, ",", to)?;
+    push_text(out, ")")?;
+    Ok(())
+}
+
+fn push_back(out: &mut String, from: &i64, to: &i64) -> Result<(), AllocError>
+    ensures { OnOk result (Adds (string_bytes out.old) (string_bytes out.new) ((codes "" ++ signed_decimal from.now) ++ (codes " back to " ++ signed_decimal to.now))) }
+{
+    push_value(out, "", from)?;
+    push_value(out, " back to ", to)?;
+    Ok(())
+}
+
+/// Adds the offsets that a commit passed.
+pub(crate) fn push_passed(out: &mut String, from: &i64, to: &i64) -> Result<(), AllocError>
+    ensures { OnOk result (Adds (string_bytes out.old) (string_bytes out.new) (passed_text from.now to.now)) }
+{
+    if *from == *to {
+        return push_value(out, "at ", to);
+    }
+    if *from < *to {
+        return push_range(out, from, to);
+    }
+    push_back(out, from, to)
+}
+
+/// The offsets that a commit passed.
+pub(crate) fn passed_label(alloc: Global, from: &i64, to: &i64) -> Result<String, AllocError> {
+    let mut out = String::new(alloc);
+    push_passed(&mut out, from, to)?;
+    Ok(out)
+}

@@ -1,0 +1,236 @@
+//! The drawing of a picture.
+
+ghost use Rattle.std.specs.Prelude.{◌≡◌, ◌++◌, ◌≤◌, ℕ, List, IfOk, OnOk, string_bytes};
+ghost use Rattle.eos_picture.specs.Told.{tellings, AreRowsTold, TellOf};
+ghost use Rattle.eos_picture.specs.steps.Tellings.{times_of};
+
+use crate::canvas::Canvas;
+use crate::drawn_rows::{Telling, draw_row};
+use crate::headings::{draw_heading, draw_other_heading, heading_of, index_of};
+use crate::legend::{ROOM, draw_legend};
+use crate::plan::{GAP, Plan, plan_of};
+use crate::times::Times;
+use crate::{Drawing, Look, Picture, Point, Shape, Size};
+use eos_base::Listed;
+use std::alloc::{AllocError, Global};
+
+/// The width of a character of the title, and more.
+const TITLE_CHARACTER: u64 = 8;
+
+/// The height of a line of the title.
+const TITLE_LINE: u64 = 17;
+
+/// The height of the headings.
+const HEADINGS: u64 = 50;
+
+/// What a picture can't say.
+const NO_CLOCK: &str =
+    "a column is a transaction, T1 the one of the first Prepare record; partitions have no clock in common";
+
+/// The lines of a text in ASCII, of so many characters each.
+fn lines_of(alloc: Global, text: &str, most: u64) -> Result<Vec<String>, AllocError> {
+    let mut lines = Vec::new(alloc);
+    let mut line = String::new(alloc);
+    let mut count = 0u64;
+    for byte in text.as_bytes() {
+        if count == most {
+            lines.push(line)?;
+            line = String::new(alloc);
+            count = 0;
+        }
+        line.push(char::from(*byte))?;
+        count = count.saturating_add(1);
+    }
+    lines.push(line)?;
+    Ok(lines)
+}
+
+/// Draws a text in lines of at most so many characters, and gives the height where they end.
+fn draw_title(canvas: &mut Canvas, title: &str, most: u64) -> Result<u64, AllocError>
+    ensures { OnOk result (tellings canvas.new.shapes.items ≡ tellings canvas.old.shapes.items) }
+{
+    let lines = lines_of(canvas.alloc, title, most.max(1))?;
+    let mut y = GAP.saturating_add(12);
+    for line in lines {
+        canvas.text(Point { x: GAP, y }, line, Look::Title)?;
+        y = y.saturating_add(TITLE_LINE);
+    }
+    Ok(y)
+}
+
+/// Draws what stands above the columns in a drawing of this width, and gives the height where that ends.
+fn draw_head(canvas: &mut Canvas, title: &str, width: u64) -> Result<u64, AllocError>
+    ensures { OnOk result (tellings canvas.new.shapes.items ≡ tellings canvas.old.shapes.items) }
+{
+    let most = width.saturating_sub(2 * GAP) / TITLE_CHARACTER;
+    let below = draw_title(canvas, title, most)?;
+    canvas.words(Point { x: GAP, y: below }, NO_CLOCK, Look::Remark)?;
+    Ok(below.saturating_add(12))
+}
+
+/// Draws the headings of the columns from this height on.
+fn draw_headings(
+    canvas: &mut Canvas,
+    plan: &Plan,
+    picture: &Picture,
+    top: u64,
+) -> Result<(), AllocError>
+    ensures { OnOk result (tellings canvas.new.shapes.items ≡ tellings canvas.old.shapes.items) }
+{
+    for i in 0..picture.columns.len() {
+        let heading = heading_of(canvas.alloc, index_of(picture, i), &picture.columns[i])?;
+        let at = Point {
+            x: plan.x_of(i as u64),
+            y: top,
+        };
+        draw_heading(canvas, at, heading)?;
+    }
+    if plan.columns > picture.columns.len() {
+        let at = Point {
+            x: plan.x_of(picture.columns.len() as u64),
+            y: top,
+        };
+        draw_other_heading(canvas, at)?;
+    }
+    Ok(())
+}
+
+/// Of the row at this place the times.
+#[tactic(auto, using(crate::proofs::Tellings::times_past, crate::proofs::Tellings::times_there))]
+fn times_of(times: &[Times], i: usize) -> &[(u64, i64)]
+    ensures { result.now ≡ times_of times.now i }
+{
+    if i >= times.len() {
+        return &[];
+    }
+    times[i].at.as_slice()
+}
+
+/// Draws the rows from this height on, and gives the height where they end.
+fn draw_rows(
+    canvas: &mut Canvas,
+    plan: &Plan,
+    picture: &Picture,
+    times: &[Times],
+    top: u64,
+) -> Result<u64, AllocError>
+    requires { 1 ≤ plan.now.columns }
+    ensures { OnOk result ((texts : List (List ℕ)) × (tellings canvas.new.shapes.items ≡ tellings canvas.old.shapes.items ++ texts) × AreRowsTold picture.now.columns.items picture.now.rows.items times.now texts) }
+{
+    let columns = picture.columns.as_slice();
+    let rows = picture.rows.as_slice();
+    let mut bottom = top;
+    for i in 0..rows.len() {
+        let told = Telling {
+            columns,
+            row: &rows[i],
+            times: times_of(times, i),
+        };
+        let end = draw_row(canvas, plan, bottom, told)?;
+        bottom = end;
+    }
+    Ok(bottom)
+}
+
+/// How high the columns stand.
+#[derive(Clone, Copy)]
+struct Heights {
+    top: u64,
+    bottom: u64,
+}
+
+/// The ground of each column.
+fn draw_grounds(
+    canvas: &mut Canvas,
+    plan: &Plan,
+    columns: usize,
+    heights: Heights,
+) -> Result<(), AllocError>
+    ensures { OnOk result (tellings canvas.new.shapes.items ≡ tellings canvas.old.shapes.items) }
+{
+    for i in 0..columns {
+        let at = Point {
+            x: plan.x_of(i as u64),
+            y: heights.top,
+        };
+        let size = Size {
+            width: plan.column,
+            height: heights.bottom.saturating_sub(heights.top),
+        };
+        canvas.rectangle(at, size, Look::Column)?;
+    }
+    Ok(())
+}
+
+/// What lies below all that is drawn: the page, the columns, and the arcs between the fault's places.
+fn draw_ground(
+    ground: &mut Canvas,
+    plan: &Plan,
+    columns: usize,
+    size: Size,
+    heights: Heights,
+) -> Result<(), AllocError>
+    ensures { OnOk result (tellings ground.new.shapes.items ≡ tellings ground.old.shapes.items) }
+{
+    ground.rectangle(Point { x: 0, y: 0 }, size, Look::Page)?;
+    draw_grounds(ground, plan, columns, heights)?;
+    Ok(())
+}
+
+/// These shapes, and on them those of the canvas.
+fn laid_upon(ground: Canvas, canvas: Canvas) -> Result<Vec<Shape>, AllocError>
+    ensures { IfOk result (λ shapes. tellings shapes.items ≡ tellings ground.shapes.items ++ tellings canvas.shapes.items) }
+{
+    let mut ground = ground;
+    let mut canvas = canvas;
+    ground.arcs(canvas.spots.as_slice())?;
+    let mut shapes = ground.shapes;
+    shapes.append(&mut canvas.shapes)?;
+    Ok(shapes)
+}
+
+/// The drawing of a picture under a title, which is in ASCII. Of each mark is told what it is, with the time of its record where its row's
+/// times have it.
+///
+/// # Errors
+/// Only want of memory.
+pub fn drawing_of(
+    alloc: Global,
+    picture: &Picture,
+    times: &[Times],
+    title: String,
+) -> Result<Drawing, AllocError>
+    ensures title { IfOk result (λ drawing. string_bytes drawing.title ≡ string_bytes title) }
+    ensures told { IfOk result (λ drawing. TellOf picture.now times.now drawing.shapes) }
+{
+    let plan = plan_of(alloc, picture)?;
+    let width = plan.right().max(ROOM.width).saturating_add(GAP);
+    let mut canvas = Canvas::new(alloc);
+    let top = draw_head(&mut canvas, title.as_str(), width)?;
+    draw_headings(&mut canvas, &plan, picture, top)?;
+    let bottom = draw_rows(
+        &mut canvas,
+        &plan,
+        picture,
+        times,
+        top.saturating_add(HEADINGS),
+    )?;
+    let legend = Point {
+        x: GAP,
+        y: bottom.saturating_add(16),
+    };
+    draw_legend(&mut canvas, legend)?;
+    let size = Size {
+        width,
+        height: legend.y.saturating_add(ROOM.height),
+    };
+    let mut ground = Canvas::new(alloc);
+    let heights = Heights { top, bottom };
+    draw_ground(&mut ground, &plan, picture.columns.len(), size, heights)?;
+    let shapes = laid_upon(ground, canvas)?;
+    Ok(Drawing {
+        size,
+        title,
+        shapes: Listed::new(shapes),
+    })
+}

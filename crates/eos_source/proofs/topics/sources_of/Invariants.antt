@@ -1,6 +1,0 @@
-use Rattle.std.proofs.Common.{◌≡◌, take}
-use Rattle.eos_source.specs.Topics.{sources_of}
-use Rattle.eos_source.proofs.topics.sources_of.Given as goal
-
-abbrev pub invariant-loop-app : goal.invariant-loop-app
-invariant-loop-app l = l.topics.items ≡ sources_of (take l.app-index l.apps)
