@@ -172,6 +172,11 @@ class Reader:
     def __init__(self, data):
         self.data, self.at = data, 0
 
+    def begin(self, field):
+        """From here on a refusal is of this field."""
+        self.place = self.at, field
+        return self
+
     def take(self, length):
         if length > len(self.data) - self.at:
             raise Refused("Short")
@@ -293,25 +298,27 @@ def is_said(claim):
     return claim.partition >= 0 and claim.offset <= LAST_OFFSET and claim.output < 2**31 and claim.of < 2**31
 
 
-def read_fold(data):
-    """The fold of which this is the file; Refused tells by its name why it is none."""
-    fields = Reader(data)
-    if fields.take(len(MAGIC)) != MAGIC:
+def read_fields(fields):
+    """The fold whose file a reader has; Refused tells by its name why it is none, and the reader at which field."""
+    data = fields.data
+    if fields.begin("magic").take(len(MAGIC)) != MAGIC:
         raise Refused("Magic")
-    if fields.kind("Version", 255) != VERSION:
+    if fields.begin("version").kind("Version", 255) != VERSION:
         raise Refused("Version")
-    roles = fields.kind("Roles", 2)
-    topic, partition, base, size = fields.text(), fields.number(32), fields.number(), fields.unsigned()
-    batches = struct.unpack(">I", fields.take(4))[0]
+    roles = fields.begin("roles").kind("Roles", 2)
+    topic, partition = fields.begin("topic").text(), fields.begin("partition").number(32)
+    base, size = fields.begin("base").number(), fields.begin("bytes").unsigned()
+    batches = struct.unpack(">I", fields.begin("batches").take(4))[0]
     heads, epochs, topics, kept = [], [], [], []
-    for _ in range(fields.unsigned()):
+    for _ in range(fields.begin("heads").unsigned()):
         heads.append(fields.head())
     if abs(base) + sum(head.count for head in heads) > LAST_OFFSET + 1 or sum(head.size for head in heads) > min(size, 2**63):
         raise Refused("Head")
-    for _ in range(fields.unsigned()):
+    for _ in range(fields.begin("epochs").unsigned()):
         epochs.append((fields.number(32), fields.unsigned()))
     if not are_entries(base, heads, epochs):
         raise Refused("Epoch")
+    fields.begin("kept")
     if roles == CLAIMS:
         topics = [fields.text() for _ in range(fields.unsigned())]
     if roles != PRESENCE:
@@ -319,17 +326,34 @@ def read_fold(data):
         kept = [fields.claim() for _ in range(records)] if roles == CLAIMS else fields.texts(records)
     if roles == CLAIMS:
         kept = [placed(claim, topics) for claim in kept]
-    stop, checked = fields.stop(), fields.at
+    stop, checked = fields.begin("stop").stop(), fields.at
     fold = Fold(roles, topic, partition, base, size, batches, heads, epochs, topics, kept, stop)
     if not is_inside(fold):
         raise Refused("Stop")
-    if struct.unpack(">I", fields.take(4))[0] != plain_logs.crc32c(data[:checked]):
+    if struct.unpack(">I", fields.begin("checksum").take(4))[0] != plain_logs.crc32c(data[:checked]):
         raise Refused("Crc")
     if fields.at < len(data):
+        fields.begin("end")
         raise Refused("Trailing")
     if not all(is_said(it if roles == CLAIMS else it[2]) for it in kept):
+        fields.place = None
         raise Refused("Record")
     return fold
+
+
+def read_fold(data):
+    """The fold of which this is the file; Refused tells by its name why it is none."""
+    return read_fields(Reader(data))
+
+
+def place_of(data):
+    """At which byte the field begins by which these bytes are no fold file, and the field's name; None where no single field is it."""
+    fields = Reader(data)
+    try:
+        read_fields(fields)
+    except Refused:
+        return fields.place
+    return None
 
 
 def name_of(data):

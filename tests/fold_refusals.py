@@ -1,7 +1,8 @@
 """Fold files that are none or stand at another place, and what can't be read or written while segments are folded or folds are checked.
 
 For tests/folds.py. Which name a damaged file gets is what the second decoder says (tests/fold_files.py), and the first line of a
-refusal says it behind the path; the words of its second line are the program's.
+refusal says it behind the path; the second begins with the place and the name of the field that is refused, as that decoder says too. The
+words behind them are the program's.
 """
 import os
 import re
@@ -40,8 +41,11 @@ class Place:
         write(os.path.join(self.folder, path), data)
         status, out, err = self.tests.run("check", "--workers", workers, self.folder, **run)
         lines = err.split("\n")
-        told = status, out, lines[0], len(lines), len(lines) == 3 and lines[1].startswith("  ") and len(lines[1]) > 2
-        self.tests.same(f"{what}, {workers} workers", told, (2, "", f"eoscheck: {os.path.join(self.folder, path)}: {name}", 3, True))
+        place = fold_files.place_of(data)
+        begins = "  " if place is None else "  at byte {}, the {}: ".format(*place)
+        lines += [""] * (3 - len(lines))
+        told = status, out, lines[0], len(lines), lines[1][: len(begins)], len(lines[1]) > len(begins)
+        self.tests.same(f"{what}, {workers} workers", told, (2, "", f"eoscheck: {os.path.join(self.folder, path)}: {name}", 3, begins, True))
         self.back(path)
 
     def back(self, path):

@@ -13,7 +13,7 @@ ghost use Rattle.eos_source.specs.FolderRefusals.{IsForName};
 use bytes::Bytes;
 use eos_disk::{Cause, FoldRefusal, FolderFault, Form, refused_at, refused_fold, segment_path};
 use eos_evidence::{MAX_SEGMENT_BYTES, Segment};
-use eos_fold_file::{FoldFault, FoldFile, Unfit, decode_fold};
+use eos_fold_file::{FoldFault, FoldField, FoldFile, Unfit, decode_fold, refused_field};
 use std::alloc::{AllocError, Global};
 
 /// Why a fold isn't one of the segment by whose name its file lies there.
@@ -65,7 +65,54 @@ pub(crate) fn read_fold(
             Some(why) => Err(refused_as(alloc, folder, name, why)),
         },
         Err(FoldFault::OutOfMemory) => Err(FolderFault::OutOfMemory),
-        Err(fault) => Err(refused_fold(alloc, folder, name, unread(fault))),
+        Err(fault) => Err(refused_in(alloc, folder, name, bytes, fault)),
+    }
+}
+
+/// The bytes of the fold of this name are none by this fault, in one of their fields.
+#[tactic(auto, using(crate::proofs::Refused::fold_piece, crate::proofs::Refused::fold_so))]
+fn refused_in(
+    alloc: Global,
+    folder: &str,
+    name: &Segment,
+    bytes: &Bytes,
+    fault: FoldFault,
+) -> FolderFault
+    ensures path { RefusesPiece (segment_path folder.now name.now Fold) result }
+    ensures so { (e : Entry) → MayRefuse e result }
+{
+    let path = segment_path(alloc, folder, name, Form::Fold);
+    match (path, placed(alloc, bytes, words_of(fault))) {
+        (Ok(path), Some(words)) => FolderFault::Fold(path, fault.name(), Cause::Told(words)),
+        _ => FolderFault::OutOfMemory,
+    }
+}
+
+/// The words of a refusal behind the place and the name of the field that is refused, unless memory runs out.
+fn placed(alloc: Global, bytes: &Bytes, words: &str) -> Option<String> {
+    let refused = refused_field(alloc, bytes)?;
+    let at = bytes.len().saturating_sub(refused.left);
+    let field = field_name(refused.field);
+    format!(in alloc; "at byte {at}, the {field}: {words}").ok()
+}
+
+/// As docs/FOLD.md names a field.
+fn field_name(field: FoldField) -> &'static str {
+    match field {
+        FoldField::Magic => "magic",
+        FoldField::Version => "version",
+        FoldField::Roles => "roles",
+        FoldField::Topic => "topic",
+        FoldField::Partition => "partition",
+        FoldField::Base => "base",
+        FoldField::Bytes => "bytes",
+        FoldField::Batches => "batches",
+        FoldField::Heads => "heads",
+        FoldField::Epochs => "epochs",
+        FoldField::Kept => "kept",
+        FoldField::Stop => "stop",
+        FoldField::Checksum => "checksum",
+        FoldField::End => "end",
     }
 }
 
@@ -113,24 +160,20 @@ pub(crate) fn refused_unfit(path: Result<String, AllocError>, why: Unfit) -> Fol
 }
 
 /// Bytes are no fold by this fault.
-fn unread(fault: FoldFault) -> FoldRefusal {
-    FoldRefusal {
-        name: fault.name(),
-        words: match fault {
-            FoldFault::Short => "it ends early",
-            FoldFault::Magic => "it doesn't begin with EOSFOLD, as a fold does",
-            FoldFault::Version => "it is of another version than this program reads",
-            FoldFault::Roles => "what was wanted of its records is none of the three roles",
-            FoldFault::Number =>
-                "a number is spelled longer than it need be, or doesn't fit its field",
-            FoldFault::Head => "no batch has a head that stands in it, or the offsets pass 2^63",
-            FoldFault::Epoch => "no batches have the leader epochs that stand in it",
-            FoldFault::Record =>
-                "what is kept of a record is of no known kind, or of no topic that was asked for",
-            FoldFault::Stop => "the segment's front ends for no known reason",
-            FoldFault::Crc => "its checksum differs, so it was changed after it was written",
-            FoldFault::Trailing => "bytes are left after its checksum",
-            FoldFault::OutOfMemory => "memory ran out",
-        },
+fn words_of(fault: FoldFault) -> &'static str {
+    match fault {
+        FoldFault::Short => "it ends early",
+        FoldFault::Magic => "it doesn't begin with EOSFOLD, as a fold does",
+        FoldFault::Version => "it is of another version than this program reads",
+        FoldFault::Roles => "what was wanted of its records is none of the three roles",
+        FoldFault::Number => "a number is spelled longer than it need be, or doesn't fit its field",
+        FoldFault::Head => "no batch has a head that stands in it, or the offsets pass 2^63",
+        FoldFault::Epoch => "no batches have the leader epochs that stand in it",
+        FoldFault::Record =>
+            "what is kept of a record is of no known kind, or of no topic that was asked for",
+        FoldFault::Stop => "the segment's front ends for no known reason",
+        FoldFault::Crc => "its checksum differs, so it was changed after it was written",
+        FoldFault::Trailing => "bytes are left after its checksum",
+        FoldFault::OutOfMemory => "memory ran out",
     }
 }
