@@ -13,6 +13,7 @@ import plain_logs
 from mutants import LAST_OFFSET
 
 SEGMENT = re.compile(r"([0-9]{20})[.]log")
+EITHER = re.compile(r"([0-9]{20})[.](log|fold)")
 
 
 class Tests:
@@ -42,8 +43,12 @@ class Tests:
         return done.returncode, done.stdout.decode(), done.stderr.decode()
 
     def check(self, folder, *words):
-        """What `check` says of a folder, whatever its name is."""
+        """What `check` says of a folder, whatever its name is, but for the note of its folds behind all others, which has to stand there."""
         status, out, err = self.run("check", *words, folder)
+        if status < 2:
+            note = note_of_folds(folder)
+            self.same(f"{folder}: the note of its folds", (err[len(err) - len(note) :], err.count("judged by folds")), (note, note.count("\n")))
+            err = err[: len(err) - len(note)]
         return status, out.replace(folder, "FOLDER"), err.replace(folder, "FOLDER")
 
     def new(self, name):
@@ -75,6 +80,19 @@ def segments_of(folder, partition):
     """The bases of a partition's segments."""
     found = (SEGMENT.fullmatch(it) for it in os.listdir(os.path.join(folder, partition)))
     return sorted(int(it[1]) for it in found if it and int(it[1]) <= LAST_OFFSET)
+
+
+def forms_of(folder):
+    """In which form each segment stands in the partitions that are evidence."""
+    found = (EITHER.fullmatch(it) for partition in partitions_of(folder) for it in os.listdir(os.path.join(folder, partition)))
+    return [it[2] for it in found if it and int(it[1]) <= LAST_OFFSET]
+
+
+def note_of_folds(folder):
+    """What `check` says of them behind its notes, if there are any."""
+    forms = forms_of(folder)
+    folds = forms.count("fold")
+    return f"eoscheck: note: {folds} of {len(forms)} segments were judged by folds\n" if folds else ""
 
 
 def read(path):

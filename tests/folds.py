@@ -29,7 +29,7 @@ import fold_verify
 import random_evidence
 import reference
 from fold_folders import (
-    Tests, files_in, fold_path, fold_words, folds_of, manifest_of, name_of, partitions_of, read, segments_of, with_folds, write,
+    Tests, files_in, fold_path, fold_words, folds_of, forms_of, manifest_of, name_of, partitions_of, read, segments_of, with_folds, write,
 )
 
 TOPS = ["tests/evidence", "tests/real-evidence", "tests/as-brokers-write", "tests/simulated"]
@@ -131,6 +131,7 @@ def report_of(tests, folder, workers):
         os.remove(path)
     tests.run("check", "--quiet", "--workers", workers, "--report", path, folder)
     report = json.loads(read(path))
+    tests.same(f"{folder}: how many folds a report has", report.pop("folds"), forms_of(folder).count("fold"))
     return {name: value for name, value in report.items() if name not in OF_THE_RUN}
 
 

@@ -173,6 +173,7 @@ def reported(folder, *words):
     same(f"{folder}: the notes", "".join(map(note_line, report["notes"])), err)
     same(f"{folder}: status", status, 0 if report["answer"] == "yes" else 1)
     same(f"{folder}: folder", report["folder"], folder)
+    same(f"{folder}: folds", report["folds"], 0)
     tables(folder, report)
     return report
 

@@ -36,6 +36,7 @@ TABLE = {
         eos_verdict: push_place
         """,
     "fold": """
+        eos_checking: fold_count folds is_fold say_folds
         eos_commands: FOLD FoldGiven fold fold_all fold_fault fold_folder fold_folders fold_partitions fold_segment fold_writing read_fold
             verify_folds write_fold
         eos_disk: FoldRefusal first_fold refused_fold

@@ -5,6 +5,7 @@
 mod check;
 mod folder;
 mod folders;
+mod folds;
 mod report;
 mod report_file;
 mod source;

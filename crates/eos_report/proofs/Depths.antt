@@ -290,8 +290,8 @@ level k d ms p q = put_depth 5 k d ms (omega (arith, p)) q
 about_depth : (about : About) (ms : Members) → members_depth ms ≤ 5 → members_depth (with_about about ms) ≤ 5
 unfolding with_about
 about_depth about ms q =
-    level _ _ _ (omega arith) (level _ _ _ (omega arith)
-    (put_depth 5 _ (program_value about) _ (within (program_value about) (program_depth about)) (level _ _ ms (omega arith) q)))
+    level _ _ _ (omega arith) (level _ _ _ (omega arith) (level _ _ _ (omega arith)
+    (put_depth 5 _ (program_value about) _ (within (program_value about) (program_depth about)) (level _ _ ms (omega arith) q))))
 
 small : (d : Data) → depth d ≤ 1 → depth d ≤ 5
 small d p = omega (arith, p)

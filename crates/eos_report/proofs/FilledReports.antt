@@ -19,12 +19,12 @@ use Rattle.eos_report.proofs.FilledTexts.{AreAbove, opens, reads_filled}
 -- what stands behind the faults of a no
 abbrev rest_of : About → List Note → Tallies → Data → Members
 rest_of about ns t seconds =
-    member (codes "folder") (string about.folder.now) (member (codes "groups") (groups_value t.groups) (member (codes "notes") (array (note_items ns))
-    (member (codes "partitions") (array (partition_items t.partitions)) (member (codes "program") (program_value about) (member (codes "schema") (count 1)
-    (member (codes "seconds") seconds (member (codes "workers") (count about.workers) no_members)))))))
+    member (codes "folder") (string about.folder.now) (member (codes "folds") (count about.folds) (member (codes "groups") (groups_value t.groups)
+    (member (codes "notes") (array (note_items ns)) (member (codes "partitions") (array (partition_items t.partitions)) (member (codes "program") (program_value about)
+    (member (codes "schema") (count 1) (member (codes "seconds") seconds (member (codes "workers") (count about.workers) no_members))))))))
 
 above_rest : (about : About) (ns : List Note) (t : Tallies) (seconds : Data) → AreAbove (members_outline (rest_of about ns t seconds))
-above_rest about ns t seconds = (refl, refl, (refl, refl, (refl, refl, (refl, refl, (refl, refl, (refl, refl, (refl, refl, (refl, refl, tt))))))))
+above_rest about ns t seconds = (refl, refl, (refl, refl, (refl, refl, (refl, refl, (refl, refl, (refl, refl, (refl, refl, (refl, refl, (refl, refl, tt)))))))))
 
 no_value : (about : About) (f : Fault) (fs : List Fault) (ns : List Note) (t : Tallies) (seconds : Data)
     → report_value about (No f) fs ns t seconds ≡ object (member (codes "answer") (string (codes "no")) (member (codes "faults") (array (fault_items fs)) (rest_of about ns t seconds)))

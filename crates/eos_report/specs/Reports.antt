@@ -41,8 +41,8 @@ program_value about = object (put (codes "version") (string about.version.now) (
 -- the number of the schema, the program, and what it was asked
 unfoldable pub with_about : About → Members → Members
 with_about about ms =
-    put (codes "workers") (count about.workers) (put (codes "folder") (string about.folder.now)
-    (put (codes "program") (program_value about) (put (codes "schema") (count 1) ms)))
+    put (codes "workers") (count about.workers) (put (codes "folds") (count about.folds) (put (codes "folder") (string about.folder.now)
+    (put (codes "program") (program_value about) (put (codes "schema") (count 1) ms))))
 
 -- so many milliseconds as a number of seconds, as `Duration::as_secs_f64` rounds it
 pub record AreSeconds (milliseconds : ℕ) (value : Data) : Type 0 where

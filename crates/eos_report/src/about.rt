@@ -9,6 +9,8 @@ pub struct About<'a> {
     pub folder: &'a str,
     /// The number of worker threads that were asked for.
     pub workers: u64,
+    /// How many of the folder's segments stand in it as their folds, and are judged by these.
+    pub folds: u64,
 }
 
 /// How many milliseconds each stage of a check took.

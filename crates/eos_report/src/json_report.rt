@@ -89,6 +89,7 @@ fn put_about(alloc: Global, out: &mut Object, about: About<'_>) -> Result<(), Al
     let program = value_of_program(alloc, about)?;
     out.put("program", program)?;
     out.put_str("folder", about.folder)?;
+    out.put_count("folds", about.folds)?;
     out.put_count("workers", about.workers)
 }
 

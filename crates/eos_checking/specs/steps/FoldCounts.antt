@@ -1,0 +1,23 @@
+-- How many of the segments that a folder lists stand in it as their folds.
+use Rattle.std.specs.Prelude.{◌≡◌, ℕ, List, length, filter, Bool, true, false}
+use Rattle.eos_disk.specs.Entries.{Entry}
+use Rattle.eos_disk.specs.Shapes.{IsShapeAt}
+use Rattle.eos_disk.specs.declared.names.Form.{Form}
+use Rattle.eos_disk.specs.declared.names.Form.TheVariants.{Log, Fold}
+use Rattle.eos_evidence.specs.Evidence.{EvidenceParts}
+use Rattle.eos_checking.specs.declared.folds.Folded.{Folded}
+
+abbrev pub is_fold : Form → Bool
+is_fold Log = false
+is_fold Fold = true
+
+abbrev pub fold_count : List Form → ℕ
+fold_count forms = length (filter is_fold forms)
+
+-- a shape stands in this folder, and so many are its segments and its folds
+pub record IsFoldedAt (holds : List ℕ → Entry) (folder : List ℕ) (folded : Folded) : Type 0 where
+  pub shape : EvidenceParts
+  pub forms : List Form
+  pub is : IsShapeAt holds folder shape forms
+  pub folds : folded.folds ≡ fold_count forms
+  pub segments : folded.segments ≡ length forms
