@@ -13,6 +13,7 @@ mod AddedOne
 mod FileNames
 mod FilesInOrder
 mod FilesMore
+mod FirstFold
 mod FolderNames
 mod Listings
 mod ListingsCut

@@ -35,6 +35,13 @@ MayBeAbsent Absent = ⊤
 MayBeAbsent (File bytes) = ⊥
 MayBeAbsent (Folder names) = ⊥
 
+-- something stands there
+abbrev pub MayStand : Entry → Type 0
+MayStand Unknown = ⊤
+MayStand Absent = ⊥
+MayStand (File bytes) = ⊤
+MayStand (Folder names) = ⊤
+
 -- no file stands there; a folder may
 abbrev pub MayLackFile : Entry → Type 0
 MayLackFile Unknown = ⊤

@@ -13,7 +13,7 @@ use Rattle.eos_disk.specs.declared.names.FileName.{FileName}
 use Rattle.eos_disk.specs.declared.names.Form.{Form}
 use Rattle.eos_disk.specs.declared.names.Form.TheVariants.{Log, Fold}
 use Rattle.eos_disk.specs.Paths.{manifest_path, path_of_end, file_path}
-use Rattle.eos_disk.specs.Refusals.{IsUnread}
+use Rattle.eos_disk.specs.Refusals.{IsUnread, RefusesFold}
 use Rattle.eos_disk.specs.Shapes.{IsFound, IsListed, segment_of}
 
 -- it is that there are more segments than evidence may have, and the file of this path is the first of those
@@ -51,6 +51,19 @@ IsNextRefused path many files faults.OutOfMemory = ⊤
 abbrev pub IsStopped : (List ℕ → Entry) → List ℕ → ℕ → List FileName → FolderFault → Type 0
 IsStopped holds path many taken why =
     ((taken ≡ []) × IsUnread path why) ⊎ ((later : List FileName) × IsFound holds path (taken ++ later) × IsNextRefused path many later why)
+
+-- this is the first fold of these files; those before it are logs
+pub record IsFirstFold (files : List FileName) (fold : FileName) : Type 0 where
+  pub before : List FileName
+  pub later : List FileName
+  pub are : files ≡ before ++ fold ∷ later
+  pub logs : AllByRecursion (λ f. f.form ≡ Log) before
+  pub is : fold.form ≡ Fold
+
+-- The logs of the folder of this path aren't told: it can't be listed, or of the files by base that it lists the first fold is refused.
+abbrev pub RefusesLogs : (List ℕ → Entry) → List ℕ → FolderFault → Type 0
+RefusesLogs holds path why =
+    IsUnread path why ⊎ ((files : List FileName) × (fold : FileName) × IsFound holds path files × IsFirstFold files fold × RefusesFold (file_path path fold.base fold.form) why)
 
 -- none of these was listed
 abbrev pub AreUnlisted : List Partition → Type 0

@@ -80,7 +80,9 @@ impl Cause {
     }
 
     /// Why this file can't be read, by asking the disk again.
-    pub fn of_file<D: Disk>(alloc: Global, disk: &D, path: &str) -> Cause {
+    pub fn of_file<D: Disk>(alloc: Global, disk: &D, path: &str) -> Cause
+        ensures { IsSoAt (D.holds disk.now path.now) result }
+    {
         match disk.open(alloc, path) {
             Ok(mut file) => Cause::of_reader(alloc, &mut file),
             Err(fault) => Cause::of_fault(fault),

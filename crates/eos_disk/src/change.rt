@@ -70,8 +70,8 @@ pub(crate) fn synced(told: Result<(), Error>) -> Result<(), Error> {
 /// What files are written to. What is known of it stays known, and where a call is refused nothing changed, if it doesn't say
 /// otherwise.
 pub trait DiskMut: Disk {
-    ghost use Rattle.std.specs.Prelude.{◌≡◌, false, OnOk, OnErr};
-    ghost use Rattle.eos_disk.specs.Entries.{MayBeAbsent};
+    ghost use Rattle.std.specs.Prelude.{◌≡◌, true, false, OnOk, OnErr};
+    ghost use Rattle.eos_disk.specs.Entries.{MayBeAbsent, MayStand};
     ghost use Rattle.eos_disk.specs.Changes.{IsMade, AreMade, AreMadeTo, IsPut, IsPutInPart, IsMoved, IsRemoved, SameAll};
 
     /// A file that this run has made and holds: while it does, no other run takes it for one that a killed run left.
@@ -79,7 +79,8 @@ pub trait DiskMut: Disk {
 
     /// Whether something stands at a path: a file, a folder, or a link, wherever it leads.
     fn stands(&self, path: &str) -> bool
-        ensures free { result ≡ false → MayBeAbsent (Self.holds self.now path.now) };
+        ensures free { result ≡ false → MayBeAbsent (Self.holds self.now path.now) }
+        ensures there { result ≡ true → MayStand (Self.holds self.now path.now) };
 
     /// Makes a folder where nothing stands.
     fn make_folder(&mut self, alloc: Global, path: &str) -> Result<(), ChangeFault>

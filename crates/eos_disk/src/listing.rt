@@ -5,7 +5,7 @@ ghost use Rattle.eos_disk.specs.Paths.{file_path, path_of_end};
 ghost use Rattle.eos_disk.specs.Reading.{AreAllLogs};
 ghost use Rattle.eos_disk.specs.Refusals.{RefusesFile, RefusesFold, IsUnread};
 ghost use Rattle.eos_disk.specs.Shapes.{segment_of, by_base, files_said, log_bases, AreByBase, IsFound, AreLogsAt};
-ghost use Rattle.eos_disk.specs.Stopped.{IsNextRefused, IsTwice};
+ghost use Rattle.eos_disk.specs.Stopped.{IsNextRefused, IsTwice, IsFirstFold, RefusesLogs};
 ghost use Rattle.eos_disk.specs.declared.names.Form.TheVariants.{Fold};
 ghost use Rattle.eos_disk.specs.steps.Listing.{IsApart, AreApart, AreNamed, IsTakenTo, IsCut};
 
@@ -154,15 +154,27 @@ pub fn bases_of<D: Disk>(
     folder: &str,
     end: &End,
 ) -> Result<Vec<i64>, FolderFault>
-    ensures { IfOk result (λ bases. AreLogsAt (D.holds disk.now) (path_of_end folder.now end.now) bases.items) }
+    ensures ok { IfOk result (λ bases. AreLogsAt (D.holds disk.now) (path_of_end folder.now end.now) bases.items) }
+    ensures refused { IfErr result (RefusesLogs (D.holds disk.now) (path_of_end folder.now end.now)) }
 {
     let files = files_of(alloc, disk, folder, end)?;
-    for file in files.as_slice() {
-        if let Form::Fold = file.form {
-            return Err(refused_at(path_of(alloc, folder, end, *file), NO_RECORDS));
-        }
+    if let Some(fold) = first_fold(files.as_slice()) {
+        return Err(refused_at(path_of(alloc, folder, end, fold), NO_RECORDS));
     }
     Ok(bases_of_logs(alloc, files.as_slice())?)
+}
+
+/// The first of these files that is a fold.
+#[tactic(auto, using(crate::proofs::FirstFold::log_next))]
+fn first_fold(files: &[FileName]) -> Option<FileName>
+    ensures { IfSome result (IsFirstFold files.now) }
+{
+    for i in 0..files.len() {
+        if let Form::Fold = files[i].form {
+            return Some(files[i]);
+        }
+    }
+    None
 }
 
 /// The path of a file of a partition.
