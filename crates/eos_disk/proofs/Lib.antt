@@ -26,3 +26,6 @@ mod Places
 mod ShapeRead
 mod Staying
 mod WrittenMore
+mod FilesFilled
+mod FirstUnread
+mod NamesInOrder

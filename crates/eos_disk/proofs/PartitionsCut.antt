@@ -22,11 +22,11 @@ use Rattle.eos_disk.specs.steps.Listing.{AreNamed, IsCut, grown, partitions_with
 use Rattle.eos_disk.proofs.PartitionsGrown.{AreOthers, AreOfNone, partition_of, grown_skips, others_append, after_others, later_others, head_is, none_more, none_at_first}
 use Rattle.eos_disk.proofs.ReadWhole.{as_many}
 
-all_front : (P : End → Type 0) (xs : List End) (y : End) (ys : List End) → AllByRecursion P (xs ++ y ∷ ys) → AllByRecursion P xs
+pub all_front : (P : End → Type 0) (xs : List End) (y : End) (ys : List End) → AllByRecursion P (xs ++ y ∷ ys) → AllByRecursion P xs
 all_front P [] y ys all = tt
 all_front P (x ∷ xs) y ys all = (all.0, all_front P xs y ys all.1)
 
-middle : (P : End → Type 0) (xs : List End) (y : End) (ys : List End) → AllByRecursion P (xs ++ y ∷ ys) → P y
+pub middle : (P : End → Type 0) (xs : List End) (y : End) (ys : List End) → AllByRecursion P (xs ++ y ∷ ys) → P y
 middle P [] y ys all = all.0
 middle P (x ∷ xs) y ys all = middle P xs y ys all.1
 
@@ -68,7 +68,7 @@ listed_after holds folder many why before (g ∷ gs) e back early forms taken up
     (inl (are.0, are.2 ++ map (λ f. f.form) taken, are.3, refl, of_forms, tail))
 
 -- as many segments as forms
-cut_many : (holds : List ℕ → Entry) (folder : List ℕ) (ends : List End) (names : List Segment) (forms : List Form) (why : FolderFault) → IsCut holds folder ends names forms why → length names ≡ length forms
+pub cut_many : (holds : List ℕ → Entry) (folder : List ℕ) (ends : List End) (names : List Segment) (forms : List Form) (why : FolderFault) → IsCut holds folder ends names forms why → length names ≡ length forms
 cut_many holds folder ends names forms why c =
     let early = as_many holds folder c.front c.early c.early_forms c.before in
     let left = ap length c.named ∙ length-append c.early (map (segment_of c.end) c.taken) in

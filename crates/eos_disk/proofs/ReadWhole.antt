@@ -21,7 +21,7 @@ use Rattle.eos_disk.specs.declared.names.Form.TheVariants.{Log}
 use Rattle.eos_disk.specs.Paths.{manifest_path, segment_path}
 use Rattle.eos_disk.specs.Reading.{name_of, names_only, shape_of, AreAllLogs, HasItsBytes, IsReadWhole}
 use Rattle.eos_disk.specs.Shapes.{segment_of}
-use Rattle.eos_disk.specs.steps.Filling.{IsFileRead, AreFilled, IsFilledBy}
+use Rattle.eos_disk.specs.steps.Filling.{IsFileRead, IsFilledTo}
 use Rattle.eos_disk.specs.steps.Listing.{AreNamed, AreLogsNamed, grown, partitions_with}
 use Rattle.eos_disk.proofs.ShapeRead.{shape_stands}
 
@@ -49,7 +49,7 @@ named_grown : (p : Partition) (ss : List Segment) → grown (names_only p) (map 
 named_grown p [] = refl
 named_grown p (s ∷ ss) = ap (λ (q : Partition). grown q (map name_of ss)) (named_with s p) ∙ named_grown (with_segment s p) ss
 
-named_partitions : (ss : List Segment) (ends : List End) → partitions_with (map name_of ss) ends ≡ map names_only (partitions_with ss ends)
+pub named_partitions : (ss : List Segment) (ends : List End) → partitions_with (map name_of ss) ends ≡ map names_only (partitions_with ss ends)
 named_partitions ss [] = refl
 named_partitions ss (e ∷ es) = let one = named_grown (empty_partition e) ss in let others = named_partitions ss es in λ i. one i ∷ others i
 
@@ -81,7 +81,7 @@ pub named_segments : (ps : List Partition) → segments_of (map names_only ps) �
 named_segments [] = refl
 named_segments (p ∷ ps) = ap (λ (l : List Segment). map name_of p.segments ++ l) (named_segments ps) ∙ sym (map-append name_of p.segments (segments_of ps))
 
-shape_is : (e : EvidenceParts) → IsEvidence e → IsEvidence (shape_of e)
+pub shape_is : (e : EvidenceParts) → IsEvidence e → IsEvidence (shape_of e)
 shape_is e is =
     let many = ap length (named_segments e.partitions) ∙ length-map (segments_of e.partitions) name_of in
     record {
@@ -123,11 +123,11 @@ all_partitions P ss (e ∷ es) all =
 
 -- ---- what a folder lists are names
 
-files_named : (e : End) (files : List FileName) → map name_of (map (segment_of e) files) ≡ map (segment_of e) files
+pub files_named : (e : End) (files : List FileName) → map name_of (map (segment_of e) files) ≡ map (segment_of e) files
 files_named e [] = refl
 files_named e (f ∷ fs) = ap (λ (l : List Segment). segment_of e f ∷ l) (files_named e fs)
 
-names_alone : (holds : List ℕ → Entry) (folder : List ℕ) (es : List End) (names : List Segment) (forms : List Form) → AreNamed holds folder es names forms → map name_of names ≡ names
+pub names_alone : (holds : List ℕ → Entry) (folder : List ℕ) (es : List End) (names : List Segment) (forms : List Form) → AreNamed holds folder es names forms → map name_of names ≡ names
 names_alone holds folder [] names forms are = ap (map name_of) are.0 ∙ sym are.0
 names_alone holds folder (e ∷ es) names forms are =
     let later = names_alone holds folder es are.1 are.2 are.6 in
@@ -151,36 +151,36 @@ logs_named holds folder ends names forms files fold listed named logs none same 
 
 -- ---- the files that were read
 
-abbrev AreRead : (List ℕ → Entry) → List ℕ → List SegmentFile → List SegmentFile → Type 0
+abbrev pub AreRead : (List ℕ → Entry) → List ℕ → List SegmentFile → List SegmentFile → Type 0
 AreRead holds folder [] [] = ⊤
 AreRead holds folder [] (n ∷ ns) = ⊥
 AreRead holds folder (o ∷ os) [] = ⊥
 AreRead holds folder (o ∷ os) (n ∷ ns) = IsFileRead holds folder o n × AreRead holds folder os ns
 
-all_read : (holds : List ℕ → Entry) (folder : List ℕ) (old new : List SegmentFile) → length new ≡ length old
+pub all_read : (holds : List ℕ → Entry) (folder : List ℕ) (old new : List SegmentFile) → length new ≡ length old
     → ((k : ℕ) (d : SegmentFile) → k < length old → IsFileRead holds folder (slice_index_or old k d) (slice_index_or new k d)) → AreRead holds folder old new
 all_read holds folder [] [] many each = tt
 all_read holds folder [] (n ∷ ns) many each = absurd (omega (arith, many))
 all_read holds folder (o ∷ os) [] many each = absurd (omega (arith, many))
 all_read holds folder (o ∷ os) (n ∷ ns) many each = (each 0 o (omega arith), all_read holds folder os ns (omega (arith, many)) (λ k d lt. each (suc k) d (omega (arith, lt))))
 
-read_names : (holds : List ℕ → Entry) (folder : List ℕ) (old new : List SegmentFile) → AreRead holds folder old new → map (λ f. name_of f.name) new ≡ map name_of (map (λ f. f.name) old)
+pub read_names : (holds : List ℕ → Entry) (folder : List ℕ) (old new : List SegmentFile) → AreRead holds folder old new → map (λ f. name_of f.name) new ≡ map name_of (map (λ f. f.name) old)
 read_names holds folder [] [] are = refl
 read_names holds folder [] (n ∷ ns) are = absurd are
 read_names holds folder (o ∷ os) [] are = absurd are
-read_names holds folder (o ∷ os) (n ∷ ns) are = let one = ap name_of are.0.0 in let others = read_names holds folder os ns are.1 in λ i. one i ∷ others i
+read_names holds folder (o ∷ os) (n ∷ ns) are = let one = ap name_of are.0.same in let others = read_names holds folder os ns are.1 in λ i. one i ∷ others i
 
-head_is : {A : Type 0} (a b : A) (xs ys : List A) → a ∷ xs ≡ b ∷ ys → a ≡ b
+pub head_is : {A : Type 0} (a b : A) (xs ys : List A) → a ∷ xs ≡ b ∷ ys → a ≡ b
 head_is a b xs ys e = cc e
 
-tail_is : {A : Type 0} (a b : A) (xs ys : List A) → a ∷ xs ≡ b ∷ ys → xs ≡ ys
+pub tail_is : {A : Type 0} (a b : A) (xs ys : List A) → a ∷ xs ≡ b ∷ ys → xs ≡ ys
 tail_is a b xs ys e = cc e
 
 its_bytes : (holds : List ℕ → Entry) (folder : List ℕ) (o n : SegmentFile) (s : Segment) → IsFileRead holds folder o n → name_of s ≡ name_of n.name → Ok s.bytes ≡ n.bytes
     → HasItsBytes holds folder s
 its_bytes holds folder o n s is name bytes =
-    let read = subst (λ (r : Result (List ℕ) FolderFault). IfOk r (HasBytes (holds (segment_path folder o.name Log)))) (sym bytes) is.1 in
-    let same : name_of s ≡ name_of o.name = name ∙ ap name_of is.0 in
+    let read = subst (λ (r : Result (List ℕ) FolderFault). IfOk r (HasBytes (holds (segment_path folder o.name Log)))) (sym bytes) is.bytes in
+    let same : name_of s ≡ name_of o.name = name ∙ ap name_of is.same in
     subst (λ (x : Segment). HasBytes (holds (segment_path folder x Log)) s.bytes) (sym same) read
 
 all_bytes : (holds : List ℕ → Entry) (folder : List ℕ) (old new : List SegmentFile) (ss : List Segment) → AreRead holds folder old new → map name_of ss ≡ map (λ f. name_of f.name) new
@@ -201,7 +201,7 @@ all_bytes holds folder (o ∷ os) (n ∷ ns) (s ∷ ss) are names bytes = (
 
 pub read_whole : (holds : List ℕ → Entry) (folder text : List ℕ) (spec : SpecFields) (old new : List SegmentFile) (e : EvidenceParts) → HasBytes (holds (manifest_path folder)) text
     → spec_said_by text ≡ Ok spec → AreLogsNamed holds folder spec.ends (map (λ f. f.name) old) → length new ≡ length old
-    → ((k : ℕ) (d : SegmentFile) → k < length old → IsFileRead holds folder (slice_index_or old k d) (slice_index_or new k d)) → IsFilledBy spec new e → IsEvidence e → IsReadWhole holds folder e
+    → ((k : ℕ) (d : SegmentFile) → k < length old → IsFileRead holds folder (slice_index_or old k d) (slice_index_or new k d)) → IsFilledTo spec (Ok tt) new e → IsEvidence e → IsReadWhole holds folder e
 read_whole holds folder text spec old new e stands says named many each by is =
     let listed = map (λ f. f.name) old in
     let read = all_read holds folder old new many each in
@@ -218,16 +218,7 @@ read_whole holds folder text spec old new e stands says named many each by is =
           (all_partitions (HasItsBytes holds folder) by.segments spec.ends bytes);
     }
 
--- ---- one file more, and one form more
-
-pub one_filled : (files : List SegmentFile) (segments : List Segment) (f : SegmentFile) (s : Segment) → AreFilled files segments → name_of s ≡ name_of f.name → Ok s.bytes ≡ f.bytes
-    → AreFilled (files ++ f ∷ []) (segments ++ s ∷ [])
-one_filled files segments f s are name bytes = record {
-  names = map-append name_of segments (s ∷ [])
-      ∙ ((let old = are.names in λ i. old i ++ name i ∷ []) ∙ sym (map-append (λ x. name_of x.name) files (f ∷ [])));
-  bytes = map-append (λ x. Ok x.bytes) segments (s ∷ [])
-      ∙ ((let old = are.bytes in λ i. old i ++ bytes i ∷ []) ∙ sym (map-append (λ x. x.bytes) files (f ∷ [])));
-}
+-- ---- one form more
 
 logs_append : (xs ys : List Form) → AreAllLogs xs → AreAllLogs ys → AreAllLogs (xs ++ ys)
 logs_append [] ys h k = k

@@ -130,6 +130,7 @@ pub fn open_segment<D: Disk>(
     form: Form,
 ) -> Result<NamedFile<D::File>, FolderFault>
     ensures ok { IfOk result (λ named. Leaves (D.holds disk.now (segment_path folder.now name.now form)) (D.File.remaining named.file)) }
+    ensures path { IfOk result (λ named. string_bytes named.path ≡ segment_path folder.now name.now form) }
     ensures err { IfErr result (RefusesFile (segment_path folder.now name.now form)) }
     ensures so { IfErr result (MayRefuse (D.holds disk.now (segment_path folder.now name.now form))) }
 {

@@ -1,16 +1,17 @@
 //! Reading a folder of evidence: its manifest, and the segments of the partitions that the manifest names.
 
-ghost use Rattle.std.specs.Prelude.{◌≡◌, ℕ, List, map, Ok, Err, IfOk, IfErr, OnOk, string_bytes};
+ghost use Rattle.std.specs.Prelude.{◌≡◌, ◌⊎◌, ℕ, List, map, Ok, Err, IfOk, IfErr, OnOk, string_bytes};
 ghost use Rattle.eos_disk.specs.Entries.{HasBytes};
 ghost use Rattle.eos_evidence.specs.Evidence.{IsEvidence, with_segment};
 ghost use Rattle.eos_evidence.specs.Manifest.{spec_said_by};
 ghost use Rattle.eos_disk.specs.Paths.{manifest_path, segment_path};
+ghost use Rattle.eos_disk.specs.FirstUnread.{IsFirstOfReading};
 ghost use Rattle.eos_disk.specs.Reading.{IsReadWhole, name_of};
 ghost use Rattle.eos_disk.specs.Refusals.{RefusesManifest};
 ghost use Rattle.eos_disk.specs.Shapes.{IsShapeAt};
 ghost use Rattle.eos_disk.specs.Stopped.{IsShapeTo};
-ghost use Rattle.eos_disk.specs.steps.Filling.{IsFileRead, AreFilled, IsFilledBy};
-ghost use Rattle.eos_disk.specs.steps.Listing.{AreNamed, AreLogsNamed, IsCut, partitions_with};
+ghost use Rattle.eos_disk.specs.steps.Filling.{IsFileRead, IsLogRefused, AreFilledTo, IsFilledTo, or_refused};
+ghost use Rattle.eos_disk.specs.steps.Listing.{AreNamed, AreLogsNamed, AreLogsCut, IsCut, partitions_with};
 ghost use Rattle.eos_disk.specs.declared.folder.FolderFault.{FolderFault as AFault};
 ghost use Rattle.eos_disk.specs.declared.folder.FolderFault.TheVariants.{OutOfMemory};
 ghost use Rattle.eos_disk.specs.declared.names.Form.TheVariants.{Log};
@@ -140,6 +141,7 @@ pub struct Reading<'a, W> {
 
 /// Reads the evidence of a folder: its shape, and the bytes of each segment, by at most as many threads as there are workers. A
 /// folder that has a fold is refused before any segment is read.
+#[tactic(auto, using(crate::proofs::FirstUnread::memory))]
 pub fn read_folder<D: Disk, W: Watch>(
     alloc: Global,
     threads: &(impl Threads + Sync),
@@ -147,10 +149,11 @@ pub fn read_folder<D: Disk, W: Watch>(
     folder: &str,
     asked: Reading<'_, W>,
 ) -> Result<Evidence, FolderFault>
-    ensures { IfOk result (IsReadWhole (D.holds disk.now) folder.now) }
+    ensures whole { IfOk result (IsReadWhole (D.holds disk.now) folder.now) }
+    ensures first { IfErr result (IsFirstOfReading (D.holds disk.now) folder.now) }
 {
     let Reading { workers, watch } = asked;
-    let mut listed = Ok(());
+    let (mut listed, mut read) = (Ok(()), Ok(()));
     let (spec, mut files) = list_logs(alloc, disk, folder, watch, &mut listed)?;
     thread::for_each_mut(
         threads,
@@ -160,22 +163,26 @@ pub fn read_folder<D: Disk, W: Watch>(
             ensures { IsFileRead (D.holds disk.entry.now) folder.entry.now file.old file.new }
         { file.read(alloc, disk, folder, watch) },
     );
-    first_refusal(evidence_of_files(alloc, spec, files), listed)
+    let evidence = evidence_of_files(alloc, spec, files, &mut read)?;
+    first_refusal(evidence, read, listed)
 }
 
 /// What refuses a segment comes before what refused to list more of them.
 fn first_refusal(
-    evidence: Result<Evidence, FolderFault>,
+    evidence: Evidence,
+    read: Result<(), FolderFault>,
     listed: Result<(), FolderFault>,
 ) -> Result<Evidence, FolderFault>
-    ensures { IfOk result (λ e. (evidence ≡ Ok e) × (listed ≡ Ok tt)) }
+    ensures ok { IfOk result (λ e. (e ≡ evidence) × (read ≡ Ok tt) × (listed ≡ Ok tt)) }
+    ensures err { IfErr result (λ why. (read ≡ Err why) ⊎ ((read ≡ Ok tt) × (listed ≡ Err why))) }
 {
-    let evidence = evidence?;
+    read?;
     listed?;
     Ok(evidence)
 }
 
 /// What a folder lists that has no fold: its manifest, and the files of its segments, of which none is read yet.
+#[tactic(auto, using(crate::proofs::FirstUnread::memory, crate::proofs::FirstUnread::of_manifest))]
 fn list_logs<D: Disk, W: Watch>(
     alloc: Global,
     disk: &D,
@@ -185,10 +192,16 @@ fn list_logs<D: Disk, W: Watch>(
 ) -> Result<(Spec, Vec<SegmentFile>), FolderFault>
     ensures says { IfOk result (λ logs. (text : List ℕ) × HasBytes (D.holds disk.now (manifest_path folder.now)) text × (spec_said_by text ≡ Ok logs.0)) }
     ensures named { IfOk result (λ logs. listed.new ≡ Ok tt → AreLogsNamed (D.holds disk.now) folder.now logs.0.ends (map (λ f. f.name) logs.1.items)) }
+    ensures cut { IfOk result (λ logs. (why : AFault) → listed.new ≡ Err why → AreLogsCut (D.holds disk.now) folder.now logs.0.ends (map (λ f. f.name) logs.1.items) why) }
+    ensures refused { IfErr result (IsFirstOfReading (D.holds disk.now) folder.now) }
 {
     let Listing { spec, segments } = list_folder(alloc, disk, folder, watch, listed)?;
     match segments.first_fold() {
-        Some(name) => return Err(refused_fold(alloc, folder, name, NO_RECORDS)),
+        Some(name) => {
+            let fault = refused_fold(alloc, folder, name, NO_RECORDS);
+            let _shape = evidence_of(alloc, spec, segments.names)?;
+            return Err(fault);
+        }
         None => {}
     }
     let files = unread_files(alloc, segments.names)?;
@@ -302,53 +315,79 @@ impl SegmentFile {
         }
     }
 
-    /// The segment with what was read of it.
-    fn into_segment(self) -> Result<Segment, FolderFault>
-        ensures { IfOk result (λ segment. (name_of segment ≡ name_of self.name) × (Ok segment.bytes ≡ self.bytes)) }
+    /// The segment with what was read of it. It has no bytes where that was refused: this is told, where nothing was refused before it.
+    fn into_segment(self, read: &mut Result<(), FolderFault>) -> Segment
+        ensures name { name_of result ≡ name_of self.name }
+        ensures ok { (bytes : List ℕ) → self.bytes ≡ Ok bytes → (result.bytes ≡ bytes) × (read.new ≡ read.old) }
+        ensures err { (why : AFault) → self.bytes ≡ Err why → read.new ≡ or_refused read.old why }
     {
         let SegmentFile { name, bytes } = self;
-        match bytes {
-            Ok(bytes) => Ok(Segment {
-                topic: name.topic,
-                partition: name.partition,
-                base: name.base,
-                bytes,
-            }),
-            Err(fault) => Err(fault),
+        let bytes = match bytes {
+            Ok(bytes) => bytes,
+            Err(fault) => {
+                refuse(read, fault);
+                Bytes::new()
+            }
+        };
+        Segment {
+            topic: name.topic,
+            partition: name.partition,
+            base: name.base,
+            bytes,
         }
     }
 }
 
+/// What refuses a segment comes before what refuses a later one.
+#[tactic(auto, using(crate::proofs::FilesFilled::or_first, crate::proofs::FilesFilled::or_before))]
+fn refuse(read: &mut Result<(), FolderFault>, fault: FolderFault)
+    ensures { read.new ≡ or_refused read.old fault }
+{
+    if read.is_ok() {
+        *read = Err(fault);
+    }
+}
+
+#[tactic(auto, using(crate::proofs::FirstUnread::log_unopened, crate::proofs::FirstUnread::log_unread))]
 fn bytes_of<D: Disk>(
     alloc: Global,
     disk: &D,
     folder: &str,
     name: &Segment,
 ) -> Result<Bytes, FolderFault>
-    ensures { IfOk result (HasBytes (D.holds disk.now (segment_path folder.now name.now Log))) }
+    ensures ok { IfOk result (HasBytes (D.holds disk.now (segment_path folder.now name.now Log))) }
+    ensures err { IfErr result (IsLogRefused (D.holds disk.now) folder.now name.now) }
 {
     open_segment(alloc, disk, folder, name, Form::Log)?.read_whole(alloc)
 }
 
-/// The evidence of the files in order, or the first refusal among them.
+/// The evidence of the files in order. A segment that wasn't read has no bytes in it, and the first refusal of one is told.
 fn evidence_of_files(
     alloc: Global,
     spec: Spec,
     files: Vec<SegmentFile>,
-) -> Result<Evidence, FolderFault>
-    ensures filled { IfOk result (IsFilledBy spec files.items) }
+    read: &mut Result<(), FolderFault>,
+) -> Result<Evidence, AllocError>
+    requires { read.old ≡ Ok tt }
+    ensures filled { IfOk result (IsFilledTo spec read.new files.items) }
     ensures evidence { IfOk result IsEvidence }
 {
-    let segments = segments_of_files(alloc, files)?;
-    Ok(evidence_of(alloc, spec, segments)?)
+    let segments = segments_of_files(alloc, files, read)?;
+    evidence_of(alloc, spec, segments)
 }
 
-fn segments_of_files(alloc: Global, files: Vec<SegmentFile>) -> Result<Vec<Segment>, FolderFault>
-    ensures { IfOk result (λ segments. AreFilled files.items segments.items) }
+#[tactic(auto, using(crate::proofs::FilesFilled::none_yet))]
+fn segments_of_files(
+    alloc: Global,
+    files: Vec<SegmentFile>,
+    read: &mut Result<(), FolderFault>,
+) -> Result<Vec<Segment>, AllocError>
+    requires { read.old ≡ Ok tt }
+    ensures { IfOk result (λ segments. AreFilledTo read.new files.items segments.items) }
 {
     let mut segments = Vec::new(alloc);
     for file in files {
-        segments.push(file.into_segment()?)?;
+        segments.push(file.into_segment(read))?;
     }
     Ok(segments)
 }

@@ -1,5 +1,6 @@
 mod FolderAnswers
 mod FirstOnes
+mod FirstRefused
 mod JudgedAnswers
 pub mod KeptPictures
 mod Placed

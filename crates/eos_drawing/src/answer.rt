@@ -1,6 +1,6 @@
 //! What is drawn of an evidence whose pieces a source has.
 
-ghost use Rattle.std.specs.Prelude.{◌≡◌, ◌<◌, ◌-◌, length, Some, IfOk, IfErr, slice_get, string_bytes};
+ghost use Rattle.std.specs.Prelude.{◌≡◌, ◌<◌, ◌-◌, length, Some, IfOk, IfErr, slice_get, string_bytes, alloc_error};
 ghost use Rattle.std.specs.Option.{option_copied};
 ghost use Rattle.std.specs.Str.{trim_end};
 ghost use Rattle.eos_verdict.specs.declared.verdict.Fault.{Fault as AFault};
@@ -8,8 +8,12 @@ ghost use Rattle.eos_verdict.specs.declared.verdict.Verdict.TheVariants.{No};
 ghost use Rattle.eos_drawing.specs.Drawings.{fault_of, drew_line};
 ghost use Rattle.eos_drawing.specs.Folders.{is_later, HoldsAsRead};
 ghost use Rattle.eos_drawing.specs.steps.Answers.{IsAnswer, IsText, IsDrawnBy, IsAnswerBy};
+ghost use Rattle.eos_drawing.specs.steps.Undrawn.{IsAfter, IsUndrawn};
 ghost use Rattle.eos_verdict.specs.VerdictTexts.{verdict_line, status_of};
+ghost use Rattle.eos_source.specs.FirstRefusals.{pieces_of};
+ghost use Rattle.eos_source.specs.Refusals.{AreOpened};
 ghost use Rattle.eos_source.specs.Said.{known_by};
+ghost use Rattle.eos_source_check.specs.Refusals.{IsRefusedAgain};
 
 use crate::picture::judged_picture;
 use crate::when::times_of_rows;
@@ -61,14 +65,16 @@ pub(crate) struct Pieces<'a, S> {
 }
 
 /// Reads the pieces, each once, and no more of them is held than the verdict wants; then draws what is wanted.
-#[tactic(auto, using(crate::proofs::JudgedAnswers::of_judged))]
+#[tactic(auto, using(crate::proofs::JudgedAnswers::of_judged, crate::proofs::FirstRefused::unjudged))]
 pub(crate) fn answer_source<S: Source, R: Threads + Sync>(
     alloc: Global,
     threads: &R,
     pieces: Pieces<'_, S>,
     wanted: Wanted,
 ) -> Result<Answer, Unlisted<S::Fault>>
-    ensures { IfOk result (λ answer. HoldsAsRead (known_by (S.said pieces.entry.source.now) (S.is_log pieces.entry.source.now)) pieces.entry.shape.now (is_later wanted.fault) (IsAnswer wanted.fault wanted.around answer (known_by (S.said pieces.entry.source.now) (S.is_log pieces.entry.source.now)) pieces.entry.shape.now.partitions)) }
+    ensures answer { IfOk result (λ answer. HoldsAsRead (known_by (S.said pieces.entry.source.now) (S.is_log pieces.entry.source.now)) pieces.entry.shape.now (is_later wanted.fault) (IsAnswer wanted.fault wanted.around answer (known_by (S.said pieces.entry.source.now) (S.is_log pieces.entry.source.now)) pieces.entry.shape.now.partitions)) }
+    ensures opened { IfOk result (λ answer. AreOpened (S.outcomes pieces.entry.source.now) (pieces_of pieces.entry.shape.now)) }
+    ensures refused { IfErr result (IsUndrawn (S.outcomes pieces.entry.source.now) (S.Fault.from_gives alloc_error) (pieces_of pieces.entry.shape.now) (is_later wanted.fault)) }
 {
     let workers = Workers::standard();
     match judge_source(alloc, threads, pieces.source, pieces.shape, workers) {
@@ -88,7 +94,8 @@ fn answer_judged<S: Source>(
     judged: &Judged,
     wanted: Wanted,
 ) -> Result<Answer, Unlisted<S::Fault>>
-    ensures { IfOk result (IsAnswerBy (known_by (S.said pieces.entry.source.now) (S.is_log pieces.entry.source.now)) pieces.entry.shape.now judged.now wanted.fault wanted.around) }
+    ensures answer { IfOk result (IsAnswerBy (known_by (S.said pieces.entry.source.now) (S.is_log pieces.entry.source.now)) pieces.entry.shape.now judged.now wanted.fault wanted.around) }
+    ensures refused { IfErr result (IsAfter (known_by (S.said pieces.entry.source.now) (S.is_log pieces.entry.source.now)) (S.outcomes pieces.entry.source.now) pieces.entry.shape.now.partitions judged.now (is_later wanted.fault)) }
 {
     match wanted.fault {
         Some(number) => match &judged.verdict {
@@ -112,7 +119,8 @@ fn answer_numbered<S: Source>(
 ) -> Result<Answer, Unlisted<S::Fault>>
     requires number { wanted.fault ≡ Some number }
     requires no { (fault : AFault) × (judged.now.verdict ≡ No fault) }
-    ensures { IfOk result (IsAnswerBy (known_by (S.said pieces.entry.source.now) (S.is_log pieces.entry.source.now)) pieces.entry.shape.now judged.now wanted.fault wanted.around) }
+    ensures answer { IfOk result (IsAnswerBy (known_by (S.said pieces.entry.source.now) (S.is_log pieces.entry.source.now)) pieces.entry.shape.now judged.now wanted.fault wanted.around) }
+    ensures refused { IfErr result (IsAfter (known_by (S.said pieces.entry.source.now) (S.is_log pieces.entry.source.now)) (S.outcomes pieces.entry.source.now) pieces.entry.shape.now.partitions judged.now (is_later wanted.fault)) }
 {
     if number > 1 {
         return answer_later(alloc, pieces, judged, wanted, number);
@@ -132,7 +140,8 @@ fn answer_later<S: Source>(
 ) -> Result<Answer, Unlisted<S::Fault>>
     requires number { wanted.fault ≡ Some number }
     requires later { 1 < number }
-    ensures { IfOk result (IsAnswerBy (known_by (S.said pieces.entry.source.now) (S.is_log pieces.entry.source.now)) pieces.entry.shape.now judged.now wanted.fault wanted.around) }
+    ensures answer { IfOk result (IsAnswerBy (known_by (S.said pieces.entry.source.now) (S.is_log pieces.entry.source.now)) pieces.entry.shape.now judged.now wanted.fault wanted.around) }
+    ensures refused { IfErr result (IsAfter (known_by (S.said pieces.entry.source.now) (S.is_log pieces.entry.source.now)) (S.outcomes pieces.entry.source.now) pieces.entry.shape.now.partitions judged.now (is_later wanted.fault)) }
 {
     let faults = all_source_faults(alloc, pieces.source, pieces.shape, &judged.logs)?;
     match later_of(faults, number) {
@@ -176,7 +185,8 @@ pub(crate) fn drawn_of<S: Source>(
     verdict: &Verdict,
     wanted: Wanted,
 ) -> Result<Drawn, Unlisted<S::Fault>>
-    ensures { IfOk result (IsDrawnBy (known_by (S.said pieces.entry.source.now) (S.is_log pieces.entry.source.now)) pieces.entry.shape.now.partitions judged.now verdict.now wanted.around) }
+    ensures drawn { IfOk result (IsDrawnBy (known_by (S.said pieces.entry.source.now) (S.is_log pieces.entry.source.now)) pieces.entry.shape.now.partitions judged.now verdict.now wanted.around) }
+    ensures refused { IfErr result (IsRefusedAgain (S.outcomes pieces.entry.source.now) (pieces_of pieces.entry.shape.now)) }
 {
     let around = wanted.around.unwrap_or(AROUND) as usize;
     let spec = pieces.shape.spec();

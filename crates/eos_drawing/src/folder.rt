@@ -5,10 +5,14 @@ ghost use Rattle.std.specs.Io.KnownBytes.{Keeps};
 ghost use Rattle.eos_disk.specs.Putting.{IsBegun};
 ghost use Rattle.eos_drawing.specs.Drawings.{AreTooFew};
 ghost use Rattle.eos_drawing.specs.Folders.{is_later, HoldsAsRead, HoldsOf, HoldsAt, IsDrawn, IsHalfDrawn, IsUntouched};
+ghost use Rattle.eos_drawing.specs.Refused.{IsFirst, IsFirstOfDrawing};
 ghost use Rattle.eos_drawing.specs.steps.Answers.{IsAnswer};
+ghost use Rattle.eos_drawing.specs.steps.Undrawn.{IsUndrawnOf};
 ghost use Rattle.eos_drawing.specs.declared.folder.Undrawn.TheVariants.{CannotPrint, TooFew};
 ghost use Rattle.eos_evidence.specs.Evidence.{EvidenceParts, segments_of};
 ghost use Rattle.eos_disk.specs.Shapes.{AreKnown};
+ghost use Rattle.eos_source.specs.FirstRefusals.{outcomes_of, pieces_of};
+ghost use Rattle.eos_source.specs.Refusals.{AreOpened};
 ghost use Rattle.eos_source.specs.Saying.{known_at, StandsAt};
 
 use crate::answer::{Answer, Pieces, Wanted, answer_source};
@@ -59,8 +63,10 @@ fn answer_shape<D: Disk, T: Watch, R: Threads + Sync>(
     asked: &Asked<'_, D, T>,
     shape: &Shape,
 ) -> Result<Answer, FolderFault>
-    ensures { IfOk result (λ answer. HoldsAsRead (known_at (D.holds asked.now.disk.now) asked.now.folder.now (segments_of shape.now.evidence.partitions) shape.now.forms.items) shape.now.evidence (is_later asked.now.fault)
+    ensures answer { IfOk result (λ answer. HoldsAsRead (known_at (D.holds asked.now.disk.now) asked.now.folder.now (segments_of shape.now.evidence.partitions) shape.now.forms.items) shape.now.evidence (is_later asked.now.fault)
         (IsAnswer asked.now.fault asked.now.around answer (known_at (D.holds asked.now.disk.now) asked.now.folder.now (segments_of shape.now.evidence.partitions) shape.now.forms.items) shape.now.evidence.partitions)) }
+    ensures opened { IfOk result (λ answer. AreOpened (outcomes_of (D.holds asked.now.disk.now) asked.now.folder.now shape.now.evidence shape.now.forms.items) (pieces_of shape.now.evidence)) }
+    ensures refused { IfErr result (IsUndrawnOf (outcomes_of (D.holds asked.now.disk.now) asked.now.folder.now shape.now.evidence shape.now.forms.items) (pieces_of shape.now.evidence) (is_later asked.now.fault)) }
 {
     let source = FolderSource {
         disk: asked.disk,
@@ -92,7 +98,8 @@ fn answer_folder<D: Disk, T: Watch, R: Threads + Sync>(
     threads: &R,
     asked: &Asked<'_, D, T>,
 ) -> Result<Answer, FolderFault>
-    ensures { IfOk result (λ answer. HoldsOf (D.holds asked.now.disk.now) asked.now.folder.now (is_later asked.now.fault) (IsAnswer asked.now.fault asked.now.around answer)) }
+    ensures answer { IfOk result (λ answer. HoldsOf (D.holds asked.now.disk.now) asked.now.folder.now (is_later asked.now.fault) (IsAnswer asked.now.fault asked.now.around answer)) }
+    ensures first { IfErr result (IsFirstOfDrawing (D.holds asked.now.disk.now) asked.now.folder.now (is_later asked.now.fault)) }
 {
     let shape = read_shape(alloc, asked.disk, asked.folder, asked.watch)?;
     let answer = answer_shape(alloc, threads, asked, &shape)?;
@@ -126,7 +133,9 @@ fn begun<E: DiskMut>(
 /// are read meanwhile.
 ///
 /// # Errors
-/// But for `CannotPrint` no file came and nothing was printed.
+/// But for `CannotPrint` no file came and nothing was printed. `Refused` is the first refusal of the folder: that of the manifest, or of the
+/// first segment that is listed and isn't read, or, where each was opened, of the listing, or of a segment that is read again: for the times
+/// of its records, or where a later fault is wanted.
 #[tactic(auto, using(crate::proofs::Placed::dropped_after, crate::proofs::Placed::left_after))]
 pub fn draw_folder_to<D: Disk, E: DiskMut, T: Watch, R: Threads + Sync, W: Write>(
     alloc: Global,
@@ -142,9 +151,9 @@ pub fn draw_folder_to<D: Disk, E: DiskMut, T: Watch, R: Threads + Sync, W: Write
         (IsDrawn asked.now.fault asked.now.around asked.now.file.now (E.holds disk.old) (E.holds disk.new) (W.contents writer.old) (W.contents writer.new) status)) }
     ensures untouched { IfErr result (λ why. why ≢ CannotPrint → IsUntouched asked.now.file.now (E.holds disk.old) (E.holds disk.new)) }
     ensures unprinted { IfErr result (λ why. why ≢ CannotPrint → Keeps (W.contents writer.old) (W.contents writer.new)) }
+    ensures first { IfErr result (IsFirst (D.holds asked.now.disk.now) asked.now.folder.now (is_later asked.now.fault)) }
     ensures few { (count : ℕ) → result ≡ Err (TooFew count) → HoldsOf (D.holds asked.now.disk.now) asked.now.folder.now (is_later asked.now.fault) (λ _ _ e. AreTooFew e asked.now.fault count) }
-    ensures known_few { (e : EvidenceParts) → AreKnown (D.holds asked.now.disk.now) asked.now.folder.now → StandsAt (D.holds asked.now.disk.now) asked.now.folder.now e
-        → (count : ℕ) → result ≡ Err (TooFew count) → AreTooFew e asked.now.fault count }
+    ensures known_few { (e : EvidenceParts) → AreKnown (D.holds asked.now.disk.now) asked.now.folder.now → StandsAt (D.holds asked.now.disk.now) asked.now.folder.now e → (count : ℕ) → result ≡ Err (TooFew count) → AreTooFew e asked.now.fault count }
     ensures front { result ≡ Err CannotPrint → HoldsOf (D.holds asked.now.disk.now) asked.now.folder.now (is_later asked.now.fault)
         (IsHalfDrawn asked.now.fault asked.now.around asked.now.file.now (E.holds disk.old) (E.holds disk.new) (W.contents writer.old) (W.contents writer.new)) }
     ensures known_front { (e : EvidenceParts) → AreKnown (D.holds asked.now.disk.now) asked.now.folder.now → (at : StandsAt (D.holds asked.now.disk.now) asked.now.folder.now e)

@@ -1,15 +1,20 @@
 //! The pictures around the first faults of a folder, as texts. The folder is read once for all of them.
 
-ghost use Rattle.std.specs.Prelude.{◌≡◌, ◌≤◌, ◌<◌, map, Some, IfOk, string_bytes};
+ghost use Rattle.std.specs.Prelude.{◌≡◌, ◌≤◌, ◌<◌, map, Some, IfOk, IfErr, string_bytes, alloc_error};
 ghost use Rattle.eos_verdict.specs.declared.verdict.Fault.{Fault as AFault};
 ghost use Rattle.eos_verdict.specs.declared.verdict.Verdict.TheVariants.{No};
 ghost use Rattle.eos_disk.specs.Shapes.{AreKnown};
 ghost use Rattle.eos_evidence.specs.Evidence.{EvidenceParts, segments_of};
+ghost use Rattle.eos_source.specs.FirstRefusals.{outcomes_of, pieces_of};
+ghost use Rattle.eos_source.specs.Refusals.{AreOpened};
 ghost use Rattle.eos_source.specs.Said.{known_by};
 ghost use Rattle.eos_source.specs.Saying.{known_at, StandsAt};
+ghost use Rattle.eos_source_check.specs.Refusals.{IsRefusedAgain};
 ghost use Rattle.eos_drawing.specs.FirstPictures.{AreFirstPictures};
 ghost use Rattle.eos_drawing.specs.Folders.{is_later, HoldsAsRead, HoldsAt, HoldsOf};
+ghost use Rattle.eos_drawing.specs.Refused.{IsFirstOfDrawing};
 ghost use Rattle.eos_drawing.specs.steps.Pictures.{IsTextBy, AreTextsBy, ArePicturesBy};
+ghost use Rattle.eos_drawing.specs.steps.Undrawn.{IsAfter, IsUndrawn, IsUndrawnOf};
 
 use crate::answer::{Pieces, Wanted, drawn_of};
 use eos_base::Workers;
@@ -43,7 +48,8 @@ fn text_around<S: Source>(
     judged: &Judged,
     verdict: &Verdict,
 ) -> Result<String, Unlisted<S::Fault>>
-    ensures { IfOk result (λ text. IsTextBy (known_by (S.said pieces.entry.source.now) (S.is_log pieces.entry.source.now)) pieces.entry.shape.now.partitions judged.now verdict.now (string_bytes text)) }
+    ensures text { IfOk result (λ text. IsTextBy (known_by (S.said pieces.entry.source.now) (S.is_log pieces.entry.source.now)) pieces.entry.shape.now.partitions judged.now verdict.now (string_bytes text)) }
+    ensures refused { IfErr result (IsRefusedAgain (S.outcomes pieces.entry.source.now) (pieces_of pieces.entry.shape.now)) }
 {
     let wanted = Wanted {
         fault: None,
@@ -61,7 +67,8 @@ fn texts_around<S: Source>(
     judged: &Judged,
     faults: Vec<Fault>,
 ) -> Result<Vec<String>, Unlisted<S::Fault>>
-    ensures { IfOk result (λ texts. AreTextsBy (known_by (S.said pieces.entry.source.now) (S.is_log pieces.entry.source.now)) pieces.entry.shape.now.partitions judged.now faults.items (map string_bytes texts.items)) }
+    ensures texts { IfOk result (λ texts. AreTextsBy (known_by (S.said pieces.entry.source.now) (S.is_log pieces.entry.source.now)) pieces.entry.shape.now.partitions judged.now faults.items (map string_bytes texts.items)) }
+    ensures refused { IfErr result (IsRefusedAgain (S.outcomes pieces.entry.source.now) (pieces_of pieces.entry.shape.now)) }
 {
     let mut texts = Vec::new(alloc);
     for fault in faults {
@@ -85,7 +92,8 @@ fn only_first<S: Source>(
 ) -> Result<Vec<String>, Unlisted<S::Fault>>
     requires most { most ≤ 1 }
     requires no { (fault : AFault) × (judged.now.verdict ≡ No fault) }
-    ensures { IfOk result (λ texts. ArePicturesBy (known_by (S.said pieces.entry.source.now) (S.is_log pieces.entry.source.now)) pieces.entry.shape.now judged.now most (map string_bytes texts.items)) }
+    ensures texts { IfOk result (λ texts. ArePicturesBy (known_by (S.said pieces.entry.source.now) (S.is_log pieces.entry.source.now)) pieces.entry.shape.now judged.now most (map string_bytes texts.items)) }
+    ensures refused { IfErr result (IsRefusedAgain (S.outcomes pieces.entry.source.now) (pieces_of pieces.entry.shape.now)) }
 {
     let text = text_around(alloc, pieces, judged, &judged.verdict)?;
     let mut texts = Vec::new(alloc);
@@ -101,7 +109,8 @@ fn of_list<S: Source>(
     most: usize,
 ) -> Result<Vec<String>, Unlisted<S::Fault>>
     requires { 1 < most }
-    ensures { IfOk result (λ texts. ArePicturesBy (known_by (S.said pieces.entry.source.now) (S.is_log pieces.entry.source.now)) pieces.entry.shape.now judged.now most (map string_bytes texts.items)) }
+    ensures texts { IfOk result (λ texts. ArePicturesBy (known_by (S.said pieces.entry.source.now) (S.is_log pieces.entry.source.now)) pieces.entry.shape.now judged.now most (map string_bytes texts.items)) }
+    ensures refused { IfErr result (IsAfter (known_by (S.said pieces.entry.source.now) (S.is_log pieces.entry.source.now)) (S.outcomes pieces.entry.source.now) pieces.entry.shape.now.partitions judged.now (is_later (Some most))) }
 {
     let mut faults = all_source_faults(alloc, pieces.source, pieces.shape, &judged.logs)?;
     faults.truncate(most);
@@ -117,7 +126,8 @@ fn of_judged<S: Source>(
     judged: &Judged,
     most: usize,
 ) -> Result<Vec<String>, Unlisted<S::Fault>>
-    ensures { IfOk result (λ texts. ArePicturesBy (known_by (S.said pieces.entry.source.now) (S.is_log pieces.entry.source.now)) pieces.entry.shape.now judged.now most (map string_bytes texts.items)) }
+    ensures texts { IfOk result (λ texts. ArePicturesBy (known_by (S.said pieces.entry.source.now) (S.is_log pieces.entry.source.now)) pieces.entry.shape.now judged.now most (map string_bytes texts.items)) }
+    ensures refused { IfErr result (IsAfter (known_by (S.said pieces.entry.source.now) (S.is_log pieces.entry.source.now)) (S.outcomes pieces.entry.source.now) pieces.entry.shape.now.partitions judged.now (is_later (Some most))) }
 {
     match judged.verdict {
         Verdict::Yes(_) => Ok(Vec::new(alloc)),
@@ -132,14 +142,16 @@ fn of_judged<S: Source>(
 }
 
 /// Reads the pieces, each once, and draws.
-#[tactic(auto, using(crate::proofs::FirstOnes::as_read))]
+#[tactic(auto, using(crate::proofs::FirstOnes::as_read, crate::proofs::FirstRefused::unjudged))]
 fn of_source<S: Source, R: Threads + Sync>(
     alloc: Global,
     threads: &R,
     pieces: Pieces<'_, S>,
     first: &First,
 ) -> Result<Vec<String>, Unlisted<S::Fault>>
-    ensures { IfOk result (λ texts. HoldsAsRead (known_by (S.said pieces.entry.source.now) (S.is_log pieces.entry.source.now)) pieces.entry.shape.now (is_later (Some first.now.most)) (λ e. AreFirstPictures (known_by (S.said pieces.entry.source.now) (S.is_log pieces.entry.source.now)) pieces.entry.shape.now.partitions e first.now.most (map string_bytes texts.items))) }
+    ensures texts { IfOk result (λ texts. HoldsAsRead (known_by (S.said pieces.entry.source.now) (S.is_log pieces.entry.source.now)) pieces.entry.shape.now (is_later (Some first.now.most)) (λ e. AreFirstPictures (known_by (S.said pieces.entry.source.now) (S.is_log pieces.entry.source.now)) pieces.entry.shape.now.partitions e first.now.most (map string_bytes texts.items))) }
+    ensures opened { IfOk result (λ texts. AreOpened (S.outcomes pieces.entry.source.now) (pieces_of pieces.entry.shape.now)) }
+    ensures refused { IfErr result (IsUndrawn (S.outcomes pieces.entry.source.now) (S.Fault.from_gives alloc_error) (pieces_of pieces.entry.shape.now) (is_later (Some first.now.most))) }
 {
     match judge_source(alloc, threads, pieces.source, pieces.shape, first.workers) {
         Ok(judged) => {
@@ -158,8 +170,10 @@ fn of_shape<D: Disk, T: Watch, R: Threads + Sync>(
     shape: &Shape,
     first: &First,
 ) -> Result<Vec<String>, FolderFault>
-    ensures { IfOk result (λ texts. HoldsAsRead (known_at (D.holds folder.entry.disk.now) folder.entry.path.now (segments_of shape.now.evidence.partitions) shape.now.forms.items) shape.now.evidence (is_later (Some first.now.most))
+    ensures texts { IfOk result (λ texts. HoldsAsRead (known_at (D.holds folder.entry.disk.now) folder.entry.path.now (segments_of shape.now.evidence.partitions) shape.now.forms.items) shape.now.evidence (is_later (Some first.now.most))
         (λ e. AreFirstPictures (known_at (D.holds folder.entry.disk.now) folder.entry.path.now (segments_of shape.now.evidence.partitions) shape.now.forms.items) shape.now.evidence.partitions e first.now.most (map string_bytes texts.items))) }
+    ensures opened { IfOk result (λ texts. AreOpened (outcomes_of (D.holds folder.entry.disk.now) folder.entry.path.now shape.now.evidence shape.now.forms.items) (pieces_of shape.now.evidence)) }
+    ensures refused { IfErr result (IsUndrawnOf (outcomes_of (D.holds folder.entry.disk.now) folder.entry.path.now shape.now.evidence shape.now.forms.items) (pieces_of shape.now.evidence) (is_later (Some first.now.most))) }
 {
     let source = FolderSource {
         disk: folder.disk,
@@ -187,7 +201,8 @@ fn of_folder<D: Disk, T: Watch, R: Threads + Sync>(
     folder: Folder<'_, D, T>,
     first: &First,
 ) -> Result<Vec<String>, FolderFault>
-    ensures { IfOk result (λ texts. HoldsOf (D.holds folder.entry.disk.now) folder.entry.path.now (is_later (Some first.now.most)) (λ known partitions e. AreFirstPictures known partitions e first.now.most (map string_bytes texts.items))) }
+    ensures texts { IfOk result (λ texts. HoldsOf (D.holds folder.entry.disk.now) folder.entry.path.now (is_later (Some first.now.most)) (λ known partitions e. AreFirstPictures known partitions e first.now.most (map string_bytes texts.items))) }
+    ensures first { IfErr result (IsFirstOfDrawing (D.holds folder.entry.disk.now) folder.entry.path.now (is_later (Some first.now.most))) }
 {
     let shape = read_shape(alloc, folder.disk, folder.path, folder.watch)?;
     let texts = of_shape(alloc, threads, folder, &shape, first)?;
@@ -213,6 +228,7 @@ pub fn first_pictures<D: Disk, T: Watch, R: Threads + Sync>(
     ensures some { IfOk result (λ texts. HoldsOf (D.holds folder.entry.disk.now) folder.entry.path.now (is_later (Some first.now.most)) (λ known partitions e. AreFirstPictures known partitions e first.now.most (map string_bytes texts.items))) }
     ensures known { (e : EvidenceParts) → AreKnown (D.holds folder.entry.disk.now) folder.entry.path.now → (at : StandsAt (D.holds folder.entry.disk.now) folder.entry.path.now e)
         → IfOk result (λ texts. HoldsAt (D.holds folder.entry.disk.now) folder.entry.path.now e at (λ known partitions e. AreFirstPictures known partitions e first.now.most (map string_bytes texts.items))) }
+    ensures first { IfErr result (IsFirstOfDrawing (D.holds folder.entry.disk.now) folder.entry.path.now (is_later (Some first.now.most))) }
 {
     let texts = of_folder(alloc, threads, folder, first)?;
     Ok(texts)

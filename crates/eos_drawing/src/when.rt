@@ -1,7 +1,9 @@
 //! When the records of a picture's marks were written.
 
-ghost use Rattle.std.specs.Prelude.{◌≡◌, ◌++◌, IfOk, OnOk};
+ghost use Rattle.std.specs.Prelude.{◌≡◌, ◌++◌, IfOk, IfErr, OnOk};
+ghost use Rattle.eos_source.specs.FirstRefusals.{pieces_of};
 ghost use Rattle.eos_source.specs.Said.{known_by};
+ghost use Rattle.eos_source_check.specs.Refusals.{IsRefusedAgain};
 ghost use Rattle.eos_source_check.specs.Times.{AreTimesNamed};
 ghost use Rattle.eos_picture.specs.Titles.{mark_offset};
 ghost use Rattle.eos_drawing.specs.Whens.{listed, offsets_of, AreTimesOfRows};
@@ -38,7 +40,8 @@ fn times_of_row<S: Source>(
     shape: &Evidence,
     row: &Row,
 ) -> Result<Times, Unlisted<S::Fault>>
-    ensures { IfOk result (λ times. AreTimesNamed (known_by (S.said source.now) (S.is_log source.now)) 0 shape.now.partitions row.now.name (offsets_of row.now.marks.items) times.at) }
+    ensures times { IfOk result (λ times. AreTimesNamed (known_by (S.said source.now) (S.is_log source.now)) 0 shape.now.partitions row.now.name (offsets_of row.now.marks.items) times.at) }
+    ensures refused { IfErr result (IsRefusedAgain (S.outcomes source.now) (pieces_of shape.now)) }
 {
     let offsets = offsets_of(alloc, row.marks.as_slice())?;
     let times = times_named(alloc, source, shape, &row.name, offsets.as_slice())?;
@@ -57,7 +60,8 @@ pub(crate) fn times_of_rows<S: Source>(
     shape: &Evidence,
     rows: &[Row],
 ) -> Result<Vec<Times>, Unlisted<S::Fault>>
-    ensures { IfOk result (λ times. AreTimesOfRows (known_by (S.said source.now) (S.is_log source.now)) shape.now.partitions rows.now times.items) }
+    ensures times { IfOk result (λ times. AreTimesOfRows (known_by (S.said source.now) (S.is_log source.now)) shape.now.partitions rows.now times.items) }
+    ensures refused { IfErr result (IsRefusedAgain (S.outcomes source.now) (pieces_of shape.now)) }
 {
     let mut times = Vec::new(alloc);
     for row in rows {

@@ -1,3 +1,4 @@
+mod FirstRefused
 mod FolderAnswers
 pub mod NamedFaults
 mod ReadAlone

@@ -104,7 +104,7 @@ logs_each [] k logs lt = absurd (omega (arith, lt))
 logs_each (f ∷ fs) zero logs lt = ap (λ (form : Form). is_log (Some form)) logs.0
 logs_each (f ∷ fs) (suc k) logs lt = logs_each fs k logs.1 (omega (arith, lt))
 
-as_many : (holds : List ℕ → Entry) (folder : List ℕ) (ps : List Partition) (forms : List Form) → AreListed holds folder ps forms → length (segments_of ps) ≡ length forms
+pub as_many : (holds : List ℕ → Entry) (folder : List ℕ) (ps : List Partition) (forms : List Form) → AreListed holds folder ps forms → length (segments_of ps) ≡ length forms
 as_many holds folder [] forms are = sym (ap length are)
 as_many holds folder (p ∷ ps) forms are =
     let files = are.0 in

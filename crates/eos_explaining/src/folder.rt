@@ -8,6 +8,7 @@ ghost use Rattle.eos_disk.specs.Shapes.{AreKnown};
 ghost use Rattle.eos_source.specs.Saying.{StandsAt};
 ghost use Rattle.eos_explaining.specs.Explaining.{IsAnswer};
 ghost use Rattle.eos_explaining.specs.Folders.{number_of, IsExplained, IsFrontOfExplained};
+ghost use Rattle.eos_explaining.specs.Refused.{IsFirst, IsFirstOfWhole};
 ghost use Rattle.eos_explaining.specs.steps.Tellings.{Tells, TellsFront};
 ghost use Rattle.eos_explaining.specs.declared.folder.Unexplained.TheVariants.{CannotWrite};
 
@@ -63,13 +64,15 @@ pub enum Unexplained {
 }
 
 /// Reads a folder whole, and answers.
+#[tactic(auto, using(crate::proofs::FirstRefused::first_of_whole, crate::proofs::FirstRefused::whole_memory))]
 fn answer_folder<D: Disk, T: Gate + Watch, R: Threads + Wait + Sync>(
     alloc: Global,
     threads: &R,
     folder: Folder<'_, D, T>,
     which: &Which,
 ) -> Result<Answer, FolderFault>
-    ensures { IfOk result (λ answer. (e : EvidenceParts) × IsReadWhole (D.holds folder.entry.disk.now) folder.entry.path.now e × IsAnswer folder.entry.path.now e (number_of which.now.fault) answer) }
+    ensures answer { IfOk result (λ answer. (e : EvidenceParts) × IsReadWhole (D.holds folder.entry.disk.now) folder.entry.path.now e × IsAnswer folder.entry.path.now e (number_of which.now.fault) answer) }
+    ensures first { IfErr result (IsFirstOfWhole (D.holds folder.entry.disk.now) folder.entry.path.now) }
 {
     let reading = Reading {
         workers: which.workers,
@@ -116,7 +119,8 @@ fn told<W: Write>(
 ///
 /// # Errors
 /// At `CannotWrite` a front of the text was written. Before all is read and judged nothing is: `Refused` says which file or folder is no
-/// evidence or can't be read, or that memory ran out.
+/// evidence or can't be read, or that memory ran out. It is the first refusal: that of the manifest; of the first fold that is listed, which
+/// has no records; of the first segment that isn't read; or, where each was read, of the listing.
 pub fn explain_folder_to<D: Disk, T: Gate + Watch, R: Threads + Wait + Sync, W: Write>(
     alloc: Global,
     threads: &R,
@@ -129,6 +133,7 @@ pub fn explain_folder_to<D: Disk, T: Gate + Watch, R: Threads + Wait + Sync, W: 
     ensures known { (e : EvidenceParts) → AreKnown (D.holds folder.entry.disk.now) folder.entry.path.now → StandsAt (D.holds folder.entry.disk.now) folder.entry.path.now e
         → IfOk result (IsExplained folder.entry.path.now e which.now.fault (W.contents writer.old) (W.contents writer.new)) }
     ensures unread { IfErr result (λ why. why ≢ CannotWrite → Keeps (W.contents writer.old) (W.contents writer.new)) }
+    ensures first { IfErr result (IsFirst (D.holds folder.entry.disk.now) folder.entry.path.now) }
     ensures front { result ≡ Err CannotWrite → (e : EvidenceParts) × IsReadWhole (D.holds folder.entry.disk.now) folder.entry.path.now e
         × IsFrontOfExplained folder.entry.path.now e which.now.fault (W.contents writer.old) (W.contents writer.new) }
     ensures known_front { (e : EvidenceParts) → AreKnown (D.holds folder.entry.disk.now) folder.entry.path.now → StandsAt (D.holds folder.entry.disk.now) folder.entry.path.now e

@@ -1,6 +1,6 @@
 //! The stories of the first faults of an evidence, which is read once for all of them.
 
-ghost use Rattle.std.specs.Prelude.{◌≡◌, ◌≤◌, length, map, take, List, IfOk, string_bytes};
+ghost use Rattle.std.specs.Prelude.{◌≡◌, ◌≤◌, length, map, take, List, IfOk, IfErr, string_bytes};
 ghost use Rattle.eos_verdict.specs.declared.verdict.Fault.{Fault as AFault};
 ghost use Rattle.eos_verdict.specs.declared.verdict.Verdict.TheVariants.{No};
 ghost use Rattle.eos_check.specs.WholeLogs.{AreWholeLogs};
@@ -11,6 +11,7 @@ ghost use Rattle.eos_kept.specs.Parts.{HaveEpochs};
 ghost use Rattle.eos_commits.specs.EvidenceLogs.{AreLogsOf};
 ghost use Rattle.eos_notes.specs.Notes.{AreAllNotes};
 ghost use Rattle.eos_source.specs.Saying.{StandsAt};
+ghost use Rattle.eos_explaining.specs.Refused.{IsFirstOfWhole};
 ghost use Rattle.eos_explaining.specs.FirstStories.{AreStoriesOf, AreFirstStories};
 
 use crate::answer::{Whole, epochs_of, noted, verdicts_of};
@@ -120,7 +121,7 @@ pub fn first_stories_of<G: Gate>(
 ///
 /// # Errors
 /// Those of `explain_folder_to` before it writes.
-#[tactic(auto, using(crate::proofs::StoriesMore::known_stories))]
+#[tactic(auto, using(crate::proofs::StoriesMore::known_stories, crate::proofs::FirstRefused::first_of_whole, crate::proofs::FirstRefused::whole_memory))]
 pub fn first_stories<D: Disk, T: Gate + Watch, R: Threads + Wait + Sync>(
     alloc: Global,
     threads: &R,
@@ -132,6 +133,7 @@ pub fn first_stories<D: Disk, T: Gate + Watch, R: Threads + Wait + Sync>(
         × AreFirstStories folder.entry.path.now e most (map string_bytes texts.items)) }
     ensures known { (e : EvidenceParts) → AreKnown (D.holds folder.entry.disk.now) folder.entry.path.now → StandsAt (D.holds folder.entry.disk.now) folder.entry.path.now e
         → IfOk result (λ texts. AreFirstStories folder.entry.path.now e most (map string_bytes texts.items)) }
+    ensures first { IfErr result (IsFirstOfWhole (D.holds folder.entry.disk.now) folder.entry.path.now) }
 {
     let reading = Reading {
         workers,

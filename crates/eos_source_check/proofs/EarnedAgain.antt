@@ -9,8 +9,8 @@ use Rattle.eos_touch.specs.declared.fault.PartitionFault.{PartitionFault}
 use Rattle.eos_source.specs.Said.{Known}
 use Rattle.eos_source_check.specs.declared.fault.Unlisted.{Unlisted}
 use Rattle.eos_source_check.specs.declared.fault.Unlisted.TheVariants.{Refused, Fold, Changed, OutOfMemory}
-use Rattle.eos_source_check.specs.Refusals.{IsOther, IsEarned}
-use Rattle.eos_source_check.specs.steps.Earned.{IsOfPiece, IsOfPieces, IsOfPartition}
+use Rattle.eos_source_check.specs.Refusals.{IsOther, IsEarned, IsRefusedFor, IsRefusedAgain}
+use Rattle.eos_source_check.specs.steps.Earned.{IsOfPiece, IsOfPieces, IsOfPartition, IsRefusedAmong}
 use Rattle.eos_source_check.proofs.PassedAgain.{first_of}
 
 -- the pieces of a partition are some of all
@@ -49,3 +49,17 @@ module _ {F : Type 0} (outcomes : ℕ → Option F → Type 0) where
     is = subst (λ (n : ℕ). IsOther known n p h.1) (sym h.0) h.3;
   }
   earned known shapes found i p o OutOfMemory lt is at h = tt
+
+  -- of times alone: no fold is refused, and nothing has changed
+  pub refused_among : (first count i : ℕ) (why : Unlisted F) → i < count → IsRefusedFor (λ fault. outcomes (first + i) (Some fault)) why → IsRefusedAmong outcomes first count why
+  refused_among first count i (Refused fault) lt h = (first + i, omega arith, omega (arith, lt), h)
+  refused_among first count i (Fold piece) lt h = absurd h
+  refused_among first count i (Changed piece) lt h = absurd h
+  refused_among first count i OutOfMemory lt h = tt
+
+  pub refused_again : (shapes : List Partition) (first i : ℕ) (p : Partition) (why : Unlisted F) → i < length shapes → p ≡ get_or shapes i p → first ≡ first_of shapes i
+      → IsRefusedAmong outcomes first (length p.segments) why → IsRefusedAgain outcomes (length (segments_of shapes)) why
+  refused_again shapes first i p (Refused fault) lt is at h = (h.0, omega (arith, h.2, at, within shapes i p lt is), h.3)
+  refused_again shapes first i p (Fold piece) lt is at h = absurd h
+  refused_again shapes first i p (Changed piece) lt is at h = absurd h
+  refused_again shapes first i p OutOfMemory lt is at h = tt

@@ -49,3 +49,14 @@ IsUntold outcomes IsMemory pieces all (Refused why) =
 IsUntold outcomes IsMemory pieces all (Fold piece) = (all ≡ true) × AreOpened outcomes pieces × (piece < pieces)
 IsUntold outcomes IsMemory pieces all (Changed piece) = (all ≡ true) × AreOpened outcomes pieces
 IsUntold outcomes IsMemory pieces all OutOfMemory = ⊤
+
+-- a piece that was read again is refused for such a fault; or want of memory
+abbrev pub IsRefusedFor : {F : Type 0} → (F → Type 0) → Unlisted F → Type 0
+IsRefusedFor Is (Refused fault) = Is fault
+IsRefusedFor Is (Fold piece) = ⊥
+IsRefusedFor Is (Changed piece) = ⊥
+IsRefusedFor Is OutOfMemory = ⊤
+
+-- one of so many pieces
+abbrev pub IsRefusedAgain : {F : Type 0} → (ℕ → Option F → Type 0) → ℕ → Unlisted F → Type 0
+IsRefusedAgain outcomes pieces = IsRefusedFor (λ fault. (piece : ℕ) × (piece < pieces) × outcomes piece (Some fault))

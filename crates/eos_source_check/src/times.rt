@@ -1,10 +1,13 @@
 //! When records of a source's partition were written. Of what is kept of a log no times are left, so its segments are read again.
 
-ghost use Rattle.std.specs.Prelude.{◌≡◌, ◌<◌, ◌+◌, ◌≤◌, false, length, drop, IfOk, MatchOption};
+ghost use Rattle.std.specs.Prelude.{◌≡◌, ◌<◌, ◌+◌, ◌≤◌, false, length, drop, Some, IfOk, IfErr, MatchOption};
+ghost use Rattle.eos_evidence.specs.Evidence.{segments_of};
 ghost use Rattle.eos_fold.specs.Fronts.{base_of};
 ghost use Rattle.eos_source.specs.Said.{Known, known_by};
 ghost use Rattle.eos_sought.specs.Partitions.{is_named};
 ghost use Rattle.eos_source_check.specs.Again.{IsLogAgain};
+ghost use Rattle.eos_source_check.specs.Refusals.{IsRefusedFor, IsRefusedAgain};
+ghost use Rattle.eos_source_check.specs.steps.Earned.{IsRefusedAmong};
 ghost use Rattle.eos_source_check.specs.steps.FaultsAgain.{IsLogOf};
 ghost use Rattle.eos_source_check.specs.Times.{begins_next, is_below, some_lie_in, AreTimesOf, AreTimesAgain, AreTimesNamed};
 
@@ -69,7 +72,8 @@ fn bytes_again<S: Source>(
     source: &S,
     piece: u64,
 ) -> Result<Option<Bytes>, Unlisted<S::Fault>>
-    ensures { IfOk result (λ found. MatchOption found (S.is_log source.now piece ≡ false) (IsLogOf (known_by (S.said source.now) (S.is_log source.now) piece))) }
+    ensures found { IfOk result (λ found. MatchOption found (S.is_log source.now piece ≡ false) (IsLogOf (known_by (S.said source.now) (S.is_log source.now) piece))) }
+    ensures refused { IfErr result (IsRefusedFor (λ fault. S.outcomes source.now piece (Some fault))) }
 {
     match source.open(alloc, piece) {
         Ok(Piece::Log(mut reader)) => match read_segment(alloc, &mut reader) {
@@ -103,7 +107,8 @@ fn log_again<S: Source>(
     source: &S,
     named: Named<'_>,
 ) -> Result<Option<Segment>, Unlisted<S::Fault>>
-    ensures { IfOk result (λ found. MatchOption found (S.is_log source.now named.entry.piece ≡ false) (IsLogAgain (known_by (S.said source.now) (S.is_log source.now) named.entry.piece) named.entry.name.now)) }
+    ensures found { IfOk result (λ found. MatchOption found (S.is_log source.now named.entry.piece ≡ false) (IsLogAgain (known_by (S.said source.now) (S.is_log source.now) named.entry.piece) named.entry.name.now)) }
+    ensures refused { IfErr result (IsRefusedFor (λ fault. S.outcomes source.now named.entry.piece (Some fault))) }
 {
     let Some(bytes) = bytes_again(alloc, source, named.piece)? else {
         return Ok(None);
@@ -119,7 +124,8 @@ fn times_of<S: Source>(
     named: Named<'_>,
     offsets: &[u64],
 ) -> Result<Vec<(u64, i64)>, Unlisted<S::Fault>>
-    ensures { IfOk result (λ times. AreTimesOf (known_by (S.said source.now) (S.is_log source.now) named.entry.piece) named.entry.name.now named.entry.next offsets.now times.items) }
+    ensures times { IfOk result (λ times. AreTimesOf (known_by (S.said source.now) (S.is_log source.now) named.entry.piece) named.entry.name.now named.entry.next offsets.now times.items) }
+    ensures refused { IfErr result (IsRefusedFor (λ fault. S.outcomes source.now named.entry.piece (Some fault))) }
 {
     if !some_lie_in(base_of(named.name), named.next, offsets) {
         return Ok(Vec::new(alloc));
@@ -142,7 +148,8 @@ fn times_again<S: Source>(
     offsets: &[u64],
 ) -> Result<Vec<(u64, i64)>, Unlisted<S::Fault>>
     requires { first + length shape.now.segments ≤ 65536 }
-    ensures { IfOk result (λ times. AreTimesAgain (known_by (S.said source.now) (S.is_log source.now)) first shape.now.segments offsets.now times.items) }
+    ensures times { IfOk result (λ times. AreTimesAgain (known_by (S.said source.now) (S.is_log source.now)) first shape.now.segments offsets.now times.items) }
+    ensures refused { IfErr result (IsRefusedAmong (S.outcomes source.now) first (length shape.now.segments)) }
 {
     let names = shape.segments.as_slice();
     let mut times = Vec::new(alloc);
@@ -180,7 +187,8 @@ pub fn times_named<S: Source>(
     name: &PartitionName,
     offsets: &[u64],
 ) -> Result<Vec<(u64, i64)>, Unlisted<S::Fault>>
-    ensures { IfOk result (λ times. AreTimesNamed (known_by (S.said source.now) (S.is_log source.now)) 0 shape.now.partitions name.now offsets.now times.items) }
+    ensures times { IfOk result (λ times. AreTimesNamed (known_by (S.said source.now) (S.is_log source.now)) 0 shape.now.partitions name.now offsets.now times.items) }
+    ensures refused { IfErr result (IsRefusedAgain (S.outcomes source.now) (length (segments_of shape.now.partitions))) }
 {
     let partitions = shape.partitions();
     let mut first = 0u64;

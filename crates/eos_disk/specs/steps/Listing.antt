@@ -61,6 +61,10 @@ pub record IsCut (holds : List ℕ → Entry) (folder : List ℕ) (ends : List E
   pub named : names ≡ early ++ map (segment_of end) taken
   pub formed : forms ≡ early_forms ++ map (λ f. f.form) taken
 
+-- these are the segments before the one at which this refused the listing, and each stands there as its log
+abbrev pub AreLogsCut : (List ℕ → Entry) → List ℕ → List End → List Segment → FolderFault → Type 0
+AreLogsCut holds folder ends names why = (forms : List Form) × IsCut holds folder ends names forms why × AreAllLogs forms
+
 -- a partition with these segments more, one after the other
 abbrev pub grown : Partition → List Segment → Partition
 grown p [] = p

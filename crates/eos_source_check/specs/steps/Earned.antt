@@ -5,7 +5,7 @@ use Rattle.eos_touch.specs.declared.fault.PartitionFault.{PartitionFault}
 use Rattle.eos_source.specs.Said.{Known}
 use Rattle.eos_source_check.specs.declared.fault.Unlisted.{Unlisted}
 use Rattle.eos_source_check.specs.declared.fault.Unlisted.TheVariants.{Refused, Fold, Changed, OutOfMemory}
-use Rattle.eos_source_check.specs.Refusals.{IsOther}
+use Rattle.eos_source_check.specs.Refusals.{IsOther, IsRefusedFor}
 
 -- this piece was refused, or is a fold; nothing has changed
 abbrev pub IsOfPiece : {F : Type 0} → (ℕ → Option F → Type 0) → ℕ → Unlisted F → Type 0
@@ -27,3 +27,7 @@ IsOfPartition known outcomes first shape found (Refused fault) = (piece : ℕ) �
 IsOfPartition known outcomes first shape found (Fold piece) = (first ≤ piece) × (piece < first + length shape.segments)
 IsOfPartition known outcomes first shape found (Changed piece) = (piece ≡ first) × (fault : PartitionFault) × (found ≡ Some (Some fault)) × IsOther known first shape fault
 IsOfPartition known outcomes first shape found OutOfMemory = ⊤
+
+-- one of so many pieces from this number on, which is read again, is refused
+abbrev pub IsRefusedAmong : {F : Type 0} → (ℕ → Option F → Type 0) → ℕ → ℕ → Unlisted F → Type 0
+IsRefusedAmong outcomes first count = IsRefusedFor (λ fault. (piece : ℕ) × (first ≤ piece) × (piece < first + count) × outcomes piece (Some fault))

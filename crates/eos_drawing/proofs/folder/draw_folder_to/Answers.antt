@@ -16,7 +16,7 @@ returns-in-Ok-finish-clause-some g c =
     let after = g.W.Write.contents c.finish.new.writer in
     drawn_of (g.D.Disk.holds asked.disk.now) asked.folder.now asked.fault asked.around drawn asked.file.now c.in-Ok.file c.as_bytes.result.now c.as_bytes-in-Ok-end_file.result.now
     (g.E.Disk.holds c.args.disk.now) (g.E.Disk.holds c.begun.new.disk) new before after c.in-Ok.ensures.ok.0 c.in-Ok.ensures.ok.1 c.as_bytes.ensures.value c.in-Ok-end_file.ensures.ok
-    c.as_bytes-in-Ok-end_file.ensures.value c.in-Ok-finish.ensures.ok (subst (λ (a : Answer). HoldsOf (g.D.Disk.holds asked.disk.now) asked.folder.now (is_later asked.fault) (IsAnswer asked.fault asked.around a)) c.in-Ok-Drawn.field-0-is c.in-Ok-Drawn.ensures)
+    c.as_bytes-in-Ok-end_file.ensures.value c.in-Ok-finish.ensures.ok (subst (λ (a : Answer). HoldsOf (g.D.Disk.holds asked.disk.now) asked.folder.now (is_later asked.fault) (IsAnswer asked.fault asked.around a)) c.in-Ok-Drawn.field-0-is c.in-Ok-Drawn.ensures.answer)
 
 pub returns-in-Ok-finish-clause-known : goal.returns-in-Ok-finish-clause-known
 returns-in-Ok-finish-clause-known g c e known at =
@@ -27,7 +27,7 @@ returns-in-Ok-finish-clause-known g c e known at =
     let after = g.W.Write.contents c.finish.new.writer in
     let of = drawn_of (g.D.Disk.holds asked.disk.now) asked.folder.now asked.fault asked.around drawn asked.file.now c.in-Ok.file c.as_bytes.result.now c.as_bytes-in-Ok-end_file.result.now
     (g.E.Disk.holds c.args.disk.now) (g.E.Disk.holds c.begun.new.disk) new before after c.in-Ok.ensures.ok.0 c.in-Ok.ensures.ok.1 c.as_bytes.ensures.value c.in-Ok-end_file.ensures.ok
-    c.as_bytes-in-Ok-end_file.ensures.value c.in-Ok-finish.ensures.ok (subst (λ (a : Answer). HoldsOf (g.D.Disk.holds asked.disk.now) asked.folder.now (is_later asked.fault) (IsAnswer asked.fault asked.around a)) c.in-Ok-Drawn.field-0-is c.in-Ok-Drawn.ensures) in
+    c.as_bytes-in-Ok-end_file.ensures.value c.in-Ok-finish.ensures.ok (subst (λ (a : Answer). HoldsOf (g.D.Disk.holds asked.disk.now) asked.folder.now (is_later asked.fault) (IsAnswer asked.fault asked.around a)) c.in-Ok-Drawn.field-0-is c.in-Ok-Drawn.ensures.answer) in
     known_of (g.D.Disk.holds asked.disk.now) asked.folder.now (is_later asked.fault) (IsDrawn asked.fault asked.around asked.file.now (g.E.Disk.holds c.args.disk.now) new before after drawn.status) e known at of
 
 pub returns-in-Ok-end_file-clause-front : goal.returns-in-Ok-end_file-clause-front
@@ -39,7 +39,7 @@ returns-in-Ok-end_file-clause-front g c failed =
     let after = g.W.Write.contents c.finish.new.writer in
     half_of (g.D.Disk.holds asked.disk.now) asked.folder.now asked.fault asked.around drawn asked.file.now c.in-Ok.file c.as_bytes.result.now c.as_bytes-in-Ok-end_file.result.now
     (g.E.Disk.holds c.args.disk.now) (g.E.Disk.holds c.begun.new.disk) new before after c.in-Ok.ensures.ok.0 c.in-Ok.ensures.ok.1 c.as_bytes.ensures.value c.in-Ok-end_file.ensures.ok
-    c.as_bytes-in-Ok-end_file.ensures.value c.in-Err-finish.ensures.front (subst (λ (a : Answer). HoldsOf (g.D.Disk.holds asked.disk.now) asked.folder.now (is_later asked.fault) (IsAnswer asked.fault asked.around a)) c.in-Ok-Drawn.field-0-is c.in-Ok-Drawn.ensures)
+    c.as_bytes-in-Ok-end_file.ensures.value c.in-Err-finish.ensures.front (subst (λ (a : Answer). HoldsOf (g.D.Disk.holds asked.disk.now) asked.folder.now (is_later asked.fault) (IsAnswer asked.fault asked.around a)) c.in-Ok-Drawn.field-0-is c.in-Ok-Drawn.ensures.answer)
 
 pub returns-in-Ok-end_file-clause-known_front : goal.returns-in-Ok-end_file-clause-known_front
 returns-in-Ok-end_file-clause-known_front g c e known at failed =
@@ -50,7 +50,7 @@ returns-in-Ok-end_file-clause-known_front g c e known at failed =
     let after = g.W.Write.contents c.finish.new.writer in
     let of = half_of (g.D.Disk.holds asked.disk.now) asked.folder.now asked.fault asked.around drawn asked.file.now c.in-Ok.file c.as_bytes.result.now c.as_bytes-in-Ok-end_file.result.now
     (g.E.Disk.holds c.args.disk.now) (g.E.Disk.holds c.begun.new.disk) new before after c.in-Ok.ensures.ok.0 c.in-Ok.ensures.ok.1 c.as_bytes.ensures.value c.in-Ok-end_file.ensures.ok
-    c.as_bytes-in-Ok-end_file.ensures.value c.in-Err-finish.ensures.front (subst (λ (a : Answer). HoldsOf (g.D.Disk.holds asked.disk.now) asked.folder.now (is_later asked.fault) (IsAnswer asked.fault asked.around a)) c.in-Ok-Drawn.field-0-is c.in-Ok-Drawn.ensures) in
+    c.as_bytes-in-Ok-end_file.ensures.value c.in-Err-finish.ensures.front (subst (λ (a : Answer). HoldsOf (g.D.Disk.holds asked.disk.now) asked.folder.now (is_later asked.fault) (IsAnswer asked.fault asked.around a)) c.in-Ok-Drawn.field-0-is c.in-Ok-Drawn.ensures.answer) in
     known_of (g.D.Disk.holds asked.disk.now) asked.folder.now (is_later asked.fault) (IsHalfDrawn asked.fault asked.around asked.file.now (g.E.Disk.holds c.args.disk.now) new before after) e known at of
 
 pub returns-in-Ok-TooFew-clause-known_few : goal.returns-in-Ok-TooFew-clause-known_few
@@ -59,5 +59,5 @@ returns-in-Ok-TooFew-clause-known_few g c e known at count is =
     let holds = g.D.Disk.holds asked.disk.now in
     let same : c.in-Ok-TooFew.count ≡ count = cc in
     let of = few_of holds asked.folder.now asked.fault asked.around c.in-Ok-TooFew.count
-    (subst (λ (a : Answer). HoldsOf holds asked.folder.now (is_later asked.fault) (IsAnswer asked.fault asked.around a)) c.in-Ok-TooFew.field-0-is c.in-Ok-TooFew.ensures) in
+    (subst (λ (a : Answer). HoldsOf holds asked.folder.now (is_later asked.fault) (IsAnswer asked.fault asked.around a)) c.in-Ok-TooFew.field-0-is c.in-Ok-TooFew.ensures.answer) in
     subst (AreTooFew e asked.fault) same (known_of holds asked.folder.now (is_later asked.fault) (λ _ _ x. AreTooFew x asked.fault c.in-Ok-TooFew.count) e known at of)

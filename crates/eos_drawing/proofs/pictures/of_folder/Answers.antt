@@ -1,13 +1,38 @@
 use Rattle.std.proofs.Common.{Some, map, string_bytes}
+use Rattle.std.proofs.lemmas.Result.{err_from_is_err_and}
 use Rattle.eos_drawing.specs.FirstPictures.{AreFirstPictures}
 use Rattle.eos_drawing.specs.Folders.{is_later}
+use Rattle.eos_drawing.proofs.FirstRefused.{of_manifest, of_piece, of_listing}
 use Rattle.eos_drawing.proofs.FolderAnswers.{folder_of}
 use Rattle.eos_drawing.proofs.pictures.of_folder.Goals as goal
 
-pub returns : goal.returns
-returns g c =
+pub returns-clause-texts : goal.returns-clause-texts
+returns-clause-texts g c =
     let folder = c.args.folder in
     let most = c.args.first.now.most in
     let shape = c.in_ok-shape.shape in
     folder_of (g.D.Disk.holds folder.disk.now) folder.path.now shape.evidence shape.forms.items (is_later (Some most))
-    (λ known partitions e. AreFirstPictures known partitions e most (map string_bytes c.in_ok-texts.texts.items)) (c.in_ok-shape.ensures.all c.in_ok-shape-2.was) c.in_ok-texts.ensures
+    (λ known partitions e. AreFirstPictures known partitions e most (map string_bytes c.in_ok-texts.texts.items)) (c.in_ok-shape.ensures.all c.in_ok-shape-2.was) c.in_ok-texts.ensures.texts
+
+pub returns-in_err-shape-clause-first : goal.returns-in_err-shape-clause-first
+returns-in_err-shape-clause-first g c =
+    let p = err_from_is_err_and c.from_residual.result c.from_residual.ensures.1 in
+    let folder = c.args.folder in
+    rw (p.1, p.2) (of_manifest (g.D.Disk.holds folder.disk.now) folder.path.now (is_later (Some c.args.first.now.most)) c.in_err-shape.field-0.0 c.in_err-shape.ensures.refused)
+
+pub returns-in_err-texts-clause-first : goal.returns-in_err-texts-clause-first
+returns-in_err-texts-clause-first g c =
+    let p = err_from_is_err_and c.from_residual-in_err-texts.result c.from_residual-in_err-texts.ensures.1 in
+    let folder = c.args.folder in
+    let shape = c.in_ok-shape.shape in
+    rw (p.1, p.2) (of_piece (g.D.Disk.holds folder.disk.now) folder.path.now (is_later (Some c.args.first.now.most)) shape.evidence shape.forms.items shape.listed c.in_err-texts.field-0.0
+    c.in_ok-shape.ensures.all c.in_ok-shape.ensures.front c.in_err-texts.ensures.refused)
+
+pub returns-in_err-shape-2-clause-first : goal.returns-in_err-shape-2-clause-first
+returns-in_err-shape-2-clause-first g c =
+    let p = err_from_is_err_and c.from_residual-in_err-shape-2.result c.from_residual-in_err-shape-2.ensures.1 in
+    let folder = c.args.folder in
+    let shape = c.in_ok-shape.shape in
+    let why = c.in_err-shape-2.field-0.0 in
+    rw (p.1, p.2) (of_listing (g.D.Disk.holds folder.disk.now) folder.path.now (is_later (Some c.args.first.now.most)) shape.evidence shape.forms.items why
+    (c.in_ok-shape.ensures.front why c.in_err-shape-2.was) c.in_ok-texts.ensures.opened)

@@ -1,5 +1,5 @@
 use Rattle.std.proofs.Common.{◌∙◌, List, map, subst, string_bytes}
-use Rattle.eos_check.specs.declared.verdict.Verdict.{Verdict}
+use Rattle.eos_verdict.specs.declared.verdict.Verdict.{Verdict}
 use Rattle.eos_explaining.specs.FirstStories.{AreStoriesOf}
 use Rattle.eos_explaining.proofs.stories.of_logs.Goals as goal
 

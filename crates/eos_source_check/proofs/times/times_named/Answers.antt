@@ -1,7 +1,11 @@
 use Rattle.std.proofs.Common.{◌≡◌, ◌+◌, ℕ, List, [], length, refl, subst, sym, ◌∙◌, ap, arith}
+use Rattle.std.proofs.lemmas.Result.{err_from_is_err_and}
 use Rattle.eos_evidence.specs.declared.partition.Partition.{Partition}
+use Rattle.eos_evidence.specs.Evidence.{segments_of}
 use Rattle.eos_source.specs.Said.{known_by}
+use Rattle.eos_source_check.specs.Refusals.{IsRefusedAgain}
 use Rattle.eos_source_check.specs.Times.{AreTimesNamed}
+use Rattle.eos_source_check.proofs.EarnedAgain.{refused_again}
 use Rattle.eos_source_check.proofs.PassedAgain.{first_next, room}
 use Rattle.eos_source_check.proofs.TimesAgain.{none_ahead, named, not_named, all_ahead}
 use Rattle.eos_source_check.proofs.times.times_named.Goals as goal
@@ -40,15 +44,23 @@ loop-i-preserved g c =
       not_named known shapes c.args.name.now c.args.offsets.now c.loop-i.first i p c.loop-i-test.true c.index-partitions-i.is (c.loop-i.first + c.len.result) (sym c.is_named.ensures ∙ c.if-is_named.false) (ap (λ (n : ℕ). c.loop-i.first + n) c.len.ensures) c.loop-i.invariant.1,
     )
 
-pub returns-then-is_named : goal.returns-then-is_named
-returns-then-is_named g c =
+pub returns-then-is_named-clause-times : goal.returns-then-is_named-clause-times
+returns-then-is_named-clause-times g c =
     let known = known_by (g.S.Source.said c.args.source.now) (g.S.Source.is_log c.args.source.now) in
     let times = c.in_ok-times.times.items in
     subst (λ (ps : List Partition). AreTimesNamed known 0 ps c.args.name.now c.args.offsets.now times) c.partitions-partitions.ensures.value
-    (named known c.partitions-partitions.result.now c.args.name.now c.args.offsets.now c.loop-i.first c.loop-i.i c.index-partitions-i.result c.loop-i-test.true c.index-partitions-i.is times (sym c.is_named.ensures ∙ c.if-is_named.true) c.in_ok-times.ensures
+    (named known c.partitions-partitions.result.now c.args.name.now c.args.offsets.now c.loop-i.first c.loop-i.i c.index-partitions-i.result c.loop-i-test.true c.index-partitions-i.is times (sym c.is_named.ensures ∙ c.if-is_named.true) c.in_ok-times.ensures.times
     c.loop-i.invariant.1)
 
-pub returns : goal.returns
-returns g c =
+pub returns-clause-times : goal.returns-clause-times
+returns-clause-times g c =
     let known = known_by (g.S.Source.said c.args.source.now) (g.S.Source.is_log c.args.source.now) in
     all_ahead known c.args.shape.now.partitions c.partitions-partitions.result.now c.args.name.now c.args.offsets.now c.loop-i.first c.loop-i.i c.new.result.items c.partitions-partitions.ensures.value (omega (arith, c.loop-i-test.false)) c.new.ensures.items c.loop-i.invariant.1
+
+pub returns-in_err-times-clause-refused : goal.returns-in_err-times-clause-refused
+returns-in_err-times-clause-refused g c =
+    let p = err_from_is_err_and c.from_residual.result c.from_residual.ensures.1 in
+    let outcomes = g.S.Source.outcomes c.args.source.now in
+    let why = c.in_err-times.field-0.0 in
+    let again = refused_again outcomes c.partitions-partitions.result.now c.loop-i.first c.loop-i.i c.index-partitions-i.result why c.loop-i-test.true c.index-partitions-i.is c.loop-i.invariant.0 c.in_err-times.ensures.refused in
+    rw (p.1, p.2) (subst (λ (ps : List Partition). IsRefusedAgain outcomes (length (segments_of ps)) why) c.partitions-partitions.ensures.value again)

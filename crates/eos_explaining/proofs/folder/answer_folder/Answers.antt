@@ -1,0 +1,9 @@
+-- Which refusal of the folder it is.
+use Rattle.std.proofs.lemmas.Result.{err_from_is_err_and}
+use Rattle.eos_explaining.proofs.FirstRefused.{first_of_whole}
+use Rattle.eos_explaining.proofs.folder.answer_folder.Goals as goal
+
+pub returns-in_err-evidence-clause-first : goal.returns-in_err-evidence-clause-first
+returns-in_err-evidence-clause-first g c =
+    let p = err_from_is_err_and c.from_residual.result c.from_residual.ensures.1 in
+    rw (p.1, p.2) (first_of_whole (g.D.Disk.holds c.args.folder.disk.now) c.args.folder.path.now c.in_err-evidence.field-0.0 c.in_err-evidence.ensures.first)
