@@ -1,6 +1,8 @@
 """What hostile folds cost: memory by their own bytes, and time by a fold of a log of the same size and by the segment that they say.
 
 For tests/folds.py. Each fold is made by tests/fold_files.py, with its checksum right, and stands in the place of one of a good folder.
+There are 90, or as many as FOLD_COSTS says: `FOLD_COSTS=5000 python3 -B tests/folds.py PROGRAM '' '' costs` by hand. The last line but one
+tells the most that one of them took.
 """
 import os
 import random
@@ -20,6 +22,8 @@ BYTES = 64
 TIMES, SPEED = 10, 40_000_000
 # What runs differ by, in bytes and in seconds.
 ROOM, SECONDS = 2**18, 0.05
+# Of how many bytes a fold is at least of which it is told what it took, so that these are little beside it.
+TOLD_OF = 100_000
 PLACES = {PRESENCE: (b"in", 0), CLAIMS: (b"out", 0), TEXTS: (b"__consumer_offsets", 0)}
 
 
@@ -106,12 +110,31 @@ def least_for(tests, folder):
     return enough
 
 
+def answers(tests, folder, most):
+    """Whether a check of this folder ends with an answer, where it may have so many bytes of data."""
+    return spent(tests, folder, most)[0] in (0, 1, 2)
+
+
+def more_bytes(tests, folder, least, size, few):
+    """How many bytes of memory a fold of this size takes for each of its own, to a quarter; or so few, if these are enough."""
+    if answers(tests, folder, least + int(few * size)):
+        return few
+    enough = BYTES
+    while enough - few > 0.25:
+        half = (few + enough) / 2
+        if answers(tests, folder, least + int(half * size)):
+            enough = half
+        else:
+            few = half
+    return enough
+
+
 def costs(tests):
     count, chance = int(os.environ.get("FOLD_COSTS", "90")), random.Random(7)
     folds, _ = folds_of(GOOD)
     folder = with_folds(GOOD, folds, tests.new("costs"))
     least = least_for(tests, folder)
-    most_times = 0
+    most_times = most_bytes = 0
     for at in range(count):
         kind, size = KINDS[at % len(KINDS)], chance.choice([40, 4000, 40000, 200000])
         made = hostile(kind, size, chance)
@@ -122,10 +145,11 @@ def costs(tests):
         right = spent(tests, folder)[1]
         write(os.path.join(folder, path), data)
         status, found = spent(tests, folder, least + ROOM + BYTES * len(data))
+        if len(data) >= TOLD_OF:
+            most_bytes = more_bytes(tests, folder, least, len(data), most_bytes)
+            most_times = max(most_times, found / max(right, 0.01))
         write(os.path.join(folder, path), folds[path])
         tests.same(f"{kind}, {len(data)} bytes: its status, with {BYTES} bytes of memory for each of its own", status in (0, 1, 2), True)
         seconds = TIMES * right + made.size / SPEED + SECONDS
         tests.same(f"{kind}, {len(data)} bytes, {found} s", found <= seconds, True)
-        if len(data) > 30000:
-            most_times = max(most_times, found / max(right, 0.01))
-    print(f"{count} hostile folds: at most {most_times:.1f} times the time of a log's")
+    print(f"{count} hostile folds: at most {most_bytes} bytes of memory for each of their own, and {most_times:.1f} times the time of a log's")
